@@ -1,4 +1,4 @@
--- What follows of an answer from what its definition gives.
+-- What is known of a call's result, if its definition gives a known value.
 use Rattle.mail_query.proofs.Words.{◌≡◌, Option, Result, Ok, Err, IfOk, IfErr, IfSome, arith, Gives, if_some_map}
 
 module _ {X Y E F : Type 0} (view : X → Y) (refusal : E → Option F) (r : Result X E) (defined : Result Y F) (given : Gives view refusal r defined) where

@@ -1,4 +1,4 @@
--- Laws of the boolean language: its tokens, its reader and its grammar.
+-- Laws of the boolean language: its tokens, its reader, its grammar and its faults.
 pub mod BooleanComplete
 pub mod BooleanDepth
 pub mod BooleanPlaces

@@ -1,4 +1,4 @@
--- Laws of mairix patterns: how they are read, and their grammar.
+-- Laws of mairix patterns: their reader, their grammar and their faults.
 pub mod ApproximateLemmas
 pub mod DepthLemmas
 pub mod EachLemmas

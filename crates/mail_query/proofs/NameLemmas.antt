@@ -1,9 +1,9 @@
--- Names of parts in queries, and what queries without them ask.
+-- Names of attachments don't matter to a query that doesn't use them, by induction over the query.
 use Rattle.mail_query.proofs.Words.{◌≡◌, ◌∙◌, Bool, false, not, List, refl, sym, ap, ℕ, ◌&&◌, ◌||◌, or_parts, Kinds, Query, Any, Word, Part, Prefix, Date, Size, HasFlag, Not, Either, Queries, End, More, kinds_sought, kinds_inside, have_names, uses_names, Facts, without_names, some_word, is_true, each_is_true, some_is_true}
 use Rattle.std.proofs.lemmas.List.Folds.{list_any-append}
 use Rattle.mail_query.specs.Query.{All}
 
--- a member has them, or those behind it
+-- members use names if the first does, or one after it
 pub names-more : (q : Query) (qs : Queries) → have_names (kinds_inside (More q qs)) ≡ (uses_names q || have_names (kinds_inside qs))
 names-more q qs = list_any-append (λ kinds. kinds.name) (kinds_sought q) (kinds_inside qs)
 

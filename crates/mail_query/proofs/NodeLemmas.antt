@@ -1,4 +1,4 @@
--- What a node asks, by its kind.
+-- The query of a node, for each kind of node.
 use Rattle.mail_query.proofs.Words.{◌≡◌, Bool, Box, Global, List, [], ◌∷◌, ◌++◌, refl, ap, rules, Flag, Query, HasFlag, Not, query_of, queries_of}
 use Rattle.mail_query.specs.declared.node.Node as node
 use Rattle.mail_query.specs.declared.node.Node.{Node, the_lemmas}

@@ -1,4 +1,4 @@
--- Laws of the pieces of a text.
+-- Laws of cutting a text at a byte.
 use Rattle.mail_query.proofs.Words.{◌≡◌, ◌≢◌, ℕ, suc, ◌-◌, ◌<◌, Bool, true, false, eqb, List, [], ◌∷◌, ◌++◌, length, length-append, take, get_or, Option, Some, None, option_map, MatchOption, refl, sym, ap, ◌∙◌, arith, option_copied, take-append_seam, list_any, or_parts, or_from, nat_tests, is_byte, cut, without_first, without_last}
 use denote.Ref.{Bor}
 
@@ -30,11 +30,11 @@ without_last-other c (b ∷ []) h =
 without_last-other c (b ∷ d ∷ bs) h =
     ap (option_map (λ (front : List ℕ). b ∷ front)) (without_last-other c (d ∷ bs) (λ front e. h (b ∷ front) (ap (λ (t : List ℕ). b ∷ t) e)))
 
--- the byte stands nowhere
+-- the byte isn't in the text
 abbrev pub Free : ℕ → List ℕ → Type 0
 Free c text = list_any (is_byte c) text ≡ false
 
--- no byte passes where none at a place does
+-- no byte passes, if the byte at each place doesn't
 pub none_passes : (p : ℕ → Bool) (text : List ℕ) → ((i : ℕ) → i < length text → p (get_or text i 0) ≡ false) → list_any p text ≡ false
 none_passes p [] h = refl
 none_passes p (b ∷ bs) h = or_from (p b) (list_any p bs) (h 0 (omega arith)) (none_passes p bs (λ i below. h (suc i) (omega (arith, below))))
@@ -68,7 +68,7 @@ before_last {A} front x =
     let place : length (front ++ x ∷ []) - 1 ≡ length front = omega (arith, length-append front (x ∷ [])) in
     ap (λ n. take n (front ++ x ∷ [])) place ∙ take-append_seam front (x ∷ [])
 
--- ---- the same of what a call answers
+-- ---- the same of what a call returns
 
 pub first_answer : (c : ℕ) (bs : List ℕ) (r : Option (Bor (List ℕ))) → MatchOption r ((rest : List ℕ) → bs ≢ c ∷ rest) (λ x. bs ≡ c ∷ x.now) → option_copied r ≡ without_first c bs
 first_answer c bs r h = grind (arith, without_first-other, without_first-same)

@@ -1,4 +1,4 @@
--- What boolean queries ask, by a second reader: what the grammar reads of their tokens, and the first fault by places.
+-- Rows of boolean queries, each with the query or the first fault that a second reader finds.
 use Rattle.mail_query.proofs.Words.{◌≡◌, ℕ, List, codes, None, Some, Ok, Err, refl, true, QueryFaultKind, NoPattern, BadPrefix, BadWord, BadDate, NeedsOperator, BadParenthesis, MissingTerm, TooDeep, Phrase, Query, Word, Prefix, Date, Not, Either, End, More, no_kinds, tokens, first_fault, tokens_query}
 use Rattle.mail_query.specs.Query.{All}
 use Rattle.mail_query.proofs.RowLexicon.{toy, every_date}

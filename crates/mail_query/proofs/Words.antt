@@ -1,4 +1,4 @@
--- The words of std and of the definitions that proofs take, from one place.
+-- The names of std and of the definitions that proofs use, all from one place.
 pub use Rattle.contract_words.proofs.Collecting.{if_some_map, with_front-append, with_front-nil}
 pub use Rattle.contract_words.specs.Answers.{Gives, fault_as, with_front, ◌>>=◌}
 pub use Rattle.mail_dates.specs.declared.range.Range.{Range}

@@ -1,4 +1,4 @@
--- The grammar of boolean queries: what is written, as a tree, how it is spelled, and what it asks.
+-- The grammar of boolean queries: the trees that can be written, the tokens of each tree, and the query that it means.
 use Rattle.std.specs.Prelude.{◌≡◌, ℕ, ◌+◌, Bool, not, ◌&&◌, nat_lt, IsTrue, is_ok, List, [], ◌∷◌, ◌++◌, map, Option, None, Result, Ok, Err, option_and_then}
 use Rattle.mail_query.specs.declared.boolean.field.Field.{Field}
 use Rattle.mail_query.specs.declared.boolean.field.Fields.{Fields}
@@ -8,27 +8,31 @@ use Rattle.mail_query.specs.Query.{Query, Any, Not, all_of, either_of}
 use Rattle.mail_query.specs.Tokens.{Token, Open, Close, AndSign, OrSign, NotSign, Term}
 use Rattle.mail_query.specs.BooleanTerms.{parts_of, Parts, no_fields, has_field, with_field, term_query}
 
--- how one `some` stands before the next
+-- what joins an operand to the next one: nothing, `and`, or `or`
 pub data Link : Type 0 where
   Beside ByAnd ByOr : Link
 
 mutual
+  -- an operand: `not` with an operand, a group in parentheses, or a term
   pub data Item : Type 0 where
     NotOf : Item → Item
     Group : Chain → Item
     Leaf : List ℕ → Item
 
+  -- one or more operands, each with what joins it to the next
   pub data Chain : Type 0 where
     Last : Item → Chain
     Then : Item → Link → Chain → Chain
 
--- ---- how it is spelled
+-- ---- the tokens of a tree
 
+-- the tokens between two operands
 abbrev pub link_tokens : Link → List Token
 link_tokens Beside = []
 link_tokens ByAnd = AndSign ∷ []
 link_tokens ByOr = OrSign ∷ []
 
+-- The tokens of an operand, and of a chain of operands:
 -- some = "not" some | "(" either ")" | term
 -- either = each *("or" each), each = some *(["and"] some)
 abbrev mutual
@@ -41,18 +45,20 @@ abbrev mutual
   chain_tokens (Last i) = item_tokens i
   chain_tokens (Then i l c) = item_tokens i ++ (link_tokens l ++ chain_tokens c)
 
--- ---- what it asks
+-- ---- the query of a tree
 
--- `or` binds weaker than `and` and than nothing between: the members of each `each`, with one more in front
+-- alternatives, each as a list of its members, with q before the members of the first
 abbrev pub into_first : Query → List (List Query) → List (List Query)
 into_first q [] = (q ∷ []) ∷ []
 into_first q (qs ∷ qss) = (q ∷ qs) ∷ qss
 
+-- alternatives with q joined before them; `or` makes it one of its own, because it binds weaker than `and` or nothing
 abbrev pub linked : Link → Query → List (List Query) → List (List Query)
 linked Beside q qss = into_first q qss
 linked ByAnd q qss = into_first q qss
 linked ByOr q qss = (q ∷ []) ∷ qss
 
+-- the query of a result; if it is an error, Any
 abbrev pub query_or_any : Result Query QueryFaultKind → Query
 query_or_any (Ok q) = q
 query_or_any (Err e) = Any
@@ -61,34 +67,38 @@ query_or_any (Err e) = Any
 abbrev pub term_prefix : List ℕ → Option Field
 term_prefix t = option_and_then (λ (p : Parts). p.prefix) (parts_of t)
 
+-- the prefix of an operand that is a term; any other operand has none
 abbrev pub plain_prefix : Item → Option Field
 plain_prefix (Leaf t) = term_prefix t
 plain_prefix _ = None
 
--- the prefixes of the plain terms in a run that goes on behind an item
+-- the prefixes of the plain terms since the last operator, after one more operand and what joins it to the next
 abbrev pub seen_behind : Item → Link → Fields → Fields
 seen_behind i Beside seen = with_field (plain_prefix i) seen
 seen_behind i _ seen = no_fields
 
 module _ (lexicon : Lexicon) where
   abbrev mutual
+    -- the query of an operand
     pub item_query : Item → Query
     item_query (NotOf i) = Not (item_query i)
     item_query (Group c) = either_of (map all_of (chain_queries c))
     item_query (Leaf t) = query_or_any (term_query lexicon t)
 
-    -- the members of each `each`
+    -- the alternatives of a chain, each as a list of its members
     pub chain_queries : Chain → List (List Query)
     chain_queries (Last i) = (item_query i ∷ []) ∷ []
     chain_queries (Then i l c) = linked l (item_query i) (chain_queries c)
 
+  -- the query of a chain: any of its alternatives
   abbrev pub tree_query : Chain → Query
   tree_query c = either_of (map all_of (chain_queries c))
 
   -- ---- which trees are allowed
 
-  -- n `(` and `not` wait round it, at most 30 in all; each term asks something, and has no prefix that a plain term
-  -- before it in its run has
+  -- Whether an operand, or a chain, inside n open `(` and `not` is allowed. At most 30 may be open, and each term must
+  -- mean a query. No plain term may have the prefix of another one since the last operator. `seen` has the prefixes
+  -- before it.
   abbrev mutual
     pub is_fine_item : Item → ℕ → Fields → Bool
     is_fine_item (NotOf i) n seen = nat_lt n 30 && is_fine_item i (n + 1) no_fields
@@ -99,7 +109,7 @@ module _ (lexicon : Lexicon) where
     is_fine_chain (Last i) n seen = is_fine_item i n seen
     is_fine_chain (Then i l c) n seen = is_fine_item i n seen && is_fine_chain c n (seen_behind i l seen)
 
-  -- the tokens are an `either` that is allowed, and ask the query
+  -- the tokens are those of an allowed tree whose query is q
   pub record Reads (ts : List Token) (q : Query) : Type 0 where
     pub tree : Chain
     pub spelled : chain_tokens tree ≡ ts

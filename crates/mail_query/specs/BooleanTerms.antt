@@ -1,4 +1,4 @@
--- What a term of a boolean query asks.
+-- The query that a term of a boolean query means, or its fault.
 use Rattle.std.specs.Prelude.{ℕ, Bool, true, false, List, [], ◌∷◌, bytes_eq, codes, Option, Some, None, Result, Ok, Err, if◌then◌else◌, option_map}
 use Rattle.std.specs.List.{list_any}
 use Rattle.std.specs.Str.{str_eq_ignore_ascii_case}
@@ -16,6 +16,7 @@ use Rattle.mail_query.specs.Mairix.{date_query}
 
 -- ---- the prefixes
 
+-- the prefix with this name, in lower case
 abbrev pub field_of : List ℕ → Option Field
 field_of name =
     if bytes_eq name (codes "from") then Some field.From
@@ -26,12 +27,12 @@ field_of name =
     else (if bytes_eq name (codes "date") then Some field.Date
     else None)))))
 
--- a term's prefix, if it has one, and the text behind it
+-- a term's prefix, if it has one, and the text after it
 pub record Parts : Type 0 where
   pub prefix : Option Field
   pub rest : List ℕ
 
--- the prefix ends at the first colon; there is nothing where it is none of the language's
+-- a term's parts: the prefix ends at the first colon; if the language has no such prefix, there are none
 abbrev pub parts_of : List ℕ → Option Parts
 parts_of term = elim (cut 0x3A term) [
   | None ↦ Some (record { prefix = None; rest = term })
@@ -40,9 +41,11 @@ parts_of term = elim (cut 0x3A term) [
 
 -- ---- sets of prefixes
 
+-- the empty set
 abbrev pub no_fields : Fields
 no_fields = record { from = false; to = false; subject = false; body = false; id = false; date = false }
 
+-- whether there is a prefix and it is in the set
 abbrev pub has_field : Fields → Option Field → Bool
 has_field fields None = false
 has_field fields (Some field.From) = fields.from
@@ -52,6 +55,7 @@ has_field fields (Some field.Body) = fields.body
 has_field fields (Some field.Id) = fields.id
 has_field fields (Some field.Date) = fields.date
 
+-- the set with the prefix added, if there is one
 abbrev pub with_field : Option Field → Fields → Fields
 with_field None fields = fields
 with_field (Some field.From) fields = record fields { from = true }
@@ -61,30 +65,33 @@ with_field (Some field.Body) fields = record fields { body = true }
 with_field (Some field.Id) fields = record fields { id = true }
 with_field (Some field.Date) fields = record fields { date = true }
 
--- ---- what a term asks
+-- ---- the query of a term
 
--- without a prefix: in each kind of text but names of parts
+-- where a term without a prefix is looked for: in all kinds of text but names of attachments
 abbrev pub bare_kinds : Kinds
 bare_kinds = record no_kinds { to = true; cc = true; bcc = true; from = true; subject = true; body = true }
 
+-- whether a term has a `"`
 abbrev pub is_phrase : List ℕ → Bool
 is_phrase term = list_any (is_byte 0x22) term
 
+-- the message with this id; the id isn't empty
 abbrev pub id_query : List ℕ → Result Query QueryFaultKind
 id_query [] = Err MissingTerm
 id_query (b ∷ bs) = Ok (Word (record no_kinds { own_id = true }) (b ∷ bs))
 
 module _ (lexicon : Lexicon) where
+  -- a word that begins with this text, if there is a text and it can be a part of a word
   abbrev pub piece_query : Kinds → Option (List ℕ) → Result Query QueryFaultKind
   piece_query kinds None = Err BadWord
   piece_query kinds (Some piece) = if lexicon.is_piece piece then Ok (Prefix kinds (lexicon.folded piece)) else Err BadWord
 
-  -- a word, or a piece of one before a star
+  -- a whole word, or the beginning of one, with a `*` after it
   abbrev pub word_query : Kinds → List ℕ → Result Query QueryFaultKind
   word_query kinds text =
       if lexicon.is_word text then Ok (Word kinds (lexicon.folded text)) else piece_query kinds (without_last 0x2A text)
 
-  -- what is asked behind a prefix, where there is something
+  -- the query of a prefix and the text after it
   abbrev pub field_query : Field → List ℕ → Result Query QueryFaultKind
   field_query field.From rest = word_query (record no_kinds { from = true }) rest
   field_query field.To rest = word_query (record no_kinds { to = true; cc = true; bcc = true }) rest
@@ -93,20 +100,23 @@ module _ (lexicon : Lexicon) where
   field_query field.Id rest = id_query (without_angles rest)
   field_query field.Date rest = date_query (lexicon.dates rest)
 
+  -- the query of a term without a prefix: `*` is every message, and `xor` in any case is refused
   abbrev pub bare_query : List ℕ → Result Query QueryFaultKind
   bare_query term =
       if bytes_eq term (codes "*") then Ok Any
       else (if str_eq_ignore_ascii_case term (codes "xor") then Err BadWord else word_query bare_kinds term)
 
+  -- the query of a term by its parts; some text must follow a prefix
   abbrev pub parts_query : Option Field → List ℕ → Result Query QueryFaultKind
   parts_query None term = bare_query term
   parts_query (Some f) [] = Err MissingTerm
   parts_query (Some f) (b ∷ bs) = field_query f (b ∷ bs)
 
+  -- the query of these parts; None has a prefix that isn't known
   abbrev pub cut_query : Option Parts → Result Query QueryFaultKind
   cut_query None = Err BadPrefix
   cut_query (Some parts) = parts_query parts.prefix parts.rest
 
-  -- what a term asks, or what is wrong with it
+  -- the query of a term, or its fault
   abbrev pub term_query : List ℕ → Result Query QueryFaultKind
   term_query term = if is_phrase term then Err Phrase else cut_query (parts_of term)

@@ -1,31 +1,32 @@
--- Flags of messages, as a pattern `F:` names them.
+-- The flags that a pattern `F:` names, read letter by letter.
 use Rattle.std.specs.Prelude.{ℕ, ◌==◌, ◌||◌, Bool, true, not, List, [], ◌∷◌, Option, Some, None, if◌then◌else◌, option_map, option_and_then}
 use Rattle.mail_words.specs.declared.flags.Flag.{Flag}
 use Rattle.mail_words.specs.declared.flags.Flag.TheVariants.{Seen, Replied, Flagged}
 use Rattle.mail_query.specs.Query.{Query, HasFlag, all_of}
 
--- the flag of a letter, in either case
+-- the flag of a letter, in either case: `s` seen, `r` replied, `f` flagged
 abbrev pub flag_of : ℕ → Option Flag
 flag_of letter =
     if (letter == 0x73) || (letter == 0x53) then Some Seen
     else (if (letter == 0x72) || (letter == 0x52) then Some Replied
     else (if (letter == 0x66) || (letter == 0x46) then Some Flagged else None))
 
--- the letter's flag, wanted or not, before what follows
+-- the letter's flag, wanted or not, before the flags that follow; None if any of them is none
 abbrev pub with_flag : Bool → ℕ → Option (List Query) → Option (List Query)
 with_flag wanted letter rest = option_and_then (λ flag. option_map (λ qs. HasFlag flag wanted ∷ qs) rest) (flag_of letter)
 
--- letters, each alone or behind a dash, which negates that letter only
+-- the flags of the letters; a dash before a letter negates it, and `wanted` is false right after a dash
 abbrev pub flags_behind : Bool → List ℕ → Option (List Query)
 flags_behind wanted [] = if wanted then Some [] else None
 flags_behind wanted (b ∷ bs) =
     let rest = flags_behind (not (b == 0x2D)) bs in
     if b == 0x2D then (if wanted then rest else None) else with_flag wanted b rest
 
+-- all of these queries, if there are any
 abbrev pub some_of : List Query → Option Query
 some_of [] = None
 some_of (q ∷ qs) = Some (all_of (q ∷ qs))
 
--- one letter or more
+-- all flags that the text names, one or more; None for any other text
 unfoldable pub flags_of : List ℕ → Option Query
 flags_of text = option_and_then some_of (flags_behind true text)

@@ -1,3 +1,4 @@
+-- The definitions of queries, from sets of kinds to both languages; each file comes after those that it uses.
 pub mod Kinds
 pub mod Query
 pub mod Meaning

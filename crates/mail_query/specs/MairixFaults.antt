@@ -1,5 +1,5 @@
--- The first fault of mairix patterns as a relation: which text shows which fault, with one case for each rule. What is faulty is
--- told by the grammar, and of several texts the first faulty one counts.
+-- The first fault of mairix patterns, as a relation with one case for each rule. A text is faulty if the grammar gives
+-- no query for it, and the first faulty text counts.
 use Rattle.std.specs.Prelude.{◌≡◌, ◌≢◌, ℕ, ◌+◌, ◌≤◌, true, false, List, [], ◌∷◌, ◌++◌, length, codes, None}
 use Rattle.std.specs.List.{All, list_any, list_all, slice_split}
 use Rattle.std.specs.Char.{is_ascii_digit}
@@ -14,7 +14,7 @@ use Rattle.mail_query.specs.FlagGrammar.{IsFlags}
 use Rattle.mail_query.specs.Mairix.{Forms, plain_kinds, id_forms, word_forms}
 use Rattle.mail_query.specs.MairixGrammar.{kinds_named, IsAtom, IsTerm, IsAll, AreLetters, IsPattern}
 
--- the first faulty text, and how many stand before it: each of those asks something, and this one shows the fault
+-- the first faulty text has this fault, with this many texts before it; each text before it means a query
 pub data IsFirstOf (Asks : List ℕ → Query → Type 0) (Shows : List ℕ → QueryFaultKind → Type 0)
     : List (List ℕ) → ℕ → QueryFaultKind → Type 0 where
   Behind : (before : List (List ℕ)) (text : List ℕ) (more : List (List ℕ)) (kind : QueryFaultKind)
@@ -22,20 +22,20 @@ pub data IsFirstOf (Asks : List ℕ → Query → Type 0) (Shows : List ℕ → 
       → Shows text kind
       → IsFirstOf Asks Shows (before ++ text ∷ more) (length before) kind
 
--- ---- what stands behind a prefix
+-- ---- the text after a prefix
 
--- an `=`, and behind it one digit or more to the end
+-- the text ends with an `=` and one or more digits
 pub data IsApproximate : List ℕ → Type 0 where
   Digits : (front digits : List ℕ) → 1 ≤ length digits → list_all is_ascii_digit digits ≡ true
       → IsApproximate (front ++ 0x3D ∷ digits)
 
--- an atom that is approximate, or else of no form
+-- the fault of an atom: it asks for approximate matching; if it doesn't, it has none of the forms
 pub data IsAtomFault (forms : Forms) : List ℕ → QueryFaultKind → Type 0 where
   AsksApproximately : (atom : List ℕ) → IsApproximate atom → IsAtomFault forms atom Approximate
   HasNoForm : (atom : List ℕ) → ¬ IsApproximate atom → ((q : Query) → ¬ IsAtom forms atom q)
       → IsAtomFault forms atom BadWord
 
--- term = ["~"] atom, and the atom is faulty
+-- the fault of a term = ["~"] atom: that of its atom
 pub data IsTermFault (forms : Forms) : List ℕ → QueryFaultKind → Type 0 where
   InWanted : (atom : List ℕ) (kind : QueryFaultKind) → ((rest : List ℕ) → atom ≢ codes "~" ++ rest)
       → IsAtomFault forms atom kind
@@ -43,13 +43,13 @@ pub data IsTermFault (forms : Forms) : List ℕ → QueryFaultKind → Type 0 wh
   InUnwanted : (atom : List ℕ) (kind : QueryFaultKind) → IsAtomFault forms atom kind
       → IsTermFault forms (codes "~" ++ atom) kind
 
--- all = term *("," term): the first faulty term between commas
+-- the fault of all = term *("," term): that of the first faulty term
 pub data IsAllFault (forms : Forms) : List ℕ → QueryFaultKind → Type 0 where
   InTerm : (text : List ℕ) (n : ℕ) (kind : QueryFaultKind)
       → IsFirstOf (IsTerm forms) (IsTermFault forms) (slice_split (is_byte 0x2C) text) n kind
       → IsAllFault forms text kind
 
--- rest = all *("/" all): the first faulty all between slashes
+-- the fault of rest = all *("/" all): that of the first faulty alternative
 pub data IsRestFault (forms : Forms) : List ℕ → QueryFaultKind → Type 0 where
   InAll : (text : List ℕ) (n : ℕ) (kind : QueryFaultKind)
       → IsFirstOf (IsAll forms) (IsAllFault forms) (slice_split (is_byte 0x2F) text) n kind
@@ -65,7 +65,7 @@ pub data IsPatternPrefix : List ℕ → Type 0 where
   OfSize : IsPatternPrefix (codes "z")
   OfFlags : IsPatternPrefix (codes "F")
 
--- a pattern is cut at its first `:`; either the prefix is none, or what stands behind it is faulty
+-- the fault of a pattern, which is cut at its first `:`: the prefix isn't known, or the text after it is faulty
 pub data IsPatternFault (lexicon : Lexicon) : List ℕ → QueryFaultKind → Type 0 where
   HasNoPrefix : (name rest : List ℕ) → list_any (is_byte 0x3A) name ≡ false → ¬ IsPatternPrefix name
       → IsPatternFault lexicon (name ++ 0x3A ∷ rest) BadPrefix
@@ -84,7 +84,7 @@ pub data IsPatternFault (lexicon : Lexicon) : List ℕ → QueryFaultKind → Ty
   HasNoFlags : (flags : List ℕ) → ((q : Query) → ¬ IsFlags flags q)
       → IsPatternFault lexicon (codes "F:" ++ flags) BadFlag
 
--- no pattern at all, or the first faulty pattern, by its number from 1
+-- the first fault of a list: it is empty, or its first faulty pattern, with its number from 1
 pub data IsFirstFault (lexicon : Lexicon) : List (List ℕ) → QueryFault → Type 0 where
   HasNone : IsFirstFault lexicon [] (record { number = 1; kind = NoPattern })
   InPattern : (patterns : List (List ℕ)) (n : ℕ) (kind : QueryFaultKind)

@@ -1,4 +1,4 @@
--- Queries: what is asked of a message, without where it lies in memory.
+-- Queries as plain values, without the memory that the program keeps them in.
 use Rattle.std.specs.Prelude.{ℕ, suc, max, Bool, List, [], ◌∷◌, ◌++◌, map, Option}
 use Rattle.std.specs.List.{list_any}
 use Rattle.mail_words.specs.declared.flags.Flag.{Flag}
@@ -8,6 +8,7 @@ use Rattle.mail_query.specs.declared.node.Node.{Node, fold-Node}
 use Rattle.mail_query.specs.declared.node.Node.TheOpen.{Node-F}
 
 mutual
+  -- a condition that a message satisfies or doesn't; `Truth` says when it does
   pub data Query : Type 0 where
     Any : Query
     Word : Kinds → List ℕ → Query
@@ -20,28 +21,29 @@ mutual
     All : Queries → Query
     Either : Queries → Query
 
+  -- the members of All and Either
   pub data Queries : Type 0 where
     End : Queries
     More : Query → Queries → Queries
 
--- a list as members
+-- the queries of a list, as members
 abbrev pub members_of : List Query → Queries
 members_of [] = End
 members_of (q ∷ qs) = More q (members_of qs)
 
--- each of them, where one alone stands for itself
+-- all of the queries; a single one is taken as it is
 abbrev pub all_of : List Query → Query
 all_of [] = All End
 all_of (q ∷ []) = q
 all_of (q ∷ r ∷ qs) = All (More q (More r (members_of qs)))
 
--- some of them, where one alone stands for itself
+-- any of the queries; a single one is taken as it is
 abbrev pub either_of : List Query → Query
 either_of [] = Either End
 either_of (q ∷ []) = q
 either_of (q ∷ r ∷ qs) = Either (More q (More r (members_of qs)))
 
--- how many levels a query has
+-- how many levels a query has, and the deepest of its members
 abbrev mutual
   pub depth : Query → ℕ
   depth (Not q) = suc (depth q)
@@ -53,7 +55,7 @@ abbrev mutual
   deepest End = 0
   deepest (More q qs) = max (depth q) (deepest qs)
 
--- the sets of kinds in which a query seeks its texts
+-- the set of kinds of each node that looks for a text
 abbrev mutual
   pub kinds_sought : Query → List Kinds
   kinds_sought (Word kinds text) = kinds ∷ []
@@ -68,16 +70,17 @@ abbrev mutual
   kinds_inside End = []
   kinds_inside (More q qs) = kinds_sought q ++ kinds_inside qs
 
--- some of these sets has the names of parts
+-- whether one of the sets includes the names of attachments
 abbrev pub have_names : List Kinds → Bool
 have_names sets = list_any (λ kinds. kinds.name) sets
 
+-- whether a query searches the names of attachments
 abbrev pub uses_names : Query → Bool
 uses_names q = have_names (kinds_sought q)
 
--- ---- what a node asks
+-- ---- the query of a node
 
--- one level, with each node inside already seen as what it asks
+-- the query of one level, given the queries of the nodes inside it
 abbrev pub query_step : Node-F Query → Query
 query_step Node-F.Any = Any
 query_step (Node-F.Word kinds text) = Word kinds text
@@ -90,8 +93,10 @@ query_step (Node-F.Not inner) = Not inner.value
 query_step (Node-F.All members) = All (members_of members.items)
 query_step (Node-F.Either members) = Either (members_of members.items)
 
+-- the query that a node of the program means
 abbrev pub query_of : Node → Query
 query_of = fold-Node Query query_step
 
+-- the queries of nodes
 abbrev pub queries_of : List Node → List Query
 queries_of nodes = map query_of nodes

@@ -1,4 +1,4 @@
--- The grammar of sizes, as a pattern `z:low-high` names them: which text asks what, with one case for each production.
+-- The grammar of the sizes that a pattern `z:low-high` names, with one case for each production.
 use Rattle.std.specs.Prelude.{◌≡◌, ℕ, ◌*◌, ◌≤◌, true, List, [], ◌∷◌, ◌++◌, length, Option, None, Some}
 use Rattle.std.specs.List.{list_all}
 use Rattle.std.specs.Char.{is_ascii_digit}
@@ -12,22 +12,22 @@ pub record IsNumber (text : List ℕ) : Type 0 where
   pub few : length text ≤ 18
   pub digits : list_all is_ascii_digit text ≡ true
 
--- size = number ["k" / "K" / "M" / "m"], in bytes, up to the limit
+-- size = number ["k" / "K" / "M" / "m"]: this many bytes, at most the limit
 pub data IsSize : List ℕ → ℕ → Type 0 where
   InBytes : (digits : List ℕ) → IsNumber digits → digits_value 10 digits ≤ size_limit → IsSize digits (digits_value 10 digits)
   InUnits : (digits : List ℕ) (letter factor : ℕ) → IsNumber digits → factor_of letter ≡ Some factor → digits_value 10 digits * factor ≤ size_limit
       → IsSize (digits ++ letter ∷ []) (digits_value 10 digits * factor)
 
--- low = [size], where an empty one is 0
+-- low = [size]: an empty text is 0
 pub data IsLow : List ℕ → ℕ → Type 0 where
   FromZero : IsLow [] 0
   FromSize : (text : List ℕ) (size : ℕ) → IsSize text size → IsLow text size
 
--- high = [size], where an empty one is no bound
+-- high = [size]: an empty text is no bound
 pub data IsHigh : List ℕ → Option ℕ → Type 0 where
   Unbounded : IsHigh [] None
   ToSize : (text : List ℕ) (size : ℕ) → IsSize text size → IsHigh text (Some size)
 
--- sizes = low "-" high, both of which are meant too
+-- sizes = low "-" high: both ends are in the range
 pub data IsSizes : List ℕ → Query → Type 0 where
   Between : (low high : List ℕ) (least : ℕ) (most : Option ℕ) → IsLow low least → IsHigh high most → IsSizes (low ++ 0x2D ∷ high) (Size least most)

@@ -12,7 +12,8 @@ use Rattle.mail_query.specs.declared.kinds.Kinds.{Kinds}
 use Rattle.mail_query.specs.Kinds.{has_kind}
 use Rattle.mail_query.specs.Query.{Query, Any, Word, Part, Prefix, Date, Size, HasFlag, Not, All, Either, Queries, End, More}
 
--- what a query asks of one message: the folded words of its texts of each kind, its own id, and the rest
+-- What a query needs to know of a message: the words of its texts of each kind, with case folded, and its own ids. The
+-- size is in bytes.
 pub record Facts : Type 0 where
   pub words : TextKind → List (List ℕ)
   pub own_ids : List (List ℕ)
@@ -20,40 +21,46 @@ pub record Facts : Type 0 where
   pub size : ℕ
   pub flags : Flags
 
--- the message, as if its parts had no names
+-- the words of each kind, without the names of attachments
 abbrev pub words_but_names : (TextKind → List (List ℕ)) → TextKind → List (List ℕ)
 words_but_names words Name = []
 words_but_names words kind = words kind
 
+-- the message as if its attachments had no names
 abbrev pub without_names : Facts → Facts
 without_names m = record m { words = words_but_names m.words }
 
+-- the seven kinds of text
 abbrev pub text_kinds : List TextKind
 text_kinds = To ∷ Cc ∷ Bcc ∷ From ∷ Subject ∷ Body ∷ Name ∷ []
 
--- some word of one of the kinds passes
+-- whether a word in a text of these kinds, or the own id if the set has it, passes the test
 abbrev pub some_word : (List ℕ → Bool) → Kinds → Facts → Bool
 some_word passes kinds m =
     list_any (λ kind. has_kind kinds kind && list_any passes (m.words kind)) text_kinds
     || (kinds.own_id && list_any passes m.own_ids)
 
--- the text stands somewhere in it
+-- whether the second text contains the first
 abbrev pub contains_text : List ℕ → List ℕ → Bool
 contains_text text [] = starts_with nat_eq [] text
 contains_text text (b ∷ bs) = starts_with nat_eq (b ∷ bs) text || contains_text text bs
 
+-- whether the word begins with the text
 abbrev pub begins_with : List ℕ → List ℕ → Bool
 begins_with text word = starts_with nat_eq word text
 
+-- whether the flag is set
 abbrev pub has_flag : Flag → Flags → Bool
 has_flag Seen flags = flags.seen
 has_flag Replied flags = flags.replied
 has_flag Flagged flags = flags.flagged
 
+-- whether both are true or both are false
 abbrev pub is_same : Bool → Bool → Bool
 is_same true b = b
 is_same false b = not b
 
+-- whether a message satisfies a query, each of some queries, and one of some queries
 abbrev mutual
   pub is_true : Query → Facts → Bool
   is_true Any m = true

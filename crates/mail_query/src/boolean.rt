@@ -1,4 +1,4 @@
-//! The boolean language.
+//! Reads queries in the boolean language.
 ghost use Rattle.std.specs.Prelude.{◌≡◌, Some, IfOk, IfErr};
 ghost use Rattle.contract_words.specs.Answers.{Gives};
 ghost use Rattle.mail_query.specs.Meaning.{meaning};
@@ -22,10 +22,15 @@ use crate::query::Query;
 use mail_dates::Moment;
 use std::alloc::Global;
 
-/// What a text in the boolean language asks.
+/// Reads a query in the boolean language.
 ///
-/// Tokens are parentheses and the runs between them and spaces, tabs and line feeds; a fault has the number of the
-/// first token at which one shows, where the end counts as one. `now` isn't used: `date:` names days by the calendar.
+/// Each parenthesis is a token, and so is each run of other characters without spaces, tabs and line feeds. `now`
+/// isn't used, because `date:` names days of the calendar only.
+///
+/// # Errors
+///
+/// The first fault, with the number of its token, counted from 1; the end counts as a token. A text without a token
+/// is `NoPattern` with number 1, and lack of memory is `OutOfMemory` with number 0.
 pub fn read_boolean(alloc: Global, text: &str, _now: Moment) -> Result<Query, QueryFault>
     ensures answer { Gives meaning query_refusal result (boolean_query text.now) }
     ensures read { IfOk result (λ q. Reads boolean_lexicon (tokens text.now) (meaning q)) }
@@ -37,7 +42,7 @@ pub fn read_boolean(alloc: Global, text: &str, _now: Moment) -> Result<Query, Qu
     read_tokens(alloc, &mut reader, text)
 }
 
-/// What the tokens of a text ask, for a reader that has read nothing.
+/// Reads all tokens of a text, with a reader that has read nothing yet.
 fn read_tokens(alloc: Global, reader: &mut Reader, text: &str) -> Result<Query, QueryFault>
     requires { shown reader.old ≡ start }
     ensures answer { Gives meaning query_refusal result (boolean_query text.now) }

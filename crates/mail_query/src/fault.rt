@@ -1,4 +1,4 @@
-//! Why a query is refused.
+//! The faults with which a query is refused.
 ghost use Rattle.std.specs.Prelude.{◌≡◌};
 
 use std::alloc::{AllocError, AllocFailed};
@@ -6,31 +6,31 @@ use std::alloc::{AllocError, AllocFailed};
 /// What is wrong with a query.
 #[derive(Clone, Copy, Debug)]
 pub enum QueryFaultKind {
-    /// There is no pattern, or no term.
+    /// The list has no pattern, or the text has no term.
     NoPattern,
-    /// A prefix that the language doesn't have.
+    /// The language has no such prefix.
     BadPrefix,
-    /// It is of no form that a word has.
+    /// The text has none of the forms of a word.
     BadWord,
-    /// An `=` and digits at the end, which asks for approximate matching.
+    /// An `=` and digits at the end, which ask for approximate matching in C mairix.
     Approximate,
-    /// A date of no form, or a day that no year has.
+    /// The text has none of the forms of a date, or names a day that doesn't exist.
     BadDate,
-    /// A size of no form, or one above 2^63 - 1.
+    /// The text has none of the forms of a size, or the size is above 2^63 - 1 bytes.
     BadSize,
-    /// Flags of no form.
+    /// The text isn't a list of flags.
     BadFlag,
-    /// A second term with one prefix, side by side with the first.
+    /// Two terms with the same prefix have no operator between them.
     NeedsOperator,
-    /// A `)` that no `(` waits for, or the end while a `(` waits.
+    /// A `)` has no `(`, or the text ends before the `)` of a `(`.
     BadParenthesis,
-    /// An operator, a `)` or the end where a term must stand, or nothing behind a prefix.
+    /// A term should come, but an operator, a `)` or the end does, or nothing comes after a prefix.
     MissingTerm,
-    /// More than 30 `(` and `not` wait for their end.
+    /// More than 30 `(` and `not` are open at once.
     TooDeep,
-    /// A quoted phrase.
+    /// A term has a `"`. Phrases aren't supported.
     Phrase,
-    /// Want of memory.
+    /// Memory ran out.
     OutOfMemory,
 }
 
@@ -54,11 +54,11 @@ impl<T: Drop> From<AllocFailed<T>> for QueryFaultKind {
     }
 }
 
-/// Why a query is refused, and where.
+/// Why a query is refused, and at which pattern or token.
 #[derive(Clone, Copy, Debug)]
 pub struct QueryFault {
-    /// The number from 1 of the pattern, or in a boolean query of the token, where the end counts as one; 1 where
-    /// there is none, and 0 where memory was wanting.
+    /// The number of the pattern, or of the token in a boolean query, counted from 1; the end counts as a token.
+    /// It is 1 if there is no pattern or token, and 0 if memory ran out.
     pub number: usize,
     pub kind: QueryFaultKind,
 }
@@ -76,7 +76,7 @@ impl From<AllocError> for QueryFault {
 impl QueryFault {
     ghost use Rattle.mail_query.specs.Refusals.{numbered};
 
-    /// The fault of an item, where want of memory has no number.
+    /// Returns the fault with this number. A fault of memory gets the number 0.
     pub(crate) fn at(number: usize, kind: QueryFaultKind) -> QueryFault
         ensures { result ≡ numbered number kind }
     {

@@ -1,4 +1,4 @@
-//! What is told of a refused query.
+//! The texts that report a refused query.
 
 use crate::fault::{QueryFault, QueryFaultKind};
 use std::error::Error;

@@ -1,4 +1,4 @@
-//! Flags, as a pattern names them.
+//! Reads the flags that a pattern `F:` names.
 ghost use Rattle.std.specs.Prelude.{◌≡◌, Option, Some, None};
 ghost use Rattle.contract_words.specs.Answers.{Gives};
 ghost use Rattle.mail_query.specs.Query.{query_of};
@@ -11,7 +11,7 @@ use crate::node::{Node, add, all_of};
 use mail_words::Flag;
 use std::alloc::Global;
 
-/// One letter or more, each alone or behind a dash, which negates that letter only.
+/// Reads one or more letters. A dash before a letter negates this letter only. Returns `BadFlag` for any other text.
 pub(crate) fn read_flags(alloc: Global, text: &[u8]) -> Result<Node, QueryFaultKind>
     ensures { Gives query_of kind_refusal result (flags_query text.now) }
 {

@@ -1,9 +1,9 @@
-//! The kinds of text in which a word is sought.
+//! Sets of the kinds of text in which a query looks for a word.
 ghost use Rattle.std.specs.Prelude.{◌≡◌};
 
 use mail_words::TextKind;
 
-/// A set of the seven kinds of text and a message's own id.
+/// A set of places to look in: the seven kinds of text, and a message's own id.
 #[derive(Clone, Copy, PartialEq, Eq)]
 pub struct Kinds {
     pub to: bool,
@@ -16,7 +16,7 @@ pub struct Kinds {
     pub own_id: bool,
 }
 
-/// The set of these fields of `Kinds`.
+/// Makes the set with these fields of `Kinds`.
 macro_rules! kinds {
     ($($kind:ident),*) => {
         {
@@ -32,7 +32,7 @@ pub(crate) use kinds;
 impl Kinds {
     ghost use Rattle.mail_query.specs.Kinds.{has_kind};
 
-    /// The set of nothing.
+    /// The empty set.
     pub const NONE: Kinds = Kinds {
         to: false,
         cc: false,
@@ -44,7 +44,7 @@ impl Kinds {
         own_id: false,
     };
 
-    /// Whether the kind is in the set; of the own id the field says it.
+    /// Returns whether the kind of text is in the set. For the own id, read the field `own_id`.
     pub fn has(self, kind: TextKind) -> bool
         ensures { result ≡ has_kind self kind }
     {

@@ -1,5 +1,4 @@
-//! Queries over messages: the tree of a query, when a message satisfies one, and two readers, of mairix patterns and of
-//! a boolean language.
+//! Reads queries, written as mairix patterns or in a boolean language, and says when a message satisfies one.
 #![tactic(auto)]
 
 mod boolean;

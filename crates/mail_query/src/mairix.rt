@@ -1,4 +1,4 @@
-//! Patterns as mairix writes them.
+//! Reads mairix patterns.
 ghost use Rattle.std.specs.Prelude.{◌≡◌, map, string_bytes, IfOk, IfErr};
 ghost use Rattle.contract_words.specs.Answers.{Gives};
 ghost use Rattle.mail_query.specs.Query.{query_of};
@@ -25,10 +25,15 @@ use crate::size::sizes_of;
 use mail_dates::{Moment, range_of};
 use std::alloc::Global;
 
-/// What a list of patterns asks: each of them.
+/// Reads a list of patterns. A message satisfies the query if it satisfies all of them.
 ///
-/// A pattern is a prefix, `:` and a rest, cut at the first `:`, or a rest alone. The first faulty pattern is
-/// reported, and in it the first fault from the left; an error changes nothing.
+/// A pattern is a prefix, `:` and a rest, cut at the first `:`, or a rest alone. `now` is the moment from which
+/// ages, and days without a year, are counted.
+///
+/// # Errors
+///
+/// The first faulty pattern, by its number from 1, with its first fault from the left. An empty list is `NoPattern`
+/// with number 1, and lack of memory is `OutOfMemory` with number 0.
 pub fn read_mairix(alloc: Global, patterns: &[String], now: Moment) -> Result<Query, QueryFault>
     ensures answer { Gives meaning query_refusal result
         (mairix_query (map string_bytes patterns.now) now) }
@@ -43,7 +48,7 @@ pub fn read_mairix(alloc: Global, patterns: &[String], now: Moment) -> Result<Qu
     read_patterns(alloc, patterns, now)
 }
 
-/// What the patterns ask, one after another.
+// The clauses `read` to `first_fault` of `read_mairix` follow from the laws, so the proof of this loop needs only two.
 fn read_patterns(alloc: Global, patterns: &[String], now: Moment) -> Result<Query, QueryFault>
     ensures answer { Gives meaning query_refusal result
         (mairix_query (map string_bytes patterns.now) now) }
@@ -62,12 +67,12 @@ fn read_patterns(alloc: Global, patterns: &[String], now: Moment) -> Result<Quer
     Ok(Query::new(all_of(members)))
 }
 
-/// What a pattern asks.
+/// Reads one pattern.
 fn read_pattern(alloc: Global, pattern: &str, now: Moment) -> Result<Node, QueryFaultKind>
     ensures { Gives query_of kind_refusal result (pattern_query (pattern_lexicon now) pattern.now) }
 {
     let Some((prefix, rest)) = cut(pattern, ':') else {
-        // In five of the seven kinds, neither in blind copies nor in names of parts.
+        // A bare word isn't looked for in blind copies or in names of attachments.
         let kinds = kinds!(to, cc, from, subject, body);
         return read_rest(alloc, Target::Words(kinds), pattern);
     };
@@ -85,7 +90,7 @@ fn read_pattern(alloc: Global, pattern: &str, now: Moment) -> Result<Node, Query
     }
 }
 
-/// The union of the kinds of one letter or more.
+/// Returns all kinds that the letters name. Returns None if there is no letter, or one names nothing.
 fn kinds_of(letters: &[u8]) -> Option<Kinds>
     ensures { result ≡ kinds_of letters.now }
 {
@@ -99,7 +104,7 @@ fn kinds_of(letters: &[u8]) -> Option<Kinds>
     Some(kinds)
 }
 
-/// The set with the kinds of a letter.
+/// Adds the kinds that a letter names. Returns None if it names nothing.
 fn with_letter(mut kinds: Kinds, letter: u8) -> Option<Kinds>
     ensures { result ≡ kinds_added kinds letter }
 {

@@ -1,4 +1,4 @@
-//! The tree of a query. The members of a node are a plain `Vec` (decision 91 in docs/DECISIONS.md).
+//! The tree of a query. A node keeps its members in a plain `Vec` (decision 91 in docs/DECISIONS.md).
 ghost use Rattle.std.specs.Prelude.{◌≡◌, ◌++◌, [], ◌∷◌, IfOk, IfErr, OnOk};
 ghost use Rattle.mail_query.specs.Query.{query_of, queries_of, all_of, either_of};
 ghost use Rattle.mail_query.specs.Query as asked;
@@ -10,34 +10,34 @@ use mail_dates::Range;
 use mail_words::Flag;
 use std::alloc::{AllocError, Global};
 
-/// What a query asks of a message.
+/// A node of a query: a condition that a message satisfies or doesn't.
 ///
-/// Texts of words are folded, those of ids are as written.
+/// A text is folded if it is for words, and as written if it is for the message's own id. The kinds say for which.
 #[derive(Drop)]
 pub enum Node {
-    /// Nothing: every message satisfies it.
+    /// Every message satisfies it.
     Any,
-    /// In some text of these kinds some word is this one, or the own id is.
+    /// A word in a text of these kinds, or the own id, is this text.
     Word { kinds: Kinds, text: QueryText },
-    /// Some word, or the own id, contains this text.
+    /// A word in a text of these kinds, or the own id, contains this text.
     Part { kinds: Kinds, text: QueryText },
-    /// Some word, or the own id, begins with this text.
+    /// A word in a text of these kinds, or the own id, begins with this text.
     Prefix { kinds: Kinds, text: QueryText },
-    /// There is a date, and it lies in the range.
+    /// The message has a date, and it is in this range.
     Date(Range),
-    /// The size in bytes lies between these, both included; a `high` of None is no bound.
+    /// The size in bytes is at least `low` and at most `high`. None sets no upper bound.
     Size { low: u64, high: Option<u64> },
-    /// The message has the flag, or where `wanted` is false, has it not.
+    /// The message has the flag, or doesn't have it if `wanted` is false.
     Flag { flag: Flag, wanted: bool },
-    /// It isn't satisfied.
+    /// This node isn't satisfied.
     Not(Box<Node>),
-    /// Each of them is satisfied.
+    /// All of these nodes are satisfied.
     All(Vec<Node>),
-    /// Some of them is satisfied.
+    /// At least one of these nodes is satisfied.
     Either(Vec<Node>),
 }
 
-/// Adds a member.
+/// Appends a node to the members.
 pub(crate) fn add(members: &mut Vec<Node>, node: Node) -> Result<(), AllocError>
     ensures { OnOk result
         (queries_of members.new.items ≡ queries_of members.old.items ++ query_of node ∷ []) }
@@ -46,7 +46,7 @@ pub(crate) fn add(members: &mut Vec<Node>, node: Node) -> Result<(), AllocError>
     Ok(())
 }
 
-/// The query that is satisfied where this one isn't.
+/// Returns the node that is satisfied exactly if this one isn't. It fails only for lack of memory.
 pub(crate) fn negated(alloc: Global, node: Node) -> Result<Node, QueryFaultKind>
     ensures ok { IfOk result (λ other. query_of other ≡ asked.Not (query_of node)) }
     ensures err { IfErr result (λ kind. kind ≡ QueryFaultKind.OutOfMemory) }
@@ -55,7 +55,7 @@ pub(crate) fn negated(alloc: Global, node: Node) -> Result<Node, QueryFaultKind>
     Ok(Node::Not(node))
 }
 
-/// Each of the members, where one alone stands for itself.
+/// Returns a node that asks for all of the members. A single member is returned as it is.
 pub(crate) fn all_of(mut members: Vec<Node>) -> Node
     ensures { query_of result ≡ all_of (queries_of members.items) }
 {
@@ -66,7 +66,7 @@ pub(crate) fn all_of(mut members: Vec<Node>) -> Node
     }
 }
 
-/// Some of the members, where one alone stands for itself.
+/// Returns a node that asks for one of the members. A single member is returned as it is.
 pub(crate) fn either_of(mut members: Vec<Node>) -> Node
     ensures { query_of result ≡ either_of (queries_of members.items) }
 {

@@ -1,8 +1,8 @@
-//! Pieces of a text.
+//! Cuts a text at a character, or takes characters off its ends.
 ghost use Rattle.std.specs.Prelude.{◌≡◌, ◌<◌, option_map, option_copied};
 ghost use Rattle.mail_query.specs.Pieces.{cut, without_first, without_last, without_angles};
 
-/// The text before the first such character, and the text behind it.
+/// Returns the text before the first `sign` and the text after it, or None if the text has no `sign`.
 pub(crate) fn cut(text: &str, sign: char) -> Option<(&str, &str)>
     requires { sign < 128 }
     ensures { option_map (λ p. (p.0.now, p.1.now)) result ≡ cut sign text.now }
@@ -10,7 +10,7 @@ pub(crate) fn cut(text: &str, sign: char) -> Option<(&str, &str)>
     text.split_once(sign)
 }
 
-/// The rest of a text that begins with this character.
+/// Returns the text after `sign` if the text begins with it.
 pub(crate) fn without_first(text: &str, sign: char) -> Option<&str>
     requires { sign < 128 }
     ensures { option_copied result ≡ without_first sign text.now }
@@ -18,7 +18,7 @@ pub(crate) fn without_first(text: &str, sign: char) -> Option<&str>
     text.strip_prefix(sign)
 }
 
-/// The front of a text that ends with this character.
+/// Returns the text before `sign` if the text ends with it.
 pub(crate) fn without_last(text: &str, sign: char) -> Option<&str>
     requires { sign < 128 }
     ensures { option_copied result ≡ without_last sign text.now }
@@ -26,7 +26,7 @@ pub(crate) fn without_last(text: &str, sign: char) -> Option<&str>
     text.strip_suffix(sign)
 }
 
-/// The text without a `<` at its front and a `>` at its end, where both stand.
+/// Returns the text between a `<` at the front and a `>` at the end. Without both it returns the whole text.
 pub(crate) fn without_angles(text: &str) -> &str
     ensures { result.now ≡ without_angles text.now }
 {

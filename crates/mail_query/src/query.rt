@@ -1,10 +1,10 @@
-//! A query as a whole.
+//! A whole query, as its readers return it.
 ghost use Rattle.std.specs.Prelude.{◌≡◌, ◌≤◌};
 ghost use Rattle.mail_query.specs.Query.{query_of, depth, uses_names};
 
 use crate::node::Node;
 
-/// A query: a tree of at most 64 levels.
+/// A query: a tree with at most 64 levels.
 #[derive(Drop)]
 pub struct Query {
     root: Node,
@@ -21,7 +21,7 @@ impl Query {
         Query { root }
     }
 
-    /// Its tree.
+    /// Returns the root of the tree.
     pub fn root(&self) -> &Node
         ensures tree { query_of result.now ≡ meaning self.now }
         ensures bounded { depth (query_of result.now) ≤ 64 }
@@ -29,7 +29,7 @@ impl Query {
         &self.root
     }
 
-    /// How many levels it has: a tree of one node has 1.
+    /// Returns the number of levels. A tree of one node has 1.
     pub fn depth(&self) -> u32
         ensures value { result ≡ depth (meaning self.now) }
         ensures bounded { result ≤ 64 }
@@ -37,7 +37,7 @@ impl Query {
         depth_of(&self.root)
     }
 
-    /// Whether it asks for names of parts: whether some set of kinds in it has them.
+    /// Returns whether the query searches the names of attachments, in any of its nodes.
     pub fn uses_names(&self) -> bool
         ensures { result ≡ uses_names (meaning self.now) }
     {
@@ -62,7 +62,7 @@ fn depth_of(node: &Node) -> u32
     }
 }
 
-/// Whether some set of kinds in the tree has names of parts.
+/// Returns whether any set of kinds in the tree includes the names of attachments.
 fn has_names(node: &Node) -> bool
     ensures { result ≡ uses_names (query_of node.now) }
 {

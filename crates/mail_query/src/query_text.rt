@@ -1,4 +1,4 @@
-//! Texts that a query seeks.
+//! The texts that a query looks for.
 ghost use Rattle.std.specs.Prelude.{◌≡◌, ℕ, List, string_bytes, IfOk};
 ghost use Rattle.mail_words.specs.Folding.{folding};
 
@@ -6,7 +6,7 @@ use mail_words::fold;
 use std::alloc::{AllocError, Global};
 use std::marker::Model;
 
-/// A text that a query seeks, which contracts see as its bytes.
+/// A text that a query looks for. In contracts it is the list of its bytes.
 #[derive(Drop)]
 pub struct QueryText {
     text: String,

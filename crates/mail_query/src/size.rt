@@ -1,4 +1,4 @@
-//! Sizes, as a pattern names them.
+//! Reads the sizes that a pattern `z:` names.
 ghost use Rattle.std.specs.Prelude.{◌≡◌, option_map};
 ghost use Rattle.mail_query.specs.Query.{query_of};
 ghost use Rattle.mail_query.specs.Sizes.{scaled, size_of, sizes_of};
@@ -7,10 +7,10 @@ use crate::node::Node;
 use crate::pieces::cut;
 use mail_dates::{are_digits, decimal_value};
 
-/// The greatest size that can be asked.
+/// The greatest size that a query can name, in bytes.
 const SIZE_LIMIT: u64 = 9_223_372_036_854_775_807;
 
-/// The sizes from a low to a high end, which the one dash parts.
+/// Reads `low-high`, either of which may be empty. Returns None if the text has no dash, or an end is no size.
 #[tactic(auto, unfolding(crate::specs::Sizes::sizes_of))]
 pub(crate) fn sizes_of(text: &str) -> Option<Node>
     ensures { option_map query_of result ≡ sizes_of text.now }
@@ -30,7 +30,7 @@ pub(crate) fn sizes_of(text: &str) -> Option<Node>
     })
 }
 
-/// One digit to 18, and then a letter that multiplies them or none.
+/// Reads 1 to 18 digits, and then `k` or `m` in either case, or no letter. Returns None for any other text.
 #[tactic(auto, unfolding(crate::specs::Sizes::size_of))]
 fn size_of(text: &[u8]) -> Option<u64>
     ensures { result ≡ size_of text.now }

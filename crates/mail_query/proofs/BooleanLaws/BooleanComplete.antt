@@ -1,4 +1,4 @@
--- What the grammar reads is what the reader answers: the steps over a tree's tokens.
+-- The reader returns each query that the grammar gives, by its steps over the tokens of a tree.
 use Rattle.mail_query.proofs.Words.{◌≡◌, ℕ, suc, ◌+◌, ◌<◌, Bool, true, false, not, cond, ltb, ltb-true, List, [], ◌∷◌, ◌++◌, length, map, Option, None, Some, Result, Ok, Err, refl, sym, ap, ◌∙◌, append_assoc, append-nil, add-one, arith, ◌&&◌, is_ok, option_and_then, not-true, ◌>>=◌, fault_as, Field, Fields, QueryFault, QueryFaultKind, Phrase, Lexicon, Query, Not, all_of, either_of, Token, Close, AndSign, OrSign, Parts, parts_of, no_fields, has_field, is_phrase, parts_query, cut_query, Link, Beside, ByAnd, ByOr, Item, NotOf, Group, Leaf, Chain, Last, Then, link_tokens, item_tokens, chain_tokens, into_first, query_or_any, term_prefix, plain_prefix, item_query, chain_queries, tree_query, is_fine_item, is_fine_chain, Reads, Level, Waiting, ForNot, ForClose, State, start, empty_level, with_member, noted, run_ended, each_ended, level_query, is_negated, placed, ended, cut_term_step, parts_step, term_step, step, run_from, tokens_query}
 use Rattle.mail_query.specs.BooleanTerms.{term_query}
 use Rattle.mail_query.proofs.BooleanLaws.StackLemmas.{placed-settled, deeper-room}
@@ -12,20 +12,20 @@ no_truth a h = grind arith
 pub and_right : (a b : Bool) → (a && b) ≡ true → b ≡ true
 and_right a b h = grind arith
 
--- a prefix that there isn't is not seen
+-- no prefix adds nothing to those seen
 pub noted-none : (negated : Bool) (level : Level) → noted negated None level ≡ level
 noted-none negated level = grind arith
 
 unfoldable pub state : List Waiting → Level → Bool → State
 state waiting level wanted = record { waiting = waiting; level = level; wanted = wanted }
 
--- the prefixes that a `some` must not have
+-- the prefixes that a term here must not have
 unfoldable pub seen_at : List Waiting → Level → Fields
 seen_at waiting level = cond (is_negated waiting) no_fields level.seen
 
 -- ---- one level
 
--- these members before those of the first `each`
+-- these members before those of the first alternative
 abbrev pub with_first : List Query → List (List Query) → List (List Query)
 with_first members [] = members ∷ []
 with_first members (qs ∷ qss) = (members ++ qs) ∷ qss
@@ -102,7 +102,7 @@ module _ (lexicon : Lexicon) where
   then_steps : (r : Result State QueryFaultKind) (next : State) (ts : List Token) → r ≡ Ok next → (r >>= (λ s. steps s ts)) ≡ steps next ts
   then_steps r next ts e = ap (λ x. x >>= (λ s. steps s ts)) e
 
-  -- where no `not` waits nearest, an item is a member, and its prefix must be new in the run
+  -- an operand without a `not` before it is a member, and its prefix must be new since the last operator
   seen_fine : (i : Item) (waiting : List Waiting) (level : Level) → is_negated waiting ≡ false → is_fine_item lexicon i (length waiting) level.seen ≡ true
       → is_fine_item lexicon i (length waiting) (seen_at waiting level) ≡ true
   unfolding seen_at
@@ -182,7 +182,7 @@ module _ (lexicon : Lexicon) where
   not_empty (Then (Group d) l c) e = cc
   not_empty (Then (Leaf t) l c) e = cc
 
-  -- what the grammar reads is what the reader answers
+  -- the reader returns what the grammar gives
   pub reading_answered : (ts : List Token) (q : Query) → Reads lexicon ts q → tokens_query lexicon ts ≡ Ok q
   unfolding state steps
   reading_answered [] q r = absurd (not_empty r.tree r.spelled)

@@ -1,4 +1,4 @@
--- How deep the queries of the boolean language are.
+-- The queries of the boolean language have at most 63 levels, because at most 30 `(` and `not` are open.
 use Rattle.mail_query.proofs.Words.{◌≡◌, ℕ, suc, ◌+◌, ◌*◌, ◌-◌, ◌<◌, ◌≤◌, Bool, true, cond, ltb, ltb-true, List, [], ◌∷◌, map, Option, Result, Err, subst, arith, Fields, QueryFaultKind, Phrase, Query, depth, all_of, either_of, Lexicon, Token, Parts, parts_of, no_fields, is_phrase, cut_query, Link, Beside, ByAnd, ByOr, Item, NotOf, Group, Leaf, Chain, Last, Then, linked, query_or_any, seen_behind, item_query, chain_queries, is_fine_item, is_fine_chain, Reads}
 use Rattle.mail_query.specs.BooleanTerms.{term_query}
 use Rattle.mail_query.proofs.BooleanLaws.BooleanComplete.{and_left, and_right}
@@ -20,7 +20,7 @@ module _ (lexicon : Lexicon) where
       go : (o : Option Parts) → IsFlat (cut_query lexicon o)
       go o = grind arith
 
--- ---- what stands where this many wait
+-- ---- inside this many open `(` and `not`
 
 AllShallow : ℕ → List (List Query) → Type 0
 AllShallow m [] = Unit {0}
@@ -39,7 +39,7 @@ linked_shallow m ByAnd q [] h k = ((h, tt), tt)
 linked_shallow m ByAnd q (qs ∷ qss) h k = ((h, k.0), k.1)
 linked_shallow m ByOr q qss h k = ((h, tt), k)
 
--- the members of an `each` have at most 61 levels less two for each that waits, and its `either` two more
+-- members of an alternative have at most 61 levels, less two for each open `(` or `not`; a group has two more
 made_depth : (n : ℕ) (qss : List (List Query)) → n ≤ 30 → AllShallow (61 - 2 * n) qss → depth (either_of (map all_of qss)) ≤ 63 - 2 * n
 made_depth n qss few h = omega (arith, few, depth-either_of (suc (61 - 2 * n)) (map all_of qss) (eaches_shallow (61 - 2 * n) qss h))
 
@@ -62,6 +62,6 @@ module _ (lexicon : Lexicon) where
         linked_shallow (61 - 2 * n) l (item_query lexicon i) (chain_queries lexicon c) (item_depth i n seen few (and_left (is_fine_item lexicon i n seen) _ h))
         (chain_shallow c n (seen_behind i l seen) few (and_right (is_fine_item lexicon i n seen) _ h))
 
-  -- what the grammar reads has at most 63 levels
+  -- each query that the grammar gives has at most 63 levels
   pub reads_depth : (ts : List Token) (q : Query) → Reads lexicon ts q → depth q ≤ 63
   reads_depth ts q r = subst (λ (asked : Query). depth asked ≤ 63) r.asked (made_depth 0 (chain_queries lexicon r.tree) (omega arith) (chain_shallow r.tree 0 no_fields (omega arith) r.fine))

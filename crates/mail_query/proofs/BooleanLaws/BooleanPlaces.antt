@@ -1,9 +1,9 @@
--- The reader's fault at a token is the one that the tokens before it show.
+-- The reader's fault is the first fault, because the tokens before a place determine the state there.
 use Rattle.mail_query.proofs.Words.{◌≡◌, ℕ, zero, suc, ◌+◌, Bool, true, false, not, cond, eqb, List, [], ◌∷◌, ◌++◌, length, Option, None, Some, Result, Ok, Err, refl, sym, ap, subst, ◌∙◌, append-nil, arith, is_none, ◌>>=◌, fault_as, Field, Fields, QueryFault, QueryFaultKind, NeedsOperator, MissingTerm, Lexicon, Query, Token, Open, Close, AndSign, OrSign, NotSign, no_fields, with_field, parts_query, Link, Beside, ByAnd, ByOr, Item, NotOf, Group, Leaf, Chain, Last, Then, link_tokens, item_tokens, chain_tokens, plain_prefix, seen_behind, Reads, is_wanted, open_count, waiting_count, is_not, fields_before, needs_operator, err_of, deep_fault, operator_fault, close_fault, end_fault, first_some, term_fault, token_fault, first_fault_from, first_fault, Level, Waiting, State, is_negated, has_open, deeper, closed, ended, cut_term_step, term_step, step, run_from, tokens_query}
 use Rattle.mail_query.proofs.BooleanLaws.BooleanComplete.{reading_answered}
 use Rattle.mail_query.proofs.BooleanLaws.BooleanTrees.{Front, Nothing, Behind, Part, Wait, WaitNot, WaitClose, nothing_read, front_tokens, last_tokens, part_tokens, spelled, seen_front, last_prefix, seen_of, wanted_of, waits_not, wanted_behind, front_wanted, is_closed, level_of, waiting_of, state_of, length-waiting_of, negated-waiting_of, Fine, reach, answer_read}
 
--- the tokens put behind those before, the nearest first
+-- tokens after those before them, the nearest first
 abbrev behind : List Token → List Token → List Token
 behind [] back = back
 behind (t ∷ ts) back = behind ts (t ∷ back)
@@ -18,7 +18,7 @@ cond_same b x = grind arith
 not_passed : (k : ℕ) (back : List Token) → waiting_count false k (NotSign ∷ back) ≡ waiting_count false k back
 not_passed k back = grind arith
 
--- ---- what a whole item or chain leaves of what stands before
+-- ---- what is open after a whole operand or chain
 
 record Passes (back after : List Token) : Type 0 where
   wanted : is_wanted after ≡ false
@@ -63,7 +63,7 @@ mutual
       subst (Passes back) (sym (chain_behind i l c back))
       (passes_on l back (behind (item_tokens i) back) _ (item_leaves i back).passes (chain_passes c (linked_back l (behind (item_tokens i) back))))
 
--- ---- what a part leaves, at the front of all or behind a `(`
+-- ---- what is open after a part, at the front of all or after a `(`
 
 record Opens (back : List Token) : Type 0 where
   wanted : is_wanted back ≡ true
@@ -124,7 +124,7 @@ part_stands p back c o = go p.last c
         subst (λ (after : List Token). Stands back after false (with_field (plain_prefix i) (seen_front p.front))) (sym (behind-append (front_tokens p.front) (item_tokens i) back))
         (item_stands i back (behind (front_tokens p.front) back) (front_wanted p.front) (seen_front p.front) (front_stands p.front back o))
 
--- ---- what the tokens so far show
+-- ---- what the tokens so far say
 
 abbrev back_of : List Wait → Part → List Token
 back_of ws p = behind (spelled ws p) []
@@ -141,7 +141,7 @@ record Shows (ws : List Wait) (p : Part) (back : List Token) : Type 0 where
   opens : open_count zero back ≡ open_of ws
   waits : waiting_count true zero back ≡ length ws
 
--- the fault, where there is one
+-- the fault, if there is one
 abbrev pub fault_of : {T E : Type 0} → Result T E → Option E
 fault_of (Ok x) = None
 fault_of (Err e) = Some e
@@ -219,7 +219,7 @@ module _ (lexicon : Lexicon) where
           ap (λ (b : List Token). first_fault_from lexicon (n + 1) b ts) (sym back) ∙ h reached.waits reached.part reached.fine
           ∙ ap (λ s. fault_of (run_from lexicon (n + 1) s ts)) (sym reached.shown)
 
-  -- the reader's fault is the first one that the places show
+  -- the reader's fault is the first fault
   first_fault_is : (ts : List Token) → first_fault lexicon ts ≡ fault_of (tokens_query lexicon ts)
   unfolding Fine
   first_fault_is [] = refl
@@ -234,11 +234,11 @@ module _ (lexicon : Lexicon) where
   pub answer_faulty : (ts : List Token) (f : QueryFault) → tokens_query lexicon ts ≡ Err f → first_fault lexicon ts ≡ Some f
   answer_faulty ts f e = first_fault_is ts ∙ ap fault_of e
 
-  -- what is read shows no fault
+  -- tokens that are read have no fault
   pub read_faultless : (ts : List Token) (q : Query) → Reads lexicon ts q → first_fault lexicon ts ≡ None
   read_faultless ts q r = first_fault_is ts ∙ ap fault_of (reading_answered lexicon ts q r)
 
-  -- what shows no fault is read
+  -- tokens without a fault are read
   pub faultless_read : (ts : List Token) → first_fault lexicon ts ≡ None → (q : Query) × Reads lexicon ts q
   faultless_read ts e = go (tokens_query lexicon ts) refl (sym (first_fault_is ts) ∙ e)
     where

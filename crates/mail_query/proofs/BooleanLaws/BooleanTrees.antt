@@ -1,16 +1,16 @@
--- The tree that was read so far, and what the reader has of it.
+-- The grammar gives each query that the reader returns, because after each token its state is that of a partial tree.
 use Rattle.mail_query.proofs.Words.{◌≡◌, ℕ, suc, ◌+◌, ◌<◌, Bool, true, false, not, cond, leb, List, [], ◌∷◌, ◌++◌, length, map, Option, None, Some, Result, Ok, Err, refl, sym, ap, subst, ◌∙◌, append_assoc, append-nil, arith, add-one, ◌&&◌, ◌||◌, is_ok, is_none, option_and_then, and_from, or_parts, or_right, leb-false, lt-ltb, ◌>>=◌, fault_as, Field, Fields, QueryFault, QueryFaultKind, Phrase, NeedsOperator, TooDeep, MissingTerm, BadParenthesis, Lexicon, Query, all_of, either_of, Token, Open, Close, AndSign, OrSign, NotSign, Term, Parts, parts_of, no_fields, has_field, with_field, is_phrase, cut_query, Link, Beside, ByAnd, ByOr, Item, NotOf, Group, Leaf, Chain, Last, Then, link_tokens, item_tokens, chain_tokens, term_prefix, plain_prefix, seen_behind, item_query, chain_queries, tree_query, is_fine_item, is_fine_chain, Reads, Level, Waiting, ForNot, ForClose, State, start, empty_level, with_member, noted, run_ended, each_ended, level_query, is_negated, has_open, placed, deeper, joined, parted, popped, closed, ended, parts_step, term_step, step, run_from, tokens_query}
 use Rattle.mail_query.specs.BooleanTerms.{term_query}
 use Rattle.mail_query.proofs.BooleanLaws.BooleanComplete.{noted-none, state, seen_at, term_fine, with_first, with_first-one, with_first-none}
 
--- ---- what was read
+-- ---- partial trees
 
--- the items of a chain, each with how it stands before the next, so far
+-- the operands of a chain so far, each with what joins it to the next
 pub data Front : Type 0 where
   Nothing : Front
   Behind : Front → Item → Link → Front
 
--- a chain so far, and its last item, where nothing is known yet of what follows
+-- a chain so far, and its last operand, for which it isn't known yet what follows
 pub record Part : Type 0 where
   pub front : Front
   pub last : Option Item
@@ -57,7 +57,7 @@ last_prefix (Some i) = plain_prefix i
 abbrev pub seen_of : Part → Fields
 seen_of p = with_field (last_prefix p.last) (seen_front p.front)
 
--- a `not` waits nearest
+-- whether the innermost open item is a `not`
 abbrev pub waits_not : List Wait → Bool
 waits_not (WaitNot ∷ ws) = true
 waits_not _ = false
@@ -65,7 +65,7 @@ waits_not _ = false
 abbrev pub wanted_of : List Wait → Part → Bool
 wanted_of ws p = waits_not ws || is_none p.last
 
--- one item more
+-- one operand more
 abbrev pub beside : Front → Option Item → Front
 beside f None = f
 beside f (Some j) = Behind f j Beside
@@ -83,18 +83,18 @@ put_part [] p i = put p i
 put_part (WaitNot ∷ ws) p i = put_part ws p (NotOf i)
 put_part (WaitClose outer ∷ ws) p i = put p i
 
--- where nothing is wanted, an item stands last, and no `not` waits nearest
+-- if no term must follow, an operand comes last, and no `not` is directly before the place
 where_ended : (ws : List Wait) (p : Part) (P : Part → Type 0) → wanted_of ws p ≡ false → (waits_not ws ≡ false → (f : Front) (i : Item) → P (ended_by f i)) → P p
 where_ended ws p P e h = let parts = or_parts (waits_not ws) (is_none p.last) e in go p.front p.last parts.1 (h parts.0)
   where
     go : (f : Front) (last : Option Item) → is_none last ≡ false → ((g : Front) (i : Item) → P (ended_by g i)) → P (record { front = f; last = last })
     go f last h h2 = grind arith
 
--- what a test lets pass
+-- a result that isn't the test's fault has passed the test
 unguarded : {A E : Type 0} (b : Bool) (fault : E) (r : Result A E) (x : A) → cond b (Err fault) r ≡ Ok x → (b ≡ false) × (r ≡ Ok x)
 unguarded b fault r x h = grind arith
 
--- ---- how it is spelled
+-- ---- its tokens
 
 part_tokens-put : (p : Part) (i : Item) → part_tokens (put p i) ≡ part_tokens p ++ item_tokens i
 part_tokens-put p i = go p.last
@@ -102,7 +102,7 @@ part_tokens-put p i = go p.last
     go : (last : Option Item) → front_tokens (beside p.front last) ++ item_tokens i ≡ (front_tokens p.front ++ last_tokens last) ++ item_tokens i
     go last = grind (arith, append-nil)
 
--- a `some` must stand behind
+-- whether a term must follow
 abbrev pub wanted_behind : Link → Bool
 wanted_behind Beside = false
 wanted_behind ByAnd = true
@@ -112,7 +112,7 @@ abbrev pub front_wanted : Front → Bool
 front_wanted Nothing = true
 front_wanted (Behind f i l) = wanted_behind l
 
--- where no item stands last, none stands before, or an operator does
+-- if no operand comes last, there is none yet, or an operator comes last
 abbrev pub is_closed : Front → Option Item → Bool
 is_closed f None = front_wanted f
 is_closed f (Some i) = true
@@ -120,7 +120,7 @@ is_closed f (Some i) = true
 operator_wanted : (l : Link) (t : Token) → link_tokens l ≡ t ∷ [] → wanted_behind l ≡ true
 operator_wanted l t h = grind arith
 
--- what follows in the innermost part follows the whole, where no `not` waits nearest
+-- tokens after the innermost part are after the whole, if no `not` is directly before them
 spelled-more : (ws : List Wait) (p next : Part) (ts : List Token) → waits_not ws ≡ false → part_tokens next ≡ part_tokens p ++ ts → spelled ws next ≡ spelled ws p ++ ts
 spelled-more ws p next ts h h2 = grind (arith, append_assoc)
 
@@ -137,7 +137,7 @@ and_assoc : (a b c : Bool) → ((a && b) && c) ≡ (a && (b && c))
 and_assoc a b c = grind arith
 
 module _ (lexicon : Lexicon) where
-  -- ---- what the reader has of it
+  -- ---- the state of the reader
 
   abbrev pub members_front : Front → List Query
   members_front Nothing = []
@@ -192,11 +192,11 @@ module _ (lexicon : Lexicon) where
   eaches-onto (Behind f i ByAnd) c = grind (arith, with_first-one, eaches-onto f (Then i ByAnd c))
   eaches-onto (Behind f i ByOr) c = grind (arith, append_assoc, with_first-none, eaches-onto f (Then i ByOr c))
 
-  -- what a level asks is what its tree asks
+  -- the query of a group is that of its tree
   pub level_asks : (f : Front) (i : Item) → level_query (level_of (ended_by f i)) ≡ tree_query lexicon (onto f (Last i))
   level_asks f i = ap either_of (sym (eaches-onto f (Last i)))
 
-  -- ---- that it is allowed
+  -- ---- the tree is allowed
 
   abbrev pub is_fine_front : Front → ℕ → Bool
   is_fine_front Nothing n = true
@@ -244,7 +244,7 @@ module _ (lexicon : Lexicon) where
 
   -- ---- a step
 
-  -- what is read with one token more
+  -- the partial tree after one more token
   pub record Reaches (ws : List Wait) (p : Part) (t : Token) (s : State) : Type 0 where
     pub waits : List Wait
     pub part : Part
@@ -258,7 +258,7 @@ module _ (lexicon : Lexicon) where
   new_prefix : (negated : Bool) (seen : Fields) (prefix : Option Field) → (not negated && has_field seen prefix) ≡ false → not (has_field (cond negated no_fields seen) prefix) ≡ true
   new_prefix negated seen prefix h = grind (arith, no_fields-have)
 
-  -- a term that was read is allowed where it stands
+  -- a term that the reader takes is allowed in its place
   term_ok : (s next : State) (t : List ℕ) → term_step lexicon s t ≡ Ok next
       → (not (has_field (seen_at s.waiting s.level) (term_prefix t)) && is_ok (term_query lexicon t)) ≡ true
   unfolding seen_at
@@ -310,7 +310,7 @@ module _ (lexicon : Lexicon) where
       let d = reach_deeper ws s (ForClose (level_of p)) empty_level e in
       record { waits = WaitClose p ∷ ws; part = nothing_read; shown = d.1; tokens = refl; fine = (fine, d.0, record { front = refl; last = refl; closed = refl }) }
 
-  -- an operator stands behind the last item
+  -- an operator comes after the last operand
   reach_operator : (ws : List Wait) (f : Front) (i : Item) (l : Link) (t : Token) (s : State) → waits_not ws ≡ false → Fine ws (ended_by f i) → link_tokens l ≡ t ∷ []
       → s ≡ state (waiting_of ws) (level_of (record { front = Behind f i l; last = None })) true → Reaches ws (ended_by f i) t s
   unfolding state
@@ -409,7 +409,7 @@ module _ (lexicon : Lexicon) where
           let rest = k reached.waits reached.part reached.fine (ap (λ s. run_from lexicon (n + 1) s ts) (sym reached.shown) ∙ e) in
           subst (λ (xs : List Token). Reads lexicon xs q) (ap (λ (xs : List Token). xs ++ ts) reached.tokens ∙ append_assoc (spelled ws p) (t ∷ []) ts) rest
 
-  -- what the reader answers is read by the grammar
+  -- the grammar gives what the reader returns
   pub start_read : (ts : List Token) (q : Query) → run_from lexicon 1 start ts ≡ Ok q → Reads lexicon ts q
   unfolding Fine
   start_read ts q e = run_reads 1 [] nothing_read ts q (record { front = refl; last = refl; closed = refl }) e

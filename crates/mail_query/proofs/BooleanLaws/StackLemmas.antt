@@ -1,4 +1,4 @@
--- What waits, the nearest first.
+-- Laws of what is open, the innermost first.
 use Rattle.mail_query.proofs.Words.{◌≡◌, ℕ, ◌+◌, ◌-◌, ◌<◌, ◌≤◌, Bool, true, false, ◌||◌, Ok, Err, List, [], ◌∷◌, ◌++◌, length, take, drop, get_or, drop-cons, refl, sym, ap, ◌∙◌, arith, IsLastAndRest, drop_all, or-false, or_right, le-leb, lt-leb, TooDeep, BadParenthesis, Query, Not, shown_level, shown_waiting, nearest_first, shown_stack, Level, Waiting, ForNot, ForClose, with_member, is_negated, has_open, placed, deeper, popped, level_query}
 use Rattle.mail_query.specs.declared.boolean.reader.Level.{Level as CodeLevel}
 use Rattle.mail_query.specs.declared.boolean.reader.Waiting.{Waiting as CodeWaiting}
@@ -9,7 +9,7 @@ nearest_first-push : (ws : List CodeWaiting) (w : CodeWaiting) (behind : List Wa
 nearest_first-push [] w behind = refl
 nearest_first-push (v ∷ ws) w behind = nearest_first-push ws w (shown_waiting v ∷ behind)
 
--- the last waits nearest
+-- the last of the list is the innermost
 pub shown_stack-push : (ws : List CodeWaiting) (w : CodeWaiting) → shown_stack (ws ++ w ∷ []) ≡ shown_waiting w ∷ shown_stack ws
 shown_stack-push ws w = nearest_first-push ws w []
 
@@ -26,11 +26,11 @@ negated_last ws front h = ap (λ xs. is_negated (shown_stack xs)) h.0 ∙ ap is_
 pub open_last : (ws front : List CodeWaiting) (w : CodeWaiting) (level : Level) → IsLastAndRest ws w front → shown_waiting w ≡ ForClose level → is_negated (shown_stack ws) ≡ false
 open_last ws front w level h e = ap (λ xs. is_negated (shown_stack xs)) h.0 ∙ ap is_negated (shown_stack-push front w) ∙ ap (λ v. is_negated (v ∷ shown_stack front)) e
 
--- a `some` that no `not` waits for is a member
+-- an operand without a `not` directly before it is a member as it is
 pub placed-settled : (ws : List Waiting) (level : Level) (q : Query) → is_negated ws ≡ false → placed ws level q ≡ record { waiting = ws; level = with_member level q; wanted = false }
 placed-settled ws level q h = grind arith
 
--- ---- whether some `(` waits
+-- ---- whether a `(` is open
 
 abbrev pub has_open_code : List CodeWaiting → Bool
 has_open_code [] = false
@@ -45,7 +45,7 @@ has_open-nearest_first (code_waiting.ForClose level ∷ ws) behind = has_open-ne
 pub has_open-shown_stack : (ws : List CodeWaiting) → has_open (shown_stack ws) ≡ has_open_code ws
 has_open-shown_stack ws = has_open-nearest_first ws [] ∙ or-false (has_open_code ws)
 
--- ---- whether there is room to wait
+-- ---- whether one more may be open
 
 pub deeper-full : (waiting : List Waiting) (what : Waiting) (level : Level) → 30 ≤ length waiting → deeper waiting what level ≡ Err TooDeep
 deeper-full waiting what level h = rw (le-leb 30 (length waiting) h) refl
@@ -53,7 +53,7 @@ deeper-full waiting what level h = rw (le-leb 30 (length waiting) h) refl
 pub deeper-room : (waiting : List Waiting) (what : Waiting) (level : Level) → length waiting < 30 → deeper waiting what level ≡ Ok (record { waiting = what ∷ waiting; level = level; wanted = true })
 deeper-room waiting what level h = rw (lt-leb 30 (length waiting) h) refl
 
--- ---- what the last leaves
+-- ---- all but the last
 
 pub negated_some : (ws : List CodeWaiting) → is_negated (shown_stack ws) ≡ true → 0 < length ws
 negated_some [] e = absurd cc
@@ -69,7 +69,7 @@ pops-close ws rest outer level e = ap (λ xs. popped (shown_stack xs) level) e �
 pub pops-not : (ws rest : List CodeWaiting) (level : Level) → ws ≡ rest ++ code_waiting.ForNot ∷ [] → popped (shown_stack ws) level ≡ Err BadParenthesis
 pops-not ws rest level e = ap (λ xs. popped (shown_stack xs) level) e ∙ ap (λ xs. popped xs level) (shown_stack-push rest code_waiting.ForNot)
 
--- ---- a `(` that waits, found from the front
+-- ---- an open `(`, found from the front
 
 pub open_here : (ws : List CodeWaiting) (i : ℕ) (item : CodeWaiting) (level : CodeLevel) → i < length ws → item ≡ get_or ws i item → item ≡ code_waiting.ForClose level
     → has_open_code (drop i ws) ≡ has_open_code ws → true ≡ has_open (shown_stack ws)

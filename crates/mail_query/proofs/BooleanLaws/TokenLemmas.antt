@@ -1,4 +1,4 @@
--- How a text is cut into tokens from its front.
+-- Taking one token after another from the front of a text gives its tokens.
 use Rattle.std.proofs.Common.{◌≡◌, ℕ, zero, suc, ◌<◌, ◌≤◌, Bool, true, false, not, ◌||◌, cond, eqb, List, [], ◌∷◌, length, take, drop, get_or, None, Some, refl, sym, ap, subst, ◌∙◌, arith, add-one}
 use Rattle.std.proofs.lemmas.Bool.Decides.{nat_tests}
 use Rattle.std.proofs.lemmas.Option.{cond_some}
@@ -9,7 +9,7 @@ use Rattle.mail_query.specs.Tokens.{Open, Close, Cut, token_of, is_blank, closed
 use Rattle.mail_query.specs.Pieces.{without_first}
 use Rattle.mail_query.specs.Inside.Shown.{blank_count, ends_run, run_length}
 
--- ---- blanks in front
+-- ---- blanks at the front
 
 pub blanks_counted : (text : List ℕ) → prefix_len is_blank text ≡ blank_count text
 blanks_counted [] = refl
@@ -37,7 +37,7 @@ no_blank_left (b ∷ bs) = go (is_blank b) refl (no_blank_left bs)
 blank_is_ascii : (b : ℕ) → is_blank b ≡ true → b < 128
 blank_is_ascii b e = grind (arith, nat_tests)
 
--- the byte before the end of the blanks is one
+-- the last of the blanks is an ASCII byte
 last_blank : (text : List ℕ) (n : ℕ) → blank_count text ≡ suc n → (n < length text) × (get_or text n 0 < 128)
 last_blank [] n e = absurd (omega (arith, e))
 last_blank (b ∷ bs) n e = go (is_blank b) refl e n refl (λ m h. last_blank bs m h)
@@ -95,7 +95,7 @@ tokens-run text some nonempty = ap all_tokens (cut-run text) ∙ go (run_length 
     go : (n : ℕ) (t : List ℕ) → 0 < n → 0 < length t → closed_run (take n t) (tokens (drop (run_length text) text)) ≡ token_of (take n t) ∷ tokens (drop (run_length text) text)
     go n t h h2 = grind arith
 
--- the byte behind a run can't be part of a character
+-- a run ends at a boundary of characters
 pub run_end : (text : List ℕ) → IsCharBoundary text (run_length text)
 run_end text = go (run_place text)
   where
@@ -117,7 +117,7 @@ begins_run (b ∷ bs) h e f g = go (is_blank b) (eqb b 0x28) (eqb b 0x29) e f g
     go : (t o c : Bool) → cond t (suc (blank_count bs)) 0 ≡ 0 → cond o (Some bs) None ≡ None → cond c (Some bs) None ≡ None → 0 < cond (t || (o || c)) 0 (suc (run_length bs))
     go t o c h h2 h3 = grind arith
 
--- ---- parentheses in front
+-- ---- parentheses at the front
 
 pub tokens-open : (text rest : List ℕ) → without_first 0x28 text ≡ Some rest → tokens text ≡ Open ∷ tokens rest
 unfolding tokens

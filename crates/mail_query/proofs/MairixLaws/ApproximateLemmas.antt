@@ -1,7 +1,8 @@
--- How the test for an approximate match goes over a text, and what passes it.
+-- The test for approximate matching is right after each byte of a text, so it is right at the end.
 use Rattle.mail_query.proofs.Words.{◌≡◌, ℕ, suc, ◌≤◌, Bool, true, false, ◌||◌, ◌&&◌, eqb, List, [], ◌∷◌, ◌++◌, length, refl, sym, subst, arith, list_all, is_ascii_digit, eqb-true, and_parts, and_from, or_left, or_right, is_nonempty, is_approximate, IsApproximate, Digits}
 
--- an `=` stood before and digits alone since, of which there was one or more, or none
+-- What the test says of the whole text, given the rest. `marked`: only digits came since the last `=`. `counted`: at
+-- least one of them did.
 abbrev pub approximate_behind : Bool → Bool → List ℕ → Bool
 approximate_behind marked counted rest =
     ((counted && list_all is_ascii_digit rest) || (marked && (is_nonempty rest && list_all is_ascii_digit rest))) || is_approximate rest
@@ -9,7 +10,7 @@ approximate_behind marked counted rest =
 nonempty : (b : ℕ) (bs : List ℕ) → is_nonempty (b ∷ bs) ≡ true
 nonempty b bs = let e : eqb (suc (length bs)) 0 ≡ false = grind arith in rw e refl
 
--- ---- what is approximate has an `=`, and digits behind it
+-- ---- a text that passes has an `=` and digits after it
 
 filled : (bs : List ℕ) → is_nonempty bs ≡ true → 1 ≤ length bs
 filled bs h = grind arith

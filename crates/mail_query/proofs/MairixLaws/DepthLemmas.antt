@@ -1,8 +1,8 @@
--- How deep the queries of patterns are.
+-- The queries of patterns have at most five levels, counted production by production.
 use Rattle.mail_query.proofs.Words.{ℕ, suc, ◌≤◌, List, [], ◌∷◌, arith, Query, depth, deepest, members_of, all_of, either_of, IsSizes, Between, AreFlags, IsFlags, EachFlag, Lexicon, Forms, Separated, Alone, Before, IsAtom, IsTerm, IsAll, EachTerm, IsRest, SomeAll, IsPattern, ArePatterns, Only, AndAlso, IsAsked, EachPattern}
 use Rattle.mail_query.specs.FlagGrammar as flags
 
--- each has at most so many levels
+-- each query has at most n levels
 unfoldable pub AreShallow : ℕ → List Query → Type 0
 AreShallow n [] = Unit {0}
 AreShallow n (q ∷ qs) = (depth q ≤ n) × AreShallow n qs
@@ -66,6 +66,6 @@ module _ (lexicon : Lexicon) where
   patterns_shallow patterns qs (Only pattern q a) = (pattern_depth pattern q a, tt)
   patterns_shallow patterns qs (AndAlso pattern rest q more a s) = (pattern_depth pattern q a, patterns_shallow rest more s)
 
-  -- what a list of patterns asks has at most five levels
+  -- the query of a list of patterns has at most five levels
   pub asked_depth : (patterns : List (List ℕ)) (q : Query) → IsAsked lexicon patterns q → depth q ≤ 5
   asked_depth patterns q (EachPattern texts qs s) = depth-all_of 4 qs (patterns_shallow texts qs s)

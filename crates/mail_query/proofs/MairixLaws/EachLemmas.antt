@@ -1,25 +1,25 @@
--- How texts, or patterns, are read one after another.
+-- Reading texts, or patterns, one after another: the queries so far and those of the rest make the whole.
 use Rattle.mail_query.proofs.Words.{◌≡◌, ℕ, ◌+◌, ◌<◌, List, [], ◌∷◌, ◌++◌, length, get_or, drop, Option, Result, Ok, Err, IfSome, refl, sym, ap, ◌∙◌, arith, add-one, drop-cons, append-nil, map, String, Global, string_bytes, IsUtf8, drop_all, get_or-map, length-map, ◌>>=◌, with_front, fault_as, with_front-append, with_front-nil, if_some_map, QueryFault, QueryFaultKind, Query, all_of, Lexicon, each_read, pattern_query, patterns_from, patterns_query, All, All-map, IsUtf8-string_bytes, kind_refusal, query_refusal, numbered}
 
--- the text at a place, and those behind it
+-- the texts from a place on are the text there and those after it
 drop-next : (texts : List (List ℕ)) (n : ℕ) (text : List ℕ) → (n < length texts) × (text ≡ get_or texts n text) → drop n texts ≡ text ∷ drop (n + 1) texts
 drop-next texts n text h = grind (arith, drop-cons, add-one)
 
 module _ {E : Type 0} (fault : ℕ → QueryFaultKind → E) (read : List ℕ → Result Query QueryFaultKind) where
-  -- the queries of the texts from number n on, or the first refusal, as the fault of its number
+  -- the queries of the texts from number n on, or the first fault, with its number
   abbrev pub numbered_read : ℕ → List (List ℕ) → Result (List Query) E
   numbered_read n [] = Ok []
   numbered_read n (text ∷ texts) = fault_as (fault n) (read text) >>= (λ q. with_front (q ∷ []) (numbered_read (n + 1) texts))
 
   module _ (texts : List (List ℕ)) where
-    -- these were read, and what comes of the rest makes the whole
+    -- these queries were read, and with those of the rest they make the whole
     pub record HasRead (qs : List Query) (n : ℕ) : Type 0 where
       pub whole : with_front qs (numbered_read (n + 1) (drop n texts)) ≡ numbered_read 1 texts
 
     pub reads_none : (qs : List Query) → qs ≡ [] → HasRead qs 0
     reads_none qs e = record { whole = rw e (with_front-nil (numbered_read 1 texts)) }
 
-    -- what comes of the answer to the text at a place
+    -- the whole, given the result for the text at a place
     abbrev then_rest : List Query → ℕ → Result Query QueryFaultKind → Result (List Query) E
     then_rest qs n r = with_front qs (fault_as (fault (n + 1)) r >>= (λ q. with_front (q ∷ []) (numbered_read (n + 1 + 1) (drop (n + 1) texts))))
 
@@ -61,7 +61,7 @@ module _ (read : List ℕ → Result Query QueryFaultKind) (texts : List (List �
 
 -- ---- patterns have numbers
 
--- a fault of the pattern with this number
+-- the fault of the pattern with this number
 abbrev pub at_number : ℕ → QueryFaultKind → QueryFault
 at_number n kind = record { number = n; kind = kind }
 
@@ -71,12 +71,12 @@ patterns_numbered lexicon n (pattern ∷ patterns) = grind (arith, patterns_numb
 
 -- ---- all patterns
 
--- what all patterns ask, where there are some, or the first refusal
+-- the query of all patterns, or the first fault, if there are any patterns
 pub patterns_made : (lexicon : Lexicon) (patterns : List (List ℕ)) (r : Result (List Query) QueryFault) → 0 < length patterns
     → numbered_read at_number (pattern_query lexicon) 1 patterns ≡ r → patterns_query lexicon patterns ≡ r >>= (λ qs. Ok (all_of qs))
 patterns_made lexicon patterns r h h2 = grind (arith, patterns_numbered)
 
--- a refusal of a pattern, with its number
+-- if one pattern is refused, the whole list is, with that number
 pub pattern_refused : (lexicon : Lexicon) (patterns : List (List ℕ)) (qs : List Query) (n : ℕ) (text : List ℕ) (kind : QueryFaultKind) → HasRead at_number (pattern_query lexicon) patterns qs n
     → (n < length patterns) × (text ≡ get_or patterns n text) → IfSome (kind_refusal kind) (λ k. pattern_query lexicon text ≡ Err k)
     → IfSome (query_refusal (numbered (n + 1) kind)) (λ f. patterns_query lexicon patterns ≡ Err f)
@@ -87,6 +87,6 @@ pub pattern_here : (patterns : List (String Global)) (i : ℕ) (pattern : String
     → (i < length (map string_bytes patterns)) × (text ≡ get_or (map string_bytes patterns) i text)
 pattern_here patterns i pattern text below is e = grind (arith, string_bytes, length-map, get_or-map)
 
--- texts are UTF-8
+-- strings are UTF-8
 pub texts_utf8 : (patterns : List (String Global)) → All IsUtf8 (map string_bytes patterns)
 texts_utf8 patterns = All-map IsUtf8 string_bytes patterns (λ k d below. IsUtf8-string_bytes (get_or patterns k d))

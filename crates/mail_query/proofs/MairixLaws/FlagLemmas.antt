@@ -1,13 +1,13 @@
--- How flags are read letter by letter, which is as their grammar says.
+-- Flags are read as their grammar says, by induction over the letters.
 use Rattle.mail_query.proofs.Words.{◌≡◌, ℕ, ◌+◌, ◌<◌, Bool, true, false, eqb, List, [], ◌∷◌, ◌++◌, length, get_or, drop, Option, None, Some, Ok, Err, option_map, refl, sym, ap, ◌∙◌, append_assoc, append-nil, arith, add-one, drop-cons, inl, inr, not, cond, subst, option_and_then, ◌⊎◌, drop_all, Flag, BadFlag, Query, HasFlag, all_of, flag_of, with_flag, flags_behind, flags_of, some_of, flags_query, eqb-true, false_from_ne_true, none-some, option_and_then_some, AreFlags, NoFlag, IsFlags, EachFlag}
 use Rattle.mail_query.proofs.MairixLaws.SignLemmas.{map_some}
 use Rattle.mail_query.specs.FlagGrammar.{Wanted, Unwanted}
 
--- these flags, before those to come
+-- these flags, before those that follow
 abbrev pub with_flags : List Query → Option (List Query) → Option (List Query)
 with_flags front rest = option_map (λ qs. front ++ qs) rest
 
--- the flags so far, and those that the letters from a place on give, are all
+-- the flags so far, with those of the letters from place i on, are those of the whole text
 pub record HasRead (text : List ℕ) (qs : List Query) (wanted : Bool) (i : ℕ) : Type 0 where
   pub whole : with_flags qs (flags_behind wanted (drop i text)) ≡ flags_behind true text
 
@@ -17,7 +17,7 @@ next text i h = drop-cons text i 0 h ∙ ap (λ k. get_or text i 0 ∷ drop k te
 pub reads_none : (text : List ℕ) (qs : List Query) → qs ≡ [] → HasRead text qs true 0
 reads_none text qs e = grind arith
 
--- a dash in front
+-- a dash comes next
 at_dash : (text : List ℕ) (qs : List Query) (wanted w : Bool) (i : ℕ) → HasRead text qs wanted i → wanted ≡ w → i < length text → get_or text i 0 ≡ 0x2D
     → with_flags qs (flags_behind w (0x2D ∷ drop (i + 1) text)) ≡ flags_behind true text
 at_dash text qs wanted w i h e below is = grind (arith, next)
@@ -45,7 +45,7 @@ reads_all text qs i h e = grind (arith, at_end, append-nil)
 pub no_last_letter : (text : List ℕ) (qs : List Query) (i : ℕ) → HasRead text qs false i → length text ≡ i → flags_behind true text ≡ None
 no_last_letter text qs i h e = grind (arith, at_end)
 
--- ---- what the whole text asks
+-- ---- the whole text
 
 pub refused : (text : List ℕ) → flags_behind true text ≡ None → flags_query text ≡ Err BadFlag
 unfolding flags_of
@@ -74,7 +74,7 @@ dash_refused text qs wanted i h e below is = refused text (sym (at_dash text qs 
 
 -- ---- the grammar
 
--- a letter is no dash
+-- a letter of a flag isn't a dash
 no_dash : (letter : ℕ) (flag : Flag) → flag_of letter ≡ Some flag → eqb letter 0x2D ≡ false
 no_dash letter flag e = false_from_ne_true (eqb letter 0x2D) (λ h. none-some flag (ap flag_of (sym (eqb-true letter 0x2D h)) ∙ e))
 
@@ -87,7 +87,7 @@ pub flags_read : (text : List ℕ) (q : Query) → IsFlags text q → flags_of t
 unfolding flags_of
 flags_read text q (EachFlag t first qs f) = ap (option_and_then some_of) (are_read t (first ∷ qs) f)
 
--- what stands behind a dash
+-- the letter after a dash, and what follows it
 record Behind (text : List ℕ) (qs : List Query) : Type 0 where
   letter : ℕ
   flag : Flag

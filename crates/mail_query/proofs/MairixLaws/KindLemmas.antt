@@ -1,4 +1,4 @@
--- The letters of a prefix, and the kinds that they name.
+-- The letters of a prefix name the kinds that the grammar says, letter by letter.
 use Rattle.mail_query.proofs.Words.{◌≡◌, ℕ, Bool, true, false, cond, List, [], ◌∷◌, None, Some, refl, sym, ap, ◌∙◌, arith, ◌||◌, ◌&&◌, codes, option_and_then, list_all, or-false, eqb_tells, cond_some, Kinds, no_kinds, union, kinds_of_letter, kinds_with, kinds_of, is_among, kinds_named, AreLetters}
 
 abbrev are_letters : List ℕ → Bool
@@ -30,11 +30,11 @@ with_named kinds (letter ∷ letters) =
 some_named : (letter : ℕ) (letters : List ℕ) → kinds_of (letter ∷ letters) ≡ cond (are_letters (letter ∷ letters)) (Some (kinds_named (letter ∷ letters))) None
 some_named letter letters = with_named no_kinds (letter ∷ letters)
 
--- letters name their kinds
+-- letters of the grammar name their kinds
 pub letters_read : (letters : List ℕ) → AreLetters letters → kinds_of letters ≡ Some (kinds_named letters)
 letters_read letters h = grind (arith, some_named)
 
--- and what names kinds is letters
+-- a text that names kinds has only letters of the grammar
 pub record Named (letters : List ℕ) (kinds : Kinds) : Type 0 where
   pub letters_are : AreLetters letters
   pub kinds_are : kinds_named letters ≡ kinds

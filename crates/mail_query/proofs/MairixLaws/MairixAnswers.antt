@@ -1,4 +1,4 @@
--- What is read of patterns: an answer is what the grammar relates, and a refusal is the first fault.
+-- The result of reading patterns: a query is one that the grammar gives, and a fault is the first fault.
 use Rattle.mail_query.proofs.Words.{◌≡◌, ℕ, suc, ◌+◌, ◌<◌, true, false, List, [], ◌∷◌, ◌++◌, length, Option, None, Some, option_map, Result, Ok, Err, inl, inr, refl, sym, ap, subst, ◌∙◌, arith, IsUtf8, ◌⊎◌, bytes_eq, codes, ok_or, option_or, MatchResult, All, slice_split, join_with_byte, both_ways, cond_both, All-nil, All-cons, All-head, All-tail, none-some, option_and_then_some, MatchResult-weaker, bytes_eq-Decides, ◌>>=◌, with_front, fault_as, QueryFault, QueryFaultKind, BadWord, BadPrefix, BadDate, BadSize, BadFlag, Approximate, Kinds, is_byte, cut, without_first, without_last, Lexicon, Query, Word, Part, Prefix, Date, Not, all_of, either_of, sizes_of, flags_of, Forms, plain_kinds, kinds_of, is_approximate, id_forms, word_forms, each_read, part_query, prefix_query, marked_query, found_query, atom_query, term_query, all_query, rest_query, prefixed_query, pattern_query, patterns_from, patterns_query, Separated, Alone, Before, IsAtom, WholeWord, PartOfWord, FrontOfWord, IsTerm, Wanted, Unwanted, IsAll, EachTerm, IsRest, SomeAll, IsPattern, Plain, InKinds, ArePatterns, Only, AndAlso, IsAsked, EachPattern, HasNoSigns, IsFirstOf, Behind, IsAtomFault, AsksApproximately, HasNoForm, IsTermFault, InWanted, InUnwanted, IsAllFault, InTerm, IsRestFault, InAll, IsPatternPrefix, OfKinds, IsPatternFault, HasNoPrefix, InPlain, InWords, InId, HasNoDate, HasNoSize, HasNoFlags, IsFirstFault, HasNone, InPattern}
 use Rattle.std.proofs.lemmas.List.Splits.{length-slice_split, join_with_byte-slice_split}
 use Rattle.mail_query.specs.Mairix.{word_query}
@@ -13,7 +13,7 @@ use Rattle.mail_query.proofs.MairixLaws.SizeLemmas.{sizes_read, read_sizes}
 use Rattle.mail_query.proofs.MairixLaws.SignLemmas.{map_some, last_is, first_is, cut_parts, uncut_free, utf8_before, utf8_behind}
 use Rattle.mail_query.proofs.MairixLaws.MairixComplete.{PlainForms, id_plain, word_plain, atom_read}
 
--- ---- answers of steps
+-- ---- results of steps
 
 then_answers : {A B E : Type 0} (r : Result A E) (f : A → B) {P : A → Type 0} {Q : E → Type 0} (P' : B → Type 0) (Q' : E → Type 0)
     → MatchResult r P Q → ((x : A) → P x → P' (f x)) → ((e : E) → Q e → Q' e) → MatchResult (r >>= (λ x. Ok (f x))) P' Q'
@@ -31,14 +31,14 @@ unmapped f o h = grind arith
 
 -- ---- several texts, one after another
 
--- what each of them asks
+-- the queries of the texts
 Each : (List ℕ → Query → Type 0) → List (List ℕ) → List Query → Type 0
 Each Asks [] [] = Unit {0}
 Each Asks [] (q ∷ qs) = ⊥
 Each Asks (t ∷ ts) [] = ⊥
 Each Asks (t ∷ ts) (q ∷ qs) = Asks t q × Each Asks ts qs
 
--- the fault of the first faulty one, by its number from n on
+-- the fault of the first faulty text, with its number from n on
 record Refused (Asks : List ℕ → Query → Type 0) (Shows : List ℕ → QueryFaultKind → Type 0) (E : Type 0) (fault : ℕ → QueryFaultKind → E) (n : ℕ) (texts : List (List ℕ)) (e : E) : Type 0 where
   before : ℕ
   kind : QueryFaultKind
@@ -91,7 +91,7 @@ module _ (Asks : List ℕ → Query → Type 0) (Shows : List ℕ → QueryFault
       (λ qs each. subst (λ (t : List ℕ). Separated sign Asks t qs) (join_with_byte-slice_split sign text) (separated sign parts qs some each))
       (λ kind f. (f.before, subst (IsFirstOf Asks Shows parts f.before) f.is f.first))
 
--- what stands between signs is UTF-8
+-- the texts between signs are UTF-8
 parts_utf8 : (sign : ℕ) (parts : List (List ℕ)) → sign < 128 → IsUtf8 (join_with_byte sign parts) → All IsUtf8 parts
 parts_utf8 sign [] below utf8 = All-nil IsUtf8
 parts_utf8 sign (t ∷ []) below utf8 = All-cons IsUtf8 t [] utf8 (All-nil IsUtf8)
@@ -103,7 +103,7 @@ pub split_utf8 : (sign : ℕ) (text : List ℕ) → sign < 128 → IsUtf8 text �
 split_utf8 sign text below utf8 =
     parts_utf8 sign (slice_split (is_byte sign) text) below (subst IsUtf8 (sym (join_with_byte-slice_split sign text)) utf8)
 
--- ---- atoms, terms and what they make
+-- ---- atoms, terms and what is made of them
 
 module _ (forms : Forms) where
   marked_asks : (sub : List ℕ) (q : Query) → marked_query forms sub ≡ Some q → IsAtom forms (sub ++ 0x3D ∷ []) q

@@ -1,4 +1,4 @@
--- What the grammar of patterns relates is what is read.
+-- The reader returns each query that the grammar of patterns gives, by induction over the productions.
 use Rattle.mail_query.proofs.Words.{◌≡◌, ℕ, ◌+◌, ◌<◌, true, false, eqb, List, [], ◌∷◌, ◌++◌, Option, None, Some, Result, Ok, ap, refl, ◌∙◌, arith, IsUtf8, bytes_eq, codes, ok_or, list_any, list_all, slice_split, All, and_parts, or_from, not-true, both_ways, false_from_ne_true, All-head, All-tail, cond_some, none-some, bytes_eq-Decides, ◌>>=◌, with_front, fault_as, QueryFaultKind, BadSize, BadFlag, Kinds, is_byte, is_nonempty, Lexicon, Query, Not, all_of, Forms, plain_kinds, kinds_of, is_sign, is_id, id_forms, word_forms, each_read, atom_query, term_query, all_query, rest_query, prefixed_query, pattern_query, patterns_from, patterns_query, is_among, kinds_named, Separated, Alone, Before, IsAtom, WholeWord, PartOfWord, FrontOfWord, IsTerm, Wanted, Unwanted, IsAll, EachTerm, IsRest, SomeAll, IsPattern, Plain, InKinds, OfId, OfDate, OfSize, OfFlags, ArePatterns, Only, AndAlso, IsAsked, EachPattern, HasNoSigns}
 use Rattle.mail_query.proofs.PieceLemmas.{other_byte, without_last-same, none_unless, Free, cut_none, cut_at}
 use Rattle.mail_query.proofs.MairixLaws.EachLemmas.{at_number}
@@ -27,9 +27,9 @@ separated_free sign c Asks below differs one text qs (Before t rest q more a s) 
     any-append (is_byte c) t (sign ∷ rest) (one t q a (utf8_before t rest sign below utf8))
     (or_from (eqb sign c) (list_any (is_byte c) rest) differs (separated_free sign c Asks below differs one rest more s (utf8_behind t rest sign below utf8)))
 
--- ---- atoms, terms and what they make
+-- ---- atoms, terms and what is made of them
 
--- neither a word nor a part of one has a sign
+-- no word and no part of a word has a sign
 pub record PlainForms (forms : Forms) : Type 0 where
   pub words : (text sought : List ℕ) → IsUtf8 text → forms.word text ≡ Some sought → list_any is_sign text ≡ false
   pub parts : (text sought : List ℕ) → IsUtf8 text → forms.part text ≡ Some sought → list_any is_sign text ≡ false
@@ -41,7 +41,7 @@ module _ (forms : Forms) (plain : PlainForms forms) where
   no_part : (text : List ℕ) → IsUtf8 text → list_any is_sign text ≡ true → forms.part text ≡ None
   no_part text utf8 h = none_unless (forms.part text) (λ sought e. both_ways (list_any is_sign text) (plain.parts text sought utf8 e) h)
 
-  -- it asks that, and has no sign but `^` and `=`
+  -- the atom is read as this query, and has no signs but `^` and `=`
   pub record AtomRead (text : List ℕ) (q : Query) : Type 0 where
     pub read : atom_query forms text ≡ Ok q
     pub free : (c : ℕ) → is_sign c ≡ true → eqb 0x5E c ≡ false → eqb 0x3D c ≡ false → Free c text
@@ -106,7 +106,7 @@ module _ (lexicon : Lexicon) (plain : HasNoSigns lexicon) where
   pub word_plain : (kinds : Kinds) → PlainForms (word_forms lexicon kinds)
   word_plain kinds = grind (arith, cond_some)
 
-  -- what names kinds is no other prefix
+  -- letters that name kinds aren't another prefix
   differs : (letters other : List ℕ) (kinds : Kinds) → kinds_of letters ≡ Some kinds → kinds_of other ≡ None → bytes_eq letters other ≡ false
   differs letters other kinds e n = grind (arith, bytes_eq-Decides, false_from_ne_true, none-some)
 

@@ -1,4 +1,4 @@
--- The grammar of patterns and the reading of them are one, and so are the first fault that they show and what they are refused with.
+-- The reader of patterns agrees with their grammar, and its faults are the first faults, both in both directions.
 use Rattle.mail_query.proofs.Words.{◌≡◌, ℕ, ◌+◌, false, List, [], ◌∷◌, ◌++◌, length, Option, None, option_map, Result, Ok, Err, refl, sym, ap, ◌∙◌, arith, IsUtf8, ◌↔◌, bytes_eq, codes, ok_or, result_ok, All, slice_split, false_from_ne_true, All-head, All-tail, MatchResult-at_ok, MatchResult-at_err, bytes_eq-Decides, ◌>>=◌, with_front, fault_as, Range, QueryFault, QueryFaultKind, BadPrefix, BadDate, BadSize, BadFlag, Kinds, is_byte, Lexicon, Query, Date, Not, all_of, sizes_of, flags_of, pattern_lexicon, mairix_query, Forms, kinds_of, is_approximate, id_forms, word_forms, each_read, found_query, atom_query, term_query, all_query, rest_query, prefixed_query, pattern_query, patterns_from, patterns_query, kinds_named, IsTerm, IsPattern, IsAsked, AskNothing, HasNoSigns, IsFirstOf, Behind, IsAtomFault, AsksApproximately, HasNoForm, IsTermFault, InWanted, InUnwanted, IsAllFault, InTerm, IsRestFault, InAll, IsPatternPrefix, OfKinds, IsPatternFault, HasNoPrefix, InPlain, InWords, InId, HasNoDate, HasNoSize, HasNoFlags, IsFirstFault, HasNone, InPattern}
 use Rattle.mail_dates.specs.Ranges.{range_at}
 use Rattle.mail_query.specs.MairixFaults.{OfId, OfDate, OfSize, OfFlags}
@@ -13,10 +13,10 @@ use Rattle.mail_query.proofs.MairixLaws.MairixAnswers.{split_utf8, found_asks, p
 use Rattle.mail_query.proofs.MairixLaws.MairixComplete.{PlainForms, id_plain, word_plain, term_read, all_read, letters_free, prefixed_letters, pattern_read, patterns_read}
 use Rattle.mail_query.proofs.MairixLaws.PlainWords.{mail_plain}
 
--- ---- the first of several
+-- ---- the first of several texts
 
 module _ (Asks : List ℕ → Query → Type 0) (Shows : List ℕ → QueryFaultKind → Type 0) (read : List ℕ → Result Query QueryFaultKind) (answered : (text : List ℕ) (q : Query) → Asks text q → IsUtf8 text → read text ≡ Ok q) (refused : (text : List ℕ) (kind : QueryFaultKind) → Shows text kind → IsUtf8 text → read text ≡ Err kind) where
-  -- the first faulty text is the one that is refused
+  -- the reader refuses the first faulty text
   first_faulty : (E : Type 0) (fault : ℕ → QueryFaultKind → E) (n : ℕ) (texts : List (List ℕ)) (place : ℕ) (kind : QueryFaultKind) → IsFirstOf Asks Shows texts place kind
       → All IsUtf8 texts → numbered_read fault read n texts ≡ Err (fault (n + place) kind)
   first_faulty E fault n texts place kind (Behind before text more shown fine f) utf8 = go n before fine utf8
@@ -38,7 +38,7 @@ module _ (Asks : List ℕ → Query → Type 0) (Shows : List ℕ → QueryFault
   first_part_faulty : (texts : List (List ℕ)) (place : ℕ) (kind : QueryFaultKind) → IsFirstOf Asks Shows texts place kind → All IsUtf8 texts → each_read read texts ≡ Err kind
   first_part_faulty texts place kind f utf8 = sym (each_numbered read 0 texts) ∙ first_faulty QueryFaultKind unnumbered 0 texts place kind f utf8
 
--- ---- atoms, terms and what they make
+-- ---- atoms, terms and what is made of them
 
 module _ (forms : Forms) where
   atom_faulty : (text : List ℕ) (kind : QueryFaultKind) → IsAtomFault forms text kind → atom_query forms text ≡ Err kind
@@ -105,7 +105,7 @@ module _ (lexicon : Lexicon) (plain : HasNoSigns lexicon) where
       some : (ts : List (List ℕ)) (m : ℕ) (k : QueryFaultKind) → IsFirstOf (IsPattern lexicon) (IsPatternFault lexicon) ts m k → patterns_query lexicon ts ≡ patterns_from lexicon 1 ts >>= (λ qs. Ok (all_of qs))
       some ts m k (Behind before text more shown fine fault) = some_first before text more
 
-  -- ---- both ways
+  -- ---- both directions
 
   pub pattern_exact : (text : List ℕ) (q : Query) → IsUtf8 text → (pattern_query lexicon text ≡ Ok q) ↔ IsPattern lexicon text q
   pattern_exact text q utf8 = (λ e. MatchResult-at_ok (IsPattern lexicon text) (IsPatternFault lexicon text) q e (pattern_answers lexicon plain text utf8), λ p. pattern_read lexicon plain text q p utf8)
@@ -138,7 +138,7 @@ module _ (lexicon : Lexicon) (plain : HasNoSigns lexicon) where
       λ none. let refused = refused_exact.1 none in let exact = fault_exact refused.0 in (refused.0, exact.0 refused.1),
     )
 
--- of mail: no word of it has a sign
+-- words of mail have no signs
 pub dates_plain : (now : ℕ) → HasNoSigns (pattern_lexicon now)
 dates_plain now = mail_plain (λ text. result_ok (range_at text now))
 

@@ -1,4 +1,4 @@
--- The words of mail, and the pieces of them, have no signs of the grammar of patterns.
+-- No word of mail, and no part of one, has a sign of the grammar of patterns, because no character of words is a sign.
 use Rattle.mail_query.proofs.Words.{◌≡◌, ℕ, ◌<◌, ◌≤◌, true, false, List, [], ◌∷◌, length, get_or, chars, IsUtf8, Option, inl, inr, refl, sym, ap, ◌∙◌, arith, ◌&&◌, ◌||◌, nat_le, is_ascii_alphanumeric, list_all, list_any, NonePass, NoCharPasses, and_parts, and_from, both_ways, false_from_ne_true, agree_below_at, cases_lt, nat_tests, encodes-chars, NoCharPasses-byte, Range, is_sign, HasNoSigns, mail_lexicon}
 use Rattle.mail_words.specs.Words.{is_joiner, is_one_word, is_part_of_word, word_limit}
 use Rattle.mail_words.proofs.Characters.{is_word_character-ascii}
@@ -13,7 +13,7 @@ apart : (c : ℕ) → c < 128 → (is_sign c && (is_ascii_alphanumeric c || is_j
 unfolding is_joiner
 apart c below = agree_below_at (λ n. is_sign n && (is_ascii_alphanumeric n || is_joiner n)) (λ n. false) 128 c refl below
 
--- a character of a word is no sign
+-- a character of a word isn't a sign
 piece_is_no_sign : (c : ℕ) → is_piece c ≡ true → is_sign c ≡ false
 piece_is_no_sign c piece =
     false_from_ne_true (is_sign c) (λ h.

@@ -1,4 +1,4 @@
--- Texts without some byte, and where such a byte cuts them.
+-- Texts without a byte, and texts that a byte cuts in two.
 use Rattle.mail_query.proofs.Words.{◌≡◌, ℕ, ◌+◌, ◌<◌, Bool, true, false, cond, eqb, List, [], ◌∷◌, ◌++◌, length, get_or, Option, None, Some, refl, ap, subst, ◌∙◌, arith, length-append, IsUtf8, option_map, list_any, slice_split, onto_first, get_or-append_seam, take-append_seam, drop-append-add, eqb-true, or_parts, or_from, or_left, or_right, both_ways, false_from_ne_true, cond_some, IsCharBoundary-before_ascii, IsCharBoundary-after_ascii, IsUtf8-take, IsUtf8-drop, is_byte, cut, without_first, without_last, is_sign, is_approximate}
 use Rattle.mail_query.proofs.PieceLemmas.{same_byte, Free}
 
@@ -16,7 +16,7 @@ any-behind p (x ∷ xs) ys y h = or_right (p x) (list_any p (xs ++ y ∷ ys)) (a
 pub other_sign : (c b : ℕ) → is_sign c ≡ true → is_sign b ≡ false → eqb b c ≡ false
 other_sign c b h k = false_from_ne_true (eqb b c) (λ e. both_ways (is_sign b) k (ap is_sign (eqb-true b c e) ∙ h))
 
--- a text without signs is without each of them
+-- a text without signs doesn't have any one of them
 pub free_of : (c : ℕ) (text : List ℕ) → is_sign c ≡ true → list_any is_sign text ≡ false → Free c text
 free_of c [] h k = refl
 free_of c (b ∷ bs) h k =
@@ -33,7 +33,7 @@ not_approximate-marked [] h = refl
 not_approximate-marked (b ∷ bs) h =
     let parts = or_parts (is_sign b) (list_any is_sign bs) h in rw (other_sign 0x3D b refl parts.0) (not_approximate-marked bs parts.1)
 
--- ---- where a byte cuts
+-- ---- cutting at a byte
 
 pub split_none : (c : ℕ) (text : List ℕ) → Free c text → slice_split (is_byte c) text ≡ text ∷ []
 split_none c [] h = refl
@@ -48,7 +48,7 @@ split_at c (b ∷ bs) rest h =
 pub first_free : (c : ℕ) (text : List ℕ) → Free c text → without_first c text ≡ None
 first_free c text h = grind (arith, or_parts)
 
--- ---- where a text was cut
+-- ---- a text that was cut
 
 pub map_some : {A B : Type 0} (f : A → B) (o : Option A) (y : B) → option_map f o ≡ Some y → (x : A) × (o ≡ Some x) × (f x ≡ y)
 map_some f o y h = grind arith
@@ -75,7 +75,7 @@ pub uncut_free : (c : ℕ) (text : List ℕ) → cut c text ≡ None → list_an
 uncut_free c [] e = refl
 uncut_free c (b ∷ bs) e = grind (arith, or_from, uncut_free c bs)
 
--- ---- both sides of an ASCII byte are texts
+-- ---- both sides of an ASCII byte are UTF-8
 
 pub utf8_before : (text rest : List ℕ) (c : ℕ) → c < 128 → IsUtf8 (text ++ c ∷ rest) → IsUtf8 text
 utf8_before text rest c below utf8 =

@@ -1,4 +1,4 @@
--- How sizes are read, which is as their grammar says.
+-- Sizes are read as their grammar says.
 use Rattle.mail_query.proofs.Words.{◌≡◌, ℕ, ◌-◌, ◌<◌, List, [], ◌∷◌, ◌++◌, length, Option, Some, None, refl, sym, ap, ◌∙◌, arith, length-append, ◌*◌, ◌≤◌, true, false, eqb, option_map, subst, slice_get, option_and_then, ◌&&◌, IsLastAndRest, list_all, list_any, get_or-append_seam, slice_get-get_or, cond_some, option_and_then_some, last_byte, before_last_byte, factor_of, scaled, size_with, size_of, size_limit, low_of, high_of, sizes_between, sizes_of, is_ascii_digit, leb-true, le-leb, and_parts, and_from, or_from, Query, Size, is_byte, cut, IsNumber, IsSize, InBytes, InUnits, IsLow, FromZero, FromSize, IsHigh, Unbounded, ToSize, IsSizes, Between}
 use Rattle.std.specs.Str.Parse.{digits_value}
 use Rattle.mail_query.proofs.PieceLemmas.{last_of, before_last, other_byte, Free, cut_at}

@@ -1,4 +1,4 @@
--- What the private functions of the readers answer.
+-- What private functions of the readers return.
 use Rattle.std.specs.Prelude.{ℕ, true, Option, Some, None, option_map}
 use Rattle.mail_words.specs.Words.{is_one_word, is_part_of_word}
 use Rattle.mail_words.specs.Folding.{folding}
@@ -11,7 +11,7 @@ use Rattle.mail_query.specs.BooleanTerms.{bare_kinds}
 use Rattle.mail_query.specs.Kinds.{no_kinds, union}
 use Rattle.mail_query.specs.Mairix.{Forms, id_forms, kinds_of_letter, some_if}
 
--- words as mail has them
+-- words of mail are looked for in texts of these kinds, with case folded
 abbrev pub mail_forms : Kinds → Forms
 mail_forms kinds = record {
   kinds = kinds;
@@ -19,15 +19,16 @@ mail_forms kinds = record {
   part = λ text. some_if (is_part_of_word text) (folding text);
 }
 
+-- the forms of what a pattern looks for: words or the own id
 abbrev pub forms_of : Target → Forms
 forms_of (Words kinds) = mail_forms kinds
 forms_of OwnId = id_forms
 
--- these kinds and those of a letter
+-- these kinds and those of a letter; None if the letter names nothing
 abbrev pub kinds_added : Kinds → ℕ → Option Kinds
 kinds_added kinds letter = option_map (union kinds) (kinds_of_letter letter)
 
--- where the text behind a prefix is sought
+-- the kinds of text in which a term with this prefix is looked for
 abbrev pub kinds_sought : Option Field → Kinds
 kinds_sought None = bare_kinds
 kinds_sought (Some field.From) = record no_kinds { from = true }

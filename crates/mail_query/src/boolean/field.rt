@@ -1,8 +1,8 @@
-//! The prefixes of the boolean language.
+//! The prefixes of the boolean language, and sets of them.
 ghost use Rattle.std.specs.Prelude.{◌≡◌};
 ghost use Rattle.mail_query.specs.BooleanTerms as terms;
 
-/// What a term's prefix names.
+/// A prefix of a term.
 #[derive(Clone, Copy)]
 pub(crate) enum Field {
     From,
@@ -13,7 +13,7 @@ pub(crate) enum Field {
     Date,
 }
 
-/// The names of the prefixes.
+/// Each prefix with its name.
 const NAMES: [(&str, Field); 6] = [
     ("from", Field::From),
     ("to", Field::To),
@@ -23,7 +23,7 @@ const NAMES: [(&str, Field); 6] = [
     ("date", Field::Date),
 ];
 
-/// The prefix of a name, in lower case.
+/// Returns the prefix with this name. Names are in lower case.
 pub(crate) fn field_of(name: &str) -> Option<Field>
     ensures { result ≡ terms.field_of name.now }
 {
@@ -58,7 +58,7 @@ impl Fields {
         date: false,
     };
 
-    /// Whether there is a prefix, and it is in the set.
+    /// Returns whether the prefix is in the set, and false if there is none.
     pub(crate) fn has(self, prefix: Option<Field>) -> bool
         ensures { result ≡ has_field self prefix }
     {
@@ -73,7 +73,7 @@ impl Fields {
         }
     }
 
-    /// The set with the prefix, if there is one.
+    /// Returns the set with this prefix added, if there is one.
     pub(crate) fn with(mut self, prefix: Option<Field>) -> Fields
         ensures { result ≡ with_field prefix self }
     {

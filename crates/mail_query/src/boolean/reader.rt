@@ -1,4 +1,4 @@
-//! How far a boolean query was read.
+//! The state of a boolean query that is read token by token.
 ghost use Rattle.std.specs.Prelude.{◌≡◌, Ok, OnOk};
 ghost use Rattle.contract_words.specs.Answers.{Gives};
 ghost use Rattle.mail_query.specs.Query.{query_of};
@@ -16,11 +16,12 @@ use crate::pieces::cut;
 use std::alloc::{AllocError, Global};
 use std::mem;
 
-/// So many `(` and `not` may wait for their end at once.
+/// At most this many `(` and `not` may be open at once.
 const MOST_WAITING: usize = 30;
 
-/// An `either` so far: each `each` that an `or` ended, the members of the last, and the prefixes of the plain terms
-/// in the run that goes on.
+/// A group of alternatives so far, the whole query or a group in parentheses. `eaches` has the alternatives that an
+/// `or` ended, `members` the operands of the last one. `seen` has the prefixes of the plain terms since the last
+/// operator, because no two of these may have the same.
 #[derive(Drop)]
 pub(crate) struct Level {
     eaches: Vec<Node>,
@@ -41,7 +42,7 @@ impl Level {
         }
     }
 
-    /// An `or` ends an `each`.
+    /// Ends an alternative, as an `or` does.
     fn end_each(&mut self, alloc: Global) -> Result<(), AllocError>
         ensures { OnOk result (shown_level self.new ≡ each_ended (shown_level self.old)) }
     {
@@ -59,19 +60,19 @@ impl Level {
     }
 }
 
-/// What waits for its end: a `not`, or a `(` with the `either` that it stands in.
+/// What is open: a `not` without its operand yet, or a `(`, with the group around it.
 #[derive(Drop)]
 pub(crate) enum Waiting {
     ForNot,
     ForClose(Level),
 }
 
-/// What was read: what waits, the nearest last, and the innermost `either`.
+/// What was read: all that is open, the innermost last, and the innermost group.
 #[derive(Drop)]
 pub(crate) struct Reader {
     waiting: Vec<Waiting>,
     level: Level,
-    /// A `some` must stand next.
+    /// Whether a term, a `not` or a `(` must follow.
     wanted: bool,
 }
 
@@ -86,7 +87,7 @@ impl Reader {
         }
     }
 
-    /// Reads one token more.
+    /// Reads one more token.
     pub(crate) fn read(&mut self, alloc: Global, token: Token<'_>) -> Result<(), QueryFaultKind>
         ensures { Gives (λ _. shown self.new) kind_refusal result
             (step boolean_lexicon (shown self.old) (shown_token token.entry)) }
@@ -113,7 +114,7 @@ impl Reader {
         }
     }
 
-    /// What the whole asks, where nothing more comes.
+    /// Ends the query and returns its tree. Fails if a term is missing or a `(` is still open.
     pub(crate) fn end(&mut self, alloc: Global) -> Result<Node, QueryFaultKind>
         ensures { Gives query_of kind_refusal result (ended (shown self.old)) }
     {
@@ -166,7 +167,7 @@ impl Reader {
         self.place(alloc, node)
     }
 
-    /// Lets one more `(` or `not` wait, if fewer than 30 do.
+    /// Opens one more `(` or `not`. Fails if 30 are open.
     fn wait(&mut self, what: Waiting) -> Result<(), QueryFaultKind>
         ensures { Gives (λ _. shown self.new) kind_refusal result
             (deeper (shown_stack self.old.waiting.items) (shown_waiting what)
@@ -201,7 +202,7 @@ impl Reader {
         }
     }
 
-    /// A `some` ends, and so does each `not` that waited for it.
+    /// Adds an operand to the innermost group, negated by each `not` directly before it.
     fn place(&mut self, alloc: Global, mut node: Node) -> Result<(), QueryFaultKind>
         ensures { Gives (λ _. shown self.new) kind_refusal result (Ok (placed
             (shown_stack self.old.waiting.items) (shown_level self.old.level) (query_of node))) }
@@ -216,7 +217,7 @@ impl Reader {
     }
 }
 
-/// Whether a `not` waits nearest.
+/// Returns whether the innermost open item is a `not`.
 fn is_negated(waiting: &[Waiting]) -> bool
     ensures { result ≡ is_negated (shown_stack waiting.now) }
 {
@@ -229,7 +230,7 @@ fn is_negated(waiting: &[Waiting]) -> bool
     }
 }
 
-/// Whether some `(` waits.
+/// Returns whether any `(` is open.
 fn has_open(waiting: &[Waiting]) -> bool
     ensures { result ≡ has_open (shown_stack waiting.now) }
 {

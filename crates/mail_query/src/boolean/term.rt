@@ -1,4 +1,4 @@
-//! What a term of a boolean query asks.
+//! Reads a term of a boolean query.
 ghost use Rattle.std.specs.Prelude.{◌≡◌};
 ghost use Rattle.contract_words.specs.Answers.{Gives};
 ghost use Rattle.mail_query.specs.Query.{query_of};
@@ -17,7 +17,7 @@ use mail_dates::iso_range;
 use mail_words::{is_one_word, is_part_of_word};
 use std::alloc::Global;
 
-/// What a term asks, by its prefix, if it has one, and the text behind it.
+/// Reads a term, cut into its prefix, if it has one, and the text after it.
 pub(crate) fn read_parts(
     alloc: Global,
     prefix: Option<Field>,
@@ -45,13 +45,13 @@ pub(crate) fn read_parts(
     }
 }
 
-/// The kinds of text in which the text behind a prefix is sought.
+/// Returns the kinds of text in which a term with this prefix is looked for.
 fn kinds_sought(prefix: Option<Field>) -> Kinds
     ensures { result ≡ kinds_sought prefix }
 {
     let mut kinds = Kinds::NONE;
     match prefix {
-        // In each kind of text but names of parts.
+        // A bare term isn't looked for in names of attachments.
         None => {
             kinds.to = true;
             kinds.cc = true;
@@ -74,7 +74,7 @@ fn kinds_sought(prefix: Option<Field>) -> Kinds
     kinds
 }
 
-/// A word, or a piece of one before a star.
+/// Reads a word, or the beginning of a word with a `*` after it.
 fn read_word(alloc: Global, kinds: Kinds, text: &str) -> Result<Node, QueryFaultKind>
     ensures { Gives query_of kind_refusal result (word_query boolean_lexicon kinds text.now) }
 {

@@ -1,4 +1,4 @@
-//! The tokens of a boolean query.
+//! Cuts a boolean query into tokens.
 ghost use Rattle.std.specs.Prelude.{◌≡◌, ◌<◌, ◌≤◌, not, [], ◌∷◌, length, MatchOption, IfSome};
 ghost use Rattle.std.specs.List.{prefix_len};
 ghost use Rattle.mail_query.specs.Tokens.{tokens, token_of, is_blank};
@@ -17,7 +17,7 @@ pub(crate) enum Token<'a> {
     Term(&'a str),
 }
 
-/// The first token, and the text behind it.
+/// Returns the first token and the text after it, or None if only blanks are left.
 pub(crate) fn next_token(text: &str) -> Option<(Token<'_>, &str)>
     ensures token { MatchOption result (tokens text.now ≡ [])
         (λ p. tokens text.now ≡ shown_token p.0 ∷ tokens p.1.now) }
@@ -51,7 +51,7 @@ fn token_of(run: &str) -> Token<'_>
     }
 }
 
-/// The text without the blanks in front.
+/// Returns the text without the blanks at its front.
 fn behind_blanks(text: &str) -> &str
     ensures tokens { tokens result.now ≡ tokens text.now }
     ensures none { blank_count result.now ≡ 0 }
@@ -60,14 +60,14 @@ fn behind_blanks(text: &str) -> &str
     text.split_at(blank_count(text.as_bytes())).1
 }
 
-/// How many blanks stand in front.
+/// Returns the number of blanks at the front.
 fn blank_count(text: &[u8]) -> usize
     ensures value { result ≡ prefix_len is_blank text.now }
 {
     text.iter().take_while(|b| is_blank(**b)).count()
 }
 
-/// How many bytes stand before the first blank or parenthesis.
+/// Returns the number of bytes before the first blank or parenthesis.
 fn run_length(text: &[u8]) -> usize
     ensures value { result ≡ prefix_len (λ b. not (ends_run b)) text.now }
 {
@@ -80,7 +80,8 @@ fn ends_run(b: u8) -> bool
     is_blank(b) || b == b'(' || b == b')'
 }
 
-/// A space, a tab or, unlike a header's or an rcfile's blanks, a line feed, since a query may have several lines.
+/// Returns whether the byte is a space, a tab or a line feed. A header and an rcfile have no line feed among their
+/// blanks; here it is one because a query may have several lines.
 fn is_blank(b: u8) -> bool
     ensures { result ≡ is_blank b }
 {

@@ -1,4 +1,4 @@
-//! Where the words of a pattern are sought, and which forms they have.
+//! Where a pattern looks for its words, and which forms these have.
 ghost use Rattle.std.specs.Prelude.{◌≡◌, IfOk};
 ghost use Rattle.mail_query.specs.Inside.Reading.{forms_of};
 ghost use Rattle.std.specs.List.{list_any};
@@ -10,16 +10,16 @@ use crate::query_text::QueryText;
 use mail_words::{is_one_word, is_part_of_word};
 use std::alloc::{AllocError, Global};
 
-/// Where the words of a pattern are sought.
+/// Where a pattern looks for its words.
 #[derive(Clone, Copy)]
 pub(crate) enum Target {
-    /// Among the words of these kinds, folded.
+    /// In texts of these kinds, with case folded.
     Words(Kinds),
-    /// In the own id, as it is written.
+    /// In the message's own id, as written.
     OwnId,
 }
 
-/// What is sought for a word, if the text is one.
+/// Returns the text to look for if `text` is a whole word, or a whole id, and None if it isn't.
 pub(crate) fn word_of(
     alloc: Global,
     target: Target,
@@ -36,7 +36,7 @@ pub(crate) fn word_of(
     }
 }
 
-/// What is sought for a part of a word, if the text is one.
+/// Returns the text to look for if `text` can be a part of a word, or of an id, and None if it can't.
 pub(crate) fn part_of(
     alloc: Global,
     target: Target,
@@ -51,7 +51,7 @@ pub(crate) fn part_of(
     }
 }
 
-/// Some bytes, and none that means something in a pattern.
+/// Returns whether the text isn't empty and no byte of it has a meaning in patterns.
 fn is_id(text: &str) -> bool
     ensures { result ≡ is_id text.now }
 {

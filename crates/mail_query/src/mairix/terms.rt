@@ -1,4 +1,4 @@
-//! What stands behind a prefix: words, parts of words, and what joins them.
+//! Reads the rest of a pattern, after its prefix: words and parts of words, and the signs that join them.
 ghost use Rattle.std.specs.Prelude.{◌≡◌};
 ghost use Rattle.contract_words.specs.Answers.{Gives};
 ghost use Rattle.mail_query.specs.Query.{query_of};
@@ -13,7 +13,7 @@ use crate::node::{Node, add, all_of, either_of, negated};
 use crate::pieces::{without_first, without_last};
 use std::alloc::Global;
 
-/// One or more alternatives between slashes.
+/// Reads one or more alternatives with slashes between them. One of them has to be satisfied.
 pub(crate) fn read_rest(alloc: Global, target: Target, text: &str) -> Result<Node, QueryFaultKind>
     ensures { Gives query_of kind_refusal result (rest_query (forms_of target) text.now) }
 {
@@ -25,7 +25,7 @@ pub(crate) fn read_rest(alloc: Global, target: Target, text: &str) -> Result<Nod
     Ok(either_of(members))
 }
 
-/// One or more terms between commas.
+/// Reads one or more terms with commas between them. All of them have to be satisfied.
 fn read_all(alloc: Global, target: Target, text: &str) -> Result<Node, QueryFaultKind>
     ensures { Gives query_of kind_refusal result (all_query (forms_of target) text.now) }
 {
@@ -37,7 +37,7 @@ fn read_all(alloc: Global, target: Target, text: &str) -> Result<Node, QueryFaul
     Ok(all_of(members))
 }
 
-/// An atom, negated or not.
+/// Reads an atom. A `~` before it negates it.
 fn read_term(alloc: Global, target: Target, text: &str) -> Result<Node, QueryFaultKind>
     ensures { Gives query_of kind_refusal result (term_query (forms_of target) text.now) }
 {
@@ -50,7 +50,7 @@ fn read_term(alloc: Global, target: Target, text: &str) -> Result<Node, QueryFau
     }
 }
 
-/// A word, or with an `=` behind it a part of one, which a `^` sets at the word's front.
+/// Reads a word, `part=` for a part of a word, or `^part=` for the beginning of one.
 fn read_atom(alloc: Global, target: Target, text: &str) -> Result<Node, QueryFaultKind>
     ensures { Gives query_of kind_refusal result (atom_query (forms_of target) text.now) }
 {
@@ -79,7 +79,7 @@ fn read_atom(alloc: Global, target: Target, text: &str) -> Result<Node, QueryFau
     }
 }
 
-/// Whether one digit or more stand between an `=` and the end.
+/// Returns whether the text ends with an `=` and one or more digits.
 fn is_approximate(text: &[u8]) -> bool
     ensures { result ≡ is_approximate text.now }
 {

@@ -3,7 +3,7 @@ use Rattle.std.specs.Borrow.{Bor}
 use Rattle.mail_query.specs.BooleanTerms.{field_of}
 use Rattle.mail_query.proofs.boolean.field.field_of.Given as goal
 
--- the first of these rows that has the name
+-- the field of the first row with this name
 abbrev pub field_in : List ℕ → List (Bor (List ℕ) × Field) → Option Field
 field_in name [] = None
 field_in name (row ∷ rows) = if bytes_eq name (row.0).now then Some row.1 else field_in name rows

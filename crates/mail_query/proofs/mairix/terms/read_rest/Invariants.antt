@@ -2,7 +2,7 @@ use Rattle.mail_query.proofs.Words.{length, slice_split, queries_of, is_byte, fo
 use Rattle.mail_query.proofs.MairixLaws.EachLemmas.{HasRead, unnumbered}
 use Rattle.mail_query.proofs.mairix.terms.read_rest.Given as goal
 
--- those so far, and what comes of the rest
+-- the queries so far, with those of the parts left, are those of the whole
 abbrev pub invariant-loop-part : goal.invariant-loop-part
 invariant-loop-part l =
     let read = all_query (forms_of l.target) in
