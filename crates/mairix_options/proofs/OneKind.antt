@@ -1,4 +1,4 @@
--- A command with no subcommand has at most one kind of refusal at any words.
+-- A command without subcommands refuses any words with at most one kind of error.
 use Rattle.mairix_options.proofs.Words.{◌≡◌, ◌&&◌, ℕ, zero, suc, Bool, true, false, List, [], ◌∷◌, Option, Some, None, length, drop, slice_get, encode_utf8, sym, subst, arith, if◌then◌else◌, is_some, option_map_or, chars, bytes_eq}
 use Rattle.clap.specs.Lexer.{long_of, short_of}
 use Rattle.clap.specs.Values.{refused_kind}
@@ -153,4 +153,4 @@ one_level s h words leaf =
 pub one_fault : (a : App) (words : List Text) → (built a).subs ≡ [] → (built a).top.is_leaf ≡ true → One (fault_of a words)
 one_fault a words none leaf = grind (arith, leaf_fault, one_level)
 
--- such a kind is the whole list
+-- if there is a kind, it is the whole list

@@ -1,4 +1,4 @@
--- The paths that an accepted rcfile names are paths of an index.
+-- All paths that an accepted rcfile names can be paths in an index, line by line and then under the base that counts.
 use Rattle.mairix_options.proofs.Words.{◌≡◌, ℕ, zero, suc, ◌+◌, ◌-◌, ◌<◌, ◌==◌, Bool, true, false, not, nat_eq, nat_lt, ◌||◌, ◌&&◌, if◌then◌else◌, lit<, List, [], ◌∷◌, ◌++◌, length, map, drop, get_or, codes, Option, None, Some, unwrap_or, Result, Ok, Err, IfOk, IfSome, refl, sym, ap, ◌∙◌, subst, arith, ⊎_elim, All, list_all, filter_map, cons_option, last_or, slice_index, starts_with, prefix_len, suffix_len, position_or_len, before_first, after_first, slice_split, option_and_then, IsUtf8, is_utf8, cases_lt, and_parts, or_parts, not-false, nat_tests, drop_all, length-drop, All-nil, All-cons, All-head, All-tail, All-append, All-filter, passes_at_first, IsUtf8-nil, IsUtf8-append, IsUtf8-take, IsUtf8-drop, IsUtf8-from_is_utf8, IsUtf8-from_ascii, IsCharBoundary-before_ascii, IsCharBoundary-after_ascii, Gives, ◌>>=◌, IsPath, is_blank, trimmed, is_path, under, archive_path, mfolder_path, keyword_of, archives_of, names_in, paths_in, format_of, setting_of, supported, assigned, entry, is_skipped, text_settings, line_settings, base_in, archives_in, database_in, mfolder_in, format_in, last_of, lines_in, settings_from, archives_misfit, mfolder_misfit, earlier, first_misfit, all_fit, required, if_any, all_paths, rc_fitting, rc_with, rc_from, rc_of, refusal, ArchivesLine, MailFormat, MfolderLine, OrMemory, Rc, RcFault, BadLine, NotSupported, BadFormat, Setting, Base, Archives, Database, Mfolder, Format}
 use Rattle.std.specs.List.{slice_get}
 use Rattle.std.proofs.lemmas.List.Splits.{slice_split_first}
@@ -67,7 +67,7 @@ paths-from (text ∷ texts) utf8 pass =
 
 -- ---- a line
 
--- what a setting names: paths where nothing is put before them, else texts
+-- a setting names a path, if no base is put before it, and else a text
 abbrev NamesTexts : Setting → Type 0
 NamesTexts (Base path) = IsPath path
 NamesTexts (Archives line) = All IsUtf8 line.names
@@ -76,7 +76,7 @@ NamesTexts (Mfolder line) = IsUtf8 line.name
 NamesTexts (Format _) = Unit {0}
 
 module _ {A F : Type 0} where
-  -- where a fault would be answered, nothing is
+  -- a result that isn't the test's fault has passed the test
   passed : (bad : Bool) (fault : F) (r : Result A F) (a : A) → (if bad then Err fault else r) ≡ Ok a → (bad ≡ false) × (r ≡ Ok a)
   passed bad fault r a h = grind arith
 
@@ -134,7 +134,7 @@ settings-names before n (line ∷ lines) ss all is =
     settings-names (before ++ said.0) (n + 1) lines ss
     (All-append NamesTexts before said.0 all (text-names (last_of base_in before) n (trimmed line) said.0 said.1)) said.2
 
--- what one option says in all settings
+-- all values of one option in some settings
 module _ {X : Type 0} (P : X → Type 0) (value : Setting → Option X) (names : (s : Setting) → NamesTexts s → IfSome (value s) P) where
   all-values : (ss : List Setting) → All NamesTexts ss → All P (filter_map value ss)
   all-values [] all = All-nil P
@@ -212,7 +212,7 @@ required-is option o a h = grind arith
 any-is : (paths some : List (List ℕ)) → if_any paths ≡ Some some → paths ≡ some
 any-is paths some h = grind arith
 
--- all that an rcfile names are paths
+-- all that an rcfile names can be paths
 record AllPaths (r : Rc) : Type 0 where
   base : IfSome r.base IsPath
   paths : All IsPath r.paths
@@ -247,7 +247,7 @@ settings-paths ss r all is =
     (last-value IsPath base_in base-names ss all) (all-values HasTexts archives_in archives-names ss all)
     (last-value IsPath database_in database-names ss all) (last-value (λ line. IsUtf8 line.name) mfolder_in mfolder-names ss all) r is
 
--- what an accepted rcfile names are paths
+-- all that an accepted rcfile names can be paths
 rc-all-paths : (rc : List ℕ) (r : Rc) → rc_of rc ≡ Ok r → AllPaths r
 rc-all-paths rc r is =
     let settings = given (settings_from [] 1 (lines_in rc)) rc_from r is in
@@ -256,7 +256,7 @@ rc-all-paths rc r is =
 pub paths-are-paths : (rc : List ℕ) (r : Rc) → rc_of rc ≡ Ok r → All IsPath r.paths
 paths-are-paths rc r is = let all = rc-all-paths rc r is in all.paths
 
--- the same of what reads it
+-- the same of what the reader returns
 module _ (rc : List ℕ) where
   read-all : (result : Result Rc (OrMemory RcFault)) → Gives (λ r. r) refusal result (rc_of rc) → IfOk result AllPaths
   read-all (Ok r) gives = rc-all-paths rc r gives

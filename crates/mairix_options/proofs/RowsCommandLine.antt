@@ -1,9 +1,9 @@
--- What some words ask for.
+-- Rows of command lines, each with its plan or its refusal.
 use Rattle.mairix_options.proofs.Words.{◌≡◌, ℕ, ◌==◌, codes, refl, List, [], ◌∷◌, map, true, false, None, Some, Ok, Err, slice_split, parse, plan, Plan, UsageFault}
 use Rattle.clap.proofs.OnLiterals.{clap_on_literals}
 use Rattle.mairix_options.specs.declared.command_line.UsageFault.TheVariants.{Parse, TwoFormats, Help, Version}
 
--- the words of a line, of which a space parts each two
+-- the words of a line, with one space between each two
 abbrev words : List ℕ → List (List ℕ)
 words = slice_split (λ b. b == 0x20)
 
@@ -11,14 +11,14 @@ words = slice_split (λ b. b == 0x20)
 abbrev plain : List ℕ → List (List ℕ) → Plan
 plain rcfile patterns = record { rcfile = rcfile; raw = false; excerpt = false; threads = false; mfolder = None; stdout = false; boolean = false; once = false; verify = false; patterns = patterns }
 
--- the same of the rcfile rc and the patterns of a line
+-- the same with the rcfile `rc` and the patterns of a line
 abbrev rc : List ℕ → Plan
 rc line = plain (codes "rc") (words line)
 
 abbrev Plans : List ℕ → Plan → Type 0
 Plans line p = plan (words line) ≡ Ok p
 
--- each of these lines is refused so
+-- each of these lines is refused with this fault
 abbrev Refuses : List (List ℕ) → UsageFault → Type 0
 Refuses lines fault = map (λ line. plan (words line)) lines ≡ map (λ _. Err fault) lines
 
@@ -54,9 +54,9 @@ refused : (plan [] ≡ Err Parse)
     × Refuses (codes "-r s:a" ∷ codes "s:a s:b" ∷ codes "-r -x s:a" ∷ codes "-r -f" ∷ codes "-f -h" ∷ []) Parse
     -- unknown options, and values that an option doesn't take
     × Refuses (codes "-f rc -z" ∷ codes "-f rc -b" ∷ codes "-f rc --onc" ∷ codes "-f rc --excerpt" ∷ codes "-f rc s:a -z s:b" ∷ codes "-f rc -r=x" ∷ codes "-f rc --once=1" ∷ codes "-f rc --verify=1" ∷ []) Parse
-    -- one option twice
+    -- an option given twice
     × Refuses (codes "-f a -f b" ∷ codes "-f rc -r -r" ∷ codes "-f rc -rr" ∷ codes "-f rc -o a -o b" ∷ codes "-f rc --once --once" ∷ codes "-f rc --verify --verify" ∷ []) Parse
-    -- these faults come before help, and help before others
+    -- these faults are reported before help, and help before others
     × Refuses (codes "-r -r -h" ∷ codes "-z -h" ∷ []) Parse
     × Refuses (codes "-h" ∷ codes "--help" ∷ codes "-rh" ∷ codes "-r -h" ∷ codes "-h -r -r" ∷ codes "-r -x -h" ∷ codes "s:a s:b -h" ∷ []) Help
     × Refuses (codes "-V" ∷ codes "--version" ∷ codes "-V -z" ∷ codes "-V -h" ∷ []) Version

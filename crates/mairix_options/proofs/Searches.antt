@@ -1,4 +1,4 @@
--- What a search for bytes tells of the whole list.
+-- What the result of a search for bytes says of the whole text.
 use Rattle.mairix_options.proofs.Words.{◌≡◌, ◌↔◌, ℕ, Bool, true, List, [], ◌∷◌, ◌++◌, map, ◌&&◌, ◌||◌, ◌≤◌, length, take, drop, codes, nat_eq, Option, refl, sym, ap, ◌∙◌, arith, is_some, ⊎_elim, list_any, list_all, starts_with, HasSubslice, or_cases, or_right, false_from_ne_true, false≢true, Decides-eqb, same_from_decides, take_all, has_three_dots}
 use Rattle.std.proofs.lemmas.List.Folds.{list_any_none, list_any_at}
 use Rattle.std.proofs.lemmas.Grind.{get_or_default_zero}
@@ -8,7 +8,7 @@ use Rattle.memchr.specs.Find.{IsFirstByte}
 list_any-searched : (test : ℕ → Bool) (hay : List ℕ) (r : Option ℕ) → IsFirstByte test hay r → list_any test hay ≡ is_some r
 list_any-searched test hay r h = grind (arith, list_any_none, false_from_ne_true, get_or_default_zero, list_any_at)
 
--- a search of a text finds a byte exactly where some byte passes
+-- a search of a text finds a byte exactly if one passes
 pub list_any-found : (test : ℕ → Bool) (hay text : List ℕ) (r : Option ℕ) → hay ≡ text → IsFirstByte test hay r → list_any test text ≡ is_some r
 list_any-found test hay text r same h = ap (list_any test) (sym same) ∙ list_any-searched test hay r h
 
@@ -44,7 +44,7 @@ map-each : {X Y Z : Type 0} (f : X → Y) (g : Y → Z) (xs : List X) → map g 
 map-each f g [] = refl
 map-each f g (x ∷ xs) = ap (λ l. g (f x) ∷ l) (map-each f g xs)
 
--- what a loop made of each of xs, which f shows as ys
+-- what a loop made of each element of xs, seen through f as ys
 pub map-each-taken : {X Y Z : Type 0} (f : X → Y) (g : Y → Z) (n : ℕ) (xs : List X) (ys : List Y) (made : List Z) → length xs ≤ n → map f xs ≡ ys
     → made ≡ map (λ x. g (f x)) (take n xs) → made ≡ map g ys
 map-each-taken f g n xs ys made all shown is = grind (arith, take_all, map-each)

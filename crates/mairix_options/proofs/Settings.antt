@@ -1,11 +1,11 @@
--- What one more setting says.
+-- One more setting changes what its option says, and no other option.
 use Rattle.mairix_options.proofs.Words.{◌≡◌, ℕ, List, [], ◌∷◌, ◌++◌, Option, Some, None, refl, ap, ◌∙◌, arith, filter_map, last_or, filter_map-append, base_in, archives_in, database_in, mfolder_in, format_in, last_of, ArchivesLine, MailFormat, MfolderLine, Setting}
 
 last_or-append : {X : Type 0} (o : Option X) (xs ys : List X) → last_or o (xs ++ ys) ≡ last_or (last_or o xs) ys
 last_or-append o [] ys = refl
 last_or-append o (x ∷ xs) ys = last_or-append (Some x) xs ys
 
--- the value that counts behind more settings
+-- the value that counts after more settings
 last_of-append : {X : Type 0} (value : Setting → Option X) (before said : List Setting)
     → last_of value (before ++ said) ≡ last_or (last_of value before) (filter_map value said)
 last_of-append value before said = ap (last_or None) (filter_map-append value before said) ∙ last_or-append None (filter_map value before) (filter_map value said)
@@ -19,7 +19,7 @@ Say settings base archives database mfolder format =
     × (mfolder ≡ last_of mfolder_in settings)
     × (format ≡ last_of format_in settings)
 
--- one more says what it sets, and of the other options what those before it say
+-- one more setting says what it sets, and the other options stay as they are
 pub says-next : (before : List Setting) (s t : Setting) {base : Option (List ℕ)} {archives more : List ArchivesLine} {database : Option (List ℕ)}
     {mfolder : Option MfolderLine} {format : Option MailFormat}
     → Say before base archives database mfolder format → s ≡ t → more ≡ archives ++ filter_map archives_in (t ∷ [])

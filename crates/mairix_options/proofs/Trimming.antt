@@ -1,4 +1,4 @@
--- What is left of a text without the blanks at its ends, and that it may be cut there.
+-- Cutting the blanks off the ends of a text leaves a text, because the cuts are at boundaries of characters.
 use Rattle.mairix_options.proofs.Words.{◌≡◌, ℕ, ◌-◌, ◌<◌, ◌≤◌, true, List, length, take, drop, reverse, get_or, ap, ◌∙◌, subst, arith, ⊎_elim, prefix_len, suffix_len, IsUtf8, IsCharBoundary, cases_lt, nat_tests, get_or-reverse, prefix_len_passes, prefix_len-le-length, suffix_len-le-length, IsCharBoundary-start, IsCharBoundary-end, IsCharBoundary-after_ascii, IsCharBoundary-before_ascii, is_blank, trimmed}
 
 pub trimmed-parts : (text rest kept : List ℕ) (front end : ℕ) → front ≡ prefix_len is_blank text → rest ≡ drop front text
@@ -12,7 +12,7 @@ trimmed-parts text rest kept front end counts_front is_rest counts_end is_kept =
 blank_is_ascii : (b : ℕ) → is_blank b ≡ true → b < 128
 blank_is_ascii b blank = grind (arith, nat_tests)
 
--- a text may be cut behind the blanks that it begins with
+-- a text can be cut after the blanks at its front
 pub IsCharBoundary-blanks : (text : List ℕ) (n : ℕ) → IsUtf8 text → n ≡ prefix_len is_blank text → IsCharBoundary text n
 IsCharBoundary-blanks text n utf8 counts =
     ⊎_elim
@@ -24,7 +24,7 @@ IsCharBoundary-blanks text n utf8 counts =
     (λ none. subst (IsCharBoundary text) (omega arith) (IsCharBoundary-start text utf8))
     (cases_lt 0 n)
 
--- and before the blanks that it ends with
+-- a text can be cut before the blanks at its end
 pub IsCharBoundary-end_blanks : (text : List ℕ) (n : ℕ) → n ≡ suffix_len is_blank text → IsCharBoundary text (length text - n)
 IsCharBoundary-end_blanks text n counts =
     ⊎_elim

@@ -1,4 +1,4 @@
--- The words of std and of the definitions that proofs take, from one place.
+-- The names of std and of the definitions that proofs use, all from one place.
 pub use Rattle.clap.proofs.WalkLemmas.{first_value-rows, raw_values-rows}
 pub use Rattle.clap.specs.Words.{FailsBy, HasMatchesOf, Text, app_of, fault_of, found_of, is_simple, is_simple_and_free, kind_of, matches_of, rows_of, with_rule}
 pub use Rattle.clap.specs.declared.error.Error.{Error}

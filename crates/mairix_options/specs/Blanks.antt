@@ -1,7 +1,8 @@
--- Spaces and tabs at the ends of a text.
+-- A text without the spaces and tabs at its ends.
 use Rattle.std.specs.Prelude.{ℕ, ◌-◌, ◌==◌, Bool, ◌||◌, List, length, take, drop}
 use Rattle.std.specs.List.{prefix_len, suffix_len}
 
+-- whether a byte is a space or a tab
 abbrev pub is_blank : ℕ → Bool
 is_blank b = b == 32 || b == 9
 

@@ -1,4 +1,4 @@
--- What the words of a command line, after the program's name, ask for: what clap states of one simple command.
+-- What the words after the program's name ask for, by what clap promises of a simple command.
 use Rattle.std.specs.Prelude.{ℕ, Bool, true, false, ◌&&◌, if◌then◌else◌, List, [], ◌∷◌, Option, Some, None, unwrap_or, codes, fold, Result, Ok, Err}
 use Rattle.std.specs.Option.{option_map_or}
 use Rattle.std.specs.Str.{byte, bytes_eq}
@@ -18,35 +18,35 @@ use Rattle.mairix_options.specs.declared.or_memory.OrMemory.TheVariants.{Refused
 
 -- ---- the command
 
--- an option without a value, once at most
+-- an option without a value, which can be given once
 abbrev pub bare_flag : Text → Rule
 bare_flag id = record (new_rule id) { action = Some SetTrue }
 
--- `-c`
+-- an option without a value, written `-c`
 abbrev pub short_flag : Text → ℕ → Rule
 short_flag id c = record (bare_flag id) { short = Some c }
 
--- `--id`
+-- an option without a value, written `--id`
 abbrev pub long_flag : Text → Rule
 long_flag id = record (bare_flag id) { long = Some id }
 
--- `-f RCFILE`
+-- the option `-f RCFILE`, which is required and can be given once
 abbrev pub rcfile_option : Rule
 rcfile_option = record (new_rule (codes "rcfile")) { short = Some (byte "f"); value_names = 1; action = Some Set; required = true }
 
--- `-o NAME`, once at most
+-- the option `-o NAME`, which can be given once
 abbrev pub mfolder_option : Rule
 mfolder_option = record (new_rule (codes "mfolder")) { short = Some (byte "o"); value_names = 1; action = Some Set }
 
--- the words that are no option, as many as there are
+-- the words that aren't options, any number of them
 abbrev pub pattern_argument : Rule
 pattern_argument = record (new_rule (codes "pattern")) { value_names = 1; action = Some Append }
 
--- It has a version, and so `-V` and `--version`, and as every command `-h` and `--help`.
+-- the command without arguments of its own; it has a version, so it has `-V` and `--version`, and `-h` and `--help` too
 abbrev pub bare_command : App
 bare_command = on_top (λ s. record s { has_version = true; no_binary_name = true }) (new_app (codes "mairix"))
 
--- `mairix -f RCFILE [-r] [-x] [-t] [-o NAME] [--stdout] [--boolean] [--once] [--verify] [PATTERN..]`
+-- the command `mairix -f RCFILE [-r] [-x] [-t] [-o NAME] [--stdout] [--boolean] [--once] [--verify] [PATTERN..]`
 abbrev pub command : App
 command = fold with_rule bare_command
     (rcfile_option
@@ -63,10 +63,11 @@ command = fold with_rule bare_command
 
 -- ---- the plan
 
+-- whether the option with this id is set
 abbrev pub flag : Text → List Row → Bool
 flag id rows = option_map_or (λ t. bytes_eq t (codes "true")) (first_of id rows) false
 
--- what is planned where the parser finds these values
+-- the plan of the values that the parser finds
 abbrev pub plan_of_rows : List Row → Plan
 plan_of_rows rows = record {
   rcfile = unwrap_or (first_of (codes "rcfile") rows) [];
@@ -81,43 +82,45 @@ plan_of_rows rows = record {
   patterns = unwrap_or (all_of (codes "pattern") rows) [];
 }
 
--- the plan that a parse gives
+-- the plan of a parse
 abbrev pub plan_in : ArgMatches → Plan
 plan_in matches = plan_of_rows (rows_of (found_of matches))
 
--- Help and version count as they are, and every other refusal of the parser alike.
+-- the refusal of a kind of error: help and version each have their own, and all others are Parse
 abbrev pub refusal_of_kind : ErrorKind → UsageFault
 refusal_of_kind kind.DisplayHelp = Help
 refusal_of_kind kind.DisplayVersion = Version
 refusal_of_kind _ = Parse
 
+-- the plan of these values, or the refusal of the first kind of error, if there is any
 abbrev pub parse_by : Kinds → List Row → Result Plan UsageFault
 parse_by [] rows = Ok (plan_of_rows rows)
 parse_by (k ∷ ks) rows = Err (refusal_of_kind k)
 
--- what the parser makes of the words
+-- the plan of the words, or the refusal, as the parser finds it
 unfoldable pub parse : List Text → Result Plan UsageFault
 parse words = parse_by (fault_of command words) (matches_of command words)
 
--- The parser takes `-r` beside `-x`, and an answer has one format.
+-- the plan, unless it has both `-r` and `-x`: the parser takes both, but an answer has one form
 abbrev pub one_format : Plan → Result Plan UsageFault
 one_format p = if p.raw && p.excerpt then Err TwoFormats else Ok p
 
--- what the words ask for
+-- the plan of the words, or their refusal
 unfoldable pub plan : List Text → Result Plan UsageFault
 plan words = parse words >>= one_format
 
 -- ---- refusals
 
--- the refusal that a parser's error is: want of memory is none
+-- the refusal of a kind of error; lack of memory is none
 abbrev pub kind_refusal : ErrorKind → Option UsageFault
 kind_refusal kind.OutOfMemory = None
 kind_refusal k = Some (refusal_of_kind k)
 
+-- the refusal of an error; lack of memory is none
 abbrev pub error_refusal : Error → Option UsageFault
 error_refusal error = kind_refusal (kind_of error)
 
--- what a parser's error is answered as
+-- the fault that a kind of error becomes
 abbrev pub fault_of_kind : ErrorKind → OrMemory UsageFault
 fault_of_kind kind.OutOfMemory = Memory
 fault_of_kind k = Refused (refusal_of_kind k)

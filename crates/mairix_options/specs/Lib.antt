@@ -1,3 +1,4 @@
+-- The definitions of command lines, of rcfiles, and of what both say of a run.
 pub mod AnswerFiles
 pub mod Blanks
 pub mod CommandLine

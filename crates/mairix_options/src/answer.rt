@@ -1,4 +1,4 @@
-//! What an answer is, and the file that it goes to.
+//! The form of an answer, and the file that it goes to.
 ghost use Rattle.std.specs.Prelude.{◌≡◌, IfOk};
 ghost use Rattle.mairix_options.specs.AnswerFiles.{answer_format, answer_file};
 
@@ -9,7 +9,7 @@ use crate::path::mfolder_path;
 use crate::rcfile::Rc;
 use std::alloc::{AllocError, Global};
 
-/// What the answer is: `-r` and `-x` go before the rcfile's `mformat`.
+/// Returns the form of the answer. `-r` and `-x` override the rcfile's `mformat`.
 pub fn answer_format(plan: &Plan, rc: &Rc) -> MailFormat
     ensures { result ≡ answer_format plan.now rc.now }
 {
@@ -22,10 +22,11 @@ pub fn answer_format(plan: &Plan, rc: &Rc) -> MailFormat
     rc.format
 }
 
-/// The path of the file that the answer goes to, and none where it goes to standard output.
+/// Returns the path of the file that the answer goes to, or None for standard output.
 ///
-/// Raw lines and excerpts go to standard output, and with `--stdout` an mbox does. Else the name of `-o` goes before the rcfile's
-/// `mfolder`; it is taken under the rcfile's base where it begins with neither `/` nor `.`, and may be no path at all.
+/// Raw lines and excerpts go to standard output, and so does an mbox with `--stdout`. Any other mbox goes to the file
+/// of `-o`, or to the rcfile's `mfolder` if there is no `-o`. The name of `-o` is under the rcfile's base if it begins
+/// with neither `/` nor `.`. It isn't checked: the result may be too long for a path, or have an LF.
 pub fn answer_file(alloc: Global, plan: &Plan, rc: &Rc) -> Result<Option<Text>, AllocError>
     ensures { IfOk result (λ file. file ≡ answer_file plan.now rc.now) }
 {

@@ -1,4 +1,5 @@
-//! Spaces and tabs at the ends of a text: header_text's blanks, but of an rcfile, which has nothing of mail and stays UTF-8.
+//! Takes spaces and tabs off the ends of a text. header_text has the same blanks, but an rcfile isn't mail, and its
+//! texts have to stay UTF-8.
 ghost use Rattle.std.specs.Prelude.{◌≡◌, ◌≤◌, length};
 ghost use Rattle.std.specs.List.{prefix_len, suffix_len};
 ghost use Rattle.mairix_options.specs.Blanks.{is_blank, trimmed};
@@ -26,7 +27,7 @@ fn blanks_at_end(text: &[u8]) -> usize
         .count()
 }
 
-/// The bytes without the spaces and tabs at both ends.
+/// Returns the bytes without the spaces and tabs at both ends.
 pub(crate) fn trimmed(text: &[u8]) -> &[u8]
     ensures { result.now ≡ trimmed text.now }
 {
@@ -35,7 +36,7 @@ pub(crate) fn trimmed(text: &[u8]) -> &[u8]
     kept
 }
 
-/// The text without the spaces and tabs at both ends.
+/// Returns the text without the spaces and tabs at both ends.
 pub(crate) fn trimmed_text(text: &str) -> &str
     ensures { result.now ≡ trimmed text.now }
 {

@@ -1,4 +1,4 @@
-//! What the words of a command line ask for.
+//! Reads the words of a command line.
 ghost use Rattle.std.specs.Prelude.{◌≡◌, [], true, false, map, option_map, unwrap_or, is_ok, IfOk, codes, string_bytes};
 ghost use Rattle.clap.specs.Words.{app_of, rule_of, found_of, rows_of, first_of, all_of};
 ghost use Rattle.contract_words.specs.Answers.{Gives};
@@ -12,32 +12,32 @@ use clap::error::ErrorKind;
 use clap::{Arg, ArgAction, ArgMatches, Command};
 use std::alloc::{AllocError, Global};
 
-/// How an argument is written.
+/// How a user writes an argument.
 #[derive(Clone, Copy)]
 enum Form {
-    /// `-c`.
+    /// As `-c`.
     Letter(char),
-    /// `--id`.
+    /// As `--id`.
     Name,
-    /// A word that is no option.
+    /// As a word without a dash.
     Word,
 }
 
-/// The heading in help that an argument stands below.
+/// The heading under which help lists an argument.
 #[derive(Clone, Copy)]
 enum Group {
-    /// That of the parser's own options.
+    /// The heading of the parser's own options.
     Options,
     Output,
     Searching,
 }
 
-/// An argument of the command, and what help says of it.
+/// An argument of the command, with its text in help.
 #[derive(Clone, Copy)]
 struct Argument {
     id: &'static str,
     form: Form,
-    /// What help calls its values; a flag has none.
+    /// The names of its values in help. A flag has none.
     values: &'static [&'static str],
     action: ArgAction,
     required: bool,
@@ -45,7 +45,7 @@ struct Argument {
     help: &'static str,
 }
 
-/// The command's arguments, in the order of help.
+/// All arguments of the command, in the order of help.
 const ARGUMENTS: [Argument; 10] = [
     Argument {
         id: "rcfile",
@@ -139,7 +139,7 @@ const ARGUMENTS: [Argument; 10] = [
     },
 ];
 
-// What stands behind the options in help: where an answer goes, both query languages, in short, examples, and the pages.
+// The end of the help, after the options: where an answer goes, both query languages in short, examples, and the pages.
 const ANSWERS_AND_QUERIES: &str = "\
 Where the answer goes:
   An mbox goes to the file that -o or the rcfile's mfolder names. Lines (-r),
@@ -172,55 +172,57 @@ Examples:
 
 Manual pages: mairix(1); mairixrc(5), the rcfile; mairix-query(7), queries";
 
-/// What the words of a command line ask for.
+/// What a command line asks for.
 #[derive(Drop)]
 pub struct Plan {
-    /// The rcfile's path, as written.
+    /// The path of the rcfile, as written.
     pub rcfile: Text,
-    /// Whether the answer is offsets, lengths and paths.
+    /// Whether the answer is lines of offset, length and path (`-r`).
     pub raw: bool,
-    /// Whether the answer is paths and header lines.
+    /// Whether the answer is excerpts: paths and header lines (`-x`).
     pub excerpt: bool,
-    /// Whether the messages found bring their whole threads.
+    /// Whether the answer has the whole threads of the messages found (`-t`).
     pub threads: bool,
-    /// The name of the file that an mbox goes to, as written, where it isn't the rcfile's.
+    /// The name of `-o`, as written: the file that an mbox goes to in place of the rcfile's `mfolder`.
     pub mfolder: Option<Text>,
-    /// Whether an mbox goes to standard output.
+    /// Whether an mbox goes to standard output (`--stdout`).
     pub stdout: bool,
-    /// Whether the patterns, with spaces between them, are one boolean query.
+    /// Whether the patterns, joined with spaces, are one boolean query (`--boolean`).
     pub boolean: bool,
-    /// Whether the index is made in memory.
+    /// Whether the search uses an index that it makes in memory (`--once`).
     pub once: bool,
-    /// Whether the archives are proved to be those that were indexed.
+    /// Whether the search first checks that the archives are those that were indexed (`--verify`).
     pub verify: bool,
-    /// What to search for, in the order of the words.
+    /// The patterns to search for, in their order. Without a pattern a run makes the index.
     pub patterns: Texts,
 }
 
-/// Why the words of a command line ask for nothing.
+/// Why a command line asks for no run.
 #[derive(Clone, Copy, Debug)]
 pub enum UsageFault {
     /// The parser refuses the words.
     Parse,
-    /// Both raw and excerpt are asked for.
+    /// The words have both `-r` and `-x`.
     TwoFormats,
-    /// Help is asked for.
+    /// The words ask for help.
     Help,
-    /// The version is asked for.
+    /// The words ask for the version.
     Version,
 }
 
-/// What the words after the program's name ask for.
+/// Reads the words after the program's name.
 ///
-/// The command is `mairix -f RCFILE [-r] [-x] [-t] [-o NAME] [--stdout] [--boolean] [--once] [--verify] [PATTERN..]`, with `-h`,
-/// `--help`, `-V` and `--version`. What clap takes of it counts: values attached as `-fRCFILE` or `-f=RCFILE`, bundles as
-/// `-rfRCFILE`, options behind patterns or between them, `--` before patterns that begin with `-`, and `-` as a pattern. Behind
-/// `--` each word is a pattern. An option stands once at most, and beside any other but `-r` beside `-x`.
+/// The command is `mairix -f RCFILE [-r] [-x] [-t] [-o NAME] [--stdout] [--boolean] [--once] [--verify] [PATTERN..]`.
+/// It also has `-h`, `--help`, `-V` and `--version`.
+///
+/// The parser is clap. So a value can be attached, as in `-fRCFILE` or `-f=RCFILE`, and letters can be bundled, as in
+/// `-rfRCFILE`. Options can come before, between and after patterns. `-` is a pattern. After `--` each word is a
+/// pattern, even if it begins with `-`. Each option can be given once, with any others, but not `-r` with `-x`.
 ///
 /// # Errors
 ///
-/// `Help` and `Version` where that is what the parser answers first, and `Parse` for any other refusal of it; `TwoFormats`
-/// where the parser takes the words and both `-r` and `-x` are among them.
+/// `Help` or `Version` if that is the first thing that the parser reports, and `Parse` for any other refusal of the
+/// parser. `TwoFormats` if the parser takes the words, and they have both `-r` and `-x`. `Memory` for lack of memory.
 pub fn plan_of(alloc: Global, words: &[String]) -> Result<Plan, OrMemory<UsageFault>>
     ensures { Gives (λ p. p) refusal result (plan (map string_bytes words.now)) }
 {
@@ -230,7 +232,8 @@ pub fn plan_of(alloc: Global, words: &[String]) -> Result<Plan, OrMemory<UsageFa
     }
 }
 
-/// The parser's own text for words that it refuses, help and version included, and else none.
+/// Returns the parser's own text for words that it refuses, help and version included. For words that it takes, the
+/// text is empty. Fails only for lack of memory.
 pub fn usage_text(alloc: Global, words: &[String]) -> Result<String, AllocError>
     ensures { is_ok (parse (map string_bytes words.now)) ≡ true
         → IfOk result (λ text. string_bytes text ≡ []) }
@@ -333,7 +336,7 @@ fn bare_command<'a>(alloc: Global) -> Command<'a>
 }
 
 impl Argument {
-    /// The argument, as the parser takes it.
+    /// Returns the argument in the form that the parser takes.
     fn arg<'a>(&self, alloc: Global) -> Arg<'a>
         ensures rule { rule_of result ≡ rule_in self.now }
         ensures local { result.global ≡ false }

@@ -1,4 +1,4 @@
-//! What is asked of a run: the words of a command line, and the rcfile.
+//! Reads what a user asks of a run: the words of the command line, and the rcfile.
 #![tactic(auto)]
 
 mod answer;

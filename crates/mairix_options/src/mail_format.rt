@@ -1,15 +1,15 @@
-//! What an answer is.
+//! The form of an answer.
 ghost use Rattle.std.specs.Prelude.{◌≡◌};
 ghost use Rattle.mairix_options.specs.Rcfile.{format_of};
 
-/// What an answer is.
+/// The form of an answer.
 #[derive(Clone, Copy)]
 pub enum MailFormat {
-    /// The messages, as an mbox.
+    /// An mbox of the messages.
     Mbox,
     /// A line for each message: offset, length and path.
     Raw,
-    /// Of each message the path and the main header lines.
+    /// For each message its archive's path and its main header lines.
     Excerpt,
 }
 

@@ -1,15 +1,15 @@
-//! A refusal, or want of memory.
+//! A refusal, or lack of memory.
 ghost use Rattle.std.specs.Prelude.{◌≡◌};
 ghost use Rattle.mairix_options.specs.declared.or_memory.OrMemory.TheVariants.{Memory};
 
 use std::alloc::{AllocError, AllocFailed};
 
-/// Why a reader has no answer: what it reads is refused, or memory is wanting. Only the first depends on what is read.
+/// Why a reader returns nothing: it refuses what it reads, or memory ran out. Only a refusal depends on what is read.
 #[derive(Debug, Drop)]
 pub enum OrMemory<E> {
-    /// What is read is refused.
+    /// The reader refuses what it reads.
     Refused(E),
-    /// A growth was refused.
+    /// Memory ran out.
     Memory,
 }
 

@@ -1,10 +1,10 @@
-//! Texts that a plan and an rcfile keep.
+//! The texts in a plan and in what an rcfile says.
 ghost use Rattle.std.specs.Prelude.{◌≡◌, ℕ, List, [], ◌∷◌, ◌++◌, map, IfOk, OnOk, OnErr, string_bytes};
 
 use std::alloc::{AllocError, Global};
 use std::marker::Model;
 
-/// A text, which contracts see as its bytes.
+/// A text. In contracts it is the list of its bytes.
 #[derive(Drop)]
 pub struct Text {
     text: String,
@@ -24,14 +24,14 @@ impl Text {
         Ok(Text::of(text))
     }
 
-    /// The text that a string is.
+    /// Takes the string as it is, without a copy.
     pub(crate) fn of(text: String) -> Self
         ensures { result ≡ string_bytes text }
     {
         Text { text }
     }
 
-    /// The text itself.
+    /// Returns the text.
     pub fn as_str(&self) -> &str
         ensures { result.now ≡ self.now }
     {
@@ -39,7 +39,7 @@ impl Text {
     }
 }
 
-/// A list of texts, which contracts see as the list of their bytes.
+/// A list of texts. In contracts it is the list of their bytes.
 #[derive(Drop)]
 pub struct Texts {
     texts: Vec<String>,
@@ -70,7 +70,7 @@ impl Texts {
         Ok(copies)
     }
 
-    /// The texts, in order.
+    /// Returns the texts, in order.
     pub fn as_slice(&self) -> &[String]
         ensures { map string_bytes result.now ≡ self.now }
     {

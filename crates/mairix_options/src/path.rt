@@ -1,4 +1,4 @@
-//! Texts that name files.
+//! Checks names of files, and puts them under the rcfile's base.
 ghost use Rattle.std.specs.Prelude.{◌≡◌, ◌++◌, map, IfOk, OnOk, string_bytes};
 ghost use Rattle.std.specs.List.{list_all};
 ghost use Rattle.mairix_options.specs.Path.{is_path, has_expansion, has_wildcard, under, archive_path, mfolder_path};
@@ -7,14 +7,15 @@ use crate::owned_text::{Text, Texts};
 use memchr::{memchr, memchr3};
 use std::alloc::{AllocError, Global};
 
-/// Whether a text can name a file, which is what an index asks of an archive's path: 1 to 4,096 bytes, none of them LF or NUL.
+/// Returns whether a text can name a file: it has 1 to 4,096 bytes, none of them LF or NUL. An index asks the same of
+/// an archive's path.
 pub(crate) fn is_path(text: &str) -> bool
     ensures { result ≡ is_path text.now }
 {
     mail_index::is_path(text)
 }
 
-/// Whether each of these texts can name a file.
+/// Returns whether each of the texts can name a file.
 #[tactic(auto, using(crate::proofs::Searches::list_all_map))]
 pub(crate) fn all_are_paths(texts: &Texts) -> bool
     ensures { result ≡ list_all is_path texts.now }
@@ -28,21 +29,21 @@ fn are_paths(texts: &[String]) -> bool
     texts.iter().all(|text| is_path(text.as_str()))
 }
 
-/// Whether a shell would put something else in its place: `$` anywhere, or `~` at the front.
+/// Returns whether a shell would expand the text: it has a `$` anywhere, or a `~` at the front.
 pub(crate) fn has_expansion(text: &str) -> bool
     ensures { result ≡ has_expansion text.now }
 {
     memchr(b'$', text.as_bytes()).is_some() || text.starts_with("~")
 }
 
-/// Whether it stands for several names: `*`, `?`, `[` or `...` anywhere.
+/// Returns whether the text is a pattern for several names: it has `*`, `?`, `[` or `...` anywhere.
 pub(crate) fn has_wildcard(text: &str) -> bool
     ensures { result ≡ has_wildcard text.now }
 {
     memchr3(b'*', b'?', b'[', text.as_bytes()).is_some() || text.contains("...")
 }
 
-/// Adds the paths of some archives' names: each under the base where there is one, unless it begins with `/`.
+/// Appends the paths of these archives. A name that doesn't begin with `/` is put under the base, if there is one.
 pub(crate) fn add_archive_paths(
     alloc: Global,
     paths: &mut Texts,
@@ -60,7 +61,7 @@ pub(crate) fn add_archive_paths(
     Ok(())
 }
 
-/// Whether these names are paths under the base.
+/// Returns whether the paths of these archives under the base can name files.
 pub(crate) fn archives_fit(
     alloc: Global,
     base: &Option<Text>,
@@ -74,7 +75,8 @@ pub(crate) fn archives_fit(
     Ok(all_are_paths(&paths))
 }
 
-/// The path of the mfolder's name: under the base where there is one, unless it begins with `/` or `.`.
+/// Returns the path of an `mfolder`. A name that begins with neither `/` nor `.` is put under the base, if there is
+/// one.
 pub(crate) fn mfolder_path(
     alloc: Global,
     base: &Option<Text>,
@@ -86,7 +88,7 @@ pub(crate) fn mfolder_path(
     under(alloc, base, is_own, name)
 }
 
-/// Whether the mfolder's name is a path under the base.
+/// Returns whether the path of an `mfolder` under the base can name a file.
 pub(crate) fn mfolder_fits(
     alloc: Global,
     base: &Option<Text>,

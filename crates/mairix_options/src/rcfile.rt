@@ -1,4 +1,4 @@
-//! What an rcfile says.
+//! Reads an rcfile.
 ghost use Rattle.std.specs.Prelude.{◌≡◌, ◌++◌, List, [], ◌∷◌, IfOk, IfSome, OnOk};
 ghost use Rattle.std.specs.List.{All, filter_map, slice_get};
 ghost use Rattle.contract_words.specs.Answers.{Gives};
@@ -16,22 +16,22 @@ use crate::setting::{ArchivesLine, MfolderLine, Setting, line_setting};
 use bstr::ByteSlice;
 use std::alloc::{AllocError, Global};
 
-/// What an rcfile says.
+/// What an rcfile says, with paths put under its base.
 #[derive(Drop)]
 pub struct Rc {
-    /// The folder that names of archives and of answers are in, where they don't say another.
+    /// The folder of all relative names of archives, and of an `mfolder` that begins with neither `/` nor `.`.
     pub base: Option<Text>,
-    /// The archives' paths under the base, in the order of the rcfile; each is 1 to 4,096 bytes without LF and NUL.
+    /// The paths of the archives, in the order of the rcfile. Each has 1 to 4,096 bytes without LF and NUL.
     pub paths: Texts,
-    /// The index file's path, as written.
+    /// The path of the index file, as written; the base isn't put before it.
     pub database: Text,
-    /// The path under the base of the file that answers go to.
+    /// The path of the file that answers go to.
     pub mfolder: Text,
-    /// What an answer is where the command line doesn't say.
+    /// The form of an answer if the command line doesn't give another.
     pub format: MailFormat,
 }
 
-/// What all lines of an rcfile say of each option: each line of `mbox`, and of the others the last.
+/// What the lines so far say: all lines of `mbox`, and the last line of each other option.
 #[derive(Drop)]
 struct Said {
     base: Option<Text>,
@@ -41,7 +41,7 @@ struct Said {
     format: Option<MailFormat>,
 }
 
-/// An option that every rcfile has.
+/// An option that every rcfile must have.
 #[derive(Clone, Copy, Debug)]
 pub enum Name {
     Mbox,
@@ -49,37 +49,40 @@ pub enum Name {
     Mfolder,
 }
 
-/// Why an rcfile is refused. Lines are numbered from 1.
+/// Why an rcfile is refused. The number is that of the line, counted from 1.
 #[derive(Clone, Copy, Debug)]
 pub enum RcFault {
-    /// Not UTF-8, no `=`, an empty option or value, or a value (of `mbox`, one of its names) that is no path, or none under the
-    /// base.
+    /// The line isn't UTF-8, or has no `=`, or its option or value is empty. Or the value (for `mbox` one of its names)
+    /// can't be a path, either as written or under the base.
     BadLine(u64),
-    /// Another option than `base`, `mbox`, `database`, `mfolder` and `mformat`.
+    /// The option isn't `base`, `mbox`, `database`, `mfolder` or `mformat`.
     NotSupported(u64),
-    /// `*`, `?`, `[` or `...` in `mbox`.
+    /// A name in `mbox` has `*`, `?`, `[` or `...`.
     Wildcard(u64),
-    /// `$` anywhere, or a name or value that begins with `~`; not looked for in `mformat`.
+    /// The value has a `$`, or it, or a name in it, begins with `~`. A value of `mformat` isn't checked for this.
     Expansion(u64),
-    /// No line sets the option, or `mbox` names no archive.
+    /// No line sets the option, or all lines of `mbox` together name no archive.
     Missing(Name),
-    /// Another `mformat` than `mbox`, `raw` and `excerpt`.
+    /// The `mformat` isn't `mbox`, `raw` or `excerpt`.
     BadFormat(u64),
 }
 
-/// What an rcfile says, where it has lines `option=value` alone, comments and empty lines.
+/// Reads an rcfile. Each line is `option=value`, a comment that begins with `#`, or empty.
 ///
-/// Lines end at LF, and a CR before it is dropped. `mbox` names archives between colons, and each of its lines adds
-/// to those before. Of `base`, `database`, `mfolder` and `mformat` the last line counts. A name of an archive that doesn't begin
-/// with `/` is taken under the base, and so is the mfolder's name where it begins with neither `/` nor `.`. Without a `mformat`
-/// an answer is an mbox.
+/// A line ends at its LF, and a CR before the LF is dropped. `mbox` names archives with colons between them, and each
+/// of its lines adds more. For `base`, `database`, `mfolder` and `mformat` the last line counts. The name of an archive
+/// is put under the base unless it begins with `/`, and `mfolder` unless it begins with `/` or `.`. The base counts for
+/// lines before it too. Without a `mformat` the form is an mbox.
 ///
 /// # Errors
 ///
-/// The first line that is refused, with the first of its faults in the order BadLine, NotSupported, Expansion,
-/// Wildcard, BadFormat, where a path is taken under the last base before its line. Then BadLine of the first line of `mbox`, or
-/// of the `mfolder` that counts, with a path that is none under the base that counts. Then the first of `mbox`, `database` and
-/// `mfolder` that no line sets.
+/// These are looked for in three steps, and the first fault is returned. Lack of memory is `Memory`.
+///
+/// 1. The first faulty line. If it has several faults, they count in the order `BadLine`, `NotSupported`,
+///    `Expansion`, `Wildcard`, `BadFormat`. Paths are checked under the last base before the line.
+/// 2. `BadLine` for the first line with a path that can't name a file under the last base of all. This looks at all
+///    lines of `mbox`, and at the last of `mfolder`.
+/// 3. `Missing` for the first of `mbox`, `database` and `mfolder` that isn't set.
 pub fn read_rc(alloc: Global, rc: &[u8]) -> Result<Rc, OrMemory<RcFault>>
     ensures given { Gives (λ r. r) refusal result (rc_of rc.now) }
     ensures base { IfOk result (λ r. IfSome r.base IsPath) }
@@ -97,7 +100,7 @@ pub fn read_rc(alloc: Global, rc: &[u8]) -> Result<Rc, OrMemory<RcFault>>
     rc_behind(alloc, &mut said, rc)
 }
 
-/// What the lines say behind those before.
+/// Reads all lines, after those that `said` has already. A loop that begins with any settings is easier to prove.
 fn rc_behind(alloc: Global, said: &mut Said, rc: &[u8]) -> Result<Rc, OrMemory<RcFault>>
     ensures { (before : List Setting) → Says before said.old
         → Gives (λ r. r) refusal result (rc_behind before rc.now) }
@@ -155,7 +158,7 @@ fn rc_with(alloc: Global, said: &mut Said) -> Result<Rc, OrMemory<RcFault>>
     })
 }
 
-/// The number of the first line with a path that is none under the base that counts.
+/// Returns the number of the first line with a path that can't name a file under the base that counts.
 fn first_misfit(alloc: Global, said: &Said) -> Result<Option<u64>, AllocError>
     ensures { IfOk result (λ n. n ≡ first_misfit said.now.base said.now.archives.items
         said.now.mfolder) }
@@ -191,7 +194,7 @@ fn first_archives_misfit(
     Ok(None)
 }
 
-/// The paths of all archives under the base.
+/// Returns the paths of all archives under the base.
 fn all_paths(
     alloc: Global,
     base: &Option<Text>,

@@ -1,4 +1,4 @@
-//! What one line of an rcfile says.
+//! Reads one line of an rcfile.
 ghost use Rattle.std.specs.Prelude.{◌≡◌, ◌&&◌, IfOk, string_bytes};
 ghost use Rattle.std.specs.List.{list_any, list_all};
 ghost use Rattle.std.specs.Option.{option_to_list};
@@ -28,7 +28,7 @@ enum Keyword {
     Mformat,
 }
 
-/// The options by name.
+/// Each option with its name.
 const KEYWORDS: [(&str, Keyword); 5] = [
     ("base", Keyword::Base),
     ("mbox", Keyword::Mbox),
@@ -50,7 +50,7 @@ impl Keyword {
     }
 }
 
-/// A line that names archives.
+/// A line `mbox=names`.
 #[derive(Drop)]
 pub(crate) struct ArchivesLine {
     pub(crate) number: u64,
@@ -58,7 +58,7 @@ pub(crate) struct ArchivesLine {
     pub(crate) names: Texts,
 }
 
-/// A line that names the file that answers go to.
+/// A line `mfolder=name`.
 #[derive(Drop)]
 pub(crate) struct MfolderLine {
     pub(crate) number: u64,
@@ -66,7 +66,7 @@ pub(crate) struct MfolderLine {
     pub(crate) name: Text,
 }
 
-/// What one line of an rcfile says.
+/// What one line of an rcfile sets.
 #[derive(Drop)]
 pub(crate) enum Setting {
     Base(Text),
@@ -76,7 +76,8 @@ pub(crate) enum Setting {
     Format(MailFormat),
 }
 
-/// What a line says, if anything, under the base before it.
+/// Reads a line. Returns None for an empty line or a comment. `base` is the last base before the line, and `number` is
+/// the line's number for a fault.
 pub(crate) fn line_setting(
     alloc: Global,
     base: &Option<Text>,
@@ -138,7 +139,7 @@ fn assigned(
     }
 }
 
-/// Whether what a value names are paths, as written and under the base.
+/// Returns whether all names in a value can be paths, both as written and under the base.
 fn has_paths(
     alloc: Global,
     base: &Option<Text>,
@@ -184,7 +185,7 @@ fn supported(
     }
 }
 
-/// The text of a value that a shell would leave as it is.
+/// Returns a copy of the value. Fails with `Expansion` if a shell would expand it.
 fn unexpanded(alloc: Global, number: u64, value: &str) -> Result<Text, OrMemory<RcFault>>
     ensures { Gives (λ t. t) refusal result (unexpanded number value.now) }
 {

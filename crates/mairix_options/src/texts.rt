@@ -1,4 +1,4 @@
-//! What is told of refused words and rcfiles.
+//! The texts that report a refused command line or rcfile.
 
 use crate::command_line::UsageFault;
 use crate::rcfile::{Name, RcFault};

@@ -1,4 +1,4 @@
--- What some settings say of each option.
+-- What the settings so far say of each option.
 use Rattle.std.specs.Prelude.{◌≡◌, ℕ, List, Result}
 use Rattle.std.specs.List.{filter_map}
 use Rattle.mairix_options.specs.Rcfile.{base_in, archives_in, database_in, mfolder_in, format_in, last_of, lines_in, settings_from, rc_from}
@@ -8,7 +8,7 @@ use Rattle.mairix_options.specs.declared.rcfile.RcFault.{RcFault}
 use Rattle.mairix_options.specs.declared.rcfile.Said.{Said}
 use Rattle.mairix_options.specs.declared.setting.Setting.{Setting}
 
--- of `mbox` all lines, and of the other options the last
+-- a record has what these settings say: all lines of `mbox`, and the last of each other option
 abbrev pub Says : List Setting → Said → Type 0
 Says settings said =
     (said.base ≡ last_of base_in settings)
@@ -17,6 +17,6 @@ Says settings said =
     × (said.mfolder ≡ last_of mfolder_in settings)
     × (said.format ≡ last_of format_in settings)
 
--- what settings say, and behind them all lines of an rcfile
+-- what some settings say together with all lines of an rcfile after them
 abbrev pub rc_behind : List Setting → List ℕ → Result Rc RcFault
 rc_behind before rc = settings_from before 1 (lines_in rc) >>= rc_from

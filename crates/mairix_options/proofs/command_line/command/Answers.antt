@@ -8,7 +8,7 @@ use Rattle.mairix_options.specs.Inside.Arguments.{rule_in}
 use Rattle.mairix_options.specs.declared.command_line.Argument.{Argument}
 use Rattle.mairix_options.proofs.command_line.command.Goals as goal
 
--- a command, and of the rows from i on the first
+-- adding row i to a command leaves the rows after it
 added : {old new : Command} {a : Arg} (rows : List Argument) (i : ℕ) (row : Argument) → i < length rows → AddsArg old a new → a.global ≡ false → rule_of a ≡ rule_in (get_or rows i row)
     → fold with_rule (app_of new) (map rule_in (drop (i + 1) rows)) ≡ fold with_rule (app_of old) (map rule_in (drop i rows))
 added {old} {new} {a} rows i row within adds local same =

@@ -3,6 +3,6 @@ use Rattle.std.specs.Prelude.{fold}
 use Rattle.mairix_options.specs.Inside.Arguments.{rule_in}
 use Rattle.mairix_options.proofs.command_line.command.Given as goal
 
--- the rows that are left make the whole command
+-- with the rows left, the command becomes the whole command
 abbrev pub invariant-loop-argument : goal.invariant-loop-argument
 invariant-loop-argument l = fold with_rule (app_of l.command) (map rule_in (drop l.argument-index l.argument-items)) ≡ command

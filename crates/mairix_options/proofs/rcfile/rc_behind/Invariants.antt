@@ -2,7 +2,8 @@ use Rattle.mairix_options.proofs.Words.{◌≡◌, ◌+◌, ◌^◌, ◌≤◌, 
 use Rattle.mairix_options.specs.Inside.Said.{Says}
 use Rattle.mairix_options.proofs.rcfile.rc_behind.Given as goal
 
--- the settings so far, and behind them those of the lines left, are those of all lines; and the lines left can be numbered
+-- the settings so far, with those of the lines left after them, are those of all lines; and there are numbers for the
+-- lines left
 abbrev pub invariant-loop-line : goal.invariant-loop-line
 invariant-loop-line l =
     ((before : List Setting) → Says before l.fn.said → (sofar : List Setting) × Says sofar l.said

@@ -3,7 +3,7 @@ use Rattle.std.specs.Borrow.{Bor}
 use Rattle.mairix_options.specs.declared.setting.Keyword.{Keyword}
 use Rattle.mairix_options.proofs.setting.Keyword.of.Given as goal
 
--- the first of these rows that has the name
+-- the option of the first row with this name
 abbrev pub keyword_in : List ℕ → List (Bor (List ℕ) × Keyword) → Option Keyword
 keyword_in option [] = None
 keyword_in option (row ∷ rows) = if bytes_eq option (row.0).now then Some row.1 else keyword_in option rows
