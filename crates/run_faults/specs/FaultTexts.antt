@@ -1,4 +1,4 @@
--- What the program says of each fault.
+-- The text that reports each fault of a run.
 use Rattle.std.specs.Prelude.{ℕ, ◌+◌, List, ◌∷◌, ◌++◌, codes}
 use Rattle.std.specs.Fmt.{decimal}
 use Rattle.mbox_cutter.specs.FaultTexts.{text_of_cut}
@@ -8,10 +8,11 @@ use Rattle.mail_index.specs.FaultTexts.{text_of_index}
 use Rattle.run_faults.specs.declared.fault.Fault.{Fault}
 use Rattle.run_faults.specs.declared.fault.Fault.TheVariants.{Usage, Rc, Query, Archive, Index, OldIndex, Stale, Device, Out, Memory, TooMany}
 
--- as `archive 2: too long`: an archive's number is counted from 0 and printed plus 1
+-- the text of a fault of an archive, such as `archive 2: too long`; the number counts from 0, and is printed plus 1
 abbrev pub of_archive : ℕ → List ℕ → List ℕ
 of_archive number reason = codes "archive " ++ decimal (number + 1) ++ 58 ∷ 32 ∷ reason
 
+-- the text of a fault
 abbrev pub text_of_fault : Fault → List ℕ
 text_of_fault (Usage fault) = text_of_usage fault
 text_of_fault (Rc fault) = text_of_rc fault

@@ -1,2 +1,3 @@
+-- The definitions of a run's faults: exit statuses, kinds and texts.
 pub mod Faults
 pub mod FaultTexts

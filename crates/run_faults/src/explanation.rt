@@ -1,4 +1,4 @@
-//! What the program says of a fault.
+//! The texts that report the faults of a run.
 ghost use Rattle.std.specs.Prelude.{◌≡◌, IfOk};
 ghost use Rattle.std.specs.String.{string_bytes};
 ghost use Rattle.run_faults.specs.FaultTexts.{text_of_fault};
@@ -8,14 +8,16 @@ use std::alloc::{AllocError, Global};
 use std::error::Error;
 use std::fmt;
 
-/// What is said of a file that can't be opened, read or made, in front of its path.
+/// The text before the path of a file that can't be opened, read or made.
 pub const CANNOT_OPEN: &str = "cannot open";
 
-/// What is said of want of memory, in whatever layer.
+/// The text for lack of memory, in every layer.
 pub const OUT_OF_MEMORY: &str = "out of memory";
 
-/// The text of a fault, without the program's name and a line's end. Lines of the rcfile and items of a query are counted from
-/// 1 as they are; an archive's number, which is counted from 0, is printed plus 1.
+/// Returns the text of a fault, without the program's name and without a line end. Fails only for lack of memory.
+///
+/// All numbers in the text count from 1. So the number of an archive, which counts from 0 in the fault, is printed
+/// plus 1.
 pub fn fault_text(alloc: Global, fault: &Fault) -> Result<String, AllocError>
     ensures { IfOk result (λ text. string_bytes text ≡ text_of_fault fault.now) }
 {

@@ -1,4 +1,5 @@
-//! Why a run has no whole answer. Each fault has its status here and its text in `explanation` (decision 90 in docs/DECISIONS.md).
+//! Why a run has no whole answer. A fault has its exit status here, and its text in `explanation` (decision 90 in
+//! docs/DECISIONS.md).
 
 use mail_index::IndexFault;
 use mail_query::{QueryFault, QueryFaultKind};
@@ -6,50 +7,51 @@ use mairix_options::{OrMemory, RcFault, UsageFault};
 use mbox_cutter::CutFault;
 use std::alloc::{AllocError, AllocFailed};
 
-/// The exit status of a run with messages or with a new index, of help and of version.
+/// The exit status of a run that found messages or made an index, and of help and version.
 pub const DONE: u8 = 0;
 
-/// The exit status of a run without a message.
+/// The exit status of a search that found no message.
 pub const NO_MESSAGE: u8 = 1;
 
-/// The exit status where words, rcfile or query are refused.
+/// The exit status if the command line, the rcfile or the query is refused.
 pub const REFUSED: u8 = 2;
 
-/// The exit status where the index is refused, or isn't that of the archives.
+/// The exit status if the index is refused, or isn't the one of the archives.
 pub const WRONG_INDEX: u8 = 3;
 
-/// The exit status where a file can't be opened, read, made or renamed, the output failed or an archive is no mbox.
+/// The exit status if a file can't be opened, read, made or renamed, if the output failed, or if an archive isn't an
+/// mbox.
 pub const FAILED: u8 = 4;
 
-/// The exit status with want of memory, too many messages or keys, or an archive that is too long.
+/// The exit status for lack of memory, for too many archives, messages or keys, and for an archive that is too long.
 pub const NO_ROOM: u8 = 5;
 
-/// Why a run has no whole answer. Want of memory in any layer is `Memory`.
+/// Why a run has no whole answer. Lack of memory in any layer is `Memory`.
 #[derive(Clone, Copy, Debug)]
 pub enum Fault {
-    /// The words of the command line are refused.
+    /// The command line is refused, or asks for help or the version.
     Usage(UsageFault),
     /// The rcfile is refused.
     Rc(RcFault),
     /// The query is refused.
     Query(QueryFault),
-    /// The archive of this number, counted from 0, couldn't be read or is refused.
+    /// The archive with this number, counted from 0, couldn't be read for an index, or is refused.
     Archive { number: u64, fault: CutFault },
     /// The index is refused.
     Index(IndexFault),
-    /// The query uses names of parts, or the archives are to be verified, and the index is of version 1, which has neither names
-    /// nor digests.
+    /// The index has version 1, and so has no names of attachments and no digests. But the query searches names, or the
+    /// archives have to be verified.
     OldIndex,
-    /// The archive of this number, counted from 0, isn't the one that was indexed. Where there are more or
-    /// fewer archives than were indexed it is the smaller of both counts.
+    /// The archive with this number, counted from 0, isn't the one that was indexed. If more or fewer archives than now
+    /// were indexed, the number is the smaller of both counts.
     Stale(u64),
-    /// An archive couldn't be read where the answer asked for it.
+    /// An archive couldn't be read for the answer.
     Device,
     /// The output failed.
     Out,
-    /// There was no memory left.
+    /// Memory ran out.
     Memory,
-    /// There are more archives, messages or keys than an index has room for.
+    /// The archives have more messages or keys than an index can hold, or there are too many archives.
     TooMany,
 }
 
@@ -57,7 +59,7 @@ impl Fault {
     ghost use Rattle.std.specs.Prelude.{◌≡◌};
     ghost use Rattle.run_faults.specs.Faults.{status_of_fault};
 
-    /// The exit status that a run with this fault has.
+    /// Returns the exit status of a run with this fault.
     pub fn status(self) -> u8
         ensures { result ≡ status_of_fault self }
     {

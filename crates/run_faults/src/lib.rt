@@ -1,4 +1,4 @@
-//! Why a run of mairix has no whole answer, with its exit status and its text.
+//! The faults of a run of mairix, each with its exit status and its text.
 #![tactic(auto)]
 
 mod explanation;
