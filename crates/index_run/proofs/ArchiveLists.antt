@@ -1,4 +1,4 @@
--- Archives by their paths and bytes, one after another.
+-- Laws of archives indexed one after another: what is known so far, and which source has failed.
 use Rattle.index_run.proofs.Words.{◌≡◌, ◌∙◌, ◌+◌, ◌<◌, ◌≤◌, ◌++◌, ℕ, zero, suc, List, [], ◌∷◌, length, take, drop, get_or, None, Some, false, inl, inr, refl, sym, ap, arith, drop-cons, take_more, take-append-drop, length-take-le, All-append, All-cons, All-nil, Draft, refusal_of, Mbox, most_in_archive, AreSound, mboxes, Parted, IsArchivesFault, fault_of_job, IsAdded, IsAddFault, Err, ◌≢◌, eqb_tells, is_failed_source}
 use Rattle.mbox_cutter.specs.declared.event.CutFault.TheVariants as cut
 use Rattle.index_job.specs.declared.job_fault.JobFault.{JobFault}
@@ -42,7 +42,7 @@ module _ (paths bytes : List (List ℕ)) (i : ℕ) (same : length paths ≡ leng
   pub taken-so-far : length (take i (mboxes paths bytes)) ≡ i
   taken-so-far = let within : i ≤ length (mboxes paths bytes) = omega (arith, inside) in length-take-le i (mboxes paths bytes) within
 
--- sound archives with one more that isn't refused
+-- sound archives, with one more that isn't refused, are sound
 pub sound-more : (before : List Mbox) (a : Mbox) (n : ℕ) (j : Option Draft) → AreSound before → IsAdded before a n j → AreSound (before ++ a ∷ [])
 sound-more before a n j sound added = record {
   each = All-append (λ (b : Mbox). refusal_of most_in_archive b.bytes ≡ None) before (a ∷ []) sound.each
@@ -50,7 +50,7 @@ sound-more before a n j sound added = record {
   few = added.within;
 }
 
--- the fault of one archive is that of all
+-- a fault at one archive is a fault of all of them
 pub archive-fault : (archives before : List Mbox) (a : Mbox) (number : ℕ) (f : JobFault) → Parted archives before a → number ≡ length before → AreSound before → IsAddFault before a f
     → IsArchivesFault archives (fault_of_job number f)
 archive-fault archives before a number (job.Cut cut.Device) parted same sound h = (before, a, parted, same, sound)
@@ -64,7 +64,7 @@ archive-fault archives before a number job.Failed parted same sound h = elim h [
 
 -- ---- which source has failed
 
--- a fault of one archive is no failure of another's source
+-- a fault at one archive isn't a failure of another archive's source
 pub others-run : (i : ℕ) (f : JobFault) (n : ℕ) → n ≢ i → is_failed_source n (Some (fault_of_job i f)) ≡ false
 others-run i (job.Cut cut.Device) n ne = elim (eqb_tells n i) [ inl p ↦ absurd (ne p.1) | inr p ↦ p.0 ]
 others-run i (job.Cut cut.NotAnMbox) n ne = refl
@@ -75,7 +75,7 @@ others-run i job.TooMany n ne = refl
 others-run i job.Out n ne = refl
 others-run i job.Failed n ne = refl
 
--- and of its own source exactly where a job says so
+-- a fault at one archive is a failure of its source exactly if the job reports it
 pub here-counts : (i : ℕ) (f : JobFault) (old new : ℕ) → Counted (is_source_failure {T = ℕ} (Err f)) old new → Counted (is_failed_source i (Some (fault_of_job i f))) old new
 here-counts i (job.Cut cut.Device) old new h = elim (eqb_tells i i) [ inl p ↦ rw p.0 h | inr p ↦ absurd (p.1 refl) ]
 here-counts i (job.Cut cut.NotAnMbox) old new h = h

@@ -1,4 +1,4 @@
--- Either all archives are sound, or a first one of them is refused.
+-- Either all archives are sound, or there is a first one that is refused, by induction over the archives.
 use Rattle.index_run.proofs.Words.{◌≡◌, ◌∙◌, ◌+◌, ◌<◌, ◌≤◌, ◌++◌, ℕ, List, [], ◌∷◌, length, None, Some, refl, sym, subst, arith, append-nil, append_assoc, ⊎_elim, inl, inr, ◌⊎◌, leb_tells, length-append, length-map, All-append, All-cons, All-nil, CutFault, refusal_of, Fault, most_in_archive, most_in_index, AreSound, IsTooMuch, IsWithinLimit, Mbox, table, entry_of, Parted, Refuses}
 use Rattle.std.proofs.Common.{Option}
 use Rattle.run_faults.specs.declared.fault.Fault.TheVariants.{Archive, TooMany}
@@ -8,7 +8,7 @@ use Rattle.run_faults.specs.declared.fault.Fault.TheVariants.{Archive, TooMany}
 within-or-over : (n : ℕ) → (n ≤ most_in_index) ⊎ (most_in_index < n)
 within-or-over n = ⊎_elim (λ h. inl h.1) (λ h. inr h.1) (leb_tells n most_in_index)
 
--- the archives are within the limit, or too much
+-- the archives are within the limits, or too much
 within-or-too-much : (archives : List Mbox) → IsWithinLimit (table archives) ⊎ IsTooMuch (table archives)
 within-or-too-much archives =
     ⊎_elim
@@ -30,7 +30,7 @@ none-sound = record {
 
 -- ---- all of them
 
--- all are sound, or the first that isn't is refused
+-- all archives are sound, or they are refused
 abbrev pub IsDecided : List Mbox → Type 0
 IsDecided archives = AreSound archives ⊎ ((fault : Fault) × Refuses archives fault)
 
@@ -51,7 +51,7 @@ module _ (archives before rest : List Mbox) (a : Mbox) (whole : archives ≡ bef
     few = few;
   }
 
-  -- where there is room for it: its own refusal, or those behind it
+  -- if there is room for this archive: it is refused, or the archives after it decide
   by-bytes : length before + 1 ≤ most_in_index → (AreSound (before ++ a ∷ []) → IsDecided archives) → (o : Option CutFault) → refusal_of most_in_archive a.bytes ≡ o → IsDecided archives
   by-bytes room onward (Some fault) is = inr (Archive (length before) fault, (before, a, parted, refl, record { sound = sound; few = omega (arith, room); refused = is }))
   by-bytes room onward None is = ⊎_elim (λ few. onward (sound-with is few)) too-many (within-or-too-much (before ++ a ∷ []))

@@ -1,11 +1,11 @@
--- Sound archives are refused for nothing.
+-- Sound archives aren't refused, because the counts of a front of them are no larger.
 use Rattle.index_run.proofs.Words.{◌≡◌, ◌∙◌, ◌+◌, ◌<◌, ◌≤◌, ◌++◌, List, [], ◌∷◌, length, All, get_or, None, Some, sym, ap, subst, arith, append_assoc, ⊎_elim, length-append, length-map, All-get_or, get_or-append_seam, CutFault, refusal_of, Fault, most_in_archive, AreSound, IsTooMuch, IsWithinLimit, Mbox, table, all_messages, messages_in, with_messages, entry_of, Refuses}
 use Rattle.std.proofs.lemmas.Grind.{flat_map-append}
 use Rattle.run_faults.specs.declared.fault.Fault.TheVariants as of
 use Rattle.index_job.proofs.ArchiveSteps.{with_messages-append, with_messages-more}
 use Rattle.index_job.proofs.TableSteps.{records-count}
 
--- the counts of a table only grow with more archives
+-- more archives make the counts of a table no smaller
 messages-grow : (xs ys : List Mbox) → length (table xs).messages ≤ length (table (xs ++ ys)).messages
 messages-grow xs ys =
     omega (arith, records-count 0 xs, records-count 0 (xs ++ ys), ap length (flat_map-append (λ (a : Mbox). messages_in a.bytes) xs ys), length-append (all_messages xs) (all_messages ys))

@@ -1,4 +1,4 @@
--- All archives indexed: the file that is made of them, or the first that is at fault.
+-- The archives of a run, and the faults that indexing them can have.
 use Rattle.std.specs.Prelude.{◌≡◌, ⊤, ℕ, List, [], ◌∷◌, ◌++◌, length}
 use Rattle.mbox_cutter.specs.declared.event.CutFault.TheVariants.{Device, NotAnMbox, ArchiveTooLong, Failed}
 use Rattle.run_faults.specs.declared.fault.Fault.{Fault}
@@ -8,28 +8,29 @@ use Rattle.index_job.specs.declared.job_fault.JobFault.TheVariants as job
 use Rattle.index_job.specs.ArchiveTables.{Mbox}
 use Rattle.index_job.specs.ArchiveRefusals.{AreSound, IsCutOff, IsOneTooMany}
 
--- archives by their paths and their bytes
+-- the archives with these paths and these bytes, in order
 abbrev pub mboxes : List (List ℕ) → List (List ℕ) → List Mbox
 mboxes [] bytes = []
 mboxes (path ∷ paths) [] = []
 mboxes (path ∷ paths) (b ∷ bytes) = record { path = path; bytes = b } ∷ mboxes paths bytes
 
--- one of the archives, with those before it
+-- the archives are those before, the archive a, and those after it
 pub record Parted (archives before : List Mbox) (a : Mbox) : Type 0 where
   pub behind : List Mbox
   pub whole : archives ≡ before ++ a ∷ behind
 
--- the refusal that the archives determine: the first of them that is refused, or that is too much with those before it
+-- the archives are refused with this fault: the first archive that is refused, or the first that is too much together
+-- with those before it
 abbrev pub Refuses : List Mbox → Fault → Type 0
 Refuses archives (Archive number fault) = (before : List Mbox) × (a : Mbox) × Parted archives before a × (number ≡ length before) × IsCutOff before a fault
 Refuses archives TooMany = (before : List Mbox) × (a : Mbox) × Parted archives before a × IsOneTooMany before a
 Refuses archives _ = ⊥
 
--- a source that failed, where the archives before it are sound
+-- the source with this number failed: it is that of an archive, and all archives before it are sound
 abbrev pub FailsAt : List Mbox → ℕ → Type 0
 FailsAt archives number = (before : List Mbox) × (a : Mbox) × Parted archives before a × (number ≡ length before) × AreSound before
 
--- what may be answered where the archives aren't indexed
+-- a fault that indexing these archives can have: their refusal, a failed source, or lack of memory
 abbrev pub IsArchivesFault : List Mbox → Fault → Type 0
 IsArchivesFault archives (Archive number Device) = FailsAt archives number
 IsArchivesFault archives (Archive number NotAnMbox) = Refuses archives (Archive number NotAnMbox)
@@ -39,7 +40,7 @@ IsArchivesFault archives TooMany = Refuses archives TooMany
 IsArchivesFault archives Memory = ⊤
 IsArchivesFault archives _ = ⊥
 
--- what a run answers of a job's fault at the archive of this number; no archive has the last two
+-- the fault of a run for a job's fault at the archive with this number; the last two never come from an archive
 abbrev pub fault_of_job : ℕ → JobFault → Fault
 fault_of_job number (job.Cut fault) = Archive number fault
 fault_of_job number job.OutOfMemory = Memory

@@ -1,4 +1,4 @@
-//! The job that indexes a run's archives.
+//! Indexes the archives of a run one after another.
 ghost use Rattle.std.specs.Prelude.{◌≡◌, ◌<◌, ◌^◌, ◌-◌, ℕ, List, Some, IsSome, false, map, length, All, IfOk, IfErr};
 ghost use Rattle.std.specs.Result.{MatchResult};
 ghost use Rattle.std.specs.String.{string_bytes};
@@ -14,8 +14,8 @@ use mbox_cutter::{CutFault, Source};
 use run_faults::Fault;
 use std::alloc::Global;
 
-/// What a run answers of a job's fault at the archive of this number. No archive has the last two, of the output and of a job that
-/// has failed.
+/// Returns the fault of a run for a job's fault at the archive with this number. `Out` and `Failed` never come from an
+/// archive: a job has no output before its end, and this one isn't used after a fault.
 fn fault_of_job(number: u64, fault: JobFault) -> Fault
     ensures { result ≡ fault_of_job number fault }
 {
@@ -31,7 +31,8 @@ fn fault_of_job(number: u64, fault: JobFault) -> Fault
     }
 }
 
-/// A job that has indexed the archives, one after another; or the first of them that is at fault.
+/// Indexes each archive from its source, and returns the job, which can be finished. Fails with the first faulty
+/// archive, or for lack of memory.
 pub(crate) fn job_of_archives<S: Source>(
     alloc: Global,
     paths: &[String],
@@ -51,7 +52,7 @@ pub(crate) fn job_of_archives<S: Source>(
     ensures early { is_early (fault_in result) ≡ false }
     ensures kinds { IfErr result IsOfIndexing }
 {
-    // A job that begins wants nothing but memory.
+    // A new job can fail only for lack of memory.
     let Ok(mut job) = IndexJob::new(alloc) else {
         return Err(Fault::Memory);
     };

@@ -1,4 +1,4 @@
-//! A run of mairix that indexes its archives, into memory or into an output.
+//! Indexes the archives of a run, into memory or into an output.
 #![tactic(auto)]
 
 mod archives_job;

@@ -1,4 +1,4 @@
-//! The index file that a run makes in memory.
+//! Makes an index file in memory.
 ghost use Rattle.std.specs.Prelude.{◌≡◌, ◌<◌, ◌^◌, ◌-◌, ℕ, List, Some, false, map, length, All, IfOk, IfErr};
 ghost use Rattle.std.specs.Result.{MatchResult};
 ghost use Rattle.std.specs.String.{string_bytes};
@@ -15,7 +15,8 @@ use mbox_cutter::{MemoryOut, Source};
 use run_faults::Fault;
 use std::alloc::Global;
 
-/// The index file of the archives, in memory; or the first of them that is at fault.
+/// Indexes the archives from their sources, and returns the index file. Fails with the first faulty archive, with
+/// too many archives, messages or keys, or for lack of memory.
 pub fn file_of_archives<S: Source>(
     alloc: Global,
     paths: &[String],
@@ -37,7 +38,7 @@ pub fn file_of_archives<S: Source>(
 {
     let job = job_of_archives(alloc, paths, sources)?;
     let mut file = MemoryOut::new(alloc, None);
-    // A job that hasn't failed is refused nothing but its output, and a file in memory fails only for want of memory.
+    // A job without a fault can fail here only if its output does, and a file in memory fails only for lack of memory.
     job.finish(&mut file).or(Err(Fault::Memory))?;
     Ok(file)
 }

@@ -1,4 +1,4 @@
-//! The index file that a run sends to an output.
+//! Sends an index file to an output.
 ghost use Rattle.std.specs.Prelude.{◌≡◌, ◌<◌, ◌^◌, ◌-◌, ℕ, List, Some, map, length, All, IfErr, OnOk};
 ghost use Rattle.std.specs.Bool.{OnFalse, OnTrue};
 ghost use Rattle.std.specs.Io.KnownBytes.{Appends};
@@ -23,7 +23,8 @@ use std::alloc::Global;
 ///
 /// # Errors
 ///
-/// The first archive that is at fault, or want of memory, with nothing sent; else the output's failure, with a front of the file sent.
+/// The first faulty archive, too many archives, messages or keys, or lack of memory: then nothing is sent. `Out` if
+/// the output fails: then only a beginning of the file is sent.
 pub fn send_index<S: Source, O: Out>(
     alloc: Global,
     paths: &[String],
@@ -55,6 +56,6 @@ pub fn send_index<S: Source, O: Out>(
         (out.new ≡ out.old)) }
 {
     let job = job_of_archives(alloc, paths, sources)?;
-    // A job that hasn't failed is refused nothing but its output.
+    // A job without a fault can fail here only if its output does.
     job.finish(out).or(Err(Fault::Out)).and(Ok(()))
 }

@@ -1,7 +1,8 @@
 use Rattle.index_run.proofs.Words.{◌≡◌, ℕ, List, map, take, drop, Some, IsSome, string_bytes, AreSound, mboxes, IsIndexOf}
 use Rattle.index_run.proofs.archives_job.job_of_archives.Given as goal
 
--- the sources from this number on were not asked yet, none has failed, and the job has the archives so far, which are sound
+-- the sources from this number on haven't been read yet; none has failed; the job has the archives so far, which are
+-- sound
 abbrev pub invariant-loop-number : goal.invariant-loop-number
 invariant-loop-number g l = record {
   unread : drop l.number l.sources ≡ drop l.number l.fn.sources;
