@@ -1,4 +1,4 @@
--- Laws of what comes of each element, one after another.
+-- Laws of the lists that are made of elements one after another.
 use Rattle.std.proofs.Common.{◌≡◌, ℕ, ◌+◌, suc, ◌<◌, length, add-zero, arith, List, [], ◌∷◌, ◌++◌, Option, Result, Ok, Err, refl, ap, sym, ◌∙◌, append_assoc, IfSome}
 use Rattle.contract_words.specs.Answers.{◌>>=◌, with_front, collect_from}
 
@@ -15,7 +15,7 @@ if_some_map o P Q h h2 = grind arith
 with_front-bind : {Y E : Type 0} (a : List Y) (r s : Result (List Y) E) → with_front a (r >>= (λ b. with_front b s)) ≡ with_front a r >>= (λ c. with_front c s)
 with_front-bind a r s = grind (arith, with_front-append)
 
--- what comes of a front, and then of the rest
+-- the lists of a front, and then those of the rest
 pub collect-append : {X Y E : Type 0} (f : ℕ → X → Result (List Y) E) (n : ℕ) (xs ys : List X)
     → collect_from f n (xs ++ ys) ≡ collect_from f n xs >>= (λ a. with_front a (collect_from f (n + length xs) ys))
 collect-append f n [] ys = ap (λ k. collect_from f k ys) (sym (add-zero n)) ∙ sym (with_front-nil (collect_from f (n + 0) ys))

@@ -1,21 +1,21 @@
--- Laws of a list of devices, of which those from an index on were not asked yet.
+-- Laws of a list of devices, of which those from an index on haven't been used yet.
 use Rattle.std.proofs.Common.{arith, ◌≡◌, ◌≢◌, ℕ, zero, ◌+◌, ◌<◌, List, [], length, get_or, map, drop, Bool, false, inl, inr, Option, Some, ap, sym, ◌∙◌, subst, add-zero}
 use Rattle.std.proofs.lemmas.Bool.Decides.{eqb_tells}
 use Rattle.std.proofs.lemmas.List.{get_or-drop, drop-drop, length-map, get_or-map, map-set, get_or-set_same, get_or-set_other, length-set, drop-set-lt}
 use Rattle.std.proofs.Math.ListN.{set}
 use Rattle.contract_words.specs.Devices.{Counted}
 
--- what stands at the index is what stood there
+-- the element at the index is as it was
 pub same_at : {X : Type 0} (xs ys : List X) (i : ℕ) (d : X) → drop i xs ≡ drop i ys → get_or xs i d ≡ get_or ys i d
 same_at xs ys i d h =
     ap (λ k. get_or xs k d) (sym (add-zero i)) ∙ sym (get_or-drop i xs zero d) ∙ ap (λ l. get_or l zero d) h ∙ get_or-drop i ys zero d ∙ ap (λ k. get_or ys k d) (add-zero i)
 
--- what stands behind the index is what stood there, after a write at the index
+-- after a write at the index, the elements after the index are as they were
 pub same_behind : {X : Type 0} (xs ys : List X) (i : ℕ) (v : X) → drop i xs ≡ drop i ys → drop (i + 1) (set xs i v) ≡ drop (i + 1) ys
 same_behind xs ys i v h =
     drop-set-lt (i + 1) xs i v (omega arith) ∙ sym (drop-drop 1 i xs) ∙ ap (λ l. drop 1 l) h ∙ drop-drop 1 i ys
 
--- the bytes at an index, where all are known
+-- the bytes at an index, if all are known
 pub known_at : {X : Type 0} (r : X → Option (List ℕ)) (xs : List X) (contents : List (List ℕ)) (i : ℕ) (d : X)
     → map r xs ≡ map Some contents → i < length xs → r (get_or xs i d) ≡ Some (get_or contents i [])
 known_at r xs contents i d h below =

@@ -1,9 +1,9 @@
--- Ranges come by where they begin and then by where they end, and those that are left of them do too.
+-- All ranges are in order, by where they begin and then by where they end, and so are any that are picked from them.
 use Rattle.std.proofs.Common.{ℕ, zero, suc, ◌<◌, Bool, List, [], ◌∷◌, ◌++◌, length, map, refl, inl, inr, arith}
 use Rattle.std.specs.Prelude.{filter}
 use Rattle.contract_words.specs.Ranges.{numbers_from, ranges_from, IsBeforeEach, AreInOrder}
 
--- what is left of an ordered list is ordered
+-- what is picked from an ordered list is ordered
 before-filter : (p : ℕ × ℕ → Bool) (r : ℕ × ℕ) (rs : List (ℕ × ℕ)) → IsBeforeEach r rs → IsBeforeEach r (filter p rs)
 before-filter p r [] h = tt
 before-filter p r (s ∷ ss) h = grind (arith, before-filter p r ss h.1)

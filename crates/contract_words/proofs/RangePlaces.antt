@@ -1,5 +1,5 @@
--- The ranges of a list that pass a test, place by place: whether one that begins at a place passes depends on the elements
--- before it, the nearest first, and on those from it on.
+-- The ranges of a list that pass a test, found place by place. Whether a range passes depends on the elements before
+-- its place, the nearest first, and on those from there on.
 use Rattle.std.proofs.Common.{◌≡◌, ℕ, suc, ◌-◌, Bool, cond, List, [], ◌∷◌, ◌++◌, map, reverse, length, take, drop, refl, sym, ap, ap₂, ◌∙◌, arith, append_assoc, append-nil, length-append}
 use Rattle.std.proofs.Math.Seq.{take-append_seam, drop-append_seam}
 use Rattle.std.proofs.lemmas.List.{map-append, reverse-append}
@@ -7,7 +7,7 @@ use Rattle.std.proofs.lemmas.List.Elements.{filter-append}
 use Rattle.std.specs.List.{filter, slice_range}
 use Rattle.contract_words.specs.Ranges.{numbers_from, ranges_from, passes_at}
 
--- the list in three parts is cut at the ends of the middle one
+-- a list in three parts is cut at the ends of the middle one
 cut_before : (front inside rest : List ℕ) → take (length front) (front ++ (inside ++ rest)) ≡ front
 cut_before front inside rest = take-append_seam front (inside ++ rest)
 
@@ -22,18 +22,18 @@ cut_behind front inside rest = ap (drop (length (front ++ inside))) (sym (append
 map_one : {X Y : Type 0} (f : X → Y) (x : X) (b : Bool) → map f (cond b (x ∷ []) []) ≡ cond b (f x ∷ []) []
 map_one f x b = grind arith
 
--- which ranges pass, and what is seen of the elements inside one
+-- a test of ranges, and a view of the elements in one that passes
 module _ (passes : List ℕ → List ℕ → List ℕ → Bool) (view : List ℕ → List ℕ) where
-  -- what is seen of the elements, if they pass
+  -- the view of the elements, if they pass
   abbrev pub if_passes : List ℕ → List ℕ → List ℕ → List (List ℕ)
   if_passes before inside behind = cond (passes before inside behind) (view inside ∷ []) []
 
-  -- what is seen of the ranges that begin with these elements and end in the rest
+  -- the views of the ranges that begin with these elements and end in the rest
   abbrev pub seen_on : List ℕ → List ℕ → List ℕ → List (List ℕ)
   seen_on before inside [] = []
   seen_on before inside (c ∷ cs) = if_passes before (inside ++ c ∷ []) cs ++ seen_on before (inside ++ c ∷ []) cs
 
-  -- and of those that begin in the rest
+  -- the views of the ranges that begin in the rest
   abbrev pub seen_from : List ℕ → List ℕ → List (List ℕ)
   seen_from before [] = []
   seen_from before (c ∷ cs) = seen_on before [] (c ∷ cs) ++ seen_from (c ∷ before) cs
@@ -44,11 +44,11 @@ module _ (passes : List ℕ → List ℕ → List ℕ → Bool) (view : List ℕ
   seen_in-append : (cs : List ℕ) (rs ss : List (ℕ × ℕ)) → seen_in cs (rs ++ ss) ≡ seen_in cs rs ++ seen_in cs ss
   seen_in-append cs rs ss = grind (arith, filter-append, map-append)
 
-  -- one range passes where the three parts that it makes of the list say so
+  -- one range passes if the test passes the three parts that it makes of the list
   seen_in_one : (front inside rest : List ℕ) → seen_in (front ++ (inside ++ rest)) ((length front, length (front ++ inside)) ∷ []) ≡ if_passes (reverse front) inside rest
   seen_in_one front inside rest = grind (arith, map_one, cut_before, cut_inside, cut_behind)
 
-  -- the ranges from one place whose ends stand in the rest
+  -- the ranges from one place that end in the rest
   seen_in_place : (front inside rest : List ℕ)
       → seen_in (front ++ (inside ++ rest)) (map (λ end. (length front, end)) (numbers_from (suc (length (front ++ inside))) (length rest))) ≡ seen_on (reverse front) inside rest
   seen_in_place front inside [] = refl

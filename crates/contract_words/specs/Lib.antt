@@ -1,3 +1,4 @@
+-- The relations that the contracts of all crates use.
 pub mod Answers
 pub mod Devices
 pub mod Ranges

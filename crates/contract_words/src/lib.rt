@@ -1,3 +1,3 @@
-//! Words that the contracts of every crate use: what a call's answer is against its definition, and
-//! what a call does to a device. It has no code: `specs/` has the words, `proofs/` their laws.
+//! Relations that the contracts of all crates use: between the result of a call and a definition, and between a device
+//! before and after a call. The crate has no code: `specs/` has the relations, and `proofs/` their laws.
 #![tactic(auto)]
