@@ -1,4 +1,4 @@
--- Where the first LF stands, and how long the first line is.
+-- Where the first LF is, and how long the first line is.
 use Rattle.mbox_cutter.proofs.Words.{◌≡◌, ℕ, zero, suc, ◌+◌, ◌<◌, ◌≤◌, Bool, true, false, cond, ◌==◌, List, [], ◌∷◌, ◌++◌, Some, None, length, take, get_or, refl, ap, sym, ◌∙◌, arith, min, nat_lt, nat_tests, length-take, IsFirstByte, is_byte, length_before_feed, line_end_of, first_length}
 use Rattle.std.proofs.lemmas.List.{length-append}
 
@@ -37,14 +37,14 @@ length_before_feed-append_out [] b whole = omega arith
 length_before_feed-append_out (x ∷ xs) b whole = (elim (x == 10) as (λ v. cond v 0 (suc (length_before_feed xs)) ≡ length (x ∷ xs) → cond v 0 (suc (length_before_feed (xs ++ b))) ≡ length (x ∷ xs) + length_before_feed b)
     [ true ↦ λ h. absurd (omega arith) | false ↦ λ h. let e : length_before_feed (xs ++ b) ≡ length xs + length_before_feed b = length_before_feed-append_out xs b (omega arith) in omega arith ]) whole
 
--- the answers of a search for the first LF among the first n bytes
+-- the results of a search for the first LF among the first n bytes
 pub length_before_feed-found : (h : List ℕ) (k : ℕ) → IsFirstByte (is_byte 10) h (Some k) → length_before_feed h ≡ k
 length_before_feed-found h k f = length_before_feed-at h k f.0.high (λ j l. f.0.before j (omega arith) l) f.1
 
 pub length_before_feed-not_found : (h : List ℕ) → IsFirstByte (is_byte 10) h None → length_before_feed h ≡ length h
 length_before_feed-not_found h f = length_before_feed-none h (λ j l. f j (omega arith) l)
 
--- the three answers of line_end
+-- the three results of `line_end`
 pub line_end_found : (b : List ℕ) (n k : ℕ) → n ≡ min (length b) 65537 → IsFirstByte (is_byte 10) (take n b) (Some k) → Some (k + 1) ≡ line_end_of b
 unfolding line_end_of
 line_end_found b n k e f =
@@ -94,7 +94,7 @@ pub line_end-whole : (b : List ℕ) → None ≡ line_end_of b → first_length 
 unfolding line_end_of first_length
 line_end-whole b e = let h : length_before_feed b ≤ length b = length_before_feed-le b in grind (arith, nat_tests)
 
--- no byte to come changes a line's end
+-- bytes that follow don't change the end of a line
 pub line_end-more : (b more : List ℕ) (n : ℕ) → Some n ≡ line_end_of b → n ≡ first_length (b ++ more)
 unfolding line_end_of first_length
 line_end-more b more n e =

@@ -1,4 +1,4 @@
--- The steps of a cutter where it may be known what comes.
+-- The steps of a cutter, stated for bytes that may be known or not.
 use Rattle.mbox_cutter.proofs.Words.{◌≡◌, ℕ, ◌+◌, ◌<◌, List, Option, Some, IfSome, take, arith, option_map, CutFault, ArchiveTooLong, Phase, Between, first_length, ArchiveEvent, coming_of, Takes, TakesKnown, Refuses, CutterPlace, FailsFirst, coming_at, resume}
 use Rattle.mbox_cutter.proofs.Steps.{resume-beginning}
 
@@ -7,16 +7,16 @@ use Rattle.mbox_cutter.proofs.Steps.{resume-beginning}
 pub each_some : {A : Type 0} (o : Option A) (P : A → Type 0) → ((x : A) → o ≡ Some x → P x) → IfSome o P
 each_some o P h = grind arith
 
--- what holds at a second option that has the same value
+-- what holds of an option's value holds of an option with the same value
 pub at_same : {A : Type 0} (o o' : Option A) (P : A → Type 0) → IfSome o (λ x. o' ≡ Some x) → IfSome o' P → IfSome o P
 at_same o o' P h h2 = grind arith
 
 pub both : {A : Type 0} (o : Option A) (P Q : A → Type 0) → IfSome o P → IfSome o Q → IfSome o (λ x. P x × Q x)
 both o P Q h h2 = grind arith
 
--- ---- what comes, where P is known of the bytes to come
+-- ---- what comes, if P holds of the bytes to come
 
--- the line is the first one of the bytes, and has n of them
+-- the line is the first one of the bytes, and has n bytes
 abbrev pub IsFirst : ℕ → List ℕ → List ℕ → Type 0
 IsFirst n line b = (n ≡ first_length b) × (line ≡ take n b)
 
@@ -26,7 +26,7 @@ pub known-step : (bytes after : Option (List ℕ)) (old new : CutterPlace) (was 
     TakesKnown event (coming_at old bytes) (coming_at new after)
 known-step bytes after old new was event P left is h leaves each = grind (arith, both)
 
--- no first line is told
+-- the first line isn't found
 pub known-fault : (bytes : Option (List ℕ)) (p : CutterPlace) (was : Phase) (fault : CutFault) → p.phase ≡ was → FailsFirst p.offset p.most bytes fault →
     ((b : List ℕ) → p.most < p.offset + first_length b → Refuses ArchiveTooLong (resume was p.offset p.most b)) → IfSome (coming_at p bytes) (Refuses fault)
 known-fault bytes p was fault h h2 h3 = grind (arith, each_some)

@@ -1,12 +1,12 @@
--- The lines of bytes: the first one, and the lines of what follows it.
+-- The lines of bytes are the first line and the lines of the bytes after it, however many turns are allowed.
 use Rattle.mbox_cutter.proofs.Words.{◌≡◌, ℕ, zero, suc, ◌<◌, ◌≤◌, List, [], ◌∷◌, length, take, drop, refl, ap, arith, length-drop, lines, first_lines, first_length}
 use Rattle.mbox_cutter.proofs.FirstLines.{first_length-positive}
 
--- behind their first line there are fewer bytes
+-- after the first line there are fewer bytes
 behind-fewer : (b : List ℕ) (n : ℕ) → 0 < length b → length b ≤ suc n → length (drop (first_length b) b) ≤ n
 behind-fewer b n some h = grind (arith, first_length-positive, length-drop)
 
--- what holds of no bytes, and of bytes if it holds of those behind their first line, holds of all
+-- what holds of no bytes, and of any bytes if it holds of those after their first line, holds of all bytes
 pub by_lines : (P : List ℕ → Type 0) → P [] → ((b : List ℕ) → 0 < length b → P (drop (first_length b) b) → P b) → (n : ℕ) (b : List ℕ) → length b ≤ n → P b
 by_lines P none each n [] h = none
 by_lines P none each zero (x ∷ xs) h = absurd (omega arith)

@@ -1,4 +1,4 @@
--- The lines of bytes join to them, and each is cut where a line ends.
+-- The lines of bytes join to the bytes, and each ends where a line does.
 use Rattle.mbox_cutter.proofs.Words.{◌≡◌, None, Some, ℕ, zero, suc, ◌-◌, ◌<◌, ◌≤◌, ◌==◌, true, false, cond, min, List, [], ◌∷◌, ◌++◌, length, take, drop, refl, ap, ◌∙◌, subst, arith, concat, nat_tests, length-drop, length-take-le, take-append-drop, take_all, line_end_of, length_before_feed, first_length, lines, IsLine, AreCut, AreLines}
 use Rattle.mbox_cutter.proofs.FirstLines.{line_end-within, line_end-whole, length_before_feed-le, length_before_feed-take, first_length-le, first_length-positive}
 use Rattle.mbox_cutter.proofs.LineLists.{by_lines, lines-cons, lines-nil}
@@ -11,7 +11,7 @@ length_before_feed-drop (suc k) (x ∷ xs) h = (elim (x == 10) as (λ v. suc k �
   | false ↦ λ (le : _). let rest : length_before_feed (drop k xs) ≡ length_before_feed xs - k = length_before_feed-drop k xs (omega arith) in omega arith
 ]) h
 
--- the first of all the bytes' lines is a line
+-- the first line of bytes is a line
 pub first_line-IsLine : (b : List ℕ) → 0 < length b → IsLine (take (first_length b) b)
 unfolding first_length
 first_line-IsLine b h =
@@ -25,7 +25,7 @@ open_line : (b : List ℕ) → first_length b ≤ length_before_feed b → first
 unfolding first_length
 open_line b h below = (grind (arith, nat_tests), grind (arith, nat_tests))
 
--- where the first line has no LF and others follow it, it is full and no LF follows
+-- if the first line has no LF and others follow it, it is full and no LF follows
 first_line-full : (b : List ℕ) → 0 < length (drop (first_length b) b) → length_before_feed (take (first_length b) b) ≡ length (take (first_length b) b) →
     (length (take (first_length b) b) ≡ 65536) × (0 < length_before_feed (take (first_length (drop (first_length b) b)) (drop (first_length b) b)))
 first_line-full b some no_feed =
@@ -52,7 +52,7 @@ lines-AreLines b = record {
       (joined_cut (take (first_length b) b) (drop (first_length b) b) (first_line-IsLine b some) (first_line-full b) rest)) (length b) b (omega arith);
 }
 
--- bytes whose first line's end is known begin with a line
+-- if the end of the first line is known, the bytes begin with a line
 pub line_end-IsLine : (b : List ℕ) (n : ℕ) → Some n ≡ line_end_of b → IsLine (take n b)
 unfolding line_end_of
 line_end-IsLine b n e =
@@ -62,7 +62,7 @@ line_end-IsLine b n e =
     let before : length_before_feed (take n b) ≡ min n (length_before_feed b) = length_before_feed-take n b in
     record { some = grind (arith, nat_tests); last = grind (arith, nat_tests); short = grind (arith, nat_tests) }
 
--- and if it isn't known, and no byte is to come, they are a line
+-- if it isn't known, and no byte is to come, the bytes are a line
 pub open_end-IsLine : (b : List ℕ) → None ≡ line_end_of b → 0 < length b → IsLine b
 open_end-IsLine b e h =
     subst IsLine (ap (λ (n : ℕ). take n b) (line_end-whole b e) ∙ take_all (length b) b (omega arith)) (first_line-IsLine b h)

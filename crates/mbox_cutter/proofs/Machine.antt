@@ -1,18 +1,18 @@
--- How what is told goes on from line to line.
+-- How the events go on from one line to the next.
 use Rattle.mbox_cutter.proofs.Words.{◌≡◌, ℕ, ◌+◌, ◌-◌, ◌≤◌, Bool, true, false, ◌||◌, ◌⊎◌, inl, inr, List, [], ◌∷◌, length, refl, ap, arith, add_assoc, add-zero, zero-add, is_empty, is_separator, marked, grouped, without_closing, Start, Line, End, told_between, told_inside}
 use Rattle.std.specs.Str.{bytes_eq}
 use Rattle.std.proofs.lemmas.Slice.Eq.{bytes_eq-Decides}
 use Rattle.mbox_cutter.proofs.FirstLines.{not_true}
 
--- a line that isn't empty is never the closing one
+-- a line that isn't empty is never the one that is left out at the end
 without_closing-full : (l : List ℕ) (ls : List (List ℕ)) → is_empty l ≡ false → without_closing (l ∷ ls) ≡ l ∷ without_closing ls
 without_closing-full l ls h = grind arith
 
--- what is taken since
+-- the length of what was taken since a place
 sub_front : (a b : ℕ) → (a + b) - a ≡ b
 sub_front a b = omega arith
 
--- a line of k bytes, and those behind it
+-- a line of k bytes, and the lines after it
 module _ (l : List ℕ) (ls : List (List ℕ)) (k : ℕ) (len : length l ≡ k) where
   -- an empty line between two messages
   pub between-empty : (all at : ℕ) → is_empty l ≡ true → is_separator l ≡ false → told_between all at (l ∷ ls) ≡ told_between all (at + k) ls

@@ -2,7 +2,7 @@
 use Rattle.mbox_cutter.proofs.Words.{ℕ, List, [], ◌∷◌, ◌++◌, Option, None, Some, refl, codes, CutFault, NotAnMbox, ArchiveTooLong, lines, first_length, is_empty, is_separator, without_break, has_form, messages, events, refusal_of, Start, Line, End, Done}
 use Rattle.mbox_cutter.proofs.RowTables.{Each}
 
--- the refusal of an archive of which so many bytes are taken at most
+-- the refusal of an archive, if this many bytes are allowed
 abbrev refusal : ℕ × List ℕ → Option CutFault
 refusal asked = refusal_of asked.0 asked.1
 

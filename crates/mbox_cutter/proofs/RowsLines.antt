@@ -1,4 +1,4 @@
--- Worked rows: lines, empty lines, and where a line's end is known.
+-- Worked rows: lines, empty lines, and when the end of a line is known.
 use Rattle.mbox_cutter.proofs.Words.{◌≡◌, [], ◌∷◌, None, Some, true, false, map, refl, codes, lines, first_length, is_empty, line_end_of}
 use Rattle.mbox_cutter.proofs.RowTables.{Each}
 

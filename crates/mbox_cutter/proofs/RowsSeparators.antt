@@ -1,4 +1,4 @@
--- Worked rows: lines at which a message may start, and others.
+-- Worked rows: lines that are separators, and lines that aren't.
 use Rattle.mbox_cutter.proofs.Words.{◌≡◌, true, false, [], ◌∷◌, ◌++◌, refl, codes, list_all, list_any, is_separator, without_break, has_form}
 
 rows : (list_all is_separator (codes "From a@x.org Thu Jan  2 10:00:00 2003\n"

@@ -1,4 +1,4 @@
--- What the calls of a step make of a scan, and each way that a step ends.
+-- How the calls in a step change a scan, and each way in which a step can end.
 use Rattle.mbox_cutter.proofs.Words.{◌≡◌, ℕ, ◌+◌, ◌-◌, ◌<◌, ◌≤◌, Bool, true, false, List, Option, Some, Result, Ok, Err, IfSome, IfOk, length, take, drop, ap, sym, ◌∙◌, subst, arith, IsAtEnd, length-take-le, Ghosts, CutFault, Device, NotAnMbox, ArchiveTooLong, Phase, Between, Inside, Ended, first_length, is_empty, IsLine, is_separator, Line, Refuses, Takes, is_device, CutterPlace, Moves, HasLine, known, ReadsOn, resume, closes_at, coming, place_of, told_at, IsPlace, IsWithin, IsScan, IsFresh, FindsLine, Passes, Steps}
 use Rattle.mbox_cutter.specs.declared.scan.Scan.{Scan}
 use Rattle.mbox_cutter.specs.declared.scan.Step.{Step}
@@ -9,13 +9,13 @@ use Rattle.mbox_cutter.proofs.Sources.{Serves, Serves-none, Serves-join, served}
 use Rattle.mbox_cutter.proofs.Steps.{step-done, step-start, step-empty, step-refused, step-long, step-end, step-line, step-open, step-closed, step-long_inside, ended-stays}
 use Rattle.mbox_cutter.proofs.Windows.{known_taken, line_taken, length-Extends, take-Extends, ReadsOn-join}
 
--- a place, n bytes further and in this phase
+-- the place n bytes further, in this phase
 abbrev further : Phase → ℕ → CutterPlace → CutterPlace
 further phase n p = record { phase = phase; offset = p.offset + n; most = p.most }
 
 -- ---- a first line
 
--- these n bytes are the first line; they were found and aren't taken yet
+-- these n bytes are the first line, found and not taken yet
 pub record Found {S : Type 0} (g : Ghosts S) (old now : Scan S) (n : ℕ) (line : List ℕ) : Type 0 where
   pub some : 0 < n
   pub place : place_of now ≡ place_of old
@@ -26,7 +26,7 @@ pub record Found {S : Type 0} (g : Ghosts S) (old now : Scan S) (n : ℕ) (line 
   pub is : take n now.window.unread ≡ line
   pub is_line : IsLine line
 
--- they were taken, and this phase has begun
+-- the bytes have been taken, and this phase has begun
 pub record Taken {S : Type 0} (g : Ghosts S) (old new : Scan S) (n : ℕ) (phase : Phase) (line : List ℕ) : Type 0 where
   pub some : 0 < n
   pub place : place_of new ≡ further phase n (place_of old)
@@ -55,7 +55,7 @@ module _ {S : Type 0} (g : Ghosts S) (old mid : Scan S) (n : ℕ) (line : List �
         is_line = subst IsLine (sym is) (f.first.line some);
       }
 
-  -- it still is where more was read behind it
+  -- a line that was found is still found after more has been read
   pub found-on : (far : Scan S) → Found g old mid n line → place_of far ≡ place_of mid → ReadsOn g false mid.window far.window → Found g old far n line
   found-on far h same r = record {
     some = h.some;
@@ -68,7 +68,7 @@ module _ {S : Type 0} (g : Ghosts S) (old mid : Scan S) (n : ℕ) (line : List �
     is_line = h.is_line;
   }
 
-  -- what closes says, of the bytes at the call
+  -- what `closes` returns, in terms of the bytes at the call
   pub closes-known : (is wanted : Bool) → IfSome (known g.rest old.window) (λ b. known g.rest mid.window ≡ Some b) → IfSome (known g.rest mid.window) (λ b. is ≡ closes_at n b) →
       is ≡ wanted → IfSome (known g.rest old.window) (λ b. wanted ≡ closes_at n b)
   closes-known is wanted same h e = grind (arith, at_same)
@@ -76,13 +76,13 @@ module _ {S : Type 0} (g : Ghosts S) (old mid : Scan S) (n : ℕ) (line : List �
   pub taken : (new : Scan S) (phase : Phase) → Found g old mid n line → Passes n phase mid new → Taken g old new n phase line
   taken new phase h p = grind (arith, served, at_same, known_taken, length-take-le)
 
--- less is left
+-- an option has its own value
 itself : {A : Type 0} (o : Option A) → IfSome o (λ x. o ≡ Some x)
 itself o = each_some o (λ x. o ≡ Some x) (λ x e. e)
 
--- ---- steps that tell something
+-- ---- steps that report an event
 
--- what is told, from a phase, leaves the scan at this place
+-- a step that reports an event in a phase leaves the scan at this place
 told-steps : {S : Type 0} (g : Ghosts S) (old new : Scan S) (was : Phase) (p : CutterPlace) (s : Step) (line : List ℕ) (P : List ℕ → Type 0) (left : List ℕ → List ℕ) →
     Serves g false old.window.source new.window.source → place_of new ≡ p → new.window.line ≡ line → old.phase ≡ was → p.most ≡ old.most → IsPlace p →
     (p.phase ≡ Ended → IsAtEnd (g.rest new.window.source.now)) →
@@ -115,11 +115,11 @@ module _ {S : Type 0} (g : Ghosts S) (old new : Scan S) (n : ℕ) (line : List �
     pub line-steps : is_empty line ≡ false → Taken g old new n (Inside start (size + n)) line → Steps g old (Ok step.Line) new
     line-steps full t = text-steps (IsFirst n line) t t.first (λ b f. rw f.1 (step-line old.offset old.most n b f.0 t.some start size (sym (ap is_empty f.1) ∙ full)))
 
-    -- an empty line that doesn't close it
+    -- an empty line that doesn't end the message
     pub open-steps : is_empty line ≡ true → IfSome (known g.rest old.window) (λ b. false ≡ closes_at n b) → Taken g old new n (Inside start (size + n)) line → Steps g old (Ok step.Line) new
     open-steps empty opens t = grind (arith, text-steps, both, step-open)
 
-    -- the one that closes it
+    -- the empty line that ends the message
     pub closed-steps : is_empty line ≡ true → IfSome (known g.rest old.window) (λ b. true ≡ closes_at n b) → Taken g old new n Between line → Steps g old (Ok (step.End (new.offset - start) size)) new
     closed-steps empty closes t = grind (arith, begun, taken-steps, both, step-closed)
 
@@ -140,14 +140,14 @@ module _ {S : Type 0} (g : Ghosts S) (old mid : Scan S) (n : ℕ) (found_none : 
   pub end-steps : (start size : ℕ) → old.phase ≡ Inside start size → Steps g old (Ok (step.End (mid.offset - start) size)) (record mid { phase = Between })
   end-steps start size inside = grind (arith, same_offset, none-steps, step-end)
 
--- the end is told again
+-- the end is reported again
 pub ended-steps : {S : Type 0} (g : Ghosts S) (old : Scan S) → old.phase ≡ Ended → IsScan g.rest old → Steps g old (Ok (step.Done old.offset)) old
 ended-steps g old ended was = grind (arith, told-steps, Serves-none, itself, ended-stays)
 
 -- ---- steps that fail
 
 module _ {S : Type 0} (g : Ghosts S) (old mid : Scan S) (fault : CutFault) (was : IsScan g.rest old) where
-  -- what fails leaves the scan where it was
+  -- a step that fails leaves the scan in its place
   fails-steps : (old.phase ≡ Ended → ⊥) → Serves g (is_device fault) old.window.source mid.window.source → place_of mid ≡ place_of old →
       IfSome (coming g.rest old) (Refuses fault) → IsFresh fault → Steps g old (Err fault) mid
   fails-steps not_ended reads same refuses fresh = grind arith
@@ -163,19 +163,19 @@ module _ {S : Type 0} (g : Ghosts S) (old mid : Scan S) (fault : CutFault) (was 
   pub fault_inside-steps : (start size : ℕ) → old.phase ≡ Inside start size → FindsLine g old (Err fault) mid → Steps g old (Err fault) mid
   fault_inside-steps start size inside f = unfound-steps (Inside start size) inside (λ e. cc) (λ b. step-long_inside old.offset old.most start size b) f
 
--- what closes a message can't be read
+-- the line after an empty one can't be read
 pub unread-steps : {S : Type 0} (g : Ghosts S) (old mid : Scan S) (fault : CutFault) → IsScan g.rest old → (n start size : ℕ) (line : List ℕ) (far : Scan S) →
     old.phase ≡ Inside start size → Found g old mid n line → place_of far ≡ place_of mid → ReadsOn g (is_device fault) mid.window far.window → fault ≡ Device → Steps g old (Err fault) far
 unread-steps g old mid fault was n start size line far inside h same r device = grind (arith, fails-steps, served, ReadsOn-join, each_some)
 
--- the first line that isn't empty starts no message
+-- the first line that isn't empty isn't a separator
 pub refused-steps : {S : Type 0} (g : Ghosts S) (old mid : Scan S) (n : ℕ) (line : List ℕ) → IsScan g.rest old → old.phase ≡ Between → Found g old mid n line →
     is_separator line ≡ false → is_empty line ≡ false → Steps g old (Err NotAnMbox) mid
 refused-steps g old mid n line was between h other full = grind (arith, fails-steps, served, step-refused)
 
 -- ---- empty lines before a step
 
--- empty lines between two messages were taken
+-- empty lines between two messages have been taken
 pub record Skipped {S : Type 0} (g : Ghosts S) (old now : Scan S) : Type 0 where
   pub reads : Serves g false old.window.source now.window.source
   pub was : old.phase ≡ Between
@@ -199,12 +199,12 @@ moves-skipped result line old now new h h2 h3 h4 = grind arith
 pub skipped-steps : {S : Type 0} (g : Ghosts S) (old now new : Scan S) (result : Result Step CutFault) → Skipped g old now → Steps g now result new → Steps g old result new
 skipped-steps g old now new result k s = grind (arith, Serves-join, moves-skipped)
 
--- ---- what follows of a step, for callers
+-- ---- a step, as callers see it
 
--- a cutter over this scan, as its callers see it
+-- the state of a cutter over this scan, as callers see it
 abbrev pub shown_as : {S : Type 0} → Ghosts S → Scan S → Progress S
 shown_as g s = record { coming = coming g.rest s; place = place_of s; line = s.window.line; source = s.window.source }
 
--- a step that tells something advances the cutter
+-- a step that reports an event advances the cutter
 pub steps-advance : {S : Type 0} (g : Ghosts S) (old new : Scan S) (s : Step) → Steps g old (Ok s) new → Advances g (shown_as g old) (Ok (told_at s new.window.line)) (shown_as g new)
 steps-advance g old new s h = grind arith

@@ -1,4 +1,4 @@
--- Reads of a source, one after another, leave what each leaves.
+-- What one read leaves as it is, several reads one after another leave too.
 use Rattle.mbox_cutter.proofs.Words.{◌≡◌, Bool, false, refl, ◌∙◌, arith, Counted, Ghosts, Ahead, ReadsOn}
 use Rattle.std.specs.Borrow.{MutBor}
 use Rattle.mbox_cutter.specs.Sources.{Stays}
@@ -9,7 +9,7 @@ Stays-self g s = record { whole = λ bytes h. h; through = refl }
 pub Stays-join : {S : Type 0} (g : Ghosts S) (a b c : S) → Stays g a b → Stays g b c → Stays g a c
 Stays-join g a b c h k = record { whole = λ bytes w. k.whole bytes (h.whole bytes w); through = k.through ∙ h.through }
 
--- reads leave the source the same, its count of failures risen by one where they failed, and what no read changes as it was
+-- reads of the same source: its count of failures rises by one if they failed, and what no read changes stays
 pub record Serves {S : Type 0} (g : Ghosts S) (failed : Bool) (old new : MutBor S) : Type 0 where
   pub source : new.ghost_name ≡ old.ghost_name
   pub count : Counted failed (g.failures old.now) (g.failures new.now)

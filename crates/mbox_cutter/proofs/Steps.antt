@@ -1,4 +1,4 @@
--- A step of a cutter is a step of what still comes.
+-- Each step of a cutter takes the first of what still comes, line by line.
 use Rattle.mbox_cutter.proofs.Words.{◌≡◌, ℕ, zero, suc, ◌+◌, ◌-◌, ◌<◌, ◌≤◌, Bool, true, false, cond, ◌&&◌, ◌||◌, nat_eq, nat_lt, nat_le, List, [], ◌∷◌, Option, Some, None, length, take, drop, refl, ap, sym, ◌∙◌, arith, add_assoc, add-zero, zero-add, nat_tests, length-drop, length-take-le, option_map_or, CutFault, NotAnMbox, ArchiveTooLong, Between, Inside, Ended, lines, first_length, is_empty, is_separator, Message, messages, marked, grouped, is_refused, total, messages_from, ArchiveEvent, Start, Line, End, Done, told, events, first_full_end, refusal_of, Coming, coming_of, Takes, Refuses, closes_at, told_between, told_inside, refusal_between, too_long, resume}
 use Rattle.mbox_cutter.proofs.FirstLines.{first_length-le, first_length-positive}
 use Rattle.mbox_cutter.proofs.LineLists.{lines-cons, lines-nil}
@@ -48,12 +48,12 @@ pub ended-stays : (at most : ℕ) (b : List ℕ) → Takes (Done at) (resume End
 unfolding resume
 ended-stays at most b = (refl, refl, refl)
 
--- ---- the first line is behind the limit
+-- ---- the first line goes over the limit
 
 first-some : (b : List ℕ) (n : ℕ) → n ≡ first_length b → 0 < n → 0 < length b
 first-some b n e h = let le : first_length b ≤ length b = first_length-le b in omega arith
 
--- the first line of n bytes, and what follows it
+-- the first line has n bytes, and the other lines are those of the bytes after it
 module _ (b : List ℕ) (n : ℕ) (e : n ≡ first_length b) where
   first-lines : 0 < n → lines b ≡ take n b ∷ lines (drop n b)
   first-lines h = rw e (lines-cons b (first-some b n e h))
@@ -84,7 +84,7 @@ module _ (at most n : ℕ) (b : List ℕ) (e : n ≡ first_length b) (h : 0 < n)
   len : length (take n b) ≡ n
   len = first-taken b n e
 
-  -- what comes of all the lines comes of the first one and of those behind it
+  -- what comes of all lines is what comes of the first one and of those after it
   front : (f : ℕ → List (List ℕ) → List ArchiveEvent) → f (at + length b) (lines b) ≡ f ((at + n) + length (drop n b)) (take n b ∷ lines (drop n b))
   front f = ap (f (at + length b)) (first-lines b n e h) ∙ ap (λ (all : ℕ). f all (take n b ∷ lines (drop n b))) (first-all b n e at)
 

@@ -1,4 +1,4 @@
--- The tokens of a text, one after another.
+-- Reading the pieces of a text one after another finds a time and a later year.
 use Rattle.mbox_cutter.proofs.Words.{◌≡◌, ℕ, ◌+◌, Bool, true, false, ◌&&◌, ◌||◌, ◌==◌, List, [], ◌∷◌, Some, None, take, drop, get_or, refl, ap, sym, ◌∙◌, subst, arith, list_any, get_or_default, drop-drop, IsFirstByte, is_byte, tokens, has_time_then_year, is_time, is_year}
 use Rattle.std.proofs.lemmas.List.Sums.{position_or_len_is}
 use Rattle.std.proofs.lemmas.List.Splits.{slice_split_first, slice_split_none}
@@ -30,7 +30,7 @@ pub tokens-split : (rest token more after : List ℕ) (k : ℕ) → IsFirstByte 
 tokens-split rest token more after k f t m a =
     tokens-at rest k f ∙ cc (ap tokens (sym (drop-drop 1 k rest)), ap (λ (x : List ℕ). tokens (drop 1 x)) m, ap tokens a)
 
--- a token that isn't the year, before a time and behind one
+-- a piece that isn't the year, before a time or after one
 pub turn_untimed : (ts : List (List ℕ)) (token : List ℕ) (rest : List (List ℕ)) (timed next : Bool) → ts ≡ token ∷ rest → timed ≡ false → next ≡ is_time token →
     ((timed && list_any is_year ts) || has_time_then_year ts) ≡ ((next && list_any is_year rest) || has_time_then_year rest)
 turn_untimed ts token rest timed next e t n = rw (e, t, n) refl

@@ -1,4 +1,4 @@
--- What a window's steps do to the bytes to come.
+-- How the calls of a window change the bytes to come.
 use Rattle.mbox_cutter.proofs.Words.{◌≡◌, ℕ, ◌+◌, ◌-◌, ◌<◌, ◌≤◌, Bool, true, false, Result, List, ◌++◌, Option, Some, None, IfSome, IfOk, length, take, drop, append-nil, ap, ◌∙◌, arith, append_assoc, subst, ReadConsumes, IsAtEnd, prepend_known, take-append-add, take-append-le, length-take-le, drop-append-le, Counted, Ghosts, line_end_of, first_length, Ahead, known, ReadsBehind, ReadsOn, Extends}
 use Rattle.std.specs.Result.{IsErr, is_err}
 use Rattle.std.proofs.lemmas.List.{length-append}
@@ -16,12 +16,12 @@ pub reads_behind : (held : ℕ) (old new : Option (List ℕ)) (result : Result �
     ReadsBehind held old new result before (put_mid held (length before - held) before into)
 reads_behind held old new result before into h h2 h3 h4 = grind (arith, length-take-le, take_behind, take_front)
 
--- the line's end is found in what was read
+-- the end of the line is in what was read
 pub at_some : (skip n : ℕ) (u : List ℕ) (old now : Option (List ℕ)) → skip ≤ length u → Some n ≡ line_end_of (drop skip u) →
     IfSome old (λ b. prepend_known u now ≡ Some b) → IfSome old (λ b. n ≡ first_length (drop skip b))
 at_some skip n u old now h h2 h3 = grind (arith, line_end-more, drop-append-le)
 
--- nothing is to come, so that what was read is the line
+-- no byte is to come, so what was read is the line
 pub at_end : (skip : ℕ) (u : List ℕ) (old now : Option (List ℕ)) → None ≡ line_end_of (drop skip u) → IsAtEnd now →
     IfSome old (λ b. prepend_known u now ≡ Some b) → IfSome old (λ b. length (drop skip u) ≡ first_length (drop skip b))
 at_end skip u old now h h2 h3 = grind (arith, append-nil, line_end-whole)

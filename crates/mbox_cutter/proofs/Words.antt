@@ -1,4 +1,4 @@
--- The words of std and of the definitions that proofs take, from one place.
+-- The names of std and of the definitions that proofs use, all from one place.
 pub use Rattle.contract_words.specs.Devices.{Counted}
 pub use Rattle.mbox_cutter.specs.Archives.{Message, cut, grouped, is_refused, marked, messages_from, size, span_length, total, without_closing}
 unfoldable pub use Rattle.mbox_cutter.specs.Archives.{messages}

@@ -1,4 +1,4 @@
--- A source that takes the digest of what it gives.
+-- The state of a source that computes the digest of what it gives.
 use Rattle.std.specs.Prelude.{◌≡◌, ℕ, List, ◌++◌, take, Option, Some, Result, MatchResult}
 use Rattle.std.specs.Borrow.{MutBor}
 use Rattle.sha2.specs.Hashers.{Holds256}
@@ -6,18 +6,18 @@ use Rattle.mbox_cutter.specs.declared.device.DeviceFault.{DeviceFault}
 use Rattle.mbox_cutter.specs.declared.digested.Digested.{Digested}
 
 module _ {S : Type 0} where
-  -- the source that it reads
+  -- the other source, which it reads
   abbrev pub inner : Digested S → MutBor S
   inner d = d.source
 
-  -- these bytes were given so far
+  -- it has given these bytes so far
   abbrev pub HasGiven : Digested S → List ℕ → Type 0
   HasGiven d given = Holds256 d.hasher given
 
-  -- these are all its bytes: those that were given, and then those that the source that it reads still gives
+  -- these are all its bytes: those given so far, and then those that the other source still gives
   abbrev pub AreWhole : (S → Option (List ℕ)) → Digested S → List ℕ → Type 0
   AreWhole rest d bytes = (given : List ℕ) × (left : List ℕ) × HasGiven d given × (rest (inner d).now ≡ Some left) × (bytes ≡ given ++ left)
 
-  -- a read gave the first n bytes of the slice more, and none where it failed
+  -- a read gave the first n bytes of the slice, and none if it failed
   abbrev pub Gives : Digested S → Result ℕ DeviceFault → List ℕ → Digested S → Type 0
   Gives old result into new = (given : List ℕ) → HasGiven old given → MatchResult result (λ n. HasGiven new (given ++ take n into)) (λ _. HasGiven new given)

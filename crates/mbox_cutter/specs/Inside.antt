@@ -1,4 +1,4 @@
--- What private functions say of one another, and views of fields: it serves proofs alone, and no public clause rests on it.
+-- Definitions for private functions and private fields only. No public clause depends on them.
 pub mod Ahead
 pub mod Cutter
 pub mod MemoryFields

@@ -1,3 +1,4 @@
+-- The definitions of mbox archives, of cutters and of devices.
 pub mod Archives
 pub mod Coming
 pub mod Digests

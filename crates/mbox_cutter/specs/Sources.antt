@@ -1,10 +1,10 @@
--- What the reads of a source leave as it is.
+-- What reads of a source don't change.
 use Rattle.std.specs.Prelude.{◌≡◌, ℕ, List}
 use Rattle.mbox_cutter.specs.declared.device.Source.{Ghosts}
 
--- after any reads, whether they failed or not
+-- after any number of reads, whether they failed or not
 pub record Stays {S : Type 0} (g : Ghosts S) (old new : S) : Type 0 where
-  -- what is said of all its bytes is said again
+  -- its bytes as a whole are still the same
   pub whole : (bytes : List ℕ) → g.whole old bytes → g.whole new bytes
-  -- it reads through the same reference
+  -- it still reads through the same reference
   pub through : g.through new ≡ g.through old

@@ -1,4 +1,4 @@
-//! The messages of an mbox archive, one event after another.
+//! Cuts an mbox archive into messages, and reports them as events.
 ghost use Rattle.std.specs.Prelude.{◌≡◌, [], IsSome, Ok, Err, false, ◌-◌, ◌^◌, ◌<◌, IfOk};
 ghost use Rattle.std.specs.Option.{option_map};
 ghost use Rattle.std.specs.Borrow.{sem};
@@ -11,10 +11,11 @@ use crate::window::Window;
 use std::alloc::{AllocError, Global};
 use std::marker::Model;
 
-/// Cuts an mbox archive (RFC 4155) into its messages while it reads it once, through a buffer of a fixed size.
+/// Cuts an mbox archive (RFC 4155) into its messages. It reads the archive once, through a buffer of a fixed size.
 ///
-/// A message starts at each separator that is the archive's first line or directly follows an empty line, and its span runs to
-/// the next start or the archive's end. Its text is the span without the separator and without an empty line at its end.
+/// A message starts at each separator that is the archive's first line or directly follows an empty line. Its span
+/// ends at the next start or at the archive's end. Its text is the span without the separator and without an empty
+/// line at its end.
 #[derive(Drop)]
 pub struct Cutter<'a, S: Source> {
     scan: Scan<'a, S>,
@@ -39,7 +40,8 @@ impl<'a, S: Source> Cutter<'a, S> {
     ghost use Rattle.mbox_cutter.specs.Progress.{Advances, LendsLine, shown, shown_result};
     ghost use Rattle.mbox_cutter.specs.Inside.Scan.{told_at, told_result};
 
-    /// A cutter of what the source still gives, of which at most `most` bytes are allowed. It takes all memory that it needs.
+    /// Makes a cutter of the bytes that the source still gives. At most `most` bytes are allowed. It takes all the
+    /// memory that the cutter needs, 128 KiB, and fails only if there isn't as much.
     pub fn new(alloc: Global, source: &'a mut S, most: u64) -> Result<Self, AllocError>
         ensures source { IfOk result (λ c. c.source.ghost_name ≡ source.entry.ghost_name) }
         ensures same { IfOk result (λ c. c.source.now ≡ source.old) }
@@ -52,7 +54,7 @@ impl<'a, S: Source> Cutter<'a, S> {
         Ok(Cutter::over(buffer, source, most))
     }
 
-    /// The same over a buffer. It takes no memory.
+    /// Makes a cutter that uses this buffer. It takes no memory.
     pub fn over(buffer: Buffer, source: &'a mut S, most: u64) -> Self
         ensures source { result.source.ghost_name ≡ source.entry.ghost_name }
         ensures same { result.source.now ≡ source.old }
@@ -69,7 +71,7 @@ impl<'a, S: Source> Cutter<'a, S> {
         }
     }
 
-    /// The source, after what was read.
+    /// Gives the source back. It has been read at least up to the last event, and perhaps further.
     pub fn into_source(self) -> &'a mut S
         ensures name { result.ghost_name ≡ self.entry.source.ghost_name }
         ensures same { result.now ≡ self.entry.source.now }
@@ -78,7 +80,7 @@ impl<'a, S: Source> Cutter<'a, S> {
         self.into_source_keeping(&mut kept)
     }
 
-    /// The same, and the buffer is kept for the next cutter.
+    /// Gives the source back, as `into_source` does, and puts the buffer into `kept`, for the next cutter.
     pub fn into_source_keeping(self, kept: &mut Option<Buffer>) -> &'a mut S
         ensures name { result.ghost_name ≡ self.entry.source.ghost_name }
         ensures same { result.now ≡ self.entry.source.now }
@@ -91,12 +93,16 @@ impl<'a, S: Source> Cutter<'a, S> {
         source
     }
 
-    /// The next event. It takes no memory.
+    /// Returns the next event. It takes no memory.
     ///
-    /// Events come as Start, the lines of the text, End, for each message, and then Done, which every later call answers again.
-    /// A fault ends them: Device, where the source failed in this call; NotAnMbox, where the first line that isn't empty starts no
-    /// message and ends within `most` bytes; else ArchiveTooLong, where the archive has more. Every later call answers Failed.
-    /// Once the event is let go, the cutter has told it and stands behind it, as `Advances` says.
+    /// For each message the events are `Start`, the lines of its text as `Line`, and `End`. After the last message each
+    /// call returns `Done`. When the caller has dropped the event, the cutter is after it, as `Advances` says.
+    ///
+    /// # Errors
+    ///
+    /// `Device` if the source failed in this call. `NotAnMbox` if the first line that isn't empty is no separator, and
+    /// it ends within `most` bytes. `ArchiveTooLong` if the archive has more than `most` bytes. After a fault each call
+    /// returns `Failed`.
     pub fn next_event(&mut self) -> Result<Event<'_>, CutFault>
         requires count { is_failed self.old.place.phase ≡ false →
             S.failures self.old.source.now < 2 ^ 64 - 1 }
@@ -112,7 +118,7 @@ impl<'a, S: Source> Cutter<'a, S> {
         Ok(self.event(step))
     }
 
-    /// The next step, or a fault, after which each call has failed.
+    /// Takes the next step. After a fault each call fails.
     fn step(&mut self) -> Result<Step, CutFault>
         requires count { is_failed self.old.place.phase ≡ false →
             S.failures self.old.source.now < 2 ^ 64 - 1 }
@@ -135,7 +141,7 @@ impl<'a, S: Source> Cutter<'a, S> {
         }
     }
 
-    /// A step with the line that was taken last.
+    /// Makes the event of a step, with the line that was taken last.
     fn event(&self, step: Step) -> Event<'_>
         ensures { shown result ≡ told_at step self.now.line }
     {

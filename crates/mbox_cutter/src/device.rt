@@ -1,30 +1,31 @@
-//! What bytes come from and go to, and how often that has failed.
+//! Devices: sources, from which bytes are read, and outputs, to which bytes are written. Each counts its failures.
 ghost use Rattle.std.specs.Prelude.{◌≡◌, ◌<◌, ◌≤◌, ◌-◌, ◌^◌, ⊤, ℕ, List, Option, length, IfOk, OnOk, OnErr};
 ghost use Rattle.std.specs.Io.KnownBytes.{ReadConsumes, WriteAppends, Appends};
 ghost use Rattle.contract_words.specs.Devices.{Counts, Sends};
 
 use thiserror::Error;
 
-/// The device could not do what it was asked.
+/// A call to a device failed.
 #[derive(Clone, Copy, Debug, Error)]
 #[error("the device failed")]
 pub struct DeviceFault;
 
-/// What an archive's bytes are read from, from the front on.
+/// A source of bytes, which is read from its front to its end.
 pub trait Source {
-    /// The bytes that it will still give, where they are known.
+    /// The bytes that it will still give, if they are known.
     ghost rest: { Self → Option (List ℕ) };
 
-    /// How many of its calls have failed.
+    /// The number of its calls that have failed.
     ghost failures: { Self → ℕ };
 
-    /// Whether these are all its bytes, with those that it has given, as far as it keeps account of them. No read changes it.
+    /// Whether these are all its bytes, those that it has given and those that it will give, if it keeps account of
+    /// them. No read changes it.
     ghost whole: { Self → List ℕ → Type 0 } = { λ _ _. ⊤ };
 
-    /// The name of the reference that it reads through, where there is one. No read changes it.
+    /// The name of the reference that it reads through, if there is one. No read changes it.
     ghost through: { Self → ℕ } = { λ _. 0 };
 
-    /// Reads at least one byte into a slice that isn't empty, and none only at the end.
+    /// Reads bytes to the front of a slice that isn't empty, and returns how many. It returns 0 only at the end.
     fn read_next(&mut self, into: &mut [u8]) -> Result<usize, DeviceFault>
         requires room { 0 < length into.old }
         requires count { failures self.old < 2 ^ 64 - 1 }
@@ -35,15 +36,15 @@ pub trait Source {
         ensures through { through self.new ≡ through self.old };
 }
 
-/// What an answer's bytes are written to.
+/// An output of bytes.
 pub trait Out {
-    /// The bytes that it has taken, where they are known.
+    /// The bytes that it has taken, if they are known.
     ghost taken: { Self → Option (List ℕ) };
 
-    /// How many of its calls have failed.
+    /// The number of its calls that have failed.
     ghost failures: { Self → ℕ };
 
-    /// Takes at least one byte from the front of a slice that isn't empty.
+    /// Takes bytes from the front of a slice that isn't empty, at least one, and returns how many.
     fn put(&mut self, bytes: &[u8]) -> Result<usize, DeviceFault>
         requires some { 0 < length bytes.now }
         requires count { failures self.old < 2 ^ 64 - 1 }
@@ -52,7 +53,8 @@ pub trait Out {
         ensures count { Counts result (failures self.old) (failures self.new) };
 }
 
-/// Writes all the bytes, in as many calls as it takes. Of a failure some front of them went out.
+/// Writes all of the bytes, in as many calls as are needed. If a call fails, only a front of the bytes has been
+/// written.
 pub fn send<O: Out>(out: &mut O, bytes: &[u8]) -> Result<(), DeviceFault>
     requires { O.failures out.old < 2 ^ 64 - 1 }
     ensures ok { OnOk result (Appends (O.taken out.old) (O.taken out.new) bytes.now) }

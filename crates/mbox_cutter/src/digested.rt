@@ -1,6 +1,5 @@
-//! A source that takes the digest of what it gives.
-//!
-//! One read of an archive both cuts it and takes its digest (decision 18 in docs/DECISIONS.md).
+//! A source that computes the digest of what it gives. So an archive is cut and digested in one read (decision 18 in
+//! docs/DECISIONS.md).
 ghost use Rattle.std.specs.Prelude.{◌≡◌, ◌<◌, ◌≤◌, ◌-◌, ◌^◌, ℕ, List, [], length, IfOk, IfSome};
 ghost use Rattle.std.specs.Io.KnownBytes.{IsAtEnd, ReadConsumes};
 ghost use Rattle.sha2.specs.Sha256.{sha256};
@@ -9,20 +8,22 @@ ghost use Rattle.contract_words.specs.Devices.{Counts};
 use crate::device::{DeviceFault, Source};
 use sha2::{Digest, Sha256};
 
-/// A source that reads another, passes its failures on, and takes the SHA-256 of the bytes that it gives. It takes no memory.
+/// A source that reads another source and computes the SHA-256 of the bytes that it gives. It passes failures on, and
+/// takes no memory.
 ///
-/// Once it was read to its end, that is the digest of all the bytes, from the one read that they were used in.
+/// If it is read to its end, the digest is that of all the bytes. It is of the same bytes that the reader got, because
+/// nothing is read twice.
 #[derive(Drop)]
 pub struct Digested<'a, S: Source> {
     source: &'a mut S,
-    // It holds what was given.
+    // Has the state of the digest after the bytes given so far.
     hasher: Sha256,
 }
 
 impl<'a, S: Source> Digested<'a, S> {
     ghost use Rattle.mbox_cutter.specs.Digests.{inner, AreWhole, HasGiven};
 
-    /// It has given nothing yet.
+    /// Makes a source over another one. It has given nothing yet.
     pub fn new(source: &'a mut S) -> Self
         ensures source { (inner result).ghost_name ≡ source.entry.ghost_name }
         ensures same { (inner result).now ≡ source.old }
@@ -35,8 +36,8 @@ impl<'a, S: Source> Digested<'a, S> {
         }
     }
 
-    /// The digest of what was given: of all the bytes, where they were read to their end. The source is the caller's again, after
-    /// what was read.
+    /// Returns the digest of what was given. If it was read to the end, that is all the bytes. The caller has the other
+    /// source again, after what was read.
     pub fn finish(self) -> [u8; 32]
         ensures given { (given : List ℕ) → HasGiven self.entry given → result ≡ sha256 given }
         ensures whole { (bytes : List ℕ) → AreWhole S.rest self.entry bytes →

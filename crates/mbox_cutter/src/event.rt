@@ -1,13 +1,13 @@
-//! What a cutter answers.
+//! The events and the faults of a cutter.
 use std::error::Error;
 use std::fmt;
 
-/// Why a cutter gave up.
+/// Why a cutter can't go on.
 #[derive(Clone, Copy, Debug)]
 pub enum CutFault {
     /// The source failed.
     Device,
-    /// The first line that isn't empty starts no message.
+    /// The first line that isn't empty isn't a separator.
     NotAnMbox,
     /// The archive has more bytes than are allowed.
     ArchiveTooLong,
@@ -33,15 +33,16 @@ impl fmt::Display for CutFault {
 
 impl Error for CutFault {}
 
-/// A step through an archive. Lines are lent, each with its LF where it has one; all numbers are of bytes.
+/// A step through an archive. Lines are borrowed from the cutter, and each has its LF, if there is one. Offsets,
+/// lengths and sizes are in bytes.
 #[derive(Clone, Copy)]
 pub enum Event<'e> {
-    /// A message starts at this offset of the archive, with this separator.
+    /// A message starts at this offset in the archive, with this line as its separator.
     Start { offset: u64, line: &'e [u8] },
     /// The next line of the message's text.
     Line(&'e [u8]),
-    /// The message ends: the length of its span, and the size of its text.
+    /// The message ends; its span has this length, and its text this size.
     End { length: u64, size: u64 },
-    /// The archive ends: its length.
+    /// The archive ends; it has this length.
     Done { length: u64 },
 }

@@ -1,13 +1,13 @@
-//! The lines of an archive.
+//! Where lines end in an archive.
 ghost use Rattle.std.specs.Prelude.{◌≡◌, ℕ, List};
 ghost use Rattle.mbox_cutter.specs.Lines.{AreLines, is_empty, line_end_of, lines};
 
 use memchr::memchr;
 
-/// The most bytes other than LF that a line has.
+/// The most bytes that a line has, without its LF.
 pub const MOST_IN_LINE: usize = 65_536;
 
-/// LF, or CR LF.
+/// Returns whether the line is LF or CR LF alone.
 #[tactic(auto, unfolding(crate::specs::Lines::is_empty))]
 pub fn is_empty_line(line: &[u8]) -> bool
     ensures { result ≡ is_empty line.now }
@@ -15,8 +15,8 @@ pub fn is_empty_line(line: &[u8]) -> bool
     matches!(line, b"\n" | b"\r\n")
 }
 
-/// The first line's length, where no byte to come can change it: up to its LF, or 65,536 bytes where a further one is there
-/// and none of these is LF.
+/// Returns the length of the first line, if bytes that follow can't change it. The line ends after its LF. If there are
+/// 65,537 bytes without LF, it ends after 65,536. For fewer bytes without LF the result is None.
 pub fn line_end(bytes: &[u8]) -> Option<usize>
     ensures { result ≡ line_end_of bytes.now }
 {
@@ -28,9 +28,11 @@ pub fn line_end(bytes: &[u8]) -> Option<usize>
     }
 }
 
-/// The law of lines: all bytes have a list of lines that joins to them, in which LF stands at most as a line's last byte, no line
-/// has more than 65,536 bytes other than LF, and one without LF that isn't the last has as many and isn't followed by LF; and it
-/// is the only one. The function has no code: its contract is the law.
+/// The law of lines: any bytes have exactly one list of lines that joins to them.
+///
+/// In such a list LF is only ever the last byte of a line, and no line has more than 65,536 bytes before its LF. A line
+/// without LF that isn't the last has exactly 65,536 bytes, and isn't followed by LF. The function has no code, because
+/// its contract is the law.
 pub fn lines_law()
     ensures some { (bytes : List ℕ) → AreLines bytes (lines bytes) }
     ensures only { (bytes : List ℕ) (ls : List (List ℕ)) → AreLines bytes ls → ls ≡ lines bytes }

@@ -1,4 +1,4 @@
-//! Devices in memory, which tell their bytes and fail where they are told to.
+//! Devices in memory. Their bytes are known, and they fail where their maker wants them to.
 ghost use Rattle.std.specs.Prelude.{◌≡◌, ◌<◌, ◌≤◌, ◌-◌, ◌^◌, ◌↔◌, [], Some, length, IfOk, IfSome, OnErr, IsErr};
 ghost use Rattle.std.specs.Io.KnownBytes.{ReadConsumes, WriteAppends};
 ghost use Rattle.contract_words.specs.Devices.{Counts};
@@ -7,13 +7,13 @@ use crate::device::{DeviceFault, Out, Source};
 use std::alloc::{AllocError, Global};
 use std::marker::Model;
 
-/// Bytes that come in pieces, up to a read that fails.
+/// A source in memory, which gives its bytes in pieces, and one of whose reads may fail.
 #[derive(Drop)]
 pub struct MemorySource {
     bytes: Vec<u8>,
     at: usize,
     piece: usize,
-    // The number of the read that fails, counted from the next one as 1.
+    // The number of the read that fails. The next read has the number 1.
     fail_at: Option<u64>,
     failures: u64,
 }
@@ -31,7 +31,8 @@ impl Model for MemorySource {
 }
 
 impl MemorySource {
-    /// At most `piece` bytes come at a read. The read with the number `fail_at`, counted from 1, fails, and later ones go on.
+    /// Makes a source of these bytes, and fails only for lack of memory. A read gives at most `piece` bytes. Read
+    /// number `fail_at`, counted from 1, fails, and later reads go on after it.
     pub fn new(
         alloc: Global,
         bytes: &[u8],
@@ -86,7 +87,7 @@ impl Source for MemorySource {
     }
 }
 
-/// Keeps all that it takes, up to a number of bytes.
+/// An output in memory, which keeps the bytes that it takes.
 #[derive(Drop)]
 pub struct MemoryOut {
     bytes: Vec<u8>,
@@ -105,7 +106,8 @@ impl Model for MemoryOut {
 }
 
 impl MemoryOut {
-    /// It takes `room` bytes in all, or any number of them, and then fails. A refused growth is its failure too.
+    /// Makes an output that takes at most `room` bytes in all; None is no limit. After these each call fails. A call
+    /// also fails if there is no memory for its bytes.
     pub fn new(alloc: Global, room: Option<u64>) -> Self
         ensures { result ≡ record { taken = []; room = room; failures = 0 } }
     {
@@ -116,7 +118,7 @@ impl MemoryOut {
         }
     }
 
-    /// All that it took.
+    /// Returns all bytes that it has taken.
     pub fn bytes(&self) -> &[u8]
         ensures { result.now ≡ self.now.taken }
     {

@@ -1,4 +1,4 @@
-//! The place in an archive, and the steps from it.
+//! The place in an archive while it is cut, and the steps from each place to the next.
 ghost use Rattle.std.specs.Prelude.{◌≡◌, Ok, false, ◌+◌, ◌-◌, ◌^◌, ◌<◌, ◌≤◌, length, IfOk, IfErr, IfSome};
 
 use crate::device::{DeviceFault, Source};
@@ -9,15 +9,15 @@ use crate::window::Window;
 
 #[derive(Clone, Copy)]
 pub(crate) enum Phase {
-    // Before the first message, or behind one: a separator, an empty line or the end comes.
+    // Before the first message, or after one: a separator, an empty line or the end comes.
     Between,
-    // Inside the message that started at this offset, with so many bytes of its text told: no start comes.
+    // Inside the message that started at this offset, `size` bytes of whose text were reported: no start comes.
     Inside { start: u64, size: u64 },
     Ended,
     Failed,
 }
 
-/// What comes next. A start and a line are the line that the window took last.
+/// What comes next. For a start and a line, the line itself is the one that the window took last.
 #[derive(Clone, Copy)]
 pub(crate) enum Step {
     Start { offset: u64 },
@@ -39,7 +39,7 @@ impl From<DeviceFault> for CutFault {
 #[derive(Drop)]
 pub(crate) struct Scan<'a, S: Source> {
     pub(crate) window: Window<'a, S>,
-    // How many bytes were taken.
+    // The number of bytes taken so far.
     pub(crate) offset: u64,
     pub(crate) most: u64,
     pub(crate) phase: Phase,
@@ -51,7 +51,8 @@ impl<'a, S: Source> Scan<'a, S> {
     ghost use Rattle.mbox_cutter.specs.Inside.Ahead.{known, ReadsOn};
     ghost use Rattle.mbox_cutter.specs.Inside.Scan.{closes_at, place_of, FindsLine, IsScan, Passes, Steps};
 
-    /// The length of the first line, 0 at the end; or that the source failed, or that the line ends behind the limit.
+    /// Returns the length of the next line, or 0 at the end. Fails if the source does, or if the line goes over the
+    /// limit.
     fn line_length(&mut self) -> Result<usize, CutFault>
         requires place { self.old.offset ≤ self.old.most }
         requires count { S.failures self.old.window.source.now < 2 ^ 64 - 1 }
@@ -64,7 +65,7 @@ impl<'a, S: Source> Scan<'a, S> {
         Ok(n)
     }
 
-    /// A step from between two messages, or before the first.
+    /// Takes a step from between two messages, or from before the first.
     fn start(&mut self) -> Result<Step, CutFault>
         requires phase { self.old.phase ≡ Phase.Between }
         requires scan { IsScan S.rest self.old }
@@ -96,7 +97,7 @@ impl<'a, S: Source> Scan<'a, S> {
         }
     }
 
-    /// A step from inside the message that started at `start`, with `size` bytes of its text told.
+    /// Takes a step from inside the message that started at `start`, after `size` bytes of its text.
     fn go_on(&mut self, start: u64, size: u64) -> Result<Step, CutFault>
         requires phase { self.old.phase ≡ Phase.Inside start size }
         requires scan { IsScan S.rest self.old }
@@ -128,7 +129,7 @@ impl<'a, S: Source> Scan<'a, S> {
         }
     }
 
-    /// Whether after an empty line of `n` bytes a separator or the end comes.
+    /// Returns whether a separator or the end comes after an empty line of `n` bytes.
     fn closes(&mut self, n: usize) -> Result<bool, CutFault>
         requires near { n ≤ 2 }
         requires within { n ≤ length self.old.window.unread }
@@ -146,7 +147,7 @@ impl<'a, S: Source> Scan<'a, S> {
         Ok(is_separator(self.window.part(n, m)))
     }
 
-    /// Takes the next `n` bytes.
+    /// Takes the next `n` bytes, and begins this phase.
     fn pass(&mut self, n: usize, phase: Phase)
         requires within { n ≤ length self.old.window.unread }
         requires fits { self.old.offset + n ≤ self.old.most }
@@ -157,7 +158,7 @@ impl<'a, S: Source> Scan<'a, S> {
         self.phase = phase;
     }
 
-    /// The next step, from any place.
+    /// Takes the next step, from any place.
     pub(crate) fn advance(&mut self) -> Result<Step, CutFault>
         requires live { is_failed self.old.phase ≡ false }
         requires scan { IsScan S.rest self.old }

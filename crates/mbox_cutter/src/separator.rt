@@ -1,13 +1,14 @@
-//! The lines at which a message may start.
-//!
-//! `From ` alone isn't enough: a time and then a year must follow (decision 23 in docs/DECISIONS.md).
+//! Which lines are separators. `From ` alone isn't enough: a time and then a year must follow (decision 23 in
+//! docs/DECISIONS.md).
 ghost use Rattle.std.specs.Prelude.{◌≡◌};
 ghost use Rattle.mbox_cutter.specs.Separators.{has_form, has_time_then_year, is_separator, is_time, is_year, stands_for, tokens, without_break};
 
 use memchr::memchr;
 
-/// Whether a message may start with this line (RFC 4155, Appendix A, more lenient): it begins with `From `, and of the texts
-/// between the spaces of what follows, without its line break, some is `dd:dd` or `dd:dd:dd` and some later one is four digits.
+/// Returns whether a message may start with this line. The rule is that of RFC 4155, Appendix A, but more lenient.
+///
+/// The line begins with `From `. Its rest, without the line break, is split at spaces. One piece is a time, `dd:dd` or
+/// `dd:dd:dd` with digits for `d`, and a later piece is a year, four digits.
 #[tactic(auto, unfolding(crate::specs::Separators::is_separator))]
 pub fn is_separator(line: &[u8]) -> bool
     ensures { result ≡ is_separator line.now }
@@ -18,7 +19,7 @@ pub fn is_separator(line: &[u8]) -> bool
     }
 }
 
-/// The line without its final LF and a CR directly before it.
+/// Returns the line without its final LF, and without a CR directly before that.
 #[tactic(auto, unfolding(crate::specs::Separators::without_break))]
 pub fn without_break(line: &[u8]) -> &[u8]
     ensures { result.now ≡ without_break line.now }
@@ -29,7 +30,7 @@ pub fn without_break(line: &[u8]) -> &[u8]
     line.strip_suffix(b"\n").unwrap_or(line)
 }
 
-/// Whether some token is a time, and some later one a year.
+/// Returns whether a piece between spaces is a time, and a later one is a year.
 fn has_time_then_year(text: &[u8]) -> bool
     ensures { result ≡ has_time_then_year (tokens text.now) }
 {
@@ -64,7 +65,7 @@ fn is_year(token: &[u8]) -> bool
     has_form(b"dddd", token)
 }
 
-/// Whether a sign of a form stands for the byte: `d` for any digit, another sign for itself.
+/// Returns whether a sign of a form fits the byte: `d` fits any digit, and any other sign fits itself.
 fn stands_for(sign: u8, byte: u8) -> bool
     ensures { result ≡ stands_for sign byte }
 {
@@ -75,7 +76,7 @@ fn stands_for(sign: u8, byte: u8) -> bool
     }
 }
 
-/// Whether the text is of the form: it has as many bytes as that has signs, and each sign stands for its byte.
+/// Returns whether the text has the form: it has as many bytes as the form has signs, and each sign fits its byte.
 fn has_form(form: &[u8], text: &[u8]) -> bool
     ensures { result ≡ has_form form.now text.now }
 {

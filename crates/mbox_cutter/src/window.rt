@@ -1,4 +1,4 @@
-//! The part of a source that is held in a buffer.
+//! The part of a source that is in the buffer.
 ghost use Rattle.std.specs.Prelude.{◌≡◌, ◌⊎◌, ℕ, List, true, false, ◌+◌, ◌-◌, ◌^◌, ◌<◌, ◌≤◌, is_err, length, take, drop, slice_range, IfOk, OnOk, IfSome};
 ghost use Rattle.contract_words.specs.Devices.{Counts};
 ghost use Rattle.mbox_cutter.specs.Inside.Ahead.{known, IsLineLength, ReadsBehind, ReadsOn, TakesLine};
@@ -9,16 +9,16 @@ use crate::device::{DeviceFault, Source};
 use crate::line::line_end;
 use std::marker::Model;
 
-/// The bytes `from..to` of the buffer were read and not taken.
+/// A source with a buffer. The bytes `from..to` of the buffer have been read and not taken yet.
 #[derive(Drop)]
 pub(crate) struct Window<'a, S: Source> {
     source: &'a mut S,
     buffer: Vec<u8>,
-    // How many bytes the line has that was taken last. It ends at `from`.
+    // The length of the line that was taken last. It ends at `from`.
     taken: usize,
     from: usize,
     to: usize,
-    // Whether the source's end was seen.
+    // Whether the source has reported its end.
     ended: bool,
 }
 
@@ -50,7 +50,7 @@ impl<'a, S: Source> Window<'a, S> {
         }
     }
 
-    /// The source, after what was read, and the buffer.
+    /// Gives back the source, after what was read, and the buffer.
     pub(crate) fn into_parts(self) -> (&'a mut S, Buffer)
         ensures name { result.0.ghost_name ≡ self.entry.source.ghost_name }
         ensures same { result.0.now ≡ self.entry.source.now }
@@ -59,7 +59,7 @@ impl<'a, S: Source> Window<'a, S> {
         (source, Buffer { bytes: buffer })
     }
 
-    /// The bytes that were read and not taken, behind the first `skip` of them.
+    /// Returns the bytes that have been read and not taken yet, without the first `skip` of them.
     fn unread_after(&self, skip: usize) -> &[u8]
         requires { skip ≤ length self.now.unread }
         ensures rest { result.now ≡ drop skip self.now.unread }
@@ -69,7 +69,7 @@ impl<'a, S: Source> Window<'a, S> {
         &self.buffer[self.from + skip..self.to]
     }
 
-    /// The line that was taken last.
+    /// Returns the line that was taken last.
     pub(crate) fn taken_line(&self) -> &[u8]
         ensures { result.now ≡ self.now.line }
     {
@@ -85,7 +85,7 @@ impl<'a, S: Source> Window<'a, S> {
         self.from += n;
     }
 
-    /// The `n` bytes after the next `skip` ones.
+    /// Returns the `n` bytes after the next `skip` bytes.
     pub(crate) fn part(&self, skip: usize, n: usize) -> &[u8]
         requires { skip + n ≤ length self.now.unread }
         ensures unread { result.now ≡ take n (drop skip self.now.unread) }
@@ -96,7 +96,7 @@ impl<'a, S: Source> Window<'a, S> {
         self.unread_after(skip).split_at(n).0
     }
 
-    /// The length of the line after the next `skip` bytes, 0 at the end.
+    /// Returns the length of the line after the next `skip` bytes, or 0 at the end. It reads as much as it needs.
     pub(crate) fn line_length_after(&mut self, skip: usize) -> Result<usize, DeviceFault>
         requires near { skip ≤ 2 }
         requires within { skip ≤ length self.old.unread }
@@ -115,7 +115,7 @@ impl<'a, S: Source> Window<'a, S> {
         }
     }
 
-    /// Reads more. It has seen the end or has more bytes then.
+    /// Reads more bytes. After it there are more than before, or the source has reported its end.
     fn fill(&mut self) -> Result<(), DeviceFault>
         requires room { length self.old.unread < ROOM }
         requires open { self.old.ended ≡ false }
@@ -146,7 +146,7 @@ fn move_to_front(buffer: &mut [u8], from: usize, to: usize)
     buffer.copy_within(from..to, 0);
 }
 
-/// Reads into the buffer behind the first `held` bytes.
+/// Reads into the buffer, after its first `held` bytes.
 fn read_behind<S: Source>(
     source: &mut S,
     buffer: &mut [u8],

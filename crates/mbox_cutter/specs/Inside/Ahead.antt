@@ -1,4 +1,4 @@
--- What a window on a source shows, and how calls of it change that.
+-- The state of a window on a source, and how its calls change it.
 use Rattle.std.specs.Prelude.{◌≡◌, ℕ, ◌++◌, ◌+◌, ◌<◌, ◌≤◌, Bool, List, Option, Some, IfSome, Result, MatchResult, length, take, drop}
 use Rattle.std.specs.Io.KnownBytes.{Consumes, Keeps, IsAtEnd, prepend_known}
 use Rattle.std.specs.Borrow.{MutBor}
@@ -8,50 +8,51 @@ use Rattle.mbox_cutter.specs.declared.device.Source.{Ghosts}
 use Rattle.mbox_cutter.specs.Lines.{first_length, IsLine}
 use Rattle.mbox_cutter.specs.Sources.{Stays}
 
--- the line that was taken last, the bytes that were read and not taken, whether the source's end was seen, and the source
+-- the state: the line that was taken last; the bytes that were read and not taken; whether the source has reported its
+-- end; and the source
 pub record Ahead (S : Type 0) : Type 0 where
   pub line : List ℕ
   pub unread : List ℕ
   pub ended : Bool
   pub source : MutBor S
 
--- all the bytes to come, where they are known
+-- all bytes to come, if they are known
 abbrev pub known : {S : Type 0} → (S → Option (List ℕ)) → Ahead S → Option (List ℕ)
 known rest w = prepend_known w.unread (rest w.source.now)
 
--- more bytes stand behind the old ones
+-- the new bytes are the old ones, with perhaps more after them
 abbrev pub Extends : List ℕ → List ℕ → Type 0
 Extends old new = (more : List ℕ) × (new ≡ old ++ more)
 
--- a read puts its bytes behind the first held ones of a buffer
+-- a read puts its bytes after the first `held` bytes of a buffer, and keeps these
 abbrev pub ReadsBehind : ℕ → Option (List ℕ) → Option (List ℕ) → Result ℕ DeviceFault → List ℕ → List ℕ → Type 0
 ReadsBehind held old new result before after =
     MatchResult result
     (λ n. (got : List ℕ) × (held + n ≤ length before) × (length got ≡ n) × (take (held + n) after ≡ take held before ++ got) × Consumes old new got × (n ≡ 0 → IsAtEnd new))
     (λ _. Keeps old new × (take held after ≡ take held before))
 
--- how a call that takes no byte changes a window: it may read on
+-- how a call that takes no byte changes a window: it may read more
 pub record ReadsOn {S : Type 0} (g : Ghosts S) (failed : Bool) (old new : Ahead S) : Type 0 where
   -- the source is the same
   pub source : new.source.ghost_name ≡ old.source.ghost_name
-  -- its count of failures rises by one where it failed, and else stays
+  -- its count of failures rises by one if it failed, and stays if it didn't
   pub count : Counted failed (g.failures old.source.now) (g.failures new.source.now)
-  -- what no read changes is as it was
+  -- what no read changes stays as it was
   pub stays : Stays g old.source.now new.source.now
-  -- the bytes to come are the same, where they are known
+  -- the bytes to come are the same, if they are known
   pub bytes : IfSome (known g.rest old) (λ bytes. known g.rest new ≡ Some bytes)
   -- what was read before still comes first
   pub keeps : Extends old.unread new.unread
 
--- the line after the next `skip` bytes has n bytes, and none at the end; the window was old before more was read
+-- the line after the next `skip` bytes has n bytes, and 0 at the end; `old` is the window before more was read
 pub record IsLineLength {S : Type 0} (g : Ghosts S) (skip : ℕ) (old new : Ahead S) (n : ℕ) : Type 0 where
-  -- its bytes were read
+  -- its bytes have been read
   pub within : skip + n ≤ length new.unread
   -- they are a line
   pub line : 0 < n → IsLine (take n (drop skip new.unread))
-  -- it is the first one of the bytes to come, where they are known
+  -- it is the first line of the bytes to come, if they are known
   pub first : IfSome (known g.rest old) (λ bytes. n ≡ first_length (drop skip bytes))
-  -- it has no bytes only where the source is at its end
+  -- it has no bytes only if the source is at its end
   pub end : n ≡ 0 → IsAtEnd (g.rest new.source.now)
 
 -- the next n bytes were taken
@@ -60,5 +61,5 @@ pub record TakesLine {S : Type 0} (n : ℕ) (old new : Ahead S) : Type 0 where
   pub source : new.source ≡ old.source
   -- they are the line that was taken last
   pub line : new.line ≡ take n old.unread
-  -- and no longer to come
+  -- they don't come any more
   pub unread : new.unread ≡ drop n old.unread

@@ -1,5 +1,5 @@
--- What still comes from any place of an archive on: what the steps of a cutter keep. At its beginning it is what comes of the
--- whole archive.
+-- What still comes from any place in an archive on, which the steps of a cutter follow. At the beginning it is all that
+-- comes of the archive.
 use Rattle.std.specs.Prelude.{ℕ, ◌+◌, ◌-◌, true, false, ◌&&◌, nat_lt, nat_le, if◌then◌else◌, List, [], ◌∷◌, ◌++◌, Option, None, Some, length, map}
 use Rattle.std.specs.Option.{option_map}
 use Rattle.mbox_cutter.specs.declared.event.CutFault.{CutFault}
@@ -11,32 +11,34 @@ use Rattle.mbox_cutter.specs.Archives.{marked, grouped, is_refused, total, messa
 use Rattle.mbox_cutter.specs.Events.{ArchiveEvent, Line, End, Done, told, first_full_end, Coming}
 use Rattle.mbox_cutter.specs.Places.{CutterPlace}
 
--- between two messages, or before the first, with these lines left of an archive of `all` bytes
+-- the events from between two messages, or from before the first, with these lines left of an archive of `all` bytes
 abbrev pub told_between : ℕ → ℕ → List (List ℕ) → List ArchiveEvent
 told_between all at ls =
     let marks = marked true ls in let groups = grouped marks in
     if is_refused marks then [] else told all (messages_from (at + total groups.0) groups.1)
 
--- inside a message, with so many bytes of its text told
+-- the events from inside a message, after `size` bytes of its text
 abbrev pub told_inside : ℕ → ℕ → ℕ → ℕ → List (List ℕ) → List ArchiveEvent
 told_inside all at start size ls =
     let groups = grouped (marked false ls) in let text = without_closing groups.0 in
     map Line text ++ End ((at + total groups.0) - start) (size + total text) ∷ told all (messages_from (at + total groups.0) groups.1)
 
+-- the refusal of an archive of `all` bytes, if that is more than the limit
 abbrev pub too_long : ℕ → ℕ → Option CutFault
 too_long most all = if nat_lt most all then Some ArchiveTooLong else None
 
+-- the refusal from between two messages, or from before the first, with these lines, of `rest` bytes, left
 abbrev pub refusal_between : ℕ → ℕ → List (List ℕ) → ℕ → Option CutFault
 refusal_between at most ls rest =
     if is_refused (marked true ls) && nat_le (at + first_full_end ls) most then Some NotAnMbox else too_long most (at + rest)
 
--- what still comes in this phase at this offset, with these bytes left
+-- what still comes in a phase, at an offset, with these bytes left
 unfoldable pub resume : Phase → ℕ → ℕ → List ℕ → Coming
 resume Between at most bytes = record { events = told_between (at + length bytes) at (lines bytes); refusal = refusal_between at most (lines bytes) (length bytes) }
 resume (Inside start size) at most bytes = record { events = told_inside (at + length bytes) at start size (lines bytes); refusal = too_long most (at + length bytes) }
 resume Ended at most bytes = record { events = Done at ∷ []; refusal = None }
 resume Failed at most bytes = record { events = []; refusal = None }
 
--- what still comes at this place, where the bytes left are known
+-- what still comes at a place, if the bytes left are known
 abbrev pub coming_at : CutterPlace → Option (List ℕ) → Option Coming
 coming_at p bytes = option_map (resume p.phase p.offset p.most) bytes

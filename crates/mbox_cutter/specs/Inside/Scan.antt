@@ -1,4 +1,4 @@
--- A step of a cutter, as the scan sees it that decides it.
+-- The state of a scan, which finds the steps of a cutter, and how a step changes it.
 use Rattle.std.specs.Prelude.{◌≡◌, ℕ, ◌+◌, ◌<◌, ◌≤◌, Bool, ◌||◌, nat_eq, take, drop, List, Option, Result, Ok, Err, IfOk, IfErr, IfSome}
 use Rattle.std.specs.Io.KnownBytes.{IsAtEnd}
 use Rattle.contract_words.specs.Devices.{Counted}
@@ -19,66 +19,68 @@ use Rattle.mbox_cutter.specs.Sources.{Stays}
 use Rattle.mbox_cutter.specs.Inside.Ahead.{known, IsLineLength, ReadsOn, TakesLine}
 use Rattle.mbox_cutter.specs.Inside.Resume.{coming_at}
 
--- an open message has begun, and its separator and what was told of its text were taken
+-- inside a message, its separator and the bytes of its text so far have been taken
 abbrev pub IsWithin : Phase → ℕ → Type 0
 IsWithin phase.Between at = Unit {0}
 IsWithin (phase.Inside start size) at = start + size < at
 IsWithin phase.Ended at = Unit {0}
 IsWithin phase.Failed at = Unit {0}
 
--- where a cutter can stand
+-- a place that a cutter can be in
 pub record IsPlace (p : CutterPlace) : Type 0 where
   -- no more was taken than is allowed
   pub most : p.offset ≤ p.most
-  -- an open message lies within what was taken
+  -- the part of a message so far is in what was taken
   pub phase : IsWithin p.phase p.offset
 
--- the source has failed, or the first line ends behind the limit
+-- why the first line isn't found: the source has failed, or the line goes over the limit
 abbrev pub FailsFirst : ℕ → ℕ → Option (List ℕ) → CutFault → Type 0
 FailsFirst at most bytes Device = Unit {0}
 FailsFirst at most bytes NotAnMbox = ⊥
 FailsFirst at most bytes ArchiveTooLong = IfSome bytes (λ b. most < at + first_length b)
 FailsFirst at most bytes Failed = ⊥
 
--- it isn't said that an earlier call has failed
+-- the fault isn't Failed
 abbrev pub IsFresh : CutFault → Type 0
 IsFresh Device = Unit {0}
 IsFresh NotAnMbox = Unit {0}
 IsFresh ArchiveTooLong = Unit {0}
 IsFresh Failed = ⊥
 
--- after n bytes a separator or the end comes
+-- whether a separator or the end comes after n bytes
 abbrev pub closes_at : ℕ → List ℕ → Bool
 closes_at n b = let m = first_length (drop n b) in nat_eq m 0 || is_separator (take m (drop n b))
 
--- what is told at a step, with the line that was taken last
+-- the event of a step, with the line that was taken last
 abbrev pub told_at : Step → List ℕ → ArchiveEvent
 told_at (step.Start at) line = Start at line
 told_at step.Line line = Line line
 told_at (step.End span size) line = End span size
 told_at (step.Done all) line = Done all
 
+-- the result of a step as an event, with the line that was taken last
 abbrev pub told_result : List ℕ → Result Step CutFault → Result ArchiveEvent CutFault
 told_result line (Ok e) = Ok (told_at e line)
 told_result line (Err fault) = Err fault
 
 module _ {S : Type 0} where
+  -- the place of a scan
   abbrev pub place_of : Scan S → CutterPlace
   place_of s = record { phase = s.phase; offset = s.offset; most = s.most }
 
-  -- what still comes, where it is known
+  -- what still comes, if the bytes are known
   abbrev pub coming : (S → Option (List ℕ)) → Scan S → Option Coming
   coming rest s = coming_at (place_of s) (known rest s.window)
 
-  -- a scan as each step leaves it
+  -- what holds of a scan after each step
   pub record IsScan (rest : S → Option (List ℕ)) (s : Scan S) : Type 0 where
-    -- it stands where a cutter can stand
+    -- it is at a place that a cutter can be in
     pub place : IsPlace (place_of s)
-    -- once the archive's end was told, all bytes have been read
+    -- after the archive's end was reported, all bytes have been read
     pub end : s.phase ≡ phase.Ended → IsAtEnd (rest s.window.source.now)
 
 module _ {S : Type 0} (g : Ghosts S) where
-  -- how long the first line is, or why it can't be told; the scan stays where it is
+  -- a call finds the length of the first line, or why there is none; the scan stays in its place
   pub record FindsLine (old : Scan S) (result : Result ℕ CutFault) (new : Scan S) : Type 0 where
     -- nothing is taken
     pub place : place_of new ≡ place_of old
@@ -88,33 +90,33 @@ module _ {S : Type 0} (g : Ghosts S) where
     pub first : IfOk result (λ n. IsLineLength g 0 old.window new.window n)
     -- the line ends within the limit
     pub fits : IfOk result (λ n. old.offset + n ≤ old.most)
-    -- it isn't told where the source fails, or the line ends behind the limit
+    -- a fault is that of the source, or the line goes over the limit
     pub fails : IfErr result (λ fault. FailsFirst old.offset old.most (known g.rest old.window) fault)
 
-  -- how a step changes a scan, with what it answers
+  -- how a step with this result changes a scan
   pub record Steps (old : Scan S) (result : Result Step CutFault) (new : Scan S) : Type 0 where
     -- the source is the same
     pub source : new.window.source.ghost_name ≡ old.window.source.ghost_name
-    -- its count of failures rises by one where it failed, and else stays
+    -- its count of failures rises by one if it failed, and stays if it didn't
     pub count : Counted (is_device_fault result) (g.failures old.window.source.now) (g.failures new.window.source.now)
-    -- what no read changes is as it was
+    -- what no read changes stays as it was
     pub stays : Stays g old.window.source.now new.window.source.now
-    -- the scan goes on to be one
+    -- what holds of a scan still holds
     pub scan : IsScan g.rest new
     -- the limit stays
     pub most : new.most ≡ old.most
-    -- what is told is the first event to come, and a refusal is the archive's
+    -- if it is known what comes, the event is the first that comes, and a refusal is the archive's
     pub answers : Answers (coming g.rest old) (told_result new.window.line result) (coming g.rest new)
-    -- the place moves as far as what is told
+    -- the place moves as the event says
     pub moves : IfOk result (λ step. Moves (told_at step new.window.line) (place_of old) (place_of new))
-    -- a line that is told is one
+    -- the line of an event, if it has one, is a line
     pub line : IfOk result (λ step. HasLine (told_at step new.window.line))
-    -- a fault is this step's
+    -- a fault is that of this step, not of an earlier one
     pub fresh : IfErr result IsFresh
 
 -- the next n bytes are taken, and this phase begins
 pub record Passes {S : Type 0} (n : ℕ) (phase : Phase) (old new : Scan S) : Type 0 where
-  -- the place is behind them
+  -- the place is after them
   pub place : place_of new ≡ record { phase = phase; offset = old.offset + n; most = old.most }
   -- they are the line that was taken last
   pub taken : TakesLine n old.window new.window

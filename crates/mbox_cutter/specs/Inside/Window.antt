@@ -1,9 +1,10 @@
--- A window as its fields are.
+-- The fields of a window, and the state that they mean.
 use Rattle.std.specs.Prelude.{◌≡◌, ℕ, ◌-◌, ◌≤◌, List, Option, true, vec_len, slice_range}
 use Rattle.std.specs.Io.KnownBytes.{IsAtEnd}
 use Rattle.mbox_cutter.specs.declared.window.Window.TheInside.{Inside}
 use Rattle.mbox_cutter.specs.Inside.Ahead.{Ahead}
 
+-- the state of a window
 abbrev pub ahead : {S : Type 0} → Inside S → Ahead S
 ahead w = record {
   line = slice_range w.buffer.items (w.from - w.taken) w.from;
@@ -12,6 +13,7 @@ ahead w = record {
   source = w.source;
 }
 
+-- what always holds of the fields
 pub record IsWindow {S : Type 0} (rest : S → Option (List ℕ)) (w : Inside S) : Type 0 where
   pub taken : w.taken ≤ w.from
   pub order : w.from ≤ w.to
