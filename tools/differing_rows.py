@@ -7,9 +7,9 @@ A row has an edit of crates/CRATE/must-fail, small archives or an index file, th
 status that are right, which were worked out by hand. The code as it is must answer so. With the edit it must answer
 otherwise, or stop.
 
-All edits are tried in one copy of the repository, which the kit builds and runs unproved (`rt try`). There each edited
-function has the bodies of its edits beside its own, and a number on standard input chooses the edit. So the edits change
-only bodies.
+All edits are tried in one copy of the repository, which the kit builds and runs unproved (`rt try`). There each
+edited function has the bodies of its edits beside its own, and a number on standard input chooses the edit. So the
+edits change only bodies.
 
 Each row has a line. The last line is `N passed, M failed`.
 """
@@ -90,9 +90,9 @@ INDEXES = {
 
 @dataclass(frozen=True)
 class Row:
-    """The archives of a run, its words, its right status, and what it prints then; the index that it searches, if there is
-    one; how many bytes standard output takes, if not all; and whether a key is looked up in place of a run: then the steps
-    that this takes are the status."""
+    """The archives of a run, its words, its right status, and what it prints then; the index that it searches, if there
+    is one; how many bytes standard output takes, if not all; and whether a key is looked up in place of a run: then the
+    steps that this takes are the status."""
 
     archives: str
     words: str
@@ -111,6 +111,9 @@ class Row:
     def arguments(self):
         return ["-f", self.rcfile()[0], *([] if self.index else ["--once"]), *self.words.split()]
 
+
+# What a run does. One that stops has come to what the code never comes to, as an `unreachable!`.
+RIGHT, OTHERWISE, STOPS, NOTHING = "answers rightly", "answers otherwise", "stops", "answers nothing"
 
 FOUND = "0 58 hello|"
 BOTH = "0 75 two|75 49 two|"
@@ -206,8 +209,8 @@ LOOKS_UP = f"{LOOK_UP}\n{MAIN}    if contract_words::looks_up() {{ return ExitCo
 
 
 def with_choices(crate, edits):
-    """The texts of a crate's files in which each edited function has the bodies of these edits beside its own, each under
-    the edit's number."""
+    """The texts of a crate's files in which each edited function has the bodies of these edits beside its own, each
+    under the edit's number."""
     bodies = {}
     for number, edit in edits.items():
         for function in edit.functions:
@@ -249,7 +252,8 @@ def copy_with(edits, copy):
     asked.write_text(ASKED)
     change_file(copy / "crates/contract_words/src/lib.rt", lambda text: text + ASKS)
     change_file(copy / "crates/mairix/src/main.rt", lambda text: text.replace(MAIN, LOOKS_UP))
-    change_file(copy / "crates.txt", lambda text: text.replace("\nmairix:", "\nmairix: contract_words mail_index mail_words"))
+    libraries = "contract_words mail_index mail_words"
+    change_file(copy / "crates.txt", lambda text: text.replace("\nmairix:", f"\nmairix: {libraries}"))
     for name in {it.name.partition("/")[0] for it in edits.values()}:
         own = {number: it for number, it in edits.items() if it.name.startswith(f"{name}/")}
         for path, text in with_choices(crate_of(name), own).items():
@@ -257,8 +261,7 @@ def copy_with(edits, copy):
 
 
 def answers(copy, rows, room):
-    """What the runs of these rows answer, each with the number of its edit, by their names: `expected` where status and
-    output are right; and the last lines that the build prints."""
+    """What the runs of these rows do, each with the number of its edit, by their names; and the build's last lines."""
     data = {name: text_of(signs) for name, signs in MAIL.items()} | INDEXES
     cases = room / "cases"
     cases.mkdir()
@@ -275,11 +278,12 @@ def answers(copy, rows, room):
     os.environ["RT_ALLOW_C"] = "contract_words"
     lines = Commands.run(words, copy / "crates/mairix")[1]
     told = {}
-    for found in (re.match(r"case=(\S+) run=(ended|fault)\b(.*)", it) for it in lines):
-        if found:
-            status = re.search(r"status=(\d+)", found[3])
-            is_right = "output=expected" in found[3] and status and int(status[1]) == rows[found[1]][0].status
-            told[found[1]] = "expected" if is_right else f"otherwise:{found[3]}"
+    for found in (re.match(r"case=(\S+) run=(?:(fault)\b|ended status=(\d+)\b)(.*)", it) for it in lines):
+        if found and found[2]:
+            told[found[1]] = STOPS
+        elif found:
+            is_right = int(found[3]) == rows[found[1]][0].status and "output=expected" in found[4]
+            told[found[1]] = RIGHT if is_right else OTHERWISE
     return told, lines[-3:]
 
 
@@ -315,10 +319,10 @@ def main(wanted):
         told, last = answers(copy, runs, Path(folder))
     passed = 0
     for number, (name, row) in enumerate(rows.items(), 1):
-        own, other = told.get(right[row], "no answer"), told.get(f"edit-{number}", "no answer")
-        is_shown = own == "expected" and other.startswith("otherwise")
+        own, other = told.get(right[row], NOTHING), told.get(f"edit-{number}", NOTHING)
+        is_shown = own == RIGHT and other in (OTHERWISE, STOPS)
         passed += is_shown
-        print(f"row {name}: {'answers otherwise' if is_shown else f'NOT shown: as it is {own}, with the edit {other}'}")
+        print(f"row {name}: {other if is_shown else f'NOT shown: the code {own}, and with the edit it {other}'}")
     if not told:
         print("\n".join(last))
     print(f"{passed} passed, {len(rows) - passed} failed")
