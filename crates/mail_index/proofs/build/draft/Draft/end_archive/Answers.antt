@@ -6,7 +6,7 @@ use Rattle.mail_index.proofs.build.draft.Draft.end_archive.Goals as goal
 pub invariant_of-self-in_default : goal.invariant_of-self-in_default
 invariant_of-self-in_default c =
     let d : Draft = draft_of c.self.inside.most c.self.inside.path c.self.inside.in_message c.self.inside.archives.items c.self.inside.records.items c.self.inside.keys in
-    let named : map kept_archive c.push.new.self.items ≡ map kept_archive c.self.inside.archives.items ++ record { path = string_bytes c.unwrap-path.result; length = c.args.length; digest = Some c.args.digest } ∷ [] =
+    let named : map kept_archive c.push.new.self.items ≡ map kept_archive c.self.inside.archives.items ++ record { path = string_bytes c.unwrap-path.result; length = c.args.length; digest = Some _ } ∷ [] =
     ap (map kept_archive) c.in_default.ensures.items ∙ map-append kept_archive c.self.inside.archives.items _ in
-    rw (c.take.ensures.after, named) (archive-ended_draft d (string_bytes c.unwrap-path.result) c.args.length c.args.digest c.self.invariant (ap (option_map string_bytes) (sym c.take.ensures.value ∙ c.unwrap-path.ensures)) c.requires.length (search)
+    rw (c.take.ensures.after, named) (archive-ended_draft d (string_bytes c.unwrap-path.result) c.args.length _ c.self.invariant (ap (option_map string_bytes) (sym c.take.ensures.value ∙ c.unwrap-path.ensures)) c.requires.length (search)
     (subst (λ (e : Draft). end_of (archive_count e) e.table.messages ≤ c.args.length) (sym c.self.view_is) c.requires.last))
