@@ -9,3 +9,4 @@ pub mod ArchiveSteps
 pub mod TableSteps
 pub mod MessageSteps
 pub mod SoundTables
+pub mod OneTable

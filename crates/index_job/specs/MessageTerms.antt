@@ -1,11 +1,14 @@
 -- What an index has of one message: the folded words of its texts, its own id, and the ids that link it to others.
-use Rattle.std.specs.Prelude.{ℕ, ◌≤◌, List, length, [], ◌∷◌, ◌++◌, map, flat_map, Option, Some, None}
+use Rattle.std.specs.Prelude.{ℕ, ◌≤◌, Bool, ◌&&◌, nat_eq, List, length, [], ◌∷◌, ◌++◌, map, flat_map, Option, Some, None}
+use Rattle.std.specs.List.{list_any}
+use Rattle.std.specs.Str.{bytes_eq}
 use Rattle.header_text.specs.Headers.{fields_of}
 use Rattle.mail_words.specs.declared.kind.TextKind.{TextKind}
 use Rattle.mail_words.specs.Words.{words}
 use Rattle.mail_words.specs.Folding.{folding}
 use Rattle.mail_index.specs.declared.kind.Kind.{Kind}
 use Rattle.mail_index.specs.declared.kind.Kind.TheVariants.{Text, OwnId, LinkId}
+use Rattle.mail_index.specs.Kinds.{kind_number}
 use Rattle.mime_text.specs.declared.header.facts.Facts.{Facts}
 use Rattle.mime_text.specs.MessageFacts.{facts_of}
 use Rattle.mime_text.specs.Sinks.{Pair}
@@ -41,3 +44,7 @@ id_terms facts = own_id_terms facts.own_id ++ link_terms facts.ids
 -- those of the message whose text has these lines
 abbrev pub message_terms : List (List ℕ) → List Term
 message_terms ls = flat_map text_terms (texts_of_message ls) ++ id_terms (facts_of (fields_of ls))
+
+-- one of the terms is of this kind and has this text
+abbrev pub has_term : Kind → List ℕ → List Term → Bool
+has_term kind text terms = list_any (λ (t : Term). nat_eq (kind_number t.0) (kind_number kind) && bytes_eq text t.1) terms

@@ -13,4 +13,4 @@ mod term_sink;
 
 pub use index_job::IndexJob;
 pub use job_fault::JobFault;
-pub use laws::the_table_of_sound_archives_is_well_formed;
+pub use laws::{one_table_of_archives, the_table_of_sound_archives_is_well_formed};

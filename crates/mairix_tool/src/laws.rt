@@ -9,7 +9,7 @@ ghost use Rattle.mail_index.specs.declared.kind.Kind.{Kind};
 ghost use Rattle.mail_index.specs.Tables.{IsPath, IsWellFormed, Table};
 ghost use Rattle.index_job.specs.ArchiveRefusals.{AreSound};
 ghost use Rattle.index_job.specs.ArchiveTables.{Mbox, all_messages, table};
-ghost use Rattle.index_job.specs.MessageTerms.{message_terms};
+ghost use Rattle.index_job.specs.MessageTerms.{has_term, message_terms};
 ghost use Rattle.mairix_tool.specs.Altered.{AreToldApart, altered_archive};
 ghost use Rattle.index_run.specs.ArchivesIndexed.{mboxes};
 ghost use Rattle.mairix_tool.specs.Asked.{Wanted};
@@ -22,7 +22,7 @@ ghost use Rattle.mairix_tool.specs.Runs.{IsOnceReply, IsReply, IsStoredReply};
 ghost use Rattle.mairix_tool.specs.MailOfArchives.{mail_in, shape};
 ghost use Rattle.mairix_tool.specs.Replies.{Answer};
 ghost use Rattle.mairix_tool.specs.OldTables.{HasDigests, but_digests, old_table};
-ghost use Rattle.mairix_tool.specs.TermsOfArchives.{has_number, has_term};
+ghost use Rattle.mairix_tool.specs.TermsOfArchives.{has_number};
 ghost use Rattle.run_faults.specs.declared.fault.Fault.{Fault};
 
 use mail_index::IndexView;

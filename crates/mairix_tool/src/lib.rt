@@ -9,7 +9,9 @@ mod stored;
 mod view_answer;
 mod wanted;
 
-pub use index_job::{IndexJob, JobFault, the_table_of_sound_archives_is_well_formed};
+pub use index_job::{
+    IndexJob, JobFault, one_table_of_archives, the_table_of_sound_archives_is_well_formed,
+};
 pub use laws::{
     a_table_replies_as_its_archives, an_answer_is_cut_into_its_messages,
     every_once_run_has_a_reply, every_stored_run_has_a_reply,

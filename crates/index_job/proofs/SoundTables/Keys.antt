@@ -42,7 +42,7 @@ pub messages-listed : (count n : ℕ) (ms : List Message) → n + length ms ≤ 
 messages-listed count n [] within ks listed = listed
 messages-listed count n (m ∷ ms) within ks listed = grind (arith, terms-listed, message-terms, messages-listed count (suc n) ms (omega (arith, within)) _ (terms-listed count n (omega (arith, within)) (message_terms (text m)) (message-terms (text m)) ks listed))
 
-terms-sorted : (n : ℕ) (ts : List Term) (ks : List Key) → AllNext KeyBefore ks → AllNext KeyBefore (with_terms n ts ks)
+pub terms-sorted : (n : ℕ) (ts : List Term) (ks : List Key) → AllNext KeyBefore ks → AllNext KeyBefore (with_terms n ts ks)
 terms-sorted n [] ks sorted = sorted
 terms-sorted n (t ∷ ts) ks sorted = terms-sorted n ts _ (with_pair-sorted t.0 t.1 n ks sorted)
 
