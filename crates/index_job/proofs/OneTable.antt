@@ -34,7 +34,7 @@ key-compared kind term k o e =
     ∙ ap is_eq (nat_list_cmp_total.antisymm (key_bytes k) (kind_number kind ∷ term) ∙ ap ordering_reverse e)
 
 -- then it has its kind and its text
-key-same : (kind : Kind) (term : List ℕ) (k : Key) → is_key kind term k ≡ true → (k.kind ≡ kind) × (k.text ≡ term)
+pub key-same : (kind : Kind) (term : List ℕ) (k : Key) → is_key kind term k ≡ true → (k.kind ≡ kind) × (k.text ≡ term)
 key-same kind term k e = grind (arith, eqb-true, kind_is, bytes_eq-Decides)
 
 key-itself : (k : Key) → is_key k.kind k.text k ≡ true
@@ -49,7 +49,7 @@ skipped k j [] h = tt
 skipped k j (i ∷ ks) h = (nat_list_cmp_total.trans (key_bytes k) (key_bytes j) (key_bytes i) h.0 h.1.0, h.1.1)
 
 -- a key that comes before sorted ones isn't among them
-none-after : (k : Key) (ks : List Key) → AllNext KeyBefore (k ∷ ks) → numbers_at k.kind k.text ks ≡ []
+pub none-after : (k : Key) (ks : List Key) → AllNext KeyBefore (k ∷ ks) → numbers_at k.kind k.text ks ≡ []
 none-after k [] h = refl
 none-after k (j ∷ ks) h = grind (arith, key-compared k.kind k.text j Less h.0, none-after k ks (skipped k j ks h))
 
@@ -178,15 +178,15 @@ module _ (kind : Kind) (term : List ℕ) where
       grind (arith, pair-at n t ks sorted, number-twice (at ks) n, terms-at n ts (with_pair t.0 t.1 n ks) (with_pair-sorted t.0 t.1 n ks sorted))
 
   -- the numbers of those of the messages, of which the first has this number, that have the term
-  abbrev numbers_from : ℕ → List Message → List ℕ
+  abbrev pub numbers_from : ℕ → List Message → List ℕ
   numbers_from n ms = map (λ m. m.0) (filter (λ m. has_term kind term (message_terms (text m.1))) (enumerate_from n ms))
 
-  numbers-cons : (n : ℕ) (m : Message) (ms : List Message)
+  pub numbers-cons : (n : ℕ) (m : Message) (ms : List Message)
       → numbers_from n (m ∷ ms) ≡ cond (has_term kind term (message_terms (text m))) (n ∷ numbers_from (suc n) ms) (numbers_from (suc n) ms)
   numbers-cons n m ms = grind arith
 
   -- with messages: the numbers of those of them that have the term
-  messages-at : (n : ℕ) (ms : List Message) (ks : List Key) → AllNext KeyBefore ks → end_from 0 (at ks) ≤ n
+  pub messages-at : (n : ℕ) (ms : List Message) (ks : List Key) → AllNext KeyBefore ks → end_from 0 (at ks) ≤ n
       → at (with_messages n ms ks) ≡ at ks ++ numbers_from n ms
   messages-at n [] ks sorted low = sym (append-nil (at ks))
   messages-at n (m ∷ ms) ks sorted low =

@@ -1,6 +1,5 @@
 -- Laws of the table of archives, which says of messages what these say themselves.
 pub mod Formed
-pub mod Keys
 pub mod MailSame
 pub mod Messages
 pub mod Numbers

@@ -2,7 +2,7 @@
 pub use Rattle.contract_words.specs.Devices.{Sends}
 unfoldable pub use Rattle.header_text.specs.Headers.{fields_of}
 pub use Rattle.index_job.specs.ArchiveRefusals.{AreSound}
-pub use Rattle.index_job.specs.ArchiveTables.{Mbox, all_messages, entry_of, messages_in, record_of, records_from, table, with_messages, with_terms}
+pub use Rattle.index_job.specs.ArchiveTables.{Mbox, all_messages, entry_of, messages_in, record_of, records_from, table, with_messages}
 pub use Rattle.index_job.specs.MessageTerms.{Term, id_terms, link_terms, message_terms, own_id_terms, text_terms}
 pub use Rattle.index_run.proofs.SoundArchives.{sound-not-refused}
 pub use Rattle.index_run.specs.ArchivesIndexed.{IsArchivesFault, Refuses, mboxes}
@@ -18,7 +18,6 @@ pub use Rattle.mail_answer.specs.Verified.{unverified_archive}
 pub use Rattle.mail_answer.specs.declared.format.Format.{Format}
 pub use Rattle.mail_answer.specs.declared.format.Format.TheVariants.{Excerpt, Raw}
 pub use Rattle.mail_index.proofs.FileLaws.Bytes.{AreBytes}
-pub use Rattle.mail_index.specs.Builders.{with_pair}
 pub use Rattle.mail_index.specs.Faults.{HasArchives, HasCounts, HasDigest, HasDirectory, HasRecords, IsFileOf, IsFirstFault, IsSigned, digest_start, version_told}
 pub use Rattle.mail_index.specs.Files.{Entry, index_file, magic, record_bytes}
 pub use Rattle.mail_index.specs.Kinds.{kind_number}
@@ -55,12 +54,12 @@ pub use Rattle.std.proofs.Common.{All, Bool, Err, IfErr, IfOk, IfSome, List, Non
 pub use Rattle.std.proofs.Math.Bool.{or-false}
 pub use Rattle.std.proofs.lemmas.Bool.{eqb-true, false≢true}
 pub use Rattle.std.proofs.lemmas.Bool.Decides.{eqb_tells, leb_tells, nat_tests}
-pub use Rattle.std.proofs.lemmas.List.{drop-append-le, get_or-map, get_or_at, length-map, length-take-le, length_push, map-append, take-append-drop, take-append-le}
+pub use Rattle.std.proofs.lemmas.List.{drop-append-le, get_or-map, get_or_at, length-map, length_push, map-append, take-append-le}
 pub use Rattle.std.proofs.lemmas.List.Elements.{All-cons, All-head, All-map, All-nil, All-tail, Contains-append_left, Contains-append_right, recursion_from_All}
 pub use Rattle.std.proofs.lemmas.List.Folds.{flat_map-map, list_any-append}
 pub use Rattle.std.proofs.lemmas.Slice.Eq.{bytes_eq-Decides}
 pub use Rattle.std.specs.Io.KnownBytes.{Appends, Keeps}
 pub use Rattle.std.specs.List.{AllByRecursion, join_by, join_with_byte, list_any, range_with_len, slice_get, slice_index_or}
 pub use Rattle.std.specs.Option.{option_map, option_map_or, option_or}
-pub use Rattle.std.specs.Prelude.{Contains, nat_le, nat_lt, ⊤, ◌⊎◌}
-pub use Rattle.std.specs.declared.cmp.Ordering.TheVariants.{Equal, Greater, Less}
+pub use Rattle.std.specs.Prelude.{Contains, nat_le, ⊤, ◌⊎◌}
+pub use Rattle.std.specs.declared.cmp.Ordering.TheVariants.{Equal, Less}

@@ -1,14 +1,13 @@
 -- What the table of archives says of their messages, their threads and their texts is what these say themselves.
-use Rattle.mairix_tool.proofs.Words.{◌≡◌, ◌∙◌, ℕ, zero, suc, ◌+◌, ◌<◌, ◌≤◌, Bool, true, false, cond, nat_eq, ◌&&◌, ◌||◌, List, [], ◌∷◌, ◌++◌, map, flat_map, length, take, drop, drop-cons, Option, None, Some, inl, inr, refl, sym, ap, subst, arith, eq-eqb, append_assoc, min, list_any, range_with_len, or-false, leb_tells, nat_tests, map-append, length-map, length_push, get_or_at, take-append-drop, length-take-le, fields_of, Message, text, facts_of, texts_of_message, Pair, Facts, TextKind, words, folding, Text, LinkId, Record, kind_number, keys_of, Archive, Key, Table, Query, is_true, Format, Raw, Excerpt, Search, IsChain, IsLedToBySome, AreThreadsOf, AreChosen, AreChosenBy, satisfying, message_text, answer_text, first_changed, stale_archive, mail_told, facts_at, record_at, texts_with, is_among, are_linked, table, entry_of, with_messages, Term, message_terms, text_terms, own_id_terms, link_terms, Numbered, numbered_messages, numbered_at, nobody, link_ids, share_id, mail_in, shape, shape_of}
+use Rattle.mairix_tool.proofs.Words.{◌≡◌, ◌∙◌, ℕ, zero, suc, ◌+◌, ◌<◌, Bool, true, false, cond, nat_eq, ◌&&◌, ◌||◌, List, [], ◌∷◌, ◌++◌, map, flat_map, length, Option, None, Some, refl, sym, ap, subst, arith, eq-eqb, append_assoc, min, list_any, range_with_len, length-map, length_push, get_or_at, fields_of, Message, text, facts_of, texts_of_message, Pair, Facts, TextKind, words, folding, Text, LinkId, Record, kind_number, keys_of, Archive, Key, Table, Query, is_true, Format, Raw, Excerpt, Search, IsChain, IsLedToBySome, AreThreadsOf, AreChosen, AreChosenBy, satisfying, message_text, answer_text, first_changed, stale_archive, mail_told, facts_at, record_at, texts_with, is_among, are_linked, table, entry_of, with_messages, Term, text_terms, own_id_terms, link_terms, Numbered, numbered_messages, numbered_at, nobody, link_ids, share_id, mail_in, shape, shape_of}
 use Rattle.std.specs.List.{filter}
 use Rattle.std.specs.Str.{bytes_eq}
 use Rattle.mail_answer.specs.declared.format.Format.TheVariants.{Mbox}
 use Rattle.index_job.specs.ArchiveTables.{Mbox as Archived}
 use Rattle.index_job.proofs.SoundTables.Keys.{messages-sorted}
 use Rattle.mairix_tool.proofs.TableLaws.Truth.{any-same}
-use Rattle.mairix_tool.proofs.TableLaws.Keys.{texts-say}
 use Rattle.mairix_tool.proofs.TableLaws.Terms.{term_says, parts-say}
-use Rattle.mairix_tool.proofs.TableLaws.Messages.{keys-say, messages_say, with_messages-says, other-says}
+use Rattle.mairix_tool.proofs.TableLaws.Messages.{keys-at, terms_at}
 use Rattle.mairix_tool.proofs.TableLaws.Numbers.{messages-numbered, records-numbered, message_in, record_in, passes_in, AllTell, tells-from}
 use Rattle.mairix_tool.proofs.TableLaws.ThreadLinks.{linked-by-texts}
 
@@ -44,41 +43,19 @@ terms-say-links passes texts facts =
 
 -- ---- what the keys say of the message of a number
 
-past-say : (n : ℕ) (passes : List ℕ → Bool) (m : ℕ) (ms : List Message) → m + length ms ≤ n → messages_say LinkId n passes m ms ≡ false
-past-say n passes m [] h = refl
-past-say n passes m (x ∷ xs) h =
-    let other : nat_eq n m ≡ false = grind (arith, nat_tests) in
-    ap (λ (b : Bool). b || messages_say LinkId n passes (suc m) xs) (other-says LinkId n passes m other (message_terms (text x))) ∙ past-say n passes (suc m) xs (omega (arith, h))
-
 no-ids : link_ids nobody.1 ≡ []
 unfolding facts_of fields_of
 no-ids = refl
 
-past-nobody : (xs : List Numbered) (n : ℕ) → length xs ≤ n → numbered_at xs n ≡ nobody
-past-nobody [] n h = refl
-past-nobody (x ∷ xs) zero h = absurd (omega (arith, h))
-past-nobody (x ∷ xs) (suc n) h = past-nobody xs n (omega (arith, h))
-
-split-at : (xs : List Numbered) (n : ℕ) → n < length xs → map message_in xs ≡ map message_in (take n xs) ++ (numbered_at xs n).1 ∷ map message_in (drop (suc n) xs)
-split-at xs n below =
-    ap (map message_in) (sym (take-append-drop n xs) ∙ ap (λ (l : List Numbered). take n xs ++ l) (drop-cons xs n nobody below))
-    ∙ map-append message_in (take n xs) (numbered_at xs n ∷ drop (suc n) xs)
+links-at : (xs : List Numbered) (n : ℕ) (passes : List ℕ → Bool)
+    → list_any (term_says LinkId passes) (terms_at n (map message_in xs)) ≡ list_any passes (link_ids (numbered_at xs n).1)
+links-at [] n passes = sym (ap (list_any passes) no-ids)
+links-at (x ∷ xs) zero passes = terms-say-links passes (texts_of_message (text x.1)) (facts_of (fields_of (text x.1)))
+links-at (x ∷ xs) (suc n) passes = links-at xs n passes
 
 keys-say-links : (xs : List Numbered) (n : ℕ) (passes : List ℕ → Bool)
     → list_any passes (texts_with LinkId n (with_messages 0 (map message_in xs) [])) ≡ list_any passes (link_ids (numbered_at xs n).1)
-keys-say-links xs n passes =
-    elim (leb_tells (length xs) n) [
-      | inl past ↦
-          texts-say LinkId n passes (with_messages 0 (map message_in xs) [])
-          ∙ with_messages-says LinkId n passes 0 (map message_in xs) [] tt
-          ∙ or-false (messages_say LinkId n passes 0 (map message_in xs))
-          ∙ past-say n passes 0 (map message_in xs) (omega (arith, past.1, length-map xs message_in))
-          ∙ sym (ap (λ (x : Numbered). list_any passes (link_ids x.1)) (past-nobody xs n past.1) ∙ ap (list_any passes) no-ids)
-      | inr here ↦
-          ap (λ (ms : List Message). list_any passes (texts_with LinkId n (with_messages 0 ms []))) (split-at xs n here.1)
-          ∙ keys-say LinkId n passes (map message_in (take n xs)) (numbered_at xs n).1 (map message_in (drop (suc n) xs)) (length-map (take n xs) message_in ∙ length-take-le n xs (omega (arith, here.1)))
-          ∙ terms-say-links passes (texts_of_message (text (numbered_at xs n).1)) (facts_of (fields_of (text (numbered_at xs n).1)))
-    ]
+keys-say-links xs n passes = keys-at LinkId n passes (map message_in xs) ∙ links-at xs n passes
 
 share-same : (xs ys us vs : List (List ℕ)) → ((p : List ℕ → Bool) → list_any p xs ≡ list_any p us) → ((p : List ℕ → Bool) → list_any p ys ≡ list_any p vs) → share_id xs ys ≡ share_id us vs
 share-same xs ys us vs first second =

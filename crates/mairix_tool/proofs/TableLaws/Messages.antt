@@ -1,72 +1,139 @@
 -- What the keys of a table of messages say of one of them is what its own terms say.
-use Rattle.mairix_tool.proofs.Words.{◌≡◌, ◌∙◌, ℕ, suc, ◌+◌, ◌<◌, Bool, true, false, List, [], ◌∷◌, ◌++◌, length, refl, ap, arith, ◌&&◌, ◌||◌, nat_eq, list_any, AllByRecursion, or-false, nat_tests, Message, text, Kind, Key, with_pair, texts_with, Term, message_terms, with_terms, with_messages}
-use Rattle.std.proofs.lemmas.Bool.{eq-eqb}
-use Rattle.mairix_tool.proofs.TableLaws.Truth.{any-same}
-use Rattle.mairix_tool.proofs.TableLaws.Keys.{says, pair_says, IsBelow, texts-say, with_pair-says, with_pair-below, below-weaker}
+use Rattle.mairix_tool.proofs.Words.{◌≡◌, ◌∙◌, ℕ, zero, suc, ◌+◌, ◌<◌, Bool, true, false, cond, List, [], ◌∷◌, ◌++◌, length, map, filter, refl, ap, arith, ◌&&◌, ◌||◌, list_any, bytes_eq, bytes_eq-Decides, nat_tests, Kind, Key, KeyBefore, AllNext, is_of_kind, keys_of, is_among, texts_with, Message, text, Term, message_terms, with_messages}
+use Rattle.std.specs.Cmp.{both_ways}
+use Rattle.mail_index.specs.LookUps.{is_key, numbers_at}
+use Rattle.index_job.specs.MessageTerms.{has_term}
+use Rattle.index_job.proofs.OneTable.{key-same, none-after, numbers_from, numbers-cons, messages-at}
+use Rattle.index_job.proofs.SoundTables.Keys.{messages-sorted}
 use Rattle.mairix_tool.proofs.TableLaws.Terms.{term_says}
+use Rattle.mairix_tool.proofs.TableLaws.ThreadLinks.{rest-sorted}
 
--- the term, of message m, says this of message n
-abbrev pub term_says_of : Kind → ℕ → (List ℕ → Bool) → ℕ → Term → Bool
-term_says_of kind n passes m t = pair_says kind n passes m t.0 t.1
+-- ---- the numbers of a term
 
--- some term of the messages, of which the first is m, says this of message n
-abbrev pub messages_say : Kind → ℕ → (List ℕ → Bool) → ℕ → List Message → Bool
-messages_say kind n passes m [] = false
-messages_say kind n passes m (x ∷ xs) = list_any (term_says_of kind n passes m) (message_terms (text x)) || messages_say kind n passes (suc m) xs
+-- the terms of the message of this number, none past the last
+abbrev pub terms_at : ℕ → List Message → List Term
+terms_at n [] = []
+terms_at zero (m ∷ ms) = message_terms (text m)
+terms_at (suc n) (m ∷ ms) = terms_at n ms
 
--- the last before the first, and both before the second
-or-regrouped : (a b c : Bool) → (a || (b || c)) ≡ ((b || a) || c)
-or-regrouped a b c = grind arith
+terms-here : (n : ℕ) (before : List Message) (m : Message) (after : List Message) → length before ≡ n
+    → terms_at n (before ++ m ∷ after) ≡ message_terms (text m)
+terms-here zero [] m after h = refl
+terms-here zero (x ∷ before) m after h = absurd (omega (arith, h))
+terms-here (suc n) [] m after h = absurd (omega (arith, h))
+terms-here (suc n) (x ∷ before) m after h = terms-here n before m after (omega (arith, h))
 
--- with the terms of a message: what these say, and what the keys said
-with_terms-says : (kind : Kind) (n : ℕ) (passes : List ℕ → Bool) (m : ℕ) (ts : List Term) (ks : List Key) → AllByRecursion (IsBelow (suc m)) ks
-    → list_any (says kind n passes) (with_terms m ts ks) ≡ (list_any (term_says_of kind n passes m) ts || list_any (says kind n passes) ks)
-with_terms-says kind n passes m [] ks below = refl
-with_terms-says kind n passes m (t ∷ ts) ks below = grind (arith, with_pair-below, with_pair-says, or-regrouped, says, with_terms-says kind n passes m ts (with_pair t.0 t.1 m ks) (with_pair-below (suc m) m t.0 t.1 ks (omega arith) below))
+module _ (kind : Kind) (term : List ℕ) where
+  none-below : (n low : ℕ) (ms : List Message) → n < low → is_among n (numbers_from kind term low ms) ≡ false
+  none-below n low [] h = refl
+  none-below n low (m ∷ ms) h = grind (arith, nat_tests, numbers-cons kind term low m ms, none-below n (suc low) ms (omega (arith, h)))
 
--- and their numbers stay below the next message
-with_terms-below : (m : ℕ) (ts : List Term) (ks : List Key) → AllByRecursion (IsBelow (suc m)) ks → AllByRecursion (IsBelow (suc m)) (with_terms m ts ks)
-with_terms-below m [] ks below = below
-with_terms-below m (t ∷ ts) ks below = with_terms-below m ts (with_pair t.0 t.1 m ks) (with_pair-below (suc m) m t.0 t.1 ks (omega arith) below)
+  numbers-tell : (n low i : ℕ) (ms : List Message) → low + i ≡ n → is_among n (numbers_from kind term low ms) ≡ has_term kind term (terms_at i ms)
+  numbers-tell n low i [] h = refl
+  numbers-tell n low zero (m ∷ ms) h =
+      grind (arith, nat_tests, numbers-cons kind term low m ms, none-below n (suc low) ms (omega (arith, h)))
+  numbers-tell n low (suc i) (m ∷ ms) h =
+      grind (arith, nat_tests, numbers-cons kind term low m ms, numbers-tell n (suc low) i ms (omega (arith, h)))
 
--- with the terms of messages behind those that the keys have: what these say, and what the keys said
-pub with_messages-says : (kind : Kind) (n : ℕ) (passes : List ℕ → Bool) (m : ℕ) (ms : List Message) (ks : List Key) → AllByRecursion (IsBelow m) ks
-    → list_any (says kind n passes) (with_messages m ms ks) ≡ (messages_say kind n passes m ms || list_any (says kind n passes) ks)
-with_messages-says kind n passes m [] ks below = refl
-with_messages-says kind n passes m (x ∷ xs) ks below =
-    let terms : List Term = message_terms (text x) in
-    let wider : AllByRecursion (IsBelow (suc m)) ks = below-weaker m ks below in
-    with_messages-says kind n passes (suc m) xs (with_terms m terms ks) (with_terms-below m terms ks wider)
-    ∙ ap (λ (b : Bool). messages_say kind n passes (suc m) xs || b) (with_terms-says kind n passes m terms ks wider)
-    ∙ or-regrouped (messages_say kind n passes (suc m) xs) (list_any (term_says_of kind n passes m) terms) (list_any (says kind n passes) ks)
+-- ---- some text of the keys passes where some term does
 
--- ---- one message among the others
+-- the key is of this kind and has this number, and its text passes
+abbrev says : Kind → ℕ → (List ℕ → Bool) → Key → Bool
+says kind n passes k = is_of_kind kind k && (is_among n k.numbers && passes k.text)
 
--- what is never true stays so with a condition more
-and-none : (a : Bool) → (a && false) ≡ false
-and-none a = grind arith
+-- some text of those with the number passes: some key says so
+texts-say : (kind : Kind) (n : ℕ) (passes : List ℕ → Bool) (ks : List Key)
+    → list_any passes (texts_with kind n ks) ≡ list_any (says kind n passes) ks
+texts-say kind n passes [] = refl
+texts-say kind n passes (k ∷ ks) = go (is_of_kind kind k) (texts-say kind n passes ks)
+  where
+    with_number_too : (among : Bool) → list_any passes (texts_with kind n ks) ≡ list_any (says kind n passes) ks
+        → list_any passes (map (λ (key : Key). key.text) (cond among (k ∷ filter (λ key. is_among n key.numbers) (keys_of kind ks)) (filter (λ key. is_among n key.numbers) (keys_of kind ks))))
+        ≡ ((among && passes k.text) || list_any (says kind n passes) ks)
+    with_number_too among h = grind arith
 
--- the terms of another message say nothing of it
-pub other-says : (kind : Kind) (n : ℕ) (passes : List ℕ → Bool) (m : ℕ) → nat_eq n m ≡ false → (ts : List Term) → list_any (term_says_of kind n passes m) ts ≡ false
-other-says kind n passes m e [] = refl
-other-says kind n passes m e (t ∷ ts) = grind (arith, and-none, other-says kind n passes m e ts)
+    go : (of : Bool) → list_any passes (texts_with kind n ks) ≡ list_any (says kind n passes) ks
+        → list_any passes (map (λ (key : Key). key.text) (filter (λ key. is_among n key.numbers) (cond of (k ∷ keys_of kind ks) (keys_of kind ks))))
+        ≡ ((of && (is_among n k.numbers && passes k.text)) || list_any (says kind n passes) ks)
+    go of h = grind (arith, with_number_too)
 
--- its own terms say what they say
-own-says : (kind : Kind) (n : ℕ) (passes : List ℕ → Bool) (m : ℕ) → nat_eq n m ≡ true → (ts : List Term) → list_any (term_says_of kind n passes m) ts ≡ list_any (term_says kind passes) ts
-own-says kind n passes m e ts = grind (arith, any-same, term_says)
+-- a text passes both tests
+abbrev SomePasses : (List ℕ → Bool) → (List ℕ → Bool) → Type 0
+SomePasses passes has = (term : List ℕ) × (passes term ≡ true) × (has term ≡ true)
 
--- nor do messages behind it
-later-say : (kind : Kind) (n : ℕ) (passes : List ℕ → Bool) (m : ℕ) (ms : List Message) → n < m → messages_say kind n passes m ms ≡ false
-later-say kind n passes m [] h = refl
-later-say kind n passes m (x ∷ xs) h = grind (arith, nat_tests, other-says, later-say kind n passes (suc m) xs (omega arith))
+module _ (kind : Kind) (n : ℕ) (passes : List ℕ → Bool) where
+  -- of the keys, by their numbers
+  key-found : (ks : List Key) → AllNext KeyBefore ks → list_any (says kind n passes) ks ≡ true
+      → SomePasses passes (λ term. is_among n (numbers_at kind term ks))
+  key-found [] sorted e = absurd cc
+  key-found (k ∷ ks) sorted e = go (says kind n passes k) refl e (key-found ks (rest-sorted k ks sorted))
+    where
+      other : (term : List ℕ) → is_among n (numbers_at kind term ks) ≡ true → is_among n (numbers_at kind term (k ∷ ks)) ≡ true
+      other term h = by_key (is_key kind term k) refl
+        where
+          by_key : (b : Bool) → is_key kind term k ≡ b → is_among n (numbers_at kind term (k ∷ ks)) ≡ true
+          by_key true is = grind (arith, key-same kind term k is, none-after k ks sorted)
+          by_key false is = grind arith
 
--- what the messages say of one of them is what its terms say
-message-says : (kind : Kind) (n : ℕ) (passes : List ℕ → Bool) (m : ℕ) (before : List Message) (x : Message) (after : List Message) → m + length before ≡ n
-    → messages_say kind n passes m (before ++ x ∷ after) ≡ list_any (term_says kind passes) (message_terms (text x))
-message-says kind n passes m [] x after h = grind (arith, own-says, eq-eqb, term_says, later-say, or-false)
-message-says kind n passes m (y ∷ before) x after h = grind (arith, nat_tests, other-says, message-says kind n passes (suc m) before x after (omega arith))
+      go : (b : Bool) → says kind n passes k ≡ b → (b || list_any (says kind n passes) ks) ≡ true
+          → (list_any (says kind n passes) ks ≡ true → SomePasses passes (λ term. is_among n (numbers_at kind term ks)))
+          → SomePasses passes (λ term. is_among n (numbers_at kind term (k ∷ ks)))
+      go true h e rest =
+          let itself : is_key kind k.text k ≡ true = grind (arith, bytes_eq-Decides k.text k.text) in
+          let passing : passes k.text ≡ true = grind arith in
+          (k.text, passing, grind arith)
+      go false h e rest = let found = rest e in (found.0, found.1, other found.0 found.2)
 
--- some text of a kind that the keys have for a message passes: so does some term of the message
-pub keys-say : (kind : Kind) (n : ℕ) (passes : List ℕ → Bool) (before : List Message) (x : Message) (after : List Message) → length before ≡ n
-    → list_any passes (texts_with kind n (with_messages 0 (before ++ x ∷ after) [])) ≡ list_any (term_says kind passes) (message_terms (text x))
-keys-say kind n passes before x after h = grind (arith, texts-say, with_messages-says, or-false, message-says)
+  key-says : (term : List ℕ) → passes term ≡ true → (ks : List Key) → is_among n (numbers_at kind term ks) ≡ true
+      → list_any (says kind n passes) ks ≡ true
+  key-says term h [] e = absurd cc
+  key-says term h (k ∷ ks) e = go (is_key kind term k) refl (key-says term h ks)
+    where
+      go : (b : Bool) → is_key kind term k ≡ b → (is_among n (numbers_at kind term ks) ≡ true → list_any (says kind n passes) ks ≡ true)
+          → list_any (says kind n passes) (k ∷ ks) ≡ true
+      go true is rest = grind (arith, key-same kind term k is)
+      go false is rest = grind (arith, rest)
+
+  -- of the terms
+  term-found : (ts : List Term) → list_any (term_says kind passes) ts ≡ true → SomePasses passes (λ term. has_term kind term ts)
+  term-found [] e = absurd cc
+  term-found (t ∷ ts) e = go (term_says kind passes t) refl e (term-found ts)
+    where
+      go : (b : Bool) → term_says kind passes t ≡ b → (b || list_any (term_says kind passes) ts) ≡ true
+          → (list_any (term_says kind passes) ts ≡ true → SomePasses passes (λ term. has_term kind term ts))
+          → SomePasses passes (λ term. has_term kind term (t ∷ ts))
+      go true h e rest =
+          let itself : bytes_eq t.1 t.1 ≡ true = (bytes_eq-Decides t.1 t.1).1 refl in
+          let passing : passes t.1 ≡ true = grind arith in
+          (t.1, passing, grind arith)
+      go false h e rest = let found = rest e in (found.0, found.1, grind (arith, found.2))
+
+  term-says : (term : List ℕ) → passes term ≡ true → (ts : List Term) → has_term kind term ts ≡ true
+      → list_any (term_says kind passes) ts ≡ true
+  term-says term h [] e = absurd cc
+  term-says term h (t ∷ ts) e = grind (arith, bytes_eq-Decides term t.1, term-says term h ts)
+
+  -- some text of the kind that the keys have for a message passes: so does some term of the message
+  pub keys-at : (ms : List Message)
+      → list_any passes (texts_with kind n (with_messages 0 ms [])) ≡ list_any (term_says kind passes) (terms_at n ms)
+  keys-at ms =
+      texts-say kind n passes ks ∙ both_ways (list_any (says kind n passes) ks) (list_any (term_says kind passes) (terms_at n ms)) there back
+    where
+      ks : List Key
+      ks = with_messages 0 ms []
+
+      same : (term : List ℕ) → is_among n (numbers_at kind term ks) ≡ has_term kind term (terms_at n ms)
+      same term = ap (is_among n) (messages-at kind term 0 ms [] tt (omega arith)) ∙ numbers-tell kind term n 0 n ms (omega arith)
+
+      there : list_any (says kind n passes) ks ≡ true → list_any (term_says kind passes) (terms_at n ms) ≡ true
+      there e =
+          let found = key-found ks (messages-sorted 0 ms [] tt) e in
+          term-says found.0 found.1 (terms_at n ms) (grind (arith, same found.0, found.2))
+
+      back : list_any (term_says kind passes) (terms_at n ms) ≡ true → list_any (says kind n passes) ks ≡ true
+      back e = let found = term-found (terms_at n ms) e in key-says found.0 found.1 ks (same found.0 ∙ found.2)
+
+  -- one message among the others
+  pub keys-say : (before : List Message) (m : Message) (after : List Message) → length before ≡ n
+      → list_any passes (texts_with kind n (with_messages 0 (before ++ m ∷ after) [])) ≡ list_any (term_says kind passes) (message_terms (text m))
+  keys-say before m after h = keys-at (before ++ m ∷ after) ∙ ap (list_any (term_says kind passes)) (terms-here n before m after h)
