@@ -3,3 +3,4 @@ pub mod Answers
 pub mod CutAgain
 pub mod Once
 pub mod Stored
+pub mod Searching

@@ -4,6 +4,7 @@ pub mod TermsOfArchives
 pub mod Asked
 pub mod Replies
 pub mod Runs
+pub mod Searching
 pub mod OldTables
 pub mod Altered
 pub mod Inside

@@ -4,11 +4,14 @@ ghost use Rattle.std.specs.Bool.{OnTrue};
 ghost use Rattle.std.specs.String.{string_bytes};
 ghost use Rattle.contract_words.specs.Devices.{Counted};
 ghost use Rattle.mail_index.specs.Tables.{IsPath};
-ghost use Rattle.mairix_tool.specs.Asked.{asked_rc, asks, wanted as wanted_of};
+ghost use Rattle.mairix_tool.specs.Asked.{asked_rc, asks, Wanted as Asked, wanted as wanted_of};
+ghost use Rattle.index_job.specs.ArchiveTables.{table};
+ghost use Rattle.index_run.specs.ArchivesIndexed.{mboxes};
 ghost use Rattle.index_run.specs.Counts.{CountsSources};
 ghost use Rattle.run_faults.specs.Faults.{fault_in, is_failed_out, is_failed_archives, is_early, is_of_indexing, IsOnceFault};
 ghost use Rattle.mairix_tool.specs.Replies.{RefusesAsked, AreSoundBefore, IsConsistent, KeepsRawBack};
-ghost use Rattle.mairix_tool.specs.Runs.{IsReply, IsOnceReply, RepliesBy, reply_of};
+ghost use Rattle.mairix_tool.specs.Searching.{IndexesAndSearches};
+ghost use Rattle.mairix_tool.specs.Runs.{IsCountedWhere, IsReply, IsOnceReply, RepliesBy, reply_of};
 
 use crate::reply::Reply;
 use crate::view_answer::answer_view;
@@ -65,6 +68,18 @@ pub fn once_run<S: Source, A: Archives, O: Out>(
     ensures first { (bytes : List (List ℕ)) → map S.rest sources.old ≡ map Some bytes
         → AreSoundBefore (asks words.now rc.now now) bytes result.fault }
 
+    // Whatever the archives hold: the answer has the number of messages that the table of what was indexed chooses.
+    ensures counted { (w : Asked) (bytes : List (List ℕ)) → asks words.now rc.now now ≡ Ok w
+        → map S.rest sources.old ≡ map Some bytes
+        → IsCountedWhere (table (mboxes w.paths bytes)) w.search (A.held archives.old)
+        result.fault result (O.taken out.old) (O.taken out.new) }
+
+    // Whatever sources and archives hold: the archives' lengths are asked once they are indexed, before anything else, and a raw
+    // answer asks nothing more. The reply is what that finds. An mbox answer has the bytes of each message, each closed.
+    ensures searched { (w : Asked) → asks words.now rc.now now ≡ Ok w
+        → IndexesAndSearches A.Archives O.Out w (map S.rest sources.old)
+        archives.old archives.new out.old out.new result }
+
     // No device is asked where words, rcfile or query are refused, also where memory was wanting before that was found.
     ensures refused { OnTrue (is_early result.fault || is_err (asks words.now rc.now now))
         ((sources.new ≡ sources.old) × (archives.new ≡ archives.old) × (out.new ≡ out.old)) }
@@ -112,6 +127,12 @@ fn answer_indexed<S: Source, A: Archives, O: Out>(
         → A.held archives.old ≡ Some held
         → RepliesBy (IsOnceReply (Ok (wanted_of wanted.now)) bytes held) (reply_of result)
         (O.taken out.old) (O.taken out.new) }
+    ensures counted { (bytes : List (List ℕ)) → map S.rest sources.old ≡ map Some bytes
+        → IsCountedWhere (table (mboxes (wanted_of wanted.now).paths bytes))
+        (wanted_of wanted.now).search (A.held archives.old) (reply_of result).fault
+        (reply_of result) (O.taken out.old) (O.taken out.new) }
+    ensures searched { IndexesAndSearches A.Archives O.Out (wanted_of wanted.now)
+        (map S.rest sources.old) archives.old archives.new out.old out.new (reply_of result) }
     ensures first { (bytes : List (List ℕ)) → map S.rest sources.old ≡ map Some bytes
         → AreSoundBefore (Ok (wanted_of wanted.now)) bytes (fault_in result) }
     ensures early { is_early (fault_in result) ≡ false }

@@ -15,6 +15,7 @@ ghost use Rattle.mairix_tool.specs.OldTables.{ServesFor};
 ghost use Rattle.mairix_tool.specs.Inside.Answering.{AsksIndex};
 ghost use Rattle.run_faults.specs.Faults.{fault_in, refusal_of, is_failed_out, is_failed_archives, IsOfAnswer, IsSearchFault};
 ghost use Rattle.mairix_tool.specs.Replies.{IsConsistent, KeepsRawBack};
+ghost use Rattle.mairix_tool.specs.Searching.{SearchesFor, SearchesStored, VerifiesWhere};
 ghost use Rattle.mairix_tool.specs.Runs.{IsReply, IsStoredReply, IsProvedAndTold, IsStaleOr, TellsProved, unproved_archive, RepliesBy, reply_of, IsRefusedAs, IsIndexRefusal, IsForNoOtherCause, IsThisOrMemory, IsCountedWhere, WereVerified, is_too_old, renamed_archive};
 
 use crate::reply::Reply;
@@ -86,6 +87,12 @@ pub fn search_run<A: Archives, O: Out>(
     ensures read { (w : Asked) (t : Table) → asks words.now rc.now now ≡ Ok w
         → IsFileOf index.now t → WereVerified t.archives w.verify result.fault }
 
+    // Whatever the archives hold: with `--verify` they are verified first. Then their lengths are asked before anything else, and a
+    // raw answer asks nothing more. The reply is what that finds. An mbox answer has the bytes of each message, each closed.
+    ensures searched { (w : Asked) (t : Table) → asks words.now rc.now now ≡ Ok w
+        → IsFileOf index.now t
+        → SearchesStored A.Archives O.Out w t archives.old archives.new out.old out.new result }
+
     // Whatever the archives hold: a refusal of words, rcfile, query, index, its version or paths is answered, before any archive
     // is asked. Nothing has gone out either where a raw answer finds the archives changed or can't read them.
     ensures refused { (fault : Fault) → IsRefusedAs (asks words.now rc.now now) index.now fault
@@ -129,6 +136,9 @@ fn answer_stored<A: Archives, O: Out>(
         (reply_of result).fault (reply_of result) (O.taken out.old) (O.taken out.new) }
     ensures read { (t : Table) → IsFileOf index.now t
         → WereVerified t.archives wanted.now.verify (reply_of result).fault }
+    ensures searched { (t : Table) → IsFileOf index.now t
+        → SearchesStored A.Archives O.Out (wanted_of wanted.now) t
+        archives.old archives.new out.old out.new (reply_of result) }
     ensures refused { (fault : Fault) → IsIndexRefusal (wanted_of wanted.now) index.now fault
         → (fault_in result ≡ Some fault) × (archives.new ≡ archives.old) × (out.new ≡ out.old) }
     ensures raw { KeepsRawBack (wanted_of wanted.now).search (fault_in result) out.old out.new }
@@ -164,6 +174,8 @@ fn answer_opened<A: Archives, O: Out>(
     ensures read { WereVerified view.now.archives wanted.now.verify (reply_of result).fault }
     ensures asks { AsksIndex A.Archives O.Out (wanted_of wanted.now).search
         archives.old archives.new out.old out.new result }
+    ensures searched { SearchesFor A.Archives O.Out (wanted_of wanted.now) view.now
+        archives.old archives.new out.old out.new (reply_of result) }
 {
     prove_archives(alloc, view, wanted, archives)?;
     answer_view(alloc, view, wanted, archives, out)
@@ -182,6 +194,8 @@ fn prove_archives<A: Archives>(
     ensures proved { IfSome (A.held archives.old) (λ held. TellsProved
         (unproved_archive wanted.now.verify view.now.archives held) result) }
     ensures read { WereVerified view.now.archives wanted.now.verify (fault_in result) }
+    ensures asked { VerifiesWhere A.Archives wanted.now.verify view.now.archives
+        archives.old archives.new result }
     ensures own { IfErr result IsOfAnswer }
     ensures archives_failed { Counted (is_failed_archives (fault_in result))
         (A.failures archives.old) (A.failures archives.new) }

@@ -2,6 +2,7 @@
 ghost use Rattle.std.specs.Prelude.{◌≡◌, ◌<◌, ◌^◌, ◌-◌, ℕ, List, Some};
 ghost use Rattle.mairix_tool.specs.Asked.{wanted as wanted_of};
 ghost use Rattle.mairix_tool.specs.Inside.Answering.{AsksIndex};
+ghost use Rattle.mairix_tool.specs.Searching.{Searches};
 ghost use Rattle.mairix_tool.specs.Runs.{IsTold, RepliesBy, reply_of, IsCountedWhere, fault_of_answer_kind};
 
 use crate::wanted::Wanted;
@@ -29,6 +30,8 @@ pub(crate) fn answer_view<A: Archives, O: Out>(
         (O.taken out.old) (O.taken out.new) }
     ensures asks { AsksIndex A.Archives O.Out (wanted_of wanted.now).search
         archives.old archives.new out.old out.new result }
+    ensures searched { Searches A.Archives O.Out index.now (wanted_of wanted.now).search
+        archives.old archives.new out.old out.new (reply_of result) }
 {
     answer(
         alloc,

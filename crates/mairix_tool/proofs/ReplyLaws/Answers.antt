@@ -6,6 +6,7 @@ use Rattle.mail_answer.specs.declared.fault.AnswerFault.{AnswerFault}
 use Rattle.mail_answer.specs.declared.fault.AnswerFaultKind.{AnswerFaultKind}
 use Rattle.mail_answer.specs.declared.fault.AnswerFaultKind.TheVariants as kind
 use Rattle.mail_answer.specs.Sheets.{Tells}
+use Rattle.mairix_tool.specs.Searching.{run_of_answer}
 
 -- the text that is known is the answer's
 known-text : (format : Format) (t : Table) (h : List (List ℕ)) (ns : List ℕ) (text : List ℕ) → Tells (known_answer format t (Some h) ns) text → answer_text format t h ns ≡ text
@@ -19,12 +20,7 @@ keeps-appends a b h = grind (arith, append-nil)
 keeps-sends : (a b : Option (List ℕ)) (text : List ℕ) → Keeps a b → Sends a b text
 keeps-sends a b text k = ([], text, refl, keeps-appends a b k)
 
--- what is told of what a table answered
-abbrev pub told_of : Result ℕ AnswerFault → Result ℕ Fault
-told_of (Ok messages) = Ok messages
-told_of (Err fault) = Err (fault_of_answer_kind fault.kind)
-
-pub told-so : (r : Result ℕ AnswerFault) (told : Result ℕ Fault) → MatchResult r (λ messages. told ≡ Ok messages) (λ fault. IsErrAnd told (λ e. e ≡ fault_of_answer_kind fault.kind)) → told ≡ told_of r
+pub told-so : (r : Result ℕ AnswerFault) (told : Result ℕ Fault) → MatchResult r (λ messages. told ≡ Ok messages) (λ fault. IsErrAnd told (λ e. e ≡ fault_of_answer_kind fault.kind)) → told ≡ run_of_answer r
 told-so (Ok messages) told h = h
 told-so (Err fault) (Ok messages) h = absurd h
 told-so (Err fault) (Err e) h = ap Err h
@@ -62,13 +58,13 @@ err-by F (Some m) kind.OutOfMemory sent old new stale sends = let kinds : kind.O
 err-by F (Some m) kind.OutFailed sent old new stale sends = let kinds : kind.OutFailed ≡ kind.Stale m = ap (λ (f : AnswerFault). f.kind) stale.0 in absurd cc
 
 pub told-by : (t : Table) (s : Search) (h : List (List ℕ)) (old new : Option (List ℕ)) (r : Result ℕ AnswerFault) → ((a : TableAnswer) → IsTableAnswer t s (Some h) a → Answers old new a r)
-    → AnswersStale old new (stale_archive t.archives h) r → RepliesBy (IsTold t s h) (reply_of (told_of r)) old new
+    → AnswersStale old new (stale_archive t.archives h) r → RepliesBy (IsTold t s h) (reply_of (run_of_answer r)) old new
 told-by t s h old new (Ok count) given fresh = ok-told t s h old new count given fresh
 told-by t s h old new (Err fault) given stale = err-by (IsFoundIn t s h) (stale_archive t.archives h) fault.kind fault.sent old new stale (front-sent t s h old new fault given)
 
 -- whatever the archives hold, the messages are counted
 pub counted-by : (t : Table) (s : Search) (held : Option (List (List ℕ))) (old new : Option (List ℕ)) (r : Result ℕ AnswerFault) → ((a : TableAnswer) → IsTableAnswer t s held a → Answers old new a r)
-    → IsCountedWhere t s held (reply_of (told_of r)).fault (reply_of (told_of r)) old new
+    → IsCountedWhere t s held (reply_of (run_of_answer r)).fault (reply_of (run_of_answer r)) old new
 counted-by t s held old new (Err fault) given = tt
 counted-by t s held old new (Ok count) given =
     let some = some-chosen t s.threads s.query in

@@ -1,7 +1,9 @@
-use Rattle.mairix_tool.proofs.Words.{◌≡◌, ℕ, map, length, IfOk, sym, subst, string_bytes, arith, Result, Fault, Wanted, wanted, asked}
+use Rattle.mairix_tool.proofs.Words.{◌≡◌, ℕ, map, length, IfOk, sym, subst, string_bytes, arith, Result, Fault, Wanted, wanted, asked, inl}
 use Rattle.contract_words.proofs.DeviceLists.{known_length}
 use Rattle.mairix_tool.proofs.ArchiveLaws.AskedPaths.{asked-many, asked-paths}
+use Rattle.run_faults.specs.Faults.{IsOfIndexing}
 use Rattle.mairix_tool.proofs.ReplyLaws.Once.{early-once, same-bytes}
+use Rattle.mairix_tool.proofs.ReplyLaws.Searching.{asks-nothing, same-asked, wants-memory}
 use Rattle.mairix_tool.proofs.once.once_run.Goals as goal
 
 pub answer_indexed-requires-clause-paths : goal.answer_indexed-requires-clause-paths
@@ -28,3 +30,25 @@ returns-in-Ok-clause-changed g c = λ bytes held known holds.
 
 pub returns-in-Ok-clause-reply : goal.returns-in-Ok-clause-reply
 returns-in-Ok-clause-reply g c = grind (arith, known_length, same-bytes, string_bytes, asked-many, returns-in-Ok-clause-changed)
+
+pub returns-in-Err-clause-searched : goal.returns-in-Err-clause-searched
+returns-in-Err-clause-searched g c = λ w is.
+    let words = map string_bytes c.args.words.now in
+    let fault = c.in-Err.fault in
+    let memory = wants-memory (asked words c.args.rc.now c.args.now) w fault is c.in-Err.ensures.asked c.in-Err.ensures.early in
+    inl (rw c.of-in-Err.ensures (asks-nothing IsOfIndexing fault c.args.archives.now c.args.out.now (rw memory tt)))
+
+pub returns-in-Ok-clause-searched : goal.returns-in-Ok-clause-searched
+returns-in-Ok-clause-searched g c = λ w is.
+    let words = map string_bytes c.args.words.now in
+    let same = same-asked (asked words c.args.rc.now c.args.now) (wanted c.in-Ok.wanted) w c.in-Ok.ensures.asked is in
+    rw (← same, c.of-in-Ok.ensures) c.answer_indexed.ensures.searched
+
+pub returns-in-Err-clause-counted : goal.returns-in-Err-clause-counted
+returns-in-Err-clause-counted g c = λ w bytes is known. rw c.of-in-Err.ensures tt
+
+pub returns-in-Ok-clause-counted : goal.returns-in-Ok-clause-counted
+returns-in-Ok-clause-counted g c = λ w bytes is known.
+    let words = map string_bytes c.args.words.now in
+    let same = same-asked (asked words c.args.rc.now c.args.now) (wanted c.in-Ok.wanted) w c.in-Ok.ensures.asked is in
+    rw (← same, c.of-in-Ok.ensures) (c.answer_indexed.ensures.counted bytes known)

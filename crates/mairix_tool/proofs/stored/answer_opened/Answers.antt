@@ -1,5 +1,6 @@
 use Rattle.mairix_tool.proofs.Words.{◌≡◌, ◌∙◌, ℕ, List, Option, None, Err, IfSome, sym, subst, wanted, IsStaleOr, IsTold, RepliesBy, TellsProved, unproved_archive, reply_of}
 use Rattle.std.proofs.lemmas.Result.{err_from_is_err_and}
+use Rattle.mairix_tool.proofs.ReplyLaws.Searching.{unverified-searched, verified-searched}
 use Rattle.mairix_tool.proofs.ReplyLaws.Stored.{unproved-replied, still-verified}
 use Rattle.mairix_tool.proofs.stored.answer_opened.Goals as goal
 
@@ -22,3 +23,15 @@ returns-clause-told g c = λ held holds.
 
 pub returns-clause-read : goal.returns-clause-read
 returns-clause-read g c = still-verified c.args.view.now.archives c.args.wanted.now.verify (reply_of c.answer_view.result).fault c.in_ok-prove_archives.ensures.read
+
+pub returns-in_err-prove_archives-clause-searched : goal.returns-in_err-prove_archives-clause-searched
+returns-in_err-prove_archives-clause-searched g c =
+    let w = wanted c.args.wanted.now in
+    let p = err_from_is_err_and c.from_residual.result c.from_residual.ensures.1 in
+    rw (p.1, p.2) (unverified-searched g.A.Archives g.O.Out c.args.view.now w.search c.args.archives.now c.prove_archives.new.archives w.verify c.in_err-prove_archives.field-0.0 c.args.out.now c.in_err-prove_archives.ensures.asked)
+
+pub returns-clause-searched : goal.returns-clause-searched
+returns-clause-searched g c =
+    let w = wanted c.args.wanted.now in
+    verified-searched g.A.Archives g.O.Out c.args.view.now w.search c.args.archives.now c.prove_archives.new.archives w.verify _ c.answer_view.new.archives c.args.out.now c.answer_view.new.out (reply_of c.answer_view.result)
+    c.in_ok-prove_archives.ensures.asked c.answer_view.ensures.searched

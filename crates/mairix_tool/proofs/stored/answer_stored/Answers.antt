@@ -1,5 +1,6 @@
 use Rattle.mairix_tool.proofs.Words.{◌^◌, ◌<◌, length, arith, Wanted, wanted, reply_of}
 use Rattle.mairix_tool.proofs.ReplyLaws.Stored.{answered-for, refused-for, refused-stored, has-digests, stored-told, stored-counted, stored-read}
+use Rattle.mairix_tool.proofs.ReplyLaws.Searching.{opened-searched, refused-searched}
 use Rattle.mairix_tool.proofs.stored.answer_stored.Goals as goal
 
 pub returns-in_err-view-clause-told : goal.returns-in_err-view-clause-told
@@ -31,3 +32,14 @@ returns-clause-read g c = λ t file.
 
 pub returns-clause-no_other_cause : goal.returns-clause-no_other_cause
 returns-clause-no_other_cause g c = grind (arith, answered-for)
+
+pub returns-in_err-view-clause-searched : goal.returns-in_err-view-clause-searched
+returns-in_err-view-clause-searched g c = λ t file.
+    let few : length c.args.index.now < 2 ^ 64 = omega (arith, c.well_formed) in
+    refused-searched g.A.Archives g.O.Out (wanted c.args.wanted.now) c.args.index.now few t file _ _ _ _ _ c.in_err-view.field-0.0 c.in_err-view.ensures.refused
+
+pub returns-clause-searched : goal.returns-clause-searched
+returns-clause-searched g c = λ t file.
+    let few : length c.args.index.now < 2 ^ 64 = omega (arith, c.well_formed) in
+    opened-searched g.A.Archives g.O.Out (wanted c.args.wanted.now) c.args.index.now few t file c.args.archives.now c.answer_opened.new.archives c.args.out.now c.answer_opened.new.out (reply_of c.answer_opened.result)
+    c.in_ok-view.view c.in_ok-view.ensures.table c.answer_opened.ensures.searched

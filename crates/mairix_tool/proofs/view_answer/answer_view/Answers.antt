@@ -1,4 +1,4 @@
-use Rattle.mairix_tool.proofs.Words.{ℕ, List, Option, arith, subst, AnswersStale, stale_archive, TableAnswer, IsTableAnswer, Answers, IfSome, wanted}
+use Rattle.mairix_tool.proofs.Words.{ℕ, List, Option, arith, subst, AnswersStale, stale_archive, TableAnswer, IsTableAnswer, Answers, IfSome, wanted, ap, reply_of}
 use Rattle.mairix_tool.proofs.ReplyLaws.Answers.{told-so, told-by, counted-by}
 use Rattle.mairix_tool.proofs.view_answer.answer_view.Goals as goal
 
@@ -17,3 +17,16 @@ pub returns-clause-counted : goal.returns-clause-counted
 returns-clause-counted g c =
     rw (told-so c.answer.result c.map_err.result (grind arith))
     (counted-by c.args.index.now (wanted c.args.wanted.now).search (g.A.Archives.held c.args.archives.now) (g.O.Out.taken c.args.out.now) (g.O.Out.taken c.answer.new.out) c.answer.result c.answer.ensures.answered)
+
+pub returns-clause-searched : goal.returns-clause-searched
+returns-clause-searched g c = record {
+  found = c.answer.result;
+  replied = ap reply_of (told-so c.answer.result c.map_err.result (grind arith));
+  keeps = c.answer.ensures.keeps;
+  other_count = c.answer.ensures.other_count;
+  asked = c.answer.ensures.asked;
+  answered = c.answer.ensures.answered;
+  spans = c.answer.ensures.spans;
+  stale = c.answer.ensures.stale;
+  unwritten = c.answer.ensures.unwritten;
+}
