@@ -1,12 +1,12 @@
 -- What a run does to archives and output, from what its steps do: verification, then a search.
-use Rattle.mairix_tool.proofs.Words.{◌≡◌, ◌^◌, ◌<◌, ℕ, Bool, true, false, List, Option, None, Some, Result, Ok, Err, IfSome, refl, sym, ap, subst, arith, inl, inr, length, map, IsFileOf, Archive, Table, Mbox, table, mboxes, Fault, Reply, Wanted, IsIndexRefusal, IsRefusedAs, is_too_old, renamed_archive, refusal_of, reply_of, Search, false≢true, IsWellFormed}
+use Rattle.mairix_tool.proofs.Words.{◌≡◌, ◌^◌, ◌<◌, ℕ, Bool, true, false, List, Option, None, Some, Result, Ok, Err, IfSome, refl, sym, ap, subst, arith, inr, length, map, IsFileOf, Table, table, mboxes, Fault, Reply, Wanted, IsIndexRefusal, is_too_old, renamed_archive, refusal_of, reply_of, Search, false≢true, IsWellFormed}
 use Rattle.mail_answer.specs.declared.archives.Archives.{Ghosts}
 use Rattle.mbox_cutter.specs.declared.device.Out.{Ghosts as OutGhosts}
 use Rattle.mail_index.proofs.FileLaws.Accepts.{no_fault}
 use Rattle.mail_index.proofs.FileLaws.SameTable.{same-table}
-use Rattle.run_faults.specs.Faults.{IsEarly, IsOfIndexing}
+use Rattle.run_faults.specs.Faults.{IsEarly}
 use Rattle.run_faults.specs.declared.fault.Fault.TheVariants as of
-use Rattle.mairix_tool.specs.Searching.{AsksNothing, IndexesAndSearches, IsIndexed, Searches, SearchesFor, SearchesStored, VerifiesAndSearches, VerifiesWhere}
+use Rattle.mairix_tool.specs.Searching.{AsksNothing, IsIndexed, Searches, SearchesFor, SearchesStored, VerifiesAndSearches, VerifiesWhere}
 use Rattle.std.specs.Bool.{MatchBool}
 
 -- the reply to a fault of archives that were verified
