@@ -7,6 +7,9 @@ A row has an edit of crates/CRATE/must-fail, small archives or an index file, th
 status that are right, which were worked out by hand. The code as it is must answer so. With the edit it must answer
 otherwise, or stop.
 
+An edit of crates/CRATE/only-tests is wrong too, but no clause can refuse it, because it reports lack of memory. There a
+row, with ample memory, is what refuses it.
+
 All edits are tried in one copy of the repository, which the kit builds and runs unproved (`rt try`). There each
 edited function has the bodies of its edits beside its own, and a number on standard input chooses the edit. So the
 edits change only bodies.
@@ -38,6 +41,7 @@ HELLO = "^Subject: Hello||hi||"
 NESTED = "Content-Type: multipart/mixed; boundary=o||--o|"
 MAIL = {
     "hello": HELLO,
+    "none": "hello|",
     # A raw answer of one message fills seven bytes.
     "m": HELLO,
     "changed": "^Subject: World||hi||",
@@ -121,6 +125,7 @@ COUSINS = "0 79 first|0 79 second|"
 ROWS = {
     "mbox_cutter/separator_without_date": Row("two", "-r s:one/two", 0, BOTH),
     "mbox_cutter/last_message_lost": Row("unclosed", "-r s:hello", 0, "0 57 unclosed|"),
+    "index_run/an_archive_at_fault_is_lack_of_memory": Row("none", "-r s:hello", 4, ""),
     "index_job/ascii_words_not_folded": Row("hello", "-r s:hello", 0, FOUND),
     "index_job/words_not_folded": Row("folded", "-r s:GRÜSSE", 0, "0 78 folded|"),
     "mime_text/base64_is_read_line_by_line": Row("coded", "-r b:für", 0, "0 124 coded|"),
@@ -293,7 +298,9 @@ def crate_of(name):
 
 def read(name):
     crate, _, edit = name.partition("/")
-    return read_edit(TOP / "crates" / crate / "must-fail" / f"{edit}.edit", crate_of(crate))
+    folder = TOP / "crates" / crate
+    files = [folder / part / f"{edit}.edit" for part in ("must-fail", "only-tests")]
+    return read_edit(next(it for it in files if it.is_file()), crate_of(crate))
 
 
 def wrong_with(edit):
