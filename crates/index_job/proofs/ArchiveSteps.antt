@@ -1,4 +1,4 @@
--- What the reading of an archive's messages, one after another, makes of a builder's draft.
+-- What reading an archive's messages, one after another, makes of a builder's draft.
 use Rattle.index_job.proofs.Words.{true, false, nat_lt, if◌then◌else◌, ◌≡◌, ◌∙◌, ◌+◌, ◌≤◌, ◌<◌, ◌++◌, ℕ, suc, List, [], ◌∷◌, length, Option, Some, option_map, unwrap_or, refl, sym, ap, subst, arith, append_assoc, append-nil, ⊎_elim, Ok, Err, length-map, map-append, ◌>>=◌, Draft, archive_count, begun_archive, stepped, TooMany, nat_tests, Key, Message, text, CutFault, Coming, JobFault, coming_ahead, Heads, AddsMessages, HasDone, with_terms, with_messages, with_open_archive, draft_with_messages, HasTooMany, IsJobFault, message_terms}
 use Rattle.std.proofs.lemmas.List.{length-append}
 use Rattle.index_job.specs.declared.archive_reading.Heading.TheVariants as heading
@@ -20,11 +20,11 @@ module _ (number : ℕ) where
   pub no-messages : (d : Draft) → draft_with_messages number [] d ≡ d
   no-messages d = ap (λ rs. record d { table = record d.table { messages = rs } }) (append-nil d.table.messages)
 
-  -- messages, and then others
+  -- adding messages in two steps is adding them at once
   pub then-messages : (xs ys : List Message) (d : Draft) → draft_with_messages number (xs ++ ys) d ≡ draft_with_messages number ys (draft_with_messages number xs d)
   then-messages xs ys d = grind (arith, length-append, length-map, map-append, append_assoc, with_messages-append)
 
-  -- a draft with more messages has too much where it had
+  -- a draft with too much has too much with more messages, too
   still-too-many : (ys : List Message) (d : Draft) → HasTooMany d → HasTooMany (draft_with_messages number ys d)
   still-too-many ys d h = grind (arith, ⊎_elim, length-append, with_messages-more)
 
@@ -39,7 +39,7 @@ module _ (number : ℕ) (d : Draft) (all : ℕ) (ms : Option (List Message)) (re
   abbrev pub whole_draft : Draft
   whole_draft = draft_with_messages number (unwrap_or ms []) d
 
-  -- before the first
+  -- before the first message none is done
   pub done-none : (builder : Option Draft) (coming : Option Coming) → builder ≡ Some d → coming ≡ Some (coming_ahead all ms refusal) → HasDone number d all ms refusal 0 builder coming
   done-none builder coming is comes = record {
     done = [];
@@ -54,7 +54,7 @@ module _ (number : ℕ) (d : Draft) (all : ℕ) (ms : Option (List Message)) (re
       same o = grind arith
 
   module _ (count : ℕ) (builder : Option Draft) (coming : Option Coming) (h : HasDone number d all ms refusal count builder coming) where
-    -- a fault between two messages
+    -- a fault between two messages is a fault of the archive
     pub between-fault : (f : JobFault) → IsJobFault refusal ⊥ f → IsJobFault refusal (HasTooMany whole_draft) f
     between-fault f = weaker refusal ⊥ (HasTooMany whole_draft) (λ never. elim never [ ]) f
 
@@ -62,7 +62,7 @@ module _ (number : ℕ) (d : Draft) (all : ℕ) (ms : Option (List Message)) (re
       ms-is : ms ≡ Some ((h.done ++ m ∷ []) ++ later)
       ms-is = h.whole ∙ ap (option_map (λ l. h.done ++ l)) rest-is ∙ ap Some (sym (append_assoc h.done (m ∷ []) later))
 
-      -- a fault in a message
+      -- a fault inside a message is a fault of the archive
       pub inside-fault : (f : JobFault) → IsJobFault refusal (HasTooMany (draft_with_messages number (m ∷ []) (draft_with_messages number h.done d))) f → IsJobFault refusal (HasTooMany whole_draft) f
       inside-fault f =
           weaker refusal _ (HasTooMany whole_draft)
@@ -71,7 +71,7 @@ module _ (number : ℕ) (d : Draft) (all : ℕ) (ms : Option (List Message)) (re
           (still-too-many number later (draft_with_messages number (h.done ++ m ∷ []) d) (subst HasTooMany (sym (then-messages number h.done (m ∷ []) d)) much)))
           f
 
-      -- a message more
+      -- after one more message, that one is done too
       pub done-more : (builder' : Option Draft) (coming' : Option Coming) → builder' ≡ Some (draft_with_messages number (m ∷ []) (draft_with_messages number h.done d))
           → coming' ≡ Some (coming_ahead all (Some later) refusal) → HasDone number d all ms refusal (count + 1) builder' coming'
       done-more builder' coming' is comes = record {
@@ -83,13 +83,13 @@ module _ (number : ℕ) (d : Draft) (all : ℕ) (ms : Option (List Message)) (re
         comes = comes;
       }
 
-    -- all are done at the archive's end
+    -- at the archive's end all messages are done
     pub archive-done : (bytes : ℕ) → Heads (heading.End bytes) all h.rest refusal coming → AddsMessages number d all ms refusal (Ok (record { messages = count; length = bytes })) builder
     archive-done bytes (none, same, sound) = grind (arith, unwrap_or, option_map, append-nil)
 
 -- ---- an archive with its path
 
--- where an archive has begun, there was room for it
+-- if an archive has begun, there was room for it
 pub begun-is : (path : List ℕ) (d : Draft) (new : Option Draft) → stepped (begun_archive path) (Some d) ≡ Ok new → (archive_count d < d.most) × (new ≡ Some (with_open_archive path d))
 begun-is path d new given =
     (elim (nat_lt (length d.table.archives) d.most)

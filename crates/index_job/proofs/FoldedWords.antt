@@ -1,4 +1,4 @@
--- Folded words that lie one behind another, and the terms that they are.
+-- Laws of folded words, one after another in memory, and of their terms.
 use Rattle.index_job.proofs.Words.{◌≡◌, ◌≤◌, ◌<◌, ◌+◌, ℕ, List, [], ◌∷◌, ◌++◌, length, map, take, drop, get_or, refl, sym, ap, ap₂, subst, ◌∙◌, arith, IsAscii, length-append, append-nil, Global, String, string_bytes, string_len, sum, AllByRecursion, concat, drop_more, map-append, Text, TextKind, folding, words, cut, HoldsWords, HasTermLength, Term, word_terms, text_terms}
 use Rattle.std.proofs.Math.Seq.{take-append_seam, drop-append_seam}
 use Rattle.std.proofs.lemmas.List.Folds.{concat-append}
@@ -20,7 +20,7 @@ all-push : (ws : List (List ℕ)) (w : List ℕ) → AllByRecursion HasTermLengt
 all-push [] w all sized = (sized, tt)
 all-push (v ∷ ws) w all sized = (all.0, all-push ws w all.1 sized)
 
--- of a word that was folded behind others
+-- the string and its length after a word was appended
 pub grown : (old new : String Global) (word : List ℕ) → string_bytes new ≡ string_bytes old ++ word → string_len new ≡ string_len old + length word
 grown old new word is = omega (arith, ap length is, length-append (string_bytes old) word, old.bytes.ok.0, new.bytes.ok.0)
 
@@ -31,7 +31,7 @@ pub holds-push : (old new : FoldingRoom) (ws : List (List ℕ)) (w : List ℕ) �
     → HasTermLength w → HoldsWords new (ws ++ w ∷ [])
 holds-push old new ws w h bytes lengths sized = grind (arith, append-nil, concat-append, map-append, all-push, sized)
 
--- what is in a room, cut to its lengths
+-- the bytes of a room, cut to its lengths, are its words
 pub held-cut : (room : FoldingRoom) (ws : List (List ℕ)) → HoldsWords room ws → cut room.lengths.items (string_bytes room.folded) ≡ ws
 held-cut room ws h = ap₂ cut h.lengths h.bytes ∙ cut-words ws
 
@@ -56,11 +56,11 @@ folded-terms : (kind : TextKind) (ws : List (List ℕ)) → word_terms kind (map
 folded-terms kind [] = refl
 folded-terms kind (w ∷ ws) = ap (λ (ts : List Term). (Text kind, folding w) ∷ ts) (folded-terms kind ws)
 
--- those of a text of ASCII that was folded whole
+-- the terms of a text of ASCII that was folded as a whole
 pub terms-of-ascii : (kind : TextKind) (text folded : List ℕ) → IsAscii text → folded ≡ folding text → word_terms kind (words folded) ≡ text_terms (kind, text)
 terms-of-ascii kind text folded ascii is = grind (arith, words-folding-ascii, folded-terms)
 
--- those of a text whose words were folded into a room
+-- the terms of a text whose words were folded into a room
 pub terms-of-held : (kind : TextKind) (text : List ℕ) (room : FoldingRoom) → HoldsWords room (map folding (words text))
     → word_terms kind (cut room.lengths.items (string_bytes room.folded)) ≡ text_terms (kind, text)
 terms-of-held kind text room h = ap (word_terms kind) (held-cut room (map folding (words text)) h) ∙ folded-terms kind (words text)

@@ -1,4 +1,4 @@
--- What gathering a line more, or the end, makes of a builder's draft.
+-- What gathering one more line, or the end, makes of a builder's draft.
 use Rattle.index_job.proofs.Words.{◌≡◌, false, ◌∙◌, ℕ, List, [], ◌∷◌, ◌++◌, Option, Some, option_map, flat_map, sym, ap, subst, ⊎_elim, append-nil, arith, ◌⊎◌, Result, Ok, Err, IfErr, flat_map-append, fields_of, Draft, TextKind, MessageText, Facts, facts_of, Pair, TakesAll, Breaks, texts_of_message, JobFault, with_texts, HasGathered, IsGatherFault, draft_with_terms, RefusesTerms, IsOpenAt, IsBuilderOpen, of_text, Term, text_terms, id_terms, message_terms}
 use Rattle.mime_text.specs.declared.fault.SinkFault.{SinkFault}
 use Rattle.mime_text.specs.declared.fault.SinkFault.TheVariants as sink
@@ -7,7 +7,7 @@ use Rattle.mime_text.specs.Fed.{Feeds, FeedsPart, Finishes, FinishesPart, has_en
 use Rattle.index_job.specs.declared.term_sink.TermSink.{TermSink}
 use Rattle.index_job.proofs.Terms.{joined, still-refuses}
 
--- what a text makes of a sink, and what one that is refused does
+-- how a sink takes a text, and how it refuses one
 abbrev pub Takes : TermSink → TextKind → List ℕ → TermSink → Type 0
 Takes old kind text new = (new.builder.ghost_name ≡ old.builder.ghost_name) × (new.builder.now ≡ option_map (draft_with_terms (text_terms (kind, text))) old.builder.now)
 
@@ -25,21 +25,21 @@ taken : (ps : List Pair) (old new : TermSink) → TakesAll Takes Refuses ps old 
 taken [] old new h = ap (λ (s : TermSink). s.builder.now) h ∙ sym (with_texts-none old.builder.now)
 taken (p ∷ ps) old new h = grind (arith, joined, flat_map, taken ps h.0 new h.2)
 
--- it is the same builder
+-- the builder is the same one
 same-builder : (ps : List Pair) (old new : TermSink) → TakesAll Takes Refuses ps old new → old.builder.ghost_name ≡ new.builder.ghost_name
 same-builder [] old new h = ap (λ (s : TermSink). s.builder.ghost_name) (sym h)
 same-builder (p ∷ ps) old new h = sym h.1.0 ∙ same-builder ps h.0 new h.2
 
--- a draft refuses terms where it refuses those of some of the texts
+-- if a draft refuses the terms of some of the texts, it refuses those of all
 more-refuse : (ps qs : List Pair) (d : Option Draft) → RefusesTerms (with_texts ps d) → RefusesTerms (with_texts (ps ++ qs) d)
 more-refuse ps qs d h = subst RefusesTerms (sym (with_texts-append ps qs d)) (still-refuses (flat_map text_terms qs) (with_texts ps d) h)
 
--- these texts were given, and there a fault came
+-- these texts were given, and the next gave a fault
 broken : (f : TextFault) (ps : List Pair) (old new : TermSink) (d : Option Draft) (before later : List Pair)
     → Breaks Takes Refuses f ps old new → old.builder.now ≡ with_texts before d → IsGatherFault (with_texts ((before ++ ps) ++ later) d) (of_text f)
 broken f ps old new d before later h h2 = grind (arith, ⊎_elim, taken, option_map, with_texts-append, more-refuse, append-nil)
 
--- a line more; the builder is what the sink leaves behind its reference, since it is the same one
+-- one more line is gathered; the builder is what the sink leaves in its reference, because it is the same builder
 pub gathers-line : (text text' : MessageText) (old new : TermSink) (line : List ℕ) (builder : Option Draft) → Feeds Takes Refuses text text' line old new
     → (old.builder.ghost_name ≡ new.builder.ghost_name → builder ≡ new.builder.now)
     → (ls : List (List ℕ)) (d : Option Draft) → HasGathered text old.builder.now d ls → HasGathered text' builder d (ls ++ line ∷ [])
@@ -49,7 +49,7 @@ gathers-line text text' old new line builder h left ls d g = record {
   added = left (same-builder h.pairs old new h.taken) ∙ taken h.pairs old new h.taken ∙ ap (with_texts h.pairs) g.added ∙ sym (with_texts-append g.pairs h.pairs d);
 }
 
--- a line at which a fault comes
+-- a line that gives a fault
 pub line-fails : {T : Type 0} (r : Result T TextFault) (text : MessageText) (old new : TermSink) (line : List ℕ) → (has_ended text ≡ false → IfErr r (λ f. FeedsPart Takes Refuses text line f old new))
     → IfErr r (λ f. (ls ms : List (List ℕ)) (d : Option Draft) → HasGathered text old.builder.now d ls → IsGatherFault (with_texts (texts_of_message (ls ++ line ∷ ms)) d) (of_text f))
 line-fails (Ok x) text old new line h = tt
@@ -58,7 +58,7 @@ line-fails (Err f) text old new line h = λ ls ms d g.
     let rest = part.front ls g.pairs g.fed ms in
     subst (λ ps. IsGatherFault (with_texts ps d) (of_text f)) (sym rest.1) (broken f part.pairs old new d g.pairs rest.0 part.broken g.added)
 
--- the end
+-- the end of the text
 pub gathers-end : (text : MessageText) (old new : TermSink) (builder : Option Draft) → Finishes Takes Refuses text old new
     → (old.builder.ghost_name ≡ new.builder.ghost_name → builder ≡ new.builder.now)
     → (ls : List (List ℕ)) (d : Option Draft) → HasGathered text old.builder.now d ls → builder ≡ with_texts (texts_of_message ls) d
@@ -66,7 +66,7 @@ gathers-end text old new builder h left ls d g =
     left (same-builder h.pairs old new h.taken) ∙ taken h.pairs old new h.taken ∙ ap (with_texts h.pairs) g.added ∙ sym (with_texts-append g.pairs h.pairs d)
     ∙ ap (λ ps. with_texts ps d) (sym (h.whole ls g.pairs g.fed))
 
--- an end at which a fault comes
+-- an end that gives a fault
 pub end-fails : {T : Type 0} (r : Result T TextFault) (text : MessageText) (old new : TermSink) → (has_ended text ≡ false → IfErr r (λ f. FinishesPart Takes Refuses text f old new))
     → IfErr r (λ f. (ls : List (List ℕ)) (d : Option Draft) → HasGathered text old.builder.now d ls → IsGatherFault (with_texts (texts_of_message ls) d) (of_text f))
 end-fails (Ok x) text old new h = tt
@@ -89,7 +89,7 @@ still-gather-fails us o f h = grind (arith, still-refuses)
 pub texts-fail : (ls : List (List ℕ)) (d : Option Draft) (f : JobFault) → IsGatherFault (with_texts (texts_of_message ls) d) f → IsGatherFault (option_map (draft_with_terms (message_terms ls)) d) f
 texts-fail ls d f h = grind (arith, texts-and-ids, still-gather-fails)
 
--- the message is open still behind its texts
+-- the message is still open after its texts
 pub open-behind : (archive place : ℕ) (ls : List (List ℕ)) (d : Draft) (builder : Option Draft) → builder ≡ with_texts (texts_of_message ls) (Some d) → IsOpenAt archive place d → IsBuilderOpen archive place builder
 open-behind archive place ls d builder is h = grind (arith, flat_map)
 
@@ -103,7 +103,7 @@ module _ (facts : Facts) (text : MessageText) (old mid : Option Draft)
       (ap (λ (x : Facts). option_map (draft_with_terms (id_terms x)) mid) (facts-are ls d g) ∙ ap (option_map (draft_with_terms (id_terms (facts_of (fields_of ls))))) (texts-are ls d g) ∙ sym (texts-and-ids ls d))
       h
 
--- a fault of its ids
+-- a fault of the ids is one of the message
 pub ids-fail : {T : Type 0} (r : Result T JobFault) (facts : Facts) (text : MessageText) (old mid : Option Draft)
     → ((ls : List (List ℕ)) (d : Option Draft) → HasGathered text old d ls → facts ≡ facts_of (fields_of ls))
     → ((ls : List (List ℕ)) (d : Option Draft) → HasGathered text old d ls → mid ≡ with_texts (texts_of_message ls) d)

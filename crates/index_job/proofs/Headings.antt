@@ -2,14 +2,14 @@
 use Rattle.index_job.proofs.Words.{ℕ, List, [], ◌∷◌, Option, None, Some, refl, arith, Message, CutFault, Start, Done, Coming, TakesKnown, coming_ahead, Heads}
 use Rattle.index_job.specs.declared.archive_reading.Heading.TheVariants as heading
 
--- a message begins: it is the first that comes
+-- if a message begins, it is the first of those that were to come
 pub heads-message : (all : ℕ) (ms : Option (List Message)) (refusal : Option CutFault) (at : ℕ) (line : List ℕ) (new : Option Coming)
     → TakesKnown (Start at line) (Some (coming_ahead all ms refusal)) new → Heads (heading.Message at) all ms refusal new
 heads-message all None refusal at line new (after, is, (events, same)) = absurd cc
 heads-message all (Some []) refusal at line new (after, is, (events, same)) = absurd cc
 heads-message all (Some (m ∷ later)) refusal at line new (after, is, (events, same)) = grind arith
 
--- the archive ends: no message is left, and nothing is refused
+-- if the archive ends, no message was to come, and nothing is refused
 pub heads-end : (all : ℕ) (ms : Option (List Message)) (refusal : Option CutFault) (length : ℕ) (new : Option Coming)
     → TakesKnown (Done length) (Some (coming_ahead all ms refusal)) new → Heads (heading.End length) all ms refusal new
 heads-end all None refusal length new (after, is, (events, none, same)) = absurd cc

@@ -1,4 +1,4 @@
--- What the reading of a whole message makes of a builder's draft.
+-- What reading a whole message makes of a builder's draft.
 use Rattle.index_job.proofs.Words.{◌≡◌, ◌∙◌, ◌+◌, ◌++◌, ℕ, nat_eq, if◌then◌else◌, List, [], ◌∷◌, Option, Some, option_map, refl, ap, arith, Result, Ok, Err, IfErr, OnOk, fields_of, Record, Draft, end_of, IsInArchive, Message, text, size, span_length, Coming, Facts, MessageText, facts_of, texts_of_message, JobFault, Span, Awaited, HasReadAll, IsMessageFault, AddsMessage, HasGathered, IsGatherFault, with_texts, draft_with_terms, draft_with_messages, with_open_message, HasTooMany, IsReady, IsOpenAt, IsBuilderReady, IsJobFault, IsArchiveFault, ended_with, Term, text_terms, message_terms}
 use Rattle.index_job.proofs.Terms.{with_terms-append}
 use Rattle.index_job.proofs.ReadingLines.{gather-own, gather-is-job}
@@ -12,7 +12,7 @@ end_of-last n (s ∷ t ∷ rs) r = end_of-last n (t ∷ rs) r
 
 -- ---- faults
 
--- what is wrong with a message is that the draft would have too much
+-- a fault of a message is that the draft would have too much
 pub message-fault : (archive : ℕ) (d : Draft) (w : Awaited) (f : JobFault) → IsMessageFault (Some (with_open_message d)) w f → IsJobFault w.refusal (HasTooMany (draft_with_messages archive (w.message ∷ []) d)) f
 message-fault archive d w f h = grind arith
 
@@ -24,7 +24,7 @@ opens archive place d h = record { phase = (h.phase.0, refl); most = h.most; arc
 -- ---- its end
 
 module _ (span : Span) (d : Draft) where
-  -- the draft that a message ends with
+  -- the draft at the end of a message is ready for the next
   pub ended-ready : (facts : Facts) (ts : List Term) → IsReady span.archive span.offset d → IsReady span.archive (span.offset + span.length) (ended_with facts span (draft_with_terms ts (with_open_message d)))
   ended-ready facts ts h = grind (arith, end_of-last)
 
@@ -39,7 +39,7 @@ module _ (span : Span) (d : Draft) where
     rw at (ended-ready (facts_of (fields_of ls)) (flat_map text_terms (texts_of_message ls)) h),
   )
 
-  -- where the message is known, that is the draft with it
+  -- if the message is known, the draft is the one with that message
   ended-is : (m : Message) → IsInArchive d → m.offset ≡ span.offset → span.length ≡ span_length m → span.size ≡ size m
       → ended_with (facts_of (fields_of (text m))) span (draft_with_terms (flat_map text_terms (texts_of_message (text m))) (with_open_message d)) ≡ draft_with_messages span.archive (m ∷ []) d
   ended-is m phase offset length-is size-is = grind (arith, with_terms-append)
@@ -56,7 +56,7 @@ module _ (span : Span) (d : Draft) where
   adds-message w coming (Err f) gathered builder new phase offset h is fails =
       message-fault span.archive d w f (gather-is-job (option_map (draft_with_terms (message_terms (text w.message))) (Some (with_open_message d))) w.refusal f (fails (text w.message) (Some (with_open_message d)) h.whole))
 
--- a message's own fault, whatever comes
+-- a fault inside the message, whatever is to come
 pub own-fault : {T : Type 0} (r : Result T JobFault) (gathered : MessageText) (builder d : Option Draft) (ls : List (List ℕ)) → HasGathered gathered builder d ls
     → IfErr r (λ f. (ls : List (List ℕ)) (d : Option Draft) → HasGathered gathered builder d ls → IsGatherFault (option_map (draft_with_terms (message_terms ls)) d) f) → IfErr r IsArchiveFault
 own-fault (Ok x) gathered builder d ls g fails = tt

@@ -1,4 +1,4 @@
--- The table of archives is the one with the numbers of the messages at their terms.
+-- The table of archives has the numbers of the messages at their terms, and is the only such table.
 use Rattle.index_job.proofs.Words.{◌≡◌, ◌∙◌, ℕ, suc, ◌<◌, ◌≤◌, Bool, true, false, cond, nat_eq, nat_lt, ◌&&◌, List, [], ◌∷◌, ◌++◌, length, map, refl, sym, ap, ap₂, arith, append-nil, append_assoc, bytes_eq, AllByRecursion, nat_tests, Key, KeyBefore, AllNext, newest, IsKey, with_pair, Message, text, Mbox, all_messages, table, with_terms, with_messages, Term, message_terms}
 use Rattle.std.specs.Prelude.{◌≢◌, filter}
 use Rattle.std.specs.List.{enumerate_from}
@@ -26,14 +26,14 @@ use Rattle.index_job.proofs.SoundTables.Keys.{messages-listed, messages-sorted, 
 
 -- ---- a key among sorted ones
 
--- how the sought key compares with it shows whether it is this one
+-- comparing the wanted key with this one decides whether they are the same
 key-compared : (kind : Kind) (term : List ℕ) (k : Key) (o : Ordering) → key_cmp (kind_number kind) term (kind_number k.kind) k.text ≡ o
     → is_key kind term k ≡ is_eq (ordering_reverse o)
 key-compared kind term k o e =
     sym (is_eq-slice_cmp (key_bytes k) (kind_number kind ∷ term))
     ∙ ap is_eq (nat_list_cmp_total.antisymm (key_bytes k) (kind_number kind ∷ term) ∙ ap ordering_reverse e)
 
--- then it has its kind and its text
+-- then the kind and the text are the same
 pub key-same : (kind : Kind) (term : List ℕ) (k : Key) → is_key kind term k ≡ true → (k.kind ≡ kind) × (k.text ≡ term)
 key-same kind term k e = grind (arith, eqb-true, kind_is, bytes_eq-Decides)
 
@@ -43,25 +43,25 @@ key-itself k = grind (arith, nat_list_eq_equiv.refl (key_bytes k))
 sorted-after : (k : Key) (ks : List Key) → AllNext KeyBefore (k ∷ ks) → AllNext KeyBefore ks
 sorted-after k ks h = grind arith
 
--- a key comes before the third too
+-- the first key also comes before the third
 skipped : (k j : Key) (ks : List Key) → AllNext KeyBefore (k ∷ j ∷ ks) → AllNext KeyBefore (k ∷ ks)
 skipped k j [] h = tt
 skipped k j (i ∷ ks) h = (nat_list_cmp_total.trans (key_bytes k) (key_bytes j) (key_bytes i) h.0 h.1.0, h.1.1)
 
--- a key that comes before sorted ones isn't among them
+-- a key that comes before all keys of a sorted list isn't in the list
 pub none-after : (k : Key) (ks : List Key) → AllNext KeyBefore (k ∷ ks) → numbers_at k.kind k.text ks ≡ []
 none-after k [] h = refl
 none-after k (j ∷ ks) h = grind (arith, key-compared k.kind k.text j Less h.0, none-after k ks (skipped k j ks h))
 
 -- ---- sorted keys with the same numbers everywhere are the same
 
--- the first key has its numbers
+-- the first key has a number, so the numbers at its term aren't empty
 none-first : (j : Key) (js : List Key) → 0 < length j.numbers → [] ≢ numbers_at j.kind j.text (j ∷ js)
 none-first j js some e = grind (arith, key-itself j)
 
 module _ (k j : Key) (ks js : List Key) (ks-sorted : AllNext KeyBefore (k ∷ ks)) (js-sorted : AllNext KeyBefore (j ∷ js))
     (same : (kind : Kind) (term : List ℕ) → numbers_at kind term (k ∷ ks) ≡ numbers_at kind term (j ∷ js)) where
-  -- the first keys are one: otherwise the other list hasn't the lower of them
+  -- the first keys are the same: otherwise the lower of them is missing in the other list
   first-same : 0 < length k.numbers → 0 < length j.numbers → k ≡ j
   first-same k-some j-some = go (key_cmp (kind_number k.kind) k.text (kind_number j.kind) j.text) refl
     where
@@ -77,7 +77,7 @@ module _ (k j : Key) (ks js : List Key) (ks-sorted : AllNext KeyBefore (k ∷ ks
           let numbers-same : k.numbers ≡ j.numbers = grind (arith, same k.kind k.text, key-itself k) in
           grind arith
 
-  -- the rest has the same numbers too
+  -- the remaining keys have the same numbers too
   rest-same : k ≡ j → (kind : Kind) (term : List ℕ) → numbers_at kind term ks ≡ numbers_at kind term js
   rest-same e kind term = go (is_key kind term k) refl
     where
@@ -127,11 +127,11 @@ module _ (kind : Kind) (term : List ℕ) where
   abbrev at : List Key → List ℕ
   at ks = numbers_at kind term ks
 
-  -- the numbers, with n where it is added
+  -- the numbers, with n if it is added
   abbrev added : Bool → ℕ → List Key → List ℕ
   added b n ks = cond b (with_number (at ks) n) (at ks)
 
-  -- with a pair more: its number too, where it is of the term
+  -- with one more pair: its number is added if it is of the term
   module _ (n : ℕ) (t : Term) where
     abbrev new : Key
     new = record { kind = t.0; text = t.1; numbers = n ∷ [] }
@@ -170,14 +170,14 @@ module _ (kind : Kind) (term : List ℕ) where
             let apart : is_term t ≡ true → is_key kind term k ≡ false = λ h. grind (arith, term-same h) in
             grind (arith, apart)
 
-  -- with the terms of a message: its number too, where it has the term
+  -- with the terms of a message: its number is added if the message has the term
   terms-at : (n : ℕ) (ts : List Term) (ks : List Key) → AllNext KeyBefore ks
       → at (with_terms n ts ks) ≡ added (has_term kind term ts) n ks
   terms-at n [] ks sorted = refl
   terms-at n (t ∷ ts) ks sorted =
       grind (arith, pair-at n t ks sorted, number-twice (at ks) n, terms-at n ts (with_pair t.0 t.1 n ks) (with_pair-sorted t.0 t.1 n ks sorted))
 
-  -- the numbers of those of the messages, of which the first has this number, that have the term
+  -- the numbers of the messages that have the term, if the first message has the number n
   abbrev pub numbers_from : ℕ → List Message → List ℕ
   numbers_from n ms = map (λ m. m.0) (filter (λ m. has_term kind term (message_terms (text m.1))) (enumerate_from n ms))
 
@@ -185,7 +185,7 @@ module _ (kind : Kind) (term : List ℕ) where
       → numbers_from n (m ∷ ms) ≡ cond (has_term kind term (message_terms (text m))) (n ∷ numbers_from (suc n) ms) (numbers_from (suc n) ms)
   numbers-cons n m ms = grind arith
 
-  -- with messages: the numbers of those of them that have the term
+  -- with messages: the numbers of those that have the term are added
   pub messages-at : (n : ℕ) (ms : List Message) (ks : List Key) → AllNext KeyBefore ks → end_from 0 (at ks) ≤ n
       → at (with_messages n ms ks) ≡ at ks ++ numbers_from n ms
   messages-at n [] ks sorted low = sym (append-nil (at ks))

@@ -1,8 +1,8 @@
--- A message's lines, as they come of its archive and are gathered.
+-- The lines of a message, as its archive gives them and as they are gathered.
 use Rattle.index_job.proofs.Words.{◌≡◌, ◌∙◌, ◌++◌, ℕ, List, [], ◌∷◌, Option, Some, sym, ap, subst, append_assoc, append-nil, arith, Draft, text, size, span_length, CutFault, Line, End, Coming, TakesKnown, MessageText, texts_of_message, Ended, JobFault, Awaited, coming_inside, coming_between, IsReading, HasReadAll, IsMessageFault, HasGathered, IsGatherFault, with_texts, RefusesTerms, IsJobFault, IsArchiveFault}
 use Rattle.index_job.proofs.Gatherings.{texts-fail}
 
--- what comes of known archives goes with the text that is left
+-- what is known to come agrees with the text that is left
 behind-line : (w : Awaited) (rest : List (List ℕ)) (l : List ℕ) (now' : Option Coming) → TakesKnown (Line l) (Some (coming_inside w rest)) now'
     → (left : List (List ℕ)) × (rest ≡ l ∷ left) × (now' ≡ Some (coming_inside w left))
 behind-line w [] l now' (after, is, takes) = absurd cc
@@ -13,7 +13,7 @@ behind-end : (w : Awaited) (rest : List (List ℕ)) (span told_size : ℕ) (now'
 behind-end w (l ∷ rest) span told_size now' (after, is, takes) = absurd cc
 behind-end w [] span told_size now' (after, is, (events, refusal)) = grind arith
 
--- what a fault of gathering is to a job
+-- a fault of gathering is a fault of the job
 pub gather-is-job : (whole : Option Draft) (refusal : Option CutFault) (f : JobFault) → IsGatherFault whole f → IsJobFault refusal (RefusesTerms whole) f
 gather-is-job whole refusal f h = grind arith
 
@@ -21,7 +21,7 @@ pub gather-own : (whole : Option Draft) (f : JobFault) → IsGatherFault whole f
 gather-own whole f h = grind arith
 
 module _ (d : Option Draft) (w : Awaited) (ls rest : List (List ℕ)) (gathered : MessageText) (builder : Option Draft) (now now' : Option Coming) (l : List ℕ) where
-  -- a line more
+  -- one more line is read
   pub reads-line : (gathered' : MessageText) (builder' : Option Draft) → IsReading d w ls rest gathered builder now → TakesKnown (Line l) now now'
       → HasGathered gathered' builder' d (ls ++ l ∷ []) → (more left : List (List ℕ)) × IsReading d w more left gathered' builder' now'
   reads-line gathered' builder' r takes more =
@@ -35,7 +35,7 @@ module _ (d : Option Draft) (w : Awaited) (ls rest : List (List ℕ)) (gathered 
         },
       )
 
-  -- a line at which a fault comes
+  -- a line that gives a fault
   pub line-is-fault : (f : JobFault) → IsReading d w ls rest gathered builder now → TakesKnown (Line l) now now'
       → ((ms : List (List ℕ)) → IsGatherFault (with_texts (texts_of_message (ls ++ l ∷ ms)) d) f) → IsMessageFault d w f
   line-is-fault f r takes fails =
@@ -43,7 +43,7 @@ module _ (d : Option Draft) (w : Awaited) (ls rest : List (List ℕ)) (gathered 
       let whole : ls ++ l ∷ b.0 ≡ text w.message = ap (λ x. ls ++ x) (sym b.1) ∙ sym r.whole in
       gather-is-job _ w.refusal f (texts-fail (text w.message) d f (subst (λ t. IsGatherFault (with_texts (texts_of_message t) d) f) whole (fails b.0)))
 
--- the end
+-- the end of the message is read
 pub reads-end : (d : Option Draft) (w : Awaited) (ls rest : List (List ℕ)) (gathered : MessageText) (builder : Option Draft) (now now' : Option Coming) (ended : Ended)
     → IsReading d w ls rest gathered builder now → TakesKnown (End ended.length ended.size) now now' → HasReadAll d w ended gathered builder now'
 reads-end d w ls rest gathered builder now now' ended r takes =

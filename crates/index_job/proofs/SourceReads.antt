@@ -1,4 +1,4 @@
--- Reads of the source of a cutter, one after another, and the archive's end.
+-- Reads of a cutter's source, one after another, up to the archive's end.
 use Rattle.index_job.proofs.Words.{◌≡◌, ◌∙◌, Bool, true, false, refl, sym, ap, subst, arith, Result, Ok, Err, CutFault, Event, Progress, Advances, shown_result, JobFault, ReadsSource, is_source_failure, of_text}
 use Rattle.std.specs.Borrow.{MutBor}
 use Rattle.mbox_cutter.specs.declared.device.Source.{Ghosts}
@@ -19,7 +19,7 @@ err-says T f = grind arith
 failure-is : {T : Type 0} (r : Result T JobFault) (f : JobFault) → r ≡ Err f → is_source_failure r ≡ says_failure f
 failure-is {T = T} r f is = ap (λ (x : Result T JobFault). is_source_failure x) is ∙ err-says T f
 
--- a text has no fault of the source
+-- reading a text never fails because of the source
 pub text-fault : {U : Type 0} (q : Result U JobFault) (f : TextFault) → q ≡ Err (of_text f) → is_source_failure q ≡ false
 text-fault q f is = grind arith
 
@@ -32,7 +32,7 @@ module _ {S : Type 0} (g : Ghosts S) where
   pub reads-join : (failed : Bool) (a b c : MutBor S) → ReadsSource g false a b → ReadsSource g failed b c → ReadsSource g failed a c
   reads-join failed a b c h h2 = grind (arith, Stays-join)
 
-  -- what comes then doesn't read
+  -- what comes after the reads doesn't read
   pub reads-before : (failed : Bool) (a b : MutBor S) → failed ≡ false → ReadsSource g false a b → ReadsSource g failed a b
   reads-before failed a b none h = subst (λ x. ReadsSource g x a b) (sym none) h
 
@@ -41,7 +41,7 @@ module _ {S : Type 0} (g : Ghosts S) where
     pub reads-passed : {T : Type 0} (r : Result T JobFault) (f : JobFault) (a b : MutBor S) → r ≡ Err f → q ≡ Err f → ReadsSource g (is_source_failure r) a b → ReadsSource g (is_source_failure q) a b
     reads-passed r f a b was is h = subst (λ x. ReadsSource g x a b) (failure-is r f was ∙ sym (failure-is q f is)) h
 
-  -- it tells an event
+  -- the cutter reports an event
   pub event-reads : (old new : Progress S) (r : Result Event CutFault) (e : Event) → r ≡ Ok e → Advances g old (shown_result r) new → ReadsSource g false old.source new.source
   event-reads old new r e is h = grind arith
 

@@ -1,9 +1,9 @@
--- The table of archives with one archive more.
+-- The table of archives with one more archive.
 use Rattle.index_job.proofs.Words.{◌≡◌, ◌∙◌, ◌+◌, ◌<◌, ◌++◌, ℕ, suc, List, [], ◌∷◌, length, map, Option, Some, refl, sym, ap, arith, append_assoc, append-nil, ⊎_elim, Result, Ok, Err, IfSome, flat_map-append, length-map, map-append, sha256, Draft, IsWithinMost, begun_archive, ended_archive, stepped, messages, coming_of, events, refusal_of, ReadArchive, JobFault, coming_ahead, AddsMessages, most_in_archive, most_in_index, IsTooMuch, Mbox, messages_in, all_messages, record_of, records_from, with_messages, table, IsAdded, IsAddFault, draft_of, draft_with_messages, draft_ended, with_open_archive, HasTooMany, IsIdle}
 use Rattle.std.proofs.lemmas.List.{length-append}
 use Rattle.index_job.proofs.ArchiveSteps.{begun-is, with_messages-append}
 
--- what comes of an archive's bytes
+-- what is to come of an archive's bytes
 pub comes-known : (bytes : List ℕ) → coming_of most_in_archive bytes ≡ coming_ahead (length bytes) (messages bytes) (refusal_of most_in_archive bytes)
 unfolding events
 comes-known bytes = refl
@@ -52,7 +52,7 @@ module _ (archives : List Mbox) (a : Mbox) where
     room : length archives < most_in_index
     room = grind (arith, length-map, begun-is)
 
-    -- the archive ended with its length and its digest
+    -- the archive has ended, with its length and its digest
     pub one-added : (read : ReadArchive) (builder : Option Draft) (digest : List ℕ) (new : Option Draft) → Adds (Ok read) builder
         → digest ≡ sha256 a.bytes → stepped (ended_archive read.length digest) builder ≡ Ok new → IfSome new IsWithinMost → IsAdded archives a read.messages new
     one-added read builder digest new adds digest-is gives within = ended (adds (with_open_archive a.path (draft_of archives)) (begun-is a.path (draft_of archives) begun given).1)

@@ -45,7 +45,7 @@ next-link ids i v id here same = grind (arith, drop_more)
 pub joined : (ts us : List Term) (o : Option Draft) → option_map (draft_with_terms (ts ++ us)) o ≡ option_map (draft_with_terms us) (option_map (draft_with_terms ts) o)
 joined ts us o = grind (arith, with_terms-append)
 
--- the draft after more terms has too many keys where it had
+-- a draft with too many keys has too many with more terms, too
 still-fails : (us : List Term) (o : Option Draft) (fault : BuildFault) → IsTermFault o fault → IsTermFault (option_map (draft_with_terms us) o) fault
 still-fails us o fault h = grind (arith, with_terms-more)
 
@@ -55,29 +55,29 @@ fails-first ts us old fault h = grind (arith, joined, still-fails, option_map)
 pub still-refuses : (us : List Term) (o : Option Draft) → RefusesTerms o → RefusesTerms (option_map (draft_with_terms us) o)
 still-refuses us o h = grind (arith, with_terms-more)
 
--- ---- words that wait
+-- ---- words of a batch
 
--- a term that the keys have already is there behind others too
+-- a term that the keys already have is also there after other terms
 terms-had : (n : ℕ) (ts : List Term) (kind : Kind) (text : List ℕ) (ks : List Key) → with_pair kind text n ks ≡ ks → with_terms n (ts ++ (kind, text) ∷ []) ks ≡ with_terms n ts ks
 terms-had n [] kind text ks had = had
 terms-had n (t ∷ ts) kind text ks had = terms-had n ts kind text (with_pair t.0 t.1 n ks) (with_pair-had n t.0 t.1 ks kind text had)
 
--- a word that the message has already needn't wait
+-- a word that the message already has needn't join the batch
 pub word-had : (kind : TextKind) (old : List (List ℕ)) (word : List ℕ) (o : Option Draft) → IfSome o (HasPair (Text kind) word)
     → option_map (draft_with_terms (word_terms kind (old ++ word ∷ []))) o ≡ option_map (draft_with_terms (word_terms kind old)) o
 word-had kind old word o had = grind (arith, map-append, option_map, terms-had)
 
--- a word waits, or all that waited are added first: what is left to add behind it is the same
+-- a word joins the batch, or the batch is added first: either way, the same terms are added in the end
 pub waits-next : (kind : TextKind) (old : List (List ℕ)) (word : List ℕ) (new : List (List ℕ)) (us : List Term) (o n : Option Draft)
     → option_map (draft_with_terms (word_terms kind (old ++ word ∷ []))) o ≡ option_map (draft_with_terms (word_terms kind new)) n
     → option_map (draft_with_terms (word_terms kind old ++ (Text kind, word) ∷ us)) o ≡ option_map (draft_with_terms (word_terms kind new ++ us)) n
 waits-next kind old word new us o n h = grind (arith, map-append, append_assoc, option_map, joined)
 
--- what a reference to a word shows
+-- the bytes of a reference to a word
 abbrev shown : Bor (List ℕ) → List ℕ
 shown word = word.now
 
--- a word that waits, of the first n in an array
+-- a word of the batch, one of the first n in an array
 word-at : (words : List (Bor (List ℕ))) (n i : ℕ) (none : List ℕ) (nothing : Bor (List ℕ)) → i < n → n ≤ length words
     → get_or (map shown (take n words)) i none ≡ (get_or words i nothing).now
 word-at [] n i none nothing below within = absurd (omega (arith, below, within))
@@ -106,8 +106,7 @@ pub waiting-length : (words : List (Bor (List ℕ))) (n i : ℕ) (nothing : Bor 
 waiting-length words n i nothing all below within =
     subst HasTermLength (word-at words n i [] nothing below within) (all-at (map shown (take n words)) i (omega (arith, below, waiting-count words n within)) all)
 
--- a fact that asks nothing of the draft
--- all words that waited are added, and one waits
+-- all words of the batch are added, and the batch has the next word
 pub added-first : (kind : TextKind) (old now : List (List ℕ)) (word : List ℕ) (new : List (List ℕ)) (o n : Option Draft)
     → n ≡ option_map (draft_with_terms (word_terms kind old)) o → now ≡ [] → new ≡ now ++ word ∷ []
     → option_map (draft_with_terms (word_terms kind (old ++ word ∷ []))) o ≡ option_map (draft_with_terms (word_terms kind new)) n

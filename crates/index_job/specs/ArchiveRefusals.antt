@@ -6,31 +6,33 @@ use Rattle.mbox_cutter.specs.declared.event.CutFault.{CutFault}
 use Rattle.mbox_cutter.specs.Events.{refusal_of}
 use Rattle.index_job.specs.ArchiveTables.{Mbox, table}
 
+-- the table has more archives, messages or keys than an index may have
 abbrev pub IsTooMuch : Table → Type 0
 IsTooMuch t = (most_in_index < length t.archives) ⊎ (most_in_index < length t.messages) ⊎ (most_in_index < length t.keys)
 
--- no count passes the limit
+-- the table has no more archives, messages and keys than an index may have
 pub record IsWithinLimit (t : Table) : Type 0 where
   pub archives : length t.archives ≤ most_in_index
   pub messages : length t.messages ≤ most_in_index
   pub keys : length t.keys ≤ most_in_index
 
--- the archive's bytes are refused
+-- the archive's bytes are refused with this fault
 abbrev pub HasCutFault : Mbox → CutFault → Type 0
 HasCutFault a fault = refusal_of most_in_archive a.bytes ≡ Some fault
 
--- no archive is refused, and all together they aren't too much
+-- no archive is refused, and all together are within the limits
 pub record AreSound (archives : List Mbox) : Type 0 where
   pub each : All (λ a. refusal_of most_in_archive a.bytes ≡ None) archives
   pub few : IsWithinLimit (table archives)
 
--- These archives, up to the last, are sound without it, and it is refused: by its bytes, unless it is one archive too many
+-- The archives before the last are sound, and the bytes of the last are refused. There is room for one archive more:
+-- otherwise the bytes don't count.
 pub record IsCutOff (before : List Mbox) (last : Mbox) (fault : CutFault) : Type 0 where
   pub sound : AreSound before
   pub few : length before < most_in_index
   pub refused : HasCutFault last fault
 
--- or because with it they are too much
+-- The archives before the last are sound, and with the last there is too much.
 pub record IsOneTooMany (before : List Mbox) (last : Mbox) : Type 0 where
   pub sound : AreSound before
   pub much : IsTooMuch (table (before ++ last ∷ []))

@@ -1,4 +1,4 @@
--- The table of archives: what an index of them says.
+-- The table of archives, which is what an index of them says.
 use Rattle.std.specs.Prelude.{ℕ, suc, ℤ, List, [], ◌∷◌, ◌++◌, length, map, flat_map, Option, Some, None, unwrap_or}
 use Rattle.sha2.specs.Sha256.{sha256}
 use Rattle.header_text.specs.Headers.{fields_of}
@@ -12,26 +12,27 @@ use Rattle.mime_text.specs.declared.header.facts.Facts.{Facts}
 use Rattle.mime_text.specs.MessageFacts.{facts_of}
 use Rattle.index_job.specs.MessageTerms.{Term, message_terms}
 
--- an archive: its path, and its bytes
+-- an archive: its path and its bytes
 pub record Mbox : Type 0 where
   pub path : List ℕ
   pub bytes : List ℕ
 
--- its messages in order, none where it is no mbox
+-- the messages in an archive's bytes, in order; none if the bytes aren't an mbox
 abbrev pub messages_in : List ℕ → List Message
 messages_in bytes = unwrap_or (messages bytes) []
 
+-- the messages of all archives, by archive, then offset
 abbrev pub all_messages : List Mbox → List Message
 all_messages archives = flat_map (λ a. messages_in a.bytes) archives
 
 -- ---- records
 
--- the second that the Date field tells, where there is one that can be read
+-- the second that a Date field names; None if there is no such field, or if it can't be read
 abbrev pub date_told : Option (List ℕ) → Option ℤ
 date_told None = None
 date_told (Some value) = date_of value
 
--- of a message in the archive of this number, by what its own header says
+-- the record of a message in the archive with this number, given what its own header says
 abbrev pub record_by : ℕ → Message → Facts → Record
 record_by archive m facts = record {
   archive = archive;
@@ -42,33 +43,34 @@ record_by archive m facts = record {
   flags = facts.flags;
 }
 
+-- the record of a message in the archive with this number
 abbrev pub record_of : ℕ → Message → Record
 record_of archive m = record_by archive m (facts_of (fields_of (text m)))
 
--- those of all messages, where the first archive has this number
+-- the records of all messages, if the first archive has the number n
 abbrev pub records_from : ℕ → List Mbox → List Record
 records_from n [] = []
 records_from n (a ∷ archives) = map (record_of n) (messages_in a.bytes) ++ records_from (suc n) archives
 
 -- ---- keys
 
--- the keys, with n among the numbers of each of these terms
+-- the keys with n among the numbers of each of these terms
 abbrev pub with_terms : ℕ → List Term → List Key → List Key
 with_terms n [] ks = ks
 with_terms n (t ∷ ts) ks = with_terms n ts (with_pair t.0 t.1 n ks)
 
--- the keys, with the terms of these messages, of which the first has this number
+-- the keys with the terms of these messages, of which the first has the number n
 abbrev pub with_messages : ℕ → List Message → List Key → List Key
 with_messages n [] ks = ks
 with_messages n (m ∷ ms) ks = with_messages (suc n) ms (with_terms n (message_terms (text m)) ks)
 
 -- ---- tables
 
--- an archive as the table names it: by its path, its length and its digest
+-- the entry of an archive in the table: its path, its length and its digest
 abbrev pub entry_of : Mbox → Archive
 entry_of a = record { path = a.path; length = length a.bytes; digest = Some (sha256 a.bytes) }
 
--- the archives; a record for each message; and each term that some message has, with the numbers of all these messages
+-- the archives; a record for each message; and each term of a message, with the numbers of all messages that have it
 abbrev pub table : List Mbox → Table
 table archives = record {
   version = newest;

@@ -1,4 +1,4 @@
--- What a builder's draft has while archives are indexed.
+-- The drafts of a builder while archives are indexed, and the faults of adding to them.
 use Rattle.std.specs.Prelude.{◌≡◌, ⊤, ℕ, ◌<◌, ◌≤◌, ◌⊎◌, true, false, List, ◌++◌, length, map, Option, None, Some, IfSome, option_map, unwrap_or, [], ◌∷◌, Result}
 use Rattle.std.specs.Result.{MatchResult}
 use Rattle.mail_index.specs.declared.build.build_fault.BuildFault.{BuildFault}
@@ -13,15 +13,15 @@ use Rattle.index_job.specs.ArchiveTables.{Mbox, record_of, with_terms, with_mess
 use Rattle.mail_index.specs.Limits.{most_in_index}
 use Rattle.index_job.specs.MessageTerms.{Term}
 
--- that of archives which have ended
+-- the draft of archives that have all ended
 abbrev pub draft_of : List Mbox → Draft
 draft_of archives = record { most = most_in_index; path = None; in_message = false; table = table archives }
 
--- with these terms of the message that is open
+-- the draft with these terms added to the open message
 abbrev pub draft_with_terms : List Term → Draft → Draft
 draft_with_terms ts d = record d { table = record d.table { keys = with_terms (length d.table.messages) ts d.table.keys } }
 
--- with these messages of the archive of this number
+-- the draft with these messages of the archive with this number
 abbrev pub draft_with_messages : ℕ → List Message → Draft → Draft
 draft_with_messages archive ms d = record d {
   table = record d.table {
@@ -30,73 +30,77 @@ draft_with_messages archive ms d = record d {
   };
 }
 
--- there are more messages or keys than are allowed
+-- the draft has more messages or keys than are allowed
 abbrev pub HasTooMany : Draft → Type 0
 HasTooMany d = (d.most < length d.table.messages) ⊎ (d.most < length d.table.keys)
 
--- the archive of this number is open, and its messages so far end before this place
+-- the archive with this number is open, no message is, and its messages so far end at this place or before it
 pub record IsReady (number place : ℕ) (d : Draft) : Type 0 where
   pub phase : IsInArchive d
   pub most : d.most ≡ most_in_index
   pub archive : archive_count d ≡ number
   pub behind : end_of number d.table.messages ≤ place
 
--- a message of it is open, which begins at this place
+-- a message of the archive with this number is open, and the messages before it end at this place or before it
 pub record IsOpenAt (number place : ℕ) (d : Draft) : Type 0 where
   pub phase : IsInMessage d
   pub most : d.most ≡ most_in_index
   pub archive : archive_count d ≡ number
   pub behind : end_of number d.table.messages ≤ place
 
--- the same of a builder that hasn't failed
+-- the builder hasn't failed, and its draft is ready for the next message
 abbrev pub IsBuilderReady : ℕ → ℕ → Option Draft → Type 0
 IsBuilderReady number place builder = (d : Draft) × (builder ≡ Some d) × IsReady number place d
 
+-- the builder hasn't failed, and its draft has an open message
 abbrev pub IsBuilderOpen : ℕ → ℕ → Option Draft → Type 0
 IsBuilderOpen number place builder = (d : Draft) × (builder ≡ Some d) × IsOpenAt number place d
 
--- so many archives have ended and none is open, and no count passes the limit
+-- this many archives have ended, none is open, and no count is above the limit
 pub record IsIdle (number : ℕ) (d : Draft) : Type 0 where
   pub phase : IsBetweenArchives d
   pub most : d.most ≡ most_in_index
   pub archive : archive_count d ≡ number
   pub within : IsWithinMost d
 
--- the same of a builder that hasn't failed
+-- the builder hasn't failed, and its draft is ready for the next archive
 abbrev pub IsBuilderIdle : ℕ → Option Draft → Type 0
 IsBuilderIdle number builder = (d : Draft) × (builder ≡ Some d) × IsIdle number d
 
+-- the draft with an open archive that has this path
 abbrev pub with_open_archive : List ℕ → Draft → Draft
 with_open_archive path d = record d { path = Some path }
 
--- with the archive ended that is open, which has so many bytes and this digest
+-- the draft with its open archive ended, which has this many bytes and this digest
 abbrev pub draft_ended : ℕ → List ℕ → Draft → Draft
 draft_ended bytes digest d = record d { path = None; table = record d.table { archives = d.table.archives ++ record { path = unwrap_or d.path []; length = bytes; digest = Some digest } ∷ [] } }
 
+-- the draft with an open message
 abbrev pub with_open_message : Draft → Draft
 with_open_message d = record d { in_message = true }
 
 -- ---- terms
 
--- what is wrong where a draft can't become this one
+-- a fault of adding terms; `whole` is the draft with all of them, and None if an earlier call has failed
 abbrev pub IsTermFault : Option Draft → BuildFault → Type 0
 IsTermFault whole build.OutOfMemory = ⊤
 IsTermFault whole build.TooMany = IfSome whole (λ d. d.most < length d.table.keys)
 IsTermFault whole build.Device = ⊥
 IsTermFault whole build.Failed = whole ≡ None
 
--- it would have too many keys, or an earlier call has failed
+-- the draft with all terms has too many keys, or an earlier call has failed
 abbrev pub RefusesTerms : Option Draft → Type 0
 RefusesTerms None = ⊤
 RefusesTerms (Some whole) = whole.most < length whole.table.keys
 
--- these terms are added
+-- these terms are added, or the fault is one of adding them
 abbrev pub AddsTerms : {T : Type 0} → List Term → Result T BuildFault → Option Draft → Option Draft → Type 0
 AddsTerms ts result old new = MatchResult result (λ _. new ≡ option_map (draft_with_terms ts) old) (IsTermFault (option_map (draft_with_terms ts) old))
 
 -- ---- faults
 
--- a fault of a job whose archive is refused so, or has too much
+-- A fault of indexing an archive. `refusal` is why its bytes are refused, if they are. `much` says that the index would
+-- have too much.
 abbrev pub IsJobFault : Option CutFault → Type 0 → JobFault → Type 0
 IsJobFault refusal much (job.Cut Device) = ⊤
 IsJobFault refusal much (job.Cut NotAnMbox) = refusal ≡ Some NotAnMbox
@@ -107,12 +111,12 @@ IsJobFault refusal much job.TooMany = much
 IsJobFault refusal much job.Out = ⊥
 IsJobFault refusal much job.Failed = ⊥
 
--- a cutter that hasn't failed before
+-- any fault of a cutter but that it has failed before
 abbrev pub IsCutFault : CutFault → Type 0
 IsCutFault Failed = ⊥
 IsCutFault _ = ⊤
 
--- what may be wrong with an archive: not the output, and nothing has failed before
+-- any fault of indexing an archive: not a failure of the output, and not that an earlier call has failed
 abbrev pub IsArchiveFault : JobFault → Type 0
 IsArchiveFault (job.Cut fault) = IsCutFault fault
 IsArchiveFault job.OutOfMemory = ⊤

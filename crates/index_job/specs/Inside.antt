@@ -1,4 +1,4 @@
--- What private functions say of one another, and views of fields: it serves proofs alone, and no public clause rests on it.
+-- Definitions for private functions only: what these promise one another. No public clause depends on them.
 pub mod ArchiveReading
 pub mod FoldedWords
 pub mod Gathering

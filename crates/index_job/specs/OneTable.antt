@@ -1,4 +1,4 @@
--- The one table of archives, apart from how it is made.
+-- The table of archives as one list of conditions, independent of how it is made.
 use Rattle.std.specs.Prelude.{◌≡◌, ℕ, ◌<◌, List, length, map, filter}
 use Rattle.std.specs.List.{AllByRecursion, enumerate_from}
 use Rattle.mail_index.specs.declared.kind.Kind.{Kind}
@@ -13,8 +13,8 @@ use Rattle.index_job.specs.MessageTerms.{has_term, message_terms}
 abbrev pub numbers_with : Kind → List ℕ → List Message → List ℕ
 numbers_with kind term ms = map (λ m. m.0) (filter (λ m. has_term kind term (message_terms (text m.1))) (enumerate_from 0 ms))
 
--- It names the archives in order. It has a record of each message, by archive, then offset. And it has the sorted list of all
--- terms that some message has, each with the rising list of the numbers of all these messages.
+-- The table names the archives in order. It has a record of each message, by archive, then offset. Its keys are the
+-- sorted list of all terms of messages, each with the rising list of the numbers of all messages that have it.
 pub record IsTableOf (archives : List Mbox) (t : Table) : Type 0 where
   pub version : t.version ≡ newest
   pub named : t.archives ≡ map entry_of archives

@@ -1,4 +1,4 @@
-//! The reading of one archive, whose messages are added to a builder.
+//! Reads one archive, and adds its messages to a builder.
 ghost use Rattle.std.specs.Prelude.{◌≡◌, ◌<◌, ◌+◌, ◌-◌, ◌^◌, ℕ, List, Option, Some, None, Err, IfOk, IfErr, IfSome, OnOk, length};
 ghost use Rattle.std.specs.Io.KnownBytes.{IsAtEnd};
 ghost use Rattle.std.specs.Option.{MatchOption};
@@ -27,32 +27,32 @@ use mbox_cutter::{Buffer, Cutter, Digested, Event, Source};
 use mime_text::MessageText;
 use std::alloc::Global;
 
-/// The most bytes of an archive.
+/// The most bytes of an archive: 2^40.
 const MOST_IN_ARCHIVE: u64 = 1_099_511_627_776;
 
-/// The end of a message: how long its span and its text are.
+/// The end of a message: the lengths of its span and of its text.
 #[derive(Clone, Copy)]
 struct Ended {
     length: u64,
     size: u64,
 }
 
-/// What comes between two messages: the next begins so many bytes from the archive's front, or the archive has ended with so
-/// many bytes.
+/// What comes between two messages: the next message begins at this offset in the archive, or the archive has ended
+/// with this many bytes.
 #[derive(Clone, Copy)]
 enum Heading {
     Message(u64),
     End(u64),
 }
 
-/// An archive whose messages are indexed, and which hasn't ended in the builder: how many messages and bytes it has.
+/// An archive whose messages are indexed, before its end is added to the builder: its number of messages and of bytes.
 #[derive(Clone, Copy)]
 struct ReadArchive {
     messages: u64,
     length: u64,
 }
 
-/// Reads on to the next message, or to the archive's end, where no message is open.
+/// Reads on to the next message, or to the archive's end, while no message is open. Fails if the cutter does.
 fn next_heading<'a, S: Source>(cutter: &mut Cutter<'a, S>) -> Result<Heading, JobFault>
     requires between { cutter.old.place.phase ≡ Phase.Between }
     requires count { S.failures cutter.old.source.now < 2 ^ 64 - 1 }
@@ -78,7 +78,7 @@ fn next_heading<'a, S: Source>(cutter: &mut Cutter<'a, S>) -> Result<Heading, Jo
     }
 }
 
-/// Gathers the next line of the message that is open, or answers its end.
+/// Gathers the next line of the open message, and returns None; or returns the message's end.
 fn next_line<'a, S: Source>(
     cutter: &mut Cutter<'a, S>,
     text: &mut MessageText,
@@ -120,7 +120,7 @@ fn next_line<'a, S: Source>(
     }
 }
 
-/// Adds the message that has just begun.
+/// Adds the message that has just begun, with all its lines.
 fn add_message<'a, S: Source>(
     text: &mut MessageText,
     cutter: &mut Cutter<'a, S>,
@@ -158,7 +158,7 @@ fn add_message<'a, S: Source>(
     }
 }
 
-/// Adds the archive's messages, one after another, and leaves its end in the builder to the caller.
+/// Adds the archive's messages, one after another. The caller has to end the archive in the builder.
 fn add_messages<'a, S: Source>(
     text: &mut MessageText,
     cutter: &mut Cutter<'a, S>,
@@ -194,8 +194,8 @@ fn add_messages<'a, S: Source>(
     }
 }
 
-/// Reads an archive to its end, and adds its messages, whose texts one reader reads. Its end in the builder is left to the
-/// caller, who has its digest.
+/// Reads an archive to its end, and adds its messages; one reader of texts serves all of them. The caller has to end
+/// the archive in the builder, because only the caller has the digest.
 fn read_archive<S: Source>(
     alloc: Global,
     source: &mut S,
@@ -228,8 +228,8 @@ fn read_archive<S: Source>(
     read
 }
 
-/// Adds an archive, with the digest of what one read of its source gives, and counts its messages. After a fault the builder may
-/// have a part of it.
+/// Adds an archive, with the digest of the bytes that one read of its source gives, and returns the number of its
+/// messages. After a fault the builder may have a part of the archive.
 pub(crate) fn add_archive<S: Source>(
     alloc: Global,
     source: &mut S,

@@ -8,16 +8,17 @@ use mail_index::{BuildFault, Builder, Kind, Prefetched};
 use mail_words::TextKind;
 use std::marker::Model;
 
-/// So many words wait: their keys come from memory together, in about the time of one.
+/// The most words of a batch. Their keys come from memory together, in about the time of one.
 const MOST_WAITING: usize = 8;
 
-/// Folded words that wait for the memory of their keys. It takes no memory of its own.
+/// Folded words whose keys are fetched from memory together, before any of the words is added. Takes no memory of its
+/// own.
 #[derive(Drop)]
 pub(crate) struct Batch<'a> {
     words: [&'a [u8]; MOST_WAITING],
-    // Where their keys may stand.
+    // Guesses where their keys are.
     places: [Prefetched; MOST_WAITING],
-    // How many wait: those behind them mean nothing.
+    // The number of words. Items after them mean nothing.
     count: usize,
 }
 
@@ -35,7 +36,7 @@ impl<'a> Model for Batch<'a> {
 }
 
 impl<'a> Batch<'a> {
-    /// No word.
+    /// Returns an empty batch.
     pub(crate) fn new() -> Self
         ensures { result ≡ [] }
     {
@@ -46,7 +47,7 @@ impl<'a> Batch<'a> {
         }
     }
 
-    /// Adds the words that wait.
+    /// Adds all words of the batch to the builder. The batch is empty then.
     pub(crate) fn add(&mut self, builder: &mut Builder, kind: TextKind) -> Result<(), BuildFault>
         requires { IfSome builder.old IsInMessage }
         ensures terms { AddsTerms (word_terms kind self.old) result builder.old builder.new }
@@ -60,7 +61,7 @@ impl<'a> Batch<'a> {
         Ok(())
     }
 
-    /// Adds each of them, where it may stand.
+    /// Adds each word to the builder, with the guess where its key is.
     fn add_prefetched(&self, builder: &mut Builder, kind: TextKind) -> Result<(), BuildFault>
         requires { IfSome builder.old IsInMessage }
         ensures terms { AddsTerms (word_terms kind self.now) result builder.old builder.new }
@@ -73,9 +74,9 @@ impl<'a> Batch<'a> {
         Ok(())
     }
 
-    /// A word waits behind the others, unless it is seen that the message has it already. Where so many wait already, they are
-    /// added first.
-    // Inlined, since it is called for each word.
+    /// Appends a word to the batch, unless a quick look finds that the message has it already. A full batch is added to
+    /// the builder first.
+    // Inlined because it is called for each word.
     #[inline(always)]
     pub(crate) fn push(
         &mut self,
@@ -104,14 +105,14 @@ impl<'a> Batch<'a> {
         Ok(())
     }
 
-    /// Whether no other word can wait.
+    /// Whether the batch has no room for another word.
     fn is_full(&self) -> bool
         ensures { result ≡ nat_le MOST_WAITING (length self.now) }
     {
         self.count >= MOST_WAITING
     }
 
-    /// A word waits behind the others, with a guess where its key stands.
+    /// Appends a word, with a guess where its key is.
     fn wait(&mut self, word: &'a [u8], place: Prefetched)
         requires word { HasTermLength word.now }
         requires room { length self.old < MOST_WAITING }

@@ -1,4 +1,4 @@
-//! The words of a text, folded in memory that is used again for the next one.
+//! The folded words of a text, in memory that is used again for the next text.
 ghost use Rattle.std.specs.Prelude.{◌≡◌, ◌≤◌, ℕ, List, [], ◌∷◌, ◌++◌, IfSome, OnOk, length, map, sum};
 ghost use Rattle.std.specs.List.{AllByRecursion};
 ghost use Rattle.mail_index.specs.Builders.{IsInMessage};
@@ -13,17 +13,17 @@ use mail_index::{BuildFault, Builder};
 use mail_words::{TextKind, Words, fold_onto};
 use std::alloc::{AllocError, Global};
 
-/// Memory for the folding of a text. What it holds means nothing to the text that comes next.
+/// Memory for folding a text. The bytes that it has of one text mean nothing for the next.
 #[derive(Drop)]
 pub(crate) struct FoldingRoom {
-    // A text of ASCII, folded, or the words of any other text, each folded, one behind another.
+    // Either a whole text of ASCII, folded; or the words of any other text, each folded, one after another.
     pub(crate) folded: String,
-    // How many bytes each of these words has.
+    // The number of bytes of each of these words.
     pub(crate) lengths: Vec<usize>,
 }
 
 impl FoldingRoom {
-    /// Takes no memory.
+    /// Returns an empty room. Takes no memory.
     pub(crate) fn new(alloc: Global) -> Self {
         FoldingRoom {
             folded: String::new(alloc),
@@ -31,7 +31,7 @@ impl FoldingRoom {
         }
     }
 
-    /// Folds each word of a text.
+    /// Folds each word of a text, and drops what the room had before.
     pub(crate) fn fold_words(&mut self, text: &str) -> Result<(), AllocError>
         ensures { OnOk result (HoldsWords self.new (map folding (words text.now))) }
     {
@@ -43,7 +43,7 @@ impl FoldingRoom {
         Ok(())
     }
 
-    /// Folds a word behind the others.
+    /// Folds a word, and appends it to the others.
     fn fold_word(&mut self, word: &str) -> Result<(), AllocError>
         requires { HasWordLength word.now }
         ensures { OnOk result ((ws : List (List ℕ)) → HoldsWords self.old ws
@@ -56,7 +56,7 @@ impl FoldingRoom {
     }
 }
 
-/// Adds the words of a text that is folded.
+/// Adds the words of a folded text to the builder.
 pub(crate) fn add_words_of(
     builder: &mut Builder,
     kind: TextKind,
@@ -73,7 +73,7 @@ pub(crate) fn add_words_of(
     batch.add(builder, kind)
 }
 
-/// Adds folded words that lie one behind another, and have these lengths.
+/// Adds folded words with these lengths, which are in the bytes one after another.
 pub(crate) fn add_cut_words(
     builder: &mut Builder,
     kind: TextKind,

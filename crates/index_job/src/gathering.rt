@@ -1,4 +1,4 @@
-//! A message's lines, as their terms are gathered.
+//! Gathers the terms of a message, line by line.
 ghost use Rattle.std.specs.Prelude.{◌≡◌, ℕ, List, ◌∷◌, ◌++◌, [], Option, IfOk, IfErr, IfSome, OnOk};
 ghost use Rattle.header_text.specs.Headers.{fields_of};
 ghost use Rattle.mail_index.specs.Builders.{Draft, IsInMessage};
@@ -13,7 +13,7 @@ use crate::term_sink::TermSink;
 use mail_index::Builder;
 use mime_text::{Facts, MessageText, TextFault};
 
-/// Gives the builder the terms of a line of the message's text.
+/// Adds the terms of a line of the message's text to the builder.
 pub(crate) fn feed_line(
     text: &mut MessageText,
     line: &[u8],
@@ -33,7 +33,7 @@ pub(crate) fn feed_line(
     text.line(line, &mut terms)
 }
 
-/// Gives it the terms that are left, and answers what the message's own header says beside them.
+/// Adds the remaining terms of the text, and returns what else the message's own header says.
 pub(crate) fn end_text(
     text: &mut MessageText,
     room: &mut FoldingRoom,

@@ -1,4 +1,4 @@
-//! Archives that are indexed, one after another.
+//! A job that indexes archives one after another.
 ghost use Rattle.std.specs.Prelude.{◌≡◌, ◌<◌, ◌^◌, ◌-◌, ℕ, List, [], Some, None, Err, IfOk, IfErr, IfSome, OnOk, OnErr, IsSome, length};
 ghost use Rattle.std.specs.Io.KnownBytes.{Appends, IsAtEnd};
 ghost use Rattle.contract_words.specs.Devices.{Counted, Sends};
@@ -17,21 +17,21 @@ use mbox_cutter::{Buffer, Out, Source};
 use std::alloc::Global;
 use std::marker::Model;
 
-/// The most archives, messages and keys of an index.
+/// The most archives, messages or keys of an index.
 const MOST_IN_INDEX: u32 = 2_147_483_647;
 
-/// Makes an index of archives, each read once from its source.
+/// Makes an index of archives. Each archive is read once, from its source.
 ///
-/// After a fault nothing is left, and every call answers [`JobFault::Failed`].
+/// After a fault nothing is kept, and every later call fails with [`JobFault::Failed`].
 #[derive(Drop)]
 pub struct IndexJob {
     alloc: Global,
-    // Both are kept from one archive to the next.
+    // Both are kept from one archive to the next, so that their memory is used again.
     buffer: Option<Buffer>,
     room: FoldingRoom,
-    // It has lost all once a call has failed.
+    // After a call has failed, it has lost everything.
     builder: Builder,
-    // How many archives have ended.
+    // The number of archives that have ended.
     archives: u32,
 }
 
@@ -48,7 +48,7 @@ impl Model for IndexJob {
 }
 
 impl IndexJob {
-    /// No archive yet. It takes the memory that reading needs.
+    /// Begins a job without archives. Takes the memory that reading needs, and fails only if memory runs out.
     pub fn new(alloc: Global) -> Result<Self, JobFault>
         ensures empty { IfOk result (λ job. IsIndexOf job []) }
         ensures memory { IfErr result (λ fault. fault ≡ JobFault.OutOfMemory) }
@@ -63,13 +63,14 @@ impl IndexJob {
         })
     }
 
-    /// Indexes an archive whose path meets [`is_path`](mail_index::is_path), and counts its messages. The source is read once, to
-    /// its end, and the digest of what was read is the archive's in the index.
+    /// Indexes an archive whose path meets [`is_path`](mail_index::is_path), and returns the number of its messages.
+    /// Reads the source once, to its end. The index notes the digest of the bytes that were read.
     ///
     /// # Errors
     ///
-    /// `Cut` where the source failed, or the archive is no mbox or has more than 2^40 bytes, and `TooMany` where there are more
-    /// than 2,147,483,647 archives, messages or keys with it.
+    /// `Cut` if the source fails, or if the archive isn't an mbox or has more than 2^40 bytes. `TooMany` if there are
+    /// more than 2,147,483,647 archives, messages or keys with this archive. `OutOfMemory` if memory runs out, and
+    /// `Failed` if an earlier call has failed.
     pub fn archive<S: Source>(&mut self, path: &str, source: &mut S) -> Result<u64, JobFault>
         requires path { IsPath path.now }
         requires count { S.failures source.old < 2 ^ 64 - 1 }
@@ -104,11 +105,12 @@ impl IndexJob {
         added
     }
 
-    /// Writes the index file of the archives so far, and counts its bytes. It takes no memory, and writes in pieces of some thousand bytes.
+    /// Writes the index file of the archives so far, and returns its number of bytes. Takes no memory, and writes in
+    /// pieces of some thousand bytes.
     ///
     /// # Errors
     ///
-    /// `Out` where the output failed: some front of the file went out then.
+    /// `Out` if the output fails: then only a beginning of the file was sent. `Failed` if an earlier call has failed.
     pub fn finish<O: Out>(self, out: &mut O) -> Result<u64, JobFault>
         requires { O.failures out.old < 2 ^ 64 - 1 }
         ensures formed { IfSome self (λ d. IsWellFormed d.table × HasSmallSections d.table) }

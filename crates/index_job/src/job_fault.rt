@@ -1,17 +1,17 @@
-//! Why archives aren't indexed.
+//! Why archives can't be indexed.
 use mail_index::BuildFault;
 use mbox_cutter::CutFault;
 use mime_text::{SinkFault, TextFault};
 use std::alloc::{AllocError, AllocFailed};
 use thiserror::Error;
 
-/// Why an index isn't made.
+/// Why a job failed to make an index.
 #[derive(Clone, Copy, Debug, Error)]
 pub enum JobFault {
     /// The archive couldn't be read, or is refused.
     #[error(transparent)]
     Cut(CutFault),
-    /// There was no memory left.
+    /// Memory ran out.
     #[error("out of memory")]
     OutOfMemory,
     /// There are more archives, messages or keys than an index has room for.
@@ -74,7 +74,7 @@ impl From<BuildFault> for JobFault {
     }
 }
 
-/// What gathers a message's terms refuses a text only where there would be too many keys.
+/// The sink of a message's texts refuses a text only if there would be too many keys.
 impl From<TextFault> for JobFault {
     ghost use Rattle.std.specs.Prelude.{◌≡◌};
     ghost use Rattle.index_job.specs.JobFaults.{of_text};

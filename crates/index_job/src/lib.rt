@@ -1,4 +1,4 @@
-//! Indexing: the table of archives, made from one pass over each.
+//! Indexes archives in one pass over each, and makes their index file.
 #![tactic(auto)]
 
 mod archive_reading;

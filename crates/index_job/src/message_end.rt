@@ -1,4 +1,4 @@
-//! The end of a message whose terms are gathered.
+//! Ends a message whose terms are gathered.
 ghost use Rattle.std.specs.Prelude.{◌≡◌, ◌<◌, ◌≤◌, ◌+◌, false, ℕ, List, Option, IfErr, OnOk, option_map};
 ghost use Rattle.header_text.specs.Headers.{fields_of};
 ghost use Rattle.mail_index.specs.Builders.{Draft};
@@ -20,7 +20,7 @@ use mail_dates::read_date;
 use mail_index::{Builder, Record};
 use mime_text::{Facts, MessageText};
 
-/// The second that the Date field tells, where there is one that can be read.
+/// Returns the second that the Date field names. None if there is no such field, or if it can't be read.
 fn date_of(facts: &Facts) -> Option<i64>
     ensures { result ≡ date_told facts.now.date_text }
 {
@@ -30,7 +30,8 @@ fn date_of(facts: &Facts) -> Option<i64>
     }
 }
 
-/// Where a message lies: in the archive of this number, so many bytes from its front; and how long are its span and its text.
+/// The place of a message: the number of its archive, and its offset there; and the lengths of its span and of its
+/// text.
 #[derive(Clone, Copy)]
 pub(crate) struct Span {
     pub(crate) archive: u32,
@@ -39,7 +40,7 @@ pub(crate) struct Span {
     pub(crate) size: u64,
 }
 
-/// Ends a message whose terms are gathered but for its ids.
+/// Adds the message's ids, and ends the message. All its other terms must have been gathered.
 fn end_message(builder: &mut Builder, facts: &Facts, span: Span) -> Result<(), JobFault>
     requires sizes { HasSizedIds facts.now }
     requires opened { IsBuilderOpen span.archive span.offset builder.old }
@@ -62,7 +63,7 @@ fn end_message(builder: &mut Builder, facts: &Facts, span: Span) -> Result<(), J
     Ok(())
 }
 
-/// Ends the text of a message, and the message.
+/// Ends the text of a message, and then the message.
 pub(crate) fn finish_message(
     text: &mut MessageText,
     room: &mut FoldingRoom,

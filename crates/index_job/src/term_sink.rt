@@ -1,4 +1,4 @@
-//! What gathers a message's terms for an index.
+//! Gives an index the terms of a message.
 ghost use Rattle.std.specs.Prelude.{◌≡◌, ◌<◌, ◌≤◌, Some, None, IfSome, length, All, IfErr, OnErr};
 ghost use Rattle.std.specs.Option.{ForSome};
 ghost use Rattle.mail_index.specs.Builders.{IsInMessage};
@@ -11,7 +11,7 @@ use mail_index::{BuildFault, Builder, Kind};
 use mail_words::{TextKind, fold_ascii};
 use mime_text::{Facts, MessageIds, SinkFault, TextSink};
 
-/// Gives an index the words of the texts of the message that is open, each folded.
+/// A sink for the texts of the open message. It gives an index the words of each text, folded.
 #[derive(Drop)]
 pub(crate) struct TermSink<'a> {
     pub(crate) builder: &'a mut Builder,
@@ -40,7 +40,7 @@ impl<'a> TextSink for TermSink<'a> {
     }
 }
 
-/// Adds the words of a text, each folded.
+/// Adds the words of a text to the builder, each folded.
 fn add_words(
     builder: &mut Builder,
     room: &mut FoldingRoom,
@@ -53,7 +53,7 @@ fn add_words(
 {
     let is_ascii = fold_ascii(text, &mut room.folded)?;
     if is_ascii {
-        // Its words fold with it: one folding serves them all.
+        // The words of a text of ASCII fold with it, so one folding serves all of them.
         return add_words_of(builder, kind, room.folded.as_str());
     }
     room.fold_words(text)?;
@@ -65,7 +65,7 @@ fn add_words(
     )
 }
 
-/// Adds the ids of the message's own header.
+/// Adds the ids of the message's own header: its own id, and the ids that link it to others.
 pub(crate) fn add_ids(builder: &mut Builder, facts: &Facts) -> Result<(), BuildFault>
     requires phase { IfSome builder.old IsInMessage }
     requires sizes { HasSizedIds facts.now }

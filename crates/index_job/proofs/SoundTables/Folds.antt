@@ -1,4 +1,4 @@
--- The folding of a word has some bytes, and not too many for a key, whatever bytes the word's text has.
+-- The folding of a word has at least one byte, and not too many for a key, whatever bytes the word has.
 use Rattle.index_job.proofs.Words.{◌≡◌, ℕ, zero, suc, ◌+◌, ◌-◌, ◌*◌, ◌/◌, ◌%◌, ◌^◌, ◌<◌, ◌≤◌, Bool, true, false, cond, nat_lt, List, [], ◌∷◌, ◌++◌, length, map, encode_utf8_all, refl, ap, arith, length-append, slice_range, AllByRecursion, chars, chars_after, continuation_len, lead_bits, cases_lt, nat_tests, recursion_from_All, folding, range_bytes, word_ranges, words, HasWordLength}
 use Rattle.std.specs.Char.{encode_utf8}
 use Rattle.std.proofs.lemmas.Str.{len_utf8_bounds, length-encode, length-le-encodes}
@@ -31,7 +31,7 @@ unfolding chars
 chars-few [] = omega arith
 chars-few (b ∷ bs) = after-few (continuation_len b) (lead_bits b) bs
 
--- and some, where those are there that the first byte asks for
+-- and at least one character, if the bytes that the first byte announces are there
 led-some : (b : ℕ) (bs : List ℕ) → continuation_len b ≤ length bs → 1 ≤ length (chars (b ∷ bs))
 unfolding chars
 led-some b bs few = after-some (continuation_len b) (lead_bits b) bs few
@@ -48,7 +48,7 @@ led-three b h = grind (arith, nat_tests)
 led-four : (b : ℕ) → continuation_len b ≤ 3
 led-four b = grind (arith, nat_tests)
 
--- the bytes that are written for a number have those that their first byte asks for
+-- the bytes of an encoded character have those that their first byte announces
 encoded-some : (c : ℕ) (rest : List ℕ) → 1 ≤ length (chars (encode_utf8 c ++ rest))
 unfolding encode_utf8
 encoded-some c rest = go (nat_lt c 128) refl (nat_lt c 2048) refl (nat_lt c 65536) refl

@@ -1,4 +1,4 @@
--- The ids of a message's own header have some bytes, and not too many for a key.
+-- The ids of a message's own header have at least one byte, and not too many for a key.
 use Rattle.index_job.proofs.Words.{◌≡◌, ℕ, ◌+◌, ◌-◌, ◌<◌, ◌≤◌, ◌++◌, Bool, true, false, cond, List, [], ◌∷◌, length, map, drop, Option, IfSome, arith, length-append, slice_range, filter, flat_map, AllByRecursion, ltb-true, leb-true, length-take, length-drop, HeaderField, most_in_header, lines_before_empty, lines_within, header, field_of_line, with_continuations, continued_and_fields, fields_of, total, first_of, facts_of}
 use Rattle.header_text.specs.Blanks.{after_blanks, split_while}
 use Rattle.header_text.specs.Headers.{is_field_name_byte, named}
@@ -9,7 +9,7 @@ use Rattle.index_job.proofs.SoundTables.Folds.{IsKeyText}
 
 -- ---- ids of a value
 
--- it has a byte, and at most so many
+-- the id has at least one byte and at most this many
 abbrev IsUpTo : ℕ → List ℕ → Type 0
 IsUpTo most id = (0 < length id) × (length id ≤ most)
 
@@ -57,7 +57,7 @@ line-body most l more fits =
     go : (k : ℕ) → k ≤ length l → (o : Option HeaderField) → IfSome o (λ f. length f.body ≤ k) → IfSome o (λ f. length f.body + length more ≤ most)
     go k low o h = grind arith
 
--- the continuations in front, and each body behind them
+-- the continuations at the front, and each body after them
 bodies-within : (most : ℕ) (ls : List (List ℕ)) → total ls ≤ most → (length (continued_and_fields ls).0 ≤ total ls) × AreBodies most (continued_and_fields ls).1
 bodies-within most [] within = (omega arith, tt)
 bodies-within most (l ∷ ls) within = grind (arith, length-append, continued-bodies, line-body, bodies-within most ls (omega (arith, within)))
@@ -76,7 +76,7 @@ key-texts : (most : ℕ) (ids : List (List ℕ)) → most ≤ most_in_header →
 key-texts most [] small all = tt
 key-texts most (id ∷ ids) small all = ((all.0.0, omega (arith, all.0.1, small)), key-texts most ids small all.1)
 
--- of the fields whose names pass
+-- the ids of the fields whose names pass
 named-ids : (p : HeaderField → Bool) (fields : List HeaderField) → AreBodies most_in_header fields → AllByRecursion IsKeyText (flat_map (λ (f : HeaderField). ids_of f.body) (filter p fields))
 named-ids p [] all = tt
 named-ids p (f ∷ fields) all = go (p f) (named-ids p fields all.1)

@@ -5,11 +5,11 @@ use Rattle.index_job.proofs.SoundTables.Spans.{AreSpanned, messages-spanned}
 
 -- ---- in order
 
--- the record lies behind this place of the archive of this number
+-- the record comes after this place of the archive with this number
 abbrev LiesBehind : ℕ → ℕ → Record → Type 0
 LiesBehind archive at r = (archive < r.archive) ⊎ ((archive ≡ r.archive) × (at ≤ r.offset))
 
--- and each behind the one before
+-- each record comes after the one before it
 abbrev AreBehind : ℕ → ℕ → List Record → Type 0
 AreBehind archive at [] = Unit {0}
 AreBehind archive at (r ∷ rs) = LiesBehind archive at r × AreBehind r.archive (r.offset + r.length) rs
@@ -19,12 +19,12 @@ each-next archive at [] h = tt
 each-next archive at (r ∷ []) h = tt
 each-next archive at (r ∷ s ∷ rs) h = (h.1.0, each-next r.archive (r.offset + r.length) (s ∷ rs) h.1)
 
--- those of one archive's messages, and others of later archives
+-- the records of one archive's messages, and then those of later archives
 one-behind : (n at end : ℕ) (ms : List Message) (rest : List Record) → AreSpanned at end ms → ((place : ℕ) → AreBehind n place rest) → AreBehind n at (map (record_of n) ms ++ rest)
 one-behind n at end [] rest spanned later = later at
 one-behind n at end (m ∷ ms) rest spanned later = (inr (refl, spanned.0), one-behind n (m.offset + span_length m) end ms rest spanned.3 later)
 
--- those of archives of which the first has this number, where what lies before them is of an earlier one, or nothing
+-- the records of archives with numbers from n on, after a place in an earlier archive or at the beginning
 all-behind : (n : ℕ) (archives : List Mbox) (archive at : ℕ) → (archive < n) ⊎ ((archive ≡ n) × (at ≡ 0)) → AreBehind archive at (records_from n archives)
 all-behind n [] archive at before = tt
 all-behind n (a ∷ archives) archive at before =

@@ -1,11 +1,11 @@
--- The messages of an archive lie one behind another within it, and each is longer than its text.
+-- The messages of an archive come one after another within it, and each is longer than its text.
 use Rattle.index_job.proofs.Words.{◌≡◌, ◌∙◌, ℕ, ◌+◌, ◌<◌, ◌≤◌, Bool, true, false, cond, nat_lt, List, [], ◌∷◌, length, map, Some, None, refl, ap, arith, length-append, unwrap_or, AllByRecursion, concat, and_parts, ltb-false, Message, total, marked, grouped, is_refused, without_closing, size, span_length, messages_from, messages, refusal_of, messages_in}
 use Rattle.mbox_cutter.specs.Lines.{lines, is_empty}
 use Rattle.mbox_cutter.specs.Separators.{is_separator}
 use Rattle.mbox_cutter.specs.declared.event.CutFault.TheVariants.{NotAnMbox, ArchiveTooLong}
 use Rattle.mbox_cutter.proofs.LinesAreCut.{lines-AreLines}
 
--- the messages lie one behind another from the first place up to the second, and each is longer than its text
+-- the messages come one after another from the first place up to the second, and each is longer than its text
 abbrev pub AreSpanned : ℕ → ℕ → List Message → Type 0
 AreSpanned at end [] = Unit {0}
 AreSpanned at end (m ∷ ms) = (at ≤ m.offset) × (m.offset + span_length m ≤ end) × (size m < span_length m) × AreSpanned (m.offset + span_length m) end ms
@@ -36,7 +36,7 @@ unfolding is_separator
 separator-some [] is = absurd cc
 separator-some (b ∷ l) is = omega arith
 
--- a line at which a message starts has some bytes
+-- a line that begins a message has at least one byte
 abbrev StartsSome : Bool × List ℕ → Type 0
 StartsSome mark = mark.0 ≡ true → 0 < length mark.1
 

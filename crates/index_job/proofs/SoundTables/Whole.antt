@@ -1,4 +1,4 @@
--- The table of archives that have paths, of which none is refused, and that aren't too much, is well-formed.
+-- The table of archives is well-formed if each has a path, none is refused, and all together are within the limits.
 use Rattle.index_job.proofs.Words.{◌≡◌, All, List, [], ◌∷◌, map, None, arith, AllByRecursion, recursion_from_All, most_in_archive, IsPath, IsArchive, IsWellFormed, newest, refusal_of, AreSound, Mbox, entry_of, table}
 use Rattle.sha2.proofs.Facts256.{length-sha256}
 use Rattle.index_job.proofs.SoundTables.Keys.{messages-listed, messages-sorted}

@@ -1,4 +1,4 @@
--- An archive while it is indexed: what still comes of it, and what was gathered.
+-- An archive while it is indexed: what the cutter still gives of it, and what was gathered.
 use Rattle.std.specs.Prelude.{Bool, ◌≡◌, ⊤, ℕ, ◌+◌, ◌<◌, ◌≤◌, List, [], ◌∷◌, ◌++◌, Option, None, Some, option_map, unwrap_or, length, Result, Ok, Err}
 use Rattle.std.specs.Option.{option_map_or}
 use Rattle.std.specs.Borrow.{MutBor}
@@ -24,67 +24,69 @@ use Rattle.index_job.specs.Inside.Gathering.{HasGathered}
 use Rattle.index_job.specs.Indexing.{draft_with_terms, draft_with_messages, HasTooMany, RefusesTerms, IsBuilderReady, IsJobFault}
 use Rattle.index_job.specs.MessageTerms.{message_terms}
 
--- ---- what comes
+-- ---- what is to come
 
--- a message that comes of an archive of so many bytes, those behind it, and the archive's refusal
+-- a message that is to come from an archive of `all` bytes, the messages after it, and why the archive is refused, if
+-- it is
 pub record Awaited : Type 0 where
   pub all : ℕ
   pub message : archives.Message
   pub later : List archives.Message
   pub refusal : Option CutFault
 
--- what comes inside the message, with these lines of its text left
+-- what is to come inside the message, if these lines of its text are left
 abbrev pub coming_inside : Awaited → List (List ℕ) → Coming
 coming_inside w lines = record { events = told_rest w.all w.message lines w.later; refusal = w.refusal }
 
--- what comes of these messages
+-- what is to come between messages, if these messages are left
 abbrev pub coming_between : ℕ → List archives.Message → Option CutFault → Coming
 coming_between all ms refusal = record { events = told all ms; refusal = refusal }
 
--- what comes of an archive's messages, or of an archive that has none since it is refused
+-- what is to come of an archive with these messages; only the refusal, if the archive is refused and so has no messages
 abbrev pub coming_ahead : ℕ → Option (List archives.Message) → Option CutFault → Coming
 coming_ahead all ms refusal = record { events = option_map_or (told all) ms []; refusal = refusal }
 
 -- ---- the source
 
--- a cutter has read of its source, and whether that failed
+-- A cutter has read its source. `failed` says whether the source failed.
 pub record ReadsSource {S : Type 0} (g : Ghosts S) (failed : Bool) (old new : MutBor S) : Type 0 where
-  -- it is the same
+  -- it is the same source
   pub source : new.ghost_name ≡ old.ghost_name
-  -- what no read changes is as it was
+  -- what no read changes hasn't changed
   pub stays : Stays g old.now new.now
-  -- its count of failures rises by one where it failed, and else stays
+  -- its count of failures rises by one if it failed, and stays otherwise
   pub count : Counted failed (g.failures old.now) (g.failures new.now)
 
--- ---- where a cutter stands
+-- ---- the place of a cutter
 
+-- the cutter is inside a message that begins at this offset
 abbrev pub IsInside : ℕ → CutterPlace → Type 0
 IsInside start place = (told_size : ℕ) × (place.phase ≡ Inside start told_size)
 
--- it has gone on
+-- the cutter has read on, within its limit
 pub record GoesFurther (old new : CutterPlace) : Type 0 where
   pub most : new.most ≡ old.most
   pub within : new.offset ≤ new.most
   pub later : old.offset ≤ new.offset
   pub nearer : left new < left old
 
--- the message that began there has ended
+-- the message that began at this offset has ended, and the cutter is after it
 pub record HasEnded (start : ℕ) (ended : Ended) (new : CutterPlace) : Type 0 where
   pub between : new.phase ≡ Between
   pub smaller : ended.size < ended.length
   pub offset : new.offset ≡ start + ended.length
 
--- a message begins, or the archive has ended
+-- the cutter has come to a message that begins, or to the archive's end
 abbrev pub IsHeading : Heading → CutterPlace → CutterPlace → Type 0
 IsHeading (Message start) old new = (new.phase ≡ Inside start 0) × (old.offset ≤ start) × (start < new.offset) × (left new < left old)
 IsHeading (End length) old new = (old.offset ≤ length) × (length ≤ new.most)
 
--- at the archive's end all bytes have been read
+-- if the heading is the archive's end, all bytes have been read
 abbrev pub ReadsToEnd : Heading → Option (List ℕ) → Type 0
 ReadsToEnd (Message start) bytes = ⊤
 ReadsToEnd (End length) bytes = IsAtEnd bytes
 
--- the message is the first of those that come, or there is none left
+-- the heading is the next of what was to come: the first of the messages that are left, or the end if none is left
 abbrev pub Heads : Heading → ℕ → Option (List archives.Message) → Option CutFault → Option Coming → Type 0
 Heads (Message start) all ms refusal new =
     (m : archives.Message) × (later : List archives.Message) × (ms ≡ Some (m ∷ later)) × (m.offset ≡ start)
@@ -93,45 +95,47 @@ Heads (End length) all ms refusal new = (ms ≡ Some []) × (length ≡ all) × 
 
 -- ---- what was gathered
 
--- of the message's text these lines were gathered, and these come
+-- of the message's text, these lines were gathered, and the rest is to come
 pub record IsReading (draft : Option Draft) (w : Awaited) (lines rest : List (List ℕ)) (gathered : MessageText) (builder : Option Draft) (coming : Option Coming) : Type 0 where
   pub so_far : HasGathered gathered builder draft lines
   pub whole : text w.message ≡ lines ++ rest
   pub comes : coming ≡ Some (coming_inside w rest)
 
--- the text is whole, and what comes is what is behind the message
+-- the whole text was gathered, and what is to come is what follows the message
 pub record HasReadAll (draft : Option Draft) (w : Awaited) (ended : Ended) (gathered : MessageText) (builder : Option Draft) (coming : Option Coming) : Type 0 where
   pub whole : HasGathered gathered builder draft (text w.message)
   pub length : ended.length ≡ span_length w.message
   pub told_size : ended.size ≡ size w.message
   pub comes : coming ≡ Some (coming_between w.all w.later w.refusal)
 
--- in some way the message is being read that comes
+-- the message that was to come is being read: its first lines were gathered, and the rest is to come
 abbrev pub IsReadingSome : Option Draft → Awaited → MessageText → Option Draft → Option Coming → Type 0
 IsReadingSome draft w gathered builder coming = (lines rest : List (List ℕ)) × IsReading draft w lines rest gathered builder coming
 
--- the message is added to the draft, or what is wrong with it or with its archive
+-- the message is added to the draft, or the fault is one of the message or of its archive
 abbrev pub AddsMessage : {T : Type 0} → ℕ → Draft → Awaited → Result T JobFault → Option Draft → Option Coming → Type 0
 AddsMessage archive d w (Ok _) builder coming = (builder ≡ Some (draft_with_messages archive (w.message ∷ []) d)) × (coming ≡ Some (coming_between w.all w.later w.refusal))
 AddsMessage archive d w (Err fault) builder coming = IsJobFault w.refusal (HasTooMany (draft_with_messages archive (w.message ∷ []) d)) fault
 
--- the archive of this number was read to its end, and only this end is left to be added: behind all its messages, and within the limit
+-- the archive with this number was read to its end, and only this end is still to be added: after all its messages, and
+-- within the limit
 pub record AwaitsEnd (number : ℕ) (rest : Option (List ℕ)) (bytes : ℕ) (builder : Option Draft) : Type 0 where
   pub end : IsAtEnd rest
   pub ready : IsBuilderReady number bytes builder
   pub within : bytes ≤ most_in_archive
 
--- these messages are added to the draft, of an archive of so many bytes; or what is wrong with them
+-- these messages of an archive with this many bytes are added to the draft, or the fault is one of theirs
 abbrev pub AddsMessages : ℕ → Draft → ℕ → Option (List archives.Message) → Option CutFault → Result ReadArchive JobFault → Option Draft → Type 0
 AddsMessages number d bytes ms refusal (Ok read) builder =
     (refusal ≡ None) × (builder ≡ Some (draft_with_messages number (unwrap_or ms []) d)) × (read.messages ≡ length (unwrap_or ms [])) × (read.length ≡ bytes)
 AddsMessages number d bytes ms refusal (Err fault) builder = IsJobFault refusal (HasTooMany (draft_with_messages number (unwrap_or ms []) d)) fault
 
--- the draft has no room for the message's terms, or the archive is refused
+-- a fault inside the message: the draft has no room for its terms, the archive is refused, or the source or memory
+-- failed
 abbrev pub IsMessageFault : Option Draft → Awaited → JobFault → Type 0
 IsMessageFault draft w fault = IsJobFault w.refusal (RefusesTerms (option_map (draft_with_terms (message_terms (text w.message))) draft)) fault
 
--- of an archive's messages these are done and added to the draft, and the others come
+-- of an archive's messages, this many are done and added to the draft, and the others are to come
 pub record HasDone (number : ℕ) (d : Draft) (all : ℕ) (ms : Option (List archives.Message)) (refusal : Option CutFault) (count : ℕ) (builder : Option Draft) (coming : Option Coming) : Type 0 where
   pub done : List archives.Message
   pub rest : Option (List archives.Message)

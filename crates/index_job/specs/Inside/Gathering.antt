@@ -1,4 +1,4 @@
--- What was gathered of a message so far.
+-- What was gathered of a message so far, and the faults of gathering.
 use Rattle.std.specs.Prelude.{◌≡◌, ⊤, ℕ, List, flat_map, Option, Some, option_map}
 use Rattle.mail_index.specs.Builders.{Draft}
 use Rattle.mime_text.specs.declared.message_text.MessageText.{MessageText}
@@ -9,21 +9,21 @@ use Rattle.index_job.specs.declared.job_fault.JobFault.TheVariants.{Cut, OutOfMe
 use Rattle.index_job.specs.Indexing.{draft_with_terms, RefusesTerms, IsOpenAt}
 use Rattle.index_job.specs.MessageTerms.{text_terms}
 
--- a draft with the terms of some texts
+-- the draft with the terms of these texts, if no call has failed
 abbrev pub with_texts : List Pair → Option Draft → Option Draft
 with_texts ps d = option_map (draft_with_terms (flat_map text_terms ps)) d
 
--- these lines were fed, and the texts that they have so far were added to the draft
+-- the reader was given these lines, and the texts that they have so far were added to the draft
 pub record HasGathered (text : MessageText) (builder : Option Draft) (draft : Option Draft) (ls : List (List ℕ)) : Type 0 where
   pub pairs : List Pair
   pub fed : Fed text ls pairs
   pub added : builder ≡ with_texts pairs draft
 
--- some lines were fed, of a message that begins at this place of the archive of this number
+-- lines of a message were gathered, and this message of the archive with this number is open, at this place or after it
 abbrev pub IsGathering : ℕ → ℕ → MessageText → Option Draft → Type 0
 IsGathering archive place text builder = (d : Draft) × (ls : List (List ℕ)) × HasGathered text builder (Some d) ls × IsOpenAt archive place d
 
--- what is wrong where the draft can't become this one
+-- a fault of gathering; `whole` is the draft with all that is gathered, and None if an earlier call has failed
 abbrev pub IsGatherFault : Option Draft → JobFault → Type 0
 IsGatherFault whole (Cut fault) = ⊥
 IsGatherFault whole OutOfMemory = ⊤

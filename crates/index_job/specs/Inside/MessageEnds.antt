@@ -1,4 +1,4 @@
--- What the end of a message makes of a draft.
+-- What the end of a message changes in a draft.
 use Rattle.std.specs.Prelude.{◌++◌, ◌∷◌, [], false}
 use Rattle.mail_index.specs.declared.record.Record.{Record}
 use Rattle.mail_index.specs.Builders.{Draft}
@@ -8,6 +8,7 @@ use Rattle.index_job.specs.ArchiveTables.{date_told}
 use Rattle.index_job.specs.Indexing.{draft_with_terms}
 use Rattle.index_job.specs.MessageTerms.{id_terms}
 
+-- the record of a message at this place, given what its own header says
 abbrev pub ended_record : Span → Facts → Record
 ended_record span facts = record {
   archive = span.archive;
@@ -18,9 +19,10 @@ ended_record span facts = record {
   flags = facts.flags;
 }
 
+-- the draft with its open message ended, which has this record
 abbrev pub closed_with : Record → Draft → Draft
 closed_with r d = record d { in_message = false; table = record d.table { messages = d.table.messages ++ r ∷ [] } }
 
--- with the ids, and the message closed
+-- the draft with the ids of its open message added, and the message ended
 abbrev pub ended_with : Facts → Span → Draft → Draft
 ended_with facts span d = closed_with (ended_record span facts) (draft_with_terms (id_terms facts) d)

@@ -1,7 +1,8 @@
 use Rattle.index_job.proofs.Words.{false, ◌≡◌, ◌≤◌, ℕ, List, Some, Draft, text, left, Awaited, coming_inside, IsInside, IsReadingSome, ReadsSource, HasGathered, with_open_message}
 use Rattle.index_job.proofs.archive_reading.add_message.Given as goal
 
--- the message is still open, and some of its lines are gathered; where it is known what comes, they are a front of its text
+-- the message is still open, and its first lines are gathered; if it is known what is to come, they are a beginning of
+-- its text
 abbrev pub invariant-lines : goal.invariant-lines
 invariant-lines g l = record {
   reads : ReadsSource g.S.Source false l.initial.cutter.source l.cutter.source;

@@ -2,7 +2,7 @@ use Rattle.index_job.proofs.Words.{false, ◌≡◌, ◌≤◌, ℕ, List, Optio
 use Rattle.mbox_cutter.specs.declared.scan.Phase.TheVariants.{Between}
 use Rattle.index_job.proofs.archive_reading.add_messages.Given as goal
 
--- no message is open; where it is known what comes, some messages are done, and the others come
+-- no message is open; if it is known what is to come, the first messages are done, and the others are to come
 abbrev pub invariant-messages : goal.invariant-messages
 invariant-messages g l = record {
   reads : ReadsSource g.S.Source false l.initial.cutter.source l.cutter.source;

@@ -1,7 +1,7 @@
 use Rattle.index_job.proofs.Words.{◌≡◌, ◌≤◌, ◌++◌, IfSome, drop, length, option_map, sum, AllByRecursion, IsInMessage, draft_with_terms, cut, HasTermLength, word_terms}
 use Rattle.index_job.proofs.folding_room.add_cut_words.Given as goal
 
--- with the words that wait and those that are left it becomes what it is to become
+-- with the words of the batch and those that are left, the draft becomes the wanted one
 abbrev pub invariant-loop-length : goal.invariant-loop-length
 invariant-loop-length l = record {
   phase : IfSome l.builder IsInMessage;

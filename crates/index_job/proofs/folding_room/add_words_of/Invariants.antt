@@ -1,7 +1,7 @@
 use Rattle.index_job.proofs.Words.{◌≡◌, ◌++◌, IfSome, All, option_map, HasWordLength, words, IsInMessage, draft_with_terms, word_terms}
 use Rattle.index_job.proofs.folding_room.add_words_of.Given as goal
 
--- with the words that wait and those that are left it becomes what it is to become
+-- with the words of the batch and those that are left, the draft becomes the wanted one
 abbrev pub invariant-loop-word : goal.invariant-loop-word
 invariant-loop-word l =
     (goal.iterator-loop-word).can_next l.word-iterator ×

@@ -1,7 +1,7 @@
 use Rattle.index_job.proofs.Words.{◌≡◌, IfSome, drop, map, option_map, IsInMessage, draft_with_terms, link_terms}
 use Rattle.index_job.proofs.term_sink.add_links.Given as goal
 
--- with the ids that are left it becomes what it is to become
+-- with the ids that are left, the draft becomes the wanted one
 abbrev pub invariant-loop-id : goal.invariant-loop-id
 invariant-loop-id l = record {
   phase : IfSome l.builder IsInMessage;

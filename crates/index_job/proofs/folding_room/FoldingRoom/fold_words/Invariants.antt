@@ -1,7 +1,7 @@
 use Rattle.index_job.proofs.Words.{◌≡◌, ◌++◌, ℕ, List, All, map, folding, HasWordLength, words, HoldsWords}
 use Rattle.index_job.proofs.folding_room.FoldingRoom.fold_words.Given as goal
 
--- some words are folded, and with those that are left they are all
+-- the folded words and those that are left are all words
 abbrev pub invariant-loop-word : goal.invariant-loop-word
 invariant-loop-word l =
     (goal.iterator-loop-word).can_next l.word-iterator ×
