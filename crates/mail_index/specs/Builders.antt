@@ -1,4 +1,4 @@
--- The table that an index builder has so far, and what its calls make of it.
+-- The table that an index builder has so far, and what its calls change in it.
 use Rattle.std.specs.Prelude.{◌≡◌, ℕ, ◌+◌, ◌<◌, ◌≤◌, Bool, true, false, nat_eq, nat_lt, nat_le, if◌then◌else◌, List, [], ◌∷◌, ◌++◌, length, Option, Some, None, IsSome, unwrap_or, Result, Ok, Err}
 use Rattle.std.specs.Ordering.{match_ordering}
 use Rattle.contract_words.specs.Answers.{◌>>=◌}
@@ -13,7 +13,7 @@ use Rattle.mail_index.specs.PostingLists.{with_number}
 use Rattle.mail_index.specs.Limits.{most_in_archive}
 use Rattle.mail_index.specs.OrderOfKeys.{key_cmp}
 
--- the keys, in the order of kind and text, with n among the numbers of this one
+-- the keys, in the order of kind and text, with n among the numbers of this key
 abbrev pub with_pair : Kind → List ℕ → ℕ → List Key → List Key
 with_pair kind text n [] = record { kind = kind; text = text; numbers = n ∷ [] } ∷ []
 with_pair kind text n (k ∷ ks) = match_ordering (key_cmp (kind_number kind) text (kind_number k.kind) k.text)
@@ -21,83 +21,93 @@ with_pair kind text n (k ∷ ks) = match_ordering (key_cmp (kind_number kind) te
     (record { kind = k.kind; text = k.text; numbers = with_number k.numbers n } ∷ ks)
     (k ∷ with_pair kind text n ks)
 
--- what a builder was given so far: a table, and the path of the archive that is open
+-- what a builder was given so far: a table, the path of the open archive if there is one, and whether a message is open
 pub record Draft : Type 0 where
   pub most : ℕ
   pub path : Option (List ℕ)
   pub in_message : Bool
   pub table : Table
 
+-- a draft without archives, messages and keys
 abbrev pub empty_draft : ℕ → Draft
 empty_draft most = record { most = most; path = None; in_message = false; table = record { version = newest; archives = []; messages = []; keys = [] } }
 
+-- the draft with an open archive that has this path, if there is room for one more archive
 abbrev pub begun_archive : List ℕ → Draft → Result Draft BuildFault
 begun_archive path d = if nat_lt (length d.table.archives) d.most then Ok (record d { path = Some path }) else Err TooMany
 
+-- the draft with an open message, if there is room for one more message
 abbrev pub begun_message : Draft → Result Draft BuildFault
 begun_message d = if nat_lt (length d.table.messages) d.most then Ok (record d { in_message = true }) else Err TooMany
 
--- the message that is open gets its number from all messages before it, of whatever archive
+-- the draft with this key added to the open message, whose number counts the messages of all archives; if there is room
+-- for the key
 abbrev pub added : Kind → List ℕ → Draft → Result Draft BuildFault
 added kind text d =
     let keys = with_pair kind text (length d.table.messages) d.table.keys in
     if nat_le (length keys) d.most then Ok (record d { table = record d.table { keys = keys } }) else Err TooMany
 
--- the message that is open has this key already: to add it changes nothing
+-- the open message has this key already: adding it changes nothing
 abbrev pub HasPair : Kind → List ℕ → Draft → Type 0
 HasPair kind text d = with_pair kind text (length d.table.messages) d.table.keys ≡ d.table.keys
 
+-- the draft with its open message ended, which has this record
 abbrev pub ended_message : Record → Draft → Result Draft BuildFault
 ended_message r d = Ok (record d { in_message = false; table = record d.table { messages = d.table.messages ++ r ∷ [] } })
 
+-- the draft with its open archive ended, which has this length and this digest
 abbrev pub ended_archive : ℕ → List ℕ → Draft → Result Draft BuildFault
 ended_archive n digest d = Ok (record d { path = None; table = record d.table { archives = d.table.archives ++ record { path = unwrap_or d.path []; length = n; digest = Some digest } ∷ [] } })
 
--- where there was no memory the definition has no answer
+-- the fault that the definition gives; None for lack of memory, of which the definition says nothing
 abbrev pub refusal : BuildFault → Option BuildFault
 refusal OutOfMemory = None
 refusal TooMany = Some TooMany
 refusal Device = Some Device
 refusal Failed = Some Failed
 
--- whether the output failed
+-- whether the call failed because the output did
 abbrev pub is_device : Result ℕ BuildFault → Bool
 is_device (Err Device) = true
 is_device _ = false
 
--- once a call has been refused there is nothing left, and every later one fails
+-- a step of a builder: once a step has been refused nothing is left, and every later one fails
 abbrev pub stepped : (Draft → Result Draft BuildFault) → Option Draft → Result (Option Draft) BuildFault
 stepped step None = Err Failed
 stepped step (Some d) = step d >>= λ e. Ok (Some e)
 
--- ---- conditions on the caller
+-- ---- what the caller must meet
 
+-- the number of archives that have ended
 abbrev pub archive_count : Draft → ℕ
 archive_count d = length d.table.archives
 
--- where the last message ends, if it is of this archive, or 0
+-- where the last message ends, if it belongs to this archive; otherwise 0
 abbrev pub end_of : ℕ → List Record → ℕ
 end_of archive [] = 0
 end_of archive (r ∷ []) = if nat_eq r.archive archive then r.offset + r.length else 0
 end_of archive (r ∷ s ∷ rs) = end_of archive (s ∷ rs)
 
--- the next message of the archive that is open, behind those before it
+-- the record is right for the next message of the open archive, which comes after those before it
 pub record IsNextMessage (d : Draft) (r : Record) : Type 0 where
   pub archive : r.archive ≡ archive_count d
   pub behind : end_of (archive_count d) d.table.messages ≤ r.offset
   pub within : r.offset + r.length ≤ most_in_archive
   pub size : r.size < r.length
 
+-- no archive is open, and no message
 abbrev pub IsBetweenArchives : Draft → Type 0
 IsBetweenArchives d = (d.path ≡ None) × (d.in_message ≡ false)
 
+-- an archive is open, and no message
 abbrev pub IsInArchive : Draft → Type 0
 IsInArchive d = IsSome d.path × (d.in_message ≡ false)
 
+-- an archive is open, and a message
 abbrev pub IsInMessage : Draft → Type 0
 IsInMessage d = IsSome d.path × (d.in_message ≡ true)
 
--- no count passes the limit
+-- no count is above the limit
 pub record IsWithinMost (d : Draft) : Type 0 where
   pub archives : length d.table.archives ≤ d.most
   pub messages : length d.table.messages ≤ d.most

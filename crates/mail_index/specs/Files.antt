@@ -1,6 +1,6 @@
 -- The file of a table: counts, archives, records, directory, texts, postings, and the SHA-256 of all these.
 --
--- Where each field stands, from the first byte of its part, and how many bytes it has. Numbers have the highest byte first.
+-- The offset of each field in its part, and its number of bytes. Numbers have the highest byte first.
 --
 --   front, 48 bytes            an archive                 a record, 40 bytes        an entry, 24 bytes
 --    0  8  magic                0  8  its length           0  4  its archive         0  1  the kind of its key
@@ -21,33 +21,40 @@ use Rattle.mail_index.specs.Kinds.{kind_number}
 use Rattle.mail_index.specs.Tables.{Archive, Key, Table}
 use Rattle.mail_index.specs.Postings.{postings}
 
--- M A I R I X and a line's end
+-- "MAIRIX" and a line's end
 abbrev pub magic : List ℕ
 magic = 0x4D ∷ 0x41 ∷ 0x49 ∷ 0x52 ∷ 0x49 ∷ 0x58 ∷ 0x0D ∷ 0x0A ∷ []
 
+-- the four bytes of a number
 abbrev pub be32 : ℕ → List ℕ
 be32 n = to_be_bytes w32 n
 
+-- the eight bytes of a number
 abbrev pub be64 : ℕ → List ℕ
 be64 n = to_be_bytes w64 n
 
+-- three zeros
 abbrev pub zeros : List ℕ
 zeros = 0 ∷ 0 ∷ 0 ∷ []
 
+-- the bytes of an archive
 abbrev pub archive_bytes : Archive → List ℕ
 archive_bytes a = concat (be64 a.length ∷ be32 (length a.path) ∷ a.path ∷ unwrap_or a.digest [] ∷ [])
 
+-- the value of a flag: n if it is set, 0 if it isn't
 abbrev pub bit : ℕ → Bool → ℕ
 bit n b = if b then n else 0
 
+-- the flags of a message: 1 seen, 2 replied, 4 flagged, 8 with a date
 abbrev pub flags_byte : Record → ℕ
 flags_byte m = bit 1 m.flags.seen + bit 2 m.flags.replied + bit 4 m.flags.flagged + bit 8 (is_some m.date)
 
--- in two's complement, and 0 without a date
+-- the date in two's complement, and 0 without a date
 abbrev pub date_number : Option ℤ → ℕ
 date_number None = 0
 date_number (Some z) = cast_unsigned w64 z
 
+-- the bytes of a record
 abbrev pub record_bytes : Record → List ℕ
 record_bytes m = concat (be32 m.archive ∷ (flags_byte m ∷ zeros) ∷ be64 m.offset ∷ be64 m.length ∷ be64 m.size ∷ be64 (date_number m.date) ∷ [])
 
@@ -57,48 +64,56 @@ pub record Entry : Type 0 where
   pub text : List ℕ
   pub postings : List ℕ
 
+-- the entry of a key
 abbrev pub entry_of : Key → Entry
 entry_of k = record { kind = k.kind; text = k.text; postings = postings k.numbers }
 
--- with its places in the texts and in the postings
+-- the bytes of an entry, with the places of its text and of its postings
 abbrev pub entry_bytes : ℕ → ℕ → Entry → List ℕ
 entry_bytes text_place place e = concat ((kind_number e.kind ∷ zeros) ∷ be32 (length e.text) ∷ be64 text_place ∷ be64 place ∷ [])
 
--- the entries of the directory, where the texts and the postings of the first begin at these places
+-- the bytes of the directory, if the text and the postings of the first entry begin at these places
 abbrev pub directory_from : ℕ → ℕ → List Entry → List ℕ
 directory_from text_place place [] = []
 directory_from text_place place (e ∷ es) = entry_bytes text_place place e ++ directory_from (text_place + length e.text) (place + length e.postings) es
 
+-- the texts of the entries, one after another
 abbrev pub texts_of : List Entry → List ℕ
 texts_of = flat_map (λ e. e.text)
 
+-- the postings of the entries, one after another
 abbrev pub postings_of : List Entry → List ℕ
 postings_of = flat_map (λ e. e.postings)
 
+-- the entries of a table's keys, in order
 abbrev pub entries : Table → List Entry
 entries t = map entry_of t.keys
 
+-- the bytes of all archives
 abbrev pub archive_section : Table → List ℕ
 archive_section t = flat_map archive_bytes t.archives
 
+-- the fields at the front of the file
 abbrev pub counts : Table → List (List ℕ)
 counts t =
     magic ∷ be32 t.version ∷ be32 (length t.archives) ∷ be32 (length t.messages) ∷ be32 (length t.keys)
     ∷ be64 (length (archive_section t)) ∷ be64 (length (texts_of (entries t))) ∷ be64 (length (postings_of (entries t))) ∷ []
 
+-- the six sections of the file, in order
 abbrev pub sections : Table → List (List ℕ)
 sections t =
     concat (counts t) ∷ archive_section t ∷ flat_map record_bytes t.messages
     ∷ directory_from 0 0 (entries t) ∷ texts_of (entries t) ∷ postings_of (entries t) ∷ []
 
--- all of the file before its digest
+-- the bytes of the file before its digest
 abbrev pub body : Table → List ℕ
 body t = concat (sections t)
 
+-- the file of the table
 unfoldable pub index_file : Table → List ℕ
 index_file t = body t ++ sha256 (body t)
 
--- each section's length fits its count
+-- the length of each section fits its count
 pub record HasSmallSections (t : Table) : Type 0 where
   pub archives : length (archive_section t) < 2 ^ 64
   pub texts : length (texts_of (entries t)) < 2 ^ 64

@@ -3,32 +3,35 @@ use Rattle.std.specs.Prelude.{◌≡◌, ℕ, suc, ◌+◌, ◌-◌, ◌*◌, �
 use Rattle.mail_index.specs.Postings.{postings}
 use Rattle.mail_index.specs.Limits.{four_byte_limit}
 
--- one past the last number, or low where there is none
+-- one past the last number, or `low` if there is none
 abbrev pub end_from : ℕ → List ℕ → ℕ
 end_from low [] = low
 end_from low (n ∷ ns) = end_from (suc n) ns
 
--- the rising numbers, with n at their end; n is there already where the last of them isn't below it
+-- the rising numbers with n at their end, unless the last of them isn't below n
 unfoldable pub with_number : List ℕ → ℕ → List ℕ
 with_number numbers n = if nat_lt n (end_from 0 numbers) then numbers else numbers ++ n ∷ []
 
--- what some bytes of postings have told: whole numbers, one past the last of them, and of a difference that goes on
--- the part that has come, and the weight of its next seven bits
+-- What bytes of postings give: the whole numbers, and one past the last of them; of a difference that goes on, the part
+-- so far, and the weight of its next seven bits.
 pub record Told : Type 0 where
   pub numbers : List ℕ
   pub next : ℕ
   pub part : ℕ
   pub weight : ℕ
 
+-- the state after these whole numbers, with no difference begun
 abbrev pub told_whole : List ℕ → ℕ → Told
 told_whole numbers next = record { numbers = numbers; next = next; part = 0; weight = 1 }
 
+-- the state after one more byte: a byte below 128 ends a difference
 unfoldable pub told_more : Told → ℕ → Told
 told_more t b =
     if nat_lt b 128
     then told_whole (t.numbers ++ (t.next + (t.part + b * t.weight) - 1) ∷ []) (t.next + (t.part + b * t.weight))
     else record { numbers = t.numbers; next = t.next; part = t.part + (b - 128) * t.weight; weight = 128 * t.weight }
 
+-- what these bytes give, from the first to the last
 abbrev pub told : List ℕ → Told
 told bytes = fold told_more (told_whole [] 0) bytes
 
@@ -36,7 +39,7 @@ told bytes = fold told_more (told_whole [] 0) bytes
 unfoldable pub numbers_of : List ℕ → List ℕ
 numbers_of bytes = (told bytes).numbers
 
--- the bytes are the postings of the numbers that they tell, of which one is past the last
+-- the bytes are exactly the postings of the numbers that they give, and `next` is one past the last of these
 pub record IsPosted (bytes : List ℕ) (next : ℕ) : Type 0 where
   pub told : told bytes ≡ told_whole (numbers_of bytes) next
   pub spelled : postings (numbers_of bytes) ≡ bytes

@@ -1,4 +1,4 @@
-//! Building an index: the keys in order as they come, and the file of a table.
+//! Builds an index: keeps the keys in order as they come, and writes the file of a table.
 
 pub mod build_fault;
 pub mod builder;

@@ -1,4 +1,4 @@
--- A draft as the code keeps it, and what is true of every one.
+-- A draft as the code keeps it, and what is true of every draft.
 use Rattle.std.specs.Prelude.{◌≡◌, ℕ, suc, ◌<◌, ◌≤◌, Bool, true, if◌then◌else◌, List, [], ◌∷◌, ◌++◌, length, map, Option, None, Some, IfSome, String, string_bytes}
 use Rattle.std.specs.Global.{Global}
 use Rattle.std.specs.Option.{option_map}
@@ -10,9 +10,11 @@ use Rattle.mail_index.specs.Tables.{Archive, Key, IsPath, IsArchive, IsMessage, 
 use Rattle.mail_index.specs.Builders.{Draft}
 use Rattle.mail_index.specs.Limits.{most_in_archive, most_in_index}
 
+-- an archive that has ended, as the table has it
 abbrev pub kept_archive : NamedArchive → Archive
 kept_archive a = record { path = string_bytes a.path; length = a.length; digest = Some a.digest }
 
+-- the draft of these fields
 abbrev pub draft_of : ℕ → Option (String Global) → Bool → List NamedArchive → List Record → List Key → Draft
 draft_of most path in_message archives records keys = record {
   most = most;
@@ -21,16 +23,16 @@ draft_of most path in_message archives records keys = record {
   table = record { version = newest; archives = map kept_archive archives; messages = records; keys = keys };
 }
 
--- how many messages there are, with the one that is open
+-- the number of messages, with the open one
 abbrev pub message_count : Draft → ℕ
 message_count d = if d.in_message then suc (length d.table.messages) else length d.table.messages
 
--- the archives, with the one that is open, which may become as long as any
+-- the archives, with the open one, which may become as long as any
 abbrev pub with_open : List Archive → Option (List ℕ) → List Archive
 with_open archives None = archives
 with_open archives (Some path) = archives ++ record { path = path; length = most_in_archive; digest = None } ∷ []
 
--- no count passes the limit, with what is open counted too, and so far all is as in a well-formed table
+-- no count is above the limit, with what is open counted too, and all so far is as in a well-formed table
 pub record IsDraft (d : Draft) : Type 0 where
   pub version : d.table.version ≡ newest
   pub limit : d.most ≤ most_in_index

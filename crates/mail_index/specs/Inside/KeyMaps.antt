@@ -1,4 +1,4 @@
--- Keys as a builder holds them: entries in the order of their arrival, and their numbers in the order of their keys.
+-- The keys of a builder: entries in the order in which they came, and their numbers in the order of their keys.
 use Rattle.std.specs.Prelude.{◌≡◌, ℕ, zero, suc, ◌+◌, ◌-◌, ◌<◌, ◌≤◌, ◌⊎◌, nat_le, if◌then◌else◌, List, [], ◌∷◌, ◌++◌, length, map, take, drop, Vec}
 use Rattle.std.specs.Global.{Global}
 use Rattle.std.specs.declared.cmp.Ordering.TheVariants.{Less, Equal, Greater}
@@ -23,7 +23,7 @@ use Rattle.mail_index.specs.Inside.KeyFronts.{IsFrontOf, IsFronted}
 abbrev pub new_key : Kind → List ℕ → ℕ → Key
 new_key kind text n = record { kind = kind; text = text; numbers = n ∷ [] }
 
--- the keys with the pair that is added
+-- the keys after this one was added
 abbrev pub with_added : Added → List Key → List Key
 with_added key keys = with_pair key.kind key.text.now key.number keys
 
@@ -33,33 +33,33 @@ with_one k n = record { kind = k.kind; text = k.text; numbers = with_number k.nu
 
 -- ---- an entry's bytes
 
--- the key of the number of a kind and a text, and of postings
+-- the key with these postings, from a front: the number of its kind and its text
 abbrev pub key_in : List ℕ → List ℕ → Key
 key_in front postings = record { kind = kind_of_number (slice_index front 0); text = drop 1 front; numbers = numbers_of postings }
 
--- the key of an entry's bytes, of which so many stand before its postings
+-- the key of an entry's bytes, if this many bytes come before its postings
 abbrev pub key_of_bytes : List ℕ → ℕ → Key
 key_of_bytes bytes front = key_in (take front bytes) (drop front bytes)
 
--- so many of the bytes are the number of a kind and a text, and the others are postings of numbers below next
+-- this many of the bytes are the number of a kind and a text, and the others are postings of numbers below `next`
 pub record AreEntryBytes (bytes : List ℕ) (front next : ℕ) : Type 0 where
   pub long : front ≤ length bytes
   pub kind : kind_number (kind_of_number (slice_index (take front bytes) 0)) ∷ drop 1 (take front bytes) ≡ take front bytes
   pub posted : IsPosted (drop front bytes) next
 
--- of a front of so many bytes what is kept apart: all of it, if it is short, and else the number of a kind
+-- what is kept apart of a front with this many bytes: all of it if it is short, otherwise the number of the kind
 abbrev pub short_front : List ℕ → ℕ → List ℕ
 short_front kept front = if nat_le front 16 then take front kept else slice_index kept 0 ∷ []
 
--- what it stands in: the place that is kept apart for it, or the number there and the other bytes
+-- where the front is kept: all in the place kept apart for it, or the number there and the rest in the other bytes
 abbrev pub front_holder : List ℕ → ℕ → List ℕ → List ℕ
 front_holder kept front bytes = if nat_le front 16 then kept else slice_index kept 0 ∷ bytes
 
--- all the bytes of an entry: those kept apart, the others, and the last of the postings
+-- all bytes of an entry: those kept apart, the others, and the last of the postings
 abbrev pub key_bytes : List ℕ → ℕ → List ℕ → List ℕ → List ℕ
 key_bytes kept front bytes recent = short_front kept front ++ (bytes ++ recent)
 
--- the place that is kept apart and the other bytes hold the number of a kind and a text, with nothing behind them
+-- the place kept apart and the other bytes have the number of a kind and a text, and nothing after them
 pub record HoldsFront (kind : Kind) (text kept bytes : List ℕ) : Type 0 where
   pub whole : key_bytes kept (length text + 1) bytes [] ≡ kind_number kind ∷ text
   pub long : length text + 1 ≤ length (front_holder kept (length text + 1) bytes)
@@ -70,11 +70,11 @@ pub record HoldsFront (kind : Kind) (text kept bytes : List ℕ) : Type 0 where
 abbrev pub IsEntryOf : Kind → List ℕ → List Key → ℕ → Type 0
 IsEntryOf kind text entries number = (number < length entries) × (lies_to kind text (key_at entries number) ≡ Equal)
 
--- the keys of these numbers
+-- the keys of the entries with these numbers
 abbrev pub placed : List Key → List ℕ → List Key
 placed entries order = map (key_at entries) order
 
--- i is one of these
+-- i is one of these numbers
 abbrev pub IsAmong : ℕ → List ℕ → Type 0
 IsAmong i [] = ⊥
 IsAmong i (j ∷ js) = (j ≡ i) ⊎ IsAmong i js
@@ -86,14 +86,15 @@ pub record IsOrder (entries : List Key) (order : List ℕ) : Type 0 where
   pub whole : (i : ℕ) → i < length entries → IsAmong i order
   pub count : length order ≡ length entries
 
--- the place is the one among the keys where the wanted one isn't met, and would stand
+-- the wanted key isn't among the keys, and this is its place: the key before it is smaller, and the key there is
+-- greater
 pub record IsGap (kind : Kind) (text : List ℕ) (keys : List Key) (place : ℕ) : Type 0 where
   pub within : place ≤ length keys
   pub below : (j : ℕ) → suc j ≡ place → lies_to kind text (key_at keys j) ≡ Less
   pub above : place < length keys → lies_to kind text (key_at keys place) ≡ Greater
 
--- the wanted key, if it is one of the keys, stands between these places: what stands before the first lies before it, and what
--- stands at the second behind it
+-- The wanted key, if it is one of the keys, is between these places: the key before the first is smaller, and the key
+-- at the second is greater.
 pub record AreBounds (kind : Kind) (text : List ℕ) (keys : List Key) (low high : ℕ) : Type 0 where
   pub order : low ≤ high
   pub within : high ≤ length keys
@@ -102,60 +103,64 @@ pub record AreBounds (kind : Kind) (text : List ℕ) (keys : List Key) (low high
 
 -- ---- an order in pages
 
--- what the pages hold
+-- the slots of the pages
 abbrev pub rows : List (Vec Fronted Global) → List (List Fronted)
 rows pages = map (λ (page : Vec Fronted Global). page.items) pages
 
--- what the page of this number holds
+-- the slots of the page with this number
 abbrev pub row_at : List (Vec Fronted Global) → ℕ → List Fronted
 row_at pages page = slice_index_or (rows pages) page []
 
--- the slots of the pages one after another, and between each and the next one of the heads
+-- the slots of the pages one after another, with one of the heads between each page and the next
 abbrev pub in_pages : List (List Fronted) → List Fronted → List Fronted
 in_pages [] heads = []
 in_pages (row ∷ rest) [] = row ++ []
 in_pages (row ∷ rest) (head ∷ heads) = row ++ head ∷ in_pages rest heads
 
--- those left of a page, and those behind it: of the heads, and of the pages behind it
+-- the slots that are left: those of a page, and after them the heads and the pages that follow
 abbrev pub left_in_pages : List Fronted → List Fronted → List (List Fronted) → List Fronted
 left_in_pages row [] rest = row ++ []
 left_in_pages row (head ∷ heads) rest = row ++ head ∷ in_pages rest heads
 
+-- the slots that an iterator has left
 abbrev pub slots_left : Left → List Fronted
 slots_left left = left_in_pages left.page.now left.heads.now (rows left.pages.now)
 
--- how many slots stand before the one at a place of a page
+-- how many slots come before the one at a place of a page
 abbrev pub position : List (List Fronted) → ℕ → ℕ → ℕ
 position [] page at = at
 position (row ∷ rest) zero at = at
 position (row ∷ rest) (suc page) at = length row + suc (position rest page at)
 
--- the numbers of slots, and the keys of these
+-- the numbers in the slots
 abbrev pub numbers_of_slots : List Fronted → List ℕ
 numbers_of_slots slots = map (λ (slot : Fronted). slot.number) slots
 
+-- the keys of the entries with these numbers
 abbrev pub slot_keys : List Key → List Fronted → List Key
 slot_keys entries slots = placed entries (numbers_of_slots slots)
 
--- the slot of this number, at a place
+-- the slot for this number at a place
 abbrev pub slot_for : ℕ → Place → Fronted
 slot_for number place = record { number = number; front = place.front }
 
--- the slots of an order and their numbers, and how many of them stand before a place
+-- the slots of an order
 abbrev pub slots_in : KeyOrder → List Fronted
 slots_in order = in_pages (rows order.pages.items) order.heads.items
 
+-- the numbers in an order
 abbrev pub numbers_in : KeyOrder → List ℕ
 numbers_in order = numbers_of_slots (slots_in order)
 
+-- how many slots of an order come before a place
 abbrev pub place_in : KeyOrder → Place → ℕ
 place_in order place = position (rows order.pages.items) place.page place.at
 
--- the keys in that order
+-- the keys in the order
 abbrev pub keys_in : List Key → KeyOrder → List Key
 keys_in entries order = placed entries (numbers_in order)
 
--- there is a head between each page and the next, and the order has the number of each entry, beside its key's front
+-- there is a head between each page and the next, and the order has the number of each entry, with its key's front
 pub record AreInStep (entries : List Key) (order : KeyOrder) : Type 0 where
   pub between : length order.heads.items ≡ length order.pages.items - 1
   pub sorts : IsOrder entries (numbers_in order)
@@ -166,7 +171,7 @@ pub record IsPlaceIn (pages : List (Vec Fronted Global)) (place : Place) : Type 
   pub page : place.page < length pages
   pub at : place.at ≤ length (row_at pages place.page)
 
--- the wanted key, which none of the entries has, would stand at the place, which has its front
+-- the wanted key is that of no entry and would come at this place, which has its front
 pub record IsPlaceFor (kind : Kind) (text : List ℕ) (entries : List Key) (order : KeyOrder) (place : Place) : Type 0 where
   pub inside : IsPlaceIn order.pages.items place
   pub gap : IsGap kind text (keys_in entries order) (place_in order place)
@@ -174,7 +179,7 @@ pub record IsPlaceFor (kind : Kind) (text : List ℕ) (entries : List Key) (orde
 
 -- ---- faults
 
--- there was no memory, or there would be more than so many
+-- memory ran out, or there would be more than `most` keys
 abbrev pub IsWantOf : ℕ → ℕ → BuildFault → Type 0
 IsWantOf most count OutOfMemory = Unit {0}
 IsWantOf most count TooMany = most < count

@@ -1,4 +1,4 @@
--- What writing makes of an output, of the digest of what went out, and of what is gathered to go out.
+-- What writing changes in an output, in the digest of what was written, and in what is gathered to be written.
 use Rattle.std.specs.Prelude.{◌≡◌, ℕ, List, ◌++◌, Option, Result, Ok, Err}
 use Rattle.std.specs.Io.KnownBytes.{Appends}
 use Rattle.sha2.specs.declared.Sha256.{Sha256}
@@ -6,22 +6,23 @@ use Rattle.sha2.specs.Hashers.{Holds256}
 use Rattle.contract_words.specs.Devices.{Sends}
 use Rattle.mail_index.specs.declared.build.file_out.Signer.{Signer}
 
--- these bytes were taken into a digest
+-- these bytes were added to a digest
 abbrev pub Absorbs : Sha256 → Sha256 → List ℕ → Type 0
 Absorbs old new bytes = (m : List ℕ) → Holds256 old m → Holds256 new (m ++ bytes)
 
--- of what was gathered and these bytes a front went out, and into the digest, and the rest is gathered
+-- of the gathered bytes and these ones, a front was written and added to the digest, and the rest is gathered
 pub record Signs (old new : Option (List ℕ)) (s t : Signer) (bytes : List ℕ) : Type 0 where
   pub sent : List ℕ
   pub split : s.pending ++ bytes ≡ sent ++ t.pending
   pub out : Appends old new sent
   pub digest : Absorbs s.hasher t.hasher sent
 
--- of what was gathered and these bytes only some front went out
+-- of the gathered bytes and these ones, only a front was written
 abbrev pub BreaksOff : Option (List ℕ) → Option (List ℕ) → Signer → List ℕ → Type 0
 BreaksOff old new s bytes = Sends old new (s.pending ++ bytes)
 
--- what a call that writes these bytes does: it signs them, and where the output fails they break off
+-- what a call that writes these bytes does: it signs them, or only a front of them was written because the output
+-- failed
 abbrev pub Writes : {T E : Type 0} → Result T E → Option (List ℕ) → Option (List ℕ) → Signer → Signer → List ℕ → Type 0
 Writes (Ok _) old new s t bytes = Signs old new s t bytes
 Writes (Err _) old new s t bytes = BreaksOff old new s bytes

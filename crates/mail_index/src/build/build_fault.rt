@@ -1,13 +1,13 @@
-//! Why an index isn't built.
+//! Why an index can't be built.
 ghost use Rattle.std.specs.Prelude.{◌≡◌};
 
 use std::alloc::{AllocError, AllocFailed};
 use thiserror::Error;
 
-/// Why a builder gave up.
+/// Why a call of a builder failed.
 #[derive(Clone, Copy, Debug, Error)]
 pub enum BuildFault {
-    /// There was no memory.
+    /// Memory ran out.
     #[error("out of memory")]
     OutOfMemory,
     /// There would be more archives, messages or keys than are allowed.
@@ -16,7 +16,7 @@ pub enum BuildFault {
     /// The output failed.
     #[error("write failed")]
     Device,
-    /// An earlier call was out of memory or had too many.
+    /// An earlier call ran out of memory, or had too many.
     #[error("failed before")]
     Failed,
 }

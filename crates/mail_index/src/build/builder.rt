@@ -17,15 +17,15 @@ use mbox_cutter::Out;
 use std::alloc::Global;
 use std::marker::Model;
 
-/// Builds an index, archive by archive and in each message by message.
+/// Builds an index, archive by archive and, in each, message by message.
 ///
-/// An archive is begun, each of its messages is begun, given its keys and ended, and the archive is ended. Messages
-/// have numbers from 0 on, which run on over all archives. A call that was out of memory, or had one archive, message
-/// or key too many, leaves nothing: every later call answers [`BuildFault::Failed`].
+/// An archive is begun; each of its messages is begun, given its keys and ended; then the archive is ended. Messages
+/// have numbers from 0 on, which run on over all archives. After a call that ran out of memory, or had one archive,
+/// message or key too many, nothing is left: every later call fails with [`BuildFault::Failed`].
 #[derive(Drop)]
 pub struct Builder {
     alloc: Global,
-    // None once a call was refused.
+    // None once a call has run out of memory or had too many, and after `lose`.
     draft: Option<Draft>,
 }
 
@@ -39,7 +39,8 @@ impl Model for Builder {
 }
 
 impl Builder {
-    /// No archive. At most `most` archives, messages and keys will be taken, and `most` is at most 2,147,483,647.
+    /// Returns a builder without archives. It will accept at most `most` archives, messages and keys; `most` is at most
+    /// 2,147,483,647.
     ///
     /// Takes no memory.
     pub fn new(alloc: Global, most: u32) -> Self
@@ -52,11 +53,12 @@ impl Builder {
         }
     }
 
-    /// Begins an archive, by a path that meets `is_path`, where none is open.
+    /// Begins an archive with a path that meets `is_path`. No archive may be open.
     ///
     /// # Errors
     ///
-    /// `TooMany` where there would be one more than `most`.
+    /// `TooMany` if there would be more than `most` archives. `OutOfMemory` if memory runs out, and `Failed` if nothing
+    /// is left after an earlier call.
     pub fn begin_archive(&mut self, path: &str) -> Result<(), BuildFault>
         requires phase { IfSome self.old IsBetweenArchives }
         requires path { IfSome self.old (λ _. IsPath path.now) }
@@ -73,11 +75,11 @@ impl Builder {
         self.settled(outcome)
     }
 
-    /// Begins a message of the archive that is open, where no message is.
+    /// Begins a message of the open archive. No message may be open.
     ///
     /// # Errors
     ///
-    /// `TooMany` where there would be one more than `most`.
+    /// `TooMany` if there would be more than `most` messages, and `Failed` if nothing is left after an earlier call.
     pub fn begin_message(&mut self) -> Result<(), BuildFault>
         requires { IfSome self.old IsInArchive }
         ensures gives { Gives (λ _. self.new) refusal result (stepped begun_message self.old) }
@@ -91,12 +93,13 @@ impl Builder {
         self.settled(outcome)
     }
 
-    /// Gives the message that is open a key: a word or an id of 1 to 262,144 bytes. One that it has already changes
-    /// nothing, and takes no memory.
+    /// Gives the open message a key: a word or an id of 1 to 262,144 bytes. A key that it has already changes nothing,
+    /// and takes no memory.
     ///
     /// # Errors
     ///
-    /// `TooMany` where the key is a new one, and there would be one more than `most`.
+    /// `TooMany` if the key is new and there would be more than `most` keys. `OutOfMemory` if memory runs out, and
+    /// `Failed` if nothing is left after an earlier call.
     pub fn add(&mut self, kind: Kind, text: &[u8]) -> Result<(), BuildFault>
         requires phase { IfSome self.old IsInMessage }
         requires some { IfSome self.old (λ _. 0 < length text.now) }
@@ -111,15 +114,15 @@ impl Builder {
         self.add_prefetched(kind, text, places[0])
     }
 
-    /// Guesses where keys stand, for [`Builder::add_prefetched`]. Takes no memory.
+    /// Guesses where keys are, for [`Builder::add_prefetched`]. Takes no memory.
     pub fn prefetch(&self, places: &mut [Prefetched]) {
         if let Some(draft) = &self.draft {
             draft.keys.prefetch(places);
         }
     }
 
-    /// Whether it is plain to see that the message that is open has a key already, so that to add it would change nothing. To
-    /// answer false would cost only time. It looks at one of the keys that came last, and needs no guess where the key stands.
+    /// Whether a quick look finds that the open message has a key already, so that adding it would change nothing. A
+    /// wrong false costs only time. It reads one of the latest keys, and needs no guess where the key is.
     #[inline(always)]
     pub fn has_recent(&self, kind: Kind, text: &[u8], place: Prefetched) -> bool
         ensures { IsTrue result → IfSome self.now (HasPair kind text.now) }
@@ -133,13 +136,14 @@ impl Builder {
         }
     }
 
-    /// Does what [`Builder::add`] does, with a guess where the key stands. Who has several keys to add waits less for memory if
-    /// it has them all guessed at once.
+    /// Does what [`Builder::add`] does, with a guess where the key is. Several keys are added with less delay for
+    /// memory if they are all guessed at once.
     ///
     /// # Errors
     ///
-    /// `TooMany` where the key is a new one, and there would be one more than `most`.
-    // Inlined, since it is called for each word.
+    /// `TooMany` if the key is new and there would be more than `most` keys. `OutOfMemory` if memory runs out, and
+    /// `Failed` if nothing is left after an earlier call.
+    // Inlined because it is called for each word.
     #[inline(always)]
     pub fn add_prefetched(
         &mut self,
@@ -162,8 +166,9 @@ impl Builder {
         self.settled(outcome)
     }
 
-    /// Ends the message that is open: one of the archive that is open, behind those before it, within 2^40 bytes, and
-    /// with a text that is shorter than itself.
+    /// Ends the open message. It belongs to the open archive, comes after the messages before it, ends within 2^40
+    /// bytes, and has a text that is shorter than itself. Fails if memory runs out, or if nothing is left after an
+    /// earlier call.
     pub fn end_message(&mut self, message: Record) -> Result<(), BuildFault>
         requires phase { IfSome self.old IsInMessage }
         requires next { IfSome self.old (λ d. IsNextMessage d message) }
@@ -179,9 +184,10 @@ impl Builder {
         self.settled(outcome)
     }
 
-    /// Ends the archive that is open, whose messages have ended: its length in bytes, at most 2^40, and at least where
-    /// its last message ends, and the SHA-256 of these bytes. The caller takes it, since a builder doesn't see them: any 32
-    /// bytes are written as they are.
+    /// Ends the open archive, whose messages have all ended. Its length is at most 2^40 bytes, and not less than the
+    /// end of its last message. `digest` should be the SHA-256 of its bytes: the caller computes it, because a builder
+    /// doesn't see the bytes, and any 32 bytes are written as they are. Fails if memory runs out, or if nothing is left
+    /// after an earlier call.
     pub fn end_archive(&mut self, length: u64, digest: [u8; 32]) -> Result<(), BuildFault>
         requires phase { IfSome self.old IsInArchive }
         requires within { IfSome self.old (λ _. length ≤ most_in_archive) }
@@ -199,14 +205,15 @@ impl Builder {
         self.settled(outcome)
     }
 
-    /// Writes the index file of all archives, in version 2, where none is open. Answers how many bytes it has.
+    /// Writes the index file of all archives, in version 2, and returns its number of bytes. No archive may be open.
     ///
-    /// Takes no memory, and writes in pieces of some thousand bytes. The builder stays as it is, also where the output fails:
-    /// some front of the file went out then.
+    /// Takes no memory, and writes in pieces of some thousand bytes. The builder stays as it is, even if the output
+    /// fails.
     ///
     /// # Errors
     ///
-    /// `Device` where the output failed.
+    /// `Device` if the output fails: then only a beginning of the file was sent. `Failed` if nothing is left after an
+    /// earlier call.
     pub fn write<O: Out>(&self, out: &mut O) -> Result<u64, BuildFault>
         requires failures { O.failures out.old < 2 ^ 64 - 1 }
         requires phase { IfSome self.now IsBetweenArchives }
@@ -224,8 +231,8 @@ impl Builder {
         }
     }
 
-    /// Frees all that was built: every later call answers [`BuildFault::Failed`].
-    // It stands apart from the calls that nearly always succeed.
+    /// Frees all that was built. Every later call fails with [`BuildFault::Failed`].
+    // Kept out of the calls, because they nearly always succeed.
     #[cold]
     #[inline(never)]
     pub fn lose(&mut self)
@@ -234,7 +241,7 @@ impl Builder {
         self.draft = None;
     }
 
-    /// After a refusal nothing is kept.
+    /// Returns this outcome of a call. If it is a fault, nothing is kept.
     #[inline]
     fn settled(&mut self, outcome: Result<(), BuildFault>) -> Result<(), BuildFault>
         ensures same { result ≡ outcome }

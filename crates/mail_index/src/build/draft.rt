@@ -39,7 +39,7 @@ pub(crate) struct NamedArchive {
 #[derive(Drop)]
 pub(crate) struct Draft {
     most: u32,
-    // The path of the archive that is open.
+    // The path of the open archive.
     path: Option<String>,
     in_message: bool,
     archives: Vec<NamedArchive>,
@@ -63,7 +63,7 @@ impl Model for Draft {
 impl Draft {
     ghost use Rattle.mail_index.specs.Inside.Drafts.{IsDraft};
 
-    /// No archive. Takes no memory.
+    /// Returns a draft without archives. Takes no memory.
     pub(crate) fn new(alloc: Global, most: u32) -> Self
         requires { most ≤ most_in_index }
         ensures { result ≡ empty_draft most }
@@ -78,7 +78,7 @@ impl Draft {
         }
     }
 
-    /// Opens an archive.
+    /// Opens an archive. Fails if there is no room for it, or if memory runs out.
     pub(crate) fn begin_archive(&mut self, alloc: Global, path: &str) -> Result<(), BuildFault>
         requires phase { self.old.path ≡ None }
         requires path { IsPath path.now }
@@ -92,7 +92,7 @@ impl Draft {
         Ok(())
     }
 
-    /// Opens a message.
+    /// Opens a message. Fails if there is no room for it.
     pub(crate) fn begin_message(&mut self) -> Result<(), BuildFault>
         ensures { Gives (λ _. self.new) refusal result (begun_message self.old) }
     {
@@ -103,7 +103,7 @@ impl Draft {
         Ok(())
     }
 
-    /// Adds a key to the message that is open.
+    /// Adds a key to the open message. Fails if there is no room for a new key, or if memory runs out.
     pub(crate) fn add(
         &mut self,
         alloc: Global,
@@ -120,7 +120,7 @@ impl Draft {
         self.keys.add(alloc, kind, text, number, self.most, place)
     }
 
-    /// Closes the message that is open.
+    /// Closes the open message, which has this record.
     pub(crate) fn end_message(&mut self, message: Record) -> Result<(), BuildFault>
         requires phase { IsInMessage self.old }
         requires next { IsNextMessage self.old message }
@@ -131,7 +131,7 @@ impl Draft {
         Ok(())
     }
 
-    /// Closes the archive that is open.
+    /// Closes the open archive, which has this length and digest.
     pub(crate) fn end_archive(&mut self, length: u64, digest: [u8; 32]) -> Result<(), BuildFault>
         requires phase { IsSome self.old.path }
         requires length { length ≤ most_in_archive }
@@ -153,7 +153,7 @@ impl Draft {
         Ok(())
     }
 
-    /// Writes the index file of the table. Answers how many bytes it has.
+    /// Writes the index file of the table, and returns its number of bytes. Fails if the output does.
     pub(crate) fn write<O: Out>(&self, out: &mut O) -> Result<u64, DeviceFault>
         requires failures { O.failures out.old < 2 ^ 64 - 1 }
         requires phase { IsBetweenArchives self.now }
@@ -176,7 +176,7 @@ impl Draft {
         Ok(length)
     }
 
-    /// What the counts section tells.
+    /// The contents of the counts section.
     fn counts(&self) -> Counts
         ensures draft { IsDraft self.now }
         ensures counts { IsCountOf self.now.table result }
@@ -193,7 +193,7 @@ impl Draft {
         }
     }
 
-    /// Writes all but the digest. Answers that.
+    /// Writes all of the file but its digest, and returns the digest.
     fn send_undigested<O: Out>(&self, out: &mut O, counts: &Counts) -> Result<[u8; 32], DeviceFault>
         requires failures { O.failures out.old < 2 ^ 64 - 1 }
         requires counts { IsCountOf self.now.table counts.now }
@@ -210,7 +210,7 @@ impl Draft {
         signer.finish(out)
     }
 
-    /// Writes some sections, one after another, or gathers them for that.
+    /// Writes these sections one after another, or gathers their bytes to be written.
     fn send_sections<O: Out>(
         &self,
         out: &mut O,
@@ -231,7 +231,7 @@ impl Draft {
         Ok(())
     }
 
-    /// Writes one section, or gathers it.
+    /// Writes a section, or gathers its bytes to be written.
     fn send_section<O: Out>(
         &self,
         out: &mut O,

@@ -1,4 +1,4 @@
-//! Writes bytes under a running digest.
+//! Writes bytes, and digests them on the way.
 ghost use Rattle.std.specs.Prelude.{◌≡◌, ◌-◌, ◌^◌, ◌<◌, ℕ, List, [], ◌++◌, IfOk, OnOk, OnErr, map};
 ghost use Rattle.std.specs.Io.KnownBytes.{Appends};
 ghost use Rattle.std.specs.List.{concat};
@@ -11,9 +11,9 @@ use crate::build::pending::{Pending, ROOM};
 use mbox_cutter::{DeviceFault, Out, send};
 use sha2::{Digest, Sha256};
 
-/// The digest of what went out, and what is gathered to go out after it.
+/// The digest of what was written, and the bytes that are gathered to be written next.
 ///
-/// A file is made of fields of few bytes: gathered, they cost an output and a digest one call for some hundred of them.
+/// A file consists of fields of few bytes. Gathered, some hundred of them cost an output and a digest one call.
 #[derive(Drop)]
 pub(crate) struct Signer {
     hasher: Sha256,
@@ -21,7 +21,7 @@ pub(crate) struct Signer {
 }
 
 impl Signer {
-    /// Nothing went out yet.
+    /// Returns a signer that has written nothing.
     pub(crate) fn new() -> Self
         ensures digest { Holds256 result.hasher [] }
         ensures pending { result.pending ≡ [] }
@@ -32,7 +32,7 @@ impl Signer {
         }
     }
 
-    /// Writes what is gathered, and takes it into the digest.
+    /// Writes the gathered bytes, and adds them to the digest.
     fn flush<O: Out>(&mut self, out: &mut O) -> Result<(), DeviceFault>
         requires { O.failures out.old < 2 ^ 64 - 1 }
         ensures ok { OnOk result (Appends (O.taken out.old) (O.taken out.new) self.old.pending) }
@@ -48,7 +48,7 @@ impl Signer {
         sent
     }
 
-    /// Writes what is gathered. Answers the digest of all that went out.
+    /// Writes the gathered bytes, and returns the digest of all that was written.
     pub(crate) fn finish<O: Out>(mut self, out: &mut O) -> Result<[u8; 32], DeviceFault>
         requires { O.failures out.old < 2 ^ 64 - 1 }
         ensures ok { OnOk result (Appends (O.taken out.old) (O.taken out.new) self.pending) }
@@ -60,7 +60,7 @@ impl Signer {
         self.flush(out).and(Ok(self.hasher.finalize()))
     }
 
-    /// Writes what is gathered, and the bytes, unless they have room then.
+    /// Writes the gathered bytes. Then gathers the new ones if there is room for them, and writes them if not.
     fn send_past<O: Out>(&mut self, out: &mut O, bytes: &[u8]) -> Result<(), DeviceFault>
         requires { O.failures out.old < 2 ^ 64 - 1 }
         ensures written { Writes result (O.taken out.old) (O.taken out.new) self.old self.new
@@ -78,7 +78,7 @@ impl Signer {
     }
 }
 
-/// Writes bytes and takes them into the digest, or gathers them for that.
+/// Gathers these bytes to be written, or writes them, and adds all that is written to the digest.
 #[inline(always)]
 pub(crate) fn send_signed<O: Out>(
     out: &mut O,
@@ -97,7 +97,7 @@ pub(crate) fn send_signed<O: Out>(
     Ok(())
 }
 
-/// Writes parts, one after another, as `send_signed` does.
+/// Does what `send_signed` does for each part, one after another.
 pub(crate) fn send_parts<O: Out>(
     out: &mut O,
     signer: &mut Signer,

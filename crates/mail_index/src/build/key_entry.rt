@@ -16,14 +16,13 @@ use std::alloc::{AllocError, Global};
 use std::cmp::Ordering;
 use std::marker::Model;
 
-/// The bytes of a kind's number and a short text: a longer text stands outside the entry.
+/// The number of bytes for a kind's number and a short text. A longer text is kept outside the entry.
 const SHORT: usize = 16;
 
 /// A key, whose text is shorter than 2^32 bytes, with the numbers of its messages.
 ///
-/// There are many, and most are short and have few numbers. So a short text and the last postings stand in the entry
-/// itself, of 64 bytes: mostly a number is added to a key by a look at its entry alone, and a rare key takes no more
-/// memory than that.
+/// There are many keys, and most are short and have few numbers. So a short text and the last postings are in the entry
+/// itself, which has 64 bytes. Adding a number mostly reads this entry alone, and a rare key takes no more memory.
 #[derive(Drop)]
 pub(crate) struct KeyEntry {
     text_length: u32,
@@ -33,8 +32,8 @@ pub(crate) struct KeyEntry {
     front: [u8; SHORT],
     // The last bytes of the postings.
     recent: ShortBytes,
-    // The text, if it isn't short, and the postings before the recent ones: each number as its difference from the one
-    // before, the first from -1, in the shortest unsigned LEB128.
+    // The text if it isn't short, and the postings before the recent ones: the difference of each number from the one
+    // before it, with -1 before the first, in the shortest unsigned LEB128.
     bytes: Vec<u8>,
 }
 
@@ -54,7 +53,7 @@ impl Model for KeyEntry {
 }
 
 impl KeyEntry {
-    /// A key of one message.
+    /// Returns a key of one message. Fails if memory runs out.
     pub(crate) fn new(
         alloc: Global,
         kind: Kind,
@@ -75,7 +74,7 @@ impl KeyEntry {
         })
     }
 
-    /// Adds a message's number, unless the last is as large. A refused growth changes nothing.
+    /// Adds a message's number, unless the last one isn't smaller. If memory runs out, nothing changes.
     pub(crate) fn push(&mut self, number: u32) -> Result<(), AllocError>
         requires { number < u32.MAX }
         ensures ok { OnOk result (self.new ≡ with_one self.old number) }
@@ -90,7 +89,7 @@ impl KeyEntry {
         Ok(())
     }
 
-    /// The number of its kind in the file, and its text.
+    /// The number of the key's kind in the file, and the key's text.
     pub(crate) fn number_and_text(&self) -> (u8, &[u8])
         ensures number { result.0 ≡ kind_number self.now.kind }
         ensures text { result.1.now ≡ self.now.text }
@@ -105,7 +104,7 @@ impl KeyEntry {
         (self.front[0], text)
     }
 
-    /// How the key lies to another: by the kind's number, then by the text.
+    /// Compares the key with another: first the numbers of their kinds, then their texts.
     pub(crate) fn compare(&self, kind: Kind, text: &[u8]) -> Ordering
         ensures { result ≡ lies_to kind text.now self.now }
     {
@@ -113,7 +112,7 @@ impl KeyEntry {
         compare_keys(own_number, own_text, kind.number(), text)
     }
 
-    /// Whether it is this key, and has a message's number already.
+    /// Whether this is the key, and has the message's number already.
     #[inline(always)]
     pub(crate) fn has(&self, kind: Kind, text: &[u8], number: u32) -> bool
         ensures { IsTrue result → (lies_to kind text.now self.now ≡ Equal)
@@ -122,7 +121,7 @@ impl KeyEntry {
         number < self.next && self.is_key(kind, text)
     }
 
-    /// Whether it is this key.
+    /// Whether this is the key.
     #[inline(always)]
     pub(crate) fn is_key(&self, kind: Kind, text: &[u8]) -> bool
         ensures { result ≡ is_eq (lies_to kind text.now self.now) }
@@ -131,7 +130,7 @@ impl KeyEntry {
         own_number == kind.number() && is_same_text(own_text, text)
     }
 
-    /// Its text.
+    /// The key's text.
     pub(crate) fn text(&self) -> &[u8]
         ensures text { result.now ≡ self.now.text }
         ensures short { length result.now < four_byte_limit }
@@ -139,7 +138,7 @@ impl KeyEntry {
         self.number_and_text().1
     }
 
-    /// The postings of its numbers, in two parts.
+    /// The postings of the key's numbers, in two parts.
     pub(crate) fn postings(&self) -> (&[u8], &[u8])
         ensures bytes { result.0.now ++ result.1.now ≡ postings self.now.numbers }
         ensures small { length result.0.now + length result.1.now < four_byte_limit }
@@ -153,7 +152,7 @@ impl KeyEntry {
         (older, self.recent.as_slice())
     }
 
-    /// How many bytes its postings have.
+    /// The number of bytes of the key's postings.
     pub(crate) fn postings_length(&self) -> usize
         ensures { result ≡ length (postings self.now.numbers) }
     {
@@ -162,7 +161,7 @@ impl KeyEntry {
     }
 }
 
-/// Whether two texts are one. Most have two to sixteen bytes, and need no loop.
+/// Whether two texts are the same. Most have two to sixteen bytes, and need no loop.
 #[inline(always)]
 fn is_same_text(own: &[u8], text: &[u8]) -> bool
     ensures { Decides result (own.now ≡ text.now) }
@@ -176,7 +175,7 @@ fn is_same_text(own: &[u8], text: &[u8]) -> bool
         }
 }
 
-/// Whether two texts of the same length are one, by their first bytes and their last ones, N each, which cover them.
+/// Whether two texts of the same length are the same, by their first N bytes and their last N, which cover them.
 fn have_same_ends<const N: usize>(own: &[u8], text: &[u8]) -> bool
     requires length { length own.now ≡ length text.now }
     requires covered { (N ≤ length own.now) × (length own.now ≤ 2 * N) }
@@ -186,7 +185,7 @@ fn have_same_ends<const N: usize>(own: &[u8], text: &[u8]) -> bool
         && own.last_chunk::<N>() == text.last_chunk::<N>()
 }
 
-/// Appends a difference's bytes to the recent ones. Most differences have one byte, for which there mostly is room.
+/// Appends a difference's bytes to the recent ones. Most differences have one byte, for which there is mostly room.
 fn append(bytes: &mut Vec<u8>, recent: &mut ShortBytes, difference: u32) -> Result<(), AllocError>
     ensures ok { OnOk result
         (bytes.new.items ++ recent.new ≡ bytes.old.items ++ recent.old ++ leb128 5 difference) }
@@ -200,8 +199,8 @@ fn append(bytes: &mut Vec<u8>, recent: &mut ShortBytes, difference: u32) -> Resu
     append_any(bytes, recent, difference)
 }
 
-/// Does that for each difference. Where there is no room for its bytes the recent ones go behind the others first. It stands
-/// apart, so that one byte costs no more than its own steps.
+/// Does what `append` does for any difference. If there is no room for its bytes, the recent ones are first moved to
+/// the others. A function of its own, so that one byte costs no more than its own steps.
 #[inline(never)]
 fn append_any(
     bytes: &mut Vec<u8>,
@@ -223,7 +222,7 @@ fn append_any(
     Ok(())
 }
 
-/// The kind's number with a short text behind it, and another text as the bytes outside the entry.
+/// The kind's number with a short text after it; and any longer text as the bytes outside the entry.
 fn front_and_bytes(
     alloc: Global,
     kind: Kind,

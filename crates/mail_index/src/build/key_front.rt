@@ -1,22 +1,22 @@
-//! Fronts of keys: of two keys whose fronts differ the one of the smaller front comes first.
+//! Fronts of keys. If the fronts of two keys differ, the key with the smaller front comes first.
 ghost use Rattle.mail_index.specs.Inside.KeyFronts.{IsFrontOf};
 
 use crate::kind::Kind;
 
-/// How many bytes of a text stand in a front, behind the kind's number.
+/// The number of bytes of a text in a front, after the kind's number.
 const TEXT_BYTES: usize = 7;
 
 /// The number of an entry, and the front of its key.
 ///
-/// The fronts of many keys stand close together, while an entry mostly has to be waited for: so a search reads an entry only
-/// where its front is the wanted one.
+/// The fronts of many keys are close together in memory, while reading an entry mostly costs a delay. So a search reads
+/// an entry only if its front is the wanted one.
 #[derive(Clone, Copy)]
 pub(crate) struct Fronted {
     pub number: u32,
     pub front: u64,
 }
 
-/// The kind's number and the first seven bytes of the text, with zeros behind them, as one number.
+/// The kind's number and the first seven bytes of the text, filled up with zeros, as one number.
 pub(crate) fn front_of_key(kind: Kind, text: &[u8]) -> u64
     ensures { IsFrontOf kind text.now result }
 {

@@ -1,27 +1,27 @@
-//! Where the keys that came last stand among the entries.
+//! Hints where the latest keys are among the entries.
 ghost use Rattle.std.specs.Prelude.{◌≡◌, ◌^◌, ◌<◌, [], length, set, slice_index_or, OnOk};
 
 use crate::kind::Kind;
 use std::alloc::{AllocError, Global};
 
-/// How many hints there are.
+/// The number of hints.
 const SLOTS: usize = 1048576;
 
-/// How many of the hints that came last stand apart too, where they are quickly reached.
+/// How many of the latest hints are kept in a small table too, which is quick to reach.
 const RECENT: usize = 512;
 
-/// What stands in a slot before it has a hint: more than the number of any entry.
+/// The contents of a slot without a hint: more than the number of any entry.
 const NOTHING: u32 = u32::MAX;
 
-/// How many bits of a hash stand below the 20 highest, which number its slot.
+/// How many bits of a hash are below the 20 highest, which are the number of its slot.
 const BELOW_SLOT: u32 = 44;
 
-/// 2^64 by the golden ratio: an odd number whose bits have no pattern, so that each bit of a word counts for the highest
-/// of its product.
+/// 2^64 divided by the golden ratio: an odd number whose bits have no pattern, so that each bit of a word affects the
+/// highest bits of its product.
 const SPREAD: u64 = 0x9E37_79B9_7F4A_7C15;
 
-/// For each value of a hash the number of the entry of a key that came last with it. A hint can be wrong, and is no
-/// more than a guess that saves a search; so nothing is lost where a hint is missing, nor where two keys share one.
+/// For each value of a hash, the number of the entry of the latest key with that hash. A hint is only a guess that
+/// saves a search, and can be wrong. So nothing is lost if a hint is missing, or if two keys share one.
 #[derive(Drop)]
 pub(crate) struct KeyHints {
     numbers: Vec<u32>,
@@ -38,8 +38,9 @@ pub(crate) struct Slot {
 impl Slot {
     pub(crate) const FIRST: Slot = Slot { index: 0 };
 
-    /// The slot of a key, by a hash whose highest bits hang on all bytes. It takes eight at a time: a longer text's last eight
-    /// come once more than its whole words, so that what fills no word needs no loop of its own.
+    /// The slot of a key, by a hash whose highest bits depend on all bytes. It reads eight bytes at a time. The last
+    /// eight of a longer text are read once more after its whole words, so that no loop is needed for the bytes that
+    /// fill no word.
     pub(crate) fn of(kind: Kind, text: &[u8]) -> Self
         ensures { result.index < 2 ^ 20 }
     {
@@ -59,8 +60,8 @@ impl Slot {
     }
 }
 
-/// The bytes of a text of fewer than eight, in one word: its first and its last four, which overlap, or its first byte, its
-/// middle one and its last. So no loop is needed.
+/// The bytes of a text with fewer than eight, in one word: its first four and its last four, which overlap; or its
+/// first byte, its middle one and its last. So no loop is needed.
 fn short_word(text: &[u8]) -> u64 {
     if let Some(first) = text.first_chunk::<4>() {
         if let Some(last) = text.last_chunk::<4>() {
@@ -74,13 +75,13 @@ fn short_word(text: &[u8]) -> u64 {
     text[0] as u64 | ((text[length / 2] as u64) << 8) | ((text[length - 1] as u64) << 16)
 }
 
-/// A hash, and a word more. The rotation brings the highest bits down, where the product spreads them.
+/// A hash with one more word. The rotation brings the highest bits down, where the product spreads them.
 fn mixed(hash: u64, word: u64) -> u64 {
     (hash.rotate_left(32) ^ word).wrapping_mul(SPREAD)
 }
 
 impl KeyHints {
-    /// No hint. Takes no memory.
+    /// Returns no hints. Takes no memory.
     pub(crate) fn new(alloc: Global) -> Self
         ensures { result.numbers.items ≡ [] }
     {
@@ -102,7 +103,7 @@ impl KeyHints {
         self.numbers.resize(SLOTS, NOTHING)
     }
 
-    /// The number that stands in a slot, or more than all entries have.
+    /// The number in a slot, or a number above those of all entries.
     pub(crate) fn get(&self, slot: Slot) -> u32
         ensures { result ≡ slice_index_or self.now.numbers.items slot.index u32.MAX }
     {
@@ -112,13 +113,13 @@ impl KeyHints {
             .unwrap_or(NOTHING)
     }
 
-    /// The number that came last of those whose slots end alike, or more than all entries have.
+    /// The latest number of the slots with the same lowest bits, or a number above those of all entries.
     #[inline]
     pub(crate) fn recent(&self, slot: Slot) -> u32 {
         self.recent[slot.index as usize % RECENT]
     }
 
-    /// Notes that a number has come, which stands in its slot.
+    /// Notes that the number in this slot is the latest.
     #[inline]
     pub(crate) fn note_recent(&mut self, slot: Slot, number: u32)
         ensures { self.new.numbers ≡ self.old.numbers }

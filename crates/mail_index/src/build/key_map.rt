@@ -15,10 +15,10 @@ use crate::kind::Kind;
 use std::alloc::Global;
 use std::marker::Model;
 
-/// The keys so far in the order of the file, each with the numbers of its messages.
+/// The keys so far, in the order of the file, each with the numbers of its messages.
 ///
-/// The keys' entries stay where they came, and their numbers stand in the order of the keys. A key that stands there
-/// already is mostly found by a hint, and is copied nowhere.
+/// The entries of the keys are kept in the order in which they came. The numbers of the entries are kept in the order
+/// of the keys. A key that is there already is mostly found by a hint, and isn't copied.
 #[derive(Drop)]
 pub(crate) struct KeyMap {
     entries: Vec<KeyEntry>,
@@ -39,7 +39,7 @@ impl Model for KeyMap {
 }
 
 impl KeyMap {
-    /// No key. Takes no memory.
+    /// Returns a map without keys. Takes no memory.
     pub(crate) fn new(alloc: Global) -> Self
         ensures { result ≡ [] }
     {
@@ -53,16 +53,17 @@ impl KeyMap {
         }
     }
 
-    /// How many keys there are.
+    /// The number of keys.
     pub(crate) fn len(&self) -> usize
         ensures { result ≡ length self.now }
     {
         self.entries.len()
     }
 
-    /// Guesses where keys stand.
+    /// Guesses where the keys of these places are.
     pub(crate) fn prefetch(&self, places: &mut [Prefetched]) {
-        // Two loops: within each one no read needs what another has read, so the processor waits for all of them at once.
+        // Two loops: within each of them no read needs what another has read, so the processor reads from memory for
+        // all of them at once.
         for place in places.iter_mut() {
             place.number = self.hints.get(place.slot);
         }
@@ -74,7 +75,7 @@ impl KeyMap {
         }
     }
 
-    /// Whether it is plain to see that a key has a message's number already. It asks one of the keys that came last.
+    /// Whether a quick look finds that a key has a message's number already. It reads only one of the latest keys.
     #[inline(always)]
     pub(crate) fn has_recent(&self, kind: Kind, text: &[u8], number: u32, place: Prefetched) -> bool
         ensures { IsTrue result → with_pair kind text.now number self.now ≡ self.now }
@@ -85,7 +86,8 @@ impl KeyMap {
         }
     }
 
-    /// Adds a message's number to a key's numbers, unless it stands there, and the key where it is new.
+    /// Adds a message's number to a key's numbers, unless it is there, and adds the key if it is new. Fails if there
+    /// would be too many keys or if memory runs out.
     pub(crate) fn add(
         &mut self,
         alloc: Global,
@@ -118,8 +120,8 @@ impl KeyMap {
         self.add_searched(alloc, place.slot, key)
     }
 
-    /// Does what `add` does, by a search, and leaves a hint. It stands apart, so that a right guess costs no more than its own
-    /// steps.
+    /// Does what `add` does, by a search, and leaves a hint. A function of its own, so that a right guess costs no more
+    /// than its own steps.
     #[inline(never)]
     fn add_searched(&mut self, alloc: Global, slot: Slot, key: Added<'_>) -> Result<(), BuildFault>
         requires number { key.number < u32.MAX }
@@ -158,7 +160,7 @@ impl KeyMap {
     }
 }
 
-/// A key that is added, with the number of a message that has it, and how many keys there may be.
+/// A key to add, the number of a message that has it, and the most keys that there may be.
 #[derive(Clone, Copy)]
 struct Added<'a> {
     kind: Kind,
@@ -167,11 +169,11 @@ struct Added<'a> {
     most: u32,
 }
 
-/// The number of the entry of a key, where the guess was right.
+/// The number of the key's entry, if the guess was right.
 fn guessed(entries: &[KeyEntry], place: Prefetched, kind: Kind, text: &[u8]) -> Option<u32>
     ensures { IfSome result (IsEntryOf kind text.now entries.now) }
 {
-    // Mostly the length alone tells another key.
+    // Mostly the length alone decides that it is another key.
     if place.text_length as usize != text.len() {
         return None;
     }

@@ -10,29 +10,29 @@ use crate::build::key_search::search;
 use crate::kind::Kind;
 use std::alloc::{AllocError, Global};
 
-/// A page is split in two once it has so many slots, and one for each `PAGES_FOR_A_SLOT` of the pages.
+/// A page is split in two once it has this many slots, and also one slot for each `PAGES_FOR_A_SLOT` pages.
 const PAGE: usize = 48;
 
-/// For so many pages more each page gets a slot more.
+/// The number of pages for which each page gets one more slot.
 const PAGES_FOR_A_SLOT: usize = 20;
 
-/// The numbers of entries in the order of their keys, each with the key's front: pages of such slots, and between each and
-/// the next one slot more, the head of the next. So a key is found by two binary searches, and inserted by moving the
-/// slots of one page. Of very many keys both the pages and what one of them has grow with the root of their count, and
-/// so does what an insertion moves, in whatever order the keys come.
+/// The numbers of entries in the order of their keys, each with the key's front. The slots are in pages, with one more
+/// slot between each page and the next: the head of the next. So two binary searches find a key, and inserting one
+/// moves the slots of one page. With very many keys, both the number of pages and the slots of a page grow with the
+/// square root of the number of keys. So does what an insertion moves, in whatever order the keys come.
 #[derive(Drop)]
 pub(crate) struct KeyOrder {
     pub heads: Vec<Fronted>,
     pub pages: Vec<Vec<Fronted>>,
 }
 
-/// A place in the order, where a key can be inserted.
+/// A place in the order where a key can be inserted.
 #[derive(Clone, Copy)]
 pub(crate) struct Place {
     pub page: usize,
-    /// How many of the page's slots stand before it.
+    /// How many of the page's slots come before it.
     pub at: usize,
-    /// The front of the key whose place it is.
+    /// The front of the key to insert.
     pub front: u64,
 }
 
@@ -50,7 +50,7 @@ impl KeyOrder {
         Ok(())
     }
 
-    /// The number of the entry of this key; where none is it, the place for it.
+    /// Returns the number of this key's entry; if none is it, the place for it.
     pub(crate) fn find(&self, entries: &[KeyEntry], kind: Kind, text: &[u8]) -> Result<u32, Place>
         requires page { 0 < length self.now.pages.items }
         requires between { length self.now.heads.items ≡ length self.now.pages.items - 1 }
@@ -69,7 +69,7 @@ impl KeyOrder {
         }
     }
 
-    /// Inserts the number of an entry, with the front that its place has. A refused growth leaves the order as it is.
+    /// Inserts the number of an entry, with the front of its place. If memory runs out, the order is as before.
     pub(crate) fn insert(
         &mut self,
         alloc: Global,
@@ -102,7 +102,7 @@ impl KeyOrder {
     }
 }
 
-/// Splits a page in two, of which the first has that length. Without memory for that it stays as it is.
+/// Splits a page in two, the first of which has this length. Without memory for that, the page stays as it is.
 fn split(
     alloc: Global,
     heads: &mut Vec<Fronted>,

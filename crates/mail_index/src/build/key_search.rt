@@ -1,4 +1,4 @@
-//! The search for a key among entries in order.
+//! Searches for a key among entries in order.
 ghost use Rattle.std.specs.Prelude.{◌≡◌, ◌<◌, ◌≤◌, ℕ, suc, length, IfOk, IfErr};
 ghost use Rattle.std.specs.declared.cmp.Ordering.TheVariants.{Less, Equal, Greater};
 ghost use Rattle.std.specs.List.{AllByRecursion};
@@ -12,11 +12,12 @@ use crate::build::key_front::Fronted;
 use crate::kind::Kind;
 use std::cmp::Ordering;
 
-/// At so many slots a search looks before it halves what is left.
+/// A search reads this many slots first, before it halves what is left.
 const PROBES: usize = 16;
 
-/// The number of the entry of this key, of this front, among those of these slots, which stand in order; where none of
-/// them is it, the place between them where it would stand. A binary search, behind a first look at some slots.
+/// Returns the number of the entry of this key among those of these slots, which are in order; `front` is the key's
+/// front. If none of them is it, the place between the slots where it would be. A binary search, after a first look at
+/// some slots.
 pub(crate) fn search(
     slots: &[Fronted],
     entries: &[KeyEntry],
@@ -42,7 +43,8 @@ pub(crate) fn search(
     Err(low)
 }
 
-/// Two places between which the key stands, if it is one of them: those that were guessed, where they are right.
+/// Returns two places between which the key is, if it is one of them. The guessed places are used only if they are
+/// right.
 fn bounds(
     slots: &[Fronted],
     entries: &[KeyEntry],
@@ -64,7 +66,7 @@ fn bounds(
     }
 }
 
-/// The place behind a slot, if its key comes before this one, and else 0.
+/// The place after a slot, if the slot's key comes before this one; otherwise 0.
 fn bound_behind(
     slots: &[Fronted],
     entries: &[KeyEntry],
@@ -86,7 +88,7 @@ fn bound_behind(
     0
 }
 
-/// The place of a slot, if its key comes behind this one, and else the place behind all slots.
+/// The place of a slot, if the slot's key comes after this one; otherwise the place after all slots.
 fn bound_at(
     slots: &[Fronted],
     entries: &[KeyEntry],
@@ -109,8 +111,8 @@ fn bound_at(
     slots.len()
 }
 
-/// The last slot that was looked at whose front is smaller, and the first whose front isn't. Looks at slots that don't hang
-/// on one another, so that the waits for them are one. A guess: nothing hangs on it but time.
+/// Of the slots that it reads, returns the last with a smaller front, and the first whose front isn't smaller. No slot
+/// that it reads depends on another, so all of them come from memory in one delay. A guess: only time depends on it.
 fn guessed_bounds(slots: &[Fronted], front: u64) -> (usize, usize) {
     let stride = slots.len() / PROBES + 1;
     let mut smaller: usize = 0;
@@ -123,7 +125,7 @@ fn guessed_bounds(slots: &[Fronted], front: u64) -> (usize, usize) {
     (other.wrapping_sub(stride), other)
 }
 
-/// How the key of a slot lies to this one, of this front. Its entry is read only where the fronts are equal.
+/// Compares the key of a slot with this one, which has this front. Reads the entry only if the fronts are equal.
 fn compare(slot: Fronted, entries: &[KeyEntry], front: u64, kind: Kind, text: &[u8]) -> Ordering
     requires slot { IsFronted entries.now slot }
     requires front { IsFrontOf kind text.now front }

@@ -1,4 +1,4 @@
-//! The sections of an index file that tell of its keys: directory, texts and postings.
+//! The sections of an index file about its keys: directory, texts and postings.
 ghost use Rattle.std.specs.Prelude.{◌≡◌, ◌-◌, ◌^◌, ◌<◌, length, map};
 ghost use Rattle.contract_words.specs.Devices.{Counts};
 ghost use Rattle.mail_index.specs.Files.{entry_of, texts_of, postings_of};
@@ -10,7 +10,7 @@ use crate::build::key_entry::KeyEntry;
 use crate::build::keys_in_order::KeysInOrder;
 use mbox_cutter::{DeviceFault, Out};
 
-/// How many bytes the keys' texts have, and how many their postings.
+/// The number of bytes of the keys' texts, and of their postings.
 pub(crate) fn key_bytes(keys: KeysInOrder<'_>) -> (u64, u64)
     requires texts { length (texts_of (map entry_of keys)) < 2 ^ 64 }
     requires postings { length (postings_of (map entry_of keys)) < 2 ^ 64 }
@@ -26,7 +26,7 @@ pub(crate) fn key_bytes(keys: KeysInOrder<'_>) -> (u64, u64)
     (texts, postings)
 }
 
-/// What is written of each key in one of the sections: its entry in the directory, its text, or its postings.
+/// A part of a key that is written in one of the sections: its entry in the directory, its text, or its postings.
 #[derive(Clone, Copy)]
 pub(crate) enum KeyPart {
     Entry,
@@ -34,7 +34,7 @@ pub(crate) enum KeyPart {
     Postings,
 }
 
-/// Writes a part of each key.
+/// Writes this part of each key.
 pub(crate) fn send_keys<O: Out>(
     out: &mut O,
     signer: &mut Signer,
@@ -58,9 +58,10 @@ pub(crate) fn send_keys<O: Out>(
     Ok(())
 }
 
-/// Writes a part of a key. Its entry is its kind, the length of its text, and the places of its text and of its postings.
+/// Writes this part of a key. Its entry is its kind, the length of its text, and the places of its text and of its
+/// postings.
 ///
-/// It stands apart from the loop over keys: in there the compiler would copy each part by a call.
+/// A function of its own: inside the loop over keys the compiler would copy each part by a call.
 fn send_key<O: Out>(
     out: &mut O,
     signer: &mut Signer,

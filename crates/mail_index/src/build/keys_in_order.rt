@@ -1,4 +1,4 @@
-//! The keys of an index while it is built, in order.
+//! Iterates over the keys of an index while it is built, in order.
 ghost use Rattle.std.specs.Prelude.{◌≡◌, ◌-◌, ◌<◌, [], ◌∷◌, length, IfSome, MatchOption};
 ghost use Rattle.std.specs.Iterator.{YieldsFirstRef, item_count};
 ghost use Rattle.std.specs.List.{AllByRecursion};
@@ -8,24 +8,24 @@ use crate::build::key_entry::KeyEntry;
 use crate::build::key_front::Fronted;
 use std::marker::Model;
 
-/// The entries of so many keys are fetched together.
+/// The entries of this many keys are fetched together.
 const GROUP: usize = 16;
 
 /// The slots that are left of an order in pages.
 #[derive(Clone, Copy)]
 struct Left<'a> {
-    // Of the page that is gone over.
+    // What is left of the current page.
     page: &'a [Fronted],
     heads: &'a [Fronted],
     pages: &'a [Vec<Fronted>],
 }
 
-/// The entries still to come, in the order of their keys. It takes no memory.
+/// The entries still to come, in the order of their keys. Takes no memory.
 #[derive(Drop)]
 pub(crate) struct KeysInOrder<'a> {
     entries: &'a [KeyEntry],
     left: Left<'a>,
-    // How many of the next entries were fetched. Nothing hangs on it but time.
+    // How many of the next entries were fetched. Only time depends on it.
     fetched: usize,
 }
 
@@ -44,7 +44,7 @@ impl<'a> Model for KeysInOrder<'a> {
 }
 
 impl<'a> KeysInOrder<'a> {
-    /// All of them, of pages with heads between them.
+    /// Returns all entries, from pages with heads between them.
     pub(crate) fn of(
         entries: &'a [KeyEntry],
         heads: &'a [Fronted],
@@ -74,7 +74,7 @@ impl<'a> Iterator for KeysInOrder<'a> {
 
     ghost remaining = { item_count (λ s. s) };
 
-    // Inlined, so that each loop over keys keeps what is left of them in registers.
+    // Inlined, so that each loop over keys keeps in registers what is left of them.
     #[inline(always)]
     fn next(&mut self) -> Option<&'a KeyEntry> {
         if self.fetched == 0 {
@@ -89,8 +89,8 @@ impl<'a> Iterator for KeysInOrder<'a> {
     }
 }
 
-/// Fetches the entries of the next slots, and answers how many they are. No text is empty, so that each is counted; to learn that of
-/// one needs nothing of another, so that the waits for them are one.
+/// Fetches the entries of the next slots, and returns how many they are. No text is empty, so each is counted. Reading
+/// one text needs nothing of another, so all of them come from memory in one delay.
 #[inline(never)]
 fn fetch(entries: &[KeyEntry], page: &[Fronted]) -> usize {
     let mut count: usize = 0;
@@ -102,7 +102,7 @@ fn fetch(entries: &[KeyEntry], page: &[Fronted]) -> usize {
     count
 }
 
-/// The next slot, and those left behind it.
+/// The next slot, and those that are left after it.
 fn next_slot(left: Left<'_>) -> Option<(Fronted, Left<'_>)>
     requires { length left.heads.now ≡ length left.pages.now }
     ensures slots { MatchOption result (slots_left left.entry ≡ [])

@@ -4,7 +4,7 @@ ghost use Rattle.mail_index.specs.Postings.{leb128};
 
 use crate::build::short_bytes::ShortBytes;
 
-/// The shortest unsigned LEB128 of a number, seven bits a byte from the lowest on.
+/// The shortest unsigned LEB128 of a number: seven bits in a byte, the lowest first.
 pub(crate) fn leb128_of(value: u32) -> ShortBytes
     ensures bytes { result ≡ leb128 5 value }
     ensures short { length result ≤ 5 }

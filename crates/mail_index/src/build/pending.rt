@@ -1,10 +1,10 @@
-//! Bytes that are still to go out.
+//! Bytes that are still to be written.
 ghost use Rattle.std.specs.Prelude.{◌≡◌, ◌+◌, ◌-◌, ◌≤◌, [], ◌++◌, length};
 ghost use Rattle.mail_index.specs.declared.build.pending.TheConstants.{ROOM};
 
 use std::marker::Model;
 
-/// How many there can be. It bounds what a call that writes a file takes of its stack.
+/// The most bytes. It limits how much of its stack a call uses that writes a file.
 pub(crate) const ROOM: usize = 4096;
 
 /// At most 4,096 bytes.
@@ -26,7 +26,7 @@ impl Model for Pending {
 }
 
 impl Pending {
-    /// No byte.
+    /// Returns no bytes.
     pub(crate) fn new() -> Self
         ensures { result ≡ [] }
     {
@@ -43,7 +43,7 @@ impl Pending {
         self.bytes.split_at(self.length).0
     }
 
-    /// How many more there can be.
+    /// How many more bytes there is room for.
     pub(crate) fn room(&self) -> usize
         ensures { length self.now + result ≡ ROOM }
     {
@@ -60,7 +60,7 @@ impl Pending {
         self.length += more.len();
     }
 
-    /// Leaves no byte.
+    /// Drops all bytes.
     pub(crate) fn clear(&mut self)
         ensures { self.new ≡ [] }
     {

@@ -1,30 +1,30 @@
-//! Where a key may stand in an index that is built.
+//! Guesses where keys are in an index that is being built.
 
 use crate::build::key_hints::Slot;
 use crate::kind::Kind;
 
-/// A guess where a key stands in a builder. Guesses of several keys are made together, before the first of them is added: so
-/// one wait for memory serves them all.
+/// A guess where a key is in a builder. Several keys are guessed together, before the first of them is added, so that
+/// one delay for memory serves them all.
 ///
-/// A guess can be wrong, and means nothing: with that of another key, or of another builder, no more than time is lost.
+/// A guess can be wrong and has no other meaning: the guess for another key, or from another builder, costs only time.
 #[derive(Clone, Copy)]
 pub struct Prefetched {
     pub(crate) slot: Slot,
-    // The number of the entry that the slot named, or more than all have.
+    // The number of the entry that the slot named, or a number above those of all entries.
     pub(crate) number: u32,
-    // How long that entry's text is: to learn it is what fetches the entry.
+    // The length of that entry's text. Reading it fetches the entry.
     pub(crate) text_length: u32,
 }
 
 impl Prefetched {
-    /// Of no key.
+    /// A guess for no key.
     pub const NOWHERE: Prefetched = Prefetched {
         slot: Slot::FIRST,
         number: 0,
         text_length: 0,
     };
 
-    /// No guess yet where a key stands.
+    /// Where a key's guess will be looked up. Nothing is guessed yet.
     pub fn of(kind: Kind, text: &[u8]) -> Self {
         Prefetched {
             slot: Slot::of(kind, text),

@@ -1,4 +1,4 @@
-//! The sections of an index file and their order, and the writers of counts, archives and records.
+//! The sections of an index file and their order, and what writes the counts, archives and records.
 ghost use Rattle.std.specs.List.{concat};
 ghost use Rattle.std.specs.Prelude.{length, ◌≡◌, ◌-◌, ◌^◌, ◌<◌, ◌≤◌, map, flat_map};
 ghost use Rattle.contract_words.specs.Devices.{Counts as CountsFailures};
@@ -15,8 +15,8 @@ use crate::record::Record;
 use crate::version::Version;
 use mbox_cutter::{DeviceFault, Out};
 
-/// A part of the file that is written at once. The file's digest stands behind all parts, and is none of them. (`Section` names
-/// what a reader blames.)
+/// A part of the file that is written at once. The file's digest comes after all parts, and isn't one of them.
+/// (`Section` is another type: it names the part that a reader found faulty.)
 #[derive(Clone, Copy)]
 pub(crate) enum FileSection {
     Counts,
@@ -25,7 +25,7 @@ pub(crate) enum FileSection {
     Keys(KeyPart),
 }
 
-/// The order of the file. A loop writes them: a proof of six calls with `?` would tell the chain seven times.
+/// The order of the parts in the file. A loop keeps the proof short.
 pub(crate) const FILE_SECTIONS: [FileSection; 6] = [
     FileSection::Counts,
     FileSection::Archives,
@@ -46,7 +46,7 @@ pub(crate) struct Counts {
     pub posting_bytes: u64,
 }
 
-/// Writes the counts, behind the magic bytes and the version.
+/// Writes the counts, after the magic bytes and the version.
 pub(crate) fn send_counts<O: Out>(
     out: &mut O,
     signer: &mut Signer,
@@ -79,7 +79,7 @@ pub(crate) fn send_counts<O: Out>(
     )
 }
 
-/// How many bytes the archives' entries have.
+/// The number of bytes of the archives' entries.
 pub(crate) fn archives_length(archives: &[NamedArchive]) -> u64
     requires { length (flat_map archive_bytes (map kept_archive archives.now)) < 2 ^ 64 }
     ensures { result ≡ length (flat_map archive_bytes (map kept_archive archives.now)) }
@@ -92,7 +92,7 @@ pub(crate) fn archives_length(archives: &[NamedArchive]) -> u64
     total
 }
 
-/// Writes the archives' entries: of each its length, the length of its path before the path, and its digest.
+/// Writes the archives' entries. Each is the archive's length, the length of its path, the path, and its digest.
 pub(crate) fn send_archives<O: Out>(
     out: &mut O,
     signer: &mut Signer,
@@ -121,7 +121,7 @@ pub(crate) fn send_archives<O: Out>(
     Ok(())
 }
 
-/// Writes the messages' records. What is known of a message is a bit each.
+/// Writes the messages' records. Each flag is a bit, and so is whether the date is known.
 pub(crate) fn send_records<O: Out>(
     out: &mut O,
     signer: &mut Signer,
@@ -149,6 +149,7 @@ pub(crate) fn send_records<O: Out>(
     Ok(())
 }
 
+/// Returns the value of a flag's bit if the flag is set, and 0 if it isn't.
 fn bit(value: u8, set: bool) -> u8
     ensures bit { result ≡ bit value set }
     ensures bound { result ≤ value }
@@ -156,7 +157,7 @@ fn bit(value: u8, set: bool) -> u8
     if set { value } else { 0 }
 }
 
-/// In two's complement, and 0 without a date.
+/// The date in two's complement, and 0 without a date.
 fn date_number(date: Option<i64>) -> u64
     ensures { result ≡ date_number date }
 {

@@ -21,10 +21,10 @@ impl Model for ShortBytes {
 }
 
 impl ShortBytes {
-    /// How many there can be.
+    /// The most bytes.
     pub(crate) const MOST: usize = 15;
 
-    /// No byte.
+    /// Returns no bytes.
     pub(crate) fn new() -> Self
         ensures { result ≡ [] }
     {
@@ -61,7 +61,7 @@ impl ShortBytes {
         self.length += 1;
     }
 
-    /// Leaves no byte.
+    /// Drops all bytes.
     pub(crate) fn clear(&mut self)
         ensures { self.new ≡ [] }
     {
