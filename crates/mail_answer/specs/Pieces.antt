@@ -5,19 +5,20 @@ use Rattle.mbox_cutter.specs.declared.device.DeviceFault.{DeviceFault}
 use Rattle.mail_answer.specs.Archives.{archive_at}
 use Rattle.mail_answer.specs.declared.archives.Archives.{Ghosts}
 
--- These pieces of an archive were read from an offset on, each where the one before it ended.
+-- These pieces of an archive were read from an offset on, each from where the one before it ended.
 abbrev pub TellPieces : {A : Type 0} → Ghosts A → ℕ → ℕ → List (List ℕ) → A → A → Type 0
 TellPieces g n offset [] old new = new ≡ old
 TellPieces {A} g n offset (piece ∷ pieces) old new = (next : A) × g.reads old n offset (Ok piece) next × TellPieces g n (offset + length piece) pieces next new
 
--- These bytes of an archive were read from its beginning on, in pieces. Where its bytes are known, they are its first ones.
+-- These bytes of an archive were read from its beginning on, in pieces. If its bytes are known, they are its first
+-- ones.
 pub record ReadsFront {A : Type 0} (g : Ghosts A) (n : ℕ) (bytes : List ℕ) (old new : A) : Type 0 where
   pub pieces : List (List ℕ)
   pub joined : concat pieces ≡ bytes
   pub told : TellPieces g n 0 pieces old new
   pub known : IfSome (g.held old) (λ archives. bytes ≡ take (length bytes) (archive_at archives n))
 
--- Fewer bytes than so many were read of an archive, and then a read behind them answered this.
+-- Fewer than `count` bytes were read of an archive, and then a read after them had this result.
 pub record StopsWithin {A : Type 0} (g : Ghosts A) (n count : ℕ) (answer : Result (List ℕ) DeviceFault) (old new : A) : Type 0 where
   pub bytes : List ℕ
   pub before : A

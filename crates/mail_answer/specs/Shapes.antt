@@ -17,51 +17,55 @@ use Rattle.mail_answer.specs.TableFacts.{record_at}
 abbrev pub span : List (List ℕ) → Record → List ℕ
 span archives m = take m.length (drop m.offset (archive_at archives m.archive))
 
--- the path of the archive of this number
+-- the path of the archive with this number
 abbrev pub path_at : List Archive → ℕ → List ℕ
 path_at named n = unwrap_or (option_map (λ a. a.path) (slice_get named n)) []
 
 -- ---- raw: offset, space, length, space, path, LF
 
+-- the line of a message in a raw answer
 abbrev pub raw_line : ℕ → ℕ → List ℕ → List ℕ
 raw_line offset length path = decimal offset ++ 32 ∷ decimal length ++ 32 ∷ path ++ 10 ∷ []
 
 -- ---- mbox: the span, then LFs until its last line is empty
 
+-- the last of the lines, or no bytes if there is no line
 abbrev pub last_of : List (List ℕ) → List ℕ
 last_of [] = []
 last_of (l ∷ []) = l
 last_of (l ∷ m ∷ ls) = last_of (m ∷ ls)
 
+-- whether the last line of the bytes is empty
 abbrev pub is_closed : List ℕ → Bool
 is_closed bytes = is_empty (last_of (lines bytes))
 
+-- the bytes, and as few LFs as make their last line empty
 unfoldable pub closed : List ℕ → List ℕ
 closed bytes = if is_closed bytes then bytes else if is_closed (bytes ++ feed) then bytes ++ feed else bytes ++ feed ++ feed
 
 -- ---- answers
 
--- the text of a message in a form, over archives that hold these bytes
+-- the text of a message in a form, over archives that have these bytes
 abbrev pub message_text : Format → List Archive → List (List ℕ) → Record → List ℕ
 message_text Raw named archives m = raw_line m.offset m.length (path_at named m.archive)
 message_text Excerpt named archives m = excerpt (path_at named m.archive) (span archives m)
 message_text Mbox named archives m = closed (span archives m)
 
--- the texts of the messages of these numbers, one behind another
+-- the texts of the messages with these numbers, one after another
 abbrev pub answer_text : Format → Table → List (List ℕ) → List ℕ → List ℕ
 answer_text format t archives numbers = flat_map (λ n. message_text format t.archives archives (record_at t.messages n)) numbers
 
--- So many bytes for each of the messages of these numbers as it has.
+-- The spans are as many as the numbers, and each has as many bytes as its message.
 abbrev pub AreSpansOf : Table → List ℕ → List (List ℕ) → Type 0
 AreSpansOf t numbers spans = map length spans ≡ map (λ n. (record_at t.messages n).length) numbers
 
--- What is known of it: a raw answer doesn't ask what bytes the archives hold.
+-- The text of an answer, if it is known. A raw answer doesn't depend on the bytes of the archives.
 abbrev pub known_answer : Format → Table → Option (List (List ℕ)) → List ℕ → Option (List ℕ)
 known_answer Raw t held numbers = Some (answer_text Raw t [] numbers)
 known_answer Excerpt t held numbers = option_map (λ archives. answer_text Excerpt t archives numbers) held
 known_answer Mbox t held numbers = option_map (λ archives. answer_text Mbox t archives numbers) held
 
--- What is known of the text of the message of this number.
+-- The text of the message with this number, if it is known.
 abbrev pub known_message : Format → Table → Option (List (List ℕ)) → ℕ → Option (List ℕ)
 known_message Raw t held n = Some (message_text Raw t.archives [] (record_at t.messages n))
 known_message Excerpt t held n = option_map (λ archives. message_text Excerpt t.archives archives (record_at t.messages n)) held

@@ -1,20 +1,21 @@
--- How the bytes of an answer go out: they are gathered, and a front of what was gathered goes out from time to time.
+-- How the bytes of an answer are sent: they are gathered, and from time to time a front of them is sent.
 use Rattle.std.specs.Prelude.{◌≡◌, ℕ, ◌+◌, ◌-◌, ◌^◌, min, List, ◌++◌, length, Option, None, Some, IfSome, Result, Ok, Err}
 use Rattle.std.specs.Io.KnownBytes.{Appends}
 use Rattle.mail_answer.specs.declared.output.sheet.Sheet.{Sheet}
 
--- so many bytes more went out, up to the greatest number of u64
+-- the number of bytes sent after these ones, but never more than the greatest number of u64
 abbrev pub counted : ℕ → List ℕ → ℕ
 counted before went = min (before + length went) (2 ^ 64 - 1)
 
--- The bytes joined the answer: they were gathered behind the others, and some front of all that is gathered went out.
+-- The bytes were added to the answer: they were gathered after the others, and a front of all that is gathered was
+-- sent.
 pub record Joins (taken taken' : Option (List ℕ)) (old new : Sheet) (bytes : List ℕ) : Type 0 where
   pub went : List ℕ
   pub gathered : old.text ++ bytes ≡ went ++ new.text
   pub appends : Appends taken taken' went
   pub count : new.sent ≡ counted old.sent went
 
--- Of what is gathered and these bytes a front went out, and nothing else.
+-- Only a front of what is gathered and these bytes was sent.
 pub record JoinsFront (taken taken' : Option (List ℕ)) (old new : Sheet) (bytes : List ℕ) : Type 0 where
   pub went : List ℕ
   pub unsent : List ℕ
@@ -22,17 +23,17 @@ pub record JoinsFront (taken taken' : Option (List ℕ)) (old new : Sheet) (byte
   pub appends : Appends taken taken' went
   pub count : new.sent ≡ counted old.sent went
 
--- two texts one behind the other, known where both are
+-- two texts, one after the other; known if both are
 abbrev pub joined : Option (List ℕ) → Option (List ℕ) → Option (List ℕ)
 joined None y = None
 joined (Some x) None = None
 joined (Some x) (Some y) = Some (x ++ y)
 
--- a text that may be unknown is this one, where it is known
+-- the text is the known one, if there is a known one
 abbrev pub Tells : Option (List ℕ) → List ℕ → Type 0
 Tells known text = IfSome known (λ k. k ≡ text)
 
--- A text, known or not, joined the answer; of a fault, some front of it.
+-- A text, known or not, was added to the answer; with a fault, a front of it.
 abbrev pub Writes : {T E : Type 0} → Option (List ℕ) → Option (List ℕ) → Sheet → Sheet → Option (List ℕ) → Result T E → Type 0
 Writes taken taken' old new known (Ok _) = (text : List ℕ) × Tells known text × Joins taken taken' old new text
 Writes taken taken' old new known (Err _) = (text : List ℕ) × Tells known text × JoinsFront taken taken' old new text

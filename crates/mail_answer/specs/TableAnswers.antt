@@ -1,4 +1,4 @@
--- What a table answers to a search, over archives whose bytes may be known.
+-- The answer of a table to a search, over archives whose bytes may be known.
 use Rattle.std.specs.Prelude.{◌≡◌, ℕ, ⊤, ◌==◌, ◌&&◌, not, Bool, false, List, length, Option, Result, Ok, Err}
 use Rattle.mail_index.specs.Tables.{Table}
 use Rattle.mail_query.specs.declared.query.Query as program
@@ -15,37 +15,38 @@ use Rattle.mail_answer.specs.Sheets.{Tells}
 use Rattle.mail_answer.specs.TableFacts.{facts_at}
 use Rattle.mail_answer.specs.Threads.{are_linked}
 
--- the messages as the table tells of them
+-- the messages as the table describes them
 abbrev pub mail_told : Table → Mail
 mail_told t = record { count = length t.messages; facts = facts_at t; linked = are_linked t }
 
--- what a call is asked
+-- the search that a call is given
 abbrev pub search_of : program.Query → Bool → Format → Search
 search_of query threads format = record { query = meaning query; threads = threads; format = format }
 
--- the text, where it is known, and how many messages it tells of
+-- the text of an answer, if it is known, and the number of its messages
 pub record TableAnswer : Type 0 where
   pub text : Option (List ℕ)
   pub messages : ℕ
 
+-- the answer with the messages of these numbers
 abbrev pub answer_of_numbers : Table → Search → Option (List (List ℕ)) → List ℕ → TableAnswer
 answer_of_numbers t s held numbers = record { text = known_answer s.format t held numbers; messages = length numbers }
 
--- what the table answers: the text of the messages that it chooses, and how many they are
+-- the answer of the table: the text of the messages that the search chooses, and how many they are
 abbrev pub IsTableAnswer : Table → Search → Option (List (List ℕ)) → TableAnswer → Type 0
 IsTableAnswer t s held a = (numbers : List ℕ) × AreChosen (mail_told t) s numbers × (a ≡ answer_of_numbers t s held numbers)
 
--- The whole text went out and the messages are counted; or a front of it, and the fault tells how much. Of a text that isn't
--- known: of some text.
+-- The whole text was sent and the messages are counted; with a fault, a front of the text was sent, and the fault says
+-- how much. If the text isn't known, this is true of some text.
 abbrev pub Answers : Option (List ℕ) → Option (List ℕ) → TableAnswer → Result ℕ AnswerFault → Type 0
 Answers taken taken' a result = (text : List ℕ) × Tells a.text text × SendsAnswer taken taken' text a.messages result
 
--- an archive is at fault, and no byte of the answer went out
+-- whether the call failed for another reason than its output, and no byte of the answer was sent
 abbrev pub is_unwritten : Result ℕ AnswerFault → Bool
 is_unwritten (Ok _) = false
 is_unwritten (Err fault) = (fault.sent == 0) && not (is_of_output fault.kind)
 
--- where an archive is at fault no byte had gone out
+-- If an archive is faulty, no byte had been sent.
 abbrev pub IsBeforeText : AnswerFaultKind → ℕ → Type 0
 IsBeforeText (Stale n) sent = sent ≡ 0
 IsBeforeText Device sent = sent ≡ 0

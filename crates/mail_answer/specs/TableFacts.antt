@@ -9,10 +9,11 @@ use Rattle.mail_index.specs.LookUps.{keys_of}
 use Rattle.mail_query.specs.Query.{Query}
 use Rattle.mail_query.specs.Truth.{Facts, is_true}
 
+-- whether the number is one of these
 abbrev pub is_among : ℕ → List ℕ → Bool
 is_among n numbers = list_any (nat_eq n) numbers
 
--- the texts of the keys of a kind that the message of this number has
+-- the texts of the keys of a kind that the message with this number has
 abbrev pub texts_with : Kind → ℕ → List Key → List (List ℕ)
 texts_with kind n keys = map (λ k. k.text) (filter (λ k. is_among n k.numbers) (keys_of kind keys))
 
@@ -26,7 +27,7 @@ facts_of_record t n m = record {
   flags = m.flags;
 }
 
--- of a number past the last message, any record
+-- a record for numbers after the last message; it has no meaning
 abbrev pub no_record : Record
 no_record = record {
   archive = 0;
@@ -37,9 +38,11 @@ no_record = record {
   flags = record { seen = false; replied = false; flagged = false };
 }
 
+-- the record of the message with this number
 abbrev pub record_at : List Record → ℕ → Record
 record_at messages n = slice_index_or messages n no_record
 
+-- what the table says of the message with this number
 abbrev pub facts_at : Table → ℕ → Facts
 facts_at t n = facts_of_record t n (record_at t.messages n)
 
@@ -47,7 +50,7 @@ facts_at t n = facts_of_record t n (record_at t.messages n)
 abbrev pub message_numbers : Table → List ℕ
 message_numbers t = range_with_len 0 (length t.messages)
 
--- for each message in order whether it satisfies the query
+-- for each message in order, whether it satisfies the query
 abbrev pub truths : Table → Query → List Bool
 truths t q = map (λ n. is_true q (facts_at t n)) (message_numbers t)
 

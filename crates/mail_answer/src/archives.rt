@@ -1,7 +1,7 @@
 //! Archives that are read at any place.
 //!
-//! Two relations, `measures` and `reads`, tell what a call makes of them. So a contract can say in which order archives are asked,
-//! whether their bytes are known or not (decision 92 in docs/DECISIONS.md).
+//! Two relations, `measures` and `reads`, describe what a call does to archives. So a contract can say in which order
+//! archives are read, whether their bytes are known or not (decision 92 in docs/DECISIONS.md).
 ghost use Rattle.std.specs.Prelude.{◌≡◌, ◌<◌, ◌≤◌, ◌-◌, ◌^◌, ℕ, List, Option, Result, length, take, IfOk};
 ghost use Rattle.contract_words.specs.Devices.{Counts};
 ghost use Rattle.mbox_cutter.specs.declared.device.DeviceFault.{DeviceFault};
@@ -14,32 +14,33 @@ pub mod verified;
 
 use mbox_cutter::DeviceFault;
 
-/// Archives by their numbers, from 0. No call changes them.
+/// Archives by their numbers, from 0. No call changes their bytes.
 pub trait Archives {
-    /// The bytes of each archive, where they are known.
+    /// The bytes of each archive, if they are known.
     ghost held: { Self → Option (List (List ℕ)) };
 
-    /// How many archives there are.
+    /// The number of archives.
     ghost number: { Self → ℕ };
 
-    /// How many of its calls have failed.
+    /// How many calls have failed.
     ghost failures: { Self → ℕ };
 
-    /// A count that a call of `length` may change, and no other: a read leaves it as it is.
+    /// A count that a call of `length` may change. No other call changes it: a read leaves it as it is.
     ghost lengths_asked: { Self → ℕ };
 
-    /// What a call of `length` makes of them: the archives before it, the number, what is answered, and the archives behind it.
+    /// What a call of `length` does: it relates the archives before it, the number, the result, and the archives after
+    /// it.
     ghost measures: { Self → ℕ → Result ℕ DeviceFault → Self → Type 0 };
 
-    /// What a call of `read_at` makes of them: the archives before it, the number, the offset, the bytes that are read, and the
-    /// archives behind it.
+    /// What a call of `read_at` does: it relates the archives before it, the number, the offset, the bytes that are
+    /// read, and the archives after it.
     ghost reads: { Self → ℕ → ℕ → Result (List ℕ) DeviceFault → Self → Type 0 };
 
-    /// How many archives there are.
+    /// Returns the number of archives.
     fn count(&self) -> u32
         ensures { IsCount result (number self.now) (held self.now) };
 
-    /// How many bytes the archive of this number has.
+    /// Returns the length in bytes of the archive with this number.
     fn length(&mut self, n: u32) -> Result<u64, DeviceFault>
         requires below { n < number self.old }
         requires count { failures self.old < 2 ^ 64 - 1 }
@@ -49,8 +50,8 @@ pub trait Archives {
         ensures measured { measures self.old n result self.new }
         ensures count { Counts result (failures self.old) (failures self.new) };
 
-    /// Reads the archive of this number from an offset on: at least one byte into a slice that isn't empty, and none only at or
-    /// after the archive's end.
+    /// Reads the archive with this number from an offset on, and returns the number of bytes read. Into a slice that
+    /// isn't empty it reads at least one byte; none only at the archive's end or after it.
     fn read_at(&mut self, n: u32, offset: u64, into: &mut [u8]) -> Result<usize, DeviceFault>
         requires below { n < number self.old }
         requires room { 0 < length into.old }

@@ -1,20 +1,20 @@
-//! Why an answer isn't whole.
+//! Why an answer isn't complete.
 ghost use Rattle.std.specs.Prelude.{◌≡◌};
 
 use std::alloc::AllocError;
 use thiserror::Error;
 
-/// What an answer failed at.
+/// Why an answer failed.
 #[derive(Clone, Copy, Debug, Error)]
 pub enum AnswerFaultKind {
-    /// The archive of this number, counted from 0, isn't the one that was indexed. Where there are more or fewer archives than were
-    /// indexed it is the smaller of both counts.
+    /// The archive with this number, counted from 0, isn't the one that was indexed. If there are more or fewer
+    /// archives than were indexed, this is the smaller of both numbers.
     #[error("archive {} has changed", u64::from(*.0) + 1)]
     Stale(u32),
     /// An archive couldn't be read.
     #[error("read failed")]
     Device,
-    /// There was no memory.
+    /// Memory ran out.
     #[error("out of memory")]
     OutOfMemory,
     /// The output failed.
@@ -32,17 +32,17 @@ impl From<AllocError> for AnswerFaultKind {
     }
 }
 
-/// Why an answer isn't whole, and how much of it went out.
+/// Why an answer isn't complete, and how much of it was sent.
 #[derive(Clone, Copy, Debug, Error)]
 #[error("{kind} after {sent} bytes")]
 pub struct AnswerFault {
     pub kind: AnswerFaultKind,
-    /// The bytes that went out, up to the greatest number of its type.
+    /// The number of bytes sent, but never more than the greatest number of its type.
     pub sent: u64,
 }
 
 impl AnswerFault {
-    /// A fault that comes before any byte went out.
+    /// Returns a fault of which no byte was sent.
     pub(crate) fn unsent(kind: AnswerFaultKind) -> AnswerFault
         ensures { result ≡ record { kind = kind; sent = 0 } }
     {

@@ -1,12 +1,12 @@
 //! The forms of an answer.
 
-/// How an answer tells of a message.
+/// How an answer presents a message.
 #[derive(Clone, Copy)]
 pub enum Format {
-    /// A line: its offset and length in bytes, and the path of its archive.
+    /// A line: the message's offset and length in bytes, and the path of its archive.
     Raw,
-    /// The path of its archive, and five fields of its header.
+    /// The path of the message's archive, and five fields of its header.
     Excerpt,
-    /// Its bytes, closed by an empty line.
+    /// The message's bytes, closed by an empty line.
     Mbox,
 }

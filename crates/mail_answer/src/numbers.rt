@@ -14,12 +14,12 @@ use std::alloc::{AllocError, Global};
 use std::marker::Model;
 use std::vec::IntoIter;
 
-/// Where numbers come from.
+/// Where the numbers come from.
 #[derive(Drop)]
 enum Source<'a> {
-    /// The cursor of a query: no list of them is kept.
+    /// The cursor of a query: no list of numbers is kept.
     Walked(Cursor<'a>),
-    /// What is left of a list of them.
+    /// What is left of a list of numbers.
     Listed(IntoIter<u32, Global>),
 }
 
@@ -27,7 +27,7 @@ enum Source<'a> {
 #[derive(Drop)]
 pub(crate) struct Numbers<'a> {
     source: Source<'a>,
-    // The steps of the cursor.
+    // Counts the steps of the cursor.
     steps: Steps,
 }
 
@@ -41,8 +41,8 @@ impl<'a> Model for Numbers<'a> {
 }
 
 impl<'a> Numbers<'a> {
-    /// Those of the messages that satisfy a query, or with `threads` of all messages in their threads. Without `threads` no list
-    /// of them is made.
+    /// Returns the numbers of the messages that satisfy a query, or with `threads` of all messages in their threads.
+    /// Without `threads` no list of them is made. Fails if memory runs out.
     pub(crate) fn chosen(
         alloc: Global,
         index: &IndexView<'a>,

@@ -1,4 +1,4 @@
-//! The forms of an answer: lines, excerpts and an mbox, and the sheet on which their bytes are gathered.
+//! Writes answers: lines, excerpts and an mbox, and the sheet on which their bytes are gathered.
 
 pub mod answer_writer;
 pub mod ending;

@@ -1,7 +1,7 @@
-//! The threads of messages: what link ids lead to.
+//! The threads of messages, which are linked by their link ids.
 //!
-//! They are found by union-find over the messages, in one pass over the link ids, since an index has no map from a message to its
-//! ids (decision 73 in docs/DECISIONS.md).
+//! Threads are found by union-find over the messages, in one pass over the link ids, because an index has no map from a
+//! message to its ids (decision 73 in docs/DECISIONS.md).
 ghost use Rattle.std.specs.Prelude.{◌≡◌, ◌<◌, ◌^◌, ℕ, nat_eq, length, filter, slice_index, IfOk};
 ghost use Rattle.std.specs.List.{All, AllByRecursion, list_any, range_with_len};
 ghost use Rattle.mail_index.specs.Tables.{IsWellFormed, RisesFrom};
@@ -15,7 +15,7 @@ use crate::threads::forest::{flatten, unite_by_keys};
 use mail_index::{IndexView, Kind, Steps};
 use std::alloc::{AllocError, Global};
 
-/// For each message the one that stands for its thread, the same for all messages of the thread.
+/// Returns for each message the root of its thread: a message of the thread, the same for all of them.
 fn thread_roots(alloc: Global, index: &IndexView<'_>) -> Result<Vec<u32>, AllocError>
     requires { IsWellFormed index.now }
     ensures { IfOk result (λ v. TellsThreads index.now v.items) }
@@ -32,7 +32,7 @@ fn thread_roots(alloc: Global, index: &IndexView<'_>) -> Result<Vec<u32>, AllocE
     Ok(roots)
 }
 
-/// The numbers of the messages whose roots are marked, rising.
+/// Returns the numbers of the messages whose roots are marked, rising.
 fn with_marked_root(alloc: Global, roots: &[u32], marks: &[bool]) -> Result<Vec<u32>, AllocError>
     requires few { length roots.now < 2 ^ 32 }
     requires marked { (n : ℕ) → n < length roots.now → slice_index roots.now n < length marks.now }
@@ -48,7 +48,7 @@ fn with_marked_root(alloc: Global, roots: &[u32], marks: &[bool]) -> Result<Vec<
     Ok(numbers)
 }
 
-/// The numbers of the messages that have the root of one of these, rising.
+/// Returns the numbers of the messages that have the same root as one of these, rising.
 fn with_same_root(alloc: Global, numbers: &[u32], roots: &[u32]) -> Result<Vec<u32>, AllocError>
     requires few { length roots.now < 2 ^ 32 }
     requires within { All (λ n. n < length roots.now) numbers.now }
@@ -64,17 +64,17 @@ fn with_same_root(alloc: Global, numbers: &[u32], roots: &[u32]) -> Result<Vec<u
     with_marked_root(alloc, roots, marks.as_slice())
 }
 
-/// The numbers of all messages in the threads of these ones, rising, each once.
+/// Returns the numbers of all messages in the threads of these ones, rising, each once.
 ///
-/// Two messages are linked where they share a link id, also one that no message has as its own. The thread of a message is the
-/// message itself and all messages at the end of a path of links from it.
+/// Two messages are linked if they share a link id, even one that no message has as its own. The thread of a message is
+/// the message itself and all messages at the end of a path of links from it.
 ///
-/// Without link ids, or without numbers, the answer is a copy of the numbers. Otherwise each link id is looked at once, with all its
-/// numbers; the memory is five bytes for each message of the index, and that of the answer.
+/// Without link ids, or without numbers, the result is a copy of the numbers. Otherwise each link id is read once, with
+/// all its numbers. That takes five bytes for each message of the index, and the memory for the result.
 ///
 /// # Errors
 ///
-/// `AllocError` where that memory is refused.
+/// `AllocError` if memory runs out.
 pub fn with_threads(
     alloc: Global,
     index: &IndexView<'_>,

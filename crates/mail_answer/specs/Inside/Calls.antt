@@ -8,29 +8,29 @@ use Rattle.mail_answer.specs.Stale.{stale_archive}
 use Rattle.mail_answer.specs.declared.archives.Archives.{Ghosts}
 use Rattle.mail_answer.specs.declared.fault.AnswerFaultKind.{AnswerFaultKind}
 
--- archives have been found to be as many, and each as long, as those that were indexed
+-- the archives were found to be as many, and each as long, as those that were indexed
 pub record AreAsIndexed {A : Type 0} (g : Ghosts A) (indexed : List Archive) (a : A) : Type 0 where
   pub number : g.number a ≡ length indexed
   pub fresh : IfSome (g.held a) (λ bytes. stale_archive indexed bytes ≡ None)
 
--- after reads alone
+-- reads alone keep what is known of the archives
 pub record KeepsArchives {A : Type 0} (g : Ghosts A) (old new : A) : Type 0 where
   pub held : g.held new ≡ g.held old
   pub number : g.number new ≡ g.number old
-  -- none was asked for its length
+  -- no length was read
   pub asked : g.lengths_asked new ≡ g.lengths_asked old
 
--- archives were read that are as they were indexed
+-- archives were read that have the lengths that were indexed
 pub record ReadsArchives {A T : Type 0} (g : Ghosts A) (old new : A) (result : Result T AnswerFaultKind) : Type 0 where
   pub keeps : KeepsArchives g old new
-  -- their count of failures rises by one where their failure is answered, and else stays
+  -- their count of failures rises by one if their failure is the fault, and stays otherwise
   pub count : Counted (has_fault is_of_archives result) (g.failures old) (g.failures new)
-  -- none is stale, where their bytes are known
+  -- none is stale, if their bytes are known
   pub fresh : IfSome (g.held old) (λ _. has_fault is_stale result ≡ false)
 
--- an output was written to, and so many bytes have gone out since the answer began
+-- an output was written to, and this many bytes have been sent since the answer began
 pub record WritesOut {O T : Type 0} (g : OutGhosts O) (sent : ℕ) (old new : O) (result : Result T AnswerFaultKind) : Type 0 where
-  -- where no byte has gone out and none failed to, it is as it was
+  -- if no byte was sent and sending hasn't failed, the output is as it was
   pub kept : sent ≡ 0 → has_fault is_of_output result ≡ false → new ≡ old
-  -- its count of failures rises by one where its failure is answered, and else stays
+  -- its count of failures rises by one if its failure is the fault, and stays otherwise
   pub count : Counted (has_fault is_of_output result) (g.failures old) (g.failures new)

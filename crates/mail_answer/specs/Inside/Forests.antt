@@ -1,11 +1,11 @@
--- Messages in trees: to each message its parent, which is itself or stands before it. A root is its own parent.
+-- Trees of messages: for each message its parent, which is itself or an earlier one. A root is its own parent.
 use Rattle.std.specs.Prelude.{◌≡◌, ℕ, ◌<◌, ◌≤◌, IsTrue, ◌↔◌, ◌&&◌, List, length, slice_index}
 use Rattle.std.specs.List.{list_any}
 use Rattle.mail_index.specs.Tables.{Table}
 use Rattle.mail_answer.specs.TableFacts.{is_among}
 use Rattle.mail_answer.specs.Threads.{IsInThread}
 
--- no parent stands behind its child
+-- no parent comes after its child
 abbrev pub LeadsBack : List ℕ → Type 0
 LeadsBack parents = (n : ℕ) → n < length parents → slice_index parents n ≤ n
 
@@ -17,11 +17,11 @@ StaysInThreads t parents = (n : ℕ) → n < length parents → IsInThread t n (
 abbrev pub LabelsTrees : (ℕ → ℕ) → List ℕ → Type 0
 LabelsTrees label parents = (n : ℕ) → n < length parents → label (slice_index parents n) ≡ label n
 
--- two messages are in one tree: no label of trees tells them apart
+-- two messages are in one tree: each label of trees is the same for both
 abbrev pub AreInOneTree : List ℕ → ℕ → ℕ → Type 0
 AreInOneTree parents m n = (label : ℕ → ℕ) → LabelsTrees label parents → label m ≡ label n
 
--- the trees have the same messages and the same roots
+-- the trees have the same messages and the same roots, or shorter ways to these
 pub record Shortens (old new : List ℕ) : Type 0 where
   pub long : length new ≡ length old
   pub back : LeadsBack old → LeadsBack new
@@ -29,7 +29,7 @@ pub record Shortens (old new : List ℕ) : Type 0 where
   pub labels : (label : ℕ → ℕ) → LabelsTrees label new → LabelsTrees label old
   pub threads : (t : Table) → StaysInThreads t old → StaysInThreads t new
 
--- the trees of each of these pairs have become one, and no tree has come apart
+-- for each of these pairs the trees are joined now, and no tree has come apart
 pub record Unites (pairs : ℕ → ℕ → Type 0) (old new : List ℕ) : Type 0 where
   pub long : length new ≡ length old
   pub back : LeadsBack old → LeadsBack new
@@ -45,7 +45,7 @@ AreBothAmong numbers m n = IsTrue (is_among m numbers) × IsTrue (is_among n num
 abbrev pub ShareKey : List (List ℕ × List ℕ) → ℕ → ℕ → Type 0
 ShareKey keys m n = IsTrue (list_any (λ k. is_among m k.1 && is_among n k.1) keys)
 
--- to each message the one that stands for its thread: two messages have the same exactly where they are in one thread
+-- for each message the root of its thread: two messages have the same one exactly if they are in one thread
 pub record TellsThreads (t : Table) (roots : List ℕ) : Type 0 where
   pub long : length roots ≡ length t.messages
   pub back : LeadsBack roots

@@ -1,4 +1,4 @@
--- What a header has of lines that are read into it.
+-- The fields of a header while its lines are read into it.
 use Rattle.std.specs.Prelude.{◌≡◌, ℕ, List, ◌++◌, Option, IfSome}
 use Rattle.mbox_cutter.specs.Lines.{lines}
 use Rattle.header_text.specs.Headers.{HeaderField, fields_of}
@@ -7,15 +7,15 @@ use Rattle.header_text.specs.declared.header.Header.{Header}
 use Rattle.header_text.specs.declared.header.Taken.{Taken}
 use Rattle.header_text.specs.declared.header.Taken.TheVariants.{More, Ended}
 
--- these are the fields of the lines that it was given
+-- the header was given lines with these fields
 abbrev pub HasFields : Header → List HeaderField → Type 0
 HasFields header fields = (ls : List (List ℕ)) × HasLines header ls × (fields_of ls ≡ fields)
 
--- these will be the fields, once it is given the lines of what is to come too
+-- the header will have these fields once it is given the lines that are still to come
 abbrev pub WillHaveFields : Option (List ℕ) → Header → List HeaderField → Type 0
 WillHaveFields coming header fields = IfSome coming (λ bytes. (ls : List (List ℕ)) × HasLines header ls × (fields_of (ls ++ lines bytes) ≡ fields))
 
--- They are already where it has ended.
+-- The header will have these fields; if it has ended, it has them already.
 abbrev pub HasFieldsAfter : Taken → Option (List ℕ) → Header → List HeaderField → Type 0
 HasFieldsAfter More coming header fields = WillHaveFields coming header fields
 HasFieldsAfter Ended coming header fields = IfSome coming (λ _. HasFields header fields)

@@ -4,18 +4,19 @@ use Rattle.std.specs.Option.{option_map}
 use Rattle.mail_index.specs.declared.record.Record.{Record}
 use Rattle.mail_answer.specs.Archives.{archive_at, IsRead}
 
--- the archive, the bytes that were read of the part and not passed, where the others begin, and how many these are
+-- a reading: the archive, the bytes of the part that were read and not passed, and the offset and the number of those
+-- not read yet
 pub record Reading : Type 0 where
   pub archive : ℕ
   pub unread : List ℕ
   pub next : ℕ
   pub left : ℕ
 
--- the bytes of the part that weren't passed, where the archives' bytes are known
+-- the bytes of the part that weren't passed, if the archives' bytes are known
 abbrev pub coming : Option (List (List ℕ)) → Reading → Option (List ℕ)
 coming held r = option_map (λ archives. r.unread ++ take r.left (drop r.next (archive_at archives r.archive))) held
 
--- how many they are
+-- the number of bytes that weren't passed
 abbrev pub coming_count : Reading → ℕ
 coming_count r = length r.unread + r.left
 
@@ -23,13 +24,13 @@ coming_count r = length r.unread + r.left
 abbrev pub span_reading : Record → Reading
 span_reading m = record { archive = m.archive; unread = []; next = m.offset; left = m.length }
 
--- the part lies in one of so many archives
+-- the part is in one of this many archives
 pub record IsInside (number : ℕ) (held : Option (List (List ℕ))) (r : Reading) : Type 0 where
   pub exists : r.archive < number
   pub fits : r.next + r.left < 2 ^ 64
   pub within : IfSome held (λ archives. r.next + r.left ≤ length (archive_at archives r.archive))
 
--- so many bytes of an archive, from an offset on, came behind the others
+-- this many bytes of an archive, from an offset on, were appended; at least one
 pub record ReadsBehind (archive offset count : ℕ) (held : Option (List (List ℕ))) (old new : List ℕ) : Type 0 where
   pub bytes : List ℕ
   pub behind : new ≡ old ++ bytes
@@ -37,7 +38,7 @@ pub record ReadsBehind (archive offset count : ℕ) (held : Option (List (List �
   pub some : 0 < count
   pub known : IfSome held (λ archives. bytes ≡ take count (drop offset (archive_at archives archive)))
 
--- so many bytes of an archive, from an offset on, or none at its end, came behind a front of the others
+-- this many bytes of an archive, from an offset on, or none at its end, were put after the first `from` bytes
 pub record ReadsTail (archive offset from count : ℕ) (held : Option (List (List ℕ))) (old new : List ℕ) : Type 0 where
   pub bytes : List ℕ
   pub behind : take (from + count) new ≡ take from old ++ bytes

@@ -6,17 +6,17 @@ ghost use Rattle.mail_answer.specs.Archives.{IsLength, IsRead, bytes_told};
 use crate::archives::Archives;
 use mbox_cutter::DeviceFault;
 
-/// Passes each call on to other archives, but one of `length` or `read_at`, which fails.
+/// Passes each call on to other archives, except that one call of `length` or `read_at` fails.
 #[derive(Drop)]
 pub struct FailAt<A: Archives + Drop> {
     inner: A,
-    // The number of the call that fails, counted from the next one as 1, and 0 for none.
+    // The number of the call that fails, where the next call is 1; 0 for none.
     fail_at: u64,
     failures: u64,
 }
 
 impl<A: Archives + Drop> FailAt<A> {
-    /// The call with the number `fail_at` fails, counted from 1, and later ones go on. It takes no memory.
+    /// The call with the number `fail_at` fails, counted from 1; later calls are passed on. Takes no memory.
     pub fn new(inner: A, fail_at: u64) -> Self
         ensures inner { result.inner ≡ inner }
         ensures fail_at { result.fail_at ≡ fail_at }
@@ -29,7 +29,7 @@ impl<A: Archives + Drop> FailAt<A> {
         }
     }
 
-    /// Whether this call is to fail; it is counted.
+    /// Counts this call, and returns whether it has to fail.
     fn fails(&mut self) -> bool
         requires { self.old.failures < 2 ^ 64 - 1 }
         ensures inner { self.new.inner ≡ self.old.inner }

@@ -26,7 +26,7 @@ impl Model for MemoryArchives {
 }
 
 impl MemoryArchives {
-    /// No archives. It takes no memory.
+    /// Returns no archives. Takes no memory.
     pub fn new(alloc: Global) -> Self
         ensures { result ≡ [] }
     {
@@ -36,7 +36,7 @@ impl MemoryArchives {
         }
     }
 
-    /// Adds an archive of these bytes behind the others. Where memory is refused nothing is changed.
+    /// Adds an archive with these bytes after the others. If memory runs out, nothing changes.
     pub fn add(&mut self, bytes: &[u8]) -> Result<(), AllocError>
         requires { length self.old < 2147483647 }
         ensures ok { OnOk result (self.new ≡ self.old ++ bytes.now ∷ []) }

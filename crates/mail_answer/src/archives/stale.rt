@@ -1,4 +1,4 @@
-//! Whether archives are those that were indexed.
+//! Checks that archives have the lengths that were indexed.
 ghost use Rattle.std.specs.Prelude.{◌≡◌, ◌≢◌, ◌<◌, ◌-◌, ◌^◌, length, min, false, Ok, Err, IfErr, OnOk, IfSome};
 ghost use Rattle.contract_words.specs.Devices.{Counted};
 ghost use Rattle.mail_answer.specs.Asked.{FindsLengths, HoldsArchives};
@@ -9,8 +9,8 @@ use crate::archives::Archives;
 use crate::fault::AnswerFaultKind;
 use mail_index::IndexView;
 
-/// Finds the first archive that isn't as long as it was when it was indexed. The count is looked at before; of another one the
-/// archive is the smaller count.
+/// Fails with the first archive that isn't as long as it was when it was indexed, or if a length can't be read.
+/// Compares the numbers of archives first: if they differ, the smaller one is reported as stale, and no length is read.
 pub(crate) fn check_archives<A: Archives>(
     index: &IndexView<'_>,
     archives: &mut A,

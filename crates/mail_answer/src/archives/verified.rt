@@ -1,4 +1,4 @@
-//! Whether archives have the bytes that were indexed.
+//! Checks that archives have the bytes that were indexed.
 ghost use Rattle.std.specs.Prelude.{◌≡◌, ◌≢◌, ◌<◌, ◌≤◌, ◌-◌, ◌^◌, ℕ, List, false, length, min, None, Err, IfOk, IfErr, OnOk, OnErr, IfSome};
 ghost use Rattle.contract_words.specs.Devices.{Counted};
 ghost use Rattle.mbox_cutter.specs.declared.device.DeviceFault.{DeviceFault};
@@ -20,10 +20,11 @@ use mail_index::IndexView;
 use sha2::{Digest, Sha256};
 use std::alloc::Global;
 
-/// So many bytes are asked for at a read.
+/// The most bytes of a read.
 const PIECE: usize = 131_072;
 
-/// The digest of the first `indexed_length` bytes of an archive, read piece by piece through a buffer. None where it ends before them.
+/// Returns the digest of the first `indexed_length` bytes of an archive, read piece by piece through a buffer. None if
+/// the archive ends before them. Fails if a read does.
 fn read_digest<A: Archives>(
     archives: &mut A,
     archive: u32,
@@ -63,7 +64,8 @@ fn read_digest<A: Archives>(
     Ok(Some(hasher.finalize()))
 }
 
-/// Finds the first archive with another digest than was indexed, through a buffer. All are as long as they were indexed.
+/// Fails with the first archive whose digest isn't the one that was indexed, or if a read fails. Reads through a
+/// buffer. All archives must have the lengths that were indexed.
 fn check_digests<A: Archives>(
     index: &IndexView<'_>,
     archives: &mut A,
@@ -95,14 +97,15 @@ fn check_digests<A: Archives>(
     Ok(())
 }
 
-/// Reads every archive through, and compares the SHA-256 of its bytes with the digest that an index of version 2 has of it. Memory
-/// is taken for one buffer, whatever the archives hold.
+/// Reads every archive through, and compares the SHA-256 of its bytes with the digest that an index of version 2 has of
+/// it. Takes memory for one buffer, however long the archives are.
 ///
 /// # Errors
 ///
-/// Stale where there is another count of archives than was indexed, of which it tells the smaller; else for the first archive of
-/// another length; else for the first whose bytes have another digest, or that ends before its length. Counts and lengths come
-/// before memory is taken. No byte goes out, so that no fault has any as sent.
+/// Stale with the smaller number of archives, if there are more or fewer than were indexed; otherwise with the first
+/// archive of another length; otherwise with the first whose bytes have another digest, or that ends before its length.
+/// Device if an archive can't be read. Out of memory only after the number and the lengths were found right. Nothing is
+/// written, so every fault says that no bytes were sent.
 pub fn verify<A: Archives>(
     alloc: Global,
     index: &IndexView<'_>,
@@ -113,14 +116,15 @@ pub fn verify<A: Archives>(
     ensures keeps { HoldsArchives A.Archives archives.old archives.new }
     ensures verified { IfSome (A.held archives.old)
         (λ bytes. TellsVerified index.now.archives bytes (kind_of result)) }
-    // Whether the bytes are known or not, what was read of each archive had the length and the digest that were indexed.
+    // Whether the bytes are known or not: the bytes that were read of each archive have the length and the digest that
+    // were indexed.
     ensures read { OnOk result ((read : List (List ℕ)) × AreVerified index.now.archives read) }
     ensures same_count { OnOk result (A.number archives.old ≡ length index.now.archives) }
-    // Of another count the smaller one is stale, and no archive is asked.
+    // If the number of archives isn't the one that was indexed, the smaller number is stale, and no archive is read.
     ensures other_count { A.number archives.old ≢ length index.now.archives
         → RefusesCount A.Archives index.now.archives archives.old archives.new result }
-    // Of as many archives as were indexed the lengths are asked first, each once and in order, and then the archives are read,
-    // each once and in order, up to the first that isn't the one that was indexed. Device is answered where a call fails before.
+    // If it is, all lengths are read first, each once and in order. Then the archives are read, each once and in order,
+    // up to the first that isn't the one that was indexed. If a call fails before that, the fault is Device.
     ensures found { A.number archives.old ≡ length index.now.archives
         → VerifiesArchives A.Archives index.now.archives archives.old archives.new result }
     ensures archives_count { Counted (fails_by is_of_archives result)
@@ -129,7 +133,7 @@ pub fn verify<A: Archives>(
         (λ fault. (fault.sent ≡ 0) × (is_of_output fault.kind ≡ false)) }
 {
     let index = index.again();
-    // Want of memory would hide changed archives if the buffer came first.
+    // Lack of memory would hide changed archives if the buffer came first.
     if let Err(kind) = check_archives(&index, archives) {
         return Err(AnswerFault::unsent(kind));
     }

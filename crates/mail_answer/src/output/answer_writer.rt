@@ -1,4 +1,4 @@
-//! An answer, while it is written.
+//! Writes an answer, message by message.
 ghost use Rattle.std.specs.Prelude.{◌≡◌, ◌<◌, [], length, IfOk, IfErr};
 ghost use Rattle.std.specs.Bool.{OnTrue};
 ghost use Rattle.contract_words.specs.Devices.{Counted};
@@ -25,7 +25,7 @@ use mail_index::IndexView;
 use mbox_cutter::Out;
 use std::alloc::Global;
 
-/// What an answer is written with, but the archives and the output.
+/// What writing an answer needs, besides the archives and the output.
 #[derive(Drop)]
 pub(crate) struct AnswerWriter<'a> {
     alloc: Global,
@@ -37,7 +37,7 @@ pub(crate) struct AnswerWriter<'a> {
 impl<'a> AnswerWriter<'a> {
     ghost use Rattle.mail_answer.specs.Inside.Writing.{IsReady, IsSameAnswer, IsBegun, WritesMessage, WritesMessages, SendsMessages, LeavesArchives, AnswersOver};
 
-    /// An answer from this index, of which nothing is written. It takes no memory.
+    /// Returns an answer from this index, of which nothing is written. Takes no memory.
     pub(crate) fn new(alloc: Global, index: &IndexView<'a>, format: Format) -> Self
         ensures table { result.places.table ≡ index.now }
         ensures formed { IsWellFormed index.now }
@@ -55,7 +55,8 @@ impl<'a> AnswerWriter<'a> {
         }
     }
 
-    /// Adds the message of this number.
+    /// Adds the message with this number. Fails if its archive ends early or can't be read, if memory runs out, or if
+    /// the output fails.
     fn push<A: Archives, O: Out>(
         &mut self,
         n: u32,
@@ -87,7 +88,8 @@ impl<'a> AnswerWriter<'a> {
         }
     }
 
-    /// Adds the messages of these numbers, each as its number comes, sends all, and answers how many they are.
+    /// Adds the messages with these numbers, each as its number comes. Sends all of them, and returns how many they
+    /// are.
     fn push_all<A: Archives, O: Out>(
         &mut self,
         numbers: &mut Numbers<'_>,
@@ -117,8 +119,8 @@ impl<'a> AnswerWriter<'a> {
         Ok(count)
     }
 
-    /// Writes the whole answer, of the messages of these numbers, over archives that are as they were indexed. It answers how many
-    /// messages they are.
+    /// Writes the whole answer, which has the messages with these numbers, and returns how many they are. The archives
+    /// must have been found to have the lengths that were indexed. A fault says how many bytes were sent.
     pub(crate) fn write<A: Archives, O: Out>(
         &mut self,
         numbers: &mut Numbers<'_>,

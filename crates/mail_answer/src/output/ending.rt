@@ -1,26 +1,26 @@
-//! How the last line of some bytes stands.
+//! The last line of some bytes, and what closes it.
 ghost use Rattle.std.specs.Prelude.{◌≡◌, ℕ, List, [], ◌++◌};
 ghost use Rattle.mail_answer.specs.Inside.Endings.{ending_of, with_byte as with_byte_of, feeds_of};
 
 use memchr::memrchr;
 
-/// A line without LF has at most so many bytes.
+/// The most bytes of a line without LF.
 const LONGEST: u32 = 65_536;
 
-/// How the last line of some bytes stands.
+/// What the last line of some bytes is.
 #[derive(Clone, Copy)]
 pub(crate) enum Ending {
-    /// It is LF, or CR LF.
+    /// The line is LF, or CR LF.
     Empty,
-    /// It is longer, and ends in LF.
+    /// The line is longer, and ends in LF.
     Ended,
-    /// It is CR.
+    /// The line is CR.
     Return,
-    /// It has so many other bytes and no LF, or 0 where there is no line.
+    /// The line has this many other bytes and no LF; 0 if there is no line.
     Open(u32),
 }
 
-/// With a byte more.
+/// Returns the ending after one more byte.
 fn with_byte(ending: Ending, b: u8) -> Ending
     ensures { result ≡ with_byte_of ending b }
 {
@@ -36,7 +36,7 @@ fn with_byte(ending: Ending, b: u8) -> Ending
     }
 }
 
-/// With these bytes more, each looked at.
+/// Returns the ending after these bytes, each of which is read.
 fn with_each(before: Ending, more: &[u8]) -> Ending
     ensures { (bytes : List ℕ) → before ≡ ending_of bytes → result ≡ ending_of (bytes ++ more.now) }
 {
@@ -48,19 +48,19 @@ fn with_each(before: Ending, more: &[u8]) -> Ending
 }
 
 impl Ending {
-    /// Of no bytes.
+    /// Returns the ending of no bytes.
     pub(crate) fn new() -> Self
         ensures { result ≡ ending_of [] }
     {
         Ending::Open(0)
     }
 
-    /// With these bytes more. It looks at the last line alone.
+    /// Returns the ending after these bytes. Reads only the last line.
     pub(crate) fn with_bytes(self, more: &[u8]) -> Self
         ensures { (bytes : List ℕ) → self ≡ ending_of bytes
             → result ≡ ending_of (bytes ++ more.now) }
     {
-        // Behind the last LF that isn't the last byte the last line begins.
+        // The last line begins after the last LF that isn't the last byte.
         let most = more.len().saturating_sub(1);
         match memrchr(b'\n', &more[..most]) {
             Some(at) => with_each(Ending::new(), &more[at + 1..]),
@@ -68,7 +68,7 @@ impl Ending {
         }
     }
 
-    /// The LFs that make the last line empty.
+    /// Returns the LFs after which the last line is empty.
     pub(crate) fn feeds(self) -> &'static [u8]
         ensures { result.now ≡ feeds_of self }
     {

@@ -1,4 +1,4 @@
-//! The excerpt of a message.
+//! Writes the excerpt of a message.
 ghost use Rattle.std.specs.Prelude.{◌≡◌, ◌<◌, ◌-◌, ◌^◌, ℕ, List, [], ◌∷◌, ◌++◌, length, IfErr, OnOk};
 ghost use Rattle.header_text.specs.HeldLines.{HasLines};
 ghost use Rattle.header_text.specs.Headers.{fields_of};
@@ -23,7 +23,7 @@ use std::alloc::{AllocError, Global};
 /// The names of the fields in an excerpt.
 const NAMES: [&str; 5] = ["To", "Cc", "From", "Subject", "Date"];
 
-/// Makes a space of each character below U+0020, and of U+007F.
+/// Replaces each character below U+0020, and U+007F, with a space.
 fn hide_controls(text: &mut [u8])
     ensures { text.new ≡ without_controls text.old }
 {
@@ -34,7 +34,7 @@ fn hide_controls(text: &mut [u8])
     }
 }
 
-/// Adds a line: a name, a colon, a value behind a space, if it isn't empty, and LF.
+/// Adds a line: a name, a colon, a space and a value if the value isn't empty, and LF.
 fn push_line(name: &str, value: &[u8], text: &mut Vec<u8>) -> Result<(), AllocError>
     ensures { OnOk result (text.new.items
         ≡ text.old.items ++ name.now ++ 58 ∷ spaced value.now ++ 10 ∷ []) }
@@ -46,7 +46,7 @@ fn push_line(name: &str, value: &[u8], text: &mut Vec<u8>) -> Result<(), AllocEr
     text.extend_from_slice(b"\n")
 }
 
-/// Adds the line of the field of this name: its value stands in one line, without control characters.
+/// Adds the line of the field with this name. Its value is on one line, without control characters.
 fn push_field(
     alloc: Global,
     header: &Header,
@@ -64,7 +64,7 @@ fn push_field(
     push_line(name, value.as_slice(), text)
 }
 
-/// Adds the excerpt of a message of this header: the path of its archive, and five fields.
+/// Adds the excerpt of a message with this header: the path of its archive, and five fields.
 fn push_lines(
     alloc: Global,
     path: &str,
@@ -82,7 +82,8 @@ fn push_lines(
     Ok(())
 }
 
-/// Adds the excerpt of the message of this number to an answer.
+/// Adds the excerpt of the message with this number to an answer. Fails if the archive ends early or can't be read, if
+/// memory runs out, or if the output fails.
 pub(crate) fn push_excerpt<A: Archives, O: Out>(
     alloc: Global,
     places: &mut Places<'_>,

@@ -1,4 +1,4 @@
-//! The header of a message, read from its archive.
+//! Reads the header of a message from its archive.
 ghost use Rattle.std.specs.Prelude.{◌≡◌, ◌<◌, ◌-◌, ◌^◌, List, false, drop, IfOk, IfErr, OnOk, IfSome};
 ghost use Rattle.header_text.specs.Headers.{HeaderField, fields_of};
 ghost use Rattle.mbox_cutter.specs.Lines.{lines};
@@ -15,7 +15,7 @@ use header_text::{Header, Taken};
 use mail_index::Record;
 use std::alloc::Global;
 
-/// Reads the next line into a header. It answers Ended where the header has ended or no line comes.
+/// Reads the next line into a header. Returns Ended if the header has ended, or if no line is left.
 fn read_line<A: Archives>(
     reader: &mut LineReader,
     archives: &mut A,
@@ -44,7 +44,8 @@ fn read_line<A: Archives>(
     Ok(taken)
 }
 
-/// Reads the header of a message: the lines behind its first one, up to the first that is empty.
+/// Reads the header of a message: the lines after its first one, up to the first that is empty. Fails if the archive
+/// ends early or can't be read, or if memory runs out.
 pub(crate) fn read_header<A: Archives>(
     alloc: Global,
     message: Record,

@@ -1,4 +1,4 @@
-//! Bytes that are held for a while, in room that stays.
+//! A buffer of bytes whose memory is kept when bytes are dropped.
 ghost use Rattle.std.specs.Prelude.{◌≡◌, ◌<◌, ◌≤◌, ◌+◌, ◌-◌, ◌^◌, ◌++◌, [], false, length, take, drop, IfOk, IfErr, OnOk, OnErr, IfSome};
 ghost use Rattle.contract_words.specs.Devices.{Counted, Counts};
 ghost use Rattle.mail_answer.specs.Archives.{archive_at};
@@ -12,8 +12,8 @@ use mbox_cutter::DeviceFault;
 use std::alloc::{AllocError, Global};
 use std::marker::Model;
 
-/// A buffer of bytes: the first `count` bytes of `room`. Bytes that are dropped leave `room` as long as it is, so it is filled
-/// with zeros only where it grows. What stands in it behind the first `count` is never shown.
+/// A buffer of bytes: the first `count` bytes of `room`. Dropping bytes doesn't shorten `room`, so only growth fills it
+/// with zeros. The bytes of `room` after the first `count` are never used.
 #[derive(Drop)]
 pub(crate) struct HeldBytes {
     room: Vec<u8>,
@@ -31,7 +31,7 @@ impl Model for HeldBytes {
 }
 
 impl HeldBytes {
-    /// No bytes. It takes no memory.
+    /// Returns no bytes. Takes no memory.
     pub(crate) fn new(alloc: Global) -> Self
         ensures { result ≡ [] }
     {
@@ -41,26 +41,28 @@ impl HeldBytes {
         }
     }
 
+    /// The number of bytes.
     pub(crate) fn len(&self) -> usize
         ensures { result ≡ length self.now }
     {
         self.count
     }
 
+    /// The bytes.
     pub(crate) fn as_slice(&self) -> &[u8]
         ensures { result.now ≡ self.now }
     {
         &self.room[..self.count]
     }
 
-    /// Drops all of them.
+    /// Drops all bytes.
     pub(crate) fn clear(&mut self)
         ensures { self.new ≡ [] }
     {
         self.count = 0;
     }
 
-    /// Drops the first `n`.
+    /// Drops the first `n` bytes.
     pub(crate) fn drop_front(&mut self, n: usize)
         requires { n ≤ length self.old }
         ensures { self.new ≡ drop n self.old }
@@ -69,7 +71,7 @@ impl HeldBytes {
         self.count -= n;
     }
 
-    /// Adds bytes behind them.
+    /// Appends bytes. If memory runs out, nothing changes.
     pub(crate) fn extend(&mut self, bytes: &[u8]) -> Result<(), AllocError>
         ensures ok { OnOk result (self.new ≡ self.old ++ bytes.now) }
         ensures refused { OnErr result (self.new ≡ self.old) }
@@ -81,7 +83,8 @@ impl HeldBytes {
         Ok(())
     }
 
-    /// Reads at most so many bytes of an archive, from an offset on, behind them.
+    /// Reads at most this many bytes of an archive, from an offset on, and appends them. Returns their number, which is
+    /// at least 1. Fails with Stale if the archive has ended there; otherwise if the read fails or if memory runs out.
     pub(crate) fn read<A: Archives>(
         &mut self,
         archives: &mut A,
@@ -120,7 +123,7 @@ impl HeldBytes {
     }
 }
 
-/// Makes room for so many bytes more behind the first `held`, and changes none of these.
+/// Makes room for this many more bytes after the first `held`, which don't change.
 fn make_room(room: &mut Vec<u8>, held: usize, more: usize) -> Result<(), AllocError>
     requires within { held ≤ length room.old.items }
     requires few { held + more < 2 ^ 64 }
@@ -134,7 +137,7 @@ fn make_room(room: &mut Vec<u8>, held: usize, more: usize) -> Result<(), AllocEr
     room.resize(held + more, 0)
 }
 
-/// Reads at most so many bytes of an archive, from an offset on, behind the first `held`.
+/// Reads at most this many bytes of an archive, from an offset on, into the room after the first `held` bytes.
 #[tactic(auto, using(crate::proofs::OutputLaws::ReadingLemmas::tail_result))]
 fn read_behind<A: Archives>(
     archives: &mut A,

@@ -1,4 +1,4 @@
-//! Part of an archive, read line by line.
+//! Reads a part of an archive line by line.
 ghost use Rattle.std.specs.Prelude.{◌≡◌, ◌<◌, ◌≤◌, ◌+◌, ◌-◌, ◌^◌, [], false, length, drop, IfOk, IfErr, OnOk, IfSome};
 ghost use Rattle.mbox_cutter.specs.Lines.{first_length};
 ghost use Rattle.mail_answer.specs.Faults.{has_fault, is_of_output, IfStale};
@@ -12,17 +12,17 @@ use mbox_cutter::line_end;
 use std::alloc::Global;
 use std::marker::Model;
 
-/// So many bytes are asked for at a read.
+/// The most bytes of a read.
 const PIECE: u64 = 32_768;
 
-/// Reads a part of an archive line by line. It keeps a line and a piece at most.
+/// Reads a part of an archive line by line. It keeps at most one line and one piece in memory.
 #[derive(Drop)]
 pub(crate) struct LineReader {
     archive: u32,
-    // Where the bytes begin that weren't read yet, and how many they are.
+    // The offset of the first byte that wasn't read yet, and the number of these bytes.
     next: u64,
     left: u64,
-    // What was read; the first `from` bytes of it were passed.
+    // What was read. The first `from` bytes of it were passed.
     held: HeldBytes,
     from: usize,
 }
@@ -39,7 +39,7 @@ impl Model for LineReader {
 }
 
 impl LineReader {
-    /// It reads `length` bytes of an archive, from an offset on. It takes no memory yet.
+    /// Returns a reader of `length` bytes of an archive, from an offset on. Takes no memory yet.
     pub(crate) fn over(alloc: Global, archive: u32, offset: u64, length: u64) -> Self
         ensures { result ≡ record { archive = archive; unread = []; next = offset; left = length } }
     {
@@ -52,7 +52,7 @@ impl LineReader {
         }
     }
 
-    /// The bytes that were read and not passed.
+    /// The bytes that were read and weren't passed.
     pub(crate) fn unread(&self) -> &[u8]
         ensures { result.now ≡ self.now.unread }
     {
@@ -69,7 +69,7 @@ impl LineReader {
         self.from += n;
     }
 
-    /// Reads a piece more.
+    /// Reads one more piece.
     #[tactic(auto, using(crate::proofs::OutputLaws::ReadingLemmas::coming_read))]
     fn fill<A: Archives>(&mut self, archives: &mut A) -> Result<(), AnswerFaultKind>
         requires inside { IsInside (A.number archives.old) (A.held archives.old) self.old }
@@ -95,7 +95,7 @@ impl LineReader {
         Ok(())
     }
 
-    /// Reads on to the end of the next line, and answers its length, 0 where no line comes.
+    /// Reads on to the end of the next line, and returns the line's length, or 0 if no line is left.
     pub(crate) fn first_line<A: Archives>(
         &mut self,
         archives: &mut A,

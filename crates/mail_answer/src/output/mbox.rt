@@ -1,4 +1,4 @@
-//! A message in the form of mbox archives.
+//! Writes a message in the form of mbox archives.
 ghost use Rattle.std.specs.Prelude.{◌≡◌, ◌<◌, ◌-◌, ◌^◌, length, IfErr, OnOk};
 ghost use Rattle.mail_index.specs.Tables.{IsWellFormed};
 ghost use Rattle.mail_answer.specs.Faults.{IfStale};
@@ -19,7 +19,7 @@ use mail_index::{IndexView, Record};
 use mbox_cutter::Out;
 use std::marker::Model;
 
-/// So many bytes are asked for at a read.
+/// The most bytes of a read.
 const PIECE: u64 = 65_536;
 
 /// A part of an archive that is still to be copied.
@@ -40,7 +40,7 @@ impl Model for Part {
 }
 
 impl Part {
-    /// The bytes of a message.
+    /// Returns the bytes of a message.
     fn of(message: Record) -> Self
         ensures { result ≡ span_reading message }
     {
@@ -51,7 +51,8 @@ impl Part {
         }
     }
 
-    /// Reads its next piece behind what an answer has gathered, which goes out where it is enough; answers how the last line stands.
+    /// Reads the next piece and appends it to what the answer has gathered, which is sent if it is enough. Returns what
+    /// the last line is then.
     fn copy_piece<A: Archives, O: Out>(
         &mut self,
         before: Ending,
@@ -85,8 +86,9 @@ impl Part {
     }
 }
 
-/// Adds the bytes of the message of this number to an answer, and what closes them. They are read piece by piece onto the sheet,
-/// which is written whenever it is full: so the memory doesn't grow with the message.
+/// Adds the bytes of the message with this number to an answer, and closes them. The bytes are read piece by piece onto
+/// the sheet, which is sent whenever it is full, so the memory doesn't grow with the message. Fails if the archive ends
+/// early or can't be read, if memory runs out, or if the output fails.
 pub(crate) fn push_mbox<A: Archives, O: Out>(
     index: &IndexView<'_>,
     n: u32,

@@ -1,4 +1,4 @@
-//! Where the messages of an index stand.
+//! Finds the archives of the messages of an index.
 ghost use Rattle.std.specs.Prelude.{◌≡◌, ◌+◌, ◌-◌, ◌<◌, length};
 ghost use Rattle.mail_index.specs.Tables.{IsWellFormed};
 ghost use Rattle.mail_answer.specs.Shapes.{path_at};
@@ -6,11 +6,11 @@ ghost use Rattle.mail_answer.specs.Shapes.{path_at};
 use mail_index::{ArchiveList, IndexView};
 use std::marker::Model;
 
-/// Where the messages of an index stand. For messages in their order it goes through the archives once.
+/// Finds the archives of messages. For messages in their order it goes through the archives once.
 #[derive(Drop)]
 pub(crate) struct Places<'a> {
     index: IndexView<'a>,
-    // The archives that weren't passed, how many were, and the path of the last of these.
+    // The archives that weren't passed, the number of those that were, and the path of the last of these.
     rest: ArchiveList<'a>,
     passed: u32,
     path: &'a str,
@@ -27,7 +27,7 @@ impl<'a> Model for Places<'a> {
 }
 
 impl<'a> Places<'a> {
-    /// Before the first archive.
+    /// Returns the place before the first archive.
     pub(crate) fn of(index: &IndexView<'a>) -> Self
         ensures before { result ≡ record { table = index.now; passed = 0 } }
         ensures formed { IsWellFormed index.now }
@@ -61,8 +61,8 @@ impl<'a> Places<'a> {
         self.passed += 1;
     }
 
-    /// The path of the archive of this number. It goes on from the one that was asked for before, and begins anew only for one in
-    /// front of it.
+    /// Returns the path of the archive with this number. Goes on from the archive that the last call returned, and
+    /// begins again only for an archive before that one.
     pub(crate) fn path_of(&mut self, archive: u32) -> &'a str
         requires { archive < length self.old.table.archives }
         ensures path { result.now ≡ path_at self.old.table.archives archive }

@@ -1,4 +1,4 @@
-//! A message in an answer of the raw form.
+//! Writes a message in the raw form.
 ghost use Rattle.std.specs.Prelude.{◌≡◌, ◌<◌, ◌-◌, ◌^◌, [], false, length, Some};
 ghost use Rattle.mail_index.specs.Tables.{IsWellFormed};
 ghost use Rattle.mail_answer.specs.Faults.{has_fault, is_of_archives, is_stale};
@@ -14,7 +14,8 @@ use crate::output::sheet::Sheet;
 use mbox_cutter::Out;
 use std::alloc::Global;
 
-/// Adds the line of the message of this number to an answer. No archive is read.
+/// Adds the line of the message with this number to an answer. Reads no archive. Fails if memory runs out or if the
+/// output fails.
 pub(crate) fn push_raw<O: Out>(
     alloc: Global,
     places: &mut Places<'_>,

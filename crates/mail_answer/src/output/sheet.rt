@@ -1,4 +1,4 @@
-//! The output of an answer.
+//! Gathers the bytes of an answer and sends them.
 ghost use Rattle.std.specs.Prelude.{◌≡◌, ◌<◌, ◌≤◌, ◌-◌, ◌^◌, [], length, Some, OnOk, IfErr, false};
 ghost use Rattle.mail_answer.specs.Faults.{has_fault, is_of_archives, is_stale};
 ghost use Rattle.mail_answer.specs.Inside.Calls.{WritesOut};
@@ -8,14 +8,14 @@ use crate::fault::AnswerFaultKind;
 use crate::output::held_bytes::HeldBytes;
 use mbox_cutter::Out;
 
-/// So many bytes of an answer are gathered before they go out.
+/// This many bytes of an answer are gathered before they are sent.
 const FULL: usize = 65_536;
 
-/// Bytes of an answer that were gathered, and how many went out before them.
+/// The bytes of an answer that were gathered, and the number of bytes sent before them.
 #[derive(Drop)]
 pub(crate) struct Sheet {
     pub(crate) text: HeldBytes,
-    /// Up to the greatest number of its type.
+    /// Never more than the greatest number of its type.
     pub(crate) sent: u64,
     ghost within: { sent ≤ 2 ^ 64 - 1 },
 }
@@ -23,7 +23,8 @@ pub(crate) struct Sheet {
 impl Sheet {
     ghost use Rattle.mail_answer.specs.Sheets.{Writes};
 
-    /// Adds bytes to the answer.
+    /// Adds bytes to the answer, and sends what is gathered if it is enough. Fails if memory runs out or if the output
+    /// fails.
     pub(crate) fn push<O: Out>(&mut self, out: &mut O, bytes: &[u8]) -> Result<(), AnswerFaultKind>
         requires { O.failures out.old < 2 ^ 64 - 1 }
         ensures writes { Writes (O.taken out.old) (O.taken out.new) self.old self.new
@@ -37,7 +38,7 @@ impl Sheet {
         self.send_full(out)
     }
 
-    /// Writes all that is gathered, where it is enough.
+    /// Sends all that is gathered if it is enough. Fails if the output does.
     pub(crate) fn send_full<O: Out>(&mut self, out: &mut O) -> Result<(), AnswerFaultKind>
         requires { O.failures out.old < 2 ^ 64 - 1 }
         ensures writes { Writes (O.taken out.old) (O.taken out.new) self.old self.new (Some [])
@@ -52,7 +53,7 @@ impl Sheet {
         self.send(out)
     }
 
-    /// Writes all that is gathered, in as many calls as it takes.
+    /// Sends all that is gathered, in as many calls as it takes. Fails if the output does.
     pub(crate) fn send<O: Out>(&mut self, out: &mut O) -> Result<(), AnswerFaultKind>
         requires { O.failures out.old < 2 ^ 64 - 1 }
         ensures writes { Writes (O.taken out.old) (O.taken out.new) self.old self.new (Some [])

@@ -1,7 +1,7 @@
-//! Messages in trees, which are joined until each tree is a thread.
+//! Trees of messages, which are joined until each tree is a thread.
 //!
-//! A slice has each message's parent: a message before it in its thread, or, of a root, itself. Ways to a root are halved whenever
-//! they are walked, which keeps the joining near linear without ranks.
+//! A slice has the parent of each message: an earlier message of its thread, or itself for a root. The way to a root is
+//! halved each time it is walked, which keeps the joining nearly linear without ranks.
 ghost use Rattle.std.specs.Prelude.{◌≡◌, ℕ, ◌<◌, ◌≤◌, length, slice_index, slice_set};
 ghost use Rattle.std.specs.List.{AllByRecursion};
 ghost use Rattle.mail_index.specs.Tables.{Table};
@@ -10,7 +10,7 @@ ghost use Rattle.mail_answer.specs.Inside.Forests.{LeadsBack, StaysInThreads, Ar
 
 use mail_index::{Keys, Postings, Steps};
 
-/// Makes a message the child of its parent's parent, which is answered.
+/// Makes a message the child of its parent's parent, and returns that one.
 fn lift(parents: &mut [u32], number: usize) -> u32
     requires back { LeadsBack parents.old }
     requires within { number < length parents.old }
@@ -23,7 +23,7 @@ fn lift(parents: &mut [u32], number: usize) -> u32
     next
 }
 
-/// The root of the tree that has the message. The way to it gets shorter: each second message on it is lifted.
+/// Returns the root of the message's tree. Shortens the way to it: each second message on it is lifted.
 fn root_of(parents: &mut [u32], number: u32) -> u32
     requires back { LeadsBack parents.old }
     requires within { number < length parents.old }
@@ -40,7 +40,7 @@ fn root_of(parents: &mut [u32], number: u32) -> u32
     root
 }
 
-/// Makes the trees of two messages one: the later root is hung at the earlier one.
+/// Joins the trees of two messages: the later root becomes a child of the earlier one.
 fn unite(parents: &mut [u32], number: u32, other: u32)
     requires back { LeadsBack parents.old }
     requires within { number < length parents.old }
@@ -56,7 +56,7 @@ fn unite(parents: &mut [u32], number: u32, other: u32)
     }
 }
 
-/// Makes the trees of these messages one.
+/// Joins the trees of these messages.
 fn unite_all(parents: &mut [u32], mut numbers: Postings<'_>, steps: &mut Steps)
     requires back { LeadsBack parents.old }
     requires within { AllByRecursion (λ n. n < length parents.old) numbers }
@@ -69,7 +69,7 @@ fn unite_all(parents: &mut [u32], mut numbers: Postings<'_>, steps: &mut Steps)
     }
 }
 
-/// Makes the trees of messages that share one of these keys one.
+/// Joins the trees of messages that share one of these keys.
 pub(crate) fn unite_by_keys(parents: &mut [u32], mut keys: Keys<'_>, steps: &mut Steps)
     requires back { LeadsBack parents.old }
     requires within { AllByRecursion (λ k. AllByRecursion (λ n. n < length parents.old) k.1) keys }
@@ -80,7 +80,8 @@ pub(crate) fn unite_by_keys(parents: &mut [u32], mut keys: Keys<'_>, steps: &mut
     }
 }
 
-/// Makes each message a child of its root.
+/// Makes each message a child of its root. It goes from the first message on, so the parent of each is a child of the
+/// root already.
 pub(crate) fn flatten(parents: &mut [u32])
     requires { LeadsBack parents.old }
     ensures shortened { Shortens parents.old parents.new }
