@@ -6,11 +6,11 @@ use Rattle.index_job.specs.ArchiveTables.{Mbox, table}
 use Rattle.mail_answer.specs.Verified.{unverified_archive}
 use Rattle.mairix_tool.specs.Runs.{renamed_archive}
 
--- SHA-256 tells these apart: no two of them that differ have one digest.
+-- SHA-256 distinguishes these texts: no two of them that differ have the same digest.
 abbrev pub AreToldApart : List (List ℕ) → Type 0
 AreToldApart all = (x y : List ℕ) → Contains all x → Contains all y → sha256 x ≡ sha256 y → x ≡ y
 
--- The first of the archives that were indexed that has another path by now, or of another count the smaller one; else the
--- first that holds other bytes, by count, length, then digest.
+-- The first of the indexed archives that has another path now; if their numbers differ, the smaller number; otherwise
+-- the first with other bytes, by number, length, then digest.
 abbrev pub altered_archive : List Mbox → List (List ℕ) → List (List ℕ) → Option ℕ
 altered_archive before paths bytes = option_or (renamed_archive (table before).archives paths) (unverified_archive (table before).archives bytes)

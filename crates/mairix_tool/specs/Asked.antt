@@ -1,4 +1,4 @@
--- What words and rcfile ask for, before any archive is looked at.
+-- What words and rcfile mean, before any archive is read.
 use Rattle.std.specs.Prelude.{ℕ, Bool, true, false, List, map, String, string_bytes, Result, Ok}
 use Rattle.std.specs.List.{join_with_byte}
 use Rattle.std.specs.declared.alloc.Global.{Global}
@@ -21,44 +21,44 @@ use Rattle.mairix_options.specs.AnswerFiles.{answer_format}
 use Rattle.mairix_options.specs.CommandLine.{plan}
 use Rattle.mairix_options.specs.Rcfile.{rc_of}
 
--- the archives' paths, what is asked of their messages, and whether the archives are proved to be those that were indexed
+-- the archives' paths, the search, and whether the archives are to be proved to be those that were indexed
 pub record Wanted : Type 0 where
   pub paths : List (List ℕ)
   pub search : Search
   pub verify : Bool
 
--- what a run was told to look for
+-- what a run has to do, from the code's own value
 abbrev pub wanted : code.Wanted → Wanted
 wanted w = record { paths = w.paths; search = search_of w.query w.threads w.format; verify = w.verify }
 
--- the rcfile, where words and rcfile are accepted; else the first refusal
+-- the rcfile, if words and rcfile are accepted; otherwise the first refusal
 abbrev pub asked_rc : List (List ℕ) → List ℕ → Result Rc Fault
 asked_rc words rc = fault_as of.Usage (plan words) >>= λ p. fault_as of.Rc (rc_of rc)
 
--- what patterns ask together: each is a mairix pattern; of a boolean query they are the text, joined by single spaces
+-- the query of all patterns: each is a mairix pattern; for a boolean query they are one text, joined by single spaces
 abbrev pub query_asked : Bool → List (List ℕ) → ℕ → Result Query QueryFault
 query_asked true patterns now = boolean_query (join_with_byte 32 patterns)
 query_asked false patterns now = mairix_query patterns now
 
--- the form in which an answer is written
+-- the form of an answer, as the writer of answers names it
 abbrev pub format_of_mail : MailFormat → Format
 format_of_mail mail.Mbox = format.Mbox
 format_of_mail mail.Raw = format.Raw
 format_of_mail mail.Excerpt = format.Excerpt
 
--- What an accepted command line, rcfile and query want: the words' format goes before the rcfile's.
+-- What an accepted command line, rcfile and query mean: the format of the words overrides that of the rcfile.
 abbrev pub wanted_by : Plan → Rc → Query → Wanted
 wanted_by p r q = record { paths = r.paths; search = record { query = q; threads = p.threads; format = format_of_mail (answer_format p r) }; verify = p.verify }
 
--- of which archives and for what: of rcfile, then query the first refusal counts
+-- what accepted words mean with this rcfile; otherwise the first refusal, of the rcfile or of the query
 abbrev pub asked_by : Plan → List ℕ → ℕ → Result Wanted Fault
 asked_by p rc now =
     fault_as of.Rc (rc_of rc) >>= λ r. fault_as of.Query (query_asked p.boolean p.patterns now) >>= λ q. Ok (wanted_by p r q)
 
--- the same of words, whose refusal goes before these
+-- what words and rcfile mean; otherwise the first refusal, of the words, the rcfile or the query
 abbrev pub asked : List (List ℕ) → List ℕ → ℕ → Result Wanted Fault
 asked words rc now = fault_as of.Usage (plan words) >>= λ p. asked_by p rc now
 
--- the same of the words as they lie in memory
+-- the same for the words as they are in memory
 abbrev pub asks : List (String Global) → List ℕ → ℕ → Result Wanted Fault
 asks words rc now = asked (map string_bytes words) rc now

@@ -1,4 +1,4 @@
--- What a message says to a query.
+-- What a message itself says to a query.
 use Rattle.std.specs.Prelude.{ℕ, Bool, true, false, List, [], ◌∷◌, map, flat_map, if◌then◌else◌, Option, Some, None}
 use Rattle.header_text.specs.Headers.{fields_of}
 use Rattle.mail_query.specs.Truth.{Facts}
@@ -12,6 +12,7 @@ use Rattle.mime_text.specs.Sinks.{Pair}
 use Rattle.mime_text.specs.Texts.{texts_of_message}
 use Rattle.index_job.specs.ArchiveTables.{date_told}
 
+-- whether two kinds of text are the same
 abbrev pub is_kind : TextKind → TextKind → Bool
 is_kind kind.To kind.To = true
 is_kind kind.Cc kind.Cc = true
@@ -26,6 +27,7 @@ is_kind _ _ = false
 abbrev pub words_of : TextKind → List Pair → List (List ℕ)
 words_of kind texts = flat_map (λ p. if is_kind p.0 kind then map folding (words p.1) else []) texts
 
+-- the id, if there is one
 abbrev pub ids_in : Option (List ℕ) → List (List ℕ)
 ids_in None = []
 ids_in (Some id) = id ∷ []

@@ -1,13 +1,13 @@
--- The messages of archives, as an mbox answer over their table takes them.
+-- The messages of archives, as an mbox answer over their table has them.
 use Rattle.std.specs.Prelude.{ℕ, List, map}
 use Rattle.mail_answer.specs.Shapes.{span}
 use Rattle.mail_answer.specs.TableFacts.{record_at}
 use Rattle.index_job.specs.ArchiveTables.{Mbox, table}
 
--- the bytes that the archives hold
+-- the bytes of the archives
 abbrev pub bytes_held : List Mbox → List (List ℕ)
 bytes_held archives = map (λ a. a.bytes) archives
 
--- the spans of the messages of these numbers
+-- the spans of the messages with these numbers
 abbrev pub spans_at : List Mbox → List ℕ → List (List ℕ)
 spans_at archives numbers = map (λ n. span (bytes_held archives) (record_at (table archives).messages n)) numbers

@@ -1,2 +1,2 @@
--- What private functions say of one another: it serves proofs alone, and no public clause rests on it.
+-- Definitions for private functions only: what these promise one another. No public clause depends on them.
 pub mod Answering

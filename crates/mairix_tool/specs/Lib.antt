@@ -1,3 +1,5 @@
+-- The definitions of runs, from what a message says to the reply and its text; each file comes after those that it
+-- uses.
 pub mod Chosen
 pub mod MailOfArchives
 pub mod TermsOfArchives

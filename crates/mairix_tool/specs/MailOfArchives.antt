@@ -1,4 +1,5 @@
--- The messages of archives, by their numbers: what they say themselves, which of them are linked, and the text that tells of them.
+-- The messages of archives by their numbers: what they say themselves, which of them are linked, and their text in an
+-- answer.
 use Rattle.std.specs.Prelude.{ℕ, suc, Bool, List, [], ◌∷◌, ◌++◌, length, map, flat_map}
 use Rattle.std.specs.List.{list_any, slice_index_or}
 use Rattle.std.specs.Str.{bytes_eq}
@@ -11,19 +12,20 @@ use Rattle.mail_answer.specs.Shapes.{message_text}
 use Rattle.index_job.specs.ArchiveTables.{Mbox, messages_in, entry_of, record_of}
 use Rattle.mairix_tool.specs.Chosen.{facts_of_message}
 
--- a message, behind the number of its archive
+-- a message, after the number of its archive
 abbrev pub Numbered : Type 0
 Numbered = ℕ × Message
 
--- the messages of the archives, of which the first has this number
+-- the messages of the archives, if the first archive has the number n
 abbrev pub numbered_messages : ℕ → List Mbox → List Numbered
 numbered_messages n [] = []
 numbered_messages n (a ∷ archives) = map (λ m. (n, m)) (messages_in a.bytes) ++ numbered_messages (suc n) archives
 
--- of a number past the last message, any message
+-- a message for numbers after the last one; it has no meaning
 abbrev pub nobody : Numbered
 nobody = (0, record { offset = 0; separator = 0 ∷ []; after = [] })
 
+-- the message with this number
 abbrev pub numbered_at : List Numbered → ℕ → Numbered
 numbered_at xs n = slice_index_or xs n nobody
 
@@ -33,11 +35,11 @@ numbered_at xs n = slice_index_or xs n nobody
 abbrev pub link_ids : Message → List (List ℕ)
 link_ids m = (facts_of (fields_of (text m))).ids
 
--- some id is among both
+-- whether an id is in both lists
 abbrev pub share_id : List (List ℕ) → List (List ℕ) → Bool
 share_id ids others = list_any (λ id. list_any (bytes_eq id) others) ids
 
--- each says what its own text says, and two are linked where they share a link id
+-- each says what its own text says, and two are linked if they share a link id
 abbrev pub mail_of : List Numbered → Mail
 mail_of xs = record {
   count = length xs;
@@ -49,12 +51,12 @@ mail_of xs = record {
 abbrev pub mail_in : List Mbox → Mail
 mail_in archives = mail_of (numbered_messages 0 archives)
 
--- ---- how they are told
+-- ---- their text in an answer
 
--- in a form, by the bytes of its span
+-- the text of a message in a form, by the bytes of its span
 abbrev pub shape_of : Format → List Mbox → Numbered → List ℕ
 shape_of format archives x = message_text format (map entry_of archives) (map (λ a. a.bytes) archives) (record_of x.0 x.1)
 
--- those of these numbers, one behind another
+-- the texts of the messages with these numbers, one after another
 abbrev pub shape : List Mbox → Format → List ℕ → List ℕ
 shape archives format numbers = flat_map (λ n. shape_of format archives (numbered_at (numbered_messages 0 archives) n)) numbers

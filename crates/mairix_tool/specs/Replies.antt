@@ -1,4 +1,4 @@
--- The reply of a run and its text, and what each reply keeps to.
+-- The reply of a run and its text, and what is true of each reply.
 use Rattle.std.specs.Prelude.{◌≡◌, ⊤, ℕ, List, [], take, false, nat_eq, if◌then◌else◌, Option, None, Some, Result, Ok, Err}
 use Rattle.std.specs.Bool.{MatchBool, OnTrue}
 use Rattle.mail_answer.specs.Mail.{Search}
@@ -13,34 +13,38 @@ use Rattle.run_faults.specs.Faults.{status_of_fault, is_changed_or_unread, is_ea
 
 -- ---- the answer
 
--- the text that goes out, and the reply
+-- the text that is sent, and the reply
 pub record Answer : Type 0 where
   pub text : List ℕ
   pub reply : Reply
 
+-- the status of an answer with this many messages
 abbrev pub status_of_count : ℕ → ℕ
 status_of_count messages = if nat_eq messages 0 then 1 else 0
 
+-- the answer with no text, for a fault
 abbrev pub refused : Fault → Answer
 refused fault = record { text = []; reply = record { status = status_of_fault fault; messages = 0; fault = Some fault } }
 
--- ---- what a run answered, against that
+-- ---- what a run returned, compared with that
 
--- a fault is one that such a run can have, with its status and no messages; an answer has the status of its number
+-- a fault is one that such a run can have, with its status and no messages; without a fault, the status is that of the
+-- number of messages
 abbrev pub IsConsistent : (Fault → Type 0) → Reply → Option Fault → Type 0
 IsConsistent CanHave reply None = reply.status ≡ status_of_count reply.messages
 IsConsistent CanHave reply (Some fault) = CanHave fault × (reply.status ≡ status_of_fault fault) × (reply.messages ≡ 0)
 
--- what words, rcfile and query are refused with, whatever the devices hold, unless memory is wanted
+-- a refusal of words, rcfile or query is the fault, whatever the devices do, unless memory runs out; if none is
+-- refused, the fault isn't such a refusal
 abbrev pub RefusesAsked : Result Wanted Fault → Option Fault → Type 0
 RefusesAsked (Ok w) fault = is_early fault ≡ false
 RefusesAsked (Err refusal) fault = MatchBool (is_memory fault) ⊤ (fault ≡ Some refusal)
 
--- where an archive's fault is answered, no archive before it has one, and they aren't too much
+-- if the fault is one of an archive, the archives before it are sound
 abbrev pub AreSoundBefore : Result Wanted Fault → List (List ℕ) → Option Fault → Type 0
 AreSoundBefore (Ok w) archives (Some (Archive number fault)) = AreSound (take number (mboxes w.paths archives))
 AreSoundBefore _ archives _ = ⊤
 
--- Where a raw answer finds the archives changed or can't read them, nothing has gone out.
+-- If a raw answer finds the archives changed or can't read them, nothing was sent.
 abbrev pub KeepsRawBack : {O : Type 0} → Search → Option Fault → O → O → Type 0
 KeepsRawBack s fault old new = s.format ≡ Raw → OnTrue (is_changed_or_unread fault) (new ≡ old)

@@ -28,7 +28,7 @@ use Rattle.run_faults.specs.Faults.{is_early, is_failure, is_memory, is_of_index
 use Rattle.mairix_tool.specs.MailOfArchives.{mail_in, shape}
 use Rattle.mairix_tool.specs.Replies.{Answer, refused, status_of_count}
 
--- so many messages, and the text that tells of them
+-- the answer with this text and this many messages
 abbrev pub answered : List ℕ → ℕ → Answer
 answered text messages = record { text = text; reply = record { status = status_of_count messages; messages = messages; fault = None } }
 
@@ -38,12 +38,12 @@ answered text messages = record { text = text; reply = record { status = status_
 abbrev pub IsAnswer : List Mbox → Search → Answer → Type 0
 IsAnswer archives s answer = (numbers : List ℕ) × AreChosen (mail_in archives) s numbers × (answer ≡ answered (shape archives s.format numbers) (length numbers))
 
--- the refusal of the first archive that is at fault
+-- the answer is the refusal of the first faulty archive
 abbrev pub IsRefusedBy : List Mbox → Answer → Type 0
 IsRefusedBy archives answer = (fault : Fault) × Refuses archives fault × (answer ≡ refused fault)
 
--- The reply and its text: a refusal of words, rcfile or query; else of an archive; else the answer. Where one archive is too
--- long and has too many messages or keys, either is replied.
+-- The reply and its text: a refusal of words, rcfile or query; otherwise of an archive; otherwise the answer. If one
+-- archive is too long and has too many messages or keys, either refusal is right.
 abbrev pub IsReply : Result Wanted Fault → List (List ℕ) → Answer → Type 0
 IsReply (Err fault) bytes answer = answer ≡ refused fault
 IsReply (Ok w) bytes answer =
@@ -51,19 +51,20 @@ IsReply (Ok w) bytes answer =
 
 -- ---- by a table
 
--- an archive isn't the one that was indexed, or it is answered
+-- if this archive isn't the one that was indexed, the answer is that fault; otherwise it is one that was found
 abbrev pub IsStaleOr : Option ℕ → (Answer → Type 0) → Answer → Type 0
 IsStaleOr (Some n) IsFound answer = answer ≡ refused (Stale n)
 IsStaleOr None IsFound answer = IsFound answer
 
+-- the answer has the messages that the search chooses from the table, and their text over archives with these bytes
 abbrev pub IsFoundIn : Table → Search → List (List ℕ) → Answer → Type 0
 IsFoundIn t s held answer = (numbers : List ℕ) × AreChosen (mail_told t) s numbers × (answer ≡ answered (answer_text s.format t held numbers) (length numbers))
 
--- what the table answers over archives that hold these bytes
+-- the answer of the table over archives with these bytes
 abbrev pub IsTold : Table → Search → List (List ℕ) → Answer → Type 0
 IsTold t s held answer = IsStaleOr (stale_archive t.archives held) (IsFoundIn t s held) answer
 
--- what is replied where these bytes are indexed, and those are searched
+-- the answer if `bytes` are indexed and `held` are searched
 abbrev pub IsOnceReply : Result Wanted Fault → List (List ℕ) → List (List ℕ) → Answer → Type 0
 IsOnceReply (Err fault) bytes held answer = answer ≡ refused fault
 IsOnceReply (Ok w) bytes held answer =
@@ -77,48 +78,52 @@ first_renamed n [] paths = None
 first_renamed n (a ∷ named) [] = None
 first_renamed n (a ∷ named) (path ∷ paths) = if bytes_eq a.path path then first_renamed (n + 1) named paths else Some n
 
--- of another count of paths than was indexed, the smaller one
+-- the first archive with another path than was indexed; if the numbers of paths differ, the smaller number
 abbrev pub renamed_archive : List Archive → List (List ℕ) → Option ℕ
 renamed_archive named paths = if length paths == length named then first_renamed 0 named paths else Some (min (length paths) (length named))
 
--- the index is of the first version, which has neither digests of archives nor names of parts, and they are asked for
+-- whether the index is of version 1, which has neither digests of archives nor names of attachments, and one of these
+-- is wanted
 abbrev pub is_too_old : Table → Wanted → Bool
 is_too_old t w = (t.version == 1) && (w.verify || uses_names w.search.query)
 
+-- if the index is too old, the answer is that fault; otherwise it is one that was found
 abbrev pub IsOldOr : Bool → (Answer → Type 0) → Answer → Type 0
 IsOldOr true IsFound answer = answer ≡ refused OldIndex
 IsOldOr false IsFound answer = IsFound answer
 
--- Where the archives are to be verified, the first that doesn't hold what was indexed; no archive where they aren't.
+-- The first archive that doesn't have the bytes that were indexed, if the archives are to be verified; none if they
+-- aren't.
 abbrev pub unproved_archive : Bool → List Archive → List (List ℕ) → Option ℕ
 unproved_archive false named held = None
 unproved_archive true named held = unverified_archive named held
 
--- what the table tells over archives of its paths, which are verified first where that is asked for
+-- the answer of the table over archives with its paths, which are verified first if that is wanted
 abbrev pub IsProvedAndTold : Wanted → Table → List (List ℕ) → Answer → Type 0
 IsProvedAndTold w t held answer = IsStaleOr (unproved_archive w.verify t.archives held) (IsTold t w.search held) answer
 
--- by its version, then by its paths, then by what the archives hold
+-- the answer of a table, which depends first on its version, then on its paths, then on the archives' bytes
 abbrev pub IsToldOf : Wanted → Table → List (List ℕ) → Answer → Type 0
 IsToldOf w t held answer = IsOldOr (is_too_old t w) (IsStaleOr (renamed_archive t.archives w.paths) (IsProvedAndTold w t held)) answer
 
--- a refusal of words, rcfile or query; else the first thing wrong with the index; else what its table answers
+-- a refusal of words, rcfile or query; otherwise the first fault of the index; otherwise the answer of its table
 abbrev pub IsStoredReply : Result Wanted Fault → List ℕ → List (List ℕ) → Answer → Type 0
 IsStoredReply (Err fault) index held answer = answer ≡ refused fault
 IsStoredReply (Ok w) index held answer =
     ((fault : IndexFault) × IsFirstFault index fault × (answer ≡ refused (Index fault)))
     ⊎ ((t : Table) × IsFileOf index t × IsToldOf w t held answer)
 
--- what a run answers of an answer's fault
+-- the fault of a run for a fault of an answer
 abbrev pub fault_of_answer_kind : AnswerFaultKind → Fault
 fault_of_answer_kind (kind.Stale n) = Stale n
 fault_of_answer_kind kind.Device = of.Device
 fault_of_answer_kind kind.OutOfMemory = of.Memory
 fault_of_answer_kind kind.OutFailed = of.Out
 
--- ---- what a run answered, against that
+-- ---- what a run returned, compared with that
 
--- The archives hold what they have to, or this one doesn't. A device or memory that fails tells neither.
+-- What was found is right: the archives have the bytes that they must have, or this one doesn't. If a device or memory
+-- failed, nothing was found.
 abbrev pub TellsProved : {T : Type 0} → Option ℕ → Result T Fault → Type 0
 TellsProved unproved (Ok _) = unproved ≡ None
 TellsProved unproved (Err (Stale n)) = unproved ≡ Some n
@@ -126,11 +131,13 @@ TellsProved unproved (Err of.Device) = ⊤
 TellsProved unproved (Err of.Memory) = ⊤
 TellsProved unproved (Err _) = ⊥
 
--- Unless a fault is told, what was read of the archives to verify them had the lengths and digests that were indexed.
+-- Without a fault, the bytes that were read of the archives to verify them had the lengths and digests that were
+-- indexed.
 abbrev pub WereVerified : List Archive → Bool → Option Fault → Type 0
 WereVerified named verify (Some fault) = ⊤
 WereVerified named verify None = OnTrue verify ((read : List (List ℕ)) × AreVerified named read)
 
+-- the reply for this many messages, or for a fault
 abbrev pub reply_of : Result ℕ Fault → Reply
 reply_of (Ok messages) = record { status = status_of_count messages; messages = messages; fault = None }
 reply_of (Err fault) = record { status = status_of_fault fault; messages = 0; fault = Some fault }
@@ -142,16 +149,17 @@ RepliesBy Is reply old new =
     ((answer : Answer) → Is answer → Sends old new answer.text)
     ((answer : Answer) × Is answer × (reply ≡ answer.reply) × Appends old new answer.text)
 
--- that is answered, unless memory is wanted
+-- the fault is this one, unless memory ran out
 abbrev pub IsThisOrMemory : Fault → Option Fault → Type 0
 IsThisOrMemory refusal fault = MatchBool (is_memory fault) ⊤ (fault ≡ Some refusal)
 
--- why nothing is indexed: words, rcfile or query are refused, else an archive is at fault; or memory is wanted
+-- why nothing is indexed: words, rcfile or query are refused, otherwise an archive is faulty; or memory ran out
 abbrev pub IsUnindexed : Result Wanted Fault → List (List ℕ) → Fault → Type 0
 IsUnindexed (Err refusal) bytes fault = IsThisOrMemory refusal (Some fault)
 IsUnindexed (Ok w) bytes fault = IsArchivesFault (mboxes w.paths bytes) fault
 
--- what is wrong with an index, where this is asked of it: it is no index file, else too old, else of other paths
+-- a refusal of an index for what is wanted: it isn't an index file, otherwise it is too old, otherwise it has other
+-- paths
 abbrev pub IsIndexRefusal : Wanted → List ℕ → Fault → Type 0
 IsIndexRefusal w index (Index f) = IsFirstFault index f
 IsIndexRefusal w index OldIndex = (t : Table) × IsFileOf index t × (is_too_old t w ≡ true)
@@ -159,22 +167,24 @@ IsIndexRefusal w index (Stale n) =
     (t : Table) × IsFileOf index t × (is_too_old t w ≡ false) × (renamed_archive t.archives w.paths ≡ Some n)
 IsIndexRefusal w index _ = ⊥
 
--- what a stored search is refused with before any archive is asked, whatever they hold
+-- a refusal of a stored search, which comes before any archive is read, whatever bytes the archives have
 abbrev pub IsRefusedAs : Result Wanted Fault → List ℕ → Fault → Type 0
 IsRefusedAs (Err refusal) index fault = fault ≡ refusal
 IsRefusedAs (Ok w) index fault = IsIndexRefusal w index fault
 
--- a fault of words, rcfile, query, index or its version is answered only where that is refused with it
+-- a fault of words, rcfile, query, index or its version comes only if that is refused with it
 abbrev pub IsForNoOtherCause : Result Wanted Fault → List ℕ → Fault → Type 0
 IsForNoOtherCause asked index fault = OnTrue (is_early (Some fault) || is_of_index (Some fault)) (IsRefusedAs asked index fault)
 
--- The number of messages that the table chooses is replied, and a text went out: the whole, where it is known.
+-- The reply is the number of the messages that the table chooses, and a text was sent: the known one, if there is a
+-- known one.
 abbrev pub IsCounted : Table → Search → Option (List (List ℕ)) → Reply → Option (List ℕ) → Option (List ℕ) → Type 0
 IsCounted t s held reply old new =
     (numbers : List ℕ) × AreChosen (mail_told t) s numbers
     × (reply ≡ record { status = status_of_count (length numbers); messages = length numbers; fault = None })
     × (text : List ℕ) × Tells (known_answer s.format t held numbers) text × Appends old new text
 
+-- without a fault, the reply and the text are right; with one, nothing is said
 abbrev pub IsCountedWhere : Table → Search → Option (List (List ℕ)) → Option Fault → Reply → Option (List ℕ) → Option (List ℕ) → Type 0
 IsCountedWhere t s held None reply old new = IsCounted t s held reply old new
 IsCountedWhere t s held (Some fault) reply old new = ⊤

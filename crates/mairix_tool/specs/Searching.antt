@@ -1,4 +1,5 @@
--- What a run does to archives and output, whether the archives' bytes are known or not: in which order it asks them, and what goes out.
+-- What a run does to archives and output, whether the archives' bytes are known or not: in which order it reads them,
+-- and what is sent.
 use Rattle.std.specs.Prelude.{◌≡◌, ◌≢◌, ◌⊎◌, ℕ, Bool, List, length, map, Option, None, Some, IfSome, Result, Ok, Err, is_err, false}
 use Rattle.std.specs.Bool.{MatchBool, OnTrue}
 use Rattle.contract_words.specs.Answers.{fault_as}
@@ -22,28 +23,28 @@ use Rattle.mairix_tool.specs.Asked.{Wanted}
 use Rattle.mairix_tool.specs.Runs.{fault_of_answer_kind, is_too_old, renamed_archive, reply_of}
 use Rattle.mairix_tool.specs.declared.reply.Reply.{Reply}
 
--- what a run returns where an answer, or what comes before it, returned this
+-- the result of a run if an answer, or what comes before it, returned this
 abbrev pub run_of_answer : {T : Type 0} → Result T AnswerFault → Result T Fault
 run_of_answer found = fault_as (λ fault. fault_of_answer_kind fault.kind) found
 
--- A table is searched, and the reply is that of an answer from it, `found`: the number of its messages; or its fault, with the
--- number of bytes that went out before.
+-- A table is searched, and the reply is that of an answer from it, `found`: the number of its messages; or its fault,
+-- with the number of bytes that were sent before.
 pub record Searches {A O : Type 0} (g : Ghosts A) (h : OutGhosts O) (t : Table) (s : Search) (old new : A) (before after : O) (reply : Reply) : Type 0 where
   pub found : Result ℕ AnswerFault
   pub replied : reply ≡ reply_of (run_of_answer found)
   pub keeps : HoldsArchives g old new
-  -- of another number of archives than was indexed none is asked, and the smaller number is stale
+  -- if the number of archives isn't the one that was indexed, none is read, and the smaller number is stale
   pub other_count : g.number old ≢ length t.archives → RefusesCount g t.archives old new found
-  -- Of as many, each is asked for its length before anything else, once and in order, up to the first that has another length, which
-  -- is stale, or that fails. A raw answer asks nothing more.
+  -- If it is, the length of each is read before anything else, once and in order, up to the first that has another
+  -- length, which is stale, or that fails. A raw answer reads nothing more.
   pub asked : g.number old ≡ length t.archives → SearchesArchives g t s old new found
-  -- the number of the messages that the table chooses, and their text; with a fault, the beginning of that text
+  -- the number of the messages that the table chooses, and their text; with a fault, a front of that text
   pub answered : (a : TableAnswer) → IsTableAnswer t s (g.held old) a → Answers (h.taken before) (h.taken after) a found
-  -- an mbox answer is, for each message, as many bytes as were indexed, each message closed; with a fault, the beginning of that
+  -- an mbox answer has, for each message, as many bytes as were indexed, closed; with a fault, a front of that
   pub spans : s.format ≡ Mbox → (numbers : List ℕ) → AreChosen (mail_told t) s numbers → SendsSpans (h.taken before) (h.taken after) t numbers found
   -- archives whose known bytes have another number or length are stale, before anything is written
   pub stale : IfSome (g.held old) (λ bytes. AnswersStale (h.taken before) (h.taken after) (stale_archive t.archives bytes) found)
-  -- with an archive's fault or want of memory, and no byte sent, the output is as it was
+  -- if an archive is faulty or memory ran out, and no byte was sent, the output is as it was
   pub unwritten : OnTrue (is_unwritten found) (after ≡ before)
 
 -- ---- by a stored index
@@ -51,22 +52,22 @@ pub record Searches {A O : Type 0} (g : Ghosts A) (h : OutGhosts O) (t : Table) 
 -- Archives are verified against those that were indexed.
 pub record Verifies {A : Type 0} (g : Ghosts A) (named : List Archive) (old new : A) (found : Result (Unit {0}) AnswerFault) : Type 0 where
   pub keeps : HoldsArchives g old new
-  -- of another number of archives than was indexed none is asked, and the smaller number is stale
+  -- if the number of archives isn't the one that was indexed, none is read, and the smaller number is stale
   pub other_count : g.number old ≢ length named → RefusesCount g named old new found
-  -- Of as many, the lengths are asked first, each once and in order. Then each archive is read, once and in order, up to the first that
-  -- isn't the one that was indexed.
+  -- If it is, the lengths are read first, each once and in order. Then each archive is read, once and in order, up to
+  -- the first that isn't the one that was indexed.
   pub read : g.number old ≡ length named → VerifiesArchives g named old new found
   -- what is known of their bytes decides, unless a device or memory fails
   pub known : IfSome (g.held old) (λ bytes. TellsVerified named bytes (kind_of found))
 
--- Where that is wanted, archives are verified. Else nothing is asked.
+-- If that is wanted, archives are verified. If not, none is read.
 abbrev pub VerifiesWhere : {A : Type 0} → Ghosts A → Bool → List Archive → A → A → Result (Unit {0}) Fault → Type 0
 VerifiesWhere g verify named old new result =
     MatchBool verify
     ((found : Result (Unit {0}) AnswerFault) × Verifies g named old new found × (result ≡ run_of_answer found))
     ((new ≡ old) × (is_err result ≡ false))
 
--- Verified archives are searched. With a fault, nothing more is asked and nothing goes out.
+-- Verified archives are searched. With a fault, nothing more is read and nothing is sent.
 abbrev pub SearchesVerified : {A O : Type 0} → Ghosts A → OutGhosts O → Table → Search → Result (Unit {0}) AnswerFault → A → A → O → O → Reply → Type 0
 SearchesVerified g h t s (Ok verified) old new before after reply = Searches g h t s old new before after reply
 SearchesVerified g h t s (Err fault) old new before after reply =
@@ -77,12 +78,12 @@ abbrev pub VerifiesAndSearches : {A O : Type 0} → Ghosts A → OutGhosts O →
 VerifiesAndSearches {A} g h t s old new before after reply =
     (read : A) × (found : Result (Unit {0}) AnswerFault) × Verifies g t.archives old read found × SearchesVerified g h t s found read new before after reply
 
--- What is wanted is looked for in a table; where it is wanted, the archives are verified before.
+-- A table is searched for what is wanted. If it is wanted, the archives are verified before.
 abbrev pub SearchesFor : {A O : Type 0} → Ghosts A → OutGhosts O → Wanted → Table → A → A → O → O → Reply → Type 0
 SearchesFor g h w t old new before after reply =
     MatchBool w.verify (VerifiesAndSearches g h t w.search old new before after reply) (Searches g h t w.search old new before after reply)
 
--- No archive is asked, and nothing goes out, for a fault of this kind.
+-- For a fault with this cause, no archive is read, and nothing is sent.
 pub record AsksNothing {A O : Type 0} (IsCause : Fault → Type 0) (old new : A) (before after : O) (reply : Reply) : Type 0 where
   pub fault : Fault
   pub cause : IsCause fault
@@ -90,7 +91,7 @@ pub record AsksNothing {A O : Type 0} (IsCause : Fault → Type 0) (old new : A)
   pub archives : new ≡ old
   pub out : after ≡ before
 
--- The table of an index of these paths that isn't too old is searched, unless memory is wanted before.
+-- The table of an index of these paths that isn't too old is searched, unless memory runs out before.
 abbrev pub SearchesStored : {A O : Type 0} → Ghosts A → OutGhosts O → Wanted → Table → A → A → O → O → Reply → Type 0
 SearchesStored g h w t old new before after reply =
     is_too_old t w ≡ false → renamed_archive t.archives w.paths ≡ None
@@ -98,7 +99,8 @@ SearchesStored g h w t old new before after reply =
 
 -- ---- by an index that the run makes itself
 
--- What was indexed has this table: it is well-formed, and where the bytes of the sources are known, it is the table of their archives.
+-- What was indexed has this table, which is well-formed. If the bytes of the sources are known, it is the table of
+-- their archives.
 pub record IsIndexed (paths : List (List ℕ)) (sources : List (Option (List ℕ))) (t : Table) : Type 0 where
   pub formed : IsWellFormed t
   pub known : (bytes : List (List ℕ)) → sources ≡ map Some bytes → t ≡ table (mboxes paths bytes)

@@ -1,4 +1,4 @@
--- The keys of a table, one by one.
+-- Which messages have a term, by the keys of a table.
 use Rattle.std.specs.Prelude.{ℕ, Bool, List}
 use Rattle.std.specs.List.{list_any}
 use Rattle.std.specs.Str.{bytes_eq}
@@ -6,6 +6,6 @@ use Rattle.mail_answer.specs.TableFacts.{texts_with}
 use Rattle.mail_index.specs.declared.kind.Kind.{Kind}
 use Rattle.mail_index.specs.Tables.{Key}
 
--- one of the keys is of this kind, has this text, and has the number among its own
+-- whether one of the keys has this kind and this text, and the number among its numbers
 abbrev pub has_number : Kind → List ℕ → ℕ → List Key → Bool
 has_number kind text n keys = list_any (bytes_eq text) (texts_with kind n keys)

@@ -1,4 +1,4 @@
-//! Laws of the definitions.
+//! Laws of runs, and of the tables that they search.
 ghost use Rattle.std.specs.Prelude.{◌≡◌, ◌<◌, ◌∷◌, ◌++◌, ℕ, false, List, None, Result, length, map, IfOk};
 ghost use Rattle.std.specs.List.{All};
 ghost use Rattle.mail_answer.specs.CutAgain.{IsCutInto, ends_in_return};
@@ -27,9 +27,9 @@ ghost use Rattle.run_faults.specs.declared.fault.Fault.{Fault};
 
 use mail_index::IndexView;
 
-/// An mbox answer is cut again into its messages: over the table of archives that hold them, and for whatever of its messages,
-/// of which none has CR as its last byte, the text is cut into one span for each in order, its own with the line feeds that
-/// close it.
+/// An mbox answer can be cut again into its messages. Take the table of archives, and any of their messages, none of
+/// which has CR as its last byte. Cutting the answer then gives one span for each message, in order: the message's own
+/// span, with the line feeds that close it.
 pub fn an_answer_is_cut_into_its_messages()
     ensures { (archives : List Mbox) (numbers : List ℕ)
         → All (λ n. n < length (table archives).messages) numbers
@@ -38,8 +38,8 @@ pub fn an_answer_is_cut_into_its_messages()
         (map closed (spans_at archives numbers)) }
 {}
 
-/// The table of archives has a message's number at a key exactly where the message has that term: a word of one of its texts of that
-/// kind, its own id, or an id that links it to others.
+/// The table of archives has a message's number at a key exactly if the message has that term: a word of one of its
+/// texts of that kind, its own id, or an id that links it to others.
 pub fn the_table_has_the_terms_of_the_messages()
     ensures { (archives : List Mbox) (before after : List Message) (message : Message) (kind : Kind)
         (term : List ℕ) → all_messages archives ≡ before ++ message ∷ after
@@ -47,35 +47,36 @@ pub fn the_table_has_the_terms_of_the_messages()
         ≡ has_term kind term (message_terms (text message)) }
 {}
 
-/// The table of archives links two messages exactly where they share a link id of their own.
+/// The table of archives links two messages exactly if they share a link id of their own.
 pub fn the_table_links_as_the_messages()
     ensures { (archives : List Mbox) (m n : ℕ) → are_linked (table archives) m n
         ≡ (mail_in archives).linked m n }
 {}
 
-/// What the table of archives chooses is what their messages choose, threads too.
+/// The messages that a search chooses from the table of archives are those that it chooses from the messages
+/// themselves, threads included.
 pub fn the_table_chooses_as_the_messages()
     ensures { (archives : List Mbox) (s : Search) (numbers : List ℕ)
         → AreChosen (mail_told (table archives)) s numbers
         → AreChosen (mail_in archives) s numbers }
 {}
 
-/// And it tells of them what they tell.
+/// The answer that the table of archives gives is the text that the messages themselves give.
 pub fn the_table_shows_the_messages()
     ensures { (archives : List Mbox) (format : Format) (numbers : List ℕ)
         → answer_text format (table archives) (map (λ a. a.bytes) archives) numbers
         ≡ shape archives format numbers }
 {}
 
-/// Every run over archives that it indexes itself has a reply, whatever is asked, indexed and held: so what is said of every
-/// reply of a run is never said of none.
+/// Every run over archives that it indexes itself has a reply, whatever is wanted, indexed and held. So a statement
+/// about every reply of a run is a statement about at least one.
 pub fn every_once_run_has_a_reply()
     ensures { (asked : Result Wanted Fault) (bytes held : List (List ℕ)) → (answer : Answer)
         × IsOnceReply asked bytes held answer }
 {}
 
-/// And so has every run over a stored index, whatever bytes that has: they are the file of a table, or there is a first rule of such
-/// files that they break. This one runs: reading the index tells which.
+/// Every run over a stored index has a reply, whatever bytes the index has: they are the file of a table, or they break
+/// a first rule of such files. This function runs: reading the index finds out which of the two is so.
 pub fn every_stored_run_has_a_reply(index: &[u8])
     ensures { (asked : Result Wanted Fault) (held : List (List ℕ)) → (answer : Answer)
         × IsStoredReply asked index.now held answer }
@@ -83,15 +84,15 @@ pub fn every_stored_run_has_a_reply(index: &[u8])
     let _read = IndexView::open(index);
 }
 
-/// Where a run searches what it indexed, that is the reply of the archives' own messages.
+/// If a run searches the same bytes that it indexed, its reply is that of the archives' own messages.
 pub fn a_table_replies_as_its_archives()
     ensures { (asked : Result Wanted Fault) (bytes : List (List ℕ)) (answer : Answer)
         → IfOk asked (λ w. length w.paths ≡ length bytes)
         → IsOnceReply asked bytes bytes answer → IsReply asked bytes answer }
 {}
 
-/// Where SHA-256 tells archives apart, none of them is altered exactly where they are those that were indexed: the same bytes under
-/// the same paths.
+/// If SHA-256 distinguishes the archives, none of them is altered exactly if they are those that were indexed: the same
+/// bytes under the same paths.
 pub fn unaltered_archives_are_those_indexed()
     ensures only { (before : List Mbox) (paths bytes : List (List ℕ))
         → AreToldApart (map (λ a. a.bytes) before ++ bytes)
@@ -100,8 +101,8 @@ pub fn unaltered_archives_are_those_indexed()
         → altered_archive (mboxes paths bytes) paths bytes ≡ None }
 {}
 
-/// What an index of version 1 has of sound archives is well-formed, as their own table is
-/// ([`index_job::the_table_of_sound_archives_is_well_formed`]); and so is that table with any other digests.
+/// The table that an index of version 1 has of sound archives is well-formed, as their own table is
+/// ([`index_job::the_table_of_sound_archives_is_well_formed`]). So is their own table with any other digests.
 pub fn other_tables_of_sound_archives_are_well_formed()
     ensures before { (archives : List Mbox) → All (λ a. IsPath a.path) archives → AreSound archives
         → IsWellFormed (old_table (table archives)) }

@@ -24,17 +24,18 @@ use mbox_cutter::{Out, Source};
 use run_faults::Fault;
 use std::alloc::Global;
 
-/// Indexes the archives from their sources in memory, and writes the messages that words and rcfile ask for: those whose own
-/// decoded text satisfies the query, or with `-t` all of their threads, in the order of archive and offset, each once.
+/// Indexes the archives from their sources in memory, and writes the messages that words and rcfile want: those whose
+/// own decoded text satisfies the query, or with `-t` all of their threads, in the order of archive and offset, each
+/// once.
 ///
-/// `words` are those after the program's name, `rc` is the rcfile's text, and ages and days without a year are reckoned from
-/// `now`. There are as many sources, and as many archives, as the rcfile has paths, whenever words and rcfile are accepted. The
-/// archives are asked once the sources are indexed.
+/// `words` are those after the program's name, `rc` is the rcfile's text, and ages and days without a year count from
+/// `now`. If words and rcfile are accepted, there are as many sources, and as many archives, as the rcfile has paths.
+/// The archives are read after the sources are indexed.
 ///
 /// # Errors
 ///
-/// The first refusal counts: of the words, the rcfile, the query, then of the first archive that is at fault, then `Stale` where
-/// the archives have another length than was indexed.
+/// The first refusal counts: of the words, the rcfile, the query, then of the first faulty archive, then `Stale` if the
+/// archives have other lengths than were indexed. A failed device or lack of memory ends the run where it happens.
 pub fn once_run<S: Source, A: Archives, O: Out>(
     alloc: Global,
     words: &[String],
@@ -51,52 +52,55 @@ pub fn once_run<S: Source, A: Archives, O: Out>(
     requires archives { A.failures archives.old < 2 ^ 64 - 1 }
     requires out { O.failures out.old < 2 ^ 64 - 1 }
 
-    // Where sources and archives hold the same known bytes: the whole reply and its text, by the messages themselves, or a
-    // fault of a device or of memory and a front of it.
+    // If sources and archives have the same known bytes: the whole reply and its text, by the messages themselves; or a
+    // fault of a device or of memory, and a front of the text.
     ensures reply { (bytes : List (List ℕ)) → map S.rest sources.old ≡ map Some bytes
         → A.held archives.old ≡ Some bytes
         → RepliesBy (IsReply (asks words.now rc.now now) bytes) result
         (O.taken out.old) (O.taken out.new) }
 
-    // Where the archives hold other bytes than were indexed: what the table of those says over these.
+    // If the archives have other bytes than were indexed: the answer of the table of the indexed bytes, over these.
     ensures changed { (bytes held : List (List ℕ)) → map S.rest sources.old ≡ map Some bytes
         → A.held archives.old ≡ Some held
         → RepliesBy (IsOnceReply (asks words.now rc.now now) bytes held) result
         (O.taken out.old) (O.taken out.new) }
 
-    // Where an archive's fault is answered, no archive before it has one.
+    // If the fault is one of an archive, no archive before it has one.
     ensures first { (bytes : List (List ℕ)) → map S.rest sources.old ≡ map Some bytes
         → AreSoundBefore (asks words.now rc.now now) bytes result.fault }
 
-    // Whatever the archives hold: the answer has the number of messages that the table of what was indexed chooses.
+    // Whatever bytes the archives have: the number of messages is that of the messages that the table of the indexed
+    // bytes chooses.
     ensures counted { (w : Asked) (bytes : List (List ℕ)) → asks words.now rc.now now ≡ Ok w
         → map S.rest sources.old ≡ map Some bytes
         → IsCountedWhere (table (mboxes w.paths bytes)) w.search (A.held archives.old)
         result.fault result (O.taken out.old) (O.taken out.new) }
 
-    // Whatever sources and archives hold: the archives' lengths are asked once they are indexed, before anything else, and a raw
-    // answer asks nothing more. The reply is what that finds. An mbox answer has the bytes of each message, each closed.
+    // Whatever bytes sources and archives have: after the sources are indexed, the archives' lengths are read, before
+    // anything else, and a raw answer reads nothing more. The reply is what that finds. An mbox answer has the bytes of
+    // each message, each closed.
     ensures searched { (w : Asked) → asks words.now rc.now now ≡ Ok w
         → IndexesAndSearches A.Archives O.Out w (map S.rest sources.old)
         archives.old archives.new out.old out.new result }
 
-    // No device is asked where words, rcfile or query are refused, also where memory was wanting before that was found.
+    // No device is used if words, rcfile or query are refused, or if memory ran out before that was found.
     ensures refused { OnTrue (is_early result.fault || is_err (asks words.now rc.now now))
         ((sources.new ≡ sources.old) × (archives.new ≡ archives.old) × (out.new ≡ out.old)) }
 
-    // Where the archives aren't indexed nothing is searched, and nothing has gone out. Nor has it where a raw answer finds them
+    // If the archives aren't indexed, nothing is searched, and nothing was sent. Nor was it if a raw answer finds them
     // changed or can't read them.
     ensures silent { OnTrue (is_of_indexing result.fault)
         ((archives.new ≡ archives.old) × (out.new ≡ out.old)) }
     ensures raw { IfOk (asks words.now rc.now now)
         (λ w. KeepsRawBack w.search result.fault out.old out.new) }
 
-    // A refusal of words, rcfile or query is answered whatever the devices hold. Each fault is one that such a run can have; it
-    // has its status and no messages. An answer has 0 with messages and 1 without.
+    // A refusal of words, rcfile or query is the result whatever the devices do, unless memory runs out. Each fault is
+    // one that such a run can have, and has its status and no messages. Without a fault the status is 0 with messages
+    // and 1 without.
     ensures no_other_cause { RefusesAsked (asks words.now rc.now now) result.fault }
     ensures status { IsConsistent IsOnceFault result result.fault }
 
-    // Each device's count rises by one exactly where its failure is answered.
+    // Each device's count rises by one exactly if the device's failure is the result.
     ensures source_failed { CountsSources result.fault
         (map S.failures sources.old) (map S.failures sources.new) }
     ensures archives_failed { Counted (is_failed_archives result.fault)
@@ -110,7 +114,7 @@ pub fn once_run<S: Source, A: Archives, O: Out>(
     }
 }
 
-/// Indexes the archives of which is asked in memory, and answers from that index, in as many messages as are counted.
+/// Indexes the wanted archives in memory, answers from that index, and returns the number of messages.
 fn answer_indexed<S: Source, A: Archives, O: Out>(
     alloc: Global,
     wanted: &Wanted,

@@ -1,15 +1,15 @@
-//! What a run answers beside the text that goes out.
+//! What a run returns, besides the text that it sends.
 
 use run_faults::{DONE, Fault, NO_MESSAGE};
 
-/// What a run answers beside the text that goes out.
+/// What a run returns, besides the text that it sends.
 #[derive(Clone, Copy)]
 pub struct Reply {
-    /// The exit status: 0 with messages, 1 without one, and above 1 with a fault (but Help and Version have 0).
+    /// The exit status: 0 with messages, 1 without any, and above 1 with a fault (except that Help and Version have 0).
     pub status: u8,
-    /// How many messages were answered, 0 with a fault.
+    /// The number of messages of the answer; 0 with a fault.
     pub messages: u64,
-    /// Why the answer isn't whole.
+    /// Why the answer isn't complete.
     pub fault: Option<Fault>,
 }
 
@@ -17,7 +17,7 @@ impl Reply {
     ghost use Rattle.std.specs.Prelude.{◌≡◌};
     ghost use Rattle.mairix_tool.specs.Runs.{reply_of};
 
-    /// So many messages, or a fault, with its status.
+    /// Returns the reply for this many messages, or for a fault, with its status.
     pub(crate) fn of(found: Result<u64, Fault>) -> Reply
         ensures { result ≡ reply_of found }
     {

@@ -28,22 +28,23 @@ use mbox_cutter::Out;
 use run_faults::Fault;
 use std::alloc::Global;
 
-/// The version of index files that have neither digests of archives nor names of parts.
+/// The version of index files that have neither digests of archives nor names of attachments.
 const FIRST_VERSION: u32 = 1;
 
-/// Searches the index file in these bytes, and writes the messages that words and rcfile ask for, in the order of the index,
-/// each once.
+/// Searches the index file in these bytes, and writes the messages that words and rcfile want, in the order of the
+/// index, each once.
 ///
-/// `words` are those after the program's name, `rc` is the rcfile's text, and ages and days without a year are reckoned from
-/// `now`. The archives are asked for their lengths, and for the messages that are written; with `--verify` they are first read
-/// through, and proved to hold the bytes that were indexed.
+/// `words` are those after the program's name, `rc` is the rcfile's text, and ages and days without a year count from
+/// `now`. Of the archives, their lengths are read, and the messages that are written. With `--verify` the archives are
+/// first read through, and proved to have the bytes that were indexed.
 ///
 /// # Errors
 ///
-/// The first refusal counts: of the words, the rcfile, the query, the index; then `OldIndex` where the query uses names of parts,
-/// or the archives are to be verified, and the index has neither names nor digests; then `Stale` where the index has another
-/// count of paths than the rcfile, then where it has another path, then where the archives have another count or length than was
-/// indexed, then with `--verify`, before anything is written, where an archive has another digest.
+/// The first refusal counts: of the words, the rcfile, the query, the index; then `OldIndex` if the query uses names of
+/// attachments, or the archives are to be verified, and the index has neither names nor digests; then `Stale` if the
+/// index has another number of paths than the rcfile, then if it has another path, then if the archives have another
+/// number or length than was indexed. With `--verify`, `Stale` also if an archive has another digest, before anything
+/// is written. A failed device or lack of memory ends the run where it happens.
 pub fn search_run<A: Archives, O: Out>(
     alloc: Global,
     words: &[String],
@@ -56,21 +57,21 @@ pub fn search_run<A: Archives, O: Out>(
     requires archives { A.failures archives.old < 2 ^ 64 - 1 }
     requires out { O.failures out.old < 2 ^ 64 - 1 }
 
-    // Where the archives' bytes are known: the whole reply and its text, by the index's table, or a fault of a device or of
-    // memory and a front of it.
+    // If the archives' bytes are known: the whole reply and its text, by the index's table; or a fault of a device or
+    // of memory, and a front of the text.
     ensures reply { (held : List (List ℕ)) → A.held archives.old ≡ Some held
         → RepliesBy (IsStoredReply (asks words.now rc.now now) index.now held) result
         (O.taken out.old) (O.taken out.new) }
 
-    // Where the archives are sound, under the rcfile's paths, and the index is theirs, or says the same of them: the reply is that
-    // of their own messages.
+    // If the archives are sound, under the rcfile's paths, and the index is theirs, or says the same of them: the reply
+    // is that of their own messages.
     ensures indexed { (w : Asked) (bytes : List (List ℕ)) → asks words.now rc.now now ≡ Ok w
         → length w.paths ≡ length bytes → AreSound (mboxes w.paths bytes)
         → ServesFor w (table (mboxes w.paths bytes)) index.now → A.held archives.old ≡ Some bytes
         → RepliesBy (IsReply (Ok w) bytes) result (O.taken out.old) (O.taken out.new) }
 
-    // With `--verify`, where it is the index of whatever sound archives, and SHA-256 tells these from those that there are now:
-    // unless one of them is told to have been altered, the answer is by their own messages.
+    // With `--verify`, if the index is that of any sound archives, and SHA-256 distinguishes these from those that
+    // there are now: the answer is by the archives' own messages, unless one of them is reported as altered.
     ensures verified { (w : Asked) (before : List Mbox) (bytes : List (List ℕ))
         → asks words.now rc.now now ≡ Ok w → w.verify ≡ true
         → All (λ a. IsPath a.path) before → AreSound before → index.now ≡ index_file (table before)
@@ -78,8 +79,8 @@ pub fn search_run<A: Archives, O: Out>(
         → RepliesBy (IsStaleOr (altered_archive before w.paths bytes) (IsReply (Ok w) bytes)) result
         (O.taken out.old) (O.taken out.new) }
 
-    // Whatever the archives hold: an answer has the number of messages that the table chooses, and with `--verify` it is given
-    // only where what was read of them had the lengths and the SHA-256 that were indexed.
+    // Whatever bytes the archives have: an answer has the number of messages that the table chooses. With `--verify`
+    // there is one only if the bytes that were read had the lengths and the SHA-256 that were indexed.
     ensures counted { (w : Asked) (t : Table) → asks words.now rc.now now ≡ Ok w
         → IsFileOf index.now t
         → IsCountedWhere t w.search (A.held archives.old) result.fault result
@@ -87,26 +88,29 @@ pub fn search_run<A: Archives, O: Out>(
     ensures read { (w : Asked) (t : Table) → asks words.now rc.now now ≡ Ok w
         → IsFileOf index.now t → WereVerified t.archives w.verify result.fault }
 
-    // Whatever the archives hold: with `--verify` they are verified first. Then their lengths are asked before anything else, and a
-    // raw answer asks nothing more. The reply is what that finds. An mbox answer has the bytes of each message, each closed.
+    // Whatever bytes the archives have: with `--verify` they are verified first. Then their lengths are read before
+    // anything else, and a raw answer reads nothing more. The reply is what that finds. An mbox answer has the bytes of
+    // each message, each closed.
     ensures searched { (w : Asked) (t : Table) → asks words.now rc.now now ≡ Ok w
         → IsFileOf index.now t
         → SearchesStored A.Archives O.Out w t archives.old archives.new out.old out.new result }
 
-    // Whatever the archives hold: a refusal of words, rcfile, query, index, its version or paths is answered, before any archive
-    // is asked. Nothing has gone out either where a raw answer finds the archives changed or can't read them.
+    // Whatever bytes the archives have: if words, rcfile, query, index, its version or its paths are refused, the fault
+    // is that refusal, unless memory runs out; and no archive is read. Nor was anything sent if a raw answer finds the
+    // archives changed or can't read them.
     ensures refused { (fault : Fault) → IsRefusedAs (asks words.now rc.now now) index.now fault
         → IsThisOrMemory fault result.fault × (archives.new ≡ archives.old) × (out.new ≡ out.old) }
     ensures raw { IfOk (asks words.now rc.now now)
         (λ w. KeepsRawBack w.search result.fault out.old out.new) }
 
-    // A fault of words, rcfile, query, index or its version is answered only where that is refused with it. Each fault is one that
-    // a search can have; it has its status and no messages. An answer has 0 with messages and 1 without.
+    // A fault of words, rcfile, query, index or its version comes only if that is refused with it. Each fault is one
+    // that a search can have, and has its status and no messages. Without a fault the status is 0 with messages and 1
+    // without.
     ensures no_other_cause { IfSome result.fault
         (IsForNoOtherCause (asks words.now rc.now now) index.now) }
     ensures status { IsConsistent IsSearchFault result result.fault }
 
-    // Each device's count rises by one exactly where its failure is answered.
+    // Each device's count rises by one exactly if the device's failure is the result.
     ensures archives_failed { Counted (is_failed_archives result.fault)
         (A.failures archives.old) (A.failures archives.new) }
     ensures out_failed { Counted (is_failed_out result.fault)
@@ -118,7 +122,7 @@ pub fn search_run<A: Archives, O: Out>(
     }
 }
 
-/// Opens the index, which has to be one for what is asked, and answers from it, in as many messages as are counted.
+/// Opens the index, which must fit what is wanted, answers from it, and returns the number of messages.
 fn answer_stored<A: Archives, O: Out>(
     alloc: Global,
     index: &[u8],
@@ -154,7 +158,7 @@ fn answer_stored<A: Archives, O: Out>(
     answer_opened(alloc, &view, wanted, archives, out)
 }
 
-/// What the index answers, in as many messages as are counted; with `--verify` once its archives are proved.
+/// Answers from the index, and returns the number of messages. With `--verify` the archives are proved first.
 fn answer_opened<A: Archives, O: Out>(
     alloc: Global,
     view: &IndexView<'_>,
@@ -181,7 +185,7 @@ fn answer_opened<A: Archives, O: Out>(
     answer_view(alloc, view, wanted, archives, out)
 }
 
-/// Proves with `--verify` that the archives hold the bytes that were indexed. Nothing is written.
+/// With `--verify`, proves that the archives have the bytes that were indexed. Writes nothing.
 fn prove_archives<A: Archives>(
     alloc: Global,
     view: &IndexView<'_>,
@@ -207,7 +211,8 @@ fn prove_archives<A: Archives>(
     verify(alloc, view, archives).map_err(fault_of_answer)
 }
 
-/// Opens the index, which has to have what is asked of it, and to be one of the wanted paths. Takes no memory.
+/// Opens the index. Fails if its bytes aren't an index file, if it lacks what is wanted of it, or if its paths aren't
+/// the wanted ones. Takes no memory.
 fn open_for<'a>(index: &'a [u8], wanted: &Wanted) -> Result<IndexView<'a>, Fault>
     ensures table { IfOk result (λ view. IsFileOf index.entry.now view) }
     ensures fresh { IfOk result (λ view. is_too_old view (wanted_of wanted.now) ≡ false) }
@@ -227,14 +232,15 @@ fn open_for<'a>(index: &'a [u8], wanted: &Wanted) -> Result<IndexView<'a>, Fault
     }
 }
 
-/// Whether digests of archives or names of parts are asked for, and the index has neither. Takes no memory.
+/// Whether digests of archives or names of attachments are wanted, and the index has neither. Takes no memory.
 fn is_too_old(index: &IndexView<'_>, wanted: &Wanted) -> bool
     ensures { result ≡ is_too_old index.now (wanted_of wanted.now) }
 {
     index.version() == FIRST_VERSION && (wanted.verify || wanted.query.uses_names())
 }
 
-/// The first archive whose path isn't the one that was indexed; of another count the smaller one. Takes no memory.
+/// Returns the first archive whose path isn't the one that was indexed; if their numbers differ, the smaller number.
+/// Takes no memory.
 fn renamed(index: &IndexView<'_>, paths: &[String]) -> Option<u64>
     ensures { result ≡ renamed_archive index.now.archives (map string_bytes paths.now) }
 {

@@ -1,4 +1,4 @@
-//! What an index answers to what is asked.
+//! Answers from an index.
 ghost use Rattle.std.specs.Prelude.{◌≡◌, ◌<◌, ◌^◌, ◌-◌, ℕ, List, Some};
 ghost use Rattle.mairix_tool.specs.Asked.{wanted as wanted_of};
 ghost use Rattle.mairix_tool.specs.Inside.Answering.{AsksIndex};
@@ -12,7 +12,7 @@ use mbox_cutter::Out;
 use run_faults::Fault;
 use std::alloc::Global;
 
-/// What the index answers, in as many messages as are counted.
+/// Writes what the index answers to what is wanted, and returns the number of messages.
 pub(crate) fn answer_view<A: Archives, O: Out>(
     alloc: Global,
     index: &IndexView<'_>,
@@ -45,7 +45,7 @@ pub(crate) fn answer_view<A: Archives, O: Out>(
     .map_err(fault_of_answer)
 }
 
-/// What a run answers of an answer's fault.
+/// Returns the fault of a run for a fault of an answer.
 pub(crate) fn fault_of_answer(fault: AnswerFault) -> Fault
     ensures { result ≡ fault_of_answer_kind fault.kind }
 {

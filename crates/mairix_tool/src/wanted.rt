@@ -1,4 +1,4 @@
-//! What words and rcfile ask for.
+//! What the words and the rcfile of a run mean.
 ghost use Rattle.std.specs.Prelude.{◌≡◌, map, IfErr};
 ghost use Rattle.std.specs.String.{string_bytes};
 ghost use Rattle.contract_words.specs.Answers.{Gives};
@@ -14,8 +14,8 @@ use mairix_options::{MailFormat, Plan, Texts, answer_format, plan_of, read_rc};
 use run_faults::Fault;
 use std::alloc::Global;
 
-/// What words and rcfile ask for: of which archives, what a message has to satisfy, and whether the archives are proved to be
-/// those that were indexed.
+/// What a run is to do: the paths of its archives, what a message has to satisfy, the form of the answer, and whether
+/// the archives are to be proved to be those that were indexed.
 #[derive(Drop)]
 pub(crate) struct Wanted {
     pub(crate) paths: Texts,
@@ -28,8 +28,8 @@ pub(crate) struct Wanted {
 impl Wanted {
     ghost use Rattle.mairix_tool.specs.Asked.{asked, asked_by, wanted};
 
-    /// The first refusal is that of the words, then of the rcfile, then of the query. Ages and days without a year in the
-    /// query are reckoned from `now`.
+    /// Reads the words, then the rcfile, then the query, and fails with the first refusal, or if memory runs out. Ages,
+    /// and days without a year, count from `now`.
     pub(crate) fn of(
         alloc: Global,
         words: &[String],
@@ -44,6 +44,7 @@ impl Wanted {
         Wanted::of_plan(alloc, &plan, rc, now)
     }
 
+    /// Does the same for words that are read already.
     fn of_plan(alloc: Global, plan: &Plan, rc: &[u8], now: Moment) -> Result<Wanted, Fault>
         ensures asked { Gives wanted refusal_of result (asked_by plan.now rc.now now) }
         ensures early { IfErr result IsEarly }
@@ -61,8 +62,8 @@ impl Wanted {
     }
 }
 
-/// The query of these patterns: of mairix's own language, or of the boolean one, in which they are one text, joined by single
-/// spaces.
+/// Reads the query of these patterns: in mairix's own language, or in the boolean one, where they are one text, joined
+/// by single spaces. Fails with the query's first fault, or if memory runs out.
 fn read_query(
     alloc: Global,
     patterns: &[String],
@@ -80,7 +81,7 @@ fn read_query(
     }
 }
 
-/// The form in which an answer is written.
+/// The form of an answer, as the writer of answers names it.
 fn format_of_mail(format: MailFormat) -> Format
     ensures { result ≡ format_of_mail format }
 {

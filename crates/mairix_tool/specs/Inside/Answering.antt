@@ -1,4 +1,4 @@
--- What asking an index does to the archives and to the output.
+-- What answering from an index does to the archives and to the output.
 use Rattle.std.specs.Prelude.{IfErr, Result}
 use Rattle.contract_words.specs.Devices.{Counted}
 use Rattle.mbox_cutter.specs.declared.device.Out.{Ghosts as OutGhosts}
@@ -8,11 +8,11 @@ use Rattle.mairix_tool.specs.Replies.{KeepsRawBack}
 use Rattle.run_faults.specs.Faults.{fault_in, is_failed_archives, is_failed_out, IsOfAnswer}
 use Rattle.run_faults.specs.declared.fault.Fault.{Fault}
 
--- an index was asked, over archives and into an output
+-- an index was searched, over archives and into an output
 pub record AsksIndex {A O T : Type 0} (g : Ghosts A) (h : OutGhosts O) (search : Search) (old new : A) (before after : O) (result : Result T Fault) : Type 0 where
-  -- only a fault of an answer is told
+  -- only a fault of an answer is returned
   pub own : IfErr result IsOfAnswer
   pub raw : KeepsRawBack search (fault_in result) before after
-  -- each device's count rises by one exactly where its failure is told
+  -- each device's count rises by one exactly if the device's failure is the result
   pub archives_failed : Counted (is_failed_archives (fault_in result)) (g.failures old) (g.failures new)
   pub out_failed : Counted (is_failed_out (fault_in result)) (h.failures before) (h.failures after)
