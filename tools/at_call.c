@@ -1,14 +1,16 @@
 /* Preloaded into the program, counts its calls on files and of the clock, and at one of them does what it is told:
 
-   COUNTED    the names of the calls that count, a space behind each: open, create, statx, realpath, flock, read, read_at, write, print,
-              fchmod, fsync, unlink, rename, clock. A print is a write to standard output; one to standard error never counts.
+   COUNTED    the names of the calls that count, a space behind each: open, update, create, statx, realpath, flock, read, read_at, write,
+              print, tell, fchmod, fsync, unlink, rename, clock. An update opens a file for writing that is there, a print is a write to
+              standard output, and a tell one to standard error.
    AT         the number of the call, counted from 1, or its name; `each` is every call, and a number with a dash behind it that
               call and all later ones
    HOW        `stop` stops the process before the call until it is told to go on; `kill`, `terminate` and `interrupt` send it
-              SIGKILL, SIGTERM or SIGINT before the call; `fail` lets the call fail with EIO, and `full` with ENOSPC; `short` lets a
-              read or a write move one byte alone, and `none` a write none at all; `append`, `cut`, `rewrite`, `exchange`, `remove`
+              SIGKILL, SIGTERM or SIGINT before the call; `fail` lets the call fail with EIO, `full` with ENOSPC, and `break` with EINTR,
+              as where a signal interrupts it; `short` lets a read or a write move one byte alone, and `none` a write none at all; `append`, `cut`, `rewrite`, `exchange`, `remove`
               and `touch` change the file CHANGED before the call: by WITH behind its end, to the length of WITH, by WITH over its
-              front, by giving WITH its name, by taking its name away, or in its times alone
+              front, by giving WITH its name, by taking its name away, or in its times alone; by `early` the clock shows a second
+              before 1970, and by `late` one after the year 9999
    WITHIN     where a read meets such a change: how many bytes it takes before it, and the others behind it
    AGAIN      the number of another call at which it does so
    CALLS_LOG  a file to which each call's name, and the last name of its path, are appended as a line before it */
@@ -150,7 +152,7 @@ static int is_torn(const char *done, size_t count)
 /* Whether what is done with a call lets it fail. */
 static int fails(const char *done)
 {
-    int error = !strcmp(done, "fail") ? EIO : !strcmp(done, "full") ? ENOSPC : 0;
+    int error = !strcmp(done, "fail") ? EIO : !strcmp(done, "full") ? ENOSPC : !strcmp(done, "break") ? EINTR : 0;
     if (error)
         errno = error;
     return error;
@@ -169,6 +171,8 @@ static const char *path_of(int fd)
     char link[64];
     if (fd == 1)
         return "output";
+    if (fd == 2)
+        return "errors";
     snprintf(link, sizeof link, "/proc/self/fd/%d", fd);
     long length = syscall(SYS_readlinkat, AT_FDCWD, link, path, sizeof path - 1);
     path[length > 0 ? length : 0] = 0;
@@ -184,7 +188,8 @@ static const char *path_of(int fd)
         va_start(rest, flags);                                                                                                   \
         mode_t mode = flags & O_CREAT ? va_arg(rest, mode_t) : 0;                                                                \
         va_end(rest);                                                                                                            \
-        return fails(met(flags & O_CREAT ? "create" : "open", path)) ? -1 : REAL(name)(path, flags, mode);                       \
+        const char *kind = flags & O_CREAT ? "create" : flags & O_ACCMODE ? "update" : "open";                                   \
+        return fails(met(kind, path)) ? -1 : REAL(name)(path, flags, mode);                                                      \
     }
 
 OPENING(open)
@@ -235,7 +240,7 @@ READING_AT(pread64, off64_t)
 
 ssize_t write(int fd, const void *bytes, size_t count)
 {
-    const char *done = fd == 2 ? "" : met(fd == 1 ? "print" : "write", path_of(fd));
+    const char *done = met(fd == 1 ? "print" : fd == 2 ? "tell" : "write", path_of(fd));
     if (!strcmp(done, "none"))
         return 0;
     return fails(done) ? -1 : REAL(write)(fd, bytes, moved(done, count));
@@ -263,5 +268,12 @@ int rename(const char *old, const char *new)
 
 int clock_gettime(clockid_t clock, struct timespec *now)
 {
-    return fails(met("clock", "")) ? -1 : REAL(clock_gettime)(clock, now);
+    const char *done = met("clock", "");
+    if (fails(done) || REAL(clock_gettime)(clock, now))
+        return -1;
+    if (!strcmp(done, "early"))
+        now->tv_sec = -1;
+    if (!strcmp(done, "late"))
+        now->tv_sec = 253402300800;
+    return 0;
 }

@@ -5,11 +5,11 @@
 
 The last line is `N passed, M failed`.
 """
-import hashlib, os, stat, subprocess, sys, tempfile, time
+import hashlib, os, resource, stat, subprocess, sys, tempfile, time
 
 import overlapping_runs
 from overlapping_runs import HELLO, SEPARATOR, hello_index, shim
-from program_cases import CASES, CHANGED, HELLO_INDEX, INDEX, LEFT, LINK, ONCE, RAW, RC, STORED, TWO, fault
+from program_cases import CASES, CHANGED, HELLO_INDEX, INDEX, LEFT, LINK, ONCE, OWN, RAW, RC, STORED, TWO, fault
 
 
 def write(folder, files):
@@ -22,8 +22,8 @@ def write(folder, files):
         else:
             with open(path, "wb") as f:
                 f.write(body)
-            if isinstance(body, LEFT):
-                os.chmod(path, 0o600)
+            if isinstance(body, (LEFT, OWN)):
+                os.chmod(path, 0o1600 if isinstance(body, LEFT) else 0o600)
 
 
 def same(want, got):
@@ -33,6 +33,12 @@ def same(want, got):
 def mode(path):
     """Who may do what with a file, and not with what a link leads to."""
     return stat.S_IMODE(os.lstat(path).st_mode)
+
+
+def left_out(what):
+    """Says aloud what isn't tried here. Nothing is wrong with it."""
+    print("left out: " + what, flush=True)
+    return []
 
 
 def run(program, words, folder, **to):
@@ -105,7 +111,7 @@ def killed_run(program):
         left = sorted(os.listdir(folder))
         with open(index, "rb") as f:
             bad = [] if left == ["m.idx", "m.idx.new", "m.mbox", "rc"] and f.read() == b"old" else ["it left %s" % left]
-        if mode(new) != 0o600:
+        if mode(new) != 0o1600:
             bad.append("its own file has mode %o" % mode(new))
         os.remove(archive)
         write(folder, {"m.mbox": HELLO})
@@ -142,7 +148,7 @@ def file_of_another(program):
     """An old file of another owner doesn't say who may read the new one, nor does the group of one of another group. Only root can try that."""
     bad = []
     if os.geteuid() != 0:
-        return bad
+        return left_out("old files of other owners: only root can make some")
     another = 65534
     for owner, group, old, want in ((another, -1, 0o666, 0o600), (-1, another, 0o640, 0o600), (-1, another, 0o664, 0o604)):
         for name, words, _ in MADE:
@@ -177,10 +183,11 @@ def name_of_a_pipe(program):
 
 
 def foreign_leftovers(program):
-    """A file under the passing name that begins as a run's, but of another mode or owner, stays, and the run is refused."""
+    """A file under the passing name that holds what a run makes, but has another mode or owner, stays, and the run is refused."""
     bad = []
-    another = [(0o600, 65534)] if os.geteuid() == 0 else []
-    for mode_left, owner in [(0o400, -1), (0o640, -1), (0o644, -1), (0o700, -1), (0o4600, -1), *another]:
+    another = [(0o1600, 65534)] if os.geteuid() == 0 else left_out("a leftover of another owner: only root can make one")
+    modes = (0o600, 0o1400, 0o1601, 0o1620, 0o1640, 0o1644, 0o1700, 0o3600, 0o4600, 0o5600)
+    for mode_left, owner in [*((it, -1) for it in modes), *another]:
         for name, words, whole in MADE:
             with tempfile.TemporaryDirectory() as folder:
                 write(folder, {"rc": RC, "m.mbox": HELLO, name: b"old", name + ".new": whole})
@@ -193,18 +200,6 @@ def foreign_leftovers(program):
                 if (p.returncode, p.stderr) != (4, fault(b"cannot open %s.new" % name.encode())) or not kept:
                     bad.append("%s, mode %o of %d: status %d, %r" % (name, mode_left, owner, p.returncode, p.stderr))
     return bad
-
-
-def link_to_a_file(program):
-    """A link to what standard output is, where that is a file, keeps its name, as /dev/stdout does."""
-    with tempfile.TemporaryDirectory() as folder:
-        write(folder, {"rc": RC, "m.mbox": HELLO, "l": LINK(["/proc/self/fd/1"])})
-        before = contents(folder)
-        with tempfile.TemporaryFile() as out:
-            p = run(program, ONCE + ["-o", "l", "s:hello"], folder, stdout=out, stderr=subprocess.PIPE)
-            printed = os.fstat(out.fileno()).st_size
-        good = (p.returncode, p.stderr, printed, contents(folder)) == (4, fault(b"cannot open l"), 0, before)
-        return [] if good else ["status %d, %r" % (p.returncode, p.stderr)]
 
 
 def large_no_index(program):
@@ -234,13 +229,11 @@ def large_no_index(program):
 LIMITS = {
     "ulimit -n 5": (INDEX, INDEX + ["s:hello"], INDEX + ["--verify", "s:hello"], ONCE + ["s:hello"], ONCE + ["-x", "s:hello"], STORED + ["-t", "s:hello"]),
     "ulimit -n 4": (STORED + ["s:hello"], INDEX + ["-x", "s:hello"], INDEX + ["--verify", "--stdout", "s:hello"], RAW + ["-t", "s:hello"]),
-    "ulimit -s 64": (INDEX, STORED + ["s:hello"], INDEX + ["s:hello"], INDEX + ["--verify", "-x", "s:hello"], ONCE + ["-t", "--boolean", "subject:hel* or (hi and not x)"], ["-h"], ["-z"]),
 }
 
 
 def low_limits(program):
-    """Five descriptors are enough for any run and four for any that makes no file, also where a killed one left its file, and so is a stack
-    of 64 kB."""
+    """Five descriptors are enough for any run and four for any that makes no file, also where a killed one left its file."""
     bad = []
     for limit, runs in LIMITS.items():
         for words in runs:
@@ -260,17 +253,79 @@ def low_limits(program):
     return bad
 
 
-def second_name(program):
-    """A second name (a hard link) of the archive as the answer is replaced, and the archive isn't touched; as the index it is mail."""
+SMALL_STACK = (INDEX, STORED + ["s:hello"], INDEX + ["s:hello"], INDEX + ["--verify", "-x", "s:hello"], ONCE + ["-t", "--boolean", "subject:hel* or (hi and not x)"], ["-h"], ["-z"])
+
+
+def small_stacks(program):
+    """A stack of 64 kB is enough for any run, with as much more as its arguments and environment take: each of them its bytes, and nine
+    more."""
     bad = []
-    for name, words, status, left in (("m.idx", INDEX, 4, HELLO), ("hits", ONCE + ["s:hello"], 0, HELLO)):
+    for count in (0, 2, 10):
+        environment = {"X%d" % n: "x" * 10_000 for n in range(count)}
+        for words in SMALL_STACK:
+            taken = sum(len(it) + 9 for it in [program, *words]) + count * (10_000 + 4 + 8)
+            with tempfile.TemporaryDirectory() as folder:
+                write(folder, {"rc": TWO, "m.mbox": HELLO, "n": HELLO * 3000})
+                run(program, INDEX, folder)
+                want = run(program, words, folder, capture_output=True)
+                write(folder, {"m.idx.new": LEFT(b"left"), "hits.new": LEFT(b"left")})
+                size = (64 << 10) + taken
+                small = lambda: resource.setrlimit(resource.RLIMIT_STACK, (size, resource.getrlimit(resource.RLIMIT_STACK)[1]))
+                got = run(program, words, folder, capture_output=True, env=environment, preexec_fn=small)
+                if (got.returncode, got.stdout, got.stderr) != (want.returncode, want.stdout, want.stderr):
+                    bad.append("%s and %d words more: status %d, %r" % (words, count, got.returncode, got.stderr))
+    return bad
+
+
+def memory(program):
+    """A search needs no more memory than the index, 3,500 kB, 400 bytes for each archive (750 with --once) and four times its path, and 5,500
+    bytes for each word of the query."""
+    bad = []
+    count = 20_000
+    for name in ("m", "m" * 100):
+        with tempfile.TemporaryDirectory() as folder:
+            write(folder, {"rc": b"mbox=%s\ndatabase=d\nmfolder=h\n" % b":".join([name.encode()] * count), name: b""})
+            run(program, INDEX, folder)
+            index = os.path.getsize(os.path.join(folder, "d"))
+            for words, each in ((STORED, 400), (INDEX, 400), (RAW, 750)):
+                most = 3_500_000 + index + count * (each + 4 * len(name))
+                p = limited(program, "ulimit -v %d" % (most >> 10), words + ["s:hello"], folder)
+                if (p.returncode, p.stderr) != (1, b""):
+                    bad.append("%d archives, %s: status %d, %r" % (count, words, p.returncode, p.stderr))
+    with tempfile.TemporaryDirectory() as folder:
+        write(folder, {"rc": RC, "m.mbox": HELLO, "m.idx": HELLO_INDEX})
+        for count, word in ((1, "hello"), (3_000, "hello"), (3_000, "s:hello"), (1_000, "a,~b/c=")):
+            most = 3_500_000 + len(HELLO_INDEX) + 5_500 * count * (3 if "," in word else 1)
+            p = limited(program, "ulimit -v %d" % (most >> 10), STORED + [word] * count, folder)
+            if (p.returncode, p.stderr) != (int("," in word), b""):
+                bad.append("%d times %s: status %d, %r" % (count, word, p.returncode, p.stderr))
+    return bad
+
+
+def long_command_lines(program):
+    """A command line and an environment as long as the system takes them under a stack of 8 MB: the run answers as it does without them."""
+    # So many bytes the system takes, with a place for each word; and so many in one word.
+    most, most_in_one = 2 << 20, 128 << 10
+    environment = {"X%02d" % n: "x" * (most_in_one - 5) for n in range(14)}
+    long, found = "x" * (most_in_one - 1), (0, b"0 58 m.mbox\n", b"")
+    runs = [
+        (RAW + ["s:hello"], {**environment, "Y": long[2:], "Z": long[6000:]}, found),
+        (RAW + ["s:hello"] * (most // 17), {}, found),
+        (RAW + ["a"] * (most // 11), {}, (1, b"", b"")),
+        (RAW + ["s:hello" + "/hello" * (most_in_one // 6 - 2)] * 15, {}, found),
+        (RAW + ["--boolean", "subject:hello"] + ["and subject:hello"] * (most // 27), {}, found),
+        (["-z"] * (most // 12), {}, (2, b"", ...)),
+        (ONCE + ["-o", long, "s:hello"], environment, (4, b"", fault(b"cannot open %s.new" % long.encode()))),
+        (["-f", long, *[long] * 14], {}, (4, b"", fault(b"cannot open " + long.encode()))),
+    ]
+    bad = []
+    for words, told, want in runs:
         with tempfile.TemporaryDirectory() as folder:
             write(folder, {"rc": RC, "m.mbox": HELLO})
-            archive, made = os.path.join(folder, "m.mbox"), os.path.join(folder, name)
-            os.link(archive, made)
-            p = run(program, words, folder, capture_output=True)
-            if p.returncode != status or contents(folder) != {"rc": RC, "m.mbox": HELLO, name: left} or os.path.samefile(archive, made) != (status == 4):
-                bad.append("%s: status %d, %r" % (name, p.returncode, p.stderr))
+            eight = lambda: resource.setrlimit(resource.RLIMIT_STACK, (8 << 20, resource.getrlimit(resource.RLIMIT_STACK)[1]))
+            p = run(program, words, folder, capture_output=True, env=told, preexec_fn=eight)
+            if not all(map(same, want, (p.returncode, p.stdout, p.stderr))):
+                bad.append("%d words, %s: status %d, %r, %r" % (len(words), words[-1][:20], p.returncode, p.stdout[:80], p.stderr[:80]))
     return bad
 
 
@@ -404,7 +459,7 @@ def full_disk(program):
 def unreadable(program):
     """An archive that may not be read; root may read anything."""
     if os.geteuid() == 0:
-        return []
+        return left_out("an archive that may not be read: root may read anything")
     with tempfile.TemporaryDirectory() as folder:
         write(folder, {"rc": RC, "m.mbox": HELLO})
         os.chmod(os.path.join(folder, "m.mbox"), 0)
@@ -448,12 +503,12 @@ def clock(program):
 
 
 def failing_clock(program):
-    """A range of days that ends now ends at second 0 where the clock fails."""
+    """A range of days that ends now ends at second 0 where the clock fails, or shows a time before 1970 or after 9999."""
     bad = []
     with tempfile.TemporaryDirectory() as folder:
         write(folder, {"rc": RC, "m.mbox": SEPARATOR + b"Date: 31 Dec 1969 23:59:59 +0000\n\nx\n\n"})
         clock = dict(os.environ, LD_PRELOAD=shim(folder, "at_call"), COUNTED="clock ", AT="each")
-        for how, days, status in (("fail", "d:10d-", 0), ("fail", "d:1970", 1), ("none", "d:10d-", 1)):
+        for how, days, status in (("fail", "d:10d-", 0), ("fail", "d:1970", 1), ("early", "d:10d-", 0), ("late", "d:10d-", 0), ("none", "d:10d-", 1)):
             p = run(program, RAW + [days], folder, capture_output=True, env=dict(clock, HOW=how))
             if p.returncode != status or p.stderr:
                 bad.append("%s, %s: status %d, %r" % (how, days, p.returncode, p.stderr))
@@ -508,7 +563,7 @@ def main(program):
     program = os.path.abspath(program)
     passed = failed = 0
     checks = [(name, lambda c=c: case(program, *c)) for name, *c in CASES]
-    others = (killed_run, private_file, file_of_another, name_of_a_pipe, foreign_leftovers, link_to_a_file, large_no_index, low_limits, second_name, odd_folder, no_room, want_of_memory, large_index, long_answers, index_then_search, full_disk, unreadable, many_archives, clock, failing_clock, far_message, neighbours)
+    others = (killed_run, private_file, file_of_another, name_of_a_pipe, foreign_leftovers, large_no_index, low_limits, small_stacks, memory, long_command_lines, odd_folder, no_room, want_of_memory, large_index, long_answers, index_then_search, full_disk, unreadable, many_archives, clock, failing_clock, far_message, neighbours)
     checks += [(f.__doc__.split(".")[0], lambda f=f: f(program)) for f in others]
     checks += [("overlapping runs: " + name, lambda bad=bad: bad) for name, _, bad in overlapping_runs.checks(program)]
     for name, check in checks:

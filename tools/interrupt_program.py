@@ -100,8 +100,8 @@ class Room:
             bad.append("it changed %s" % [name for name in set(left) | set(files) if left.get(name) != files.get(name)])
         if (passing is not None) != may_stay:
             bad.append("it left %s" % sorted(os.listdir(self.folder)))
-        elif may_stay and mode(self.path(self.made.passing)) != 0o600:
-            bad.append("what it left isn't private")
+        elif may_stay and mode(self.path(self.made.passing)) != 0o1600:
+            bad.append("what it left isn't marked")
         if passing is None and left in self.went_on_from:
             return bad
         if passing is None:
@@ -143,7 +143,9 @@ def full_disk(room, library):
         room.lay_old()
         p = room.run(room.made.words, LD_PRELOAD=library, COUNTED=ROOM_COUNTED, AT="%d-" % n, HOW="full")
         text = b"cannot open " + room.made.passing.encode() if calls[n - 1] == "create" else b"output failed"
-        yield "call %d, %s" % (n, calls[n - 1]), room.wrong(p, 4, fault(text), room.before)
+        # Where the folder alone can't be brought to the disk, the file has its name.
+        files = room.before if n <= calls.index("rename") + 1 else room.whole
+        yield "call %d, %s" % (n, calls[n - 1]), room.wrong(p, 4, fault(text), files)
 
 
 def small_disk(room):

@@ -13,7 +13,8 @@ from dataclasses import dataclass
 SEPARATOR = b"From a@x.org Thu Jan  2 10:00:00 2003\n"
 HELLO = SEPARATOR + b"Subject: Hello\n\nhi\n\n"
 FIRST, SECOND = "m.mbox", "n.mbox"
-COUNTED = "open create statx flock write fchmod fsync unlink rename "
+COUNTED = "open update create statx flock write fchmod fsync unlink rename "
+UNWRITTEN = b"mairix: output failed\n"
 
 
 def hello_index(path, version=2, digest=hashlib.sha256(HELLO).digest(), begins=0):
@@ -146,13 +147,17 @@ class Run:
             bad.append("a run of status 0 left %r and told %r" % (file, self.text))
         elif self.status not in (0, 4, -signal.SIGKILL):
             bad.append("status %d" % self.status)
-        elif self.status == 4 and (file != before or not self.text.startswith(b"mairix: ") or self.text.count(b"\n") != 1):
+        elif self.status == 4 and (file != before or not self.text.startswith(b"mairix: ") or self.text.count(b"\n") != 1) and not self.is_unsynced(file):
             bad.append("a run of status 4 told %r" % self.text)
+
+    def is_unsynced(self, file):
+        """Whether it has made its file, and told that this may not be on the disk."""
+        return file == self.whole and self.text == UNWRITTEN
 
 
 class Room:
     """A folder with two archives and an rcfile for each, both of one index and one answer, with what has the file's name, and its
-    passing name: nothing, or the bytes of a file that is private there."""
+    passing name: nothing, or the bytes of a file that is marked there."""
 
     def __init__(self, program, shim, top, made, old, left):
         self.program, self.shim, self.made, self.bad = program, shim, made, []
@@ -162,7 +167,7 @@ class Room:
         for name, body in {**files, made.name: old, made.passing: left}.items():
             if body is not None:
                 with open(os.path.join(self.folder, name), "wb") as f:
-                    os.chmod(f.fileno(), 0o600 if name == made.passing else 0o644)
+                    os.chmod(f.fileno(), 0o1600 if name == made.passing else 0o644)
                     f.write(body)
 
     def file(self):
@@ -226,10 +231,9 @@ def first_is_killed(room, names, n):
 def first_fails(room, names, n):
     """Call n of the first fails, and it tells of it, but for calls whose failure says nothing; the second makes its file."""
     first = Run(room, FIRST, n, "fail")
-    told = {"create": room.made.busy, "flock": room.made.busy, "write": b"mairix: output failed\n"}
-    told.update({name: told["write"] for name in ("fsync", "rename")})
-    # The first makes the file private, and the second, once it has its name, gives it the old file's mode.
-    told["fchmod"] = room.made.busy if names.index("fchmod") == n - 1 else None
+    told = {"create": room.made.busy, "flock": room.made.busy, "write": UNWRITTEN, "fsync": UNWRITTEN, "rename": UNWRITTEN}
+    # The folder, which is opened once the file has its name. Without the mark the file is private alone, and without its mode too.
+    told["open"] = UNWRITTEN if n > names.index("rename") else None
     want = told.get(names[n - 1]) if n <= len(names) else None
     if want and (first.status, first.text) != (4, want):
         room.bad.append("the first has status %d and tells %r" % (first.status, first.text))
@@ -285,17 +289,19 @@ PAIRS = (both_wait, second_ends_first, second_is_killed, second_fails, waiting_i
 
 
 def order(names):
-    """A file is private before anything is written, all of it is on the disk before it takes its name, and it has the old file's mode after
-    that."""
-    last_write, last_mode = (len(names) - 1 - names[::-1].index(name) for name in ("write", "fchmod"))
-    ok = names.index("fchmod") < names.index("write") <= last_write < names.index("fsync") < names.index("rename") < last_mode
+    """A file is marked before anything is written, and all of it is on the disk before it takes its name; then it gets its mode, and its
+    folder is brought to the disk."""
+    last_write = len(names) - 1 - names[::-1].index("write")
+    renamed = names.index("rename")
+    ok = names.index("fchmod") < names.index("write") <= last_write < names.index("fsync") < renamed and names[renamed + 1 :] == ["fchmod", "open", "fsync"]
     return [] if ok else ["the calls were %s" % " ".join(names)]
 
 
 def overlaps_of(names, made):
     """Each overlap of two runs with these calls: what the two do, what was left, and at which calls; of pairs of calls so many in eleven."""
-    # What was left adds calls: it is opened, locked, looked at by name, as it is open and again, as is its owner, and it is removed.
-    each = range(1, len(names) + 8)
+    # What was left adds calls: its owner is looked at, it is opened, looked at as it is open, opened for writing, locked, looked at by name
+    # and as it is open, and removed.
+    each = range(1, len(names) + 9)
     lefts = (None, b"", made.half)
     yield from ((second_runs, None, (n,)) for n in each[: len(names)])
     yield from ((first_fails, None, (n,)) for n in each[: len(names)])

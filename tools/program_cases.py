@@ -1,7 +1,7 @@
 """What the built program is run on, and what it has to answer, worked out by hand.
 
-Each case: its name, the files (None: a folder; a LINK: a link; a LEFT: a private file, as a run makes it), the words, the status, standard output, standard error, and the files
-that it changes (None: no such file any more). An Ellipsis stands for anything that isn't empty.
+Each case: its name, the files (None: a folder; a LINK: a link; a LEFT: a file that a killed run left; an OWN: a private one of the user's), the
+words, the status, standard output, standard error, and the files that it changes (None: no such file any more). An Ellipsis stands for anything that isn't empty.
 """
 import hashlib
 
@@ -11,7 +11,11 @@ LINK = tuple
 
 
 class LEFT(bytes):
-    """What a killed run may have left."""
+    """What a killed run may have left: its mode tells it, whatever it holds."""
+
+
+class OWN(bytes):
+    """A private file that no run made."""
 
 
 RC = b"mbox=m.mbox\ndatabase=m.idx\nmfolder=hits\n"
@@ -25,6 +29,9 @@ HELLO_INDEX = hello_index("m.mbox")
 OLD_INDEX = hello_index("m.mbox", version=1)
 UNDIGESTED_INDEX = hello_index("m.mbox", digest=bytes(32))
 GOODBYE = SEPARATOR + b"Subject: Goodbye\n\nhi\n\n"
+# What a file holds that a killed run left, or the user: nothing, the beginnings of an index and of an answer and all of them, what a power cut
+# makes of them, and anything else.
+LEFTS = (b"", HELLO_INDEX[:8], HELLO_INDEX[:99], HELLO_INDEX, b"Fro", SEPARATOR[:20], HELLO, GOODBYE * 3000, bytes(4096), b"half", b"\n" + HELLO)
 
 # A message with a part that has two names, of which the disposition's counts.
 REPORT = SEPARATOR + b'''Content-Type: multipart/mixed; boundary=o
@@ -45,6 +52,10 @@ THREAD = {"m.mbox": FIRST_OF_THREAD, "n": SECOND_OF_THREAD, "rc": TWO}
 
 ALICE = SEPARATOR + b"To: alice@x.org\nCc: bob@x.org\nSubject: =?utf-8?Q?gr=C3=BC=C3=9Fe?=\n to\tyou\n\nx\n\n"
 ALICE_EXCERPT = "m.mbox\nTo: alice@x.org\nCc: bob@x.org\nFrom:\nSubject: gr\u00fc\u00dfe to you\nDate:\n".encode()
+
+# The control characters of ASCII go, and others stay.
+SIGNS = SEPARATOR + "Subject: signs \x1b \x7f \x85 \u009b \u202e end\n\nx\n\n".encode()
+SIGNS_EXCERPT = "m.mbox\nTo:\nCc:\nFrom:\nSubject: signs     \x85 \u009b \u202e end\nDate:\n".encode()
 
 
 def fault(text):
@@ -135,12 +146,12 @@ INDEX_CASES = [
     ("an index with a second archive that is no mbox", {"m.mbox": HELLO, "n": b"x\n", "m.idx": b"old", "rc": b"mbox=m.mbox:n\ndatabase=m.idx\nmfolder=h\n"}, INDEX, 4, b"", fault(b"archive 2: not an mbox")),
     ("an index of a missing archive", {"m.idx": b"old"}, INDEX, 4, b"", fault(b"cannot open m.mbox")),
     ("an index of a folder", {"m.mbox": None, "m.idx": b"old"}, INDEX, 4, b"", fault(b"archive 1: read failed")),
-    *(("an index where a killed run left %d bytes" % len(left), {"m.mbox": HELLO, "m.idx.new": LEFT(left)}, INDEX, 0, b"", b"", {"m.idx": HELLO_INDEX, "m.idx.new": None}) for left in (b"", b"M", HELLO_INDEX[:8], HELLO_INDEX[:99], HELLO_INDEX)),
+    *(("an index where a killed run left %d bytes" % len(left), {"m.mbox": HELLO, "m.idx.new": LEFT(left)}, INDEX, 0, b"", b"", {"m.idx": HELLO_INDEX, "m.idx.new": None}) for left in LEFTS),
     ("no index where a killed run left a file", {"m.mbox": b"hello\n", "m.idx": b"old", "m.idx.new": LEFT(HELLO_INDEX[:99])}, INDEX, 4, b"", fault(b"archive 1: not an mbox"), {"m.idx.new": None}),
-    *(("an index where no run left %r" % (left[:4],), {"m.mbox": HELLO, "other": LEFT(HELLO_INDEX), "m.idx.new": left}, INDEX, 4, b"", fault(b"cannot open m.idx.new")) for left in (LEFT(b"half"), LEFT(b"MAIL"), LEFT(HELLO), LEFT(b"\n"), HELLO_INDEX[:99], LINK(["other"]), LINK(["nowhere"]))),
-    *(("an index in place of mail", {"m.mbox": HELLO, "m.idx": mail}, INDEX, 4, b"", fault(b"cannot open m.idx")) for mail in (GOODBYE, b"\n\r\n" + GOODBYE, GOODBYE * 4000, SEPARATOR[:-1])),
+    *(("an index where no run left %r" % (left[:4],), {"m.mbox": HELLO, "other": LEFT(HELLO_INDEX), "m.idx.new": left}, INDEX, 4, b"", fault(b"cannot open m.idx.new")) for left in (*map(OWN, LEFTS), HELLO_INDEX[:99], LINK(["other"]), LINK(["nowhere"]))),
+    *(("an index in place of mail", {"m.mbox": HELLO, "m.idx": mail}, INDEX, 4, b"", fault(b"cannot open m.idx")) for mail in (GOODBYE, b"\n\r\n" + GOODBYE, GOODBYE * 4000, SEPARATOR[:-1], b"\n" * 131_000 + GOODBYE)),
     ("an index in place of a link to mail", {"m.mbox": HELLO, "other": GOODBYE, "m.idx": LINK(["other"])}, INDEX, 4, b"", fault(b"cannot open m.idx")),
-    *(("an index in place of what is no mail", {"m.mbox": HELLO, "m.idx": other}, INDEX, 0, b"", b"", {"m.idx": HELLO_INDEX}) for other in (b"", b"\n\n", b"From here on\n", b"x\n\n" + GOODBYE, HELLO_INDEX[:50])),
+    *(("an index in place of what is no mail", {"m.mbox": HELLO, "m.idx": other}, INDEX, 0, b"", b"", {"m.idx": HELLO_INDEX}) for other in (b"", b"\n\n", b"From here on\n", b"x\n\n" + GOODBYE, HELLO_INDEX[:50], b"\n" * 131_072 + GOODBYE)),
     ("a folder under the new name", {"m.mbox": HELLO, "m.idx": b"old", "m.idx.new": None}, INDEX, 4, b"", fault(b"cannot open m.idx.new")),
     ("a folder under the index's name", {"m.mbox": HELLO, "m.idx": None}, INDEX, 4, b"", fault(b"output failed")),
     ("an index in a missing folder", {"m.mbox": HELLO, "rc": b"mbox=m.mbox\ndatabase=d/m.idx\nmfolder=h\n"}, INDEX, 4, b"", fault(b"cannot open d/m.idx.new")),
@@ -167,6 +178,7 @@ ANSWER_CASES = [
     ("an mbox by another name", {"m.mbox": HELLO, "hits": b"old"}, ONCE + ["-o", "x", "s:hello"], 0, b"", b"", {"x": HELLO}),
     ("raw lines go to no file", {"m.mbox": HELLO}, RAW + ["-o", "x", "s:hello"], 0, b"0 58 m.mbox\n", b""),
     ("an excerpt", {"m.mbox": ALICE}, ONCE + ["-x", "t:alice"], 0, ALICE_EXCERPT, b""),
+    ("an excerpt of signs that a terminal may obey", {"m.mbox": SIGNS}, ONCE + ["-x", "s:signs"], 0, SIGNS_EXCERPT, b""),
     ("an excerpt goes to no file", {"m.mbox": ALICE}, ONCE + ["-x", "--stdout", "-o", "x", "t:alice"], 0, ALICE_EXCERPT, b""),
     ("the rcfile's raw lines", {"m.mbox": HELLO, "rc": RC + b"mformat=raw\n"}, ONCE + ["s:hello"], 0, b"0 58 m.mbox\n", b""),
     ("the rcfile's excerpts", {"m.mbox": ALICE, "rc": RC + b"mformat=excerpt\n"}, ONCE + ["t:alice"], 0, ALICE_EXCERPT, b""),
@@ -255,9 +267,10 @@ STORED_CASES = [
 REFUSED_ANSWERS = [
     ("a bad query leaves an old answer", {"m.mbox": HELLO, "hits": b"old"}, ONCE + ["q:x"], 2, b"", fault(b"query item 1: bad prefix")),
     ("no mbox leaves an old answer", {"m.mbox": b"hello\n", "hits": b"old"}, ONCE + ["s:hello"], 4, b"", fault(b"archive 1: not an mbox")),
-    *(("an answer where a killed run left %d bytes" % len(left), {"m.mbox": HELLO, "hits.new": LEFT(left)}, ONCE + ["s:hello"], 0, b"", b"", {"hits": HELLO, "hits.new": None}) for left in (b"", b"Fro", SEPARATOR[:20], SEPARATOR, GOODBYE * 3000)),
+    *(("an answer where a killed run left %d bytes" % len(left), {"m.mbox": HELLO, "hits.new": LEFT(left)}, ONCE + ["s:hello"], 0, b"", b"", {"hits": HELLO, "hits.new": None}) for left in LEFTS),
     ("no answer where a killed run left a file", {"m.mbox": HELLO, "hits": b"old", "hits.new": LEFT(HELLO[:50])}, ONCE + ["q:x"], 2, b"", fault(b"query item 1: bad prefix"), {"hits.new": None}),
-    *(("an answer where no run left %r" % (left[:4],), {"m.mbox": HELLO, "other": LEFT(HELLO), "hits.new": left}, ONCE + ["s:hello"], 4, b"", fault(b"cannot open hits.new")) for left in (LEFT(b"half"), LEFT(b"From here on\n"), LEFT(b"\n" + HELLO), LEFT(HELLO_INDEX), HELLO, LINK(["other"]), LINK(["nowhere"]))),
+    *(("an answer where no run left %r" % (left[:4],), {"m.mbox": HELLO, "other": LEFT(HELLO), "hits.new": left}, ONCE + ["s:hello"], 4, b"", fault(b"cannot open hits.new")) for left in (*map(OWN, LEFTS), HELLO, LINK(["other"]), LINK(["nowhere"]))),
+    ("mail where an answer is to be made stays, and so it does before a bad query", {"m.mbox": HELLO, "hits.new": OWN(GOODBYE)}, ONCE + ["q:x"], 4, b"", fault(b"cannot open hits.new")),
     *(("an answer in place of a link to %s" % place, {"m.mbox": HELLO, "hits": LINK([place])}, ONCE + ["s:hello"], 4, b"", fault(b"cannot open hits")) for place in ("/dev/null", "/proc/self/fd/1", "/proc/self/fd/0")),
     ("an index in place of a link to a device", {"m.mbox": HELLO, "m.idx": LINK(["/dev/null"])}, INDEX, 4, b"", fault(b"cannot open m.idx")),
     ("no index in a device", {"m.mbox": HELLO, "m.idx": LINK(["/dev/null"]), "hits": b"old"}, INDEX + ["s:hello"], 3, b"", fault(b"index: too short")),
@@ -267,8 +280,9 @@ REFUSED_ANSWERS = [
     ("a folder under an empty answer's name", {"m.mbox": HELLO, "hits": None}, ONCE + ["s:goodbye"], 4, b"", fault(b"output failed")),
     ("a folder by -o", {"m.mbox": HELLO, "d": None}, ONCE + ["-o", "d", "s:hello"], 4, b"", fault(b"output failed")),
     ("an answer in a missing folder", {"m.mbox": HELLO}, ONCE + ["-o", "d/hits", "s:hello"], 4, b"", fault(b"cannot open d/hits.new")),
-    ("an answer with no name", {"m.mbox": HELLO}, ONCE + ["-o", "", "s:hello"], 4, b"", fault(b"output failed")),
-    ("an answer with no name in the base", {"d": None, "d/m.mbox": HELLO, "rc": under(b"d", b"mfolder=hits")}, ONCE + ["-o", "", "s:hello"], 4, b"", fault(b"output failed")),
+    ("an answer with no name", {"m.mbox": HELLO}, ONCE + ["-o", "", "s:hello"], 4, b"", fault(b"cannot open ")),
+    ("an answer with no name in the base", {"d": None, "d/m.mbox": HELLO, "rc": under(b"d", b"mfolder=hits")}, ONCE + ["-o", "", "s:hello"], 4, b"", fault(b"cannot open d/")),
+    ("an answer with no name in a folder", {"m.mbox": HELLO, "d": None}, ONCE + ["-o", "d/", "s:hello"], 4, b"", fault(b"cannot open d/")),
     ("an answer with too long a name", {"m.mbox": HELLO}, ONCE + ["-o", "x" * 300, "s:hello"], 4, b"", fault(b"cannot open " + b"x" * 300 + b".new")),
     ("a bad query in a missing folder", {"m.mbox": HELLO}, ONCE + ["-o", "d/hits", "q:x"], 4, b"", fault(b"cannot open d/hits.new")),
     ("the archive as the answer", {"m.mbox": HELLO}, ONCE + ["-o", "m.mbox", "s:hello"], 4, b"", fault(b"cannot open m.mbox")),

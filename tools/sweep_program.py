@@ -4,8 +4,8 @@
     sweep_program.py PROGRAM
 
 Each allocation of a run is refused in turn; each of its calls on files fails in turn, by EIO and by ENOSPC, or takes nothing; and each moves
-one byte in place of many. The run then gives its whole answer, or it tells this very fault with its status: a front of the answer went to
-standard output, and its files are as they were. The last line is `N passed, M failed`.
+one byte in place of many, or is interrupted by a signal. The run then gives its whole answer, or it tells this very fault with its status: a
+front of the answer went to standard output, and its files are as they were. The last line is `N passed, M failed`.
 """
 import os, subprocess, sys, tempfile
 from dataclasses import dataclass, field
@@ -15,7 +15,11 @@ from overlapping_runs import HELLO, shim
 from program_cases import ALICE, ALICE_EXCERPT, CHANGED, FIRST_OF_THREAD, HELLO_INDEX, INDEX, ONCE, RC, SECOND_OF_THREAD, STORED, THREAD, fault
 
 MOST = 20_000
-COUNTED = "open create statx realpath flock read read_at write print fchmod fsync unlink rename "
+COUNTED = "open update create statx realpath flock read read_at write print tell fchmod fsync unlink rename "
+# Those of them that write: into a file, to standard output, and to standard error.
+WRITES = ("write", "print", "tell")
+# The last name of the folder of a run, by which its calls on it are told.
+ROOM = "room"
 
 
 def unopened(name):
@@ -27,24 +31,32 @@ UNREAD = fault(b"archive read failed")
 UNWRITTEN = fault(b"output failed")
 WANT_OF_MEMORY = fault(b"out of memory")
 
+class InPlace(bytes):
+    """What is told where a file has its name, but may not be on the disk."""
+
+
+# Where standard error takes only a front of what is told.
+UNTOLD = object()
+
 # What is told where a call fails, by its name and the last name of its path: of the first such call, of the second, and so on, and of all
 # others what the list ends with. By None nothing is told, and so where a call isn't named: the answer is whole.
 
 
 def whole(name):
-    """The calls that read a file whole."""
-    return {call + name: [unopened(name)] for call in ("open ", "statx ", "read ")}
+    """The calls that read a file whole. Where a file is made, both of its names are compared with this one."""
+    return {**{call + name: [unopened(name)] for call in ("open ", "read ")}, "statx " + name: [unopened(name), None]}
 
 
-def searched(name):
+def searched(name, looks=0):
     """The calls on an archive of a stored index: it is opened, looked at and closed, its length is asked, and it is read where a message
-    stands, and looked at again."""
-    return {"open " + name: [unopened(name), UNREAD], "statx " + name: [unopened(name), UNREAD], "read_at " + name: [UNREAD]}
+    stands, and looked at again. Where a file is made, both of its names are compared with the archive's."""
+    return {"open " + name: [unopened(name), UNREAD], "statx " + name: [unopened(name)] + [None] * looks + [UNREAD], "read_at " + name: [UNREAD]}
 
 
 def indexed(name):
-    """The calls on an archive that is indexed: it is opened, looked at and closed, and read to its end."""
-    return {"open " + name: [unopened(name), UNINDEXED], "statx " + name: [unopened(name)], "read " + name: [UNINDEXED]}
+    """The calls on an archive that is indexed: it is opened, looked at and closed, and read to its end. Both names of the index are compared
+    with the archive's."""
+    return {"open " + name: [unopened(name), UNINDEXED], "statx " + name: [unopened(name), None], "read " + name: [UNINDEXED]}
 
 
 def looked_at(name):
@@ -53,22 +65,25 @@ def looked_at(name):
 
 
 def found(name):
-    """The calls that come before a file is written: what was left is looked for, it is made, locked, seen to be the one that was locked,
-    and made private."""
+    """The calls that come before a file is written: it is looked where its names lead, what was left is looked for, it is made, locked, seen
+    to be the one that was locked, and marked. Without the mark it is private alone."""
     new = name + ".new"
-    told = {call + new: [unopened(new)] for call in ("create ", "flock ", "fchmod ")}
-    return {**told, "statx " + new: [unopened(new)] * 3 + [None]}
+    told = {call + new: [unopened(new)] for call in ("create ", "flock ")}
+    return {**told, "statx " + new: [None] + [unopened(new)] * 3 + [None]}
 
 
 def made(name):
-    """And those after that, which give it its name. Without the old mode it stays private."""
+    """And those after that, which give it its name and bring that to the disk. Without the old mode it stays private."""
     new = name + ".new"
     told = {call + new: [UNWRITTEN] for call in ("write ", "fsync ", "rename ")}
-    return {**found(name), **told, "statx " + new: [unopened(new)] * 3 + [UNWRITTEN]}
+    in_place = {"open .": [InPlace(UNWRITTEN)], "fsync " + ROOM: [InPlace(UNWRITTEN)]}
+    return {**found(name), **told, **in_place, "statx " + new: [None] + [unopened(new)] * 3 + [UNWRITTEN]}
 
 
 STORED_CALLS = {**whole("rc"), **whole("m.idx"), **searched("m.mbox")}
-ONCE_CALLS = {**whole("rc"), **indexed("m.mbox"), "open m.mbox": [unopened("m.mbox"), UNINDEXED, UNREAD], "statx m.mbox": [unopened("m.mbox"), UNINDEXED, UNINDEXED, UNREAD], "read_at m.mbox": [UNREAD]}
+# And those of a search that makes a file.
+STORED_FILE_CALLS = {**STORED_CALLS, **searched("m.mbox", looks=2)}
+ONCE_CALLS = {**whole("rc"), **indexed("m.mbox"), "open m.mbox": [unopened("m.mbox"), UNINDEXED, UNREAD], "statx m.mbox": [unopened("m.mbox"), None, None, UNINDEXED, UNINDEXED, UNREAD], "read_at m.mbox": [UNREAD]}
 PRINT_CALLS = {"print output": [UNWRITTEN]}
 
 
@@ -88,7 +103,9 @@ class Swept:
 
     def run(self, program, **env):
         """What it does: its status, what it prints and tells, and the files then."""
-        with tempfile.TemporaryDirectory() as folder:
+        with tempfile.TemporaryDirectory() as top:
+            folder = os.path.join(top, ROOM)
+            os.mkdir(folder)
             write(folder, {"rc": RC, **self.files})
             p = run(program, self.words, folder, capture_output=True, env={**os.environ, **env})
             return p.returncode, p.stdout, p.stderr, contents(folder)
@@ -99,8 +116,13 @@ class Swept:
         status, out, err, files = got
         files = {name: body for name, body in files.items() if name != may_stay}
         before = {"rc": RC, **self.files}
+        after = {**before, **self.changes}
         if fault is None:
-            good = (status, out, err, files) == (self.status, self.out, self.err, {**before, **self.changes})
+            good = (status, out, err, files) == (self.status, self.out, self.err, after)
+        elif fault is UNTOLD:
+            good = (status, out, files) == (self.status, self.out, after) and self.err.startswith(err)
+        elif isinstance(fault, InPlace):
+            good = (status, out, err, files) == (4, b"", fault, after)
         else:
             good = (status, err, files) == (5 if fault == WANT_OF_MEMORY else 4, fault, before) and self.out.startswith(out)
         return [] if good else ["status %d, %r, %r, left %s, wanted %r" % (status, out[:100], err, sorted(files), fault or "all")]
@@ -117,8 +139,8 @@ def verified_runs(program):
     verify = INDEX + ["--verify", "s:hello"]
     return [
         Swept("lines, verified", hello, STORED + ["--verify", "s:hello"], out=b"0 58 m.mbox\n", told={**STORED_CALLS, **PRINT_CALLS}),
-        Swept("an mbox, verified", hello, verify, changes={"hits": HELLO}, told={**STORED_CALLS, **made("hits")}),
-        Swept("an archive with another letter", world, verify, 3, err=CHANGED, told={**STORED_CALLS, **found("hits")}),
+        Swept("an mbox, verified", hello, verify, changes={"hits": HELLO}, told={**STORED_FILE_CALLS, **made("hits")}),
+        Swept("an archive with another letter", world, verify, 3, err=CHANGED, told={**STORED_FILE_CALLS, **found("hits")}),
     ]
 
 
@@ -133,11 +155,11 @@ def swept_runs(program):
         Swept("lines", hello, STORED + ["s:hello"], out=b"0 58 m.mbox\n", told={**STORED_CALLS, **PRINT_CALLS}),
         Swept("excerpts", alice, INDEX + ["-x", "t:alice"], out=ALICE_EXCERPT, told={**STORED_CALLS, **PRINT_CALLS}),
         Swept("threads", thread, INDEX + ["--stdout", "-t", "b:hi"], out=threads, told={**STORED_CALLS, **searched("n"), **PRINT_CALLS}),
-        Swept("an mbox", hello, INDEX + ["s:hello"], changes={"hits": HELLO}, told={**STORED_CALLS, **made("hits")}),
-        Swept("no message", hello, INDEX + ["s:goodbye"], 1, changes={"hits": b""}, told={**STORED_CALLS, **made("hits")}),
+        Swept("an mbox", hello, INDEX + ["s:hello"], changes={"hits": HELLO}, told={**STORED_FILE_CALLS, **made("hits")}),
+        Swept("no message", hello, INDEX + ["s:goodbye"], 1, changes={"hits": b""}, told={**STORED_FILE_CALLS, **made("hits")}),
         Swept("an index in memory", {"m.mbox": HELLO, "hits": b"old"}, ONCE + ["--boolean", "hi"], changes={"hits": HELLO}, told={**ONCE_CALLS, **made("hits")}),
-        Swept("a bad query", hello, INDEX + ["q:x"], 2, err=fault(b"query item 1: bad prefix"), told={**whole("rc"), **whole("m.idx"), "open m.mbox": [unopened("m.mbox")], "statx m.mbox": [unopened("m.mbox")], **found("hits")}),
-        Swept("an archive that has grown", {**hello, "m.mbox": HELLO + HELLO}, INDEX + ["s:hello"], 3, err=CHANGED, told={**STORED_CALLS, **found("hits")}),
+        Swept("a bad query", hello, INDEX + ["q:x"], 2, err=fault(b"query item 1: bad prefix"), told={**whole("rc"), **whole("m.idx"), "open m.mbox": [unopened("m.mbox")], "statx m.mbox": [unopened("m.mbox"), None], **found("hits")}),
+        Swept("an archive that has grown", {**hello, "m.mbox": HELLO + HELLO}, INDEX + ["s:hello"], 3, err=CHANGED, told={**STORED_FILE_CALLS, **found("hits")}),
         Swept("bad words", {}, ["-z"], 2, err=Swept("", {}, ["-z"]).run(program)[2]),
         Swept("help", {}, ["-h"], out=Swept("", {}, ["-h"]).run(program)[1], told=PRINT_CALLS),
         *verified_runs(program),
@@ -179,7 +201,11 @@ def met(how, swept, program, room, moves):
         if kind in moves:
             tried += 1
             told = swept.told.get(call, [None])
-            fault = None if how == "short" else told[min(before, len(told) - 1)]
+            fault = told[min(before, len(told) - 1)]
+            if how in ("short", "break"):
+                fault = None
+            elif kind == "tell":
+                fault = UNTOLD
             got = swept.run(program, LD_PRELOAD=shim(room, "at_call"), COUNTED=COUNTED, AT=str(number), HOW=how)
             # A file of which this can't be told any more isn't removed, since it may be another run's.
             may_stay = name if kind in ("flock", "statx", "unlink") and name.endswith(".new") else ""
@@ -195,9 +221,10 @@ def one_byte(swept, program, room):
 SWEEPS = (
     ("refused allocations", refused),
     ("failing calls", lambda *run: met("fail", *run, moves=COUNTED.split())),
-    ("calls on a full disk", lambda *run: met("full", *run, moves=("create", "write", "print", "fsync", "rename"))),
-    ("writes that take nothing", lambda *run: met("none", *run, moves=("write", "print"))),
-    ("short reads and writes", lambda *run: met("short", *run, moves=("read", "read_at", "write", "print"))),
+    ("calls on a full disk", lambda *run: met("full", *run, moves=("create", *WRITES, "fsync", "rename"))),
+    ("writes that take nothing", lambda *run: met("none", *run, moves=WRITES)),
+    ("short reads and writes", lambda *run: met("short", *run, moves=("read", "read_at", *WRITES))),
+    ("interrupted writes", lambda *run: met("break", *run, moves=WRITES)),
     ("run of single bytes", one_byte),
 )
 

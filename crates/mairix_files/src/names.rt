@@ -1,6 +1,7 @@
 //! What names lead to.
 
 use std::alloc::{AllocError, Global};
+use std::fs::Metadata;
 use std::io::ErrorKind;
 use std::os::unix::fs::MetadataExt;
 use std::path::{Path, PathBuf};
@@ -10,21 +11,109 @@ use std::{fs, io};
 /// Where the system shows what each process has open.
 const PROCESSES: &str = "/proc/";
 
-/// Whether both paths lead to one file, or to one place where a file isn't yet: links are followed, and two names of a file
-/// (hard links) are two files. Where the system doesn't tell where a path leads, two names of a file are one.
-pub fn is_same_file<R: Files>(
-    rt: &R,
-    alloc: Global,
-    first: &str,
-    second: &str,
-) -> Result<bool, AllocError> {
-    let first_path = real_path(rt, alloc, first)?;
-    let second_path = real_path(rt, alloc, second)?;
-    let is_same = match (&first_path, &second_path) {
-        (Some(one), Some(other)) => one == other,
-        _ => is_same_node(rt, first, second),
-    };
-    Ok(is_same)
+/// A name there that is always taken.
+const A_PROCESS: &str = "/proc/self";
+
+/// How many links the system follows.
+const MOST_LINKS: usize = 40;
+
+/// Where a name leads, as far as the system tells. Links are followed.
+#[derive(Drop)]
+pub struct Place<'n> {
+    /// The path of the file, or where none is yet of the place where it would be.
+    path: Option<PathBuf>,
+    /// Which file it is.
+    file: Option<Node>,
+    /// Which folder it would be in, and its last part there, where no file is yet.
+    wanted: Option<(Node, &'n str)>,
+}
+
+/// What tells a file from each other one, by whatever name.
+#[derive(Clone, Copy, PartialEq, Eq)]
+struct Node {
+    device: u64,
+    inode: u64,
+}
+
+impl Node {
+    fn of(found: &Metadata) -> Node {
+        Node {
+            device: found.dev(),
+            inode: found.ino(),
+        }
+    }
+
+    /// The file to which a path leads.
+    fn at<R: Files>(rt: &R, path: &str) -> Option<Node> {
+        match fs::metadata(rt, path) {
+            Ok(found) => Some(Node::of(&found)),
+            Err(_) => None,
+        }
+    }
+}
+
+impl<'n> Place<'n> {
+    pub fn of<R: Files>(rt: &R, alloc: Global, name: &'n str) -> Result<Place<'n>, AllocError> {
+        let file = Node::at(rt, name);
+        let wanted = match file {
+            Some(_) => None,
+            None => wanted_place(rt, name),
+        };
+        let path = real_path(rt, alloc, name)?;
+        Ok(Place { path, file, wanted })
+    }
+
+    /// Whether another name leads to the same file, or to the same place where a file isn't yet: where their paths agree, or device
+    /// and inode, as of hard links and of what is mounted at two places.
+    pub fn is_of<R: Files>(&self, rt: &R, alloc: Global, name: &str) -> Result<bool, AllocError> {
+        let other = Place::of(rt, alloc, name)?;
+        Ok(self.is_same(&other))
+    }
+
+    fn is_same(&self, other: &Place<'_>) -> bool {
+        self.has_path_of(other) || self.has_file_of(other) || self.is_wanted_as(other)
+    }
+
+    fn has_path_of(&self, other: &Place<'_>) -> bool {
+        match (&self.path, &other.path) {
+            (Some(one), Some(two)) => one == two,
+            _ => false,
+        }
+    }
+
+    fn has_file_of(&self, other: &Place<'_>) -> bool {
+        match (self.file, other.file) {
+            (Some(one), Some(two)) => one == two,
+            _ => false,
+        }
+    }
+
+    fn is_wanted_as(&self, other: &Place<'_>) -> bool {
+        match (self.wanted, other.wanted) {
+            (Some((one, name)), Some((two, other_name))) => one == two && name == other_name,
+            _ => false,
+        }
+    }
+}
+
+/// Whether the system tells the same file twice.
+pub(crate) fn is_one_node(one: &Metadata, two: &Metadata) -> bool {
+    Node::of(one) == Node::of(two)
+}
+
+/// The folder of a name.
+pub(crate) fn folder_of(name: &str) -> &str {
+    match Path::new(name).parent() {
+        Some(folder) if !folder.as_str().is_empty() => folder.as_str(),
+        _ => ".",
+    }
+}
+
+/// The folder in which a name is, and its last part.
+fn wanted_place<'n, R: Files>(rt: &R, name: &'n str) -> Option<(Node, &'n str)> {
+    let last = Path::new(name).file_name()?;
+    let folder = Node::at(rt, folder_of(name))?;
+    Some((folder, last))
 }
 
 /// Where a path leads. Where no file is there yet, that is a name in the folder where it would be.
@@ -32,27 +121,13 @@ fn real_path<R: Files>(rt: &R, alloc: Global, path: &str) -> Result<Option<PathB
     if let Some(real) = told(rt.canonicalize(alloc, path))? {
         return Ok(Some(real));
     }
-    let path = Path::new(path);
-    let (Some(folder), Some(name)) = (path.parent(), path.file_name()) else {
+    let Some(name) = Path::new(path).file_name() else {
         return Ok(None);
     };
-    let folder = if folder.as_str().is_empty() {
-        "."
-    } else {
-        folder.as_str()
-    };
-    let Some(mut real) = told(rt.canonicalize(alloc, folder))? else {
+    let Some(mut real) = told(rt.canonicalize(alloc, folder_of(path)))? else {
         return Ok(None);
     };
     real.push(name).and(Ok(Some(real)))
-}
-
-/// Whether both paths lead to files, and these are one for the system.
-fn is_same_node<R: Files>(rt: &R, first: &str, second: &str) -> bool {
-    let (Ok(first), Ok(second)) = (fs::metadata(rt, first), fs::metadata(rt, second)) else {
-        return false;
-    };
-    first.dev() == second.dev() && first.ino() == second.ino()
 }
 
 /// Whether a name leads to a device, a pipe or a socket: neither file nor folder. Links are followed, and a link to what a process
@@ -60,9 +135,7 @@ fn is_same_node<R: Files>(rt: &R, first: &str, second: &str) -> bool {
 ///
 /// No run replaces one of these, nor a link to one (decision 58 in docs/DECISIONS.md).
 pub fn is_special_file<R: Files>(rt: &R, alloc: Global, name: &str) -> Result<bool, AllocError> {
-    if let Some(target) = told(rt.read_link(alloc, name))?
-        && target.as_path().as_str().starts_with(PROCESSES)
-    {
+    if leads_to_processes(rt, alloc, name)? {
         return Ok(true);
     }
     let is_special = match fs::metadata(rt, name) {
@@ -70,6 +143,46 @@ pub fn is_special_file<R: Files>(rt: &R, alloc: Global, name: &str) -> Result<bo
         Err(_) => false,
     };
     Ok(is_special)
+}
+
+/// Whether a name is a link into what the system shows of processes, by whatever texts and over whatever other links.
+fn leads_to_processes<R: Files>(rt: &R, alloc: Global, name: &str) -> Result<bool, AllocError> {
+    let mut path = PathBuf::from_str(alloc, name)?;
+    for _ in 0..MOST_LINKS {
+        if !follow(rt, alloc, &mut path)? {
+            return Ok(false);
+        }
+        if is_in_processes(rt, path.as_path()) {
+            return Ok(true);
+        }
+    }
+    Ok(false)
+}
+
+/// Goes on to where a path leads as a link, if it is one.
+fn follow<R: Files>(rt: &R, alloc: Global, path: &mut PathBuf) -> Result<bool, AllocError> {
+    let Some(target) = told(rt.read_link(alloc, path.as_path().as_str()))? else {
+        return Ok(false);
+    };
+    path.set_file_name(target.as_path().as_str()).and(Ok(true))
+}
+
+/// Whether a path goes through what the system shows of processes.
+fn is_in_processes<R: Files>(rt: &R, path: Path<'_>) -> bool {
+    if path.as_str().starts_with(PROCESSES) {
+        return true;
+    }
+    let Ok(process) = fs::symlink_metadata(rt, A_PROCESS) else {
+        return false;
+    };
+    for place in path.ancestors() {
+        if let Ok(found) = fs::symlink_metadata(rt, place.as_str())
+            && found.dev() == process.dev()
+        {
+            return true;
+        }
+    }
+    false
 }
 
 /// What the system tells, if it does. Want of memory alone is an error.

@@ -1,7 +1,6 @@
 //! The new index that takes the place of an old one: archives in, an index file out.
-ghost use Rattle.std.specs.Prelude.{◌≡◌, map, All};
+ghost use Rattle.std.specs.Prelude.{map, All};
 ghost use Rattle.std.specs.String.{string_bytes};
-ghost use Rattle.mail_index.specs.Files.{magic};
 ghost use Rattle.mail_index.specs.Tables.{IsPath};
 
 use crate::program::kept_mail::check_no_mail;
@@ -9,7 +8,7 @@ use crate::program::output_file::{create_file, flushed, passing_name, settle_fil
 use crate::program::read_files::ReadFiles;
 use crate::program::stopped::Stopped;
 use index_run::send_index;
-use mairix_files::{Beginning, sources_of};
+use mairix_files::sources_of;
 use mairix_options::Rc;
 use mbox_cutter::ToWrite;
 use run_faults::{DONE, Fault};
@@ -23,14 +22,16 @@ const GATHERED: usize = 65_536;
 
 /// Indexes the archives that the rcfile of this path names, puts the index under the name `database`, and answers status 0.
 ///
-/// The index is written to `<database>.new`, which takes the name of the old index once it is whole, and its mode where the owner
-/// is the same; else it is removed, and the old index is as it was. What a run that was killed left under `<database>.new` is lost.
+/// The index is written to `<database>.new`, which takes the name of the old index once it is whole, and its mode where nobody but
+/// the owner can have put that there; else it is removed, and the old index is as it was. What a run that was killed left under
+/// `<database>.new` is lost.
 ///
 /// # Errors
 ///
 /// `CannotOpen` with nothing touched where either name leads to an archive or to the rcfile, where `database` leads to an mbox, a
 /// device, a pipe or a socket, where another run is making an index of it, and where the new file can't be made; else the fault of
-/// an archive, of the output or of memory.
+/// an archive, of the output or of memory. Where only its folder can't be brought to the disk, the output has failed, and the new
+/// index is there.
 pub(crate) fn replace_index<'p, R: Files<File = File>>(
     rt: &R,
     alloc: Global,
@@ -48,17 +49,9 @@ pub(crate) fn replace_index<'p, R: Files<File = File>>(
     };
     check_no_mail(rt, alloc, name)?;
     let passing = passing_name(alloc, name)?;
-    let beginning = Beginning::Bytes(index_beginning());
-    let new = create_file(rt, alloc, passing.as_str(), name, beginning, &read)?;
+    let new = create_file(rt, alloc, passing.as_str(), name, &read)?;
     let indexed = fill_index_file(rt, alloc, archives, new.file());
     settle_file(new, indexed).map_err(Stopped::Fault)
-}
-
-/// What each index begins with.
-fn index_beginning() -> &'static [u8]
-    ensures { result.now ≡ magic }
-{
-    b"MAIRIX\r\n"
 }
 
 /// Indexes the archives from their files, one open at a time, into a file, and answers the status.

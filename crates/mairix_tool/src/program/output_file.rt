@@ -3,7 +3,7 @@ ghost use Rattle.std.specs.Prelude.{◌≡◌, ◌++◌, codes, IfOk, string_byt
 
 use crate::program::read_files::ReadFiles;
 use crate::program::stopped::Stopped;
-use mairix_files::{Beginning, NewFile, is_special_file};
+use mairix_files::{NewFile, is_special_file};
 use run_faults::Fault;
 use std::alloc::{AllocError, Global};
 use std::fs::File;
@@ -17,31 +17,34 @@ pub(crate) fn passing_name(alloc: Global, name: &str) -> Result<String, AllocErr
     format!(in alloc; "{name}.new")
 }
 
-/// A new file that is to have a name, and to begin so, under a passing name for the time being.
+/// A new file that is to have a name, under a passing name for the time being.
 ///
 /// # Errors
 ///
-/// `CannotOpen` with nothing touched where either name leads to a file that the run reads, or the name to a device, a pipe or a
-/// socket, which would lose it; and where no file can be made under the passing name, as while another run makes its own there, or
-/// where anything lies there that no killed run left.
+/// `CannotOpen` with nothing touched where the name has no last part; where either name leads to a file that the run reads, or the
+/// name to a device, a pipe or a socket, which would lose it; and where no file can be made under the passing name, as while another
+/// run makes its own there, or where anything lies there that no killed run left.
 pub(crate) fn create_file<'p, R: Files<File = File>>(
     rt: &'p R,
     alloc: Global,
     passing: &'p str,
     name: &'p str,
-    beginning: Beginning<'_>,
     read: &ReadFiles<'_>,
 ) -> Result<NewFile<'p, R>, Stopped> {
+    if name.is_empty() || name.ends_with('/') {
+        return Err(Stopped::at(alloc, name));
+    }
     read.check_not_read(rt, alloc, name)?;
     read.check_not_read(rt, alloc, passing)?;
     if is_special_file(rt, alloc, name)? {
         return Err(Stopped::at(alloc, name));
     }
-    let new = NewFile::create(rt, alloc, passing, name, beginning);
+    let new = NewFile::create(rt, alloc, passing, name);
     Stopped::unless(alloc, passing, new)
 }
 
-/// Gives a file its name where all of it was written, and removes it else. A name that can't be given is a failed output.
+/// Gives a file its name where all of it was written, and removes it else. A name that can't be given is a failed output, and so is
+/// one that can't be brought to the disk.
 pub(crate) fn settle_file<R: Files<File = File>>(
     new: NewFile<'_, R>,
     written: Result<u8, Fault>,

@@ -1,7 +1,7 @@
 //! The files that a run reads.
 
 use crate::program::stopped::Stopped;
-use mairix_files::is_same_file;
+use mairix_files::Place;
 use std::alloc::Global;
 use std::rt::Files;
 
@@ -28,16 +28,17 @@ impl<'a> ReadFiles<'a> {
         alloc: Global,
         name: &str,
     ) -> Result<(), Stopped> {
-        if is_same_file(rt, alloc, name, self.rcfile)? {
+        let place = Place::of(rt, alloc, name)?;
+        if place.is_of(rt, alloc, self.rcfile)? {
             return Err(Stopped::at(alloc, name));
         }
         if let Some(database) = self.database
-            && is_same_file(rt, alloc, name, database)?
+            && place.is_of(rt, alloc, database)?
         {
             return Err(Stopped::at(alloc, name));
         }
         for path in self.archives {
-            if is_same_file(rt, alloc, name, path.as_str())? {
+            if place.is_of(rt, alloc, path.as_str())? {
                 return Err(Stopped::at(alloc, name));
             }
         }

@@ -10,7 +10,7 @@ use crate::program::stopped::Stopped;
 use crate::reply::Reply;
 use crate::stored::search_run;
 use mail_dates::Moment;
-use mairix_files::{Beginning, FileState, sources_in};
+use mairix_files::{FileState, Retried, sources_in};
 use mairix_options::{Plan, Rc, answer_file};
 use mbox_cutter::ToWrite;
 use run_faults::Fault;
@@ -52,7 +52,8 @@ pub(crate) struct Search<'a> {
 /// # Errors
 ///
 /// `CannotOpen` where that file can't be made; with nothing touched where it would be an archive, the rcfile or the index. Else the
-/// run's own fault, or want of more numbers for archives. No file is left then, and an older answer is as it was.
+/// run's own fault, or want of more numbers for archives. No file is left then, and an older answer is as it was, unless only the
+/// folder of the new one can't be brought to the disk.
 pub(crate) fn run_search<R: Files<File = File>, W: Write>(
     rt: &R,
     alloc: Global,
@@ -79,8 +80,7 @@ fn make_answer_file<R: Files<File = File>>(
         database: Some(rc.database.as_str()),
     };
     let passing = passing_name(alloc, name)?;
-    let beginning = Beginning::Separator;
-    let new = create_file(rt, alloc, passing.as_str(), name, beginning, &read)?;
+    let new = create_file(rt, alloc, passing.as_str(), name, &read)?;
     let answered = answer_to(rt, alloc, search, &mut new.file());
     settle_file(new, answered).map_err(Stopped::Fault)
 }
@@ -106,7 +106,7 @@ fn answer_to<R: Files<File = File>, W: Write>(
     } = *asked;
     let paths = rc.paths.as_slice();
     let mut archives = FileArchives::new(rt, alloc, paths, states).ok_or(Fault::TooMany)?;
-    let sink = &mut ToWrite::new(&mut *out);
+    let sink = &mut ToWrite::new(Retried::new(&mut *out));
     let reply = if plan.once {
         match sources_in(rt, alloc, paths, states) {
             Ok(mut sources) => {
