@@ -205,7 +205,36 @@ def marks(program):
                 yield "%s over %s" % (name, old and oct(old)), [] if good else ["status %d, %r, mode %o" % (p.returncode, p.stderr, mode(made))]
 
 
-CHECKS = (hard_links, mounts, without_case, links_to_processes, other_links, exchanged_leftovers, shared_folders, marks)
+def be_nobody():
+    """Root may read any folder, and so doesn't try this as root."""
+    if os.geteuid() == 0:
+        os.setgroups([])
+        os.setgid(NOBODY)
+        os.setuid(NOBODY)
+
+
+def unreadable_folders(program):
+    """In a folder that a run may not read its name can't be brought to the disk: the run says so, and the new file is in its place."""
+    for old in (None, b"old"):
+        for name, words, whole in MADE:
+            with tempfile.TemporaryDirectory() as folder:
+                write(folder, {"rc": RC, "m.mbox": HELLO} | ({name: old} if old else {}))
+                if os.geteuid() == 0:
+                    for path in (folder, *(os.path.join(folder, it) for it in os.listdir(folder))):
+                        os.chown(path, NOBODY, NOBODY)
+                os.chmod(folder, 0o300)
+                try:
+                    p = run(program, words, folder, capture_output=True, preexec_fn=be_nobody)
+                except (PermissionError, subprocess.SubprocessError):
+                    left_out("a folder that a run may not read: the program isn't where others than root reach it")
+                    return
+                finally:
+                    os.chmod(folder, 0o700)
+                want = {"rc": RC, "m.mbox": HELLO, name: whole}
+                yield "%s over %r" % (name, old), wrong(p, (4, b"", fault(b"output failed")), folder, want)
+
+
+CHECKS = (hard_links, mounts, without_case, links_to_processes, other_links, exchanged_leftovers, shared_folders, marks, unreadable_folders)
 
 
 def main(program):
