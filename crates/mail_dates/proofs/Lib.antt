@@ -4,6 +4,9 @@ pub mod Cuts
 pub mod Digits
 pub mod Formula
 pub mod LatestYear
+pub mod PeriodForms
+pub mod PeriodReading
+pub mod RangeReading
 mod RowTables
 mod RowsCalendar
 mod RowsHeaderDates

@@ -1,4 +1,4 @@
--- The periods of days that a range names.
+-- How the periods of days that a range names are read. PeriodGrammar says what they are, and laws that both are one.
 use Rattle.std.specs.Prelude.{ℕ, ◌-◌, ◌*◌, nat_le, nat_lt, ◌==◌, Bool, false, not, ◌&&◌, ℤ, pos, ◌-ℤ◌, int_le, List, length, take, drop, slice_get, slice_range, Option, Some, None, Result, Err, ok_or, is_some, if◌then◌else◌, option_map}
 use Rattle.std.specs.Option.{option_or}
 use Rattle.std.specs.Char.{is_ascii_digit, to_ascii_lowercase}

@@ -1,4 +1,4 @@
--- What a range of days takes in.
+-- What a range of days takes in, as it is read. RangeGrammar says what ranges are, and laws that both are one.
 use Rattle.std.specs.Prelude.{ℕ, ◌/◌, ◌==◌, ℤ, pos, int_le, Bool, true, false, ◌&&◌, List, [], ◌∷◌, Option, Some, None, Result, Ok, Err, ok_or}
 use Rattle.std.specs.List.{slice_split}
 use Rattle.std.specs.Option.{option_map_or}

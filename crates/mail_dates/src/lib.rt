@@ -23,7 +23,11 @@ mod zone;
 pub use fault::DateFault;
 pub use header_date::read_date;
 pub use iso_dates::iso_range;
-pub use laws::latest_year_is_latest;
+pub use laws::{
+    a_period_is_read_as_the_grammar_says, a_range_is_read_as_the_grammar_says,
+    forms_of_periods_exclude_one_another, latest_year_is_latest, what_is_no_period_is_refused,
+    what_is_no_range_is_refused,
+};
 pub use moment::Moment;
 pub use number::{are_digits, decimal_value};
 pub use range::Range;

@@ -1,8 +1,11 @@
 //! Ranges of days, as in `2w-`, `oct` or `21apr-mar`.
 
-ghost use Rattle.std.specs.Prelude.{◌≡◌, ◌≤ℤ◌, pos, Ok, Err};
+ghost use Rattle.std.specs.Prelude.{◌≡◌, ◌↔◌, ◌≤ℤ◌, pos, Ok, Err};
+ghost use Rattle.mail_dates.specs.declared.fault.DateFault.{DateFault};
+ghost use Rattle.mail_dates.specs.declared.range.Range.{Range};
 ghost use Rattle.mail_dates.specs.Calendar.{day_number, start_of_day, end_of_day};
 ghost use Rattle.mail_dates.specs.Ranges.{named_days_by, range_from_by, range_between_by, range_of_period_by, range_of_days, range_at};
+ghost use Rattle.mail_dates.specs.RangeGrammar.{IsRange, IsFault};
 
 use crate::days::Days;
 use crate::fault::DateFault;
@@ -22,7 +25,9 @@ use crate::text::cut;
 /// The error is `BadNumber` where a start, an end or a period is more than four digits and then such a letter, and
 /// `BadDate` at anything else. The end is read first, and its fault goes first.
 pub fn range_of(spec: &str, now: Moment) -> Result<Range, DateFault>
-    ensures { result ≡ range_at spec.now now }
+    ensures value { result ≡ range_at spec.now now }
+    ensures range { (range : Range) → (result ≡ Ok range) ↔ IsRange now spec.now range }
+    ensures fault { (fault : DateFault) → (result ≡ Err fault) ↔ IsFault now spec.now fault }
 {
     let text = spec.as_bytes();
     match cut(text, b'-') {

@@ -1,0 +1,374 @@
+-- How periods are read, which is as their grammar says.
+use Rattle.mail_dates.proofs.Words.{◌≡◌, ℕ, ◌-◌, ◌<◌, Bool, true, false, ◌&&◌, ◌==◌, List, [], ◌∷◌, ◌++◌, length, take, drop, Option, Some, None, Result, Ok, Err, refl, sym, ap, ◌∙◌, subst, arith, ℤ, pos, list_all, nat_tests, if◌then◌else◌, option_map, number_in, month_of, day_number, period_of, ◌>>=◌, DateFault, BadDate, BadNumber, ◌↔◌}
+use Rattle.std.specs.Prelude.{slice_get, slice_range, is_some, nat_lt, ok_or}
+use Rattle.contract_words.specs.Answers.{◌>>=◌ as ◌>>=ᵣ◌}
+use Rattle.std.specs.Char.{is_ascii_digit}
+use Rattle.std.specs.Option.{option_or}
+use Rattle.std.proofs.Common.{length-append}
+use Rattle.std.proofs.Math.Seq.{take-append_seam, drop-append_seam, get_or-append_seam}
+use Rattle.std.proofs.lemmas.List.{take-append-drop, drop-drop}
+use Rattle.std.proofs.lemmas.Option.{slice_get-get_or, option_and_then_some}
+use Rattle.mail_dates.specs.declared.days.Days.{Days}
+use Rattle.mail_dates.specs.declared.days.DaysOfYear.TheVariants as days
+use Rattle.mail_dates.specs.declared.period.Unit.{Unit}
+use Rattle.mail_dates.specs.declared.period.Period.{Period}
+use Rattle.mail_dates.specs.declared.period.Period.TheVariants.{Ago, InYear, Yearly}
+use Rattle.mail_dates.specs.Periods as periods
+use Rattle.mail_dates.specs.Periods.{unit_of, last_unit, before_last_letter, day_of, yearly_day, has_long_count, period_days_by}
+use Rattle.mail_dates.specs.Ranges.{named_days_by}
+use Rattle.mail_dates.specs.PeriodGrammar.{Names, Form, DaysAgo, FullDate, WholeYear, NamedMonth, DayThenMonth, MonthThenDay, IsPeriod, CountOfUnits, YearMonthDay, Year, Month, DayMonth, MonthDay, IsLongCount, DigitsAndUnit, IsRefused, LongCount, NoPeriod}
+use Rattle.mail_dates.proofs.PeriodForms.{number_is, name_is, formed, no_form, same_form}
+
+-- what is read of a text of this form
+abbrev read : Form → List ℕ → Option Period
+read DaysAgo text = periods.ago text
+read FullDate text = periods.full_date text
+read WholeYear text = periods.whole_year text
+read NamedMonth text = periods.yearly_month text
+read DayThenMonth text = periods.day_and_month text
+read MonthThenDay text = periods.month_and_day text
+
+-- ---- where texts are cut
+
+record IsCutAt (n : ℕ) (xs ys : List ℕ) : Type 0 where
+  front : take n (xs ++ ys) ≡ xs
+  back : drop n (xs ++ ys) ≡ ys
+
+cut_at : (n : ℕ) (xs ys : List ℕ) → length xs ≡ n → IsCutAt n xs ys
+cut_at n xs ys e = rw (← e) (record { front = take-append_seam xs ys; back = drop-append_seam xs ys })
+
+last_place : (front : List ℕ) (letter : ℕ) → length (front ++ letter ∷ []) - 1 ≡ length front
+last_place front letter = omega (arith, length-append front (letter ∷ []))
+
+last_unit-last : (front : List ℕ) (letter : ℕ) → last_unit (front ++ letter ∷ []) ≡ unit_of letter
+last_unit-last front letter =
+    let below : length front < length (front ++ letter ∷ []) = omega (arith, length-append front (letter ∷ [])) in
+    ap (λ o. o >>= unit_of) (ap (slice_get (front ++ letter ∷ [])) (last_place front letter)
+    ∙ slice_get-get_or (front ++ letter ∷ []) (length front) 0 below ∙ ap Some (get_or-append_seam front letter [] 0))
+
+before_last : (front : List ℕ) (letter : ℕ) → before_last_letter (front ++ letter ∷ []) ≡ front
+before_last front letter =
+    ap (λ n. take n (front ++ letter ∷ [])) (last_place front letter) ∙ take-append_seam front (letter ∷ [])
+
+-- a text that isn't empty has a last byte
+last_of : (b : ℕ) (bs : List ℕ) → (front : List ℕ) × (last : ℕ) × (b ∷ bs ≡ front ++ last ∷ [])
+last_of b [] = ([], b, refl)
+last_of b (c ∷ bs) = let l = last_of c bs in (b ∷ l.0, l.1, ap (λ (xs : List ℕ). b ∷ xs) l.2)
+
+-- ---- each form is read
+
+day_first : (digits name : List ℕ) (day month : ℕ) → day_of digits ≡ Some day → month_of name ≡ Some month
+    → periods.day_and_month (digits ++ name) ≡ Some (Yearly (days.Day month day))
+day_first digits name day month d e =
+    let n = name_is name month e in
+    let place : length (digits ++ name) - 3 ≡ length digits = omega (arith, length-append digits name, n.three) in
+    let cut = cut_at (length digits) digits name refl in
+    rw (place, cut.front, cut.back, e, d) refl
+
+month_first : (name digits : List ℕ) (month day : ℕ) → month_of name ≡ Some month → day_of digits ≡ Some day
+    → periods.month_and_day (name ++ digits) ≡ Some (Yearly (days.Day month day))
+month_first name digits month day e d =
+    let n = name_is name month e in
+    let cut = cut_at 3 name digits n.three in
+    rw (cut.front, cut.back, e, d) refl
+
+either : {P : Type 0} (a b : Option Period) (period : Period) → option_or a b ≡ Some period → (a ≡ Some period → P)
+    → (b ≡ Some period → P) → P
+either None b period e f g = g e
+either (Some x) b period e f g = f e
+
+-- ---- counts that are too long
+
+is_long : (text : List ℕ) → has_long_count text ≡ true → IsLongCount text
+is_long [] e = absurd cc
+is_long (b ∷ bs) e = let l = last_of b bs in subst IsLongCount (sym l.2) (go l.0 l.1 (sym (ap has_long_count l.2) ∙ e))
+  where
+    at : (digits : List ℕ) (letter : ℕ) (unit : Option Unit) → unit_of letter ≡ unit
+        → (is_some unit && nat_lt 4 (length digits) && list_all is_ascii_digit digits) ≡ true
+        → IsLongCount (digits ++ letter ∷ [])
+    at digits letter None u e = absurd cc
+    at digits letter (Some unit) u e =
+        DigitsAndUnit digits letter unit (grind (arith, nat_tests)) (grind (arith, nat_tests)) u
+
+    go : (digits : List ℕ) (letter : ℕ) → has_long_count (digits ++ letter ∷ []) ≡ true
+        → IsLongCount (digits ++ letter ∷ [])
+    go digits letter e =
+        at digits letter (unit_of letter) refl (rw (last_unit-last digits letter, before_last digits letter) at e)
+
+long_is : (text : List ℕ) → IsLongCount text → has_long_count text ≡ true
+long_is text (DigitsAndUnit digits letter unit many h u) =
+    let more : nat_lt 4 (length digits) ≡ true = grind (arith, nat_tests) in
+    rw (last_unit-last digits letter, before_last digits letter, u, more, h) refl
+
+-- ---- the parts of what is read
+
+same_some : {A : Type 0} (x y : A) → Some x ≡ Some y → x ≡ y
+same_some x y e = cc
+
+map_some : {A B : Type 0} (f : A → B) (o : Option A) (y : B) → option_map f o ≡ Some y
+    → (x : A) × (o ≡ Some x) × (f x ≡ y)
+map_some f o y e = grind arith
+
+record DateParts (text : List ℕ) (period : Period) : Type 0 where
+  year : ℕ
+  month : ℕ
+  day : ℕ
+  yyyy : number_in 4 4 (take 4 text) ≡ Some year
+  mm : number_in 2 2 (slice_range text 4 6) ≡ Some month
+  dd : number_in 2 2 (drop 6 text) ≡ Some day
+  is : period ≡ InYear (pos year) (days.Day month day)
+
+date_parts : (text : List ℕ) (period : Period) → periods.full_date text ≡ Some period → DateParts text period
+date_parts text period e =
+    go (length text == 8) (number_in 4 4 (take 4 text)) (number_in 2 2 (slice_range text 4 6)) (number_in 2 2 (drop 6 text)) refl refl refl e
+  where
+    go : (long : Bool) (y m d : Option ℕ) → number_in 4 4 (take 4 text) ≡ y
+        → number_in 2 2 (slice_range text 4 6) ≡ m → number_in 2 2 (drop 6 text) ≡ d
+        → (if long then (y >>= (λ year. m >>= (λ month. d >>= (λ day. Some (InYear (pos year) (days.Day month day)))))) else None) ≡ Some period → DateParts text period
+    go long y m d h h2 h3 h4 = grind arith
+
+date_text : (text : List ℕ) → take 4 text ++ (slice_range text 4 6 ++ drop 6 text) ≡ text
+date_text text =
+    ap (λ (t : List ℕ). take 4 text ++ t) (ap (λ (t : List ℕ). slice_range text 4 6 ++ t) (sym (drop-drop 2 4 text)) ∙ take-append-drop 2 (drop 4 text)) ∙ take-append-drop 4 text
+
+record YearlyParts (name digits : Option ℕ) (period : Period) : Type 0 where
+  month : ℕ
+  day : ℕ
+  named_month : name ≡ Some month
+  named_day : digits ≡ Some day
+  is : period ≡ Yearly (days.Day month day)
+
+yearly_parts : (name digits : Option ℕ) (period : Period) → yearly_day name digits ≡ Some period
+    → YearlyParts name digits period
+yearly_parts name digits period e = grind arith
+
+module _ (today by : ℤ) where
+  -- what is read has these days
+  record Reads (form : Form) (text : List ℕ) (said : Option Days) : Type 0 where
+    period : Period
+    is : read form text ≡ Some period
+    has : period_days_by day_number today by period ≡ said
+
+  ago_of : (front : List ℕ) (letter : ℕ)
+      → periods.ago (front ++ letter ∷ []) ≡ (unit_of letter >>= (λ unit. number_in 1 4 front >>= (λ count. Some (Ago count unit))))
+  ago_of front letter = rw (last_unit-last front letter, before_last front letter) refl
+
+  ago_read : (digits : List ℕ) (count letter : ℕ) (unit : Unit) → number_in 1 4 digits ≡ Some count
+      → unit_of letter ≡ Some unit → periods.ago (digits ++ letter ∷ []) ≡ Some (Ago count unit)
+  ago_read digits count letter unit e u = ago_of digits letter ∙ rw (u, e) refl
+
+  date_read : (yyyy mm dd : List ℕ) (year month day : ℕ) → number_in 4 4 yyyy ≡ Some year
+      → number_in 2 2 mm ≡ Some month → number_in 2 2 dd ≡ Some day
+      → periods.full_date (yyyy ++ (mm ++ dd)) ≡ Some (InYear (pos year) (days.Day month day))
+  date_read yyyy mm dd year month day e f g =
+      let y = number_is 4 4 yyyy year e in
+      let m = number_is 2 2 mm month f in
+      let d = number_is 2 2 dd day g in
+      let first = cut_at 4 yyyy (mm ++ dd) (omega (arith, y.low, y.high)) in
+      let second = cut_at 2 mm dd (omega (arith, m.low, m.high)) in
+      let long : length (yyyy ++ (mm ++ dd)) ≡ 8 = omega (arith, length-append yyyy (mm ++ dd), length-append mm dd, y.low, y.high, m.low, m.high, d.low, d.high) in
+      let front : take 4 (yyyy ++ (mm ++ dd)) ≡ yyyy = first.front in
+      let middle : slice_range (yyyy ++ (mm ++ dd)) 4 6 ≡ mm = ap (take 2) first.back ∙ second.front in
+      let back : drop 6 (yyyy ++ (mm ++ dd)) ≡ dd = sym (drop-drop 2 4 (yyyy ++ (mm ++ dd))) ∙ (ap (drop 2) first.back ∙ second.back) in
+      rw (long, front, middle, back, e, f, g) refl
+
+  reads : (text : List ℕ) (form : Form) (said : Option Days) → IsPeriod today by text form said → Reads form text said
+  reads text form said (CountOfUnits digits count letter unit e u) =
+      record { period = Ago count unit; is = ago_read digits count letter unit e u; has = refl }
+  reads text form said (YearMonthDay yyyy mm dd year month day e f g) =
+      record { period = InYear (pos year) (days.Day month day); is = date_read yyyy mm dd year month day e f g; has = refl }
+  reads text form said (Year yyyy year e) = record { period = InYear (pos year) days.All; is = rw e refl; has = refl }
+  reads text form said (Month name month e) = record { period = Yearly (days.Month month); is = rw e refl; has = refl }
+  reads text form said (DayMonth digits name day month d e) =
+      record { period = Yearly (days.Day month day); is = day_first digits name day month d e; has = refl }
+  reads text form said (MonthDay name digits month day e d) =
+      record { period = Yearly (days.Day month day); is = month_first name digits month day e d; has = refl }
+
+  -- ---- what is read is of the form
+
+  -- the text is of this form, with the days of this period
+  abbrev Is : Form → List ℕ → Period → Type 0
+  Is form text period = IsPeriod today by text form (period_days_by day_number today by period)
+
+  ago_is : (front : List ℕ) (letter : ℕ) (period : Period) → periods.ago (front ++ letter ∷ []) ≡ Some period
+      → Is DaysAgo (front ++ letter ∷ []) period
+  ago_is front letter period e =
+      option_and_then_some (λ unit. number_in 1 4 front >>= (λ count. Some (Ago count unit))) (unit_of letter) period (sym (ago_of front letter) ∙ e) (λ unit u h.
+      option_and_then_some (λ count. Some (Ago count unit)) (number_in 1 4 front) period h (λ count n k.
+      subst (Is DaysAgo (front ++ letter ∷ [])) (same_some _ _ k) (CountOfUnits front count letter unit n u)))
+
+  date_is : (text : List ℕ) (period : Period) → periods.full_date text ≡ Some period → Is FullDate text period
+  date_is text period e =
+      let d = date_parts text period e in
+      subst (λ (t : List ℕ). Is FullDate t period) (date_text text)
+      (subst (Is FullDate (take 4 text ++ (slice_range text 4 6 ++ drop 6 text))) (sym d.is) (YearMonthDay (take 4 text) (slice_range text 4 6) (drop 6 text) d.year d.month d.day d.yyyy d.mm d.dd))
+
+  year_is : (text : List ℕ) (period : Period) → periods.whole_year text ≡ Some period → Is WholeYear text period
+  year_is text period e =
+      let m = map_some (λ year. InYear (pos year) days.All) (number_in 4 4 text) period e in subst (Is WholeYear text) m.2 (Year text m.0 m.1)
+
+  month_is : (text : List ℕ) (period : Period) → periods.yearly_month text ≡ Some period → Is NamedMonth text period
+  month_is text period e =
+      let m = map_some (λ month. Yearly (days.Month month)) (month_of text) period e in subst (Is NamedMonth text) m.2 (Month text m.0 m.1)
+
+  day_first_is : (n : ℕ) (text : List ℕ) (period : Period)
+      → yearly_day (month_of (drop n text)) (day_of (take n text)) ≡ Some period → Is DayThenMonth text period
+  day_first_is n text period e =
+      let p = yearly_parts (month_of (drop n text)) (day_of (take n text)) period e in
+      subst (λ (t : List ℕ). Is DayThenMonth t period) (take-append-drop n text)
+      (subst (Is DayThenMonth (take n text ++ drop n text)) (sym p.is) (DayMonth (take n text) (drop n text) p.day p.month p.named_day p.named_month))
+
+  month_first_is : (n : ℕ) (text : List ℕ) (period : Period)
+      → yearly_day (month_of (take n text)) (day_of (drop n text)) ≡ Some period → Is MonthThenDay text period
+  month_first_is n text period e =
+      let p = yearly_parts (month_of (take n text)) (day_of (drop n text)) period e in
+      subst (λ (t : List ℕ). Is MonthThenDay t period) (take-append-drop n text)
+      (subst (Is MonthThenDay (take n text ++ drop n text)) (sym p.is) (MonthDay (take n text) (drop n text) p.month p.day p.named_month p.named_day))
+
+  is_read : (form : Form) (text : List ℕ) (period : Period) → read form text ≡ Some period → Is form text period
+  is_read DaysAgo [] period e = absurd cc
+  is_read DaysAgo (b ∷ bs) period e =
+      let l = last_of b bs in subst (λ (t : List ℕ). Is DaysAgo t period) (sym l.2) (ago_is l.0 l.1 period (ap periods.ago (sym l.2) ∙ e))
+  is_read FullDate text period e = date_is text period e
+  is_read WholeYear text period e = year_is text period e
+  is_read NamedMonth text period e = month_is text period e
+  is_read DayThenMonth text period e = day_first_is (length text - 3) text period e
+  is_read MonthThenDay text period e = month_first_is 3 text period e
+
+  -- ---- the forms are tried in turn
+
+  chosen : List ℕ → Option Period
+  chosen text = option_or (periods.ago text) (option_or (periods.full_date text) (option_or (periods.whole_year text)
+      (option_or (periods.yearly_month text) (option_or (periods.day_and_month text) (periods.month_and_day text)))))
+
+  -- what is read of another form is the same
+  later : (g f : Form) (text : List ℕ) (period : Period) (rest : Option Period) → read f text ≡ Some period
+      → rest ≡ Some period → option_or (read g text) rest ≡ Some period
+  later g f text period rest e h = go (read g text) refl
+    where
+      go : (o : Option Period) → read g text ≡ o → option_or o rest ≡ Some period
+      go None k = h
+      go (Some other) k =
+          sym k ∙ (ap (λ form. read form text) (same_form today by text g f _ _ (is_read g text other k) (is_read f text period e)) ∙ e)
+
+  chosen_is : (form : Form) (text : List ℕ) (period : Period) → read form text ≡ Some period → chosen text ≡ Some period
+  unfolding chosen
+  chosen_is form text period e = go form e
+    where
+      before : (g : Form) (rest : Option Period) → rest ≡ Some period → option_or (read g text) rest ≡ Some period
+      before g rest h = later g form text period rest e h
+
+      go : (f : Form) → read f text ≡ Some period → chosen text ≡ Some period
+      go DaysAgo h = rw h refl
+      go FullDate h = before DaysAgo _ (rw h refl)
+      go WholeYear h = before DaysAgo _ (before FullDate _ (rw h refl))
+      go NamedMonth h = before DaysAgo _ (before FullDate _ (before WholeYear _ (rw h refl)))
+      go DayThenMonth h = before DaysAgo _ (before FullDate _ (before WholeYear _ (before NamedMonth _ (rw h refl))))
+      go MonthThenDay h =
+          before DaysAgo _ (before FullDate _ (before WholeYear _ (before NamedMonth _ (before DayThenMonth _ h))))
+
+  record HasForm (text : List ℕ) (period : Period) : Type 0 where
+    form : Form
+    is : read form text ≡ Some period
+
+  is_chosen : (text : List ℕ) (period : Period) → chosen text ≡ Some period → HasForm text period
+  unfolding chosen
+  is_chosen text period e =
+      let at : (form : Form) → read form text ≡ Some period → HasForm text period = λ form h. record { form = form; is = h } in
+      either (read DaysAgo text) _ period e (at DaysAgo) (λ e. either (read FullDate text) _ period e (at FullDate) (λ e. either (read WholeYear text) _ period e (at WholeYear)
+      (λ e. either (read NamedMonth text) _ period e (at NamedMonth) (λ e. either (read DayThenMonth text) _ period e (at DayThenMonth) (at MonthThenDay)))))
+
+  -- ---- the days that a text names
+
+  abbrev named : List ℕ → Result Days DateFault
+  named text = named_days_by day_number today by text
+
+  not_long : (text : List ℕ) (form : Form) (said : Option Days) → IsPeriod today by text form said
+      → has_long_count text ≡ false
+  not_long text form said h = go (has_long_count text) refl
+    where
+      go : (t : Bool) → has_long_count text ≡ t → t ≡ false
+      go false e = refl
+      go true e =
+          let none : None ≡ Some form = sym (no_form text (is_long text e)) ∙ formed today by text form said h in absurd cc
+
+  pub names_read : (text : List ℕ) (days : Days) → Names today by text days → named text ≡ Ok days
+  unfolding period_of chosen
+  names_read text days n =
+      let r = reads text n.form (Some days) n.period in
+      rw (not_long text n.form (Some days) n.period, chosen_is n.form text r.period r.is, r.has) refl
+
+  pub long_read : (text : List ℕ) → IsLongCount text → named text ≡ Err BadNumber
+  unfolding period_of
+  long_read text h = rw (long_is text h) refl
+
+  record HasRead (text : List ℕ) (days : Days) : Type 0 where
+    period : Period
+    is : chosen text ≡ Some period
+    has : period_days_by day_number today by period ≡ Some days
+
+  was_read : (long : Bool) (text : List ℕ) (days : Days)
+      → ((if long then Err BadNumber else ok_or (chosen text) BadDate) >>=ᵣ (λ period. ok_or (period_days_by day_number today by period) BadDate)) ≡ Ok days → HasRead text days
+  was_read long text days e = grind arith
+
+  pub read_names : (text : List ℕ) (days : Days) → named text ≡ Ok days → Names today by text days
+  unfolding period_of chosen
+  read_names text days e =
+      let h = was_read (has_long_count text) text days e in
+      let f = is_chosen text h.period h.is in
+      record { form = f.form; period = subst (IsPeriod today by text f.form) h.has (is_read f.form text h.period f.is) }
+
+  other_fault : (o : Option Period)
+      → (ok_or o BadDate >>=ᵣ (λ period. ok_or (period_days_by day_number today by period) BadDate)) ≡ Err BadNumber
+      → ⊥
+  other_fault o e = grind arith
+
+  pub read_long : (text : List ℕ) → named text ≡ Err BadNumber → IsLongCount text
+  unfolding period_of chosen
+  read_long text e = go (has_long_count text) refl e
+    where
+      go : (t : Bool) → has_long_count text ≡ t
+          → ((if t then Err BadNumber else ok_or (chosen text) BadDate) >>=ᵣ (λ period. ok_or (period_days_by day_number today by period) BadDate)) ≡ Err BadNumber → IsLongCount text
+      go true h k = is_long text h
+      go false h k = absurd (other_fault (chosen text) k)
+
+  -- ---- the laws
+
+  pub one_form : (text : List ℕ) (f g : Form) (d e : Option Days) → IsPeriod today by text f d
+      → IsPeriod today by text g e → (f ≡ g) × (d ≡ e)
+  one_form text f g d e h k =
+      (same, sym r.has ∙ (ap (period_days_by day_number today by) (same_some r.period s.period both) ∙ s.has))
+    where
+      same : f ≡ g
+      same = same_form today by text f g d e h k
+
+      r : Reads f text d
+      r = reads text f d h
+
+      s : Reads g text e
+      s = reads text g e k
+
+      both : Some r.period ≡ Some s.period
+      both = sym r.is ∙ (ap (λ form. read form text) same ∙ s.is)
+
+  pub named_law : (text : List ℕ) (days : Days) → (named text ≡ Ok days) ↔ Names today by text days
+  named_law text days = (read_names text days, names_read text days)
+
+  pub refused_law : (text : List ℕ) (fault : DateFault) → (named text ≡ Err fault) ↔ IsRefused today by text fault
+  refused_law text fault = (refused fault, is_refused fault)
+    where
+      refused : (fault : DateFault) → named text ≡ Err fault → IsRefused today by text fault
+      refused BadNumber e = LongCount (read_long text e)
+      refused BadDate e =
+          NoPeriod (λ days n. let ok : Ok days ≡ Err BadDate = sym (names_read text days n) ∙ e in cc)
+          (λ long. let other : Err BadNumber ≡ Err BadDate = sym (long_read text long) ∙ e in cc)
+
+      go : (r : Result Days DateFault) → named text ≡ r → ((days : Days) → Names today by text days → ⊥)
+          → (IsLongCount text → ⊥) → named text ≡ Err BadDate
+      go (Ok days) e h k = absurd (h days (read_names text days e))
+      go (Err BadDate) e h k = e
+      go (Err BadNumber) e h k = absurd (k (read_long text e))
+
+      is_refused : (fault : DateFault) → IsRefused today by text fault → named text ≡ Err fault
+      is_refused fault (LongCount long) = long_read text long
+      is_refused fault (NoPeriod h k) = go (named text) refl h k

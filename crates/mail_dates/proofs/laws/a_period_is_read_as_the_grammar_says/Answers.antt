@@ -1,0 +1,5 @@
+use Rattle.mail_dates.proofs.PeriodReading.{named_law}
+use Rattle.mail_dates.proofs.laws.a_period_is_read_as_the_grammar_says.Goals as goal
+
+pub returns : goal.returns
+returns c = named_law

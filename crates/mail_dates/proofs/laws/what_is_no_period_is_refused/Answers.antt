@@ -1,0 +1,5 @@
+use Rattle.mail_dates.proofs.PeriodReading.{refused_law}
+use Rattle.mail_dates.proofs.laws.what_is_no_period_is_refused.Goals as goal
+
+pub returns : goal.returns
+returns c = refused_law
