@@ -60,7 +60,7 @@ fn keeps_all(text: &str) -> bool
     text.chars().all(keeps_itself)
 }
 
-/// Adds the folding of a word behind what `into` holds. What it holds after an error isn't said.
+/// Adds the folding of a word after what `into` holds. Where memory is wanting, `into` holds what it held before.
 pub fn fold_onto(word: &str, into: &mut String) -> Result<(), AllocError>
     ensures exact { OnOk result
         (string_bytes into.new ≡ string_bytes into.old ++ folding word.now) }
@@ -73,12 +73,17 @@ pub fn fold_onto(word: &str, into: &mut String) -> Result<(), AllocError>
     // Memory is taken only where there is too little room.
     ensures full { OnErr result
         (string_capacity into.old < string_len into.old + length (folding word.now)) }
+    ensures refused { OnErr result (string_bytes into.new ≡ string_bytes into.old) }
 {
     if keeps_all(word) {
         return into.push_str(word);
     }
+    let start = into.len();
     for c in word.chars().default_case_fold() {
-        into.push(c)?;
+        if let Err(want) = into.push(c) {
+            into.truncate(start);
+            return Err(want);
+        }
     }
     Ok(())
 }

@@ -1,6 +1,7 @@
-use Rattle.mail_words.proofs.Imports.{◌≡◌, ◌+◌, ◌≤◌, ◌++◌, List, ℕ, length, encode_utf8, string_bytes, ap, arith, length-append, folding}
+use Rattle.mail_words.proofs.Imports.{◌≡◌, ◌+◌, ◌≤◌, ◌++◌, List, ℕ, IsUtf8, length, take, encode_utf8, string_bytes, ap, sym, subst, ◌∙◌, arith, length-append, folding}
 use Rattle.std.proofs.Common.{Global, String, string_len}
-use Rattle.std.proofs.lemmas.Result.{err_from_is_err_and}
+use Rattle.std.proofs.lemmas.List.{take_all, take-append-le}
+use Rattle.std.proofs.lemmas.Str.{IsCharBoundary-from_take, IsUtf8-had}
 use Rattle.mail_words.proofs.FoldingLemmas.{length-folding, folding-same, folding_some, folds_from_start, folds_further, folds_to_end, folds_within}
 use Rattle.mail_words.proofs.folding.fold_onto.Goals as goal
 
@@ -15,23 +16,44 @@ pub returns-then-keeps_all-clause-full : goal.returns-then-keeps_all-clause-full
 returns-then-keeps_all-clause-full c = grind (arith, folding-same)
 
 pub loop-c-init : goal.loop-c-init
-loop-c-init c = record {
-  folds = rw c.into_iter-c-iterator.ensures.into_iter_gives (folds_from_start _ _ _ _ c.utf8.word c.chars.ensures.rest c.default_case_fold-c-items.ensures.text);
-  roomy = omega arith;
-}
+loop-c-init c =
+    let old = string_bytes c.args.into.now in
+    let whole : length old ≤ c.len-start.result = omega (arith, c.args.into.now.bytes.ok.0) in
+    record {
+      folds = rw c.into_iter-c-iterator.ensures.into_iter_gives (folds_from_start _ _ _ _ c.utf8.word c.chars.ensures.rest c.default_case_fold-c-items.ensures.text);
+      roomy = omega arith;
+      kept = take_all c.len-start.result old whole;
+      within = omega (arith, c.args.into.now.bytes.ok.0);
+    }
 
 pub loop-c-preserved : goal.loop-c-preserved
-loop-c-preserved c = record {
-  folds = rw c.in_ok-push.ensures.bytes (folds_further _ _ _ _ _ c.loop-c.invariant.folds c.in-Some.ensures.steps);
-  roomy = omega (arith, c.in_ok-push.ensures.capacity);
-}
+loop-c-preserved c =
+    let before = string_bytes c.loop-c.into in
+    let inv = c.loop-c.invariant in
+    rw c.in_default.ensures.bytes (record {
+      folds = folds_further _ _ _ _ _ inv.folds c.in-Some.ensures.steps;
+      roomy = omega (arith, c.in_default.ensures.capacity, inv.roomy);
+      kept = take-append-le c.len-start.result before (encode_utf8 c.in-Some.c) inv.within ∙ inv.kept;
+      within = omega (arith, inv.within, length-append before (encode_utf8 c.in-Some.c));
+    })
 
-pub returns-in_err-push-clause-full : goal.returns-in_err-push-clause-full
-returns-in_err-push-clause-full c =
-    let refused = err_from_is_err_and c.from_residual.result c.from_residual.ensures.1 in
+pub truncate-requires : goal.truncate-requires
+truncate-requires c =
+    let text = string_bytes c.loop-c.into in
+    let inv = c.loop-c.invariant in
+    let front = subst IsUtf8 (sym inv.kept) (IsUtf8-had _ c.args.into.now.ok) in
+    let boundary = IsCharBoundary-from_take text c.len-start.result (IsUtf8-had _ c.loop-c.into.ok) inv.within front in
+    λ _. rw c.in-Err.ensures.bytes (boundary.0, λ _. boundary.1)
+
+pub returns-in-Err-clause-full : goal.returns-in-Err-clause-full
+returns-in-Err-clause-full c =
     let all : List ℕ = string_bytes c.args.into.now ++ folding c.args.word.now in
-    let within : length (string_bytes c.loop-c.into ++ encode_utf8 c.in-Some.c) ≤ length all = folds_within _ _ _ (folds_further _ _ _ _ _ c.loop-c.invariant.folds c.in-Some.ensures.steps) in
-    rw refused.1 (omega (arith, c.in_err-push.ensures.full, length-append (string_bytes c.loop-c.into) (encode_utf8 c.in-Some.c), length-append (string_bytes c.args.into.now) (folding c.args.word.now), c.args.into.now.bytes.ok.0))
+    let inv = c.loop-c.invariant in
+    let within : length (string_bytes c.loop-c.into ++ encode_utf8 c.in-Some.c) ≤ length all = folds_within _ _ _ (folds_further _ _ _ _ _ inv.folds c.in-Some.ensures.steps) in
+    omega (arith, c.in-Err.ensures.full, inv.roomy, length-append (string_bytes c.loop-c.into) (encode_utf8 c.in-Some.c), length-append (string_bytes c.args.into.now) (folding c.args.word.now), c.args.into.now.bytes.ok.0)
+
+pub returns-in-Err-clause-refused : goal.returns-in-Err-clause-refused
+returns-in-Err-clause-refused c = c.truncate.ensures.bytes ∙ ap (take c.len-start.result) c.in-Err.ensures.bytes ∙ c.loop-c.invariant.kept
 
 pub returns-clause-exact : goal.returns-clause-exact
 returns-clause-exact c = folds_to_end _ _ _ _ c.loop-c.invariant.folds c.in-None.ensures.steps
