@@ -22,6 +22,7 @@ pub use Rattle.header_text.specs.Ids.{begins_with, close_sign, ids_size, is_id, 
 unfoldable pub use Rattle.header_text.specs.Ids.{ids_of}
 pub use Rattle.header_text.specs.Inside.Alphabet.{is_symbol}
 pub use Rattle.header_text.specs.Inside.Breaks.{led, without_final_cr}
+pub use Rattle.header_text.specs.Inside.Fronts.{IsFront}
 pub use Rattle.header_text.specs.Inside.Ids.{after_last_open, closed_texts, ids_in, onto_first}
 pub use Rattle.header_text.specs.Inside.ShownWords.{no_word, shown_found, shown_word, word_first}
 pub use Rattle.header_text.specs.OpenFields.{fields_with, is_open_after, is_open_behind, onto_last}

@@ -1,5 +1,5 @@
 //! Groups of base64 symbols.
-ghost use Rattle.std.specs.Prelude.{◌≡◌, ℕ, ◌<◌, ◌≤◌, ◌+◌, ◌%◌, ◌/◌, ◌*◌, ◌++◌, take, List, [], true, length, slice_index, OnOk, IfOk};
+ghost use Rattle.std.specs.Prelude.{◌≡◌, ℕ, ◌<◌, ◌≤◌, ◌+◌, ◌%◌, ◌/◌, ◌*◌, ◌++◌, take, List, [], true, length, slice_index, OnOk, OnErr, IfOk};
 ghost use Rattle.header_text.specs.Base64.{bytes_of_symbols};
 ghost use Rattle.header_text.specs.Inside.Alphabet.{is_symbol as is_symbol_of};
 
@@ -57,7 +57,8 @@ pub fn decode_groups(symbols: &[u8], into: &mut Vec<u8>) -> Result<(), AllocErro
     requires groups { length symbols.now % 4 ≡ 0 }
     requires symbols { (k : ℕ) → k < length symbols.now
         → is_symbol_of (slice_index symbols.now k) ≡ true }
-    ensures { OnOk result (into.new.items ≡ into.old.items ++ bytes_of_symbols symbols.now) }
+    ensures bytes { OnOk result (into.new.items ≡ into.old.items ++ bytes_of_symbols symbols.now) }
+    ensures refused { OnErr result (into.new.items ≡ into.old.items) }
 {
     let start = into.len();
     let size = symbols.len() / 4 * 3;

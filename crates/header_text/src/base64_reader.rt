@@ -1,5 +1,6 @@
 //! Base64 that comes piece by piece.
-ghost use Rattle.std.specs.Prelude.{◌≡◌, ℕ, ◌<◌, ◌≤◌, ◌+◌, ◌%◌, ◌∷◌, ◌++◌, length, slice_index, List, true, IfOk, OnOk};
+ghost use Rattle.std.specs.Prelude.{◌≡◌, ℕ, ◌<◌, ◌≤◌, ◌+◌, ◌%◌, ◌∷◌, ◌++◌, length, slice_index, List, true, IfOk, OnOk, OnErr};
+ghost use Rattle.bstr.specs.Text.{Extends};
 ghost use Rattle.header_text.specs.Base64.{bytes_of_symbols, base64_bytes};
 ghost use Rattle.header_text.specs.Inside.Alphabet.{is_symbol as is_symbol_of};
 ghost use Rattle.header_text.specs.Symbols.{symbols_of};
@@ -18,9 +19,10 @@ pub struct Base64 {
 /// Holds one symbol more, or decodes its group.
 fn hold(held: Held, symbol: u8, into: &mut Vec<u8>) -> Result<Held, AllocError>
     requires { is_symbol_of symbol ≡ true }
-    ensures { IfOk result (λ after. (later : List ℕ)
+    ensures bytes { IfOk result (λ after. (later : List ℕ)
         → into.new.items ++ bytes_of_symbols (symbols_of after ++ later)
         ≡ into.old.items ++ bytes_of_symbols (symbols_of held ++ symbol ∷ later)) }
+    ensures kept { Extends into.old.items into.new.items }
 {
     let mut symbols = held.symbols;
     symbols[held.count] = symbol;
@@ -33,11 +35,12 @@ fn hold(held: Held, symbol: u8, into: &mut Vec<u8>) -> Result<Held, AllocError>
     decode_groups(&symbols, into).and(Ok(Held { symbols, count: 0 }))
 }
 
-/// Decodes a text without `=` behind the symbols that are held.
+/// Decodes a text without `=` behind the symbols that are held. Where memory is wanting, a front of its bytes may stay.
 fn decode_text(held: Held, text: &[u8], into: &mut Vec<u8>) -> Result<Held, AllocError>
-    ensures { IfOk result (λ after. (later : List ℕ)
+    ensures bytes { IfOk result (λ after. (later : List ℕ)
         → into.new.items ++ bytes_of_symbols (symbols_of after ++ later)
         ≡ into.old.items ++ bytes_of_symbols (symbols_of held ++ (text.now ++ later))) }
+    ensures kept { Extends into.old.items into.new.items }
 {
     let mut held = held;
     let mut rest = text;
@@ -72,24 +75,38 @@ impl Base64 {
     }
 
     /// Reads a piece, and adds the bytes of the groups that it completes: bytes outside the alphabet are skipped, and the
-    /// text ends at its first `=`. What the buffer and the reader hold after an error isn't said.
+    /// text ends at its first `=`. Where memory is wanting, the reader and the buffer stay as they were.
     pub fn push(&mut self, piece: &[u8], into: &mut Vec<u8>) -> Result<(), AllocError>
-        ensures { OnOk result ((later : List ℕ) → into.new.items ++ bytes_to_come self.new later
+        ensures bytes { OnOk result ((later : List ℕ)
+            → into.new.items ++ bytes_to_come self.new later
             ≡ into.old.items ++ bytes_to_come self.old (piece.now ++ later)) }
+        ensures refused { OnErr result ((self.new ≡ self.old)
+            × (into.new.items ≡ into.old.items)) }
     {
         if self.ended {
             return Ok(());
         }
         let cut = cut_at(b'=', piece);
         let (text, _) = cut.unwrap_or((piece, b""));
-        self.held = decode_text(self.held, text, into)?;
-        self.ended = cut.is_some();
-        Ok(())
+        let start = into.len();
+        match decode_text(self.held, text, into) {
+            Ok(held) => {
+                self.held = held;
+                self.ended = cut.is_some();
+                Ok(())
+            }
+            Err(want) => {
+                into.truncate(start);
+                Err(want)
+            }
+        }
     }
 
-    /// Adds what the symbols that are left over give at the text's end: one byte of two, two of three.
+    /// Adds what the symbols that are left over give at the text's end: one byte of two, two of three. Where memory is wanting,
+    /// nothing is added.
     pub fn finish(self, into: &mut Vec<u8>) -> Result<(), AllocError>
-        ensures { OnOk result (into.new.items ≡ into.old.items ++ bytes_to_come self []) }
+        ensures bytes { OnOk result (into.new.items ≡ into.old.items ++ bytes_to_come self []) }
+        ensures refused { OnErr result (into.new.items ≡ into.old.items) }
     {
         let held = self.held;
         if held.count < 2 {

@@ -1,5 +1,6 @@
 //! Escapes of bytes as `=` and two hexadecimal digits.
-ghost use Rattle.std.specs.Prelude.{◌≡◌, ◌<◌, ◌≤◌, ◌+◌, ◌++◌, length, IfSome, OnOk};
+ghost use Rattle.std.specs.Prelude.{◌≡◌, ◌<◌, ◌≤◌, ◌+◌, ◌++◌, length, IfSome, OnOk, OnErr};
+ghost use Rattle.bstr.specs.Text.{Extends};
 ghost use Rattle.header_text.specs.Escapes.{hex_value, behind_equals as behind_equals_of, unescaped, q_bytes};
 
 use crate::cut::cut_at;
@@ -33,7 +34,8 @@ fn behind_equals(bytes: &[u8]) -> (u8, &[u8])
 
 /// Adds bytes as they stand, where there are any: in text beyond ASCII mostly one escape follows another.
 fn add_plain(plain: &[u8], into: &mut Vec<u8>) -> Result<(), AllocError>
-    ensures { OnOk result (into.new.items ≡ into.old.items ++ plain.now) }
+    ensures bytes { OnOk result (into.new.items ≡ into.old.items ++ plain.now) }
+    ensures kept { Extends into.old.items into.new.items }
 {
     if plain.is_empty() {
         return Ok(());
@@ -41,11 +43,10 @@ fn add_plain(plain: &[u8], into: &mut Vec<u8>) -> Result<(), AllocError>
     into.extend_from_slice(plain)
 }
 
-/// Adds bytes in which `=` and two hexadecimal digits in either case stand for a byte, and any other byte for itself, a
-/// lone `=` too (RFC 2045, 6.7, rule 1). What the buffer holds after an error isn't said.
-pub fn unescape_into(bytes: &[u8], into: &mut Vec<u8>) -> Result<(), AllocError>
+/// Adds what bytes with escapes stand for. Where memory is wanting, a front of it may stay.
+fn add_unescaped(bytes: &[u8], into: &mut Vec<u8>) -> Result<(), AllocError>
     ensures bytes { OnOk result (into.new.items ≡ into.old.items ++ unescaped bytes.now) }
-    ensures size { OnOk result (length into.new.items ≤ length into.old.items + length bytes.now) }
+    ensures kept { Extends into.old.items into.new.items }
 {
     let mut rest = bytes;
     while let Some((plain, behind)) = cut_at(b'=', rest) {
@@ -55,6 +56,21 @@ pub fn unescape_into(bytes: &[u8], into: &mut Vec<u8>) -> Result<(), AllocError>
         rest = later;
     }
     into.extend_from_slice(rest)
+}
+
+/// Adds bytes in which `=` and two hexadecimal digits in either case stand for a byte, and any other byte for itself, a
+/// lone `=` too (RFC 2045, 6.7, rule 1). Where memory is wanting, nothing is added.
+pub fn unescape_into(bytes: &[u8], into: &mut Vec<u8>) -> Result<(), AllocError>
+    ensures bytes { OnOk result (into.new.items ≡ into.old.items ++ unescaped bytes.now) }
+    ensures size { OnOk result (length into.new.items ≤ length into.old.items + length bytes.now) }
+    ensures refused { OnErr result (into.new.items ≡ into.old.items) }
+{
+    let start = into.len();
+    let outcome = add_unescaped(bytes, into);
+    if outcome.is_err() {
+        into.truncate(start);
+    }
+    outcome
 }
 
 /// Adds the bytes of a text in Q: as `unescape_into`, but that `_` is a space (RFC 2047, 4.2).

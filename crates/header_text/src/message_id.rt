@@ -1,7 +1,8 @@
 //! Message ids.
-ghost use Rattle.std.specs.Prelude.{◌≡◌, ◌<◌, ◌≤◌, ◌∷◌, ◌++◌, length, map, filter, option_map, All, IfOk, OnOk, if◌then◌else◌, nat_lt, []};
+ghost use Rattle.std.specs.Prelude.{◌≡◌, ◌<◌, ◌≤◌, ◌∷◌, ◌++◌, length, map, filter, option_map, All, IfOk, OnOk, OnErr, if◌then◌else◌, nat_lt, []};
 ghost use Rattle.header_text.specs.Ids.{ids_of, ids_size, is_id_byte};
 ghost use Rattle.header_text.specs.Inside.Ids.{ids_in, after_last_open as after_last_open_of};
+ghost use Rattle.header_text.specs.Inside.Fronts.{IsFront};
 
 use crate::cut::cut_at;
 use memchr::memrchr;
@@ -17,8 +18,9 @@ fn after_last_open(text: &[u8]) -> Option<&[u8]>
 
 /// Adds the id that a text before a `>` ends with, if it does.
 fn push_id(alloc: Global, ids: &mut Vec<Vec<u8>>, text: &[u8]) -> Result<(), AllocError>
-    ensures { OnOk result (map (λ id. id.items) ids.new.items
+    ensures ids { OnOk result (map (λ id. id.items) ids.new.items
         ≡ map (λ id. id.items) ids.old.items ++ ids_in (text.now ∷ [])) }
+    ensures kept { IsFront ids.old.items ids.new.items }
 {
     if let Some(inner) = after_last_open(text) {
         let mut id = Vec::from_slice(alloc, inner)?;
@@ -30,8 +32,22 @@ fn push_id(alloc: Global, ids: &mut Vec<Vec<u8>>, text: &[u8]) -> Result<(), All
     Ok(())
 }
 
+/// Adds the ids of a value. Where memory is wanting, some of them may stay.
+fn push_each(alloc: Global, value: &[u8], ids: &mut Vec<Vec<u8>>) -> Result<(), AllocError>
+    ensures ids { OnOk result (map (λ id. id.items) ids.new.items
+        ≡ map (λ id. id.items) ids.old.items ++ ids_of value.now) }
+    ensures kept { IsFront ids.old.items ids.new.items }
+{
+    let mut rest = value;
+    while let Some((text, behind)) = cut_at(b'>', rest) {
+        push_id(alloc, ids, text)?;
+        rest = behind;
+    }
+    Ok(())
+}
+
 /// Adds the ids of a value behind others, in order (RFC 5322, 3.6.4): each text between a `<` and the next `>` with neither
-/// between, without its spaces, tabs, CRs and LFs, if then not empty. What the list holds after an error isn't said.
+/// between, without its spaces, tabs, CRs and LFs, if then not empty. Where memory is wanting, none is added.
 pub fn push_ids(alloc: Global, value: &[u8], ids: &mut Vec<Vec<u8>>) -> Result<(), AllocError>
     ensures ids { OnOk result (map (λ id. id.items) ids.new.items
         ≡ map (λ id. id.items) ids.old.items ++ ids_of value.now) }
@@ -40,13 +56,14 @@ pub fn push_ids(alloc: Global, value: &[u8], ids: &mut Vec<Vec<u8>>) -> Result<(
 
     // All together, with the `<` and the `>` round each.
     ensures size { OnOk result (ids_size (ids_of value.now) ≤ length value.now) }
+    ensures refused { OnErr result (ids.new.items ≡ ids.old.items) }
 {
-    let mut rest = value;
-    while let Some((text, behind)) = cut_at(b'>', rest) {
-        push_id(alloc, ids, text)?;
-        rest = behind;
+    let start = ids.len();
+    let outcome = push_each(alloc, value, ids);
+    if outcome.is_err() {
+        ids.truncate(start);
     }
-    Ok(())
+    outcome
 }
 
 /// The ids of a value, as `push_ids` adds them. Together they have at most as many bytes as the value.

@@ -1,11 +1,19 @@
-use Rattle.header_text.proofs.Words.{◌∙◌, ◌++◌, ℕ, List, sym, ap, arith, take_rest, symbols_of}
+use Rattle.header_text.proofs.Words.{◌∙◌, ◌++◌, ℕ, List, sym, ap, arith, take_rest, Extends-refl, Extends-trans, symbols_of}
 use Rattle.header_text.proofs.WordLaws.GroupLemmas.{text-groups, text-other, sextet-other}
 use Rattle.header_text.proofs.base64_reader.decode_text.Goals as goal
 
+pub loop-first-init : goal.loop-first-init
+loop-first-init c = grind (arith, Extends-refl)
+
 pub loop-first-preserved-then-count-gt0 : goal.loop-first-preserved-then-count-gt0
-loop-first-preserved-then-count-gt0 c later = grind (arith, take_rest, text-groups)
+loop-first-preserved-then-count-gt0 c = record {
+  sofar = λ later. grind (arith, take_rest, text-groups);
+  kept = Extends-trans _ _ _ c.loop-first.invariant.kept (_, c.in_ok-decode_groups.ensures.bytes);
+}
 
 pub loop-first-preserved : goal.loop-first-preserved
-loop-first-preserved c later =
-    ap (λ (l : List ℕ). c.loop-first.into.items ++ l) (text-other (symbols_of c.loop-first.held) c.loop-first.rest.now c.in-Some.others.now c.in-Some.first.now c.in-Some.ensures.cases.0
-    (sextet-other c.in-Some.first.now (omega arith) (sym c.is_symbol.ensures ∙ c.if-is_symbol.false)) later) ∙ c.loop-first.invariant later
+loop-first-preserved c = record {
+  sofar = λ later. ap (λ (l : List ℕ). c.loop-first.into.items ++ l) (text-other (symbols_of c.loop-first.held) c.loop-first.rest.now c.in-Some.others.now c.in-Some.first.now c.in-Some.ensures.cases.0
+      (sextet-other c.in-Some.first.now (omega arith) (sym c.is_symbol.ensures ∙ c.if-is_symbol.false)) later) ∙ c.loop-first.invariant.sofar later;
+  kept = c.loop-first.invariant.kept;
+}

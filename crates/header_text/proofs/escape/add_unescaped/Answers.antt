@@ -1,8 +1,8 @@
-use Rattle.header_text.proofs.Words.{◌≡◌, ◌∙◌, ◌≤◌, ◌++◌, ℕ, List, [], ◌∷◌, length, sym, ap, arith, length-append, unescaped, behind_equals}
+use Rattle.header_text.proofs.Words.{◌≡◌, ◌∙◌, ◌≤◌, ◌++◌, ℕ, List, [], ◌∷◌, length, sym, ap, arith, length-append, Extends-append, Extends-trans, unescaped, behind_equals}
 use Rattle.header_text.proofs.CutLemmas.{IsCut, IsCut-from, Lacks-from}
-use Rattle.header_text.proofs.WordLaws.EscapeLemmas.{unescaped-step, unescaped-rest, written, length-behind_equals, length-unescaped}
-use Rattle.header_text.proofs.escape.unescape_into.Goals as goal
-use Rattle.header_text.proofs.escape.unescape_into.Goals.{In_ok-push}
+use Rattle.header_text.proofs.WordLaws.EscapeLemmas.{unescaped-step, unescaped-rest, written, length-behind_equals}
+use Rattle.header_text.proofs.escape.add_unescaped.Goals as goal
+use Rattle.header_text.proofs.escape.add_unescaped.Goals.{In_ok-push}
 
 cut : (c : In_ok-push) → IsCut 0x3D c.loop-plain.rest.now c.in-Some.plain.now c.in-Some.behind.now
 cut c = IsCut-from 0x3D c.loop-plain.rest.now c.in-Some.plain.now c.in-Some.behind.now (sym c.in-Some.ensures)
@@ -23,11 +23,11 @@ loop-plain-preserved c =
     let items : List ℕ = c.loop-plain.into.items in
     let behind = unescaped c.behind_equals-byte.result.1.now in
     let e : byte ≡ (behind_equals c.in-Some.behind.now).0 = ap (λ (p : ℕ × List ℕ). p.0) c.behind_equals-byte.ensures in
-    ap (λ (l : List ℕ). l ++ behind) (c.in_ok-push.ensures.items ∙ ap (λ (l : List ℕ). l ++ byte ∷ []) c.in_ok-add_plain.ensures) ∙ written items plain behind byte
-    ∙ ap (λ (l : List ℕ). items ++ l) (sym (unescaped-step c.loop-plain.rest.now plain c.in-Some.behind.now c.behind_equals-byte.result.1.now byte (cut c) e (later c))) ∙ c.loop-plain.invariant
+    record {
+      sofar = ap (λ (l : List ℕ). l ++ behind) (c.in_ok-push.ensures.items ∙ ap (λ (l : List ℕ). l ++ byte ∷ []) c.in_ok-add_plain.ensures.bytes) ∙ written items plain behind byte
+          ∙ ap (λ (l : List ℕ). items ++ l) (sym (unescaped-step c.loop-plain.rest.now plain c.in-Some.behind.now c.behind_equals-byte.result.1.now byte (cut c) e (later c))) ∙ c.loop-plain.invariant.sofar;
+      kept = Extends-append _ _ _ _ _ (Extends-trans _ _ _ c.loop-plain.invariant.kept c.add_plain.ensures.kept) c.push.ensures.items;
+    }
 
 pub returns-clause-bytes : goal.returns-clause-bytes
 returns-clause-bytes c = grind (arith, Lacks-from, unescaped-rest)
-
-pub returns-clause-size : goal.returns-clause-size
-returns-clause-size c = let bytes = returns-clause-bytes c in grind (arith, length-append, length-unescaped)

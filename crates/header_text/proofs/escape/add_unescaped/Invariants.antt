@@ -1,9 +1,12 @@
-use Rattle.header_text.proofs.Words.{◌≡◌, ◌++◌, length, unescaped}
-use Rattle.header_text.proofs.escape.unescape_into.Given as goal
+use Rattle.header_text.proofs.Words.{◌≡◌, ◌++◌, length, Extends, unescaped}
+use Rattle.header_text.proofs.escape.add_unescaped.Given as goal
 
 -- what was written, and what comes of the rest
 abbrev pub invariant-loop-plain : goal.invariant-loop-plain
-invariant-loop-plain l = l.into.items ++ unescaped l.rest ≡ l.fn.into.items ++ unescaped l.fn.bytes
+invariant-loop-plain l = record {
+  sofar : l.into.items ++ unescaped l.rest ≡ l.fn.into.items ++ unescaped l.fn.bytes;
+  kept : Extends l.fn.into.items l.into.items;
+}
 
 abbrev pub decreases-loop-plain : goal.decreases-loop-plain
 decreases-loop-plain l = length l.rest

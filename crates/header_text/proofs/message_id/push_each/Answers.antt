@@ -1,9 +1,13 @@
 use Rattle.header_text.proofs.Words.{◌≡◌, ◌∙◌, ◌++◌, ℕ, List, [], ◌∷◌, length, map, sym, ap, arith, length-append, append_assoc, append-nil, ids_in, closed_texts}
 use Rattle.header_text.proofs.CutLemmas.{IsCut, IsCut-from, Lacks-from}
-use Rattle.header_text.proofs.HeaderLaws.IdLemmas.{closed_texts-cut, closed_texts-free, ids_of-sized, ids_of-size}
+use Rattle.header_text.proofs.HeaderLaws.IdLemmas.{closed_texts-cut, closed_texts-free}
+use Rattle.header_text.proofs.TextFronts.{front-refl, front-trans}
 use Rattle.header_text.proofs.HeaderLaws.IdRanges.{ids_in-cons, ids_of-closed}
-use Rattle.header_text.proofs.message_id.push_ids.Goals as goal
-use Rattle.header_text.proofs.message_id.push_ids.Goals.{In_ok-push_id}
+use Rattle.header_text.proofs.message_id.push_each.Goals as goal
+use Rattle.header_text.proofs.message_id.push_each.Goals.{In_ok-push_id}
+
+pub loop-text-init : goal.loop-text-init
+loop-text-init c = grind (arith, front-refl)
 
 cut : (c : In_ok-push_id) → IsCut 0x3E c.loop-text.rest.now c.in-Some.text.now c.in-Some.behind.now
 cut c = IsCut-from 0x3E c.loop-text.rest.now c.in-Some.text.now c.in-Some.behind.now (sym c.in-Some.ensures)
@@ -17,14 +21,11 @@ loop-text-preserved c =
     let behind = c.in-Some.behind.now in
     let texts : closed_texts c.loop-text.rest.now ≡ text ∷ closed_texts behind = ap closed_texts (cut c).joined ∙ closed_texts-cut text behind (cut c).free in
     let old = map (λ id. id.items) c.loop-text.ids.items in
-    ap (λ (ids : List (List ℕ)). ids ++ ids_in (closed_texts behind)) c.in_ok-push_id.ensures ∙ append_assoc old (ids_in (text ∷ [])) (ids_in (closed_texts behind))
-    ∙ ap (λ (ids : List (List ℕ)). old ++ ids) (sym (ids_in-cons text (closed_texts behind)) ∙ ap ids_in (sym texts)) ∙ c.loop-text.invariant
+    record {
+      sofar = ap (λ (ids : List (List ℕ)). ids ++ ids_in (closed_texts behind)) c.in_ok-push_id.ensures.ids ∙ append_assoc old (ids_in (text ∷ [])) (ids_in (closed_texts behind))
+          ∙ ap (λ (ids : List (List ℕ)). old ++ ids) (sym (ids_in-cons text (closed_texts behind)) ∙ ap ids_in (sym texts)) ∙ c.loop-text.invariant.sofar;
+      kept = front-trans _ _ _ c.loop-text.invariant.kept c.push_id.ensures.kept;
+    }
 
 pub returns-clause-ids : goal.returns-clause-ids
 returns-clause-ids c = grind (arith, append-nil, Lacks-from, closed_texts-free, ids_of-closed)
-
-pub returns-clause-sizes : goal.returns-clause-sizes
-returns-clause-sizes c = ids_of-sized c.args.value.now
-
-pub returns-clause-size : goal.returns-clause-size
-returns-clause-size c = ids_of-size c.args.value.now

@@ -1,12 +1,12 @@
-use Rattle.header_text.proofs.Words.{◌≡◌, length}
+use Rattle.header_text.proofs.Words.{length, Extends}
 use Rattle.header_text.proofs.HeaderLaws.UnfoldLemmas.{Unfolds}
-use Rattle.header_text.proofs.unfolding.unfold_into.Given as goal
+use Rattle.header_text.proofs.unfolding.add_lines.Given as goal
 
 -- what was written, and what comes of the rest
 abbrev pub invariant-loop-line : goal.invariant-loop-line
 invariant-loop-line l = record {
-  start : l.start ≡ length l.fn.into.items;
   sofar : Unfolds l.fn.into.items l.fn.body l.into.items l.rest;
+  kept : Extends l.fn.into.items l.into.items;
 }
 
 abbrev pub decreases-loop-line : goal.decreases-loop-line

@@ -1,11 +1,11 @@
-use Rattle.header_text.proofs.Words.{◌≡◌, ◌++◌, ℕ, List, [], ◌∷◌, length, drop, sym, ap₂, subst, arith, append-nil, symbols_of}
+use Rattle.header_text.proofs.Words.{◌≡◌, ◌++◌, ℕ, List, [], ◌∷◌, length, drop, sym, ap₂, subst, arith, append-nil, take_all, symbols_of}
 use Rattle.std.proofs.lemmas.List.{length-take}
 use Rattle.header_text.proofs.WordLaws.GroupLemmas.{AreSymbols}
 use Rattle.header_text.proofs.WordLaws.ReaderLemmas.{short-bytes, kept, to_come-end, filled-symbols, held-symbols}
 use Rattle.header_text.proofs.base64_reader.Base64.finish.Goals as goal
 
-pub returns-then-held-lt2 : goal.returns-then-held-lt2
-returns-then-held-lt2 c = rw (to_come-end (symbols_of c.args.self.held) (held-symbols c.args.self.held.symbols c.args.self.held.count c.args.self.held.all) c.args.self.ended) (grind (arith, append-nil, length-take, short-bytes))
+pub returns-then-held-lt2-clause-bytes : goal.returns-then-held-lt2-clause-bytes
+returns-then-held-lt2-clause-bytes c = rw (to_come-end (symbols_of c.args.self.held) (held-symbols c.args.self.held.symbols c.args.self.held.count c.args.self.held.all) c.args.self.ended) (grind (arith, append-nil, length-take, short-bytes))
 
 pub decode_groups-outcome-requires-clause-symbols : goal.decode_groups-outcome-requires-clause-symbols
 decode_groups-outcome-requires-clause-symbols c =
@@ -16,5 +16,8 @@ decode_groups-outcome-requires-clause-symbols c =
     (ap₂ (λ (x : List ℕ) (n : ℕ). x ++ drop n (65 ∷ 65 ∷ 65 ∷ 65 ∷ [])) (sym c.copy_from_slice.ensures.after) size)
     (filled-symbols held are (omega (arith, c.if-held-lt2.false)) (omega (arith, c.args.self.held.few)))
 
-pub returns : goal.returns
-returns c = rw (to_come-end (symbols_of c.args.self.held) (held-symbols c.args.self.held.symbols c.args.self.held.count c.args.self.held.all) c.args.self.ended) (grind (arith, length-take, AreSymbols, kept, held-symbols))
+pub returns-clause-bytes : goal.returns-clause-bytes
+returns-clause-bytes c = rw (to_come-end (symbols_of c.args.self.held) (held-symbols c.args.self.held.symbols c.args.self.held.count c.args.self.held.all) c.args.self.ended) (grind (arith, length-take, AreSymbols, kept, held-symbols))
+
+pub returns-clause-refused : goal.returns-clause-refused
+returns-clause-refused c = grind (arith, take_all)
