@@ -1,5 +1,6 @@
 -- How many bytes ids have together.
-use Rattle.mime_text.proofs.Words.{◌≡◌, ◌+◌, ◌<◌, ◌≤◌, ◌++◌, ℕ, true, All, List, [], ◌∷◌, length, map, refl, ap, arith, append_assoc, Vec, Global, All-append, All-map, HeaderField, fields_size, most_in_header, ids_of, ids_size, IsSizedId, is_linking, ids_of_fields}
+use Rattle.mime_text.proofs.Words.{◌≡◌, ◌+◌, ◌<◌, ◌≤◌, ◌++◌, ℕ, true, All, List, [], ◌∷◌, length, map, refl, sym, ap, subst, arith, Ok, Err, OnOk, Result, append_assoc, Vec, Global, All-append, All-map, HeaderField, fields_size, most_in_header, ids_of, ids_size, IsSizedId, is_linking, ids_of_fields}
+use Rattle.std.specs.Prelude.{OnErr}
 use Rattle.header_text.proofs.HeaderLaws.IdLemmas.{each-kept}
 
 pub ids_size_append : (xs ys : List (List ℕ)) → ids_size (xs ++ ys) ≡ ids_size xs + ids_size ys
@@ -23,6 +24,19 @@ module _ (old new : List (Vec ℕ Global)) (more : List (List ℕ)) (size : ℕ)
 
   pub sized_append : ids_size more ≤ size → AreSized new
   sized_append small = (each-kept IsSizedId new (texts_of new) refl all_sized, omega (arith, ap ids_size e, ids_size_append (texts_of old) more))
+
+-- the same after a call that adds them or changes nothing
+module _ {T E : Type 0} (old new : List (Vec ℕ Global)) (more : List (List ℕ)) (size : ℕ) (room : ids_size (texts_of old) + size ≤ most_in_header) where
+  abbrev AddsSized : Result T E → Type 0
+  AddsSized r = OnOk r (texts_of new ≡ texts_of old ++ more) × OnOk r (All (λ id. (0 < length id) × (length id ≤ size)) more)
+
+  pub all_sized_after : (r : Result T E) → AreSized old → AddsSized r → OnOk r (All IsSizedId (texts_of new))
+  all_sized_after (Ok x) are adds = all_sized old new more size are.0 adds.0 adds.1 room
+  all_sized_after (Err x) are adds = tt
+
+  pub sized_after : (r : Result T E) → AreSized old → AddsSized r → OnOk r (ids_size more ≤ size) → OnErr r (new ≡ old) → AreSized new
+  sized_after (Ok x) are adds small same = sized_append old new more size are.0 adds.0 adds.1 room small
+  sized_after (Err x) are adds small same = subst AreSized (sym same) are
 
 -- the ids of a linking field behind others: they are those of the fields so far, and there is still room for the fields that are left
 module _ (f : HeaderField) (rest fields : List HeaderField) (ids more new : List (List ℕ)) (split : fields ≡ f ∷ rest) (behind : new ≡ ids ++ more) where

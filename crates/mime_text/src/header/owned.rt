@@ -1,5 +1,5 @@
 //! What facts keep of a header. Each type bounds by itself what it keeps.
-ghost use Rattle.std.specs.Prelude.{◌≡◌, ◌+◌, ◌≤◌, ℕ, List, [], ◌++◌, All, length, map, IfOk, OnOk, string_bytes};
+ghost use Rattle.std.specs.Prelude.{◌≡◌, ◌+◌, ◌≤◌, ℕ, List, [], ◌++◌, All, length, map, IfOk, OnOk, OnErr, string_bytes};
 ghost use Rattle.header_text.specs.Headers.{most_in_header};
 ghost use Rattle.header_text.specs.Ids.{ids_of, ids_size};
 ghost use Rattle.mime_text.specs.MessageFacts.{IsSizedId};
@@ -108,20 +108,15 @@ impl MessageIds {
         }
     }
 
-    /// Adds the ids of a field's body, and keeps none where memory is wanting.
+    /// Adds the ids of a field's body. Where memory is wanting, none is added.
     pub(crate) fn push_ids_of(&mut self, alloc: Global, body: &[u8]) -> Result<(), AllocError>
         requires room { ids_size self.old + length body.now ≤ most_in_header }
         ensures ids { OnOk result (self.new ≡ self.old ++ ids_of body.now) }
         ensures size { OnOk result (ids_size (ids_of body.now) ≤ length body.now) }
         ensures sizes { OnOk result (All IsSizedId self.new) }
+        ensures refused { OnErr result (self.new ≡ self.old) }
     {
-        match push_ids(alloc, body, &mut self.ids) {
-            Ok(()) => Ok(()),
-            Err(want) => {
-                self.ids.clear();
-                Err(want)
-            }
-        }
+        push_ids(alloc, body, &mut self.ids)
     }
 
     /// The ids, in order.

@@ -1,5 +1,5 @@
 //! Transfer encodings, undone line by line (RFC 2045, 6).
-ghost use Rattle.std.specs.Prelude.{◌≡◌, ℕ, ◌++◌, ◌∷◌, [], List, OnOk};
+ghost use Rattle.std.specs.Prelude.{◌≡◌, ℕ, ◌++◌, ◌∷◌, [], List, OnOk, OnErr};
 ghost use Rattle.mime_text.specs.Transfer.{printable_bytes, decoded_bytes};
 ghost use Rattle.mime_text.specs.Decoders.{still_decoded};
 
@@ -17,18 +17,21 @@ pub(crate) enum Decoder {
 }
 
 /// Adds the bytes of a line of quoted-printable: without its line break and the spaces and tabs before that; a final `=` takes
-/// the break away, else it is LF where the line has one (RFC 2045, 6.7, rules 3 and 5).
+/// the break away, else it is LF where the line has one (RFC 2045, 6.7, rules 3 and 5). Where memory is wanting, nothing is added.
 #[tactic(auto, unfolding(crate::specs::Transfer::printable_bytes))]
 fn push_printable(line: &[u8], into: &mut Vec<u8>) -> Result<(), AllocError>
-    ensures { OnOk result (into.new.items ≡ into.old.items ++ printable_bytes line.now) }
+    ensures bytes { OnOk result (into.new.items ≡ into.old.items ++ printable_bytes line.now) }
+    ensures refused { OnErr result (into.new.items ≡ into.old.items) }
 {
     let text = before_blanks(without_break(line));
     if let Some(soft) = text.strip_suffix(b"=") {
         return unescape_into(soft, into);
     }
+    let start = into.len();
     unescape_into(text, into)?;
-    if line.strip_suffix(b"\n").is_some() {
-        into.push(b'\n')?;
+    if line.strip_suffix(b"\n").is_some() && into.push(b'\n').is_err() {
+        into.truncate(start);
+        return Err(AllocError);
     }
     Ok(())
 }
@@ -45,11 +48,13 @@ impl Decoder {
         }
     }
 
-    /// Adds what the next line gives. What the buffer and the decoder hold after an error isn't said.
+    /// Adds what the next line gives. Where memory is wanting, the decoder and the buffer stay as they were.
     pub(crate) fn push(&mut self, line: &[u8], into: &mut Vec<u8>) -> Result<(), AllocError>
-        ensures { OnOk result ((later : List (List ℕ))
+        ensures bytes { OnOk result ((later : List (List ℕ))
             → into.new.items ++ still_decoded self.new later
             ≡ into.old.items ++ still_decoded self.old (line.now ∷ later)) }
+        ensures refused { OnErr result ((self.new ≡ self.old)
+            × (into.new.items ≡ into.old.items)) }
     {
         match self {
             Decoder::Identity => into.extend_from_slice(line),
@@ -58,9 +63,10 @@ impl Decoder {
         }
     }
 
-    /// Adds what is left over at the body's end.
+    /// Adds what is left over at the body's end. Where memory is wanting, nothing is added.
     pub(crate) fn finish(self, into: &mut Vec<u8>) -> Result<(), AllocError>
-        ensures { OnOk result (into.new.items ≡ into.old.items ++ still_decoded self []) }
+        ensures bytes { OnOk result (into.new.items ≡ into.old.items ++ still_decoded self []) }
+        ensures refused { OnErr result (into.new.items ≡ into.old.items) }
     {
         match self {
             Decoder::Identity | Decoder::QuotedPrintable => Ok(()),

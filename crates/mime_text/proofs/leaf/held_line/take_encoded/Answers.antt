@@ -7,7 +7,7 @@ use Rattle.mime_text.proofs.leaf.held_line.take_encoded.Goals as goal
 pub take_lines-requires-clause-free : goal.take_lines-requires-clause-free
 take_lines-requires-clause-free g c =
     let old : List ℕ = c.args.bytes.now.items in
-    still-free old c.push.new.into.items (still_decoded c.push.new.self []) (still_decoded c.args.decoder.now (c.args.line.now ∷ [])) c.min.result (c.in_ok-push.ensures [])
+    still-free old c.push.new.into.items (still_decoded c.push.new.self []) (still_decoded c.args.decoder.now (c.args.line.now ∷ [])) c.min.result (c.in_ok-push.ensures.bytes [])
     (omega arith) (omega arith) (held-free old c.requires)
 
 pub take_lines-requires-clause-few : goal.take_lines-requires-clause-few
@@ -21,6 +21,6 @@ returns-clause-hands g c =
     (λ ls. pairs_of_bytes c.args.texts.now (c.args.bytes.now.items ++ still_decoded c.args.decoder.now (c.args.line.now ∷ ls)))
     (λ ls. pairs_of_bytes c.take_lines.new.texts (end ++ still_decoded c.push.new.self ls)) (λ ls. still_decoded c.push.new.self ls ∷ [])
     c.take_lines.result c.args.sink.now c.take_lines.new.sink
-    (λ ls. ap (pairs_of_bytes c.args.texts.now) (sym (c.in_ok-push.ensures ls) ∙ ap (λ (l : List ℕ). mid ++ l) (sym (concat-one (still_decoded c.push.new.self ls)))))
+    (λ ls. ap (pairs_of_bytes c.args.texts.now) (sym (c.in_ok-push.ensures.bytes ls) ∙ ap (λ (l : List ℕ). mid ++ l) (sym (concat-one (still_decoded c.push.new.self ls)))))
     (λ ls. ap (λ (l : List ℕ). pairs_of_bytes c.take_lines.new.texts (end ++ l)) (sym (concat-one (still_decoded c.push.new.self ls))))
     c.take_lines.ensures.hands
