@@ -1,4 +1,4 @@
-use Rattle.mime_text.proofs.Words.{length}
+use Rattle.mime_text.proofs.Words.{length, arith}
 use Rattle.mime_text.proofs.IdSizes.{all_sized_after, sized_after}
 use Rattle.mime_text.proofs.header.owned.MessageIds.push_ids_of.Goals as goal
 
@@ -13,3 +13,6 @@ returns-clause-sizes c =
     let added = c.push_ids.ensures in
     all_sized_after c.self.inside.ids.items c.push_ids.new.ids.items _ (length c.args.body.now) (rw c.self.view_is c.requires.room) c.push_ids.result c.self.invariant
     (added.ids, added.sizes)
+
+pub returns-clause-ids : goal.returns-clause-ids
+returns-clause-ids c = grind arith
