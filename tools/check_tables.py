@@ -1,6 +1,6 @@
 #!/usr/bin/env python3
 """Compares tables of this repository with outside sources: charsets with Python's codecs, header dates with email.utils, and
-the rows of queries with a second reader. And looks for code that counts its steps for itself, which a clause can't always refuse.
+the rows of queries with a second reader. And looks for code that counts its steps for itself, which no clause and no type refuses.
 
 The last line is `N passed, M failed`.
 """
@@ -32,11 +32,12 @@ def same_query_rows():
 
 
 # The functions that begin a count of steps: `matches`, `with_threads` and `answer` have no caller's count.
-COUNTING = {"mail_answer::cursor::matches", "mail_answer::threads::thread_roots", "mail_answer::numbers::Numbers::chosen"}
+COUNTING = {"mail_answer::cursor::matches", "mail_answer::threads::with_threads", "mail_answer::numbers::Numbers::chosen"}
 
 
 def only_whole_searches_begin_counts():
-    """A cursor, and all below it, looks at postings and records only on the count that its caller hands it."""
+    """`Cursor::new` has the index and the allocator that begin a count, and what it looks up is to be on its caller's. What it calls, and
+    the other calls of a cursor, can't begin one."""
     crate, found = Path(TOOLS, "..", "crates", "mail_answer"), set()
     for file in sorted(crate.glob("src/**/*.rt")):
         text, path = blanked(file.read_text(encoding="utf-8")), file.relative_to(crate).as_posix()

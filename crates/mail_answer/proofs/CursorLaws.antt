@@ -3,6 +3,7 @@ pub mod Begins
 pub mod Containing
 pub mod Groups
 pub mod Lists
+pub mod LookUpSteps
 pub mod MarkedLists
 pub mod MemberLemmas
 pub mod Members

@@ -3,7 +3,7 @@ use Rattle.std.specs.Prelude.{ℕ, ◌+◌, ◌*◌, ◌^◌, ◌<◌, ◌≤◌
 use Rattle.mail_index.specs.declared.kind.Kind.{Kind}
 use Rattle.mail_index.specs.declared.kind.Kind.TheVariants.{Text, OwnId, LinkId}
 use Rattle.mail_index.specs.Tables.{Key, Table}
-use Rattle.mail_index.specs.LookUps.{keys_of}
+use Rattle.mail_index.specs.LookUps.{keys_of, comparisons}
 use Rattle.mail_query.specs.declared.kinds.Kinds.{Kinds}
 use Rattle.mail_query.specs.Kinds.{has_kind}
 use Rattle.mail_query.specs.Query.{Query, Word, Part, Prefix, Not, All, Either, Queries, End, More}
@@ -63,6 +63,24 @@ abbrev mutual
   pub look_ups_of_all : Queries → ℕ
   look_ups_of_all End = 0
   look_ups_of_all (More q qs) = look_ups q + look_ups_of_all qs
+
+-- how many comparisons are made in all of these kinds
+abbrev pub compared_in_all : (Kind → ℕ) → List Kind → ℕ
+compared_in_all compared [] = 0
+compared_in_all compared (kind ∷ kinds) = compared kind + compared_in_all compared kinds
+
+-- how many comparisons the look-ups of a query make: those of its text in each kind of each Word
+abbrev mutual
+  pub look_up_steps : List Key → Query → ℕ
+  look_up_steps keys (Word kinds text) = compared_in_all (λ kind. comparisons kind text keys) (kinds_in kinds)
+  look_up_steps keys (Not q) = look_up_steps keys q
+  look_up_steps keys (All qs) = look_up_steps_of_all keys qs
+  look_up_steps keys (Either qs) = look_up_steps_of_all keys qs
+  look_up_steps keys _ = 0
+
+  pub look_up_steps_of_all : List Key → Queries → ℕ
+  look_up_steps_of_all keys End = 0
+  look_up_steps_of_all keys (More q qs) = look_up_steps keys q + look_up_steps_of_all keys qs
 
 -- each look-up takes at most so many steps as the number of keys has binary digits
 pub record LooksUp (keys many old new : ℕ) : Type 0 where

@@ -18,7 +18,7 @@ mod walk;
 
 use crate::cursor::begin::walk_of;
 use crate::cursor::walk::Walk;
-use mail_index::{IndexView, Steps};
+use mail_index::{CountedIndex, IndexView, Steps};
 use mail_query::Query;
 use std::alloc::{AllocError, Global};
 use std::marker::Model;
@@ -45,7 +45,8 @@ impl<'a> Model for Cursor<'a> {
 }
 
 impl<'a> Cursor<'a> {
-    ghost use Rattle.mail_answer.specs.Cursors.{most_left, look_ups, LooksUp};
+    ghost use Rattle.mail_index.specs.Steps.{add_steps};
+    ghost use Rattle.mail_answer.specs.Cursors.{most_left, look_ups, look_up_steps, LooksUp};
 
     /// The messages of an index that satisfy a query.
     ///
@@ -64,10 +65,15 @@ impl<'a> Cursor<'a> {
         ensures numbers { IfOk result (λ c. c.numbers ≡ chosen_numbers index.now
             (meaning query.now)) }
         ensures left { IfOk result (λ c. c.left ≤ most_left index.now (meaning query.now)) }
+        ensures exact { IfOk result (λ _. steps.new
+            ≡ add_steps steps.old (look_up_steps index.now.keys (meaning query.now))) }
         ensures steps { LooksUp (length index.now.keys) (look_ups (meaning query.now))
             steps.old steps.new }
     {
-        let walk = walk_of(alloc, &index.again(), query.root(), steps)?;
+        let mut counted = CountedIndex::of(alloc, index, steps);
+        let begun = walk_of(alloc, &mut counted, query.root());
+        *steps = counted.into_steps();
+        let walk = begun?;
         Ok(Cursor {
             walk,
             low: 0,
@@ -124,7 +130,7 @@ fn numbers_of(
 pub fn matches(alloc: Global, index: &IndexView<'_>, query: &Query) -> Result<Vec<u32>, AllocError>
     ensures { IfOk result (λ v. v.items ≡ chosen_numbers index.now (meaning query.now)) }
 {
-    let mut steps = Steps::new();
+    let mut steps = Steps::new(alloc, index);
     let mut cursor = Cursor::new(alloc, index, query, &mut steps)?;
     numbers_of(alloc, &mut cursor, &mut steps)
 }

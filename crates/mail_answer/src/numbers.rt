@@ -53,7 +53,7 @@ impl<'a> Numbers<'a> {
             (meaning query.now) numbers) }
         ensures numbers { IfOk result (λ numbers. AreNumbers (length index.now.messages) numbers) }
     {
-        let mut steps = Steps::new();
+        let mut steps = Steps::new(alloc, index);
         let source = if threads {
             let satisfying = matches(alloc, index, query)?;
             let numbers = with_threads(alloc, index, satisfying.as_slice())?;

@@ -16,7 +16,11 @@ use mail_index::{IndexView, Kind, Steps};
 use std::alloc::{AllocError, Global};
 
 /// Returns for each message the root of its thread: a message of the thread, the same for all of them.
-fn thread_roots(alloc: Global, index: &IndexView<'_>) -> Result<Vec<u32>, AllocError>
+fn thread_roots(
+    alloc: Global,
+    index: &IndexView<'_>,
+    steps: &mut Steps,
+) -> Result<Vec<u32>, AllocError>
     requires { IsWellFormed index.now }
     ensures { IfOk result (λ v. TellsThreads index.now v.items) }
 {
@@ -26,8 +30,8 @@ fn thread_roots(alloc: Global, index: &IndexView<'_>) -> Result<Vec<u32>, AllocE
     for number in 0..count {
         roots.push(number)?;
     }
-    let keys = index.keys(Kind::LinkId);
-    unite_by_keys(roots.as_mut_slice(), keys, &mut Steps::new());
+    let keys = index.keys(Kind::LinkId, steps);
+    unite_by_keys(roots.as_mut_slice(), keys, steps);
     flatten(roots.as_mut_slice());
     Ok(roots)
 }
@@ -85,9 +89,10 @@ pub fn with_threads(
     ensures { IfOk result (λ v. AreThreads index.now numbers.now v.items) }
 {
     let index = index.again();
-    if numbers.is_empty() || index.keys(Kind::LinkId).next().is_none() {
+    let mut steps = Steps::new(alloc, &index);
+    if numbers.is_empty() || index.keys(Kind::LinkId, &mut steps).next().is_none() {
         return Vec::from_slice(alloc, numbers);
     }
-    let roots = thread_roots(alloc, &index)?;
+    let roots = thread_roots(alloc, &index, &mut steps)?;
     with_same_root(alloc, numbers, roots.as_slice())
 }

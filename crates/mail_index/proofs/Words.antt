@@ -39,7 +39,7 @@ pub use Rattle.mail_index.specs.KeysRead.{IsDirectory, key_at, key_of, keys_read
 pub use Rattle.mail_index.specs.Kinds.{is_kind_number, kind_number, kind_of_number}
 pub use Rattle.mail_index.specs.Layouts.{IsChecked, IsLayout, table_of}
 pub use Rattle.mail_index.specs.Lists.{AreLists, IsList, list_at}
-pub use Rattle.mail_index.specs.LookUps.{AreSorted, comparisons, comparisons_within, is_key, is_of_kind, keys_beginning, keys_of, lies_to, numbers_at, text_and_numbers}
+pub use Rattle.mail_index.specs.LookUps.{AreSorted, bisections, bisections_within, comparisons, comparisons_within, is_key, is_of_kind, keys_beginning, keys_of, lies_below, lies_to, lies_to_run, numbers_at, text_and_numbers}
 pub use Rattle.mail_index.specs.OrderOfKeys.{key_cmp}
 pub use Rattle.mail_index.specs.Pairs.{IsIn, Tells}
 pub use Rattle.mail_index.specs.PostingLists.{IsPosted, Told, end_from, told, told_whole}

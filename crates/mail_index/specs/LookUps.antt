@@ -1,17 +1,17 @@
 -- What a table answers of a key.
-use Rattle.std.specs.Prelude.{◌≡◌, ℕ, zero, suc, ◌/◌, ◌^◌, ◌<◌, ◌≤◌, Bool, true, false, ◌&&◌, nat_eq, List, [], ◌∷◌, length, take, drop, map, filter}
+use Rattle.std.specs.Prelude.{◌≡◌, ℕ, zero, suc, ◌+◌, ◌/◌, ◌^◌, ◌<◌, ◌≤◌, Bool, true, false, ◌&&◌, nat_eq, nat_lt, List, [], ◌∷◌, length, take, drop, map, filter}
 use Rattle.std.specs.Str.{bytes_eq}
 use Rattle.std.specs.List.{starts_with}
 use Rattle.mail_index.specs.declared.kind.Kind.{Kind}
 use Rattle.mail_index.specs.Kinds.{kind_number}
 use Rattle.std.specs.declared.cmp.Ordering.{Ordering}
 use Rattle.std.specs.declared.cmp.Ordering.TheVariants.{Less, Equal, Greater}
-use Rattle.std.specs.Ordering.{nat_cmp}
+use Rattle.std.specs.Ordering.{nat_cmp, ordering_index}
 use Rattle.std.specs.Cmp.Lexicographic.{slice_cmp}
 use Rattle.std.specs.List.Sorted.{IsStrictlySortedBy}
 use Rattle.mail_index.specs.Steps.{add_steps}
 use Rattle.mail_index.specs.OrderOfKeys.{key_cmp}
-use Rattle.mail_index.specs.Tables.{Key}
+use Rattle.mail_index.specs.Tables.{Key, Table}
 
 abbrev pub is_of_kind : Kind → Key → Bool
 is_of_kind kind k = nat_eq (kind_number k.kind) (kind_number kind)
@@ -64,3 +64,35 @@ comparisons kind text ks = comparisons_within (length ks) kind text ks
 -- so few steps were taken: at most so many as the number has binary digits, which is the least number of digits that holds it
 abbrev pub TakesDigits : ℕ → ℕ → ℕ → Type 0
 TakesDigits number old new = (digits : ℕ) → number < 2 ^ digits → (taken : ℕ) × (taken ≤ digits) × (new ≡ add_steps old taken)
+
+-- ---- runs of keys: those of a kind that begin with one text
+
+-- how a key lies to those of a kind whose texts begin with this one: of its own text only so much is compared
+abbrev pub lies_to_run : Kind → List ℕ → Key → Ordering
+lies_to_run kind text k = key_cmp (kind_number k.kind) (take (length text) k.text) (kind_number kind) text
+
+-- the key lies before those that lie so
+abbrev pub lies_below : Ordering → Kind → List ℕ → Key → Bool
+lies_below least kind text k = nat_lt (ordering_index (lies_to_run kind text k)) (ordering_index least)
+
+-- how many comparisons halving makes to find where the keys end that pass a test: of the key in the middle, and of those of the half
+-- in which the end lies. The keys are halved at most `most` times
+abbrev pub bisections_within : ℕ → (Key → Bool) → List Key → ℕ
+bisections_within zero passes ks = 0
+bisections_within (suc most) passes ks = elim (drop (length ks / 2) ks) [
+  | [] ↦ 0
+  | k ∷ behind ↦ suc (elim (passes k) [ true ↦ bisections_within most passes behind | false ↦ bisections_within most passes (take (length ks / 2) ks) ])
+]
+
+abbrev pub bisections : (Key → Bool) → List Key → ℕ
+bisections passes ks = bisections_within (length ks) passes ks
+
+-- how many find the keys of a kind whose texts begin with this one: where they begin, and where they end
+abbrev pub comparisons_of_run : Kind → List ℕ → List Key → ℕ
+comparisons_of_run kind text ks = bisections (lies_below Equal kind text) ks + bisections (lies_below Greater kind text) ks
+
+-- ---- look-ups on one count
+
+pub record CountedTable : Type 0 where
+  pub table : Table
+  pub steps : ℕ

@@ -1,5 +1,5 @@
 //! Laws of the definitions.
-ghost use Rattle.std.specs.Prelude.{◌≡◌, ◌<◌, ◌≤◌, ◌^◌, ◌⊎◌, ℕ, suc, List, length};
+ghost use Rattle.std.specs.Prelude.{◌≡◌, ◌<◌, ◌≤◌, ◌*◌, ◌^◌, ◌⊎◌, ℕ, suc, false, List, length};
 ghost use Rattle.std.specs.List.{AllByRecursion};
 ghost use Rattle.mail_index.specs.declared.kind.Kind.{Kind};
 ghost use Rattle.mail_index.specs.declared.view.fault.IndexFault.{IndexFault};
@@ -7,7 +7,7 @@ ghost use Rattle.mail_index.specs.Faults.{IsFileOf, IsFirstFault};
 ghost use Rattle.mail_index.specs.Tables.{Key, Table, IsKey, IsWellFormed};
 ghost use Rattle.mail_index.specs.Pairs.{Tells};
 ghost use Rattle.mail_index.specs.Builders.{with_pair};
-ghost use Rattle.mail_index.specs.LookUps.{comparisons};
+ghost use Rattle.mail_index.specs.LookUps.{is_key, comparisons, comparisons_of_run};
 ghost use Rattle.mail_index.specs.Files.{index_file, HasSmallSections};
 
 /// One file is the file of one table: an index file can't mean two things.
@@ -23,11 +23,24 @@ pub fn the_file_of_a_table_has_no_fault()
         → length bytes < 2 ^ 64 → IsFileOf bytes t → ¬ IsFirstFault bytes fault }
 {}
 
-/// A look-up makes few comparisons: at most as many as the number of keys has binary digits, which is the least number of digits that
-/// holds it.
-pub fn few_comparisons()
-    ensures { (kind : Kind) (text : List ℕ) (ks : List Key) (digits : ℕ)
+/// How many comparisons a binary search makes.
+///
+/// They are at most as many as the number of keys has binary digits, which is the least number of digits that holds it (`few`). If no
+/// key is the sought one, they are at least as many as the digits of the number of keys, less one (`many`): one more key would have
+/// that many digits behind its first. Where there are keys, one is compared (`some`). The two searches for a run of keys never end
+/// early, so the first two hold of each of them (`run_few`, `run_many`).
+pub fn comparisons_law()
+    ensures few { (kind : Kind) (text : List ℕ) (ks : List Key) (digits : ℕ)
         → length ks < 2 ^ digits → comparisons kind text ks ≤ digits }
+    ensures many { (kind : Kind) (text : List ℕ) (ks : List Key) (digits : ℕ)
+        → AllByRecursion (λ k. is_key kind text k ≡ false) ks
+        → 2 ^ digits ≤ suc (length ks) → digits ≤ comparisons kind text ks }
+    ensures some { (kind : Kind) (text : List ℕ) (ks : List Key)
+        → 0 < length ks → 0 < comparisons kind text ks }
+    ensures run_few { (kind : Kind) (text : List ℕ) (ks : List Key) (digits : ℕ)
+        → length ks < 2 ^ digits → comparisons_of_run kind text ks ≤ 2 * digits }
+    ensures run_many { (kind : Kind) (text : List ℕ) (ks : List Key) (digits : ℕ)
+        → 2 ^ digits ≤ suc (length ks) → 2 * digits ≤ comparisons_of_run kind text ks }
 {}
 
 /// With a pair more, keys tell this pair and all that they told, and nothing else. A pair that would change nothing still changes

@@ -2,14 +2,17 @@
 
 pub mod archive;
 pub mod archive_list;
+pub mod counted_index;
 pub mod directory;
 pub mod directory_walk;
 pub mod fault;
 pub mod index_view;
+pub mod key_run;
 pub mod layout;
 pub mod leb128;
 pub mod look_up;
 pub mod posting_walk;
 pub mod postings;
 pub mod record_walk;
+pub mod records;
 pub mod steps;

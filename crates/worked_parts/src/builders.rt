@@ -175,9 +175,13 @@ fn keys_that_came_are_told(rt: HostRuntime) {
 }
 
 /// Whether a file has an id in its first message alone.
-fn has_id(file: &[u8], id: &[u8]) -> bool {
+fn has_id(alloc: Global, file: &[u8], id: &[u8]) -> bool {
     match IndexView::open(file) {
-        Ok(view) => have_numbers(view.look_up(Kind::OwnId, id, &mut Steps::new()), &[0]),
+        Ok(view) => {
+            let mut steps = Steps::new(alloc, &view);
+            let looked_up = view.look_up(Kind::OwnId, id, &mut steps);
+            have_numbers(looked_up, &[0], &mut steps)
+        }
         Err(_) => false,
     }
 }
@@ -189,7 +193,7 @@ fn is_found(alloc: Global, length: usize) -> Option<bool>
 {
     let id = vec![in alloc; b'x'; length].ok()?;
     let file = written(alloc, Kind::OwnId, &id)?;
-    Some(has_id(file.bytes(), &id))
+    Some(has_id(alloc, file.bytes(), &id))
 }
 
 /// An entry has 15 bytes of a key in itself, and the longest key is as long as a header.

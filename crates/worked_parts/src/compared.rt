@@ -27,29 +27,39 @@ fn message_of(record: Record) -> DecodedMessage {
 }
 
 /// Whether just these numbers are given, each in a step.
-pub fn have_numbers(mut postings: Postings<'_>, numbers: &[u32]) -> bool {
-    let mut steps = Steps::new();
+pub fn have_numbers(mut postings: Postings<'_>, numbers: &[u32], steps: &mut Steps) -> bool {
+    let begun = steps.count();
     let mut same = true;
     for number in numbers {
-        same = postings.next(&mut steps) == Some(*number) && same;
+        same = postings.next(steps) == Some(*number) && same;
     }
-    same && postings.next(&mut steps).is_none() && steps.count() == numbers.len() as u64
+    let is_whole = same && postings.next(steps).is_none();
+    is_whole && steps.count().saturating_sub(begun) == numbers.len() as u64
 }
 
 /// Whether a key that was met is the decoded one.
-fn is_key(met: Option<Key<'_>>, key: &DecodedKey) -> bool {
+fn is_key(met: Option<Key<'_>>, key: &DecodedKey, steps: &mut Steps) -> bool {
     match met {
-        Some(met) => met.text == key.text.as_slice() && have_numbers(met.postings, &key.numbers),
+        Some(met) => {
+            let has_text = met.text == key.text.as_slice();
+            have_numbers(met.postings, &key.numbers, steps) && has_text
+        }
         None => false,
     }
 }
 
 /// Whether keys are the decoded ones with a kind's number that begin with a text, met in their order.
-fn are_keys(mut keys: Keys<'_>, number: u64, text: &[u8], decoded: &[DecodedKey]) -> bool {
+fn are_keys(
+    mut keys: Keys<'_>,
+    number: u64,
+    text: &[u8],
+    decoded: &[DecodedKey],
+    steps: &mut Steps,
+) -> bool {
     let mut same = true;
     for key in decoded {
         if key.kind == number && key.text.starts_with(text) {
-            same = is_key(keys.next(), key) && same;
+            same = is_key(keys.next(), key, steps) && same;
         }
     }
     same && keys.next().is_none()
@@ -57,15 +67,23 @@ fn are_keys(mut keys: Keys<'_>, number: u64, text: &[u8], decoded: &[DecodedKey]
 
 /// Whether the keys of a kind are the decoded ones with its number, met in their order, looked up, and among those that begin
 /// with the same byte.
-fn has_keys(view: &IndexView<'_>, number: u64, kind: Kind, decoded: &[DecodedKey]) -> bool {
-    let mut same = are_keys(view.keys(kind), number, b"", decoded);
+fn has_keys(
+    view: &IndexView<'_>,
+    number: u64,
+    kind: Kind,
+    decoded: &[DecodedKey],
+    steps: &mut Steps,
+) -> bool {
+    let keys = view.keys(kind, steps);
+    let mut same = are_keys(keys, number, b"", decoded, steps);
     for key in decoded {
         if key.kind == number {
-            let looked_up = view.look_up(kind, &key.text, &mut Steps::new());
+            let looked_up = view.look_up(kind, &key.text, steps);
+            let is_found = have_numbers(looked_up, &key.numbers, steps);
             let front = key.text.split_at(key.text.len().min(1)).0;
-            same = have_numbers(looked_up, &key.numbers)
-                && are_keys(view.keys_beginning(kind, front), number, front, decoded)
-                && same;
+            let beginning = view.keys_beginning(kind, front, steps);
+            let are_same = are_keys(beginning, number, front, decoded, steps);
+            same = same && is_found && are_same;
         }
     }
     same
@@ -98,14 +116,15 @@ fn has_messages(view: &IndexView<'_>, decoded: &[DecodedMessage]) -> bool {
 }
 
 /// Whether both tables are the same.
-fn has_table(view: &IndexView<'_>, decoded: &Decoded) -> bool {
+fn has_table(alloc: Global, view: &IndexView<'_>, decoded: &Decoded) -> bool {
+    let mut steps = Steps::new(alloc, view);
     let mut same = u64::from(view.version()) == decoded.version
         && has_archives(view, &decoded.archives)
         && has_messages(view, &decoded.messages);
     let mut number = 0u64;
     for kind in KINDS {
         number = number.wrapping_add(1);
-        same = has_keys(view, number, *kind, &decoded.keys) && same;
+        same = has_keys(view, number, *kind, &decoded.keys, &mut steps) && same;
     }
     same
 }
@@ -135,7 +154,7 @@ pub fn is_found(found: Option<Result<(), IndexFault>>, wanted: Result<(), IndexF
 /// What both readers find: the same table, or the same fault. It is None where they differ.
 pub fn found(alloc: Global, bytes: &[u8]) -> Option<Result<(), IndexFault>> {
     match (IndexView::open(bytes), decode(alloc, bytes)) {
-        (Ok(view), Ok(decoded)) => has_table(&view, &decoded).then_some(Ok(())),
+        (Ok(view), Ok(decoded)) => has_table(alloc, &view, &decoded).then_some(Ok(())),
         (Err(fault), Err(other)) => {
             (number_of(Err(fault)) == number_of(Err(other))).then_some(Err(fault))
         }

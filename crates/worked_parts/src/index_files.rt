@@ -453,12 +453,13 @@ const LOOKED_UP: &[(&[u8], Puts, (TextKind, &str), u64, Option<u32>)] = &[
 
 /// Whether a word's look-up takes so many steps at most, and gives just this message or none.
 fn finds(
+    alloc: Global,
     view: &IndexView<'_>,
     (kind, word): (TextKind, &str),
     most: u64,
     number: Option<u32>,
 ) -> bool {
-    let mut steps = Steps::new();
+    let mut steps = Steps::new(alloc, view);
     let mut postings = view.look_up(Kind::Text(kind), word.as_bytes(), &mut steps);
     let is_short = steps.count() <= most;
     let first = postings.next(&mut steps);
@@ -475,7 +476,7 @@ fn finds_in(
 ) -> Option<bool> {
     let file = changed(alloc, body, puts, b"")?;
     match IndexView::open(&file) {
-        Ok(view) => Some(finds(&view, key, most, number)),
+        Ok(view) => Some(finds(alloc, &view, key, most, number)),
         Err(_) => None,
     }
 }

@@ -80,17 +80,17 @@ fn the_file_of_one_message_is_written(rt: HostRuntime) {
 }
 
 /// Whether message 0 alone has a word of a kind.
-fn is_of_first(view: &IndexView<'_>, kind: TextKind, word: &[u8]) -> bool {
-    let mut steps = Steps::new();
+fn is_of_first(alloc: Global, view: &IndexView<'_>, kind: TextKind, word: &[u8]) -> bool {
+    let mut steps = Steps::new(alloc, view);
     let mut postings = view.look_up(Kind::Text(kind), word, &mut steps);
     let first = postings.next(&mut steps);
     first == Some(0) && postings.next(&mut steps).is_none()
 }
 
 /// Whether in the file in these bytes message 0 alone has this word in its body.
-pub fn has_body_word(file: &[u8], word: &str) -> bool {
+pub fn has_body_word(alloc: Global, file: &[u8], word: &str) -> bool {
     match IndexView::open(file) {
-        Ok(view) => is_of_first(&view, TextKind::Body, word.as_bytes()),
+        Ok(view) => is_of_first(alloc, &view, TextKind::Body, word.as_bytes()),
         Err(_) => false,
     }
 }
@@ -101,8 +101,8 @@ fn has_folded_subject(alloc: Global) -> Option<bool> {
     let file = indexed(alloc, text, 7)?;
     let view = IndexView::open(&file).ok()?;
     let subject = b"\x67\x72\xc3\xbc\x73\x73\x65";
-    let is_key = is_of_first(&view, TextKind::Subject, subject);
-    Some(is_key && is_of_first(&view, TextKind::Body, b"x") && file.len() == 228)
+    let is_key = is_of_first(alloc, &view, TextKind::Subject, subject);
+    Some(is_key && is_of_first(alloc, &view, TextKind::Body, b"x") && file.len() == 228)
 }
 
 #[test]

@@ -31,7 +31,7 @@ fn is_indexed_or_wanting(alloc: Global, text: &str, word: &str, size: u64) -> Op
 fn is_written_or_wanting(alloc: Global, job: IndexJob, word: &str, size: u64) -> bool {
     let mut out = MemoryOut::new(alloc, None);
     match job.finish(&mut out) {
-        Ok(written) => written == size && has_body_word(out.bytes(), word),
+        Ok(written) => written == size && has_body_word(alloc, out.bytes(), word),
         Err(fault) => matches!(fault, JobFault::Out),
     }
 }

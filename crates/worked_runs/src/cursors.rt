@@ -53,7 +53,7 @@ fn patterns_choose_messages(rt: HostRuntime) {
 
 /// Whether a cursor gives the last message that a query chooses, from it on, and none behind it.
 fn gives_last(alloc: Global, index: &IndexView<'_>, query: &Query, last: u32) -> Option<bool> {
-    let mut steps = Steps::new();
+    let mut steps = Steps::new(alloc, index);
     let mut cursor = Cursor::new(alloc, index, query, &mut steps).ok()?;
     let given = [
         cursor.next_at_least(last, &mut steps),
@@ -70,7 +70,7 @@ fn steps_of(
     query: &Query,
     count: u32,
 ) -> Option<(u64, u64, u64)> {
-    let mut steps = Steps::new();
+    let mut steps = Steps::new(alloc, index);
     let mut cursor = Cursor::new(alloc, index, query, &mut steps).ok()?;
     let begun = steps.count();
     let mut all = cursor.next(&mut steps) == Some(0);

@@ -1,10 +1,16 @@
 -- What the walks of queries tell, node by node.
-use Rattle.mail_answer.proofs.Words.{◌≡◌, ◌∙◌, ◌+◌, ◌*◌, ◌^◌, ◌<◌, ◌≤◌, ℕ, Bool, false, not, ◌&&◌, ◌||◌, List, [], ◌∷◌, ◌++◌, length, append_assoc, refl, sym, ap, subst, arith, Result, Ok, Err, IfOk, Vec, Global, rules, eqb, Option, add-mul, cases_order, eqb-false, get_or_past, Table, Node, the_lemmas, Query, Date, Size, Not, All, Either, query_of, queries_of, members_of, is_true, each_is_true, some_is_true, facts_at, truths, chosen_numbers, truth_at, most_left, most_left_of_all, look_ups, look_ups_of_all, LooksUp, Ahead, common, united, others, left_in, some_has, numbers_from}
+use Rattle.mail_answer.proofs.Words.{◌≡◌, ◌∙◌, ◌+◌, ◌*◌, ◌^◌, ◌<◌, ◌≤◌, ℕ, Bool, false, not, ◌&&◌, ◌||◌, List, [], ◌∷◌, ◌++◌, length, map, range_with_len, append_assoc, refl, sym, ap, subst, arith, Result, Ok, Err, IfOk, Vec, Global, rules, eqb, Option, add-mul, cases_order, eqb-false, get_or_past, Table, Node, the_lemmas, Query, Date, Size, Not, All, Either, query_of, queries_of, members_of, is_true, each_is_true, some_is_true, facts_at, truths, chosen_numbers, truth_at, most_left, most_left_of_all, look_ups, look_ups_of_all, LooksUp, Ahead, common, united, others, left_in, some_has, numbers_from}
 use Rattle.std.proofs.lemmas.Bool.{le-leb}
 use Rattle.std.proofs.lemmas.List.{append-nil}
 use Rattle.mail_dates.specs.declared.range.Range.{Range}
+use Rattle.mail_index.specs.declared.record.Record.{Record}
 use Rattle.mail_query.specs.declared.node.Node as node
+use Rattle.mail_answer.specs.declared.cursor.scanned.Asked.{Asked}
+use Rattle.mail_answer.specs.declared.cursor.scanned.Asked.TheVariants.{Any, Flag}
+use Rattle.mail_answer.specs.declared.cursor.scanned.Asked.TheVariants as asked_of
 use Rattle.mail_answer.specs.Inside.CursorBegins.{Tells, TellAll}
+use Rattle.mail_answer.specs.Inside.CursorScans.{asked_query, satisfies}
+use Rattle.mail_answer.specs.Marks.{each_number}
 use Rattle.mail_answer.proofs.CursorLaws.Numbers.{filter_alike}
 use Rattle.mail_answer.proofs.CursorLaws.MemberLemmas.{truths_at, truths_long}
 use Rattle.mail_answer.proofs.CursorLaws.Members.{each_has, united-at, common-at}
@@ -37,8 +43,27 @@ tells_chosen t q count xs long tells = grind (arith, filter_alike, le-leb)
 pub some_walk : (len long : ℕ) → len ≡ long → eqb len 0 ≡ false → 0 < long
 some_walk len long same other = grind (arith, cases_order, eqb-false)
 
-pub tells_scanned : {E : Type 0} (t : Table) (q p : Query) (r : Result Ahead E) → q ≡ p → IfOk r (λ w. w.truths ≡ truths t p) → IfOk r (λ w. Tells t q w.truths)
-tells_scanned t q p r h h2 = grind (arith, tells_scan)
+-- what is asked of a record asks nothing else of the table
+asked_alike : (t : Table) (asked : Asked) (n : ℕ) → satisfies t.messages asked n ≡ is_true (asked_query asked) (facts_at t n)
+asked_alike t Any n = refl
+asked_alike t (asked_of.Date range) n = refl
+asked_alike t (asked_of.Size low high) n = refl
+asked_alike t (Flag flag wanted) n = refl
+
+scanned_alike : (t : Table) (asked : Asked) → each_number (length t.messages) (satisfies t.messages asked) ≡ truths t (asked_query asked)
+scanned_alike t asked = λ i. map (λ n. asked_alike t asked n i) (range_with_len 0 (length t.messages))
+
+pub tells_scanned : {E : Type 0} (t : Table) (q p : Query) (records : List Record) (asked : Asked) (r : Result Ahead E) → q ≡ p → p ≡ asked_query asked → records ≡ t.messages
+    → IfOk r (λ w. w.truths ≡ each_number (length records) (satisfies records asked)) → IfOk r (λ w. Tells t q w.truths)
+tells_scanned t q p records asked (Err e) is asks all told = tt
+tells_scanned t q p records asked (Ok w) is asks all told =
+    tells_scan t q p w.truths is
+    (told ∙ ap (λ (rs : List Record). each_number (length rs) (satisfies rs asked)) all ∙ scanned_alike t asked ∙ ap (truths t) (sym asks))
+
+pub left_scanned : {E : Type 0} (t : Table) (q p : Query) (records : List Record) (r : Result Ahead E) → q ≡ p → most_left t p ≡ length t.messages → records ≡ t.messages
+    → IfOk r (λ w. w.left ≡ length records) → IfOk r (λ w. w.left ≤ most_left t q)
+left_scanned t q p records (Err e) is most all left = tt
+left_scanned t q p records (Ok w) is most all left = omega (arith, left, ap length all, most, ap (most_left t) is)
 
 -- ---- inner nodes
 
@@ -123,6 +148,10 @@ module _ (t : Table) (all : List Query) (steps0 : ℕ) where
   pub walks_more : (q : Query) (last coming : List Query) (ws vs : List Ahead) (w : Ahead) (steps1 steps2 : ℕ) → HaveWalks t all last ws steps0 steps1 → last ≡ q ∷ coming → vs ≡ ws ++ w ∷ []
       → Tells t q w.truths → w.left ≤ most_left t q → LooksUp (length t.keys) (look_ups q) steps1 steps2 → HaveWalks t all coming vs steps0 steps2
   walks_more q last coming ws vs w steps1 steps2 given split joined tells left looks = grind (arith, append_assoc, left-append, add-mul)
+
+  pub walks_steps : (q : Query) (last coming : List Query) (ws : List Ahead) (steps1 steps2 : ℕ) → HaveWalks t all last ws steps0 steps1 → last ≡ q ∷ coming
+      → LooksUp (length t.keys) (look_ups q) steps1 steps2 → LooksUp (length t.keys) (look_ups_of_all (members_of all)) steps0 steps2
+  walks_steps q last coming ws steps1 steps2 given split looks = grind (arith, add-mul)
 
   pub walks_told : (last : List Query) (ws : List Ahead) (steps1 : ℕ) → HaveWalks t all last ws steps0 steps1 → last ≡ [] → TellAll t all ws
   walks_told last ws steps1 given none =

@@ -75,8 +75,8 @@ looks_up_digits keys old new few takes =
       most = λ digits lt. let taken = takes digits lt in omega (arith, taken.1, taken.2);
     }
 
-pub looks_up_none : (keys steps : ℕ) → LooksUp keys 0 steps steps
-looks_up_none keys steps = record { rises = omega arith; most = λ digits lt. omega arith }
+pub looks_up_none : (keys old new : ℕ) → new ≡ old → LooksUp keys 0 old new
+looks_up_none keys old new same = record { rises = omega (arith, same); most = λ digits lt. omega (arith, same) }
 
 -- the walks so far, and those of the kinds to come
 pub record HaveKinds (passes : List ℕ → Bool) (keys : List Key) (each_kind : ℕ) (all coming : List Kind) (old new : List Ahead) (steps_old steps_new : ℕ) : Type 0 where
@@ -119,7 +119,7 @@ pub if_joins : {A E : Type 0} (r : Result A E) (f g : ℕ → Bool) (p q : ℕ) 
 if_joins r f g p q ws bs h h2 h3 = grind arith
 
 -- the next kind, in the set or not
-coming_at : (kinds : Kinds) (items : List Kind) (i : ℕ) (d : Kind) (b : Bool) → i < length items → is_in kinds (get_or items i d) ≡ b
+pub coming_at : (kinds : Kinds) (items : List Kind) (i : ℕ) (d : Kind) (b : Bool) → i < length items → is_in kinds (get_or items i d) ≡ b
     → filter (is_in kinds) (drop i items) ≡ cond b (get_or items i d ∷ filter (is_in kinds) (drop (i + 1) items)) (filter (is_in kinds) (drop (i + 1) items))
 coming_at kinds items i d b lt e = ap (filter (is_in kinds)) (drop_more items i d lt) ∙ next_kind kinds (get_or items i d) (drop (i + 1) items) b e
 

@@ -1,13 +1,13 @@
 -- A walk along the records of the messages.
-use Rattle.std.specs.Prelude.{◌≡◌, ℕ, suc, ◌<◌, ◌≤◌, Bool, true, false, nat_le, ◌&&◌, ◌||◌, List, Option, IfSome, MatchOption}
+use Rattle.std.specs.Prelude.{◌≡◌, ℕ, suc, ◌<◌, ◌≤◌, Bool, true, false, nat_le, ◌&&◌, ◌||◌, List, [], Option, IfSome, MatchOption}
 use Rattle.std.specs.Option.{option_to_list}
-use Rattle.mail_index.specs.Tables.{Table}
+use Rattle.mail_index.specs.declared.record.Record.{Record}
 use Rattle.mail_query.specs.Query as query
 use Rattle.mail_query.specs.Query.{Query}
 use Rattle.mail_query.specs.Truth.{is_true}
 use Rattle.mail_answer.specs.declared.cursor.scanned.Asked.{Asked}
 use Rattle.mail_answer.specs.declared.cursor.scanned.Asked.TheVariants.{Any, Date, Size, Flag}
-use Rattle.mail_answer.specs.TableFacts.{is_among, facts_at}
+use Rattle.mail_answer.specs.TableFacts.{is_among, facts_of_record, record_at}
 use Rattle.mail_answer.specs.Marks.{each_number}
 
 -- what is asked of a record, as a query
@@ -17,8 +17,12 @@ asked_query (Date range) = query.Date range
 asked_query (Size low high) = query.Size low high
 asked_query (Flag flag wanted) = query.HasFlag flag wanted
 
-abbrev pub satisfies : Table → Asked → ℕ → Bool
-satisfies t asked n = is_true (asked_query asked) (facts_at t n)
+-- whether the record is as asked. What is asked of a record asks nothing else of its table, nor of its number
+abbrev pub is_as_asked : Asked → Record → Bool
+is_as_asked asked m = is_true (asked_query asked) (facts_of_record (record { version = 0; archives = []; messages = []; keys = [] }) 0 m)
+
+abbrev pub satisfies : List Record → Asked → ℕ → Bool
+satisfies records asked n = is_as_asked asked (record_at records n)
 
 -- the first may have been found already; from the next record on those that pass the test
 abbrev pub is_ahead : (ℕ → Bool) → ℕ → Option ℕ → ℕ → Bool

@@ -4,7 +4,7 @@ use Rattle.std.specs.List.{list_any, AllByRecursion}
 use Rattle.mail_index.specs.declared.kind.Kind.{Kind}
 use Rattle.mail_index.specs.Tables.{Key}
 use Rattle.mail_answer.specs.TableFacts.{texts_with}
-use Rattle.mail_index.specs.LookUps.{keys_of}
+use Rattle.mail_index.specs.LookUps.{comparisons, keys_of}
 use Rattle.mail_answer.specs.declared.cursor.texts.Fit.{Fit}
 use Rattle.mail_answer.specs.declared.cursor.texts.Fit.TheVariants.{Whole, Within, Front}
 use Rattle.mail_answer.specs.Marks.{truth_at}
@@ -43,6 +43,12 @@ some_of_kinds (kind ∷ kinds) passes keys m = list_any passes (texts_with kind 
 -- how long the lists of the keys of a kind are together whose texts pass
 abbrev pub numbers_fitting : (List ℕ → Bool) → List Key → Kind → ℕ
 numbers_fitting passes keys kind = numbers_of_keys (filter (λ k. passes k.text) (keys_of kind keys))
+
+-- how many comparisons a look-up in a kind makes
+abbrev pub compared_by : Fit → List ℕ → List Key → Kind → ℕ
+compared_by Whole text keys kind = comparisons kind text keys
+compared_by Within text keys kind = 0
+compared_by Front text keys kind = 0
 
 -- how many keys are looked up in each kind
 abbrev pub looked_up_by : Fit → ℕ

@@ -1,15 +1,16 @@
 //! The walk of a query, before its first step.
-ghost use Rattle.std.specs.Prelude.{◌≤◌, length, IfOk};
+ghost use Rattle.std.specs.Prelude.{◌≡◌, ◌≤◌, length, IfOk};
+ghost use Rattle.mail_index.specs.Steps.{add_steps};
 ghost use Rattle.mail_index.specs.Tables.{IsWellFormed};
 ghost use Rattle.mail_query.specs.Query.{query_of, queries_of, members_of};
-ghost use Rattle.mail_answer.specs.Cursors.{most_left, most_left_of_all, look_ups, look_ups_of_all, LooksUp};
+ghost use Rattle.mail_answer.specs.Cursors.{most_left, most_left_of_all, look_ups, look_ups_of_all, look_up_steps, look_up_steps_of_all, LooksUp};
 ghost use Rattle.mail_answer.specs.CursorAhead.{left_in};
 ghost use Rattle.mail_answer.specs.Inside.CursorBegins.{Tells, TellAll};
 
 use crate::cursor::scanned::Asked;
 use crate::cursor::texts::{Fit, with_text};
 use crate::cursor::walk::Walk;
-use mail_index::{IndexView, Steps};
+use mail_index::CountedIndex;
 use mail_query::Node;
 use std::alloc::{AllocError, Global};
 
@@ -17,51 +18,54 @@ use std::alloc::{AllocError, Global};
 #[cycle(begin)]
 pub(crate) fn walk_of<'a>(
     alloc: Global,
-    index: &IndexView<'a>,
+    index: &mut CountedIndex<'a>,
     node: &Node,
-    steps: &mut Steps,
 ) -> Result<Walk<'a>, AllocError>
-    requires { IsWellFormed index.now }
-    ensures truths { IfOk result (λ w. Tells index.now (query_of node.now) w.truths) }
-    ensures left { IfOk result (λ w. w.left ≤ most_left index.now (query_of node.now)) }
-    ensures steps { LooksUp (length index.now.keys) (look_ups (query_of node.now))
-        steps.old steps.new }
+    requires { IsWellFormed index.old.table }
+    ensures truths { IfOk result (λ w. Tells index.old.table (query_of node.now) w.truths) }
+    ensures left { IfOk result (λ w. w.left ≤ most_left index.old.table (query_of node.now)) }
+    ensures exact { IfOk result (λ _. index.new.steps ≡ add_steps index.old.steps
+        (look_up_steps index.old.table.keys (query_of node.now))) }
+    ensures steps { LooksUp (length index.old.table.keys) (look_ups (query_of node.now))
+        index.old.steps index.new.steps }
+    ensures table { index.new.table ≡ index.old.table }
 {
+    let count = index.message_count();
     match node {
-        Node::Any => Walk::scanned(alloc, index, Asked::Any),
-        Node::Word { kinds, text } => with_text(alloc, index, *kinds, Fit::Whole, text, steps),
-        Node::Part { kinds, text } => with_text(alloc, index, *kinds, Fit::Within, text, steps),
-        Node::Prefix { kinds, text } => with_text(alloc, index, *kinds, Fit::Front, text, steps),
-        Node::Date(range) => Walk::scanned(alloc, index, Asked::Date(*range)),
+        Node::Any => Walk::scanned(alloc, index.records(), Asked::Any),
+        Node::Word { kinds, text } => with_text(alloc, index, *kinds, Fit::Whole, text),
+        Node::Part { kinds, text } => with_text(alloc, index, *kinds, Fit::Within, text),
+        Node::Prefix { kinds, text } => with_text(alloc, index, *kinds, Fit::Front, text),
+        Node::Date(range) => Walk::scanned(alloc, index.records(), Asked::Date(*range)),
         Node::Size { low, high } => {
             let asked = Asked::Size {
                 low: *low,
                 high: *high,
             };
-            Walk::scanned(alloc, index, asked)
+            Walk::scanned(alloc, index.records(), asked)
         }
         Node::Flag { flag, wanted } => {
             let asked = Asked::Flag {
                 flag: *flag,
                 wanted: *wanted,
             };
-            Walk::scanned(alloc, index, asked)
+            Walk::scanned(alloc, index.records(), asked)
         }
         Node::Not(inner) => {
-            let inner = walk_of(alloc, index, inner, steps)?;
-            Walk::others(alloc, index.message_count(), inner)
+            let inner = walk_of(alloc, index, inner)?;
+            Walk::others(alloc, count, inner)
         }
         Node::All(members) => {
-            let walks = walks_of(alloc, index, members.as_slice(), steps)?;
+            let walks = walks_of(alloc, index, members.as_slice())?;
             if walks.is_empty() {
                 // Where there are no members, every message satisfies each of them. No message comes in a union of no walks, so
                 // all messages are those that don't come in it.
-                return Walk::others(alloc, index.message_count(), Walk::united(walks));
+                return Walk::others(alloc, count, Walk::united(walks));
             }
             Ok(Walk::common(walks))
         }
         Node::Either(members) => {
-            let walks = walks_of(alloc, index, members.as_slice(), steps)?;
+            let walks = walks_of(alloc, index, members.as_slice())?;
             Walk::united_in_groups(alloc, walks)
         }
     }
@@ -71,20 +75,22 @@ pub(crate) fn walk_of<'a>(
 #[cycle(begin)]
 fn walks_of<'a>(
     alloc: Global,
-    index: &IndexView<'a>,
+    index: &mut CountedIndex<'a>,
     nodes: &[Node],
-    steps: &mut Steps,
 ) -> Result<Vec<Walk<'a>>, AllocError>
-    requires { IsWellFormed index.now }
-    ensures truths { IfOk result (λ v. TellAll index.now (queries_of nodes.now) v.items) }
+    requires { IsWellFormed index.old.table }
+    ensures truths { IfOk result (λ v. TellAll index.old.table (queries_of nodes.now) v.items) }
     ensures left { IfOk result (λ v. left_in v.items
-        ≤ most_left_of_all index.now (members_of (queries_of nodes.now))) }
-    ensures steps { LooksUp (length index.now.keys)
-        (look_ups_of_all (members_of (queries_of nodes.now))) steps.old steps.new }
+        ≤ most_left_of_all index.old.table (members_of (queries_of nodes.now))) }
+    ensures exact { IfOk result (λ _. index.new.steps ≡ add_steps index.old.steps
+        (look_up_steps_of_all index.old.table.keys (members_of (queries_of nodes.now)))) }
+    ensures steps { LooksUp (length index.old.table.keys)
+        (look_ups_of_all (members_of (queries_of nodes.now))) index.old.steps index.new.steps }
+    ensures table { index.new.table ≡ index.old.table }
 {
     let mut walks = Vec::new(alloc);
     for node in nodes {
-        let walk = walk_of(alloc, index, node, steps)?;
+        let walk = walk_of(alloc, index, node)?;
         walks.push(walk)?;
     }
     Ok(walks)

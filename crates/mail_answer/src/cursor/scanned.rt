@@ -1,15 +1,12 @@
 //! The walk along the records of the messages.
-ghost use Rattle.std.specs.Prelude.{◌≡◌, ◌-◌, ℕ, length};
+ghost use Rattle.std.specs.Prelude.{◌≡◌, ◌-◌, length};
 ghost use Rattle.mail_index.specs.Steps.{add_steps};
-ghost use Rattle.mail_index.specs.Tables.{Table};
-ghost use Rattle.mail_query.specs.Truth.{is_true};
-ghost use Rattle.mail_answer.specs.TableFacts.{facts_of_record};
 ghost use Rattle.mail_answer.specs.CursorAhead.{Drops, IsFirst, Spends};
-ghost use Rattle.mail_answer.specs.Inside.CursorScans.{asked_query, satisfies, Scans};
+ghost use Rattle.mail_answer.specs.Inside.CursorScans.{is_as_asked as is_as_asked_of, satisfies, Scans};
 
 use crate::cursor::listed::is_before;
 use mail_dates::Range;
-use mail_index::{IndexView, Record, Steps};
+use mail_index::{Record, Records, Steps};
 use mail_words::Flag;
 use std::marker::Model;
 
@@ -28,8 +25,7 @@ pub(crate) enum Asked {
 
 /// Whether the record is as asked.
 fn is_as_asked(asked: Asked, message: Record) -> bool
-    ensures { (t : Table) (n : ℕ) → result ≡ is_true (asked_query asked)
-        (facts_of_record t n message) }
+    ensures { result ≡ is_as_asked_of asked message }
 {
     match asked {
         Asked::Any => true,
@@ -49,18 +45,17 @@ fn is_as_asked(asked: Asked, message: Record) -> bool
 }
 
 /// Looks at the records from the next one on, a step each, up to the first that is as asked.
-fn next_asked(index: &IndexView<'_>, asked: Asked, next: &mut u32, steps: &mut Steps) -> Option<u32>
-    ensures found { Scans (length index.now.messages) (satisfies index.now asked) next.old next.new
+fn next_asked(records: &Records<'_>, asked: Asked, next: &mut u32, steps: &mut Steps) -> Option<u32>
+    ensures found { Scans (length records.now) (satisfies records.now asked) next.old next.new
         result }
     ensures looked { steps.new ≡ add_steps steps.old (next.new - next.old) }
-    ensures steps { Spends (length index.now.messages - next.old)
-        (length index.now.messages - next.new) steps.old steps.new }
+    ensures steps { Spends (length records.now - next.old) (length records.now - next.new)
+        steps.old steps.new }
 {
-    while *next < index.message_count() {
+    while *next < records.len() {
         let number = *next;
         *next = number + 1;
-        steps.tick();
-        if is_as_asked(asked, index.message(number)) {
+        if is_as_asked(asked, records.look_at(number, steps)) {
             return Some(number);
         }
     }
@@ -68,9 +63,11 @@ fn next_asked(index: &IndexView<'_>, asked: Asked, next: &mut u32, steps: &mut S
 }
 
 /// The messages still to come of those whose records are as asked: the first of them may have been found already.
+///
+/// It has the records alone, of which each look is a step, and no index in which it could look up a key.
 #[derive(Drop)]
 pub(crate) struct Scanned<'a> {
-    index: IndexView<'a>,
+    records: Records<'a>,
     asked: Asked,
     next: u32,
     first: Option<u32>,
@@ -83,21 +80,22 @@ impl<'a> Model for Scanned<'a> {
 
     ghost Value = { Ahead };
 
-    ghost view = { λ s. record { truths = truths_scanned (length s.index.messages) (satisfies s.index s.asked) s.next s.first; left = length s.index.messages - s.next; postings = 0; below = 0 } };
+    ghost view = { λ s. record { truths = truths_scanned (length s.records) (satisfies s.records s.asked) s.next s.first; left = length s.records - s.next; postings = 0; below = 0 } };
 
-    ghost invariant = { λ s. IsFound (length s.index.messages) s.next s.first };
+    ghost invariant = { λ s. IsFound (length s.records) s.next s.first };
 }
 
 impl<'a> Scanned<'a> {
-    ghost use Rattle.mail_answer.specs.TableFacts.{truths};
+    ghost use Rattle.mail_answer.specs.Marks.{each_number};
 
     /// All messages whose records are as asked.
-    pub(crate) fn new(index: IndexView<'a>, asked: Asked) -> Self
-        ensures truths { result.truths ≡ truths index.entry (asked_query asked) }
-        ensures left { result.left ≡ length index.entry.messages }
+    pub(crate) fn new(records: Records<'a>, asked: Asked) -> Self
+        ensures truths { result.truths
+            ≡ each_number (length records.entry) (satisfies records.entry asked) }
+        ensures left { result.left ≡ length records.entry }
     {
         Scanned {
-            index,
+            records,
             asked,
             next: 0,
             first: None,
@@ -115,7 +113,7 @@ impl<'a> Scanned<'a> {
             return self.first;
         }
         self.next = n.max(self.next);
-        self.first = next_asked(&self.index, self.asked, &mut self.next, steps);
+        self.first = next_asked(&self.records, self.asked, &mut self.next, steps);
         self.first
     }
 }

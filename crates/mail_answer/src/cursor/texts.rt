@@ -1,17 +1,18 @@
 //! The walk through the messages that have certain texts.
 ghost use Rattle.std.specs.Prelude.{◌≡◌, ◌≤◌, ◌<◌, ◌*◌, ℕ, length, IfOk};
 ghost use Rattle.std.specs.List.{list_any};
+ghost use Rattle.mail_index.specs.Steps.{add_steps};
 ghost use Rattle.mail_index.specs.Tables.{IsWellFormed};
 ghost use Rattle.mail_query.specs.Truth.{contains_text, some_word};
 ghost use Rattle.mail_answer.specs.TableFacts.{texts_with, is_among, facts_at};
 ghost use Rattle.mail_answer.specs.Marks.{fits, some_key, truth_at};
-ghost use Rattle.mail_answer.specs.Cursors.{numbers_named, kinds_in, is_in, LooksUp};
+ghost use Rattle.mail_answer.specs.Cursors.{numbers_named, kinds_in, is_in, compared_in_all, LooksUp};
 ghost use Rattle.mail_answer.specs.Inside.CursorLists.{AreNumbers};
-ghost use Rattle.mail_answer.specs.Inside.CursorTexts.{any_text, Joins, HaveNumbers, numbers_passing, numbers_fitting, looked_up_by};
+ghost use Rattle.mail_answer.specs.Inside.CursorTexts.{any_text, Joins, HaveNumbers, numbers_passing, numbers_fitting, looked_up_by, compared_by};
 
 use crate::cursor::listed::Listed;
 use crate::cursor::walk::Walk;
-use mail_index::{IndexView, Keys, Kind, Postings, Steps};
+use mail_index::{CountedIndex, Keys, Kind, Postings};
 use mail_query::{Kinds, QueryText};
 use mail_words::TextKind;
 use memchr::memmem;
@@ -104,21 +105,24 @@ fn push_containing<'a>(
 /// Adds the lists of the keys of this kind in which the text lies so.
 fn push_kind<'a>(
     members: &mut Vec<Listed<'a>>,
-    index: &IndexView<'a>,
+    index: &mut CountedIndex<'a>,
     kind: Kind,
     fit: Fit,
     text: &[u8],
-    steps: &mut Steps,
 ) -> Result<(), AllocError>
-    requires { IsWellFormed index.now }
+    requires { IsWellFormed index.old.table }
     ensures joins { IfOk result (λ _. Joins (λ n. list_any (fits fit text.now)
-        (texts_with kind n index.now.keys)) (numbers_fitting (fits fit text.now) index.now.keys
-        kind) members.old.items members.new.items) }
-    ensures steps { LooksUp (length index.now.keys) (looked_up_by fit) steps.old steps.new }
+        (texts_with kind n index.old.table.keys)) (numbers_fitting (fits fit text.now)
+        index.old.table.keys kind) members.old.items members.new.items) }
+    ensures exact { index.new.steps ≡ add_steps index.old.steps
+        (compared_by fit text.now index.old.table.keys kind) }
+    ensures steps { LooksUp (length index.old.table.keys) (looked_up_by fit)
+        index.old.steps index.new.steps }
+    ensures table { index.new.table ≡ index.old.table }
 {
     let count = index.message_count();
     match fit {
-        Fit::Whole => push_list(members, count, index.look_up(kind, text, steps)),
+        Fit::Whole => push_list(members, count, index.look_up(kind, text)),
         Fit::Within => push_containing(members, count, index.keys(kind), text),
         Fit::Front => push_all(members, count, index.keys_beginning(kind, text)),
     }
@@ -127,24 +131,26 @@ fn push_kind<'a>(
 /// The walk through the messages that have a word of a kind of the set, or the own id if it is in it, in which the text lies so.
 pub(crate) fn with_text<'a>(
     alloc: Global,
-    index: &IndexView<'a>,
+    index: &mut CountedIndex<'a>,
     kinds: Kinds,
     fit: Fit,
     text: &QueryText,
-    steps: &mut Steps,
 ) -> Result<Walk<'a>, AllocError>
-    requires { IsWellFormed index.now }
+    requires { IsWellFormed index.old.table }
     ensures truths { IfOk result (λ w. (m : ℕ) → truth_at w.truths m
-        ≡ some_word (fits fit text.now) kinds (facts_at index.now m)) }
-    ensures left { IfOk result (λ w. w.left ≤ numbers_named (fits fit text.now) index.now.keys
-        (kinds_in kinds)) }
-    ensures steps { LooksUp (length index.now.keys) (length (kinds_in kinds) * looked_up_by fit)
-        steps.old steps.new }
+        ≡ some_word (fits fit text.now) kinds (facts_at index.old.table m)) }
+    ensures left { IfOk result (λ w. w.left ≤ numbers_named (fits fit text.now)
+        index.old.table.keys (kinds_in kinds)) }
+    ensures exact { IfOk result (λ _. index.new.steps ≡ add_steps index.old.steps
+        (compared_in_all (compared_by fit text.now index.old.table.keys) (kinds_in kinds))) }
+    ensures steps { LooksUp (length index.old.table.keys)
+        (length (kinds_in kinds) * looked_up_by fit) index.old.steps index.new.steps }
+    ensures table { index.new.table ≡ index.old.table }
 {
     let mut members = Vec::new(alloc);
     for kind in &KINDS {
         if is_in(kinds, *kind) {
-            push_kind(&mut members, index, *kind, fit, text.as_bytes(), steps)?;
+            push_kind(&mut members, index, *kind, fit, text.as_bytes())?;
         }
     }
     Walk::along_some(alloc, members)

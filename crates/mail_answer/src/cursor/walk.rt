@@ -1,17 +1,16 @@
 //! The tree of walks.
 ghost use Rattle.std.specs.Prelude.{◌≡◌, ◌<◌, ℕ, IfOk, length};
-ghost use Rattle.mail_answer.specs.Marks.{truth_at};
-ghost use Rattle.mail_answer.specs.TableFacts.{truths};
+ghost use Rattle.mail_answer.specs.Marks.{truth_at, each_number};
 ghost use Rattle.mail_answer.specs.CursorAhead.{CountsPostings, Drops, IsFirst, Reaches, Spends, common, united, others, left_in, postings_in, levels};
 ghost use Rattle.mail_answer.specs.Inside.CursorMarks.{AreFew};
-ghost use Rattle.mail_answer.specs.Inside.CursorScans.{asked_query};
+ghost use Rattle.mail_answer.specs.Inside.CursorScans.{satisfies};
 ghost use Rattle.mail_answer.specs.Inside.CursorTexts.{some_has};
 
 use crate::cursor::head::{Head, is_none_below, lesser_of};
 use crate::cursor::listed::Listed;
 use crate::cursor::marked::Marked;
 use crate::cursor::scanned::{Asked, Scanned};
-use mail_index::{IndexView, Steps};
+use mail_index::{Records, Steps};
 use std::alloc::{AllocError, Global};
 use std::marker::Model;
 
@@ -109,13 +108,14 @@ impl<'a> Walk<'a> {
     /// The walk along the records that are as asked.
     pub(crate) fn scanned(
         alloc: Global,
-        index: &IndexView<'a>,
+        records: Records<'a>,
         asked: Asked,
     ) -> Result<Self, AllocError>
-        ensures truths { IfOk result (λ w. w.truths ≡ truths index.now (asked_query asked)) }
-        ensures left { IfOk result (λ w. w.left ≡ length index.now.messages) }
+        ensures truths { IfOk result (λ w. w.truths
+            ≡ each_number (length records.entry) (satisfies records.entry asked)) }
+        ensures left { IfOk result (λ w. w.left ≡ length records.entry) }
     {
-        let scan = Box::new(alloc, Scanned::new(index.again(), asked))?;
+        let scan = Box::new(alloc, Scanned::new(records, asked))?;
         Ok(Walk::of(Node::Scanned(scan)))
     }
 

@@ -1,7 +1,8 @@
 -- The comparisons of a look-up.
-use Rattle.mail_index.proofs.Words.{◌≡◌, ◌∙◌, ℕ, zero, suc, ◌+◌, ◌-◌, ◌/◌, ◌^◌, ◌<◌, ◌≤◌, List, [], ◌∷◌, length, take, drop, get_or, refl, ap, arith, length-drop, length-take-le, take-take, drop-drop, Ordering, Less, Equal, Greater, drop-take, drop_more, Kind, Key, lies_to, comparisons_within}
+use Rattle.mail_index.proofs.Words.{◌≡◌, ◌∙◌, ℕ, zero, suc, ◌+◌, ◌-◌, ◌/◌, ◌^◌, ◌<◌, ◌≤◌, List, [], ◌∷◌, length, take, drop, get_or, refl, ap, arith, length-drop, length-take-le, take-take, drop-drop, Ordering, Less, Equal, Greater, drop-take, drop_more, Kind, Key, lies_to, comparisons, comparisons_within, is_key, is_eq, sym, AllByRecursion, Bool, true, false, nat_lt, ordering_index, nat_tests, bisections_within}
 use Rattle.mail_index.specs.Inside.KeyRuns.{keys_between}
-use Rattle.mail_index.proofs.ViewLaws.LookUpLemmas.{halves}
+use Rattle.mail_index.proofs.ViewLaws.LookUpLemmas.{halves, half_digits, is_key-as}
+use Rattle.mail_index.proofs.Items.{all-at, all-take, all-drop}
 use Rattle.mail_index.proofs.ViewLaws.RunLemmas.{between-next}
 
 -- ---- one comparison
@@ -37,6 +38,42 @@ comparisons-few (suc most) kind text (k ∷ ks) digits h =
     (comparisons-few most kind text (take n keys) half.fewer (omega (arith, half.lower, length-take-le n keys (omega (arith, within)))))
     (comparisons-few most kind text (drop (n + 1) keys) half.fewer (omega (arith, half.upper, length-drop (n + 1) keys))) in
     omega (arith, counted, few, half.digits_are)
+
+-- ---- they are many where no key is the sought one
+
+left-many : (most : ℕ) (kind : Kind) (text : List ℕ) (o : Ordering) (before behind : List Key) (many : ℕ) → is_eq o ≡ false
+    → many ≤ comparisons_within most kind text before → many ≤ comparisons_within most kind text behind → many ≤ left most kind text o before behind
+left-many most kind text o before behind many other h h2 = grind arith
+
+pub comparisons-many : (most : ℕ) (kind : Kind) (text : List ℕ) (ks : List Key) (digits : ℕ) → length ks ≤ most → AllByRecursion (λ k. is_key kind text k ≡ false) ks
+    → 2 ^ digits ≤ suc (length ks) → digits ≤ comparisons_within most kind text ks
+comparisons-many most kind text ks zero enough none h = omega arith
+comparisons-many zero kind text ks (suc fewer) enough none h = absurd (omega (arith, enough, half_digits (length ks) fewer h))
+comparisons-many (suc most) kind text [] (suc fewer) enough none h = absurd (omega (arith, half_digits 0 fewer h))
+comparisons-many (suc most) kind text (k ∷ ks) (suc fewer) enough none h =
+    let keys : List Key = k ∷ ks in
+    let n : ℕ = length keys / 2 in
+    let within : n < length keys = omega arith in
+    let half = half_digits (length keys) fewer h in
+    let met : Key = get_or keys n k in
+    let counted = comparisons-more most kind text keys met (take n keys) (drop (n + 1) keys) (lies_to kind text met) (drop_more keys n k within) refl refl in
+    let other : is_key kind text met ≡ false = all-at (λ key. is_key kind text key ≡ false) keys n k none within in
+    let many = left-many most kind text (lies_to kind text met) (take n keys) (drop (n + 1) keys) fewer (sym (is_key-as kind text met (lies_to kind text met) refl) ∙ other)
+    (comparisons-many most kind text (take n keys) fewer (omega (arith, enough, length-take-le n keys (omega (arith, within)))) (all-take (λ key. is_key kind text key ≡ false) n keys none)
+    (omega (arith, half.1, length-take-le n keys (omega (arith, within)))))
+    (comparisons-many most kind text (drop (n + 1) keys) fewer (omega (arith, enough, length-drop (n + 1) keys)) (all-drop (λ key. is_key kind text key ≡ false) (n + 1) keys none)
+    (omega (arith, half.2, length-drop (n + 1) keys))) in
+    omega (arith, counted, many)
+
+pub comparisons-some : (kind : Kind) (text : List ℕ) (ks : List Key) → 0 < length ks → 0 < comparisons kind text ks
+comparisons-some kind text [] h = absurd (omega (arith, h))
+comparisons-some kind text (k ∷ ks) h =
+    let keys : List Key = k ∷ ks in
+    let n : ℕ = length keys / 2 in
+    let within : n < length keys = omega arith in
+    let met : Key = get_or keys n k in
+    let counted = comparisons-more (length ks) kind text keys met (take n keys) (drop (n + 1) keys) (lies_to kind text met) (drop_more keys n k within) refl refl in
+    omega (arith, counted)
 
 -- ---- of keys in a row
 
@@ -74,3 +111,85 @@ compared (suc most) kind text ks low high d o some within enough lies =
       counted = comparisons-more most kind text row (get_or ks (low + n) d) (keys_between low (low + n) ks) (keys_between (low + n + 1) high ks) o
           (ap (λ (k : ℕ). drop k row) half ∙ from_place low high n ks d inside within) (ap (λ (k : ℕ). take k row) half ∙ before_place low high n ks inside) lies;
     }
+
+-- ---- where the keys end that pass a test
+
+-- how many comparisons come after that of the key in the middle
+abbrev pub left_of : ℕ → (Key → Bool) → Bool → List Key → List Key → ℕ
+left_of most passes true before behind = bisections_within most passes behind
+left_of most passes false before behind = bisections_within most passes before
+
+bisections-more : (most : ℕ) (passes : Key → Bool) (ks : List Key) (k : Key) (before behind : List Key) (b : Bool)
+    → drop (length ks / 2) ks ≡ k ∷ behind → take (length ks / 2) ks ≡ before → passes k ≡ b
+    → bisections_within (suc most) passes ks ≡ suc (left_of most passes b before behind)
+bisections-more most passes ks k before behind b h h2 h3 = grind (arith, bisections_within)
+
+pub bisections-none : (most : ℕ) (passes : Key → Bool) → bisections_within most passes [] ≡ 0
+bisections-none zero passes = refl
+bisections-none (suc most) passes = refl
+
+pub record Bisected (most : ℕ) (passes : Key → Bool) (ks : List Key) (low high : ℕ) (b : Bool) : Type 0 where
+  pub fewer : ℕ
+  pub enough : high - low ≤ suc fewer
+  pub counted : bisections_within most passes (keys_between low high ks)
+      ≡ suc (left_of fewer passes b (keys_between low (low + (high - low) / 2) ks) (keys_between (low + (high - low) / 2 + 1) high ks))
+
+pub bisected : (most : ℕ) (passes : Key → Bool) (ks : List Key) (low high : ℕ) (d : Key) (b : Bool) → low < high → high ≤ length ks → high - low ≤ most
+    → passes (get_or ks (low + (high - low) / 2) d) ≡ b → Bisected most passes ks low high b
+bisected zero passes ks low high d b some within enough lies = absurd (omega (arith, some, enough))
+bisected (suc most) passes ks low high d b some within enough lies =
+    let n : ℕ = (high - low) / 2 in
+    let row : List Key = keys_between low high ks in
+    let half : length row / 2 ≡ n = ap (λ (k : ℕ). k / 2) (length-between low high ks within) in
+    let inside : low + n < high = omega (arith, some) in
+    record {
+      fewer = most;
+      enough = enough;
+      counted = bisections-more most passes row (get_or ks (low + n) d) (keys_between low (low + n) ks) (keys_between (low + n + 1) high ks) b
+          (ap (λ (k : ℕ). drop k row) half ∙ from_place low high n ks d inside within) (ap (λ (k : ℕ). take k row) half ∙ before_place low high n ks inside) lies;
+    }
+
+pub lies_so : (o p : Ordering) → ordering_index o < ordering_index p → nat_lt (ordering_index o) (ordering_index p) ≡ true
+lies_so o p h = grind (arith, nat_tests)
+
+pub lies_not : (o p : Ordering) → ordering_index p ≤ ordering_index o → nat_lt (ordering_index o) (ordering_index p) ≡ false
+lies_not o p h = grind (arith, nat_tests)
+
+left_of-few : (most : ℕ) (passes : Key → Bool) (b : Bool) (before behind : List Key) (few : ℕ)
+    → bisections_within most passes before ≤ few → bisections_within most passes behind ≤ few → left_of most passes b before behind ≤ few
+left_of-few most passes b before behind few h h2 = grind arith
+
+left_of-many : (most : ℕ) (passes : Key → Bool) (b : Bool) (before behind : List Key) (many : ℕ)
+    → many ≤ bisections_within most passes before → many ≤ bisections_within most passes behind → many ≤ left_of most passes b before behind
+left_of-many most passes b before behind many h h2 = grind arith
+
+pub bisections-few : (most : ℕ) (passes : Key → Bool) (ks : List Key) (digits : ℕ) → length ks < 2 ^ digits → bisections_within most passes ks ≤ digits
+bisections-few zero passes ks digits h = omega arith
+bisections-few (suc most) passes [] digits h = omega arith
+bisections-few (suc most) passes (k ∷ ks) digits h =
+    let keys : List Key = k ∷ ks in
+    let n : ℕ = length keys / 2 in
+    let within : n < length keys = omega arith in
+    let half = halves (length keys) digits (omega arith) h in
+    let met : Key = get_or keys n k in
+    let counted = bisections-more most passes keys met (take n keys) (drop (n + 1) keys) (passes met) (drop_more keys n k within) refl refl in
+    let few = left_of-few most passes (passes met) (take n keys) (drop (n + 1) keys) half.fewer
+    (bisections-few most passes (take n keys) half.fewer (omega (arith, half.lower, length-take-le n keys (omega (arith, within)))))
+    (bisections-few most passes (drop (n + 1) keys) half.fewer (omega (arith, half.upper, length-drop (n + 1) keys))) in
+    omega (arith, counted, few, half.digits_are)
+
+pub bisections-many : (most : ℕ) (passes : Key → Bool) (ks : List Key) (digits : ℕ) → length ks ≤ most → 2 ^ digits ≤ suc (length ks) → digits ≤ bisections_within most passes ks
+bisections-many most passes ks zero enough h = omega arith
+bisections-many zero passes ks (suc fewer) enough h = absurd (omega (arith, enough, half_digits (length ks) fewer h))
+bisections-many (suc most) passes [] (suc fewer) enough h = absurd (omega (arith, half_digits 0 fewer h))
+bisections-many (suc most) passes (k ∷ ks) (suc fewer) enough h =
+    let keys : List Key = k ∷ ks in
+    let n : ℕ = length keys / 2 in
+    let within : n < length keys = omega arith in
+    let half = half_digits (length keys) fewer h in
+    let met : Key = get_or keys n k in
+    let counted = bisections-more most passes keys met (take n keys) (drop (n + 1) keys) (passes met) (drop_more keys n k within) refl refl in
+    let many = left_of-many most passes (passes met) (take n keys) (drop (n + 1) keys) fewer
+    (bisections-many most passes (take n keys) fewer (omega (arith, enough, length-take-le n keys (omega (arith, within)))) (omega (arith, half.1, length-take-le n keys (omega (arith, within)))))
+    (bisections-many most passes (drop (n + 1) keys) fewer (omega (arith, enough, length-drop (n + 1) keys)) (omega (arith, half.2, length-drop (n + 1) keys))) in
+    omega (arith, counted, many)

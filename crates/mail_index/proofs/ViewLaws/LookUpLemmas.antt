@@ -1,5 +1,5 @@
 -- A key looked up among sorted ones.
-use Rattle.mail_index.proofs.Words.{◌≡◌, ◌∙◌, ℕ, zero, suc, ◌-◌, ◌^◌, ◌<◌, ◌≤◌, Bool, true, false, List, [], ◌∷◌, ◌/◌, length, map, get_or, refl, sym, ap, ap₂, arith, nat_eq, Ordering, Less, Equal, Greater, nat_cmp, is_eq, ordering_reverse, slice_cmp, length-map, get_or-map, nat_tests, pow-suc, nat_list_cmp_total, is_eq-slice_cmp, Less-from_sorted, Kind, kind_number, Key, is_key, lies_to, numbers_at, AreSorted}
+use Rattle.mail_index.proofs.Words.{◌≡◌, ◌∙◌, ℕ, zero, suc, ◌+◌, ◌-◌, ◌^◌, ◌<◌, ◌≤◌, Bool, true, false, List, [], ◌∷◌, ◌/◌, length, map, get_or, refl, sym, ap, ap₂, arith, nat_eq, Ordering, Less, Equal, Greater, nat_cmp, is_eq, ordering_reverse, slice_cmp, length-map, get_or-map, nat_tests, pow-suc, nat_list_cmp_total, is_eq-slice_cmp, Less-from_sorted, Kind, kind_number, Key, is_key, lies_to, numbers_at, AreSorted}
 
 -- a key's bytes, by which keys are sorted
 abbrev pub key_bytes : Key → List ℕ
@@ -9,7 +9,7 @@ key_bytes k = kind_number k.kind ∷ k.text
 is_key-lies : (kind : Kind) (text : List ℕ) (k : Key) → is_eq (lies_to kind text k) ≡ is_key kind text k
 is_key-lies kind text k = is_eq-slice_cmp (key_bytes k) (kind_number kind ∷ text)
 
-is_key-as : (kind : Kind) (text : List ℕ) (k : Key) (o : Ordering) → lies_to kind text k ≡ o → is_key kind text k ≡ is_eq o
+pub is_key-as : (kind : Kind) (text : List ℕ) (k : Key) (o : Ordering) → lies_to kind text k ≡ o → is_key kind text k ≡ is_eq o
 is_key-as kind text k o h = sym (is_key-lies kind text k) ∙ ap is_eq h
 
 pub is_key-greater : (kind : Kind) (text : List ℕ) (k : Key) → lies_to kind text k ≡ Greater → is_key kind text k ≡ false
@@ -93,6 +93,15 @@ pub record Halves (keys digits : ℕ) : Type 0 where
 pub halves : (keys digits : ℕ) → 0 < keys → keys < 2 ^ digits → Halves keys digits
 halves keys zero some h = absurd (omega (arith, some, h))
 halves keys (suc fewer) some h = grind (arith, pow-suc)
+
+pow_some : (n : ℕ) → 0 < 2 ^ n
+pow_some zero = omega arith
+pow_some (suc n) = let before = pow_some n in omega (arith, before, pow-suc 2 n)
+
+pub half_digits : (keys fewer : ℕ) → 2 ^ suc fewer ≤ suc keys → (0 < keys) × (2 ^ fewer ≤ suc (keys / 2)) × (2 ^ fewer ≤ suc (keys - (keys / 2 + 1)))
+half_digits keys fewer h =
+    let twice = pow-suc 2 fewer in
+    let some = pow_some fewer in (omega (arith, twice, some, h), omega (arith, twice, some, h), omega (arith, twice, some, h))
 
 -- ---- a key that was met
 

@@ -1,5 +1,5 @@
 -- The keys of a kind whose texts begin with one stand in a row.
-use Rattle.mail_index.proofs.Words.{◌≡◌, ◌∙◌, ℕ, zero, suc, ◌+◌, ◌-◌, ◌<◌, ◌≤◌, Bool, true, false, cond, ◌&&◌, List, [], ◌∷◌, length, map, take, drop, get_or, refl, sym, ap, ap₂, subst, arith, length-drop, nat_eq, bytes_eq, Ordering, Less, Equal, Greater, nat_cmp, is_eq, is_lt, ordering_index, ordering_then, slice_cmp, filter, starts_with, length-map, get_or-map, get_or-drop, drop_more, nat_tests, same_from_decides, Decides-like, ranked, is_eq-slice_cmp, Less-from_sorted, bytes_eq-Decides, Kind, kind_number, Key, is_of_kind, AreSorted, keys_of, keys_beginning, key_at}
+use Rattle.mail_index.proofs.Words.{◌≡◌, ◌∙◌, ℕ, zero, suc, ◌+◌, ◌-◌, ◌<◌, ◌≤◌, Bool, true, false, cond, ◌&&◌, List, [], ◌∷◌, length, map, take, drop, get_or, refl, sym, ap, ap₂, subst, arith, length-drop, nat_eq, bytes_eq, Ordering, Less, Equal, Greater, nat_cmp, is_eq, is_lt, ordering_index, ordering_then, slice_cmp, filter, starts_with, length-map, get_or-map, get_or-drop, drop_more, nat_tests, same_from_decides, Decides-like, ranked, is_eq-slice_cmp, Less-from_sorted, bytes_eq-Decides, Kind, kind_number, Key, is_of_kind, AreSorted, keys_of, keys_beginning}
 use Rattle.mail_index.specs.Inside.KeyRuns.{lies_to_run, keys_between}
 use Rattle.mail_index.proofs.ViewLaws.KindNumbers.{tied}
 use Rattle.mail_index.proofs.ViewLaws.LookUpLemmas.{key_bytes}
@@ -86,12 +86,6 @@ beginning-first kind text (k ∷ ks) zero d among behind =
 beginning-first kind text (k ∷ ks) (suc n) d among behind =
     beginning-more kind text k ks true (among 0 (omega arith) (omega arith))
     ∙ ap (λ (l : List Key). k ∷ l) (beginning-first kind text ks n d (λ j lt less. among (suc j) (omega (arith, lt)) (omega (arith, less))) (λ j le lt. behind (suc j) (omega (arith, le)) (omega (arith, lt))))
-
--- the place is that of the first key that lies so to the run, or further behind
-pub record LiesFirst (least : Ordering) (kind : Kind) (text : List ℕ) (ks : List Key) (place : ℕ) : Type 0 where
-  pub within : place ≤ length ks
-  pub below : (j : ℕ) → j < place → ordering_index (lies_to_run kind text (key_at ks j)) < ordering_index least
-  pub above : (j : ℕ) → place ≤ j → j < length ks → ordering_index least ≤ ordering_index (lies_to_run kind text (key_at ks j))
 
 -- the run stands between the first key that doesn't lie before it and the first behind it
 pub keys_beginning-between : (kind : Kind) (text : List ℕ) (ks : List Key) (low high : ℕ) (d : Key) → low ≤ length ks

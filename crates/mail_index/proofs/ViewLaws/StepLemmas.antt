@@ -1,5 +1,5 @@
 -- Steps added up.
-use Rattle.mail_index.proofs.Words.{◌≡◌, ℕ, suc, arith, add_steps}
+use Rattle.mail_index.proofs.Words.{◌≡◌, ℕ, suc, ◌+◌, arith, add_steps}
 
 -- none
 pub add_steps-none : (old : ℕ) → old ≡ add_steps old 0
@@ -12,3 +12,7 @@ add_steps-one old n = omega arith
 -- one, and then some more
 pub add_steps-more : (old n : ℕ) → add_steps (add_steps old 1) n ≡ add_steps old (suc n)
 add_steps-more old n = omega arith
+
+-- some, and then some more
+pub add_steps-both : (old m n : ℕ) → add_steps (add_steps old m) n ≡ add_steps old (m + n)
+add_steps-both old m n = omega arith

@@ -1,14 +1,7 @@
 -- Keys in a row.
-use Rattle.std.specs.Prelude.{ℕ, ◌-◌, List, length, take, drop}
-use Rattle.std.specs.declared.cmp.Ordering.{Ordering}
-use Rattle.mail_index.specs.declared.kind.Kind.{Kind}
-use Rattle.mail_index.specs.Kinds.{kind_number}
-use Rattle.mail_index.specs.OrderOfKeys.{key_cmp}
+use Rattle.std.specs.Prelude.{ℕ, ◌-◌, List, take, drop}
 use Rattle.mail_index.specs.Tables.{Key}
-
--- how a key lies to those of a kind whose texts begin with this one: of its own text only so much is compared
-abbrev pub lies_to_run : Kind → List ℕ → Key → Ordering
-lies_to_run kind text k = key_cmp (kind_number k.kind) (take (length text) k.text) (kind_number kind) text
+pub use Rattle.mail_index.specs.LookUps.{lies_to_run}
 
 -- the keys from one number up to another
 abbrev pub keys_between : ℕ → ℕ → List Key → List Key

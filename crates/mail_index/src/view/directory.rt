@@ -13,7 +13,7 @@ pub mod keys;
 /// The directory of a file with the texts and the postings of its keys, which stand in order.
 ///
 /// Its entries are private to this module and those in it: from elsewhere a key is compared with another by `ComparedKeys` alone, a
-/// step each time, and its text is seen by `Keys` alone, which lend it.
+/// step each time, and its text is seen by `Keys` alone, which lend it and begin and end where comparisons found it.
 #[derive(Drop)]
 pub struct Directory<'a> {
     entries: &'a [u8],

@@ -1,5 +1,5 @@
 //! An index file read in place.
-ghost use Rattle.std.specs.Prelude.{◌≡◌, ◌<◌, length, map, IsOk, IfOk, IfErr};
+ghost use Rattle.std.specs.Prelude.{◌≡◌, ◌<◌, [], length, map, IsOk, IfOk, IfErr};
 ghost use Rattle.std.specs.List.{slice_get};
 ghost use Rattle.mail_index.specs.Faults.{IsFileOf, IsFirstFault};
 ghost use Rattle.mail_index.specs.Steps.{add_steps};
@@ -11,16 +11,15 @@ use crate::record::Record;
 use crate::version::Version;
 use crate::view::archive::{Archive, are_archives, behind_archives, first_archive};
 use crate::view::archive_list::ArchiveList;
-use crate::view::directory::Directory;
 use crate::view::directory::compared_keys::ComparedKeys;
 use crate::view::directory::keys::Keys;
-use crate::view::directory_walk::are_entries;
 use crate::view::fault::{IndexFault, Section};
+use crate::view::key_run::keys_of_run;
 use crate::view::layout::{Layout, signed_version};
 use crate::view::look_up::look_up;
-use crate::view::posting_walk::are_lists;
 use crate::view::postings::Postings;
 use crate::view::record_walk::are_records;
+use crate::view::records::Records;
 use crate::view::steps::Steps;
 use std::marker::Model;
 
@@ -44,7 +43,7 @@ impl<'a> Model for IndexView<'a> {
 impl<'a> IndexView<'a> {
     ghost use Rattle.mail_index.specs.Layouts.{archive_of};
     ghost use Rattle.mail_index.specs.Tables.{Table, IsWellFormed};
-    ghost use Rattle.mail_index.specs.LookUps.{numbers_at, comparisons, TakesDigits, keys_of, keys_beginning, text_and_numbers};
+    ghost use Rattle.mail_index.specs.LookUps.{numbers_at, comparisons, TakesDigits, comparisons_of_run, keys_of, keys_beginning, text_and_numbers};
 
     /// The table whose file these bytes are, in version 1 or 2, or the first thing that is wrong with them. No file of a
     /// well-formed table is refused. Takes no memory.
@@ -70,22 +69,10 @@ impl<'a> IndexView<'a> {
         ) {
             return Err(IndexFault::BadLayout(Section::Records));
         }
-        let total = layout.postings.len() as u64;
-        if !are_entries(
-            layout.directory,
-            layout.key_count,
-            layout.texts,
-            total,
-            layout.version,
-        ) {
+        if !layout.has_entries() {
             return Err(IndexFault::BadLayout(Section::Directory));
         }
-        if !are_lists(
-            layout.directory,
-            layout.key_count,
-            layout.postings,
-            layout.message_count,
-        ) {
+        if !layout.has_lists() {
             return Err(IndexFault::BadLayout(Section::Postings));
         }
         Ok(IndexView { layout })
@@ -166,30 +153,37 @@ impl<'a> IndexView<'a> {
         Record::read(self.layout.records.split_at(RECORD * n as usize).1)
     }
 
-    /// The keys in order.
-    fn directory(&self) -> Directory<'a>
-        ensures { result ≡ self.now.keys }
+    /// The records of all messages, from which no key can be reached. It takes no memory.
+    pub fn records(&self) -> Records<'a>
+        ensures { result ≡ self.now.messages }
     {
-        Directory::of(
-            self.layout.directory,
-            self.layout.texts,
-            self.layout.postings,
-            self.layout.key_count,
-        )
+        Records::of(self.layout.records, self.layout.message_count)
     }
 
-    /// The keys of a kind, in the order of their bytes. It takes no memory.
-    pub fn keys(&self, kind: Kind) -> Keys<'a>
-        ensures { result ≡ map text_and_numbers (keys_of kind self.now.keys) }
+    /// The keys in order, to be compared.
+    fn compared_keys(&self) -> ComparedKeys<'a>
+        ensures { result.directory ≡ self.now.keys }
     {
-        self.keys_beginning(kind, &[])
+        ComparedKeys::of(self.layout.directory())
     }
 
-    /// The keys of a kind whose texts begin with this one, in the order of their bytes: two binary searches. It takes no memory.
-    pub fn keys_beginning(&self, kind: Kind, text: &[u8]) -> Keys<'a>
-        ensures { result ≡ map text_and_numbers (keys_beginning kind text.now self.now.keys) }
+    /// The keys of a kind, in the order of their bytes: two binary searches, in which each comparison of a key is a step. It takes
+    /// no memory.
+    pub fn keys(&self, kind: Kind, steps: &mut Steps) -> Keys<'a>
+        ensures keys { result ≡ map text_and_numbers (keys_of kind self.now.keys) }
+        ensures exact { steps.new ≡ add_steps steps.old (comparisons_of_run kind [] self.now.keys) }
     {
-        Keys::of(self.directory(), kind, text)
+        self.keys_beginning(kind, &[], steps)
+    }
+
+    /// The keys of a kind whose texts begin with this one, in the order of their bytes: two binary searches, in which each
+    /// comparison of a key is a step. It takes no memory.
+    pub fn keys_beginning(&self, kind: Kind, text: &[u8], steps: &mut Steps) -> Keys<'a>
+        ensures keys { result ≡ map text_and_numbers (keys_beginning kind text.now self.now.keys) }
+        ensures exact { steps.new
+            ≡ add_steps steps.old (comparisons_of_run kind text.now self.now.keys) }
+    {
+        keys_of_run(self.compared_keys(), kind, text, steps)
     }
 
     /// The numbers of the messages that have the key, none where there is no such key. A binary search: each comparison of a key
@@ -199,9 +193,6 @@ impl<'a> IndexView<'a> {
         ensures exact { steps.new ≡ add_steps steps.old (comparisons kind text.now self.now.keys) }
         ensures steps { TakesDigits (length self.now.keys) steps.old steps.new }
     {
-        let mut keys = ComparedKeys::of(self.directory(), steps.copied());
-        let postings = look_up(&mut keys, kind, text);
-        *steps = keys.into_steps();
-        postings
+        look_up(&self.compared_keys(), kind, text, steps)
     }
 }

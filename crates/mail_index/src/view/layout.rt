@@ -1,5 +1,5 @@
 //! Where the sections of a file lie.
-ghost use Rattle.std.specs.Prelude.{◌≡◌, ◌↔◌, ◌+◌, ◌≤◌, length, MatchOption, MatchResult, IsTrue};
+ghost use Rattle.std.specs.Prelude.{◌≡◌, ◌↔◌, ◌+◌, ◌*◌, ◌≤◌, [], length, MatchOption, MatchResult, IsTrue};
 ghost use Rattle.mail_index.specs.Versions.{version_number};
 ghost use Rattle.sha2.specs.Sha256.{sha256};
 ghost use Rattle.mail_index.specs.Faults.{version_told, HasDigest, IsSigned, IsFirstFault, digest_start};
@@ -10,8 +10,10 @@ use crate::places::{
     MESSAGE_COUNT_AT, POSTING_BYTES_AT, RECORD, TEXT_BYTES_AT, VERSION_AT,
 };
 use crate::version::Version;
+use crate::view::directory::Directory;
+use crate::view::directory_walk::are_entries;
 use crate::view::fault::IndexFault;
-use crate::view::posting_walk::part;
+use crate::view::posting_walk::{are_lists, part};
 use sha2::{Digest, Sha256};
 
 /// The sections of a file, by the lengths that its counts tell.
@@ -20,12 +22,13 @@ pub(crate) struct Layout<'a> {
     pub(crate) version: Version,
     pub(crate) archive_count: u32,
     pub(crate) message_count: u32,
-    pub(crate) key_count: u32,
     pub(crate) archives: &'a [u8],
     pub(crate) records: &'a [u8],
-    pub(crate) directory: &'a [u8],
-    pub(crate) texts: &'a [u8],
-    pub(crate) postings: &'a [u8],
+    // The keys are reached by `Layout::directory` alone.
+    key_count: u32,
+    directory: &'a [u8],
+    texts: &'a [u8],
+    postings: &'a [u8],
 }
 
 /// The version of a file, or what is wrong with its bytes before any section is looked at.
@@ -52,6 +55,9 @@ pub(crate) fn signed_version(bytes: &[u8]) -> Result<Version, IndexFault>
 
 impl<'a> Layout<'a> {
     ghost use Rattle.mail_index.specs.Layouts.{IsLayout};
+    ghost use Rattle.mail_index.specs.Directory.{AreEntries};
+    ghost use Rattle.mail_index.specs.Lists.{AreLists};
+    ghost use Rattle.mail_index.specs.KeysRead.{IsDirectory, keys_read};
 
     /// The sections, if their lengths with those of counts and digest add up to the file's.
     pub(crate) fn of(bytes: &'a [u8], version: Version) -> Option<Layout<'a>>
@@ -76,12 +82,52 @@ impl<'a> Layout<'a> {
             version,
             archive_count: u32_at(bytes, ARCHIVE_COUNT_AT),
             message_count,
-            key_count,
             archives: part(bytes, FRONT as u64, records),
             records: part(bytes, records, directory),
+            key_count,
             directory: part(bytes, directory, texts),
             texts: part(bytes, texts, postings),
             postings: part(bytes, postings, digest),
         })
+    }
+
+    /// Whether the directory is entries in order, with texts that fill their section and postings that fill theirs.
+    pub(crate) fn has_entries(&self) -> bool
+        requires { length self.now.directory.now ≡ 24 * self.now.key_count }
+        ensures { IsTrue result ↔ AreEntries (version_number self.now.version) self.now.texts.now
+            (length self.now.postings.now) 0 0 0 [] self.now.key_count self.now.directory.now }
+    {
+        let total = self.postings.len() as u64;
+        are_entries(
+            self.directory,
+            self.key_count,
+            self.texts,
+            total,
+            self.version,
+        )
+    }
+
+    /// Whether the postings of each entry are one or more numbers of messages.
+    pub(crate) fn has_lists(&self) -> bool
+        requires { length self.now.directory.now ≡ 24 * self.now.key_count }
+        ensures { IsTrue result ↔ AreLists self.now.message_count self.now.postings.now
+            self.now.key_count self.now.directory.now }
+    {
+        are_lists(
+            self.directory,
+            self.key_count,
+            self.postings,
+            self.message_count,
+        )
+    }
+
+    /// The keys in order.
+    pub(crate) fn directory(&self) -> Directory<'a>
+        requires { IsDirectory self.now.texts.now self.now.postings.now self.now.key_count
+            self.now.directory.now }
+        ensures { result ≡ keys_read self.now.texts.now self.now.postings.now self.now.key_count
+            self.now.directory.now }
+    {
+        Directory::of(self.directory, self.texts, self.postings, self.key_count)
     }
 }

@@ -7,20 +7,25 @@ ghost use Rattle.mail_index.specs.KeysRead.{key_at};
 use crate::kind::Kind;
 use crate::view::directory::compared_keys::ComparedKeys;
 use crate::view::postings::Postings;
+use crate::view::steps::Steps;
 use std::cmp::Ordering;
 
 /// The numbers of the messages that have the key; none where the directory hasn't it. A binary search.
-pub(crate) fn look_up<'a>(keys: &mut ComparedKeys<'a>, kind: Kind, text: &[u8]) -> Postings<'a>
-    ensures numbers { result ≡ numbers_at kind text.now keys.old.directory }
-    ensures exact { keys.new.steps
-        ≡ add_steps keys.old.steps (comparisons kind text.now keys.old.directory) }
-    ensures steps { TakesDigits (length keys.old.directory) keys.old.steps keys.new.steps }
+pub(crate) fn look_up<'a>(
+    keys: &ComparedKeys<'a>,
+    kind: Kind,
+    text: &[u8],
+    steps: &mut Steps,
+) -> Postings<'a>
+    ensures numbers { result ≡ numbers_at kind text.now keys.now.directory }
+    ensures exact { steps.new ≡ add_steps steps.old (comparisons kind text.now keys.now.directory) }
+    ensures steps { TakesDigits (length keys.now.directory) steps.old steps.new }
 {
     let mut low = 0;
     let mut high = keys.len();
     while low < high {
         let middle = low + (high - low) / 2;
-        match keys.compare(middle, kind, text) {
+        match keys.compare(middle, kind, text, steps) {
             Ordering::Less => low = middle + 1,
             Ordering::Equal => return keys.postings(middle),
             Ordering::Greater => high = middle,

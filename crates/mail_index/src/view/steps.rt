@@ -1,12 +1,18 @@
 //! A count of work done.
 ghost use Rattle.std.specs.Prelude.{◌≡◌, ℕ, ◌-◌};
 
+use crate::view::index_view::IndexView;
+use std::alloc::Global;
 use std::marker::Model;
 
 /// How many steps a search has taken.
 ///
 /// One step is the comparison of one entry of the directory, the reading of one number of a key's messages, or the look at one
 /// record. The count stops at the greatest value of a `u64`.
+///
+/// A count begins only where both an index and an allocator are at hand, though it uses neither. A look-up has no allocator, and what
+/// goes through postings, keys or records has no index: so they can't begin a count that nobody reads (decision 75 in
+/// docs/DECISIONS.md).
 #[derive(Drop)]
 pub struct Steps {
     count: u64,
@@ -21,8 +27,8 @@ impl Model for Steps {
 impl Steps {
     ghost use Rattle.mail_index.specs.Steps.{add_steps};
 
-    /// No step.
-    pub fn new() -> Self
+    /// No step, for a search of this index. Takes no memory.
+    pub fn new(_alloc: Global, _index: &IndexView<'_>) -> Self
         ensures { result ≡ 0 }
     {
         Steps { count: 0 }
@@ -33,13 +39,6 @@ impl Steps {
         ensures { self.new ≡ add_steps self.old 1 }
     {
         self.count = self.count.saturating_add(1);
-    }
-
-    /// The same count once more.
-    pub(crate) fn copied(&self) -> Self
-        ensures { result ≡ self.now }
-    {
-        Steps { count: self.count }
     }
 
     /// How many steps there were.

@@ -15,7 +15,7 @@ unite_by_keys-requires-clause-back c = single_back c.as_mut_slice.result.now c.m
 pub unite_by_keys-requires-clause-within : goal.unite_by_keys-requires-clause-within
 unite_by_keys-requires-clause-within c =
     let single : c.as_mut_slice.result.now ≡ range_with_len 0 (length c.args.index.now.messages) = c.as_mut_slice.ensures.value ∙ c.loop-number.invariant ∙ ap (range_with_len 0) (omega arith) ∙ ap (range_with_len 0) c.message_count-count.ensures in
-    subst (λ (ks : List (List ℕ × List ℕ)). AllByRecursion (λ (k : List ℕ × List ℕ). AllByRecursion (λ n. n < length c.as_mut_slice.result.now) k.1) ks) (sym c.keys-keys.ensures)
+    subst (λ (ks : List (List ℕ × List ℕ)). AllByRecursion (λ (k : List ℕ × List ℕ). AllByRecursion (λ n. n < length c.as_mut_slice.result.now) k.1) ks) (sym c.keys-keys.ensures.keys)
     (link_keys_below c.args.index.now c.as_mut_slice.result.now c.requires single)
 
 pub flatten-requires : goal.flatten-requires
@@ -31,4 +31,4 @@ returns c =
     let joined : c.as_mut_slice-2.result.now ≡ c.unite_by_keys.new.parents = c.as_mut_slice-2.ensures.value ∙ written_over c.loop-number.roots.len c.unite_by_keys.new.parents _ (c.unite_by_keys.ensures.long ∙ c.as_mut_slice.ensures.len) in
     rw (written_over c.loop-number.roots.len c.flatten.new.parents _ (c.flatten.ensures.shortened.long ∙ c.as_mut_slice-2.ensures.len))
     (threads_told t c.as_mut_slice.result.now c.as_mut_slice-2.result.now c.flatten.new.parents single
-    (rw joined (rw c.keys-keys.ensures at c.unite_by_keys.ensures)) c.flatten.ensures.shortened c.flatten.ensures.flat)
+    (rw joined (rw c.keys-keys.ensures.keys at c.unite_by_keys.ensures)) c.flatten.ensures.shortened c.flatten.ensures.flat)

@@ -1,4 +1,4 @@
-//! The keys of a file, of which nothing shows but how they lie to another, a step each time.
+//! Keys that can only be compared: each comparison is a step.
 ghost use Rattle.std.specs.Prelude.{◌≡◌, ◌<◌, length};
 ghost use Rattle.mail_index.specs.Steps.{add_steps};
 ghost use Rattle.mail_index.specs.KeysRead.{key_at};
@@ -11,25 +11,22 @@ use crate::view::postings::Postings;
 use crate::view::steps::Steps;
 use std::cmp::Ordering;
 
-/// The keys of a directory, in order, and how many steps were taken.
+/// The keys of a directory, in order, for a search.
 ///
-/// A search for a key has them as this alone: it sees no key but by a step, which is counted here and can't be counted elsewhere.
+/// A search for a key has them as this alone. It sees no key but by a step on its caller's count, and it can't begin another count.
 #[derive(Drop)]
 pub(crate) struct ComparedKeys<'a> {
     pub(super) directory: Directory<'a>,
-    steps: Steps,
 }
 
 impl<'a> ComparedKeys<'a> {
-    ghost use Rattle.mail_index.specs.LookUps.{lies_to, AreSorted};
-    ghost use Rattle.mail_index.specs.Inside.KeyRuns.{lies_to_run};
+    ghost use Rattle.mail_index.specs.LookUps.{lies_to, lies_to_run, AreSorted};
 
-    /// The keys of this directory, after so many steps.
-    pub(crate) fn of(directory: Directory<'a>, steps: Steps) -> Self
-        ensures keys { result.directory ≡ directory.entry }
-        ensures steps { result.steps ≡ steps }
+    /// The keys of this directory.
+    pub(crate) fn of(directory: Directory<'a>) -> Self
+        ensures { result.directory ≡ directory.entry }
     {
-        ComparedKeys { directory, steps }
+        ComparedKeys { directory }
     }
 
     /// How many keys there are. They stand in order.
@@ -41,35 +38,44 @@ impl<'a> ComparedKeys<'a> {
     }
 
     /// The entry of the key of this number, to compare it: a step.
-    fn counted_entry(&mut self, number: u32) -> Entry<'a>
-        requires { number < length self.old.directory }
-        ensures entry { result ≡ key_at self.old.directory number }
-        ensures steps { self.new.steps ≡ add_steps self.old.steps 1 }
-        ensures keys { self.new.directory ≡ self.old.directory }
+    fn counted_entry(&self, number: u32, steps: &mut Steps) -> Entry<'a>
+        requires { number < length self.now.directory }
+        ensures entry { result ≡ key_at self.now.directory number }
+        ensures steps { steps.new ≡ add_steps steps.old 1 }
     {
-        self.steps.tick();
+        steps.tick();
         self.directory.entry_at(number)
     }
 
-    /// How the key of this number lies to another: a step.
-    pub(crate) fn compare(&mut self, number: u32, kind: Kind, text: &[u8]) -> Ordering
-        requires { number < length self.old.directory }
-        ensures order { result ≡ lies_to kind text.now (key_at self.old.directory number) }
-        ensures steps { self.new.steps ≡ add_steps self.old.steps 1 }
-        ensures keys { self.new.directory ≡ self.old.directory }
+    /// Compares the key of this number with another: a step.
+    pub(crate) fn compare(
+        &self,
+        number: u32,
+        kind: Kind,
+        text: &[u8],
+        steps: &mut Steps,
+    ) -> Ordering
+        requires { number < length self.now.directory }
+        ensures order { result ≡ lies_to kind text.now (key_at self.now.directory number) }
+        ensures steps { steps.new ≡ add_steps steps.old 1 }
     {
-        let entry = self.counted_entry(number);
+        let entry = self.counted_entry(number, steps);
         compare_keys(entry.entries[KIND_AT], entry.text(), kind.number(), text)
     }
 
-    /// How the key of this number lies to those of a kind that begin with a text, which stand in a row: a step.
-    pub(crate) fn compare_to_run(&mut self, number: u32, kind: Kind, text: &[u8]) -> Ordering
-        requires { number < length self.old.directory }
-        ensures order { result ≡ lies_to_run kind text.now (key_at self.old.directory number) }
-        ensures steps { self.new.steps ≡ add_steps self.old.steps 1 }
-        ensures keys { self.new.directory ≡ self.old.directory }
+    /// Compares the key of this number with those of a kind that begin with a text, which stand in a row: a step.
+    pub(crate) fn compare_to_run(
+        &self,
+        number: u32,
+        kind: Kind,
+        text: &[u8],
+        steps: &mut Steps,
+    ) -> Ordering
+        requires { number < length self.now.directory }
+        ensures order { result ≡ lies_to_run kind text.now (key_at self.now.directory number) }
+        ensures steps { steps.new ≡ add_steps steps.old 1 }
     {
-        let entry = self.counted_entry(number);
+        let entry = self.counted_entry(number, steps);
         let own = entry.text();
         // Of its own text only so much is compared.
         let front = own.split_at(own.len().min(text.len())).0;
@@ -82,12 +88,5 @@ impl<'a> ComparedKeys<'a> {
         ensures { result ≡ (key_at self.now.directory number).numbers }
     {
         self.directory.entry_at(number).postings()
-    }
-
-    /// The steps that were taken.
-    pub(crate) fn into_steps(self) -> Steps
-        ensures { result ≡ self.entry.steps }
-    {
-        self.steps
     }
 }

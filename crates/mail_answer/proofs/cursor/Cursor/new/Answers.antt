@@ -1,9 +1,9 @@
-use Rattle.mail_answer.proofs.Words.{arith}
+use Rattle.mail_answer.proofs.Words.{sym, subst, arith, IsWellFormed}
 use Rattle.mail_answer.proofs.CursorLaws.Begins.{tells_chosen}
 use Rattle.mail_answer.proofs.cursor.Cursor.new.Goals as goal
 
 pub returns-clause-numbers : goal.returns-clause-numbers
 returns-clause-numbers c = grind (arith, tells_chosen)
 
-pub walk_of-requires : goal.walk_of-requires
-walk_of-requires c = rw c.again.ensures.same c.again.ensures.formed
+pub walk_of-begun-requires : goal.walk_of-begun-requires
+walk_of-begun-requires c = subst IsWellFormed (sym c.of-counted.ensures.table) c.of-counted.ensures.formed

@@ -4,10 +4,10 @@ use Rattle.mail_answer.proofs.cursor.scanned.next_asked.Given as goal
 abbrev pub invariant-loop-next : goal.invariant-loop-next
 invariant-loop-next l = record {
   from : l.initial.next ≤ l.next;
-  none : (m : ℕ) → l.initial.next ≤ m → m < l.next → satisfies l.index l.asked m ≡ false;
+  none : (m : ℕ) → l.initial.next ≤ m → m < l.next → satisfies l.records l.asked m ≡ false;
   looked : l.steps ≡ add_steps l.initial.steps (l.next - l.initial.next);
-  steps : Spends (length l.index.messages - l.initial.next) (length l.index.messages - l.next) l.initial.steps l.steps;
+  steps : Spends (length l.records - l.initial.next) (length l.records - l.next) l.initial.steps l.steps;
 }
 
 abbrev pub decreases-loop-next : goal.decreases-loop-next
-decreases-loop-next l = length l.index.messages - l.next
+decreases-loop-next l = length l.records - l.next

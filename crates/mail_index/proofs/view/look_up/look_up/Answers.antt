@@ -12,9 +12,8 @@ loop-low-preserved-in-Less c =
     let middle : ℕ = c.loop-low.low + (c.loop-low.high - c.loop-low.low) / 2 in
     let i = c.loop-low.invariant in
     let inside : middle < length keys = omega (arith, i.within, c.loop-low-test.true) in
-    let lies = ap (λ (ks : List Key). lies_to c.args.kind c.args.text.now (key_at ks middle)) (sym i.same) ∙ sym c.compare.ensures.order ∙ c.in-Less.is in
+    let lies = sym c.compare.ensures.order ∙ c.in-Less.is in
     record {
-      same = c.compare.ensures.keys ∙ i.same;
       sorted = i.sorted;
       order = omega (arith, c.loop-low-test.true);
       within = i.within;
@@ -25,8 +24,8 @@ loop-low-preserved-in-Less c =
           let rest : ℕ = comparisons_within met.fewer c.args.kind c.args.text.now (keys_between (middle + 1) c.loop-low.high keys) in (
             met.fewer,
             omega (arith, met.enough),
-            ap (λ (n : ℕ). add_steps n rest) c.compare.ensures.steps ∙ add_steps-more c.loop-low.keys.steps rest
-                ∙ ap (add_steps c.loop-low.keys.steps) (sym met.counted) ∙ i.steps.2,
+            ap (λ (n : ℕ). add_steps n rest) c.compare.ensures.steps ∙ add_steps-more c.loop-low.steps rest
+                ∙ ap (add_steps c.loop-low.steps) (sym met.counted) ∙ i.steps.2,
           );
     }
 
@@ -35,9 +34,8 @@ loop-low-preserved c =
     let keys : List Key = c.args.keys.now.directory in
     let middle : ℕ = c.loop-low.low + (c.loop-low.high - c.loop-low.low) / 2 in
     let i = c.loop-low.invariant in
-    let lies = ap (λ (ks : List Key). lies_to c.args.kind c.args.text.now (key_at ks middle)) (sym i.same) ∙ sym c.compare.ensures.order ∙ c.in-Greater.is in
+    let lies = sym c.compare.ensures.order ∙ c.in-Greater.is in
     record {
-      same = c.compare.ensures.keys ∙ i.same;
       sorted = i.sorted;
       order = omega (arith, c.loop-low-test.true);
       within = omega (arith, i.within, c.loop-low-test.true);
@@ -48,8 +46,8 @@ loop-low-preserved c =
           let rest : ℕ = comparisons_within met.fewer c.args.kind c.args.text.now (keys_between c.loop-low.low middle keys) in (
             met.fewer,
             omega (arith, met.enough),
-            ap (λ (n : ℕ). add_steps n rest) c.compare.ensures.steps ∙ add_steps-more c.loop-low.keys.steps rest
-                ∙ ap (add_steps c.loop-low.keys.steps) (sym met.counted) ∙ i.steps.2,
+            ap (λ (n : ℕ). add_steps n rest) c.compare.ensures.steps ∙ add_steps-more c.loop-low.steps rest
+                ∙ ap (add_steps c.loop-low.steps) (sym met.counted) ∙ i.steps.2,
           );
     }
 
@@ -61,9 +59,9 @@ returns-in-Equal-clause-exact c =
     let keys : List Key = c.args.keys.now.directory in
     let middle : ℕ = c.loop-low.low + (c.loop-low.high - c.loop-low.low) / 2 in
     let i = c.loop-low.invariant in
-    let lies = ap (λ (ks : List Key). lies_to c.args.kind c.args.text.now (key_at ks middle)) (sym i.same) ∙ sym c.compare.ensures.order ∙ c.in-Equal.is in
+    let lies = sym c.compare.ensures.order ∙ c.in-Equal.is in
     let met = compared i.steps.0 c.args.kind c.args.text.now keys c.loop-low.low c.loop-low.high no_key Equal c.loop-low-test.true i.within i.steps.1 lies in
-    c.compare.ensures.steps ∙ ap (add_steps c.loop-low.keys.steps) (sym met.counted) ∙ i.steps.2
+    c.compare.ensures.steps ∙ ap (add_steps c.loop-low.steps) (sym met.counted) ∙ i.steps.2
 
 pub returns-in-Equal-clause-steps : goal.returns-in-Equal-clause-steps
 returns-in-Equal-clause-steps c = grind (arith, comparisons, comparisons-few, returns-in-Equal-clause-exact)

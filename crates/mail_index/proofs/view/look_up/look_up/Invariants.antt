@@ -5,14 +5,13 @@ use Rattle.mail_index.proofs.view.look_up.look_up.Given as goal
 -- the keys before low lie before the wanted one, those from high on behind it, and the comparisons of those between are left
 abbrev pub invariant-loop-low : goal.invariant-loop-low
 invariant-loop-low l = record {
-  same : l.keys.directory ≡ l.fn.keys.directory;
-  sorted : AreSorted l.fn.keys.directory;
+  sorted : AreSorted l.keys.directory;
   order : l.low ≤ l.high;
-  within : l.high ≤ length l.fn.keys.directory;
-  below : (j : ℕ) → j < l.low → lies_to l.kind l.text (key_at l.fn.keys.directory j) ≡ Less;
-  above : (j : ℕ) → l.high ≤ j → j < length l.fn.keys.directory → lies_to l.kind l.text (key_at l.fn.keys.directory j) ≡ Greater;
+  within : l.high ≤ length l.keys.directory;
+  below : (j : ℕ) → j < l.low → lies_to l.kind l.text (key_at l.keys.directory j) ≡ Less;
+  above : (j : ℕ) → l.high ≤ j → j < length l.keys.directory → lies_to l.kind l.text (key_at l.keys.directory j) ≡ Greater;
   steps : (most : ℕ) × (l.high - l.low ≤ most)
-      × (add_steps l.keys.steps (comparisons_within most l.kind l.text (keys_between l.low l.high l.fn.keys.directory)) ≡ add_steps l.fn.keys.steps (comparisons l.kind l.text l.fn.keys.directory));
+      × (add_steps l.steps (comparisons_within most l.kind l.text (keys_between l.low l.high l.keys.directory)) ≡ add_steps l.fn.steps (comparisons l.kind l.text l.keys.directory));
 }
 
 abbrev pub decreases-loop-low : goal.decreases-loop-low

@@ -17,20 +17,20 @@ returns-then-not-are_records-clause-fault c =
     let a = c.are_archives.ensures.0 c.if-not-are_archives.false in
     (_, has_archives _ _ f a, λ ms h. let g : false ≡ true = sym c.if-not-are_records.true ∙ c.are_records.ensures.1 (these_records _ _ f a ms h) in cc)
 
-pub returns-then-not-are_entries-clause-fault : goal.returns-then-not-are_entries-clause-fault
-returns-then-not-are_entries-clause-fault c =
+pub returns-then-not-has_entries-clause-fault : goal.returns-then-not-has_entries-clause-fault
+returns-then-not-has_entries-clause-fault c =
     let f = laid_out _ _ c.in_ok-version.ensures.0 c.in-Some.ensures (record { below = λ i. Fits-lt-pow (c.type_inv.bytes i) }) in
     let a = c.are_archives.ensures.0 c.if-not-are_archives.false in
     let r = c.are_records.ensures.0 c.if-not-are_records.false in
-    (_, _, has_records _ _ f a r, λ es h. let g : false ≡ true = sym c.if-not-are_entries.true ∙ c.are_entries.ensures.1 (these_entries _ _ f es h) in cc)
+    (_, _, has_records _ _ f a r, λ es h. let g : false ≡ true = sym c.if-not-has_entries.true ∙ c.has_entries.ensures.1 (these_entries _ _ f es h) in cc)
 
-pub returns-then-not-are_lists-clause-fault : goal.returns-then-not-are_lists-clause-fault
-returns-then-not-are_lists-clause-fault c =
+pub returns-then-not-has_lists-clause-fault : goal.returns-then-not-has_lists-clause-fault
+returns-then-not-has_lists-clause-fault c =
     let f = laid_out _ _ c.in_ok-version.ensures.0 c.in-Some.ensures (record { below = λ i. Fits-lt-pow (c.type_inv.bytes i) }) in
     let a = c.are_archives.ensures.0 c.if-not-are_archives.false in
     let r = c.are_records.ensures.0 c.if-not-are_records.false in
-    let d = c.are_entries.ensures.0 c.if-not-are_entries.false in
-    (_, _, _, has_directory _ _ f (record { archives = a; records = r }) d, λ ks h. let g : false ≡ true = sym c.if-not-are_lists.true ∙ c.are_lists.ensures.1 (these_lists _ _ f ks h) in cc)
+    let d = c.has_entries.ensures.0 c.if-not-has_entries.false in
+    (_, _, _, has_directory _ _ f (record { archives = a; records = r }) d, λ ks h. let g : false ≡ true = sym c.if-not-has_lists.true ∙ c.has_lists.ensures.1 (these_lists _ _ f ks h) in cc)
 
 pub returns-clause-ok : goal.returns-clause-ok
 returns-clause-ok c = grind (arith, laid_out, Fits-lt-pow, is_file, has_postings)
@@ -49,14 +49,17 @@ returns-then-not-are_archives-clause-accepts c t f = absurd (no_fault c.args.byt
 pub returns-then-not-are_records-clause-accepts : goal.returns-then-not-are_records-clause-accepts
 returns-then-not-are_records-clause-accepts c t f = absurd (no_fault c.args.bytes.now t c.well_formed.0.0 f (BadLayout Records) (returns-then-not-are_records-clause-fault c))
 
-pub returns-then-not-are_entries-clause-accepts : goal.returns-then-not-are_entries-clause-accepts
-returns-then-not-are_entries-clause-accepts c t f = absurd (no_fault c.args.bytes.now t c.well_formed.0.0 f (BadLayout Directory) (returns-then-not-are_entries-clause-fault c))
+pub returns-then-not-has_entries-clause-accepts : goal.returns-then-not-has_entries-clause-accepts
+returns-then-not-has_entries-clause-accepts c t f = absurd (no_fault c.args.bytes.now t c.well_formed.0.0 f (BadLayout Directory) (returns-then-not-has_entries-clause-fault c))
 
-pub returns-then-not-are_lists-clause-accepts : goal.returns-then-not-are_lists-clause-accepts
-returns-then-not-are_lists-clause-accepts c t f = absurd (no_fault c.args.bytes.now t c.well_formed.0.0 f (BadLayout Postings) (returns-then-not-are_lists-clause-fault c))
+pub returns-then-not-has_lists-clause-accepts : goal.returns-then-not-has_lists-clause-accepts
+returns-then-not-has_lists-clause-accepts c t f = absurd (no_fault c.args.bytes.now t c.well_formed.0.0 f (BadLayout Postings) (returns-then-not-has_lists-clause-fault c))
 
 pub returns-clause-same : goal.returns-clause-same
 returns-clause-same c t f = same-table c.args.bytes.now t (table_of c.in-Some.layout) c.well_formed.0.0 f (returns-clause-ok c)
 
 pub invariant_of-result : goal.invariant_of-result
-invariant_of-result c = grind (arith, laid_out, Fits-lt-pow, checked)
+invariant_of-result c =
+    let f = laid_out _ _ c.in_ok-version.ensures.0 c.in-Some.ensures (record { below = λ i. Fits-lt-pow (c.type_inv.bytes i) }) in
+    checked _ _ f (record { archives = c.are_archives.ensures.0 c.if-not-are_archives.false; records = c.are_records.ensures.0 c.if-not-are_records.false })
+    (c.has_entries.ensures.0 c.if-not-has_entries.false) (c.has_lists.ensures.0 c.if-not-has_lists.false)

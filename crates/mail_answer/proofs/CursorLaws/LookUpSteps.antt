@@ -1,0 +1,59 @@
+-- The exact steps of look-ups.
+use Rattle.mail_answer.proofs.Words.{◌≡◌, ◌∙◌, ◌+◌, ◌<◌, ◌≤◌, ℕ, true, false, List, [], ◌∷◌, ◌++◌, length, map, drop, get_or, sym, ap, arith, Result, Ok, Err, IfOk, filter, Kind, Text, OwnId, text_kinds, Key, Query, members_of, Kinds, is_in, compared_in_all, look_up_steps, look_up_steps_of_all, add_steps}
+use Rattle.mail_index.proofs.ViewLaws.StepLemmas.{add_steps-none, add_steps-both}
+use Rattle.mail_answer.proofs.CursorLaws.Texts.{coming_at}
+
+pub if_always : {A E P : Type 0} (r : Result A E) → P → IfOk r (λ _. P)
+if_always (Err e) p = tt
+if_always (Ok a) p = p
+
+pub none_taken : (old new : ℕ) → new ≡ old → new ≡ add_steps old 0
+none_taken old new same = same ∙ add_steps-none old
+
+-- where no key is looked up
+pub none_compared : (kinds : List Kind) → compared_in_all (λ kind. 0) kinds ≡ 0
+none_compared [] = omega arith
+none_compared (kind ∷ kinds) = omega (arith, none_compared kinds)
+
+pub steps_of : {A E : Type 0} (r : Result A E) (keys : List Key) (q p : Query) (old new n : ℕ) → q ≡ p → n ≡ look_up_steps keys p → IfOk r (λ _. new ≡ add_steps old n)
+    → IfOk r (λ _. new ≡ add_steps old (look_up_steps keys q))
+steps_of (Err e) keys q p old new n is counts taken = tt
+steps_of (Ok a) keys q p old new n is counts taken = taken ∙ ap (add_steps old) counts ∙ ap (λ (x : Query). add_steps old (look_up_steps keys x)) (sym is)
+
+-- ---- kind by kind
+
+module _ (compared : Kind → ℕ) (kinds : Kinds) (items : List Kind) (i : ℕ) (d : Kind) (start old new total : ℕ) where
+  pub compared_more : i < length items → is_in kinds (get_or items i d) ≡ true → new ≡ add_steps old (compared (get_or items i d))
+      → add_steps old (compared_in_all compared (filter (is_in kinds) (drop i items))) ≡ add_steps start total
+      → add_steps new (compared_in_all compared (filter (is_in kinds) (drop (i + 1) items))) ≡ add_steps start total
+  compared_more lt e taken before =
+      let rest : ℕ = compared_in_all compared (filter (is_in kinds) (drop (i + 1) items)) in
+      ap (λ (n : ℕ). add_steps n rest) taken ∙ add_steps-both old (compared (get_or items i d)) rest
+      ∙ ap (λ (ks : List Kind). add_steps old (compared_in_all compared ks)) (sym (coming_at kinds items i d true lt e)) ∙ before
+
+  pub compared_skip : i < length items → is_in kinds (get_or items i d) ≡ false
+      → add_steps old (compared_in_all compared (filter (is_in kinds) (drop i items))) ≡ add_steps start total
+      → add_steps old (compared_in_all compared (filter (is_in kinds) (drop (i + 1) items))) ≡ add_steps start total
+  compared_skip lt e before = ap (λ (ks : List Kind). add_steps old (compared_in_all compared ks)) (sym (coming_at kinds items i d false lt e)) ∙ before
+
+-- behind the last kind
+pub all_compared : (compared : Kind → ℕ) (i : ℕ) (kinds : Kinds) (start old total : ℕ) → 8 ≤ i → i ≤ 8
+    → add_steps old (compared_in_all compared (filter (is_in kinds) (drop i (map Text text_kinds ++ OwnId ∷ [])))) ≡ add_steps start total → old ≡ add_steps start total
+all_compared compared i kinds start old total from to before =
+    let last : i ≡ 8 = omega (arith, from, to) in
+    let all = rw last at before in
+    add_steps-none old ∙ all
+
+-- ---- member by member
+
+pub member_more : (keys : List Key) (q : Query) (last coming : List Query) (start old new total : ℕ) → last ≡ q ∷ coming → new ≡ add_steps old (look_up_steps keys q)
+    → add_steps old (look_up_steps_of_all keys (members_of last)) ≡ add_steps start total → add_steps new (look_up_steps_of_all keys (members_of coming)) ≡ add_steps start total
+member_more keys q last coming start old new total split taken before =
+    let rest : ℕ = look_up_steps_of_all keys (members_of coming) in
+    ap (λ (n : ℕ). add_steps n rest) taken ∙ add_steps-both old (look_up_steps keys q) rest
+    ∙ ap (λ (qs : List Query). add_steps old (look_up_steps_of_all keys (members_of qs))) (sym split) ∙ before
+
+pub no_member_more : (keys : List Key) (last : List Query) (start old total : ℕ) → last ≡ []
+    → add_steps old (look_up_steps_of_all keys (members_of last)) ≡ add_steps start total → old ≡ add_steps start total
+no_member_more keys last start old total none before =
+    add_steps-none old ∙ ap (λ (qs : List Query). add_steps old (look_up_steps_of_all keys (members_of qs))) (sym none) ∙ before

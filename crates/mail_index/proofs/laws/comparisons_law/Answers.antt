@@ -1,0 +1,20 @@
+use Rattle.mail_index.proofs.Words.{arith, length, lies_below, Equal, Greater}
+use Rattle.mail_index.proofs.ViewLaws.Comparisons.{comparisons-few, comparisons-many, comparisons-some, bisections-few, bisections-many}
+use Rattle.mail_index.proofs.laws.comparisons_law.Goals as goal
+
+pub returns-clause-few : goal.returns-clause-few
+returns-clause-few c kind text ks digits h = comparisons-few (length ks) kind text ks digits h
+
+pub returns-clause-many : goal.returns-clause-many
+returns-clause-many c kind text ks digits none h = comparisons-many (length ks) kind text ks digits (omega arith) none h
+
+pub returns-clause-some : goal.returns-clause-some
+returns-clause-some c kind text ks h = comparisons-some kind text ks h
+
+pub returns-clause-run_few : goal.returns-clause-run_few
+returns-clause-run_few c kind text ks digits h =
+    omega (arith, bisections-few (length ks) (lies_below Equal kind text) ks digits h, bisections-few (length ks) (lies_below Greater kind text) ks digits h)
+
+pub returns-clause-run_many : goal.returns-clause-run_many
+returns-clause-run_many c kind text ks digits h =
+    omega (arith, bisections-many (length ks) (lies_below Equal kind text) ks digits (omega arith) h, bisections-many (length ks) (lies_below Greater kind text) ks digits (omega arith) h)

@@ -1,0 +1,12 @@
+use Rattle.mail_index.proofs.Words.{slice_get, arith, read_record}
+use Rattle.mail_index.proofs.ViewLaws.Opening.{count_records, message_at}
+use Rattle.mail_index.proofs.view.records.Records.look_at.Goals as goal
+
+pub split_at-requires : goal.split_at-requires
+split_at-requires c = grind (arith, count_records)
+
+pub read-requires : goal.read-requires
+read-requires c = grind (arith, count_records)
+
+pub returns-clause-record : goal.returns-clause-record
+returns-clause-record c = grind (arith, count_records, slice_get, message_at, read_record)

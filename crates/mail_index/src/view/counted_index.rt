@@ -1,0 +1,99 @@
+//! An index in which keys are looked up on one count.
+ghost use Rattle.std.specs.Prelude.{◌≡◌, length, map};
+ghost use Rattle.mail_index.specs.Steps.{add_steps};
+ghost use Rattle.mail_index.specs.Tables.{IsWellFormed};
+ghost use Rattle.mail_index.specs.LookUps.{numbers_at, comparisons, TakesDigits, keys_of, keys_beginning, text_and_numbers};
+
+use crate::kind::Kind;
+use crate::view::directory::keys::Keys;
+use crate::view::index_view::IndexView;
+use crate::view::postings::Postings;
+use crate::view::records::Records;
+use crate::view::steps::Steps;
+use std::alloc::Global;
+use std::marker::Model;
+use std::mem;
+
+/// An index, and the count of the steps that look-ups in it take. What has the index as this alone can't look up a key on another
+/// count.
+#[derive(Drop)]
+pub struct CountedIndex<'a> {
+    index: IndexView<'a>,
+    steps: Steps,
+    // Those that finding the keys of a run takes.
+    run_steps: Steps,
+}
+
+impl<'a> Model for CountedIndex<'a> {
+    ghost use Rattle.mail_index.specs.LookUps.{CountedTable};
+
+    ghost Value = { CountedTable };
+
+    ghost view = { λ s. record { table = s.index; steps = s.steps } };
+}
+
+impl<'a> CountedIndex<'a> {
+    /// The index with its caller's count, which is left at 0. Takes no memory.
+    pub fn of(alloc: Global, index: &IndexView<'a>, steps: &mut Steps) -> Self
+        ensures table { result.table ≡ index.now }
+        ensures steps { result.steps ≡ steps.old }
+        ensures formed { IsWellFormed index.now }
+    {
+        CountedIndex {
+            index: index.again(),
+            steps: mem::replace(steps, Steps::new(alloc, index)),
+            run_steps: Steps::new(alloc, index),
+        }
+    }
+
+    /// The count.
+    pub fn into_steps(self) -> Steps
+        ensures { result ≡ self.entry.steps }
+    {
+        self.steps
+    }
+
+    /// How many messages there are.
+    pub fn message_count(&self) -> u32
+        ensures { result ≡ length self.now.table.messages }
+    {
+        self.index.message_count()
+    }
+
+    /// The records of all messages.
+    pub fn records(&self) -> Records<'a>
+        ensures { result ≡ self.now.table.messages }
+    {
+        self.index.records()
+    }
+
+    /// The numbers of the messages that have the key, as `IndexView::look_up` gives them.
+    pub fn look_up(&mut self, kind: Kind, text: &[u8]) -> Postings<'a>
+        ensures numbers { result ≡ numbers_at kind text.now self.old.table.keys }
+        ensures exact { self.new.steps
+            ≡ add_steps self.old.steps (comparisons kind text.now self.old.table.keys) }
+        ensures steps { TakesDigits (length self.old.table.keys) self.old.steps self.new.steps }
+        ensures table { self.new.table ≡ self.old.table }
+    {
+        self.index.look_up(kind, text, &mut self.steps)
+    }
+
+    /// The keys of a kind, as `IndexView::keys` gives them. No key is looked up.
+    pub fn keys(&mut self, kind: Kind) -> Keys<'a>
+        ensures keys { result ≡ map text_and_numbers (keys_of kind self.old.table.keys) }
+        ensures steps { self.new.steps ≡ self.old.steps }
+        ensures table { self.new.table ≡ self.old.table }
+    {
+        self.index.keys(kind, &mut self.run_steps)
+    }
+
+    /// The keys of a kind whose texts begin with this one, as `IndexView::keys_beginning` gives them. No key is looked up.
+    pub fn keys_beginning(&mut self, kind: Kind, text: &[u8]) -> Keys<'a>
+        ensures keys { result
+            ≡ map text_and_numbers (keys_beginning kind text.now self.old.table.keys) }
+        ensures steps { self.new.steps ≡ self.old.steps }
+        ensures table { self.new.table ≡ self.old.table }
+    {
+        self.index.keys_beginning(kind, text, &mut self.run_steps)
+    }
+}
