@@ -2,5 +2,6 @@
 pub mod Answers
 pub mod CutAgain
 pub mod Once
+pub mod OneReply
 pub mod Stored
 pub mod Searching

@@ -6,6 +6,8 @@ pub mod TermsOfArchives
 pub mod Asked
 pub mod Replies
 pub mod Runs
+pub mod OneReply
+pub mod WorkedReplies
 pub mod Searching
 pub mod OldTables
 pub mod Altered

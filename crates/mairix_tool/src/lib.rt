@@ -5,9 +5,11 @@ mod laws;
 mod once;
 mod program;
 mod reply;
+mod reply_laws;
 mod stored;
 mod view_answer;
 mod wanted;
+mod worked_replies;
 
 pub use index_job::{
     IndexJob, JobFault, one_table_of_archives, the_table_of_sound_archives_is_well_formed,
@@ -26,5 +28,7 @@ pub use mairix_options::{
 pub use once::once_run;
 pub use program::{run_program, tell_unread_words};
 pub use reply::Reply;
+pub use reply_laws::{once_runs_have_one_reply, stored_runs_have_one_reply};
 pub use run_faults::{Fault, fault_text};
 pub use stored::search_run;
+pub use worked_replies::replies_are_as_worked_by_hand;

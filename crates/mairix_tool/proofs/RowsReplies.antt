@@ -1,0 +1,239 @@
+-- Rows: whole runs that were worked out by hand, by computation.
+use Rattle.mairix_tool.proofs.Words.{◌≡◌, ◌<◌, ℕ, zero, suc, Bool, true, false, nat_le, All, List, [], ◌∷◌, ◌++◌, map, length, None, Ok, Err, refl, sym, subst, arith, inl, inr, All-cons, All-nil, AreSound, table, mboxes, AreThreadsOf, AreChosen, IsLedToBySome, Fault, Wanted, mail_in, shape, answered, refused, IsReply, Query as Asked, Word, Size, Not, End, More, Format, Raw, Excerpt, is_among}
+use Rattle.std.specs.Char.{encode_utf8}
+use Rattle.std.specs.Fmt.{digits}
+use Rattle.std.specs.Prelude.{codes}
+use Rattle.std.specs.Str.{chars}
+use Rattle.std.proofs.lemmas.Bool.{eqb-true, leb-true, or_cases}
+use Rattle.bstr.proofs.Computing.{computing}
+use Rattle.caseless.proofs.Computing.{caseless}
+use Rattle.clap.proofs.OnLiterals.{clap_on_literals}
+use Rattle.unicode.proofs.CategoryComputing.{ucd_category}
+use Rattle.unicode.proofs.DerivedComputing.{ucd_derived}
+use Rattle.header_text.specs.Blanks.{before_blanks}
+use Rattle.header_text.specs.Charsets.{charset_of, text_of}
+use Rattle.header_text.specs.EncodedWords.{decoded, word_and_later, word_at}
+use Rattle.header_text.specs.Escapes.{q_bytes, unescaped}
+use Rattle.header_text.specs.Headers.{fields_of}
+use Rattle.header_text.specs.Ids.{ids_of}
+use Rattle.header_text.specs.Unfolding.{unfolded}
+use Rattle.index_run.proofs.ArchivesDecided.{none-sound}
+use Rattle.mail_answer.specs.Excerpts.{excerpt}
+use Rattle.mail_answer.specs.Shapes.{closed}
+use Rattle.mail_answer.specs.declared.format.Format.TheVariants.{Mbox}
+use Rattle.mail_index.specs.Limits.{most_in_archive, most_in_index}
+use Rattle.mail_query.specs.Kinds.{no_kinds}
+use Rattle.mail_query.specs.Query.{All as AllOf, Either}
+use Rattle.mail_query.specs.Sizes.{size_of, sizes_of}
+use Rattle.mail_query.specs.Tokens.{tokens}
+use Rattle.mail_words.specs.Words.{is_joiner, is_one_word, is_part_of_word, is_word, is_word_character, words}
+use Rattle.mairix_options.specs.Blanks.{trimmed}
+use Rattle.mairix_options.specs.CommandLine.{parse, plan}
+use Rattle.mbox_cutter.specs.Archives.{messages}
+use Rattle.mbox_cutter.specs.Events.{refusal_of}
+use Rattle.mbox_cutter.specs.Lines.{first_length, is_empty, lines}
+use Rattle.mbox_cutter.specs.Separators.{has_form, is_separator, without_break}
+use Rattle.mime_text.specs.LeafTexts.{leaf_texts}
+use Rattle.mime_text.specs.MessageFacts.{facts_of}
+use Rattle.mime_text.specs.Parameters.{parameter, piece_of}
+use Rattle.mime_text.specs.Parts.{is_delimiter}
+use Rattle.mime_text.specs.Texts.{texts_of_message}
+use Rattle.mime_text.specs.Types.{charset_of_value, shape_of_value, transfer_named}
+use Rattle.index_job.specs.ArchiveTables.{Mbox as Archived}
+use Rattle.mail_query.specs.declared.fault.QueryFaultKind.TheVariants.{BadPrefix}
+use Rattle.mairix_options.specs.declared.command_line.UsageFault.TheVariants.{TwoFormats}
+use Rattle.mairix_options.specs.declared.rcfile.Name.TheVariants.{Mbox as MboxLine}
+use Rattle.mairix_options.specs.declared.rcfile.RcFault.TheVariants.{Missing}
+use Rattle.mbox_cutter.specs.declared.event.CutFault.TheVariants.{NotAnMbox}
+use Rattle.run_faults.specs.declared.fault.Fault.TheVariants.{Archive, Query, Rc, Usage}
+use Rattle.mairix_tool.specs.WorkedReplies as row
+use Rattle.mairix_tool.specs.WorkedReplies.{IsWorked, Row, asked_by}
+
+-- what a proof unfolds to compute what words and rcfile ask for
+unfoldable asking : Unit {0}
+unfolding parse plan clap_on_literals computing trimmed size_of sizes_of tokens is_one_word is_part_of_word is_word is_joiner is_word_character ucd_derived ucd_category chars encode_utf8 caseless
+asking = tt
+
+-- and what archives say
+unfoldable saying : Unit {0}
+unfolding messages refusal_of lines first_length is_empty is_separator without_break has_form fields_of before_blanks unfolded ids_of charset_of text_of decoded word_and_later word_at q_bytes unescaped facts_of leaf_texts piece_of parameter is_delimiter texts_of_message shape_of_value charset_of_value transfer_named words is_word is_joiner is_word_character ucd_derived ucd_category chars encode_utf8 caseless computing closed excerpt digits
+saying = tt
+
+-- ---- what is shown of each
+
+of-refusal : (row : Row) (fault : Fault) → asked_by row ≡ Err fault → row.answer ≡ refused fault → IsWorked row
+unfolding IsWorked
+of-refusal row fault h h2 = subst (λ r. IsReply r row.archives row.answer) (sym h) h2
+
+of-archives : (row : Row) (w : Wanted) → asked_by row ≡ Ok w → IsReply (Ok w) row.archives row.answer → IsWorked row
+unfolding IsWorked
+of-archives row w h h2 = subst (λ r. IsReply r row.archives row.answer) (sym h) h2
+
+abbrev NotRefused : Archived → Type 0
+NotRefused a = refusal_of most_in_archive a.bytes ≡ None
+
+each-sound : (archives : List Archived)
+    → map (λ (a : Archived). refusal_of most_in_archive a.bytes) archives ≡ map (λ _. None) archives → All NotRefused archives
+each-sound [] h = All-nil NotRefused
+each-sound (a ∷ archives) h = All-cons NotRefused a archives (cc) (each-sound archives (cc))
+
+-- what is computed of archives that are sound
+abbrev Pass : List Archived → Type 0
+Pass archives =
+    (map (λ (a : Archived). refusal_of most_in_archive a.bytes) archives ≡ map (λ _. None) archives)
+    × (nat_le (length (table archives).archives) most_in_index ≡ true)
+    × (nat_le (length (table archives).messages) most_in_index ≡ true)
+    × (nat_le (length (table archives).keys) most_in_index ≡ true)
+
+sound : (archives : List Archived) → Pass archives → AreSound archives
+sound archives h = record {
+  each = each-sound archives h.0;
+  few = record { archives = leb-true _ _ h.1; messages = leb-true _ _ h.2; keys = leb-true _ _ h.3 };
+}
+
+module _ (row : Row) (w : Wanted) (numbers : List ℕ) where
+  abbrev archives : List Archived
+  archives = mboxes w.paths row.archives
+
+  of-answer : asked_by row ≡ Ok w → Pass archives → AreChosen (mail_in archives) w.search numbers
+      → row.answer ≡ answered (shape archives w.search.format numbers) (length numbers) → IsWorked row
+  of-answer h pass chosen same = of-archives row w h (inl (sound archives pass, (numbers, chosen, same)))
+
+few : (n : ℕ) → is_among n (0 ∷ 1 ∷ []) ≡ true → n < 2
+few n among = grind (arith, or_cases, eqb-true)
+
+-- two messages that are linked are one thread
+two-linked : (linked : ℕ → ℕ → Bool) → linked 0 1 ≡ true → AreThreadsOf 2 linked (0 ∷ []) (0 ∷ 1 ∷ [])
+two-linked linked h = record {
+  rises = (omega arith, (omega arith, tt));
+  each = λ n. (forth n, λ (given : (n < 2) × IsLedToBySome linked (0 ∷ []) n). back n given.0);
+}
+  where
+    forth : (n : ℕ) → is_among n (0 ∷ 1 ∷ []) ≡ true → (n < 2) × IsLedToBySome linked (0 ∷ []) n
+    forth zero among = (omega arith, (0, refl, ([], refl)))
+    forth (suc zero) among = (omega arith, (0, refl, (1 ∷ [], (h, refl))))
+    forth (suc (suc n)) among = absurd (omega (arith, few (suc (suc n)) among))
+
+    back : (n : ℕ) → n < 2 → is_among n (0 ∷ 1 ∷ []) ≡ true
+    back zero below = refl
+    back (suc zero) below = refl
+    back (suc (suc n)) below = absurd (omega (arith, below))
+
+-- ---- the rows
+
+-- a search without `--verify`
+abbrev search_in : List (List ℕ) → Asked → Bool → Format → Wanted
+search_in paths q threads format = record {
+  paths = paths;
+  search = record { query = q; threads = threads; format = format };
+  verify = false;
+}
+
+abbrev subject : List ℕ → Asked
+subject word = Word (record no_kinds { subject = true }) word
+
+abbrev to : List ℕ → Asked
+to word = Word (record no_kinds { to = true }) word
+
+abbrev body : List ℕ → Asked
+body word = Word (record no_kinds { body = true }) word
+
+abbrev one : Asked → Format → Wanted
+one q format = search_in (codes "m.mbox" ∷ []) q false format
+
+abbrev two : Bool → Wanted
+two threads = search_in (codes "a.mbox" ∷ codes "b.mbox" ∷ []) (body (codes "hi")) threads Raw
+
+abbrev both : Asked
+both = AllOf (More (subject (codes "hello")) (More (Not (body (codes "ho"))) End))
+
+abbrev one_or_two : Asked
+one_or_two = Either (More (subject (codes "one")) (More (subject (codes "two")) End))
+
+abbrev greetings : Asked
+greetings = subject (codes "gr" ++ 195 ∷ 188 ∷ codes "sse")
+
+abbrev inner_outer : Asked
+inner_outer = AllOf (More (body (codes "inner")) (More (body (codes "outer")) End))
+
+asked : (asked_by row.raw ≡ Ok (one (subject (codes "hello")) Raw))
+    × (asked_by row.no_message ≡ Ok (one (Size 20 None) Raw))
+    × (asked_by row.mbox ≡ Ok (one (subject (codes "hello")) Mbox))
+    × (asked_by row.excerpt ≡ Ok (one (to (codes "alice")) Excerpt))
+    × (asked_by row.negated ≡ Ok (one (Not (to (codes "bob"))) Raw))
+    × (asked_by row.alone ≡ Ok (two false))
+    × (asked_by row.threads ≡ Ok (two true))
+    × (asked_by row.boolean ≡ Ok (one both Raw))
+    × (asked_by row.several ≡ Ok (one one_or_two Raw))
+    × (asked_by row.folded ≡ Ok (one greetings Raw))
+    × (asked_by row.parts ≡ Ok (one inner_outer Raw))
+    × (asked_by row.no_mbox ≡ Ok (one (subject (codes "hello")) Raw))
+unfolding asking
+asked = (refl, refl, refl, refl, refl, refl, refl, refl, refl, refl, refl, refl)
+
+pub bad_words : IsWorked row.bad_words
+unfolding asking
+bad_words = of-refusal row.bad_words (Usage TwoFormats) refl refl
+
+pub bad_rcfile : IsWorked row.bad_rcfile
+unfolding asking
+bad_rcfile = of-refusal row.bad_rcfile (Rc (Missing MboxLine)) refl refl
+
+pub bad_query : IsWorked row.bad_query
+unfolding asking
+bad_query = of-refusal row.bad_query (Query (record { number = 1; kind = BadPrefix })) refl refl
+
+pub raw : IsWorked row.raw
+unfolding saying
+raw = of-answer row.raw (one (subject (codes "hello")) Raw) (0 ∷ []) asked.0 (refl, refl, refl, refl) refl refl
+
+pub no_message : IsWorked row.no_message
+unfolding saying
+no_message = of-answer row.no_message (one (Size 20 None) Raw) [] asked.1 (refl, refl, refl, refl) refl refl
+
+pub mbox : IsWorked row.mbox
+unfolding saying
+mbox = of-answer row.mbox (one (subject (codes "hello")) Mbox) (0 ∷ []) asked.2 (refl, refl, refl, refl) refl refl
+
+pub excerpt_row : IsWorked row.excerpt
+unfolding saying
+excerpt_row = of-answer row.excerpt (one (to (codes "alice")) Excerpt) (0 ∷ []) asked.3 (refl, refl, refl, refl) refl refl
+
+pub negated : IsWorked row.negated
+unfolding saying
+negated = of-answer row.negated (one (Not (to (codes "bob"))) Raw) (0 ∷ []) asked.4 (refl, refl, refl, refl) refl refl
+
+pub alone : IsWorked row.alone
+unfolding saying
+alone = of-answer row.alone (two false) (0 ∷ []) asked.5 (refl, refl, refl, refl) refl refl
+
+pub threads : IsWorked row.threads
+unfolding saying
+threads = of-answer row.threads (two true) (0 ∷ 1 ∷ []) asked.6 (refl, refl, refl, refl)
+    (two-linked (mail_in (mboxes (two true).paths row.threads.archives)).linked refl) refl
+
+pub boolean : IsWorked row.boolean
+unfolding saying
+boolean = of-answer row.boolean (one both Raw) (0 ∷ []) asked.7 (refl, refl, refl, refl) refl refl
+
+pub several : IsWorked row.several
+unfolding saying
+several = of-answer row.several (one one_or_two Raw) (0 ∷ 1 ∷ []) asked.8 (refl, refl, refl, refl) refl refl
+
+pub folded : IsWorked row.folded
+unfolding saying
+folded = of-answer row.folded (one greetings Raw) (0 ∷ []) asked.9 (refl, refl, refl, refl) refl refl
+
+pub parts : IsWorked row.parts
+unfolding saying
+parts = of-answer row.parts (one inner_outer Raw) (0 ∷ []) asked.10 (refl, refl, refl, refl) refl refl
+
+pub no_mbox : IsWorked row.no_mbox
+unfolding saying
+no_mbox =
+    of-archives row.no_mbox (one (subject (codes "hello")) Raw) asked.11
+    (inr (
+      Archive 0 NotAnMbox,
+      ([], _, record { behind = []; whole = refl }, refl, record { sound = none-sound; few = omega arith; refused = refl }),
+      refl,
+    ))
