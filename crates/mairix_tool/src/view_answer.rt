@@ -33,7 +33,7 @@ pub(crate) fn answer_view<A: Archives, O: Out>(
     ensures searched { Searches A.Archives O.Out index.now (wanted_of wanted.now).search
         archives.old archives.new out.old out.new (reply_of result) }
 {
-    answer(
+    let found = answer(
         alloc,
         index,
         &wanted.query,
@@ -41,8 +41,8 @@ pub(crate) fn answer_view<A: Archives, O: Out>(
         wanted.format,
         archives,
         out,
-    )
-    .map_err(fault_of_answer)
+    );
+    found.map_err(fault_of_answer)
 }
 
 /// Returns the fault of a run for a fault of an answer.

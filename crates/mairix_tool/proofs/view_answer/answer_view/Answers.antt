@@ -7,26 +7,26 @@ returns-clause-told g c = λ held known.
     let s = (wanted c.args.wanted.now).search in
     let t = c.args.index.now in
     let old = g.O.Out.taken c.args.out.now in
-    let new = g.O.Out.taken c.answer.new.out in
-    let r = c.answer.result in
+    let new = g.O.Out.taken c.answer-found.new.out in
+    let r = c.answer-found.result in
     rw (told-so r c.map_err.result (grind arith))
-    (told-by t s held old new r (subst (λ (o : Option (List (List ℕ))). (a : TableAnswer) → IsTableAnswer t s o a → Answers old new a r) known c.answer.ensures.answered)
-    (subst (λ (o : Option (List (List ℕ))). IfSome o (λ bytes. AnswersStale old new (stale_archive t.archives bytes) r)) known c.answer.ensures.stale))
+    (told-by t s held old new r (subst (λ (o : Option (List (List ℕ))). (a : TableAnswer) → IsTableAnswer t s o a → Answers old new a r) known c.answer-found.ensures.answered)
+    (subst (λ (o : Option (List (List ℕ))). IfSome o (λ bytes. AnswersStale old new (stale_archive t.archives bytes) r)) known c.answer-found.ensures.stale))
 
 pub returns-clause-counted : goal.returns-clause-counted
 returns-clause-counted g c =
-    rw (told-so c.answer.result c.map_err.result (grind arith))
-    (counted-by c.args.index.now (wanted c.args.wanted.now).search (g.A.Archives.held c.args.archives.now) (g.O.Out.taken c.args.out.now) (g.O.Out.taken c.answer.new.out) c.answer.result c.answer.ensures.answered)
+    rw (told-so c.answer-found.result c.map_err.result (grind arith))
+    (counted-by c.args.index.now (wanted c.args.wanted.now).search (g.A.Archives.held c.args.archives.now) (g.O.Out.taken c.args.out.now) (g.O.Out.taken c.answer-found.new.out) c.answer-found.result c.answer-found.ensures.answered)
 
 pub returns-clause-searched : goal.returns-clause-searched
 returns-clause-searched g c = record {
-  found = c.answer.result;
-  replied = ap reply_of (told-so c.answer.result c.map_err.result (grind arith));
-  keeps = c.answer.ensures.keeps;
-  other_count = c.answer.ensures.other_count;
-  asked = c.answer.ensures.asked;
-  answered = c.answer.ensures.answered;
-  spans = c.answer.ensures.spans;
-  stale = c.answer.ensures.stale;
-  unwritten = c.answer.ensures.unwritten;
+  found = c.answer-found.result;
+  replied = ap reply_of (told-so c.answer-found.result c.map_err.result (grind arith));
+  keeps = c.answer-found.ensures.keeps;
+  other_count = c.answer-found.ensures.other_count;
+  asked = c.answer-found.ensures.asked;
+  answered = c.answer-found.ensures.answered;
+  spans = c.answer-found.ensures.spans;
+  stale = c.answer-found.ensures.stale;
+  unwritten = c.answer-found.ensures.unwritten;
 }
