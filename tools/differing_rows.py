@@ -200,17 +200,17 @@ pub fn looks_up() -> bool {
 }
 """
 LOOK_UP = """
-fn steps_of_look_up() -> u8 {
+fn steps_of_look_up(alloc: std::alloc::Global) -> u8 {
     let Ok(index) = mail_index::IndexView::open(b"%s") else {
         return 0;
     };
-    let mut steps = mail_index::Steps::new();
+    let mut steps = mail_index::Steps::new(alloc, &index);
     let _numbers = index.look_up(mail_index::Kind::Text(mail_words::TextKind::Subject), b"g", &mut steps);
     steps.count() as u8
 }
 """ % "".join(f"\\x{byte:02x}" for byte in index_of_subjects(b"abcdefg"))
 MAIN = "fn main(rt: HostRuntime) -> ExitCode {\n"
-LOOKS_UP = f"{LOOK_UP}\n{MAIN}    if contract_words::looks_up() {{ return ExitCode::from(steps_of_look_up()); }}\n"
+LOOKS_UP = f"{LOOK_UP}\n{MAIN}    if contract_words::looks_up() {{ return ExitCode::from(steps_of_look_up(rt.alloc())); }}\n"
 
 
 def with_choices(crate, edits):
