@@ -52,6 +52,7 @@ impl<'a> Cursor<'a> {
     ///
     /// Takes all the memory that the cursor needs. Each Word looks up its text once in each of its kinds, at most as many steps as the
     /// number of keys has binary digits; a Part also looks at each key of its kinds, and a Prefix at each that begins with its text.
+    /// The steps of the look-ups are counted. Those that find the keys of a Part or a Prefix aren't, as they look up no key.
     ///
     /// # Errors
     ///

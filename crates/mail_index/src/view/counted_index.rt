@@ -20,7 +20,7 @@ use std::mem;
 pub struct CountedIndex<'a> {
     index: IndexView<'a>,
     steps: Steps,
-    // Those that finding the keys of a run takes.
+    // Those that finding the keys of a run takes: a cursor counts its look-ups alone.
     run_steps: Steps,
 }
 
@@ -37,6 +37,7 @@ impl<'a> CountedIndex<'a> {
     pub fn of(alloc: Global, index: &IndexView<'a>, steps: &mut Steps) -> Self
         ensures table { result.table ≡ index.now }
         ensures steps { result.steps ≡ steps.old }
+        ensures left { steps.new ≡ 0 }
         ensures formed { IsWellFormed index.now }
     {
         CountedIndex {

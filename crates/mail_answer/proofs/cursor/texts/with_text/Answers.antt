@@ -1,4 +1,4 @@
-use Rattle.mail_answer.proofs.Words.{◌≡◌, ◌∙◌, ℕ, Bool, add_steps, compared_by, is_in, List, [], ◌∷◌, ◌++◌, length, map, get_or, sym, subst, arith, list_any, texts_with, numbers_fitting, LooksUp, Table, Key, IsWellFormed, cases_lt, both_ways, To, Kind, Text, OwnId, text_kinds, fits, kinds_in, looked_up_by}
+use Rattle.mail_answer.proofs.Words.{◌≡◌, ◌∙◌, ℕ, Bool, add_steps, compared_by, List, [], ◌∷◌, ◌++◌, length, map, get_or, sym, subst, arith, list_any, texts_with, numbers_fitting, LooksUp, Table, Key, IsWellFormed, cases_lt, both_ways, To, Kind, Text, OwnId, text_kinds, fits, kinds_in, looked_up_by}
 use Rattle.mail_answer.specs.Inside.CursorTexts.{Joins}
 use Rattle.mail_answer.proofs.CursorLaws.Texts.{some_of_all, word_past, kinds_more, kinds_steps, kinds_skip, kinds_next, all_kinds}
 use Rattle.mail_answer.proofs.CursorLaws.LookUpSteps.{if_always, all_compared, compared_more, compared_skip}
