@@ -1,0 +1,10 @@
+//! What the calls of a run told: a record that takes no memory, and the calls that are noted in it.
+#![tactic(auto)]
+
+mod laws;
+mod noted;
+mod record;
+
+pub use laws::{agreeing_bytes_were_given, honest_reads_agree, one_list_agrees};
+pub use noted::write_noted;
+pub use record::Record;

@@ -1,0 +1,49 @@
+//! A record of calls, which only clauses read.
+ghost use Rattle.std.specs.Prelude.{◌≡◌, ℕ, List, [], ◌∷◌};
+ghost use Rattle.std.specs.Borrow.{ftrue};
+ghost use Rattle.std.specs.Coded.{coded_ℕ, coded_list};
+ghost use Rattle.call_record.specs.Calls.{Call};
+ghost use Rattle.call_record.specs.Note.{call_code, call_of};
+
+use std::marker::{Model, PhantomData};
+
+/// What is supposed of the bytes of some archives, and each call so far with what it told, the newest first. Neither is
+/// in memory: a value has no size, and a program that drops every record does the same.
+#[derive(Drop)]
+pub struct Record {
+    marker: PhantomData<u8>,
+    pub ghost supposed: { List (List ℕ) } by { coded_list (coded_list coded_ℕ) },
+    pub ghost calls: { List Call } by { coded_list call_code },
+}
+
+impl Model for Record {
+    ghost also_owns = { λ _. ftrue };
+}
+
+impl Record {
+    /// Makes a record of no call. Whatever is supposed, a run goes the same way.
+    pub fn new() -> Record
+        ghost bytes: { List (List ℕ) }
+        ensures { (result.supposed ≡ bytes) × (result.calls ≡ []) }
+    {
+        Record {
+            marker: PhantomData,
+        }
+    }
+
+    /// Makes a record of no call, which supposes the same.
+    pub fn like(&self) -> Record
+        ensures { (result.supposed ≡ self.now.supposed) × (result.calls ≡ []) }
+    {
+        Record {
+            marker: PhantomData,
+        }
+    }
+
+    /// Adds a call: the numbers are its kind, an archive's number, an offset or a length, and 1 for success. No other crate
+    /// can add a call that it doesn't make.
+    pub(crate) fn note(&mut self, _numbers: &[u64], _bytes: &[u8])
+        ensures { (self.new.supposed ≡ self.old.supposed)
+            × (self.new.calls ≡ call_of _numbers.now _bytes.now ∷ self.old.calls) }
+    {}
+}
