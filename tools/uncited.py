@@ -24,7 +24,7 @@ IMPORT = re.compile(r"^((?:unfoldable )?(?:pub )?use [\w.+-]+\.\{)([^}]*)\}$")
 # A line that is neither a comment nor an import.
 SAYS = re.compile(r"^(?! *use\b)(?! *--) *[^ \n]", re.M)
 # What goals name, and the modules that only hand on words.
-NO_LEMMAS = {"Answers.antt", "Invariants.antt", "Measures.antt", "Lib.antt"}
+NO_LEMMAS = {"Answers.antt", "Invariants.antt", "Measures.antt", "Proof.antt", "Lib.antt"}
 HANDING_ON = {"Words.antt", "Imports.antt"}
 
 
