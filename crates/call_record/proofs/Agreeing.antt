@@ -9,10 +9,12 @@ front : (got bytes : List ℕ) → is_front got bytes ≡ true → take (length 
 unfolding is_front
 front got bytes h = grind (arith, nat_tests, bytes_eq-Decides, common_steps)
 
-step : (is : Bool) (got mid left : List ℕ) → (is ≡ true → take (length got) mid ≡ got) → (if is then Some (drop (length got) mid) else None) ≡ Some left → mid ≡ got ++ left
+step : (is : Bool) (got mid left : List ℕ) → (is ≡ true → take (length got) mid ≡ got)
+    → (if is then Some (drop (length got) mid) else None) ≡ Some left → mid ≡ got ++ left
 step true got mid left f h =
     let e : drop (length got) mid ≡ left = grind arith in
-    sym (take-append-drop (length got) mid) ∙ ap (λ (l : List ℕ). l ++ drop (length got) mid) (f refl) ∙ ap (λ (l : List ℕ). got ++ l) e
+    sym (take-append-drop (length got) mid)
+    ∙ ap (λ (l : List ℕ). l ++ drop (length got) mid) (f refl) ∙ ap (λ (l : List ℕ). got ++ l) e
 step false got mid left f h = cc
 
 by-call : (call : Call) (mid left : List ℕ) → left_by call (Some mid) ≡ Some left → mid ≡ given_by call ++ left
@@ -22,23 +24,29 @@ by-call (read_at n offset told) mid left h = grind arith
 by-call (measured n told) mid left h = grind arith
 by-call (written told) mid left h = grind arith
 
-after : (bytes before : List ℕ) (mid : Option (List ℕ)) (call : Call) (left : List ℕ) → ((m : List ℕ) → mid ≡ Some m → bytes ≡ before ++ m) → left_by call mid ≡ Some left →
-    bytes ≡ (before ++ given_by call) ++ left
+after : (bytes before : List ℕ) (mid : Option (List ℕ)) (call : Call) (left : List ℕ)
+    → ((m : List ℕ) → mid ≡ Some m → bytes ≡ before ++ m) → left_by call mid ≡ Some left
+    → bytes ≡ (before ++ given_by call) ++ left
 after bytes before None call left h k = cc
 after bytes before (Some m) call left h k =
     h m refl ∙ ap (λ (l : List ℕ). before ++ l) (by-call call m left k) ∙ sym (append_assoc before (given_by call) left)
 
-pub were_given : (bytes left : List ℕ) (calls : List Call) → left_after bytes calls ≡ Some left → bytes ≡ given_after calls ++ left
+pub were_given : (bytes left : List ℕ) (calls : List Call) → left_after bytes calls ≡ Some left
+    → bytes ≡ given_after calls ++ left
 were_given bytes left [] h = grind arith
-were_given bytes left (call ∷ earlier) h = after bytes (given_after earlier) (left_after bytes earlier) call left (λ m k. were_given bytes m earlier k) h
+were_given bytes left (call ∷ earlier) h =
+    after bytes (given_after earlier) (left_after bytes earlier) call left (λ m k. were_given bytes m earlier k) h
 
-pub one_list : (a b : List ℕ) (calls : List Call) → left_after a calls ≡ Some [] → left_after b calls ≡ Some [] → a ≡ b
+pub one_list : (a b : List ℕ) (calls : List Call) → left_after a calls ≡ Some [] → left_after b calls ≡ Some []
+    → a ≡ b
 one_list a b calls h k = were_given a [] calls h ∙ sym (were_given b [] calls k)
 
-is_front-honest : (got left : List ℕ) → take (length got) left ≡ got → (0 < length got) ⊎ (left ≡ []) → is_front got left ≡ true
+is_front-honest : (got left : List ℕ) → take (length got) left ≡ got → (0 < length got) ⊎ (left ≡ [])
+    → is_front got left ≡ true
 unfolding is_front
 is_front-honest got left h k = grind (arith, nat_tests, bytes_eq-Decides, common_steps)
 
-pub honest : (bytes left got : List ℕ) (calls : List Call) → left_after bytes calls ≡ Some left → take (length got) left ≡ got → (0 < length got) ⊎ (left ≡ []) →
-    left_after bytes (read_next (Some got) ∷ calls) ≡ Some (drop (length got) left)
+pub honest : (bytes left got : List ℕ) (calls : List Call) → left_after bytes calls ≡ Some left
+    → take (length got) left ≡ got → (0 < length got) ⊎ (left ≡ [])
+    → left_after bytes (read_next (Some got) ∷ calls) ≡ Some (drop (length got) left)
 honest bytes left got calls h f k = rw (h, is_front-honest got left f k) refl

@@ -28,7 +28,8 @@ to_parts (written bytes) = (3, (0, (0, (None, bytes))))
 
 abbrev from_parts : Parts → Call
 from_parts p =
-    cond (p.0 == 0) (read_next p.1.1.1.1) (cond (p.0 == 1) (read_at p.1.0 p.1.1.0 p.1.1.1.1) (cond (p.0 == 2) (measured p.1.0 p.1.1.1.0) (written p.1.1.1.1)))
+    cond (p.0 == 0) (read_next p.1.1.1.1)
+    (cond (p.0 == 1) (read_at p.1.0 p.1.1.0 p.1.1.1.1) (cond (p.0 == 2) (measured p.1.0 p.1.1.1.0) (written p.1.1.1.1)))
 
 pub from_parts-to_parts : (call : Call) → from_parts (to_parts call) ≡ call
 from_parts-to_parts (read_next bytes) = refl
@@ -38,4 +39,6 @@ from_parts-to_parts (written bytes) = refl
 
 abbrev pub call_code : Coded Call
 call_code =
-    code_by Parts (coded× coded_ℕ (coded× coded_ℕ (coded× coded_ℕ (coded× (coded_option coded_ℕ) (coded_option (coded_list coded_ℕ)))))) to_parts from_parts from_parts-to_parts
+    code_by Parts
+    (coded× coded_ℕ (coded× coded_ℕ (coded× coded_ℕ (coded× (coded_option coded_ℕ) (coded_option (coded_list coded_ℕ))))))
+    to_parts from_parts from_parts-to_parts
