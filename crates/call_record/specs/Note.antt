@@ -1,5 +1,5 @@
 -- How a call is handed to a record, and how the logic stores it.
-use Rattle.std.specs.Prelude.{◌≡◌, ℕ, ◌==◌, Bool, List, [], cond, if◌then◌else◌, slice_index, Option, None, Some, refl}
+use Rattle.std.specs.Prelude.{◌≡◌, ℕ, ◌==◌, Bool, List, cond, if◌then◌else◌, slice_index, Option, None, Some, refl}
 use Rattle.std.specs.Coded.{Coded, code_by, coded×, coded_ℕ, coded_list, coded_option}
 use Rattle.call_record.specs.Calls.{Call, read_next, read_at, measured, written}
 

@@ -1,5 +1,5 @@
 -- What a record says after one more call.
-use Rattle.std.specs.Prelude.{◌≡◌, ℕ, List, ◌∷◌, take, Option, None, Some, Result, Ok, Err}
+use Rattle.std.specs.Prelude.{◌≡◌, ℕ, List, ◌∷◌, take, None, Some, Result, Ok, Err}
 use Rattle.call_record.specs.declared.record.Record.{Record}
 use Rattle.call_record.specs.Calls.{Call, written}
 

@@ -40,8 +40,8 @@ impl Record {
         }
     }
 
-    /// Adds a call: the numbers are its kind, an archive's number, an offset or a length, and 1 for success. No other crate
-    /// can add a call that it doesn't make.
+    /// Adds a call: the numbers are its kind, an archive's number, an offset or a length, and 1 for success. Other
+    /// crates can add a call only by making it.
     pub(crate) fn note(&mut self, _numbers: &[u64], _bytes: &[u8])
         ensures { (self.new.supposed ≡ self.old.supposed)
             × (self.new.calls ≡ call_of _numbers.now _bytes.now ∷ self.old.calls) }
