@@ -1,4 +1,4 @@
--- In ASCII the case of letters tells nothing of where words stand: the words of a folding are the foldings of the words.
+-- In ASCII the words of a folding are the foldings of the words, because case doesn't change where words are.
 use Rattle.mail_words.proofs.Imports.{◌≡◌, ℕ, suc, ◌≤◌, Bool, true, false, not, cond, ◌&&◌, ◌||◌, nat_le, List, [], ◌∷◌, ◌++◌, reverse, length, encode_utf8_all, IsAscii, inl, inr, refl, sym, ap, ap₂, ◌∙◌, arith, cases_lt, length-map, map-append, reverse-append, chars-IsAscii, encodes-IsAscii, IsAscii-nil, IsAscii-push, IsAscii-map, lowercase_ascii, lowercase_is, beq, to_ascii_lowercase, list_all, list_any, ucd_category, ucd_derived, same_from_beq, all_below, all_below-at, is_piece, folding, is_word_character, is_joiner, begins, after_joiners, is_word, word_limit, words}
 use Rattle.std.proofs.Common.{map, chars}
 use Rattle.mail_words.proofs.FoldingLemmas.{folding-ascii}
@@ -33,7 +33,7 @@ joiner-low c =
 piece-low : (c : ℕ) → is_piece (to_ascii_lowercase c) ≡ is_piece c
 piece-low c = ap₂ ◌||◌ (word-low c) (joiner-low c)
 
--- ---- what the tests of a word ask of its characters and of those around it
+-- ---- what the tests of a word need of its characters and of those around it
 
 begins-low : (cs : List ℕ) → begins is_word_character (low cs) ≡ begins is_word_character cs
 begins-low [] = refl

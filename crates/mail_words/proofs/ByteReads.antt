@@ -1,4 +1,4 @@
--- Loops over the bytes of a text, each a character by itself up to the first beyond ASCII, that count the bytes of its front.
+-- Loops that count the bytes of a text's front. Each byte is a character by itself, up to the first beyond ASCII.
 use Rattle.mail_words.proofs.Imports.{◌≡◌, ℕ, zero, suc, ◌+◌, ◌<◌, ◌≤◌, Bool, true, false, ◌&&◌, nat_lt, List, ◌++◌, length, drop, get_or, encode_utf8, encode_utf8_all, IsUtf8, refl, sym, ap, subst, ◌∙◌, arith, add-one, drop-cons, and_parts, ltb-true, encode_ascii, len_utf8_ascii, IsCharBoundary-from_drop, is_ascii, IsCharBoundary, front}
 use Rattle.std.proofs.Common.{chars}
 use Rattle.mail_words.proofs.FrontReads.{IsRead, FrontRead, front_read-start, front_read-pass, front_read-stop, front_read-end}
@@ -13,11 +13,11 @@ class_byte p b of_class test holds = grind (arith, and_parts, ltb-true)
 pub other_byte : (p : ℕ → Bool) (b : ℕ) (of_class ascii : Bool) → of_class ≡ (nat_lt b 128 && p b) → of_class ≡ false → ascii ≡ is_ascii b → ascii ≡ true → (b < 128) × (p b ≡ false)
 other_byte p b of_class ascii test fails ascii_test holds = grind (arith, ltb-true)
 
--- such a byte is the next character
+-- a byte that passes is the next character
 pub next_byte : (text : List ℕ) (i : ℕ) → i < length text → get_or text i 0 < 128 → drop i text ≡ encode_utf8 (get_or text i 0) ++ drop (i + 1) text
 next_byte text i within ascii = rw (add-one, encode_ascii (get_or text i 0) ascii) (drop-cons text i 0 within)
 
--- the text may be cut where it was read to
+-- the text may be cut after the bytes read so far
 read_boundary : (text : List ℕ) (i : ℕ) → IsRead text i (drop i text) → IsCharBoundary text i
 read_boundary text i h = IsCharBoundary-from_drop text i (omega (arith, h.lengths)) h.utf8
 
@@ -34,7 +34,7 @@ front_bytes-pass p text bytes i h same =
     subst (λ n. FrontRead p text (i + n) (drop (i + 1) text)) (len_utf8_ascii (get_or text i 0) ascii)
     (front_read-pass p text i (drop i text) (get_or text i 0) (drop (i + 1) text) h (next_byte text i within ascii) passes))
 
--- the same over so many bytes
+-- the same over this many bytes
 pub front_bytes-passed : (p : ℕ → Bool) (text bytes : List ℕ) (n : ℕ) → IsUtf8 text → bytes ≡ text → n ≤ length bytes
     → ((k : ℕ) → k < n → (nat_lt (get_or bytes k 0) 128 && p (get_or bytes k 0)) ≡ true) → FrontRead p text n (drop n text)
 front_bytes-passed p text bytes zero utf8 same within passed = front_bytes-start p text utf8

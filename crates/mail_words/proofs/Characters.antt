@@ -1,4 +1,4 @@
--- Word characters of ASCII, that no joiner is a word character, and the joiners among bytes.
+-- The word characters of ASCII; joiners aren't word characters; joiners can be found among bytes.
 use Rattle.mail_words.proofs.Imports.{◌≡◌, ℕ, zero, suc, ◌-◌, ◌<◌, ◌≤◌, Bool, true, false, not, ◌&&◌, nat_lt, List, [], ◌∷◌, get_or, encode_utf8, encode_utf8_all, IsUtf8, inl, inr, refl, sym, ap, ◌∙◌, arith, and-true, cases_lt, nat_tests, list_all-append, list_all_at, encode_ascii, encodes-chars, char_from_byte, length-encode, len_utf8_bounds, beq, is_ascii_alphanumeric, list_all, ucd_category, ucd_derived, same_from_beq, all_below, all_below-at, is_word_character, is_joiner, is_piece, begins, length, length-append, get_or_append_left}
 use Rattle.std.proofs.Common.{chars, append-nil}
 use Rattle.std.specs.Prelude.{◌==◌}
@@ -29,7 +29,7 @@ word_character_is_no_joiner c of_word = go (is_joiner c) refl
     go true joins = let no = joiner_is_no_word_character c joins in cc
     go false apart = apart
 
--- of a byte that is no word character by itself, the test of joiners is that of pieces
+-- for a byte that isn't a word character by itself, the tests of a joiner and of a part of a run agree
 pub piece_byte : (b : ℕ) → (nat_lt b 128 && is_word_character b) ≡ false → is_joiner b ≡ (nat_lt b 128 && is_piece b)
 piece_byte b other = go (nat_lt b 128) (is_joiner b) refl refl
   where
@@ -69,11 +69,11 @@ joiners-encodes : (cs : List ℕ) → list_all is_joiner (encode_utf8_all cs) �
 joiners-encodes [] = refl
 joiners-encodes (c ∷ cs) = grind (arith, list_all-append, encode_utf8, encode_utf8_all, joiners-encode, joiners-encodes cs)
 
--- the bytes are joiners alone where the characters are
+-- the bytes are joiners alone if the characters are
 pub joiners-bytes : (text : List ℕ) → IsUtf8 text → list_all is_joiner text ≡ list_all is_joiner (chars text)
 joiners-bytes text utf8 = ap (list_all is_joiner) (sym (encodes-chars text utf8)) ∙ joiners-encodes (chars text)
 
--- the bytes are joiners alone where none stands before the joiners at the end
+-- the bytes are joiners alone if nothing is before the joiners at the end
 joiners-from : (bytes : List ℕ) → ((k : ℕ) → k < length bytes → is_joiner (get_or bytes k 0) ≡ true) → list_all is_joiner bytes ≡ true
 joiners-from [] h = refl
 joiners-from (b ∷ bs) h = (λ k. h 0 (omega arith) k && joiners-from bs (λ i below. h (suc i) (omega (arith, below))) k)
@@ -86,7 +86,7 @@ none-before bytes (suc n) within joiners last =
     let some : (suc n == 0) ≡ false = grind arith in
     some ∙ sym (list_all_at is_joiner bytes n 0 (omega (arith, within)) (ap (λ k. is_joiner (get_or bytes k 0)) at ∙ last (omega arith)))
 
--- the first character is a joiner where the first byte is
+-- the first character is a joiner if the first byte is
 pub joiner-first : (text : List ℕ) → IsUtf8 text → (nat_lt 0 (length text) && is_joiner (get_or text 0 0)) ≡ begins is_joiner (chars text)
 joiner-first text utf8 = ap (λ bytes. nat_lt 0 (length bytes) && is_joiner (get_or bytes 0 0)) (sym (encodes-chars text utf8)) ∙ go (chars text)
   where

@@ -1,4 +1,4 @@
--- Laws of foldings, and what is left of one that is being written.
+-- Laws of foldings, and of a folding that isn't written to its end yet.
 use Rattle.mail_words.proofs.Imports.{◌≡◌, ℕ, true, list_all, ◌*◌, ◌≤◌, List, [], ◌∷◌, ◌++◌, length, None, Some, encode_utf8, encode_utf8_all, IsAscii, IsUtf8, refl, sym, ap, ap₂, ◌∙◌, ◌<◌, arith, append_assoc, length-append, cases_lt, chars-IsAscii, encodes-IsAscii, encodes-chars, length-le-encodes, Chars-gives, len_utf8_bounds, length-encode, IsAscii-map, lowercase_ascii, to_ascii_lowercase, chars_rest, chars_steps, folding}
 use Rattle.std.proofs.Common.{map, chars, append-nil}
 use Rattle.std.specs.declared.str.Chars.{Chars}
@@ -48,9 +48,9 @@ keeps_characters (c ∷ cs) all =
 pub folding-same : (text : List ℕ) → IsUtf8 text → list_all keeps_itself (chars text) ≡ true → folding text ≡ text
 folding-same text utf8 all = ap encode_utf8_all (keeps_characters (chars text) all) ∙ encodes-chars text utf8
 
--- ---- what is left
+-- ---- a folding while it is written
 
--- the bytes written so far, and those of the characters that the iterator has left, are all that is to be written
+-- the bytes written so far, and those of the characters that the iterator still has, are all bytes of the folding
 pub record StillFolds (all written : List ℕ) (iterator : CaseFold Chars) : Type 0 where
   pub left : List ℕ
   pub source : FoldsCaseTo chars_steps iterator left
@@ -75,6 +75,6 @@ pub folds_to_end : (all written : List ℕ) (old new : CaseFold Chars) → Still
 folds_to_end all written old new h step =
     sym (h.whole ∙ ap (λ cs. written ++ encode_utf8_all cs) (step.first.at h.left h.source) ∙ append-nil written)
 
--- what is written is no longer than all
+-- the bytes written so far are no more than all
 pub folds_within : (all written : List ℕ) (iterator : CaseFold Chars) → StillFolds all written iterator → length written ≤ length all
 folds_within all written iterator h = omega (arith, ap length h.whole, length-append written (encode_utf8_all h.left))

@@ -3,7 +3,7 @@ use Rattle.mail_words.proofs.Imports.{◌≡◌, ℕ, ◌+◌, Bool, true, false
 use Rattle.std.proofs.Common.{chars}
 use Rattle.mail_words.proofs.RunLemmas.{front-pass, front-fail}
 
--- the text, read so far by this many bytes up to this rest
+-- the text was read by this many bytes, up to this rest
 pub record IsRead (text : List ℕ) (len : ℕ) (rest : List ℕ) : Type 0 where
   pub utf8 : IsUtf8 rest
   pub lengths : len + length rest ≡ length text

@@ -1,4 +1,4 @@
--- The words of std and of the definitions that proofs take, from one place.
+-- The names of std and of the definitions that the proofs use, in one place.
 pub use Rattle.mail_words.specs.Folding.{folding}
 pub use Rattle.mail_words.specs.Inside.Runs.{behind, front, HasGapAndWord, is_ascii_other, is_ascii_word, is_no_ascii_word, is_other, is_piece, joined_front, joined_on, joined_to, long_at, read_front, within}
 unfoldable pub use Rattle.mail_words.specs.Inside.Runs.{words_left}

@@ -1,4 +1,4 @@
--- The run of word characters and joiners at the front is what is kept of it and the joiners at its end, told by bytes.
+-- A run of word characters and joiners is its joined front and the joiners at its end, found by looking at bytes.
 use Rattle.mail_words.proofs.Imports.{◌≡◌, ℕ, ◌+◌, ◌-◌, ◌<◌, ◌≤◌, Bool, true, false, ◌&&◌, ◌||◌, List, [], ◌∷◌, ◌++◌, length, reverse, get_or, encode_utf8, encode_utf8_all, inl, inr, refl, sym, ap, ap₂, subst, ◌∙◌, arith, length-append, and_parts, cases_lt, get_or_append_left, get_or-append-add, get_or-append_right, list_all_at, encode_ascii, encodes-append, inside_one, length-encode, len_utf8_bounds, length-le-encodes, list_all, is_word_character, is_joiner, begins, front, is_piece, joined_to, joined_front}
 use Rattle.std.proofs.Common.{append-nil}
 use Rattle.mail_words.proofs.Characters.{joiner_below, word_character_is_no_joiner}
@@ -8,7 +8,7 @@ use Rattle.mail_words.proofs.Seams.{some_from_bytes}
 
 -- ---- characters
 
--- joiners behind what is kept
+-- the characters are what is kept, and joiners after it
 abbrev EndsInJoiners : List ℕ → List ℕ → Type 0
 EndsInJoiners cs kept = (js : List ℕ) × (cs ≡ kept ++ js) × (list_all is_joiner js ≡ true)
 
@@ -29,7 +29,7 @@ run-joiners (c ∷ cs) = go (is_word_character c) (is_joiner c) refl refl (run-j
 
 -- ---- bytes
 
--- joiners are their own bytes
+-- joiners are their own bytes, because they are ASCII
 joiners-own : (js : List ℕ) → list_all is_joiner js ≡ true → encode_utf8_all js ≡ js
 joiners-own [] all = refl
 joiners-own (c ∷ cs) all =
@@ -38,7 +38,7 @@ joiners-own (c ∷ cs) all =
 abbrev last_of : List ℕ → ℕ
 last_of bytes = get_or bytes (length bytes - 1) 0
 
--- no word character has a joiner's byte at its end
+-- the last byte of a word character is never a joiner
 last-character : (c : ℕ) → is_word_character c ≡ true → is_joiner (last_of (encode_utf8 c)) ≡ false
 last-character c of_word = go (is_joiner (last_of (encode_utf8 c))) refl
   where
@@ -57,7 +57,7 @@ last-characters (c ∷ d ∷ ds) ends =
     ap is_joiner (ap (λ n. get_or (encode_utf8 c ++ rest) n 0) at ∙ get_or-append-add (encode_utf8 c) rest (length rest - 1) 0)
     ∙ last-characters (d ∷ ds) (sym (ends-cons is_word_character c (d ∷ ds) refl) ∙ ends)
 
--- where the joiners at the end of a run begin
+-- the place in the bytes where the joiners at the end of a run begin
 pub joined-bytes : (cs bytes : List ℕ) (n : ℕ) → bytes ≡ encode_utf8_all (front is_piece cs) → n ≤ length bytes
     → ((k : ℕ) → n ≤ k → k < length bytes → is_joiner (get_or bytes k 0) ≡ true) → (0 < n → is_joiner (get_or bytes (n - 1) 0) ≡ false) → n ≡ length (encode_utf8_all (joined_front cs))
 joined-bytes cs bytes n is within joiners last =

@@ -1,4 +1,4 @@
--- The gap and the word behind it that the mask of one load shows.
+-- The gap and the word after it, found in the mask of one load.
 use lib.Count.{count_trailing_zeros, under}
 use lib.Lanes.{chunk, mask_l, top}
 use Rattle.mail_words.proofs.Imports.{◌≡◌, ℕ, zero, suc, ◌+◌, ◌*◌, ◌%◌, ◌^◌, ◌<◌, ◌≤◌, cond, leb, Fits, w8, chunk-fits, Bool, true, false, not, List, [], ◌∷◌, length, drop, get_or, refl, sym, ap, ◌∙◌, subst, arith, inl, inr, cases_lt, nat_tests, length-map, length-chunk, HasGapAndWord, is_ascii_other, is_ascii_word, is_no_ascii_word, prefix_len}
@@ -16,7 +16,7 @@ halved : (b : Bool) (n : ℕ) → (cond b 1 0 + 2 * n) / 2 ≡ n
 halved true n = omega arith
 halved false n = omega arith
 
--- a shift leaves out the first bits
+-- a shift drops the first bits
 drop_mask : (ms : List Bool) (i : ℕ) → mask_l ms / 2 ^ i ≡ mask_l (drop i ms)
 drop_mask ms zero = div-one (mask_l ms)
 drop_mask [] (suc i) = omega (arith, div-le_self 0 (2 ^ suc i))
@@ -26,7 +26,7 @@ drop_mask (m ∷ ms) (suc i) = ap (λ n. mask_l (m ∷ ms) / 2 ^ n) next ∙ sym
     next = omega arith
 
 module _ (test : ℕ → Bool) where
-  -- one more than a mask: its lowest bit stands behind those that are set at the front
+  -- if one is added to a mask, its lowest set bit comes right after the bits that were set at the front
   ones_mask : (k : ℕ) (xs : List ℕ) → length xs < k → count_trailing_zeros k (mask_l (map test xs) + 1) ≡ prefix_len test xs
   unfolding count_trailing_zeros
   ones_mask zero xs few = absurd (omega arith)
@@ -46,7 +46,7 @@ module _ (test : ℕ → Bool) where
           let one : (0 + 2 * n + 1) % 2 ≡ 1 = omega arith in
           ap (λ d. under d (count_trailing_zeros k ((0 + 2 * n + 1) / 2))) one
 
-  -- a bit that is set stands within the mask
+  -- the place of a set bit is within the mask
   bit_within : (xs : List ℕ) → 0 < mask_l (map test xs) → prefix_len (λ x. not (test x)) xs < length xs
   bit_within [] some = absurd (omega arith)
   bit_within (x ∷ xs) some = by (test x) (bit_within xs) some
@@ -56,7 +56,7 @@ module _ (test : ℕ → Bool) where
       by true rest h = omega arith
       by false rest h = omega (arith, rest (omega (arith, h)))
 
--- ---- the bytes that it shows
+-- ---- the bytes of the mask
 
 other_byte : (b : ℕ) → b < 128 → is_no_ascii_word b ≡ true → is_ascii_other b ≡ true
 other_byte b ascii other = grind (arith, nat_tests)
@@ -77,7 +77,7 @@ module _ (bytes : List ℕ) (mask : ℕ) (room : 16 ≤ length bytes) (same : ma
   pub gap_bound : count_trailing_zeros 64 (mask + 1) < 64
   gap_bound = omega (arith, gap_is, prefix_len-le-length is_no_ascii_word (chunk 0 16 bytes), length-chunk 0 16 bytes room)
 
--- where the mask of the bytes beyond ASCII is empty, all sixteen are of ASCII
+-- if the mask of the bytes beyond ASCII is empty, all sixteen are ASCII
 pub all_ascii : (bytes z : List ℕ) → 16 ≤ length bytes → ((k : ℕ) → Fits w8 (get_or bytes k 0)) → z ≡ map (λ b. cond (leb 128 b) 255 0) (chunk 0 16 bytes)
     → mask_l (map (top 7) z) % 2 ^ 64 ≡ 0 → (k : ℕ) → k < 16 → get_or bytes k 0 < 128
 all_ascii bytes z room fits lanes none k below =
@@ -86,7 +86,7 @@ all_ascii bytes z room fits lanes none k below =
     let small = none_from_empty_mask (leb 128) bytes 0 16 0 room (sym mask ∙ none) k (omega arith) (omega (arith, below)) in
     grind (arith, small, nat_tests)
 
--- the mask of a load of ASCII, in which a word begins that ends before the last bit
+-- the mask of a load of ASCII in which a word begins and ends before the last bit
 pub shown_places : (bytes : List ℕ) (mask : ℕ) → 16 ≤ length bytes → ((k : ℕ) → k < 16 → get_or bytes k 0 < 128) → mask ≡ mask_l (map is_no_ascii_word (chunk 0 16 bytes))
     → 0 < mask / 2 ^ count_trailing_zeros 64 (mask + 1)
     → HasGapAndWord bytes (count_trailing_zeros 64 (mask + 1)) (count_trailing_zeros 64 (mask / 2 ^ count_trailing_zeros 64 (mask + 1)))

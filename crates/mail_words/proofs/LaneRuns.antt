@@ -1,22 +1,22 @@
--- From the mask of one load to the bytes that are word characters.
+-- The bytes that are word characters, found from the mask of one load.
 use lib.Lanes.{Each1, chunk, mask_l, top}
 use Rattle.mail_words.proofs.Imports.{◌≡◌, ℕ, ◌+◌, ◌-◌, ◌%◌, ◌^◌, ◌<◌, ◌≤◌, Bool, true, false, not, List, [], ◌∷◌, length, get_or, Fits, w8, refl, ap, ap₂, ◌∙◌, subst, arith, inl, inr, agree_below, agree_below_at, cases_lt, length-map, map-map, mask_l-mod, length-chunk, get_or-chunk, prefix_len}
 use Rattle.std.proofs.Common.{map}
 use Rattle.std.proofs.lemmas.List.Sums.{prefix_len-le-length, prefix_len_passes}
 
--- of bytes, a test counts for what it says of each byte
+-- two tests that agree on each byte agree on lists of bytes
 same_tests : (p q : ℕ → Bool) (xs : List ℕ) → Each1 (Fits w8) xs → agree_below p q 256 ≡ true → map p xs ≡ map q xs
 same_tests p q [] fits all = refl
 same_tests p q (x ∷ xs) fits all = ap₂ ◌∷◌ (agree_below_at p q 256 x all fits.0.fits) (same_tests p q xs fits.1 all)
 
--- the lanes z, computed from those of a load, tell just the bytes that pass the test
+-- the lanes z, computed from those of a load, mark exactly the bytes that pass the test
 pub lanes_mask : (test : ℕ → Bool) (f : ℕ → ℕ) (load z : List ℕ) → length load ≤ 64 → Each1 (Fits w8) load → z ≡ map f load → agree_below (λ b. top 7 (f b)) test 256 ≡ true
     → mask_l (map (top 7) z) % 2 ^ 64 ≡ mask_l (map test load)
 lanes_mask test f load z few fits lanes all =
     ap (λ l. mask_l l % 2 ^ 64) (ap (map (top 7)) lanes ∙ map-map (top 7) f load ∙ same_tests (λ b. top 7 (f b)) test load fits all)
     ∙ mask_l-mod (map test load) 64 (omega (arith, few, length-map load test))
 
--- those that don't fail pass
+-- bytes that don't fail the test pass it
 not_not : (b : Bool) → not (not b) ≡ b
 not_not true = refl
 not_not false = refl
@@ -27,7 +27,7 @@ run_of_not test load = λ i. prefix_len (λ b. not_not (test b) i) load
 pub run_bound : (test : ℕ → Bool) (bytes : List ℕ) (at r : ℕ) → at + 16 ≤ length bytes → r ≡ prefix_len test (chunk at 16 bytes) → r ≤ 16
 run_bound test bytes at r room run = omega (arith, run, length-chunk at 16 bytes room, prefix_len-le-length test (chunk at 16 bytes))
 
--- the bytes that were passed, and those of one load behind them
+-- the bytes passed before, and those of one more load
 pub passed_on : (test : ℕ → Bool) (bytes : List ℕ) (at r : ℕ) → at + 16 ≤ length bytes → r ≡ prefix_len test (chunk at 16 bytes) → ((k : ℕ) → k < at → test (get_or bytes k 0) ≡ true)
     → (k : ℕ) → k < at + r → test (get_or bytes k 0) ≡ true
 passed_on test bytes at r room run passed k below =

@@ -1,4 +1,4 @@
--- Each word that is kept has some bytes, and at most as many as a word may have.
+-- Each word has 1 to 128 bytes, because the test of a word has these limits.
 use Rattle.mail_words.proofs.Imports.{◌≡◌, ℕ, zero, suc, ◌≤◌, Bool, true, false, cond, List, [], ◌∷◌, ◌++◌, All, length, encode_utf8_all, nat_le, refl, sym, subst, arith, and_parts, leb-true, length-le-encodes, is_word_character, begins, is_word, word_limit, words, HasWordLength, words_left}
 use Rattle.std.proofs.Common.{chars}
 use Rattle.std.proofs.lemmas.List.Elements.{All-append}
@@ -40,7 +40,7 @@ all-words_from before [] = all-nil
 all-words_from before (c ∷ cs) =
     All-append HasWordLength (words_on before [] (c ∷ cs)) (words_from (c ∷ before) cs) (all-words_on before [] (c ∷ cs)) (all-words_from (c ∷ before) cs)
 
--- a text is read from its first character on
+-- at first, the words left are the words of the text
 pub words_left-whole : (text : List ℕ) → words_left false (chars text) ≡ words text
 unfolding words words_left
 words_left-whole text = refl

@@ -1,4 +1,4 @@
--- A text is one word where it is a piece of one, begins with a word character, and is its own run without the joiners at its end.
+-- A text is one word if it can be part of a word, begins with a word character, and is the joined front of itself.
 use Rattle.mail_words.proofs.Imports.{◌≡◌, ℕ, ◌≤◌, Bool, true, false, not, ◌&&◌, ◌||◌, List, [], ◌∷◌, ◌++◌, length, reverse, encode_utf8_all, IsUtf8, nat_le, nat_lt, refl, sym, ap, ◌∙◌, arith, length-append, and-true, and-false, and_parts, le-leb, eq-eqb, eqb-true, reverse-append, encodes-append, encodes-chars, length-le-encodes, length-encode, len_utf8_bounds, list_all, list_any, is_word_character, is_joiner, begins, is_one_word, is_part_of_word, is_word, word_limit, is_piece, front, behind, joined_to, joined_front}
 use Rattle.std.proofs.Common.{chars}
 use Rattle.std.specs.Prelude.{◌==◌}
@@ -21,9 +21,9 @@ begins-front p xs ys h = grind arith
 pub ends-cons : (p : ℕ → Bool) (c : ℕ) (cs : List ℕ) → is_some cs ≡ true → begins p (reverse (c ∷ cs)) ≡ begins p (reverse cs)
 ends-cons p c cs h = ap (begins p) (reverse-append (c ∷ []) cs) ∙ begins-front p (reverse cs) (c ∷ []) (is_some-reverse cs h)
 
--- ---- what the run at the front is
+-- ---- the joined front
 
--- a prefix
+-- it is a prefix of the characters
 joined_to-prefix : (c : ℕ) (cs js : List ℕ) → (rest : List ℕ) × (cs ≡ js ++ rest) → (rest : List ℕ) × (c ∷ cs ≡ joined_to c js ++ rest)
 joined_to-prefix c cs [] h = (c ∷ cs, refl)
 joined_to-prefix c cs (j ∷ js) h = (h.0, ap (λ ds. c ∷ ds) h.1)
@@ -38,12 +38,12 @@ joined_front-prefix (c ∷ cs) = go (is_word_character c) (is_joiner c) refl ref
         let more = joined_to-prefix c cs (joined_front cs) h in (more.0, more.1 ∙ ap (λ js. js ++ more.0) (sym (joined_front-joiner c cs f)))
     go false false e f h = (c ∷ cs, ap (λ js. js ++ (c ∷ cs)) (sym (joined_front-other c cs e f)))
 
--- of word characters and joiners
+-- it has word characters and joiners alone
 all-joined_front : (cs : List ℕ) → list_all is_piece (joined_front cs) ≡ true
 all-joined_front [] = refl
 all-joined_front (c ∷ cs) = grind (arith, cs, joined_front-word, joined_front-joiner, joined_front-other, all-joined_front cs)
 
--- that ends with a word character
+-- it ends with a word character
 ends-word : (c : ℕ) (cs : List ℕ) → is_word_character c ≡ true → (is_some cs ≡ true → begins is_word_character (reverse cs) ≡ true) → begins is_word_character (reverse (c ∷ cs)) ≡ true
 ends-word c cs h h2 = grind (arith, ends-cons)
 
@@ -56,7 +56,7 @@ pub ends-joined_front : (cs : List ℕ) → is_some (joined_front cs) ≡ true �
 ends-joined_front [] some = some
 ends-joined_front (c ∷ cs) some = grind (arith, cs, is_some, joined_front-word, ends-word, joined_front-joiner, ends-joined_to, joined_front-other, ends-joined_front cs)
 
--- ---- when it is the whole
+-- ---- when it is the whole text
 
 joined_front-whole : (cs : List ℕ) → list_all is_piece cs ≡ true → (is_some cs ≡ true → begins is_word_character (reverse cs) ≡ true) → joined_front cs ≡ cs
 joined_front-whole [] pieces ended = refl
@@ -78,7 +78,7 @@ joined_front-whole (c ∷ cs) pieces ended = go (is_word_character c) (is_joiner
         → ((is_some cs ≡ true → begins is_word_character (reverse cs) ≡ true) → joined_front cs ≡ cs) → joined_front (c ∷ cs) ≡ c ∷ cs
     go w j some h h2 h3 h4 = grind (arith, joined_front-word, rest_ended, joined_front-joiner, no_rest)
 
--- ---- the tests as one
+-- ---- the tests together
 
 pieces_of_words : (cs : List ℕ) → list_all is_word_character cs ≡ true → list_all is_piece cs ≡ true
 pieces_of_words [] h = refl
@@ -92,7 +92,7 @@ ends_of_words (c ∷ cs) h some =
     let parts = and_parts (is_word_character c) (list_all is_word_character cs) h in
     ends-word c cs parts.0 (ends_of_words cs parts.1)
 
--- with no joiner they are word characters
+-- word characters and joiners without a joiner are word characters
 all_or_joined : (cs : List ℕ) → list_all is_piece cs ≡ true → (list_all is_word_character cs || list_any is_joiner cs) ≡ true
 all_or_joined [] h = refl
 all_or_joined (c ∷ cs) h =
@@ -112,13 +112,13 @@ abbrev word_tests : Bool → Bool → Bool → Bool → Bool → Bool → Bool
 word_tests begun all ended pieces joins short =
     (((begun && all && not false && not false) || (begun && ended && pieces && joins && not false && not false)) && short)
 
--- what the tests of a word come to, where the whole text is looked at
+-- the three tests together are the test of a word, for a whole text
 tests_as_one : (begun all ended pieces joins short some whole : Bool) → (all ≡ true → pieces ≡ true) → (begun ≡ true → all ≡ true → ended ≡ true) → (pieces ≡ true → (all || joins) ≡ true)
     → (begun ≡ true → some ≡ true) → (pieces ≡ true → ended ≡ true → whole ≡ true) → (begun ≡ true → whole ≡ true → ended ≡ true)
     → word_tests begun all ended pieces joins short ≡ ((some && short && pieces) && (begun && whole))
 tests_as_one begun all ended pieces joins short some whole h h2 h3 h4 h5 h6 = grind (arith, and-false, and-true, whole)
 
--- the run is the whole text where it has as many bytes
+-- the run is the whole text if it has as many bytes
 same_length : (cs js rest : List ℕ) → cs ≡ js ++ rest → length (encode_utf8_all js) ≡ length (encode_utf8_all cs) → js ≡ cs
 same_length cs js [] parts same = sym (parts ∙ append-nil js)
 same_length cs js (r ∷ rest) parts same =
@@ -154,7 +154,7 @@ is_one_word-parts text utf8 =
 
 pub ruleset is_one_word_parts = is_one_word-parts
 
--- ---- the front that passes
+-- ---- the characters at the front that pass
 
 all-front : (p : ℕ → Bool) (cs : List ℕ) → list_all p (front p cs) ≡ true
 all-front p [] = refl
@@ -165,7 +165,7 @@ front-all p [] h = refl
 front-all p (c ∷ cs) h =
     let parts = and_parts (p c) (list_all p cs) h in front-pass p c cs parts.0 ∙ ap (λ ds. c ∷ ds) (front-all p cs parts.1)
 
--- it has as many bytes as the text where all characters pass
+-- the front has as many bytes as the text exactly if all characters pass
 pub whole-front : (p : ℕ → Bool) (text : List ℕ) → IsUtf8 text → (length (encode_utf8_all (front p (chars text))) == length text) ≡ list_all p (chars text)
 whole-front p text utf8 = go (list_all p (chars text)) (length (encode_utf8_all (front p (chars text))) == length text) refl refl
   where
@@ -179,7 +179,7 @@ whole-front p text utf8 = go (list_all p (chars text)) (length (encode_utf8_all 
         sym (all-front p (chars text)) ∙ ap (list_all p) same ∙ e
     go false false e f = refl
 
--- and some where the first does
+-- the front has bytes exactly if the first character passes
 pub some-front : (p : ℕ → Bool) (cs : List ℕ) → nat_lt 0 (length (encode_utf8_all (front p cs))) ≡ begins p cs
 some-front p [] = refl
 some-front p (c ∷ cs) = grind (arith, front-pass, front-fail, encode_utf8_all, length-append, length-encode c, len_utf8_bounds c)

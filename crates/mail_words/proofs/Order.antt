@@ -1,4 +1,4 @@
--- The ranges of words come by where they begin and then by where they end.
+-- The ranges of words are in the order of where they begin, and then of where they end.
 use Rattle.mail_words.proofs.Imports.{ℕ, List, is_word_character, is_word_range, word_ranges}
 use Rattle.std.proofs.Common.{chars}
 use Rattle.contract_words.specs.Ranges.{ranges_from, AreInOrder}

@@ -1,9 +1,9 @@
--- The words of a text, place by place: what begins at a place depends on the characters before it, the nearest first, and
--- on those from it on.
+-- The words of a text, place by place. The words that begin at a place depend on the characters before it, the nearest
+-- first, and on those from it on.
 use Rattle.mail_words.proofs.Imports.{◌≡◌, ℕ, List, reverse, encode_utf8_all, is_word_character, is_word, words_behind}
 use Rattle.contract_words.proofs.RangePlaces.{if_passes, seen_on, seen_from, seen_behind-places}
 
--- the range as a list of words: its bytes, where it is one
+-- the bytes of the range in a list, if it is a word; otherwise the empty list
 abbrev pub if_word : List ℕ → List ℕ → List ℕ → List (List ℕ)
 if_word = if_passes (is_word is_word_character) encode_utf8_all
 

@@ -1,4 +1,4 @@
--- Reading the words of a text from the front: what is left of a text behind a place.
+-- The words that are left after a place, as a text is read from its front.
 use Rattle.mail_words.proofs.Imports.{◌≡◌, ℕ, Bool, true, false, ◌&&◌, List, [], ◌∷◌, ◌++◌, reverse, refl, sym, ap, ap₂, ◌∙◌, lit<, arith, and-true, and-false, list_all, is_word_character, is_joiner, begins, after_joiners, front, behind, is_other, read_front, words_left, within, long_at}
 use Rattle.mail_words.proofs.Characters.{joiner_is_no_word_character, word_character_is_no_joiner, is_word_character-ascii}
 use Rattle.mail_words.proofs.RunLemmas.{front-pass, front-fail, behind-pass, behind-fail, begins-behind, is_some, after_joiners-joiner, after_joiners-other, run-word}
@@ -6,7 +6,7 @@ use Rattle.mail_words.proofs.Places.{words_on, words_from, words_behind-places}
 use Rattle.mail_words.proofs.WordTests.{same_before}
 use Rattle.mail_words.proofs.Steps.{words_on-other, none_within, words_on-word}
 
--- ---- of what stands before, only two tests matter
+-- ---- two tests are all that matters of the characters before
 
 words_on-same : (before before' inside rest : List ℕ) → begins is_word_character before ≡ begins is_word_character before'
     → begins is_word_character (after_joiners before) ≡ begins is_word_character (after_joiners before') → words_on before inside rest ≡ words_on before' inside rest
@@ -23,12 +23,12 @@ words_from-same before before' [] first run = refl
 words_from-same before before' (c ∷ cs) first run =
     ap₂ ◌++◌ (words_on-same before before' [] (c ∷ cs) first run) (words_from-same (c ∷ before) (c ∷ before') cs refl (run-push c before before' run))
 
--- where no word begins at the first character, only the run matters
+-- if no word begins at the first character, only the run matters
 words_from-run : (before before' cs : List ℕ) → begins is_word_character cs ≡ false
     → begins is_word_character (after_joiners before) ≡ begins is_word_character (after_joiners before') → words_from before cs ≡ words_from before' cs
 words_from-run before before' cs h h2 = grind (arith, words_on-other, words_from-same, run-push)
 
--- ---- what is left
+-- ---- the words left
 
 letter : is_word_character 0x61 ≡ true
 letter = is_word_character-ascii 0x61 (lit< tt)
@@ -37,7 +37,7 @@ hyphen : is_joiner 0x2D ≡ true
 unfolding is_joiner
 hyphen = refl
 
--- what stands before the rest, the nearest first
+-- the characters before the rest, the nearest first
 abbrev before_rest : Bool → List ℕ
 before_rest in_run = reverse (read_front in_run)
 
@@ -54,7 +54,7 @@ words_left-places : (in_run : Bool) (cs : List ℕ) → words_left in_run cs ≡
 unfolding words_left
 words_left-places in_run cs = words_behind-places (read_front in_run) cs
 
--- past a character at which no word begins
+-- after a character at which no word begins
 words_left-gap : (in_run : Bool) (c : ℕ) (cs : List ℕ) → is_word_character c ≡ false → words_left in_run (c ∷ cs) ≡ words_left (in_run && is_joiner c) cs
 words_left-gap in_run c cs other =
     words_left-places in_run (c ∷ cs) ∙ ap (λ ws. ws ++ words_from (c ∷ before_rest in_run) cs) (words_on-other (before_rest in_run) c cs other)
@@ -69,7 +69,7 @@ words_left-gap in_run c cs other =
 pub words_left-end : (in_run : Bool) → words_left in_run [] ≡ []
 words_left-end in_run = words_left-places in_run []
 
--- behind a word character, what is left is what is left behind its plain word
+-- after a word character, the words left are those left after its plain word
 words_from-past : (before cs : List ℕ) → begins is_word_character before ≡ true → words_from before cs ≡ words_left true (behind is_word_character cs)
 words_from-past before [] first = sym (words_left-end true)
 words_from-past before (c ∷ cs) first = go (is_word_character c) refl (words_from-past (c ∷ before) cs)
@@ -82,7 +82,7 @@ words_from-past before (c ∷ cs) first = go (is_word_character c) refl (words_f
         words_from-run before (before_rest true) (c ∷ cs) e (run-word before first ∙ sym (run_before_rest true)) ∙ sym (words_left-places true (c ∷ cs))
         ∙ ap (words_left true) (sym (behind-fail is_word_character (c ∷ cs) e))
 
--- at a word character: the words that begin there, and those behind its plain word
+-- at a word character, the words left are those that begin there and those left after its plain word
 pub words_left-word : (in_run : Bool) (cs : List ℕ) → begins is_word_character cs ≡ true
     → words_left in_run cs ≡ (within (front is_word_character cs) ++ long_at in_run cs) ++ words_left true (behind is_word_character cs)
 words_left-word in_run [] e = cc
@@ -91,7 +91,7 @@ words_left-word in_run (c ∷ cs) e =
     ∙ ap₂ ◌++◌ (words_on-word in_run (before_rest in_run) (c ∷ cs) (first_before_rest in_run) (run_before_rest in_run) e)
     (words_from-past (c ∷ before_rest in_run) cs e ∙ ap (words_left true) (sym (behind-pass is_word_character c cs e)))
 
--- past all characters at which no word begins
+-- after all characters at which no word begins
 pub words_left-gaps : (in_run : Bool) (cs : List ℕ) → words_left in_run cs ≡ words_left (in_run && list_all is_joiner (front is_other cs)) (behind is_other cs)
 words_left-gaps in_run [] = words_left-end in_run ∙ sym (words_left-end (in_run && true))
 words_left-gaps in_run (c ∷ cs) = grind (arith, and-true, front-fail, behind-fail, words_left-gap, front-pass, behind-pass, words_left-gaps (in_run && is_joiner c) cs)
@@ -99,6 +99,6 @@ words_left-gaps in_run (c ∷ cs) = grind (arith, and-true, front-fail, behind-f
 begins-other : (cs : List ℕ) → begins is_other cs ≡ false → is_some cs ≡ true → begins is_word_character cs ≡ true
 begins-other cs h h2 = grind arith
 
--- a word begins behind them, unless nothing is left
+-- a word begins after these, unless nothing is left
 pub begins-gaps : (cs : List ℕ) → is_some (behind is_other cs) ≡ true → begins is_word_character (behind is_other cs) ≡ true
 begins-gaps cs some = begins-other (behind is_other cs) (begins-behind is_other cs) some

@@ -1,4 +1,4 @@
--- Words of texts that are written out, by computation. Word characters are here the letters and digits of ASCII.
+-- Words of given texts, by computation. Here word characters are the letters and digits of ASCII.
 use Rattle.mail_words.proofs.Imports.{ℕ, Bool, ◌||◌, ◌&&◌, List, [], ◌∷◌, refl, leb, codes, is_joiner, is_word, words_behind}
 use Rattle.mail_words.proofs.RowTables.{Each}
 

@@ -1,4 +1,4 @@
--- Foldings of texts that are written out, by computation. The values are those of Python's `str.casefold`.
+-- Foldings of given texts, by computation. The values are those of Python's `str.casefold`.
 use Rattle.mail_words.proofs.Imports.{[], ◌∷◌, refl, codes, folding}
 use Rattle.std.specs.Str.{chars}
 use Rattle.caseless.proofs.Computing.{caseless}

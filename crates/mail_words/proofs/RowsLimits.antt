@@ -1,5 +1,5 @@
--- Words of exactly 128 bytes and of more, by computation. A letter of four bytes keeps these texts short: word characters
--- are here the characters that aren't ASCII.
+-- Words of exactly 128 bytes and of more, by computation. A letter of four bytes keeps these texts short. Here word
+-- characters are the characters beyond ASCII.
 use Rattle.mail_words.proofs.Imports.{◌≡◌, ℕ, Bool, true, false, List, [], ◌∷◌, ◌++◌, refl, leb, encode_utf8_all, replicate, is_joiner, is_word, words_behind}
 
 abbrev is_wide : ℕ → Bool
@@ -8,14 +8,14 @@ is_wide = leb 0x80
 abbrev words_of : List ℕ → List (List ℕ)
 words_of = words_behind is_wide []
 
--- so many letters of four bytes, U+10428
+-- this many letters U+10428, of four bytes each
 abbrev wide : ℕ → List ℕ
 wide n = replicate n 0x10428
 
 abbrev hyphen : List ℕ
 hyphen = 0x2D ∷ []
 
--- two words of 64 and 63 bytes with a hyphen between them
+-- words of 64 and 63 bytes with a hyphen between them
 abbrev joined : List ℕ
 joined = wide 16 ++ (hyphen ++ (wide 15 ++ 0x4E00 ∷ []))
 
@@ -34,7 +34,7 @@ rows : (words_of (wide 32) ≡ encode_utf8_all (wide 32) ∷ [])
     × (words_of joined ≡ joined_words)
     -- joiners at both ends don't count
     × (words_of (hyphen ++ (0x2E ∷ (joined ++ 0x5F ∷ []))) ≡ joined_words)
-    -- a long word of 129 bytes is none, but its words are
+    -- a long word of 129 bytes is left out, but not its plain words
     × (words_of (wide 16 ++ (hyphen ++ wide 16)) ≡ encode_utf8_all (wide 16) ∷ encode_utf8_all (wide 16) ∷ [])
 unfolding is_joiner is_word lib.Utf8.encode
 rows = (refl, refl, refl, refl, refl, refl, refl, refl, refl, refl)

@@ -1,10 +1,10 @@
--- Words by Unicode's own tables, by computation.
+-- Word characters by Unicode's own tables, by computation.
 use Rattle.mail_words.proofs.Imports.{◌≡◌, Bool, true, false, List, [], ◌∷◌, refl, codes, replicate, ucd_derived, ucd_category, is_word_character, is_joiner, is_word, words, is_one_word, is_part_of_word}
 use Rattle.std.proofs.Common.{map}
 use Rattle.std.specs.Str.{chars}
 use Rattle.mail_words.proofs.RowTables.{Each}
 
--- the same answer to each
+-- the same result for each character
 abbrev EachIs : {A : Type 0} → (A → Bool) → Bool → List A → Type 0
 EachIs test answer items = map test items ≡ map (λ _. answer) items
 
@@ -33,7 +33,7 @@ rows : Each words ((0x47 ∷ 0x72 ∷ 0xC3 ∷ 0xBC ∷ 0xC3 ∷ 0x9F ∷ 0x65 �
     × EachIs is_word_character true (0x30 ∷ 0x39 ∷ 0x41 ∷ 0x5A ∷ 0x61 ∷ 0x7A ∷ 0xAA ∷ 0xB5 ∷ 0xBA ∷ 0xC0 ∷ 0xDF ∷ 0x0301
     ∷ 0x0345 ∷ 0x0664 ∷ 0x0903 ∷ 0x093E ∷ 0x0BE6 ∷ 0x0E31 ∷ 0x2160 ∷ 0x24B6 ∷ 0x3007 ∷ 0x30FC ∷ 0x4E00 ∷ 0xD7A3
     ∷ 0xFF10 ∷ 0xFF21 ∷ 0x10428 ∷ 0x1D7CE ∷ 0x20000 ∷ [])
-    -- controls, spaces, punctuation, symbols, formats, an enclosing mark, and numbers that are no digits
+    -- controls, spaces, punctuation, symbols, formats, an enclosing mark, and numbers that aren't digits
     × EachIs is_word_character false (0x00 ∷ 0x09 ∷ 0x0A ∷ 0x0D ∷ 0x20 ∷ 0x2B ∷ 0x2D ∷ 0x2E ∷ 0x2F ∷ 0x3A ∷ 0x40 ∷ 0x5B
     ∷ 0x5F ∷ 0x60 ∷ 0x7B ∷ 0x7F ∷ 0x80 ∷ 0xA0 ∷ 0xAD ∷ 0xB2 ∷ 0xB7 ∷ 0xBC ∷ 0xD7 ∷ 0xF7 ∷ 0x0BF0 ∷ 0x200B ∷ 0x200D
     ∷ 0x2010 ∷ 0x2019 ∷ 0x203F ∷ 0x20DD ∷ 0x2212 ∷ 0x3000 ∷ 0x3001 ∷ 0xFEFF ∷ 0xFF0D ∷ 0xFF3F ∷ 0xFFFD ∷ 0x1F600

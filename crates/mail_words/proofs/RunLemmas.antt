@@ -1,4 +1,4 @@
--- Laws of what a reader looks for at the front of the characters that are left.
+-- Laws of the runs at the front of the rest of a text.
 use Rattle.mail_words.proofs.Imports.{◌≡◌, ℕ, Bool, true, false, List, [], ◌∷◌, ◌++◌, refl, arith, is_word_character, is_joiner, begins, after_joiners, front, behind, joined_to, joined_front}
 use Rattle.mail_words.proofs.Characters.{joiner_is_no_word_character, word_character_is_no_joiner}
 
@@ -22,7 +22,7 @@ pub begins-behind : (p : ℕ → Bool) (cs : List ℕ) → begins p (behind p cs
 begins-behind p [] = refl
 begins-behind p (c ∷ cs) = grind (arith, behind-pass, behind-fail, begins-behind p cs)
 
--- there is a first element
+-- whether there is a first element
 abbrev pub is_some : List ℕ → Bool
 is_some = begins (λ _. true)
 
@@ -47,11 +47,11 @@ after_joiners-joiner c cs e = rw (e, after_joiners) refl
 pub after_joiners-other : (c : ℕ) (cs : List ℕ) → is_joiner c ≡ false → after_joiners (c ∷ cs) ≡ c ∷ cs
 after_joiners-other c cs e = rw (e, after_joiners) refl
 
--- the run goes on exactly where a word character follows the joiners
+-- the run continues exactly if a word character follows the joiners
 pub is_some-joined_front : (cs : List ℕ) → is_some (joined_front cs) ≡ begins is_word_character (after_joiners cs)
 is_some-joined_front [] = refl
 is_some-joined_front (c ∷ cs) = grind (arith, joined_front-word, after_joiners-other, word_character_is_no_joiner, joined_front-joiner, after_joiners-joiner, joined_front-other, is_some-joined_front cs)
 
--- behind a word character the run goes on
+-- characters that begin with a word character continue a run
 pub run-word : (cs : List ℕ) → begins is_word_character cs ≡ true → begins is_word_character (after_joiners cs) ≡ true
 run-word cs h = grind (arith, after_joiners-other, word_character_is_no_joiner)

@@ -1,4 +1,4 @@
--- A text, cut between two of its characters.
+-- A text can be cut between any two of its characters.
 use lib.Utf8.{scalar}
 use Rattle.mail_words.proofs.Imports.{◌≡◌, ℕ, ◌+◌, ◌<◌, Bool, true, ◌&&◌, List, [], ◌∷◌, ◌++◌, length, take, drop, encode_utf8_all, IsUtf8, refl, sym, ap, subst, ◌∙◌, arith, length-append, and_parts, encodes-append, encodes-chars, chars-encodes, scalars-chars, length-le-encodes, IsCharBoundary-at_seam, IsCharBoundary, front, behind}
 use Rattle.std.proofs.Common.{chars}
@@ -16,7 +16,7 @@ scalars-back : (xs ys : List ℕ) → scalars (xs ++ ys) ≡ true → scalars ys
 scalars-back [] ys h = h
 scalars-back (x ∷ xs) ys h = scalars-back xs ys (and_parts (scalar x) (scalars (xs ++ ys)) h).1
 
--- the text, cut behind the characters xs and before ys
+-- the text is cut after the characters xs and before ys
 pub record IsSeam (text xs ys : List ℕ) : Type 0 where
   pub front : take (length (encode_utf8_all xs)) text ≡ encode_utf8_all xs
   pub back : drop (length (encode_utf8_all xs)) text ≡ encode_utf8_all ys
@@ -28,7 +28,7 @@ pub record IsSeam (text xs ys : List ℕ) : Type 0 where
 pub seam : (text xs ys : List ℕ) → IsUtf8 text → chars text ≡ xs ++ ys → IsSeam text xs ys
 seam text xs ys utf8 parts = grind (arith, scalars, scalars-chars, encode_utf8_all, encodes-chars, encodes-append, take-append_seam, drop-append_seam, IsCharBoundary-at_seam, scalars-back, chars-encodes, scalars-front, length-append)
 
--- the same at a place that is told by its number of bytes
+-- the same at a place given by its number of bytes
 pub seam_boundary : (text xs ys : List ℕ) (n : ℕ) → IsSeam text xs ys → n ≡ length (encode_utf8_all xs) → IsCharBoundary text n
 seam_boundary text xs ys n s place = subst (IsCharBoundary text) (sym place) s.boundary
 
@@ -44,11 +44,11 @@ chars_front text xs ys n part s place is = ap chars (seam_front text xs ys n par
 pub chars_back : (text xs ys : List ℕ) (n : ℕ) (part : List ℕ) → IsSeam text xs ys → n ≡ length (encode_utf8_all xs) → part ≡ drop n text → chars part ≡ ys
 chars_back text xs ys n part s place is = ap chars (seam_back text xs ys n part s place is) ∙ s.back_chars
 
--- behind the characters that pass
+-- the text can be cut after the characters that pass
 pub front_seam : (p : ℕ → Bool) (text : List ℕ) → IsUtf8 text → IsSeam text (front p (chars text)) (behind p (chars text))
 front_seam p text utf8 = seam text (front p (chars text)) (behind p (chars text)) utf8 (sym (front-behind p (chars text)))
 
--- there are characters where there are bytes
+-- there are characters if there are bytes
 pub some_from_bytes : (cs : List ℕ) → 0 < length (encode_utf8_all cs) → is_some cs ≡ true
 some_from_bytes cs h = grind arith
 

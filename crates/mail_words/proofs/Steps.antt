@@ -1,4 +1,4 @@
--- What begins at a place, by what the character there is.
+-- The words that begin at a place, by the character there.
 use Rattle.mail_words.proofs.Imports.{◌≡◌, ℕ, Bool, true, false, ◌&&◌, ◌||◌, List, [], ◌∷◌, ◌++◌, reverse, refl, sym, ap, ap₂, ◌∙◌, append_assoc, arith, and-false, or-true, and_parts, reverse-append, list_all-append, list_any-append, list_all, list_any, is_word_character, is_joiner, begins, after_joiners, is_piece, front, behind, joined_to, joined_front, within, joined_on, long_at}
 use Rattle.std.proofs.Common.{append-nil}
 use Rattle.mail_words.proofs.Characters.{joiner_is_no_word_character, word_character_is_no_joiner}
@@ -17,9 +17,9 @@ all-push p xs c = list_all-append p xs (c ∷ [])
 any-push : (p : ℕ → Bool) (xs : List ℕ) (c : ℕ) → list_any p (xs ++ c ∷ []) ≡ (list_any p xs || (p c || false))
 any-push p xs c = list_any-append p xs (c ∷ [])
 
--- ---- nothing begins here
+-- ---- no word begins here
 
--- at a character that is no word character
+-- none begins at a character that isn't a word character
 none_begin : (before : List ℕ) (x : ℕ) (inside rest : List ℕ) → is_word_character x ≡ false → words_on before (x ∷ inside) rest ≡ []
 none_begin before x inside [] other = refl
 none_begin before x inside (c ∷ cs) other =
@@ -28,12 +28,12 @@ none_begin before x inside (c ∷ cs) other =
 pub words_on-other : (before : List ℕ) (c : ℕ) (cs : List ℕ) → is_word_character c ≡ false → words_on before [] (c ∷ cs) ≡ []
 words_on-other before c cs other = ap₂ ◌++◌ (none_begins before (c ∷ []) cs other) (none_begin before c [] cs other)
 
--- within a run of word characters
+-- none begins inside a run of word characters
 pub none_within : (before inside rest : List ℕ) → begins is_word_character before ≡ true → begins is_word_character (after_joiners before) ≡ true → words_on before inside rest ≡ []
 none_within before inside [] first run = refl
 none_within before inside (c ∷ cs) first run = grind (arith, none_inside, none_within before (inside ++ c ∷ []) cs first run)
 
--- with a character that is neither a word character nor a joiner
+-- none has a character that is neither a word character nor a joiner
 none_with_other : (before inside rest : List ℕ) → list_all is_word_character inside ≡ false → list_all is_piece inside ≡ false → words_on before inside rest ≡ []
 none_with_other before inside [] all pieces = refl
 none_with_other before inside (c ∷ cs) all pieces =
@@ -41,7 +41,7 @@ none_with_other before inside (c ∷ cs) all pieces =
     let pieces' : list_all is_piece (inside ++ c ∷ []) ≡ false = all-push is_piece inside c ∙ ap (λ b. b && (is_piece c && true)) pieces in
     ap₂ ◌++◌ (none_of_others before (inside ++ c ∷ []) cs all' pieces') (none_with_other before (inside ++ c ∷ []) cs all' pieces')
 
--- a long word whose run began earlier
+-- none is a long word whose run began earlier
 none_again : (before inside rest : List ℕ) → list_all is_word_character inside ≡ false → begins is_word_character (after_joiners before) ≡ true → words_on before inside rest ≡ []
 none_again before inside [] all run = refl
 none_again before inside (c ∷ cs) all run =
@@ -54,7 +54,8 @@ begins-all : (p : ℕ → Bool) (xs : List ℕ) (c : ℕ) → list_all p (xs ++ 
 begins-all p [] c h = grind arith
 begins-all p (x ∷ xs) c h = grind arith
 
--- the words that begin with these word characters and end in the rest, which begins with one: first the plain word
+-- The words that begin with these word characters: first the plain word, which ends after the word characters `fore`,
+-- then those that end in the rest.
 abbrev plain_first : List ℕ → List ℕ → List ℕ → List ℕ → List (List ℕ)
 plain_first before inside fore rest = within (inside ++ fore) ++ words_on before (inside ++ fore) rest
 
@@ -90,7 +91,7 @@ joined_on-push inside c cs h = grind (arith, append_assoc)
 joined_on-joined_to : (inside : List ℕ) (c : ℕ) (cs : List ℕ) → joined_on (inside ++ c ∷ []) cs ≡ joined_on inside (joined_to c cs)
 joined_on-joined_to inside c cs = grind (arith, append_assoc)
 
--- what is so of the front of a long word
+-- what holds of the front of a long word
 record BeginsLong (before inside : List ℕ) : Type 0 where
   begun : begins is_word_character inside ≡ true
   pieces : list_all is_piece inside ≡ true
@@ -99,7 +100,7 @@ record BeginsLong (before inside : List ℕ) : Type 0 where
 begins_long-push : (before inside : List ℕ) (c : ℕ) → BeginsLong before inside → is_piece c ≡ true → BeginsLong before (inside ++ c ∷ [])
 begins_long-push before inside c h piece = grind (arith, all-push)
 
--- some joiner stands in it
+-- a joiner is in it
 record IsJoined (inside : List ℕ) : Type 0 where
   joins : list_any is_joiner inside ≡ true
   all : list_all is_word_character inside ≡ false
@@ -142,7 +143,7 @@ words_on-joined before inside (c ∷ cs) h j =
         ∙ joined_on-joined_to inside c (joined_front cs) ∙ ap (joined_on inside) (sym (joined_front-joiner c cs f))
     go false false more e f m rest = none_past_other before inside c cs e f ∙ ap (joined_on inside) (sym (joined_front-other c cs e f))
 
--- ---- what begins at the first character of a plain word
+-- ---- the words that begin at the first character of a plain word
 
 all_pieces : (cs : List ℕ) → list_all is_word_character cs ≡ true → list_all is_piece cs ≡ true
 all_pieces [] h = refl
@@ -157,12 +158,12 @@ all-front p (c ∷ cs) = grind (arith, front-pass, front-fail, all-front p cs)
 begins-front : (p : ℕ → Bool) (cs : List ℕ) → begins p cs ≡ true → begins p (front p cs) ≡ true
 begins-front p cs h = grind (arith, front-pass)
 
--- the long word, behind the plain one with which it begins
+-- the long word, after the plain one with which it begins
 long_behind : (before plain rest : List ℕ) → begins is_word_character plain ≡ true → list_all is_word_character plain ≡ true → begins is_word_character rest ≡ false
     → begins is_word_character (after_joiners before) ≡ false → words_on before plain rest ≡ joined_on plain (joined_front rest)
 long_behind before plain rest h h2 h3 h4 = grind (arith, words_on, is_joined-joiner, begins_long-push, all_pieces, none_ends, ends-push, words_on-joined, joined_on-joined_to, joined_front-joiner, none_past_other, joined_front-other)
 
--- no long word, where its run began earlier
+-- no long word, because its run began earlier
 no_long_behind : (before plain rest : List ℕ) → begins is_word_character rest ≡ false → begins is_word_character (after_joiners before) ≡ true → words_on before plain rest ≡ []
 no_long_behind before plain rest h h2 = grind (arith, none_in_run, none_again, all-push, and-false)
 

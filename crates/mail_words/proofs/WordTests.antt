@@ -1,4 +1,4 @@
--- When three parts of a text make the middle one a word.
+-- When the middle one of three parts of a text is a word.
 use Rattle.mail_words.proofs.Imports.{◌≡◌, ℕ, true, false, List, [], reverse, refl, and-false, or-true, list_all, list_any, is_word_character, is_joiner, begins, after_joiners, is_word, is_piece, within}
 use Rattle.mail_words.proofs.Places.{if_word}
 
@@ -13,7 +13,7 @@ pub is_long : (before inside behind : List ℕ) → begins is_word_character ins
 unfolding is_word
 is_long before inside behind begun ended pieces joins first last = rw (begun, ended, pieces, joins, first, last) (rw or-true refl)
 
--- ---- when they don't: each has a reason against a plain word and one against a long one
+-- ---- when it isn't: each lemma has a reason against a plain word and one against a long one
 
 pub none_begins : (before inside behind : List ℕ) → begins is_word_character inside ≡ false → if_word before inside behind ≡ []
 unfolding is_word
@@ -43,7 +43,7 @@ pub none_before_end : (before inside behind : List ℕ) → list_all is_word_cha
 unfolding is_word
 none_before_end before inside behind all last = simp (all, last, and-false) refl
 
--- of what stands before, only these two matter
+-- two tests are all that matters of the characters before
 pub same_before : (before before' inside behind : List ℕ) → begins is_word_character before ≡ begins is_word_character before'
     → begins is_word_character (after_joiners before) ≡ begins is_word_character (after_joiners before') → if_word before inside behind ≡ if_word before' inside behind
 unfolding is_word

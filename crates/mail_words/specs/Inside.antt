@@ -1,3 +1,3 @@
--- What private functions say of one another, and views of fields: it serves proofs alone, and no public clause rests on it.
+-- Definitions that the contracts of private functions and the proofs need. No public clause uses them.
 pub mod Folds
 pub mod Runs

@@ -1,4 +1,4 @@
--- The words of a text: the maximal runs of word characters, and the longer runs in which joiners stand between them.
+-- The words of a text: maximal runs of word characters, and longer runs in which joiners come between them.
 use Rattle.std.specs.Prelude.{ℕ, ◌≤◌, Bool, true, false, not, ◌&&◌, ◌||◌, ◌==◌, nat_le, List, [], ◌∷◌, ◌++◌, length, map, reverse, filter, slice_range, chars, encode_utf8_all, codes}
 use Rattle.std.specs.List.{list_any, list_all}
 use Rattle.contract_words.specs.Ranges.{ranges_from, passes_at}
@@ -6,84 +6,89 @@ use Rattle.unicode.specs.Binary.{is_alphabetic}
 use Rattle.unicode.specs.GeneralCategory.{general_category, general_category_eq}
 use Rattle.unicode.specs.declared.properties.GeneralCategory.TheVariants.{NonspacingMark, SpacingMark, DecimalNumber}
 
--- a word character is Alphabetic, or of category Mn, Mc or Nd (Unicode 4.5 and 4.10)
+-- whether a character is a word character: Alphabetic, or of category Mn, Mc or Nd (Unicode 4.5 and 4.10)
 unfoldable pub is_word_character : ℕ → Bool
 is_word_character c =
     is_alphabetic c || list_any (general_category_eq (general_category c)) (NonspacingMark ∷ SpacingMark ∷ DecimalNumber ∷ [])
 
+-- whether a character joins plain words to a long one: `-`, `_`, `.`, `+` or `@`
 unfoldable pub is_joiner : ℕ → Bool
 is_joiner c = list_any (λ joiner. c == joiner) (codes "-_.+@")
 
--- no word has more bytes
+-- the most bytes that a word has
 abbrev pub word_limit : ℕ
 word_limit = 128
 
--- the bytes of a range of characters
+-- the bytes of a range of characters, given by its start and its end
 abbrev pub range_bytes : List ℕ → ℕ × ℕ → List ℕ
 range_bytes cs r = encode_utf8_all (slice_range cs r.0 r.1)
 
 -- ---- which ranges are words
 
--- there is a first character, and it passes
+-- whether there is a first character and it passes
 abbrev pub begins : (ℕ → Bool) → List ℕ → Bool
 begins p [] = false
 begins p (c ∷ cs) = p c
 
--- the characters behind the joiners at the front
+-- the characters after the joiners at the front
 abbrev pub after_joiners : List ℕ → List ℕ
 after_joiners [] = []
 after_joiners (c ∷ cs) = elim (is_joiner c) [ true ↦ after_joiners cs | false ↦ c ∷ cs ]
 
--- Which characters are word characters is a parameter. A range is looked at as the characters before it, the nearest
--- first, those inside it, and those behind it.
+-- `in_word` says which characters are word characters. Each test of a range has the characters before it, the nearest
+-- first, those inside it, and those after it.
 module _ (in_word : ℕ → Bool) where
-  -- a maximal run of word characters
+  -- whether a range is a maximal run of word characters, with at least one
   abbrev pub is_plain_word : List ℕ → List ℕ → List ℕ → Bool
   is_plain_word before inside behind =
       begins in_word inside && list_all in_word inside && not (begins in_word before) && not (begins in_word behind)
 
-  -- a maximal run of word characters and joiners without the joiners at both its ends, and a joiner is left: it begins
-  -- and ends with a word character, and beyond each end no word character stands directly or behind joiners alone
+  -- whether a range is a maximal run of word characters and joiners, without the joiners at both its ends, in which a
+  -- joiner is left. It begins and ends with a word character. Outside, no word character is next to it, and none comes
+  -- after joiners alone.
   abbrev pub is_long_word : List ℕ → List ℕ → List ℕ → Bool
   is_long_word before inside behind =
       begins in_word inside && begins in_word (reverse inside)
       && list_all (λ c. in_word c || is_joiner c) inside && list_any is_joiner inside
       && not (begins in_word (after_joiners before)) && not (begins in_word (after_joiners behind))
 
+  -- whether a range is a plain or a long word of at most 128 bytes
   unfoldable pub is_word : List ℕ → List ℕ → List ℕ → Bool
   is_word before inside behind =
       (is_plain_word before inside behind || is_long_word before inside behind) && nat_le (length (encode_utf8_all inside)) word_limit
 
+  -- whether a range of these characters, given by its start and its end, is such a word
   abbrev pub is_word_range : List ℕ → ℕ × ℕ → Bool
   is_word_range = passes_at is_word
 
-  -- the ranges that are words and begin in the rest of a text, behind its front
+  -- the ranges that are words and begin in the rest of a text, after its front
   abbrev pub word_ranges_behind : List ℕ → List ℕ → List (ℕ × ℕ)
   word_ranges_behind front rest = filter (is_word_range (front ++ rest)) (ranges_from (length front) rest)
 
-  -- the words that begin in the rest of a text, behind its front
+  -- the words that begin in the rest of a text, after its front
   abbrev pub words_behind : List ℕ → List ℕ → List (List ℕ)
   words_behind front rest = map (range_bytes (front ++ rest)) (word_ranges_behind front rest)
 
--- the ranges of a text's characters that are words: by where they begin, the plain word before the long one
+-- the ranges of a text's characters that are words, in the order of where they begin, the plain word before the long
+-- one
 abbrev pub word_ranges : List ℕ → List (ℕ × ℕ)
 word_ranges text = word_ranges_behind is_word_character [] (chars text)
 
--- the words of a text, in that order
+-- the words of a text, in the same order
 unfoldable pub words : List ℕ → List (List ℕ)
 words text = map (range_bytes (chars text)) (word_ranges text)
 
--- the whole text is one word
+-- whether the whole text is one word
 unfoldable pub is_one_word : List ℕ → Bool
 is_one_word text = is_word is_word_character [] (chars text) []
 
--- a piece of a word: 1 to 128 bytes of word characters and joiners
+-- whether a text can be part of a word: 1 to 128 bytes of word characters and joiners
 unfoldable pub is_part_of_word : List ℕ → Bool
 is_part_of_word text =
     nat_le 1 (length text) && nat_le (length text) word_limit && list_all (λ c. is_word_character c || is_joiner c) (chars text)
 
 -- ---- facts
 
--- a word that is kept has some bytes, and at most 128
+-- a word has 1 to 128 bytes
 abbrev pub HasWordLength : List ℕ → Type 0
 HasWordLength word = (1 ≤ length word) × (length word ≤ word_limit)

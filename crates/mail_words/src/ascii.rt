@@ -1,4 +1,4 @@
-//! Word characters and joiners of ASCII, told by one look at a byte.
+//! Word characters and joiners of ASCII, found with one look at a table.
 ghost use Rattle.std.specs.Prelude.{◌≡◌, ◌&&◌, nat_lt};
 ghost use Rattle.mail_words.specs.Words.{is_word_character, is_joiner};
 
@@ -13,14 +13,14 @@ static CLASSES: [u8; 256] = *b"\
     ................................\
     ................................";
 
-/// Whether the byte is a word character by itself. A piece of a character beyond ASCII is none.
+/// Returns whether the byte is a word character by itself. A byte of a character beyond ASCII isn't.
 pub(crate) fn is_ascii_word_character(byte: u8) -> bool
     ensures { result ≡ (nat_lt byte 128 && is_word_character byte) }
 {
     CLASSES[byte as usize] == b'w'
 }
 
-/// Whether the byte is a joiner. Each joiner is of ASCII.
+/// Returns whether the byte is a joiner. All joiners are ASCII.
 pub(crate) fn is_ascii_joiner(byte: u8) -> bool
     ensures { result ≡ is_joiner byte }
 {

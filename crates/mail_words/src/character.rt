@@ -1,10 +1,10 @@
-//! The characters that words are made of.
+//! The characters of words: word characters and joiners.
 ghost use Rattle.std.specs.Prelude.{◌≡◌};
 ghost use Rattle.mail_words.specs.Words.{is_word_character, is_joiner};
 
 use unicode::properties::{GeneralCategory, is_alphabetic};
 
-/// Whether it is Alphabetic, or of category Mn, Mc or Nd.
+/// Returns whether a character is a word character: Alphabetic, or of category Mn, Mc or Nd.
 #[tactic(auto, using(crate::proofs::Characters::ascii_word_characters), unfolding(crate::specs::Words::is_word_character))]
 pub(crate) fn is_word_character(c: char) -> bool
     ensures { result ≡ is_word_character c }
@@ -21,7 +21,7 @@ pub(crate) fn is_word_character(c: char) -> bool
         )
 }
 
-/// Whether it joins plain words to a long one.
+/// Returns whether a character joins plain words to a long one: `-`, `_`, `.`, `+` or `@`.
 #[tactic(auto, unfolding(crate::specs::Words::is_joiner))]
 pub(crate) fn is_joiner(c: char) -> bool
     ensures { result ≡ is_joiner c }

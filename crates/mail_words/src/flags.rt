@@ -1,11 +1,11 @@
-//! What a mail program notes of a message.
+//! The marks that a mail program sets on a message.
 
 /// A mark that a message may have, as the letters of its Status and X-Status fields say.
 #[derive(Clone, Copy)]
 pub enum Flag {
     /// It was read: the letter `R`.
     Seen,
-    /// It was answered: the letter `A`.
+    /// It was replied to: the letter `A`.
     Replied,
     /// It was marked: the letter `F`.
     Flagged,
@@ -16,7 +16,7 @@ pub enum Flag {
 pub struct Flags {
     /// It was read.
     pub seen: bool,
-    /// It was answered.
+    /// It was replied to.
     pub replied: bool,
     /// It was marked.
     pub flagged: bool,

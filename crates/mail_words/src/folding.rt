@@ -1,4 +1,4 @@
-//! How words are compared: by default caseless folding.
+//! Default caseless folding, by which words are compared.
 ghost use Rattle.std.specs.Prelude.{◌≡◌, ◌*◌, ◌+◌, ◌<◌, ◌≤◌, ◌++◌, length, string_bytes, string_len, IfOk, OnOk, OnErr, IsTrue, IsAscii, chars};
 ghost use Rattle.std.specs.List.{list_all};
 ghost use Rattle.std.specs.Bool.{Decides};
@@ -11,9 +11,12 @@ use caseless::Caseless;
 use std::alloc::{AllocError, Global};
 use ucd_case::full_folding;
 
-/// The default caseless folding of a text (Unicode D144). Two words are one where their foldings are.
+/// Returns the default caseless folding of a text (Unicode D144). Two words are equal if their foldings are. The
+/// folding of a word, which has at most 128 bytes, has 1 to 1,024 bytes.
 ///
-/// The folding of a word, which has at most 128 bytes, has at most 1,024.
+/// # Errors
+///
+/// `AllocError` if memory runs out.
 pub fn fold(alloc: Global, word: &str) -> Result<String, AllocError>
     ensures exact { IfOk result (λ folded. string_bytes folded ≡ folding word.now) }
     ensures of_word { HasWordLength word.now → IfOk result
@@ -25,16 +28,19 @@ pub fn fold(alloc: Global, word: &str) -> Result<String, AllocError>
     Ok(folded)
 }
 
-/// Folds a whole text, if it is of ASCII, in place of what `into` holds, and answers whether it is. In any other case `into`
-/// may hold anything.
+/// Folds a whole text if it is ASCII, and returns whether it is. If so, `into` has the folding instead of what it had.
+/// If not, or after an error, `into` may have anything. The words of such a folding are the foldings of the text's
+/// words ([`crate::words_fold_with_their_text`]).
 ///
-/// The words of such a text stand in its folding, each folded ([`crate::words_fold_with_their_text`]).
+/// # Errors
+///
+/// `AllocError` if memory runs out, which it can only if `into` has less room than the text has bytes.
 pub fn fold_ascii(text: &str, into: &mut String) -> Result<bool, AllocError>
     ensures is_ascii { IfOk result (λ is_ascii. Decides is_ascii (IsAscii text.now)) }
     ensures exact { IfOk result (λ is_ascii. IsTrue is_ascii
         → string_bytes into.new ≡ folding text.now) }
 
-    // Memory is taken only where there is too little room.
+    // Memory is taken only if there is too little room.
     ensures full { OnErr result (string_capacity into.old < length text.now) }
 {
     if !text.is_ascii() {
@@ -46,21 +52,26 @@ pub fn fold_ascii(text: &str, into: &mut String) -> Result<bool, AllocError>
     Ok(true)
 }
 
-/// Whether folding leaves a character as it is.
+/// Returns whether folding leaves a character as it is.
 fn keeps_itself(c: char) -> bool
     ensures { result ≡ keeps_itself_of c }
 {
     full_folding(c).is_empty()
 }
 
-/// Whether it leaves each character of a text as it is.
+/// Returns whether folding leaves each character of a text as it is.
 fn keeps_all(text: &str) -> bool
     ensures { result ≡ list_all keeps_itself_of (chars text.now) }
 {
     text.chars().all(keeps_itself)
 }
 
-/// Adds the folding of a word after what `into` holds. Where memory is wanting, `into` holds what it held before.
+/// Adds the folding of a word to the end of `into`.
+///
+/// # Errors
+///
+/// `AllocError` if memory runs out, which it can only if `into` has too little room. Then `into` has what it had
+/// before.
 pub fn fold_onto(word: &str, into: &mut String) -> Result<(), AllocError>
     ensures exact { OnOk result
         (string_bytes into.new ≡ string_bytes into.old ++ folding word.now) }
@@ -70,7 +81,7 @@ pub fn fold_onto(word: &str, into: &mut String) -> Result<(), AllocError>
     ensures bound { OnOk result
         (string_len into.new ≤ string_len into.old + 8 * length word.now) }
 
-    // Memory is taken only where there is too little room.
+    // Memory is taken only if there is too little room.
     ensures full { OnErr result
         (string_capacity into.old < string_len into.old + length (folding word.now)) }
     ensures refused { OnErr result (string_bytes into.new ≡ string_bytes into.old) }

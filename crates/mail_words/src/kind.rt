@@ -1,6 +1,7 @@
-//! The texts of a message that are searched apart from one another.
+//! The kinds of text of a message, which can be searched separately.
 
-/// Which text of a message a word stands in: one of five header fields (RFC 5322 3.6), the body, or the name of a part (RFC 2183 2.3).
+/// The kind of text that a word is in: one of five header fields (RFC 5322 3.6), the body, or the name of an attachment
+/// (RFC 2183 2.3).
 ///
 /// The kinds have no order.
 #[derive(Clone, Copy)]
@@ -17,6 +18,6 @@ pub enum TextKind {
     Subject,
     /// The lines of the parts that are text.
     Body,
-    /// The name under which a part is to be kept as a file.
+    /// The name under which an attachment is to be kept as a file.
     Name,
 }

@@ -1,4 +1,4 @@
-//! Word characters of ASCII, looked for sixteen bytes at a time.
+//! Searches for word characters of ASCII, sixteen bytes at a time.
 ghost use Rattle.std.specs.Prelude.{◌≡◌, ◌+◌, ◌<◌, ◌≤◌, ◌==◌, ℕ, true, length, map, slice_index, if◌then◌else◌, IfSome};
 ghost use Rattle.std.specs.Int.{w64, trailing_zeros};
 ghost use Rattle.std.specs.List.{prefix_len};
@@ -7,11 +7,11 @@ ghost use Rattle.mail_words.specs.Inside.Runs.{is_ascii_word, is_no_ascii_word, 
 
 use std::simd::prelude::*;
 
-/// So many bytes are looked at together.
+/// The number of bytes that one load takes.
 const LANES: usize = 16;
 
-/// How many bytes at the front are passed as word characters of ASCII, sixteen at a time. Where fewer are left, none of
-/// these is looked at. A smaller answer would cost only time.
+/// Returns how many bytes at the front are word characters of ASCII, counted in loads of sixteen bytes. If fewer than
+/// sixteen bytes are left, these aren't looked at. A smaller result is never wrong, only slower.
 pub(crate) fn len_by_lanes(bytes: &[u8]) -> usize
     ensures within { result ≤ length bytes.now }
     ensures passed { (k : ℕ) → k < result → is_ascii_word (slice_index bytes.now k) ≡ true }
@@ -27,7 +27,7 @@ pub(crate) fn len_by_lanes(bytes: &[u8]) -> usize
     len
 }
 
-/// How many of the sixteen bytes from a place on are word characters of ASCII, before the first that is none.
+/// Returns how many word characters of ASCII come first in the sixteen bytes from a place on.
 #[inline(always)]
 fn run_at(bytes: &[u8], at: usize) -> usize
     requires { at + 16 ≤ length bytes.now }
@@ -36,19 +36,19 @@ fn run_at(bytes: &[u8], at: usize) -> usize
     first_set(others_in(u8x16::from_slice(&bytes[at..])))
 }
 
-/// The bits of the lanes that are no word characters of ASCII.
+/// Returns the bits of the lanes that aren't word characters of ASCII.
 #[inline(always)]
 fn others_in(lanes: u8x16) -> u64
     ensures { result ≡ mask_l (map is_no_ascii_word lanes) }
 {
-    // But for its case, a letter stands less than 26 behind `a`, and a digit less than 10 behind `0`.
+    // Without its case, a letter is less than 26 after `a`, and a digit is less than 10 after `0`.
     let from_a = (lanes | u8x16::splat(0x20)) - u8x16::splat(b'a');
     let from_0 = lanes - u8x16::splat(b'0');
     let others = from_a.simd_ge(u8x16::splat(26)) & from_0.simd_ge(u8x16::splat(10));
     others.to_bitmask()
 }
 
-/// The place of the lowest bit that is set, or sixteen.
+/// Returns the place of the lowest bit that is set, or 16 if none is.
 #[inline(always)]
 fn first_set(mask: u64) -> usize
     ensures { result ≡ (if mask == 0 then 16 else trailing_zeros w64 mask) }
@@ -60,8 +60,8 @@ fn first_set(mask: u64) -> usize
     }
 }
 
-/// The lengths of the gap in front and of the word behind it, where sixteen bytes of ASCII show both and what ends the word.
-/// To answer none would cost only time.
+/// Returns the lengths of the gap at the front and of the word after it, if the first sixteen bytes are ASCII and have
+/// both, and also the byte that ends the word. None is never wrong, only slower.
 #[inline(always)]
 pub(crate) fn gap_and_word(bytes: &[u8]) -> Option<(usize, usize)>
     ensures { IfSome result (λ found. HasGapAndWord bytes.now found.0 found.1) }
@@ -74,7 +74,7 @@ pub(crate) fn gap_and_word(bytes: &[u8]) -> Option<(usize, usize)>
         return None;
     }
     let others = others_in(lanes);
-    // The bits of the gap are set, so that a carry goes through them to the first of the word.
+    // The bits of the gap are set, so a carry goes through them to the first bit of the word.
     let gap = (others + 1).trailing_zeros();
     let rest = others >> gap;
     if rest == 0 {

@@ -1,5 +1,4 @@
-//! Words of a message's texts: what a word is, how words are compared, and in which text of a message
-//! they stand.
+//! The words of a message's texts: what a word is, how words are compared, and the kinds of text that they are in.
 #![tactic(auto)]
 
 mod ascii;

@@ -8,15 +8,16 @@ use crate::ascii::{is_ascii_joiner, is_ascii_word_character};
 use crate::character::{is_joiner, is_word_character};
 use crate::lanes::len_by_lanes;
 
-/// A class of characters, told of a character and of a byte.
+/// A class of characters, with a test for a character and one for a byte.
 trait CharacterClass {
-    /// Whether a character is in it.
+    /// Whether a character is in the class.
     ghost holds: { ℕ → Bool };
 
+    /// Returns whether the character is in it.
     fn has(c: char) -> bool
         ensures { result ≡ holds c };
 
-    /// Whether the byte is in it as a character by itself. A piece of a character beyond ASCII isn't.
+    /// Returns whether the byte is a character in the class by itself. A byte of a character beyond ASCII isn't.
     fn has_ascii(byte: u8) -> bool
         ensures { result ≡ (nat_lt byte 128 && holds byte) };
 }
@@ -36,7 +37,7 @@ impl CharacterClass for OfWords {
     }
 }
 
-/// All others.
+/// All characters that aren't word characters.
 struct OfGaps;
 
 impl CharacterClass for OfGaps {
@@ -66,7 +67,7 @@ impl CharacterClass for OfRuns {
     }
 }
 
-/// How many bytes the word characters at the front take.
+/// Returns how many bytes the word characters at the front have.
 pub(crate) fn plain_len(text: &str) -> usize
     ensures { result ≡ length (encode_utf8_all (front is_word_character (chars text.now))) }
 {
@@ -74,21 +75,21 @@ pub(crate) fn plain_len(text: &str) -> usize
     len + front_len::<OfWords>(text.split_at(len).1)
 }
 
-/// How many bytes the characters before the first word character take.
+/// Returns how many bytes the characters before the first word character have.
 pub(crate) fn gap_len(text: &str) -> usize
     ensures { result ≡ length (encode_utf8_all (front is_other (chars text.now))) }
 {
     front_len::<OfGaps>(text)
 }
 
-/// Whether each character is a word character or a joiner.
+/// Returns whether each character is a word character or a joiner.
 pub(crate) fn has_word_pieces_alone(text: &str) -> bool
     ensures { result ≡ list_all (λ c. is_word_character c || is_joiner c) (chars text.now) }
 {
     front_len::<OfRuns>(text) == text.len()
 }
 
-/// How many bytes the characters of a class take at the front.
+/// Returns how many bytes the characters of a class at the front have.
 fn front_len<C: CharacterClass>(text: &str) -> usize
     ensures { result ≡ length (encode_utf8_all (front C.holds (chars text.now))) }
 {
@@ -103,7 +104,8 @@ fn front_len<C: CharacterClass>(text: &str) -> usize
     text.len()
 }
 
-/// The same, character by character. It stands apart, so that it isn't copied into each loop over words.
+/// Returns the same as `front_len`, character by character. It is a function of its own, so that it isn't copied into
+/// each loop over words.
 #[inline(never)]
 fn front_len_by_characters<C: CharacterClass>(text: &str) -> usize
     ensures { result ≡ length (encode_utf8_all (front C.holds (chars text.now))) }
@@ -118,8 +120,8 @@ fn front_len_by_characters<C: CharacterClass>(text: &str) -> usize
     len
 }
 
-/// How many bytes the run of word characters and joiners at the front takes, without the joiners at its end. Such runs are rare, so
-/// it stands apart too.
+/// Returns how many bytes the run of word characters and joiners at the front has, without the joiners at its end. Such
+/// runs are rare, so this is a function of its own too.
 #[inline(never)]
 pub(crate) fn joined_len(text: &str) -> usize
     ensures { result ≡ length (encode_utf8_all (joined_front (chars text.now))) }
@@ -128,7 +130,7 @@ pub(crate) fn joined_len(text: &str) -> usize
     len_before_joiners(text.split_at(run).0.as_bytes())
 }
 
-/// How many bytes stand before the joiners at the end.
+/// Returns how many bytes are before the joiners at the end.
 pub(crate) fn len_before_joiners(bytes: &[u8]) -> usize
     ensures within { result ≤ length bytes.now }
     ensures joiners { (k : ℕ) → result ≤ k → k < length bytes.now

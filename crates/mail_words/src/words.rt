@@ -1,4 +1,4 @@
-//! The words of a text, one after another.
+//! An iterator over the words of a text.
 ghost use Rattle.std.specs.Prelude.{◌≡◌, ◌+◌, [], ◌∷◌, ◌++◌, ◌<◌, ◌≤◌, true, false, length, chars, encode_utf8_all, All, MatchOption, IfSome, drop, option_to_list};
 ghost use Rattle.std.specs.Iterator.{YieldsFirstRef, item_count};
 ghost use Rattle.std.specs.List.{list_all};
@@ -11,21 +11,22 @@ use crate::lanes::gap_and_word;
 use crate::runs::{gap_len, joined_len, len_before_joiners, plain_len};
 use std::marker::Model;
 
-/// No word has more bytes than these.
+/// The most bytes that a word has.
 pub(crate) const WORD_LIMIT: usize = 128;
 
-/// The words of a text, by where they begin; at one place the plain word comes before the long one.
+/// The words of a text in the order of where they begin. If two begin together, the plain word comes before the long
+/// one.
 ///
-/// A plain word is a maximal run of word characters, which are Alphabetic or of category Mn, Mc or Nd
-/// (Unicode 18.0). A long word is a maximal run of word characters and `-`, `_`, `.`, `+` and `@`, without these
-/// five at both its ends, in which at least one of them is left. Each that comes has 1 to 128 bytes; longer ones
-/// are left out. It takes no memory, and its time is linear in the text.
+/// A plain word is a maximal run of word characters, which are Alphabetic or of category Mn, Mc or Nd (Unicode 18.0). A
+/// long word is a maximal run of word characters and `-`, `_`, `.`, `+` and `@`, without these five at both its ends,
+/// in which at least one of them is left. Words have 1 to 128 bytes; longer ones are left out. The iterator takes no
+/// memory, and its time is linear in the text.
 #[derive(Drop)]
 pub struct Words<'a> {
-    /// The long word that begins where the plain word given last began.
+    /// The long word that begins where the last plain word began, if it wasn't returned yet.
     long: Option<&'a str>,
     rest: &'a str,
-    /// Whether the rest goes on with a run whose long word was already looked at.
+    /// Whether the rest continues a run whose long word was already looked for.
     in_run: bool,
 }
 
@@ -41,7 +42,7 @@ impl<'a> Model for Words<'a> {
 }
 
 impl<'a> Words<'a> {
-    /// The words of this text.
+    /// Makes the iterator over the words of a text.
     pub fn of(text: &'a str) -> Words<'a>
         ensures words { result ≡ words text.now }
         ensures bounded { All HasWordLength result }
@@ -61,7 +62,7 @@ impl<'a> Iterator for Words<'a> {
 
     ghost remaining = { item_count (λ s. s) };
 
-    // Inlined, so that each loop over words keeps what is left of the text in registers.
+    // Inlined, so that each loop over words keeps the rest of the text in registers.
     #[inline(always)]
     fn next(&mut self) -> Option<&'a str> {
         if let Some(long) = self.long.take() {
@@ -79,13 +80,14 @@ impl<'a> Iterator for Words<'a> {
 #[derive(Clone, Copy)]
 struct WordPlace<'a> {
     plain: &'a str,
-    /// The long word that begins with it.
+    /// The long word that begins with the plain word, if there is one.
     long: Option<&'a str>,
-    /// The text behind the plain word.
+    /// The text after the plain word.
     behind: &'a str,
 }
 
-/// The next place of a text where a word is kept. The text may go on with a run whose long word was looked at.
+/// Finds the next place where a word begins that has at most 128 bytes. `in_run` says whether the text may continue a
+/// run whose long word was already looked for.
 #[inline(always)]
 fn next_place(text: &str, in_run: bool) -> Option<WordPlace<'_>>
     ensures { MatchOption result (words_left in_run (chars text.now) ≡ [])
@@ -112,7 +114,8 @@ fn next_place(text: &str, in_run: bool) -> Option<WordPlace<'_>>
     }
 }
 
-/// The same, if one load shows the gap and the word. Such a word is short enough to be kept.
+/// Finds the next place, as `next_place` does, if one load has the gap and the word. Such a word is short enough to be
+/// kept.
 #[inline(always)]
 fn place_by_one_load(text: &str, in_run: bool) -> Option<WordPlace<'_>>
     ensures { IfSome result (λ p. words_left in_run (chars text.now) ≡ p.plain.now
@@ -123,7 +126,7 @@ fn place_by_one_load(text: &str, in_run: bool) -> Option<WordPlace<'_>>
     Some(place_at(start, word, goes_on))
 }
 
-/// The text behind its gap, which takes so many bytes, and whether it still goes on with the run.
+/// Returns the text after its gap, which has `gap` bytes, and whether this still continues the run.
 #[inline(always)]
 fn behind_gap(text: &str, gap: usize, in_run: bool) -> (&str, bool)
     requires { gap ≡ length (encode_utf8_all (front is_other (chars text.now))) }
@@ -138,14 +141,15 @@ fn behind_gap(text: &str, gap: usize, in_run: bool) -> (&str, bool)
     (start, goes_on)
 }
 
-/// Whether each character is a joiner.
+/// Returns whether each character is a joiner.
 fn has_joiners_alone(text: &str) -> bool
     ensures { result ≡ list_all is_joiner (chars text.now) }
 {
     len_before_joiners(text.as_bytes()) == 0
 }
 
-/// What begins where a text does, whose plain word takes so many bytes.
+/// Returns the words that begin at the front of a text, whose plain word has `len` bytes, and the text after the plain
+/// word. If `in_run`, the long word is left out, because its run began earlier.
 #[inline(always)]
 fn place_at(text: &str, len: usize, in_run: bool) -> WordPlace<'_>
     requires { len ≡ length (encode_utf8_all (front is_word_character (chars text.now))) }
@@ -165,7 +169,8 @@ fn place_at(text: &str, len: usize, in_run: bool) -> WordPlace<'_>
     }
 }
 
-/// The long word with which a text begins, whose plain word takes so many bytes.
+/// Returns the long word that begins at the front of a text, whose plain word has `plain` bytes. Returns None if there
+/// is none, or if it has more than 128 bytes.
 fn long_word(text: &str, plain: usize) -> Option<&str>
     requires { plain ≡ length (encode_utf8_all (front is_word_character (chars text.now))) }
     ensures { option_to_list (option_copied result) ≡ long_at false (chars text.now) }
@@ -185,7 +190,8 @@ fn long_word(text: &str, plain: usize) -> Option<&str>
     Some(text.split_at(len).0)
 }
 
-/// Whether there is a first character, and it is a joiner: each of these is of ASCII.
+/// Returns whether there is a first character and it is a joiner. The first byte is enough, because all joiners are
+/// ASCII.
 fn begins_in_joiner(text: &str) -> bool
     ensures { result ≡ begins is_joiner (chars text.now) }
 {

@@ -1,4 +1,4 @@
--- The table is held against the definition at each of the 256 bytes, by computing.
+-- The table agrees with the definition at each of the 256 bytes, by computation.
 use Rattle.mail_words.proofs.Imports.{get_or, refl, arith, agree_below_at, is_joiner, CLASSES}
 use Rattle.std.proofs.Common.{◌==◌}
 use Rattle.mail_words.proofs.ascii.is_ascii_joiner.Goals as goal

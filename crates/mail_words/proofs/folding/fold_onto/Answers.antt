@@ -5,7 +5,7 @@ use Rattle.std.proofs.lemmas.Str.{IsCharBoundary-from_take, IsUtf8-had}
 use Rattle.mail_words.proofs.FoldingLemmas.{length-folding, folding-same, folding_some, folds_from_start, folds_further, folds_to_end, folds_within}
 use Rattle.mail_words.proofs.folding.fold_onto.Goals as goal
 
--- what it grew by
+-- the text grew by the length of the folding
 grown : (old new : String Global) (word : List ℕ) → string_bytes new ≡ string_bytes old ++ folding word → string_len new ≡ string_len old + length (folding word)
 grown old new word is = omega (arith, ap length is, length-append (string_bytes old) (folding word), old.bytes.ok.0, new.bytes.ok.0)
 

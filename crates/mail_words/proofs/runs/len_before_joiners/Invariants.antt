@@ -1,7 +1,7 @@
 use Rattle.mail_words.proofs.Imports.{◌≡◌, ◌<◌, ◌≤◌, ℕ, true, length, slice_index, is_joiner}
 use Rattle.mail_words.proofs.runs.len_before_joiners.Given as goal
 
--- what was passed is joiners
+-- the bytes passed so far are joiners
 abbrev pub invariant-loop-len : goal.invariant-loop-len
 invariant-loop-len l = record {
   within : l.len ≤ length l.bytes;
