@@ -1,4 +1,4 @@
--- Where bytes are cut.
+-- Cutting bytes at a byte, and when the byte isn't there.
 use Rattle.header_text.proofs.Words.{◌≡◌, ◌∙◌, ◌<◌, ◌≤◌, ◌-◌, ◌++◌, ◌==◌, ℕ, zero, suc, Bool, true, false, List, [], ◌∷◌, Option, Some, None, length, take, drop, get_or, slice_index, refl, sym, ap, arith, option_map, unwrap_or, not, split_while, eq-eqb, eqb-true, take_rest, cut_at}
 
 -- the byte isn't among the bytes
@@ -6,7 +6,7 @@ abbrev pub Lacks : ℕ → List ℕ → Type 0
 Lacks c [] = Unit {0}
 Lacks c (b ∷ bs) = ((b == c) ≡ false) × Lacks c bs
 
--- the parts are what stands before the first byte c, and what follows it
+-- the parts are what is before the first byte c, and what is after it
 pub record IsCut (c : ℕ) (bytes before behind : List ℕ) : Type 0 where
   pub joined : bytes ≡ before ++ c ∷ behind
   pub free : Lacks c before
@@ -20,12 +20,12 @@ cut_at-yes c b bs e = rw (e, cut_at) refl
 cut_at-no : (c b : ℕ) (bs : List ℕ) → (b == c) ≡ false → cut_at c (b ∷ bs) ≡ put b (cut_at c bs)
 cut_at-no c b bs e = rw (e, cut_at) refl
 
--- what begins with it is cut before its first byte
+-- bytes that begin with it are cut at the front
 pub cut_at-begins : (c : ℕ) (bs : List ℕ) → 1 ≤ length bs → get_or bs 0 0 ≡ c → Some ([], take (length bs - 1) (drop 1 bs)) ≡ cut_at c bs
 cut_at-begins c [] some is = absurd (omega arith)
 cut_at-begins c (b ∷ bs) some is = ap (λ (rest : List ℕ). Some ([], rest)) (take_rest (b ∷ bs) 1) ∙ sym (cut_at-yes c b bs (eq-eqb b c is))
 
--- by places
+-- cut at a place: the first with this byte
 pub cut_at-first : (c : ℕ) (bs : List ℕ) (at : ℕ) → at < length bs → (slice_index bs at == c) ≡ true → ((k : ℕ) → k < at → (slice_index bs k == c) ≡ false)
     → cut_at c bs ≡ Some (take at bs, drop (suc at) bs)
 cut_at-first c [] at lt is before = absurd (omega arith)
@@ -37,7 +37,7 @@ pub cut_at-none : (c : ℕ) (bs : List ℕ) → ((k : ℕ) → k < length bs →
 cut_at-none c [] before = refl
 cut_at-none c (b ∷ bs) before = cut_at-no c b bs (before 0 (omega arith)) ∙ ap (put b) (cut_at-none c bs (λ k l. before (suc k) (omega arith)))
 
--- by what is cut
+-- cut into given parts: the first of them doesn't have the byte
 pub cut_at-is : (c : ℕ) (before behind : List ℕ) → Lacks c before → cut_at c (before ++ c ∷ behind) ≡ Some (before, behind)
 cut_at-is c [] behind free = cut_at-yes c c behind (grind arith)
 cut_at-is c (b ∷ before) behind free = cut_at-no c b (before ++ c ∷ behind) free.0 ∙ ap (put b) (cut_at-is c before behind free.1)
@@ -67,7 +67,7 @@ pub Lacks-from : (c : ℕ) (bytes : List ℕ) → cut_at c bytes ≡ None → La
 Lacks-from c [] e = tt
 Lacks-from c (b ∷ bs) e = grind (arith, Lacks-from c bs)
 
--- the front up to a byte is what stands before it
+-- the front up to a byte is what is before it
 pub split_while-lacks : (c : ℕ) (before behind : List ℕ) → Lacks c before → split_while (λ b. not (b == c)) (before ++ c ∷ behind) ≡ (before, c ∷ behind)
 split_while-lacks c [] behind free = let is : (c == c) ≡ true = grind arith in rw (is, split_while) refl
 split_while-lacks c (b ∷ before) behind free = grind (arith, split_while-lacks c before behind free.1)

@@ -1,4 +1,4 @@
--- The front of some bytes that passes a test, and blanks at the ends.
+-- The front of bytes that passes a test, and blanks at both ends.
 use Rattle.header_text.proofs.Words.{◌≡◌, ◌∙◌, ◌++◌, ◌-◌, ◌≤◌, ◌+◌, ℕ, Bool, true, false, List, [], ◌∷◌, length, take, drop, reverse, refl, sym, ap, arith, length-append, append_assoc, take_at, reverse-append, reverse-reverse, take-append-drop, length-take-le, is_blank, split_while, after_blanks, before_blanks}
 
 -- the two parts join to the whole
@@ -6,7 +6,7 @@ pub split_while-joined : (p : ℕ → Bool) (bs : List ℕ) → (split_while p b
 split_while-joined p [] = refl
 split_while-joined p (b ∷ bs) = grind (arith, split_while-joined p bs)
 
--- the first part is what stands before the second
+-- the first part is what is before the second
 pub take-split_while : (p : ℕ → Bool) (bs : List ℕ) → take (length bs - length (split_while p bs).1) bs ≡ (split_while p bs).0
 take-split_while p bs =
     let joined : (split_while p bs).0 ++ (split_while p bs).1 ≡ bs = split_while-joined p bs in
@@ -20,7 +20,7 @@ length-split_while p bs =
     let sizes : length (split_while p bs).0 + length (split_while p bs).1 ≡ length bs = sym (length-append (split_while p bs).0 (split_while p bs).1) ∙ ap length joined in
     omega arith
 
--- a blank at the end goes, and at any other byte it stops
+-- a blank at the end is dropped, and any other byte ends the search
 pub before_blanks-last : (bs : List ℕ) (b : ℕ) → is_blank b ≡ true → before_blanks (bs ++ b ∷ []) ≡ before_blanks bs
 unfolding before_blanks
 before_blanks-last bs b e = ap (λ (x : List ℕ). reverse (after_blanks x)) (reverse-append bs (b ∷ [])) ∙ rw (e, after_blanks) refl
@@ -33,7 +33,7 @@ pub before_blanks-nil : before_blanks [] ≡ []
 unfolding before_blanks
 before_blanks-nil = refl
 
--- what stands before the blanks at the end is a front
+-- the blanks at the front and the rest join to the whole
 pub after_blanks-joined : (bs : List ℕ) → (front : List ℕ) × (bs ≡ front ++ after_blanks bs)
 after_blanks-joined [] = ([], refl)
 after_blanks-joined (b ∷ bs) = go (is_blank b) refl (after_blanks-joined bs)
@@ -48,7 +48,7 @@ before_blanks-joined bs =
     let back = after_blanks-joined (reverse bs) in
     (reverse back.0, sym (reverse-reverse bs) ∙ ap reverse back.1 ∙ reverse-append back.0 (after_blanks (reverse bs)))
 
--- the bytes up to a place, and those behind it trimmed at the end
+-- the bytes up to a place, and those after it trimmed at the end
 pub take-before_blanks : (bs : List ℕ) (n : ℕ) → n ≤ length bs → take (n + length (before_blanks (drop n bs))) bs ≡ take n bs ++ before_blanks (drop n bs)
 take-before_blanks bs n le =
     let kept : List ℕ = before_blanks (drop n bs) in

@@ -1,4 +1,4 @@
--- Bytes that are their own text.
+-- The text of some bytes is the bytes themselves.
 use Rattle.header_text.proofs.Words.{◌≡◌, ◌∙◌, ℕ, List, sym, IsAscii, IsUtf8, IsUtf8-from_ascii, lossy_chars-utf8, text_of, Charset, Utf8, Latin1, Latin9, Windows1252, Unknown}
 use Rattle.header_text.proofs.WordLaws.CharacterLemmas.{lossy-ascii}
 

@@ -1,10 +1,11 @@
--- Rows of fields, unfolding, ids, escapes and base64; the values on the right come from a separate reading of the rules.
+-- Worked examples of fields, unfolding, ids, escapes and base64. The values on the right come from a separate reading
+-- of the rules.
 use Rattle.header_text.proofs.Words.{◌≡◌, ℕ, List, [], ◌∷◌, map, refl, codes, is_empty, before_blanks, HeaderField, fields_of, lines_within, most_in_header, unfolded, ids_of, q_bytes, sextet, bytes_of_sextets, base64_bytes}
 
 abbrev field : List ℕ → List ℕ → HeaderField
 field name body = record { name = name; body = body }
 
--- what is read, and what of it
+-- each row has an input and its result
 abbrev pub Each : {A B : Type 0} → (A → B) → List (A × B) → Type 0
 Each read rows = map (λ row. read row.0) rows ≡ map (λ row. row.1) rows
 

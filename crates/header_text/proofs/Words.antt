@@ -1,4 +1,4 @@
--- The words of std and of the definitions that proofs take, from one place.
+-- The names of std and of the definitions that the proofs use, in one place.
 pub use Rattle.bstr.proofs.lemmas.AppendLemmas.{Extends-append, Extends-refl, Extends-trans, Extends-tried}
 pub use Rattle.bstr.proofs.lemmas.EncodeLemmas.{lossy_chars-utf8}
 pub use Rattle.bstr.specs.Text.{Extends}

@@ -1,16 +1,16 @@
--- Spaces and tabs, and the front of some bytes that passes a test.
+-- Spaces and tabs, and how bytes are split where a test ends.
 use Rattle.std.specs.Prelude.{ℕ, Bool, true, false, ◌||◌, ◌==◌, List, [], ◌∷◌, reverse}
 
--- a space or a tab
+-- whether a byte is a space or a tab
 abbrev pub is_blank : ℕ → Bool
 is_blank b = (b == 0x20) || (b == 0x09)
 
--- the bytes in front that pass, and what follows them
+-- the bytes at the front that pass, and what follows them
 abbrev pub split_while : (ℕ → Bool) → List ℕ → List ℕ × List ℕ
 split_while p [] = ([], [])
 split_while p (b ∷ bs) = elim (p b) [ true ↦ let rest = split_while p bs in (b ∷ rest.0, rest.1) | false ↦ ([], b ∷ bs) ]
 
--- the bytes behind the spaces and tabs in front
+-- the bytes after the spaces and tabs at the front
 abbrev pub after_blanks : List ℕ → List ℕ
 after_blanks [] = []
 after_blanks (b ∷ bs) = elim (is_blank b) [ true ↦ after_blanks bs | false ↦ b ∷ bs ]
@@ -19,6 +19,6 @@ after_blanks (b ∷ bs) = elim (is_blank b) [ true ↦ after_blanks bs | false �
 unfoldable pub before_blanks : List ℕ → List ℕ
 before_blanks bs = reverse (after_blanks (reverse bs))
 
--- the bytes without spaces and tabs at both ends
+-- the bytes without the spaces and tabs at both ends
 abbrev pub trimmed : List ℕ → List ℕ
 trimmed bs = before_blanks (after_blanks bs)

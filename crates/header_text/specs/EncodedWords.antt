@@ -1,4 +1,4 @@
--- Encoded words in an unfolded value (RFC 2047).
+-- Encoded words (RFC 2047) in an unfolded value: their form, where they are, and the text that they and the rest give.
 use Rattle.std.specs.Prelude.{◌≡◌, ℕ, zero, suc, ◌-◌, Bool, true, false, not, ◌&&◌, ◌||◌, ◌==◌, nat_le, nat_lt, IsTrue, List, [], ◌∷◌, ◌++◌, length, Option, Some, None, if◌then◌else◌, option_map, encode_utf8_all}
 use Rattle.std.specs.List.{list_all}
 use Rattle.bstr.specs.Utf8.{lossy_chars}
@@ -8,48 +8,52 @@ use Rattle.header_text.specs.Escapes.{q_bytes}
 use Rattle.header_text.specs.Base64.{base64_bytes}
 use Rattle.header_text.specs.Charsets.{charset_of, text_of}
 
--- `=?charset?encoding?text?=`
+-- an encoded word: `=?charset?encoding?text?=`
 pub record EncodedWord : Type 0 where
   pub charset : List ℕ
   pub encoding : ℕ
   pub text : List ℕ
 
+-- the byte `?`
 abbrev pub question : ℕ
 question = 0x3F
 
+-- the byte `=`
 abbrev pub equals_sign : ℕ
 equals_sign = 0x3D
 
--- how an encoded word is written
+-- the bytes of an encoded word as written
 abbrev pub spelled : EncodedWord → List ℕ
 spelled w = equals_sign ∷ question ∷ (w.charset ++ question ∷ w.encoding ∷ question ∷ (w.text ++ question ∷ equals_sign ∷ []))
 
--- 33 to 126 but for `?`
+-- whether a byte is allowed in the name of a charset: 33 to 126, but no `?`
 abbrev pub is_charset_byte : ℕ → Bool
 is_charset_byte b = nat_le 33 b && nat_le b 126 && not (b == question)
 
--- 32 to 126 but for `?`
+-- whether a byte is allowed in the text: 32 to 126, but no `?`
 abbrev pub is_text_byte : ℕ → Bool
 is_text_byte b = nat_le 32 b && nat_le b 126 && not (b == question)
 
+-- whether the encoding is Q, as `Q` or `q`
 abbrev pub is_q : ℕ → Bool
 is_q encoding = (encoding == 0x51) || (encoding == 0x71)
 
+-- whether the encoding is B, as `B` or `b`
 abbrev pub is_b : ℕ → Bool
 is_b encoding = (encoding == 0x42) || (encoding == 0x62)
 
--- a charset of one or more bytes, one of the two encodings, a text
+-- whether the parts are allowed: a charset of one or more bytes, the encoding Q or B, and a text, which may be empty
 abbrev pub is_well_formed : EncodedWord → Bool
 is_well_formed w =
     nat_lt 0 (length w.charset) && list_all is_charset_byte w.charset && (is_q w.encoding || is_b w.encoding) && list_all is_text_byte w.text
 
--- an encoded word begins the bytes
+-- the bytes begin with this encoded word
 abbrev pub BeginsWord : List ℕ → EncodedWord → Type 0
 BeginsWord bytes w = IsTrue (is_well_formed w) × ((later : List ℕ) × (bytes ≡ spelled w ++ later))
 
--- ---- the encoded word that begins some bytes, if one does: there is one at most
+-- ---- the encoded word that begins some bytes, if there is one; there is at most one
 
--- what follows a front, where the bytes have it
+-- what follows a front, if the bytes begin with it
 abbrev pub after : List ℕ → List ℕ → Option (List ℕ)
 after [] bytes = Some bytes
 after (c ∷ front) [] = None
@@ -61,6 +65,7 @@ word_of charset (encoding ∷ []) text =
     let w : EncodedWord = record { charset = charset; encoding = encoding; text = text } in if is_well_formed w then Some w else None
 word_of charset encoding text = None
 
+-- what f makes of the value, if there is one
 infixl 10 ◌>>=◌
 abbrev pub ◌>>=◌ : {A B : Type 0} → Option A → (A → Option B) → Option B
 (Some x) >>= f = f x
@@ -76,27 +81,28 @@ word_and_later bytes =
     >>= (λ text. after (equals_sign ∷ []) text.1
     >>= (λ later. option_map (λ w. (w, later)) (word_of charset.0 encoding.0 text.0))))))
 
+-- the encoded word that the bytes begin with
 unfoldable pub word_at : List ℕ → Option EncodedWord
 word_at bytes = after (equals_sign ∷ []) bytes >>= (λ rest. option_map (λ found. found.0) (word_and_later rest))
 
 -- ---- all encoded words of a value: the leftmost, then the leftmost at or after its end, and so on
 
--- an encoded word, and the text between the one before it, or the value's beginning, and it
+-- an encoded word, and the text before it, from the end of the word before or from the value's beginning
 pub record WordAfter : Type 0 where
   pub between : List ℕ
   pub word : EncodedWord
 
--- the encoded words, and the text behind the last
+-- the encoded words of a value, and the text after the last one
 pub record Pieces : Type 0 where
   pub words : List WordAfter
   pub rest : List ℕ
 
--- a byte more in front, of the text before the first word
+-- the pieces with one more byte at the front, before the first word
 abbrev pub onto_front : ℕ → List WordAfter → List ℕ → Pieces
 onto_front b [] rest = record { words = []; rest = b ∷ rest }
 onto_front b (w ∷ ws) rest = record { words = record { between = b ∷ w.between; word = w.word } ∷ ws; rest = rest }
 
--- the pieces of what follows so many bytes
+-- the pieces of what comes after this many bytes
 abbrev pub pieces_behind : ℕ → List ℕ → Pieces
 pieces_behind skipped [] = record { words = []; rest = [] }
 pieces_behind (suc skipped) (b ∷ bs) = pieces_behind skipped bs
@@ -105,10 +111,11 @@ pieces_behind zero (b ∷ bs) = elim (word_at (b ∷ bs)) [
   | None ↦ let later : Pieces = pieces_behind zero bs in onto_front b later.words later.rest
 ]
 
+-- the pieces of a value
 abbrev pub pieces : List ℕ → Pieces
 pieces value = pieces_behind zero value
 
--- no encoded word begins at a byte of a text, where later follows it
+-- no encoded word begins at any byte of a text that `later` follows
 abbrev pub NoneBegins : List ℕ → List ℕ → Type 0
 NoneBegins [] later = Unit {0}
 NoneBegins (b ∷ bs) later = ((w : EncodedWord) → ¬ BeginsWord (b ∷ (bs ++ later)) w) × NoneBegins bs later
@@ -119,25 +126,26 @@ AreLeftmost value [] rest = (value ≡ rest) × NoneBegins rest []
 AreLeftmost value (w ∷ ws) rest = (later : List ℕ) × (value ≡ w.between ++ (spelled w.word ++ later)) × IsTrue (is_well_formed w.word)
     × NoneBegins w.between (spelled w.word ++ later) × AreLeftmost later ws rest
 
--- ---- decoding
+-- ---- the text of a value
 
--- an encoded word alone
+-- the text of an encoded word
 abbrev pub word_text : EncodedWord → List ℕ
 word_text w = text_of (charset_of w.charset) (if is_q w.encoding then q_bytes w.text else base64_bytes w.text)
 
--- any other text: UTF-8 with U+FFFD
+-- any other text: UTF-8, with U+FFFD for each maximal faulty part
 abbrev pub plain_text : List ℕ → List ℕ
 plain_text bytes = encode_utf8_all (lossy_chars bytes)
 
--- the text between two encoded words: nothing where it is spaces and tabs alone
+-- the text between two encoded words: nothing if it is spaces and tabs alone
 abbrev pub text_between : List ℕ → List ℕ
 text_between bytes = if list_all is_blank bytes then [] else plain_text bytes
 
--- words that follow an encoded word
+-- the text of words after an encoded word, each with the text before it
 abbrev pub later_words_text : List WordAfter → List ℕ
 later_words_text [] = []
 later_words_text (w ∷ ws) = text_between w.between ++ (word_text w.word ++ later_words_text ws)
 
+-- the text of a value's words, each with the text before it
 abbrev pub words_text : List WordAfter → List ℕ
 words_text [] = []
 words_text (w ∷ ws) = plain_text w.between ++ (word_text w.word ++ later_words_text ws)

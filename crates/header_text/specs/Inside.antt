@@ -1,4 +1,4 @@
--- What private functions say of one another, and views of fields: it serves proofs alone, and no public clause rests on it.
+-- Definitions that the contracts of private functions and the proofs need. No public clause uses them.
 pub mod Alphabet
 pub mod Breaks
 pub mod Fronts

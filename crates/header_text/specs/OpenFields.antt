@@ -1,24 +1,26 @@
--- Fields as lines are added, one at a time.
+-- The fields of a header as lines are added, one at a time.
 use Rattle.std.specs.Prelude.{ℕ, Bool, List, [], ◌∷◌, ◌++◌, is_some, if◌then◌else◌}
 use Rattle.std.specs.Option.{option_to_list}
 use Rattle.header_text.specs.Headers.{HeaderField, is_continuation, field_of_line}
 
--- more bytes at the end of the last field's body
+-- the fields with more bytes at the end of the last body; without fields nothing changes
 abbrev pub onto_last : List ℕ → List HeaderField → List HeaderField
 onto_last more [] = []
 onto_last more (f ∷ []) = record { name = f.name; body = f.body ++ more } ∷ []
 onto_last more (f ∷ g ∷ fs) = f ∷ onto_last more (g ∷ fs)
 
--- whether a field is open behind a line: the one before goes on, or this line begins one
+-- Whether the last field may be continued after a line. After a continuation line it may if it could before; after any
+-- other line it may if the line begins a field.
 abbrev pub is_open_after : Bool → List ℕ → Bool
 is_open_after open_before l = if is_continuation l then open_before else is_some (field_of_line l)
 
--- whether a field is open behind lines
+-- whether the last field may be continued after these lines
 abbrev pub is_open_behind : Bool → List (List ℕ) → Bool
 is_open_behind open_before [] = open_before
 is_open_behind open_before (l ∷ ls) = is_open_behind (is_open_after open_before l) ls
 
--- the fields, and a line behind them
+-- the fields with one more line: a continuation goes to the last field if that may be continued, and otherwise it is
+-- skipped
 abbrev pub fields_with : Bool → List ℕ → List HeaderField → List HeaderField
 fields_with open_before l fs =
     if is_continuation l then (if open_before then onto_last l fs else fs) else fs ++ option_to_list (field_of_line l)

@@ -1,4 +1,4 @@
--- Which lines of a header count.
+-- Whether lines to come still count in a header.
 use Rattle.std.specs.Prelude.{ℕ, ◌+◌, ◌-◌, Bool, nat_lt, List, [], ◌∷◌, length, if◌then◌else◌}
 use Rattle.std.specs.List.{list_any}
 use Rattle.mbox_cutter.specs.Lines.{is_empty}
@@ -6,20 +6,21 @@ use Rattle.header_text.specs.Headers.{most_in_header, header}
 use Rattle.header_text.specs.declared.header.Stage.{Stage}
 use Rattle.header_text.specs.declared.header.Stage.TheVariants.{Open, Full, Ended}
 
--- an empty line is among the lines, so the header has ended
+-- whether an empty line is among the lines, so that the header has ended
 abbrev pub has_empty : List (List ℕ) → Bool
 has_empty ls = list_any is_empty ls
 
--- how many bytes lines have
+-- the number of bytes of lines
 abbrev pub lines_size : List (List ℕ) → ℕ
 lines_size [] = 0
 lines_size (l ∷ ls) = length l + lines_size ls
 
--- over the empty line, or over a line that doesn't fit, or neither
+-- the stage after these lines: `Ended` after an empty line; if there is none, `Full` after a line that didn't fit;
+-- otherwise `Open`
 unfoldable pub stage_of : List (List ℕ) → Stage
 stage_of ls = if has_empty ls then Ended else if nat_lt (length (header ls)) (length ls) then Full else Open
 
--- the stage behind a line, where the lines that counted before it have so many bytes
+-- the stage after a line; the lines that counted before it have `size` bytes
 abbrev pub stage_behind : Stage → ℕ → List ℕ → Stage
 stage_behind Ended size l = Ended
 stage_behind Full size l = if is_empty l then Ended else Full

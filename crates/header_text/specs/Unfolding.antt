@@ -1,8 +1,8 @@
--- Unfolding (RFC 5322, 2.2.3).
+-- How a field's body is unfolded (RFC 5322, 2.2.3).
 use Rattle.std.specs.Prelude.{ℕ, true, false, ◌&&◌, ◌||◌, ◌==◌, List, [], ◌∷◌}
 use Rattle.header_text.specs.Blanks.{trimmed}
 
--- without each LF, and without a CR directly before one
+-- the bytes without each LF, and without a CR directly before one
 abbrev pub without_breaks : List ℕ → List ℕ
 without_breaks [] = []
 without_breaks (b ∷ []) = elim (b == 0x0A) [ true ↦ [] | false ↦ b ∷ [] ]

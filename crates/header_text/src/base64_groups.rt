@@ -1,4 +1,4 @@
-//! Groups of base64 symbols.
+//! Groups of base64 symbols, and the symbols of a group that isn't complete yet.
 ghost use Rattle.std.specs.Prelude.{◌≡◌, ℕ, ◌<◌, ◌≤◌, ◌+◌, ◌%◌, ◌/◌, ◌*◌, ◌++◌, take, List, [], true, length, slice_index, OnOk, OnErr, IfOk};
 ghost use Rattle.header_text.specs.Base64.{bytes_of_symbols};
 ghost use Rattle.header_text.specs.Inside.Alphabet.{is_symbol as is_symbol_of};
@@ -6,7 +6,7 @@ ghost use Rattle.header_text.specs.Inside.Alphabet.{is_symbol as is_symbol_of};
 use base64::engine::general_purpose::STANDARD;
 use std::alloc::AllocError;
 
-/// At most three symbols, which wait for their group's others.
+/// At most three symbols, whose group isn't complete yet.
 #[derive(Clone, Copy)]
 pub struct Held {
     pub symbols: [u8; 4],
@@ -26,14 +26,14 @@ static SYMBOLS: [u8; 256] = *b"\
     ................................\
     ................................";
 
-/// Whether it is a symbol, told by one look at the table.
+/// Returns whether a byte is a symbol. It takes one look at the table.
 pub fn is_symbol(b: u8) -> bool
     ensures { result ≡ is_symbol_of b }
 {
     SYMBOLS[b as usize] == b's'
 }
 
-/// How many symbols stand in front in whole groups of four, where none is held.
+/// Returns how many symbols at the front are in whole groups of four. If a symbol is held, the result is 0.
 pub fn whole_groups(held: Held, text: &[u8]) -> usize
     ensures within { result ≤ length text.now }
     ensures groups { result % 4 ≡ 0 }
@@ -51,7 +51,8 @@ pub fn whole_groups(held: Held, text: &[u8]) -> usize
     text.len() - text.len() % 4
 }
 
-/// Adds the bytes of symbols in whole groups of four, in one call of the decoder.
+/// Adds the bytes of symbols in whole groups of four, with one call of the decoder. If memory runs out, nothing is
+/// added.
 pub fn decode_groups(symbols: &[u8], into: &mut Vec<u8>) -> Result<(), AllocError>
     requires some { 0 < length symbols.now }
     requires groups { length symbols.now % 4 ≡ 0 }
@@ -67,7 +68,7 @@ pub fn decode_groups(symbols: &[u8], into: &mut Vec<u8>) -> Result<(), AllocErro
     Ok(())
 }
 
-/// Writes the bytes of symbols in whole groups of four behind a place, up to the end.
+/// Writes the bytes of symbols in whole groups of four, from a place to the end.
 fn decode_behind(symbols: &[u8], into: &mut [u8], start: usize)
     requires some { 0 < length symbols.now }
     requires groups { length symbols.now % 4 ≡ 0 }

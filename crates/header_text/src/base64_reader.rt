@@ -1,4 +1,4 @@
-//! Base64 that comes piece by piece.
+//! A reader of base64 that comes in pieces.
 ghost use Rattle.std.specs.Prelude.{◌≡◌, ℕ, ◌<◌, ◌≤◌, ◌+◌, ◌%◌, ◌∷◌, ◌++◌, length, slice_index, List, true, IfOk, OnOk, OnErr};
 ghost use Rattle.bstr.specs.Text.{Extends};
 ghost use Rattle.header_text.specs.Base64.{bytes_of_symbols, base64_bytes};
@@ -9,14 +9,14 @@ use crate::base64_groups::{Held, decode_groups, is_symbol, whole_groups};
 use crate::cut::cut_at;
 use std::alloc::AllocError;
 
-/// Base64 (RFC 4648, 4) whose text comes in pieces.
+/// A reader of base64 (RFC 4648, 4) whose text comes in pieces.
 #[derive(Clone, Copy)]
 pub struct Base64 {
     held: Held,
     ended: bool,
 }
 
-/// Holds one symbol more, or decodes its group.
+/// Holds one more symbol, or decodes its group if the group is complete. If memory runs out, nothing is added.
 fn hold(held: Held, symbol: u8, into: &mut Vec<u8>) -> Result<Held, AllocError>
     requires { is_symbol_of symbol ≡ true }
     ensures bytes { IfOk result (λ after. (later : List ℕ)
@@ -35,7 +35,8 @@ fn hold(held: Held, symbol: u8, into: &mut Vec<u8>) -> Result<Held, AllocError>
     decode_groups(&symbols, into).and(Ok(Held { symbols, count: 0 }))
 }
 
-/// Decodes a text without `=` behind the symbols that are held. Where memory is wanting, a front of its bytes may stay.
+/// Decodes a text without `=` that follows the held symbols, and returns the symbols held after it. If memory runs out,
+/// some of its bytes may have been added.
 fn decode_text(held: Held, text: &[u8], into: &mut Vec<u8>) -> Result<Held, AllocError>
     ensures bytes { IfOk result (λ after. (later : List ℕ)
         → into.new.items ++ bytes_of_symbols (symbols_of after ++ later)
@@ -63,7 +64,7 @@ impl Base64 {
     ghost use Rattle.std.specs.Prelude.{[]};
     ghost use Rattle.header_text.specs.Symbols.{bytes_to_come};
 
-    /// A reader at the beginning of a text.
+    /// Makes a reader at the beginning of a text.
     pub fn new() -> Self
         ensures { (text : List ℕ) → bytes_to_come result text ≡ base64_bytes text }
     {
@@ -74,8 +75,12 @@ impl Base64 {
         Base64 { held, ended: false }
     }
 
-    /// Reads a piece, and adds the bytes of the groups that it completes: bytes outside the alphabet are skipped, and the
-    /// text ends at its first `=`. Where memory is wanting, the reader and the buffer stay as they were.
+    /// Reads a piece, and adds the bytes of the groups that it completes. Bytes outside the alphabet are skipped, and
+    /// the text ends at its first `=`.
+    ///
+    /// # Errors
+    ///
+    /// `AllocError` if memory runs out. Then the reader and the buffer are as before.
     pub fn push(&mut self, piece: &[u8], into: &mut Vec<u8>) -> Result<(), AllocError>
         ensures bytes { OnOk result ((later : List ℕ)
             → into.new.items ++ bytes_to_come self.new later
@@ -102,8 +107,11 @@ impl Base64 {
         }
     }
 
-    /// Adds what the symbols that are left over give at the text's end: one byte of two, two of three. Where memory is wanting,
-    /// nothing is added.
+    /// Adds the bytes of the symbols left over at the text's end: two symbols give one byte, and three give two.
+    ///
+    /// # Errors
+    ///
+    /// `AllocError` if memory runs out. Then nothing is added.
     pub fn finish(self, into: &mut Vec<u8>) -> Result<(), AllocError>
         ensures bytes { OnOk result (into.new.items ≡ into.old.items ++ bytes_to_come self []) }
         ensures refused { OnErr result (into.new.items ≡ into.old.items) }
@@ -121,7 +129,7 @@ impl Base64 {
     }
 }
 
-/// Adds the bytes of a whole text.
+/// Adds the bytes of a whole text. If memory runs out, some of them may have been added.
 pub fn decode_base64_into(text: &[u8], into: &mut Vec<u8>) -> Result<(), AllocError>
     ensures bytes { OnOk result (into.new.items ≡ into.old.items ++ base64_bytes text.now) }
     ensures size { OnOk result (length into.new.items ≤ length into.old.items + length text.now) }

@@ -1,15 +1,16 @@
-//! Spaces and tabs in the bytes of a header. mairix_options has its own for the texts of an rcfile, since it stands on no mail.
+//! Spaces and tabs in the bytes of a header. For the text of an rcfile mairix_options has its own, because it doesn't
+//! use this crate.
 ghost use Rattle.std.specs.Prelude.{◌≡◌};
 ghost use Rattle.header_text.specs.Blanks.{is_blank as is_blank_of, after_blanks as after_blanks_of, before_blanks as before_blanks_of, trimmed as trimmed_of};
 
-/// A space or a tab.
+/// Returns whether a byte is a space or a tab.
 pub fn is_blank(b: u8) -> bool
     ensures { result ≡ is_blank_of b }
 {
     b == b' ' || b == b'\t'
 }
 
-/// The bytes behind the spaces and tabs in front.
+/// Returns the bytes after the spaces and tabs at the front.
 pub fn after_blanks(bytes: &[u8]) -> &[u8]
     ensures { result.now ≡ after_blanks_of bytes.now }
 {
@@ -22,7 +23,7 @@ pub fn after_blanks(bytes: &[u8]) -> &[u8]
     rest
 }
 
-/// The bytes before the spaces and tabs at the end.
+/// Returns the bytes before the spaces and tabs at the end.
 pub fn before_blanks(bytes: &[u8]) -> &[u8]
     ensures { result.now ≡ before_blanks_of bytes.now }
 {
@@ -35,7 +36,7 @@ pub fn before_blanks(bytes: &[u8]) -> &[u8]
     rest
 }
 
-/// The bytes without spaces and tabs at both ends.
+/// Returns the bytes without the spaces and tabs at both ends.
 pub fn trimmed(bytes: &[u8]) -> &[u8]
     ensures { result.now ≡ trimmed_of bytes.now }
 {

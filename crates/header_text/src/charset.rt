@@ -1,4 +1,4 @@
-//! Charsets and how they read bytes.
+//! Charsets: their labels, and the characters of their bytes.
 ghost use Rattle.std.specs.Prelude.{◌≡◌, ◌<◌, not, ◌==◌};
 ghost use Rattle.header_text.specs.Blanks.{split_while};
 ghost use Rattle.header_text.specs.Charsets.{charset_of, charset_named as charset_named_of, character as character_of};
@@ -9,7 +9,7 @@ use crate::names::is_named;
 /// A charset that a mail can name.
 #[derive(Clone, Copy)]
 pub enum Charset {
-    /// UTF-8, and US-ASCII as its front.
+    /// UTF-8, and US-ASCII, which is part of it.
     Utf8,
     /// ISO 8859-1: each byte is the character of its number.
     Latin1,
@@ -17,11 +17,11 @@ pub enum Charset {
     Latin9,
     /// Windows-1252.
     Windows1252,
-    /// Any other: ASCII is read, each other byte is U+FFFD.
+    /// Any other charset: ASCII bytes are read, and any other byte gives U+FFFD.
     Unknown,
 }
 
-/// Windows-1252 from 80 to 9F, with U+FFFD where it has no character.
+/// Windows-1252 from 80 to 9F, with U+FFFD for a byte without a character.
 const WINDOWS_1252_UPPER: [char; 32] = [
     '\u{20AC}', '\u{FFFD}', '\u{201A}', '\u{192}', '\u{201E}', '\u{2026}', '\u{2020}', '\u{2021}',
     '\u{2C6}', '\u{2030}', '\u{160}', '\u{2039}', '\u{152}', '\u{FFFD}', '\u{17D}', '\u{FFFD}',
@@ -29,7 +29,7 @@ const WINDOWS_1252_UPPER: [char; 32] = [
     '\u{2DC}', '\u{2122}', '\u{161}', '\u{203A}', '\u{153}', '\u{FFFD}', '\u{17E}', '\u{178}',
 ];
 
-/// The charsets of the labels that are known.
+/// The known labels, and the charset of each.
 static LABELS: [(&[u8], Charset); 12] = [
     (b"", Charset::Utf8),
     (b"us-ascii", Charset::Utf8),
@@ -45,7 +45,7 @@ static LABELS: [(&[u8], Charset); 12] = [
     (b"cp1252", Charset::Windows1252),
 ];
 
-/// The charset of a label without a language.
+/// Returns the charset of a label without a language.
 fn charset_named(name: &[u8]) -> Charset
     ensures { result ≡ charset_named_of name.now }
 {
@@ -58,7 +58,8 @@ fn charset_named(name: &[u8]) -> Charset
 }
 
 impl Charset {
-    /// The charset of a label: what stands before its first `*`, in any ASCII case. It takes no memory.
+    /// Returns the charset of a label, by the part before the label's first `*`, in any ASCII case. An empty part means
+    /// UTF-8. It takes no memory.
     pub fn of(label: &[u8]) -> Charset
         ensures { result ≡ charset_of label.now }
     {
@@ -66,7 +67,7 @@ impl Charset {
         charset_named(name)
     }
 
-    /// The character of a byte that stands alone.
+    /// Returns the character of a single byte, or U+FFFD if the byte alone has none.
     pub(crate) fn character(self, b: u8) -> char
         ensures value { result ≡ character_of self b }
         ensures small { result < 65536 }

@@ -1,14 +1,14 @@
-//! Bytes cut in two at a byte.
+//! Cuts bytes in two at a byte.
 ghost use Rattle.std.specs.Prelude.{◌≡◌, option_map};
 ghost use Rattle.header_text.specs.Cuts.{cut_at as cut_at_of};
 
 use memchr::memchr;
 
-/// What stands before the first such byte, and what follows it.
+/// Returns what is before the first such byte, and what is after it, or None if the byte isn't there.
 pub fn cut_at(byte: u8, bytes: &[u8]) -> Option<(&[u8], &[u8])>
     ensures { option_map (λ parts. (parts.0.now, parts.1.now)) result ≡ cut_at_of byte bytes.now }
 {
-    // What begins with it, as one escape behind another, needs no search.
+    // If the bytes begin with it, as when one escape follows another, no search is needed.
     if let [first, behind @ ..] = bytes
         && *first == byte
     {

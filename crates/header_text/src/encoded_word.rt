@@ -1,4 +1,4 @@
-//! Encoded words (RFC 2047).
+//! Finds and decodes encoded words (RFC 2047).
 ghost use Rattle.std.specs.Prelude.{◌≡◌, ◌<◌, ◌≤◌, ◌+◌, ◌*◌, ◌∷◌, ◌++◌, [], Some, None, length, option_map, MatchOption, IfSome, IfOk, OnOk, string_bytes, if◌then◌else◌};
 ghost use Rattle.std.specs.List.{list_all};
 ghost use Rattle.bstr.specs.Text.{Extends};
@@ -14,7 +14,7 @@ use crate::escape::decode_q_into;
 use crate::text::{decode_into, push_lossy};
 use std::alloc::{AllocError, Global};
 
-/// `=?charset?encoding?text?=`
+/// An encoded word: `=?charset?encoding?text?=`.
 #[derive(Clone, Copy)]
 struct EncodedWord<'a> {
     charset: &'a [u8],
@@ -22,7 +22,7 @@ struct EncodedWord<'a> {
     text: &'a [u8],
 }
 
-/// The text between two encoded words, the second of them, and what follows it.
+/// An encoded word that was found, with the text before it and the text after it.
 #[derive(Clone, Copy)]
 struct Found<'a> {
     between: &'a [u8],
@@ -30,14 +30,14 @@ struct Found<'a> {
     later: &'a [u8],
 }
 
-/// Whether a charset may have all these bytes.
+/// Returns whether all these bytes are allowed in the name of a charset.
 fn are_charset_bytes(bytes: &[u8]) -> bool
     ensures { result ≡ list_all is_charset_byte bytes.now }
 {
     bytes.iter().all(|b| b.is_ascii_graphic() && *b != b'?')
 }
 
-/// Whether a text may have all these bytes.
+/// Returns whether all these bytes are allowed in the text of an encoded word.
 fn is_text(bytes: &[u8]) -> bool
     ensures { result ≡ list_all is_text_byte bytes.now }
 {
@@ -46,7 +46,7 @@ fn is_text(bytes: &[u8]) -> bool
         .all(|b| (b.is_ascii_graphic() || *b == b' ') && *b != b'?')
 }
 
-/// The word of three parts, if they make one.
+/// Returns the word of these three parts, if they make one.
 fn word_of<'a>(charset: &'a [u8], encoding: &[u8], text: &'a [u8]) -> Option<EncodedWord<'a>>
     ensures { option_map shown_word result ≡ word_of_parts charset.now encoding.now text.now }
 {
@@ -64,7 +64,7 @@ fn word_of<'a>(charset: &'a [u8], encoding: &[u8], text: &'a [u8]) -> Option<Enc
     None
 }
 
-/// The encoded word that begins with `=` and these bytes, and what follows it.
+/// Returns the encoded word that begins with `=` and these bytes, and what follows it, if there is one.
 #[tactic(auto, unfolding(crate::specs::EncodedWords::word_and_later))]
 fn word_behind(bytes: &[u8]) -> Option<(EncodedWord<'_>, &[u8])>
     ensures { option_map (λ f. (shown_word f.0, f.1.now)) result ≡ word_and_later bytes.now }
@@ -81,7 +81,7 @@ fn word_behind(bytes: &[u8]) -> Option<(EncodedWord<'_>, &[u8])>
     None
 }
 
-/// The leftmost encoded word.
+/// Finds the leftmost encoded word.
 fn find_word(value: &[u8]) -> Option<Found<'_>>
     ensures pieces { MatchOption result (pieces value.now ≡ no_word value.now)
         (λ f. pieces value.now ≡ word_first (shown_found f) f.later.now) }
@@ -102,7 +102,8 @@ fn find_word(value: &[u8]) -> Option<Found<'_>>
     None
 }
 
-/// Adds the text before an encoded word: between two of them nothing, where it is spaces and tabs alone.
+/// Adds the text before an encoded word. If it is between two of them, and spaces and tabs alone, nothing is added. If
+/// memory runs out, a front of the text may have been added.
 fn push_between(bytes: &[u8], follows_word: bool, into: &mut String) -> Result<(), AllocError>
     ensures text { OnOk result (string_bytes into.new
         ≡ string_bytes into.old ++ (if follows_word then text_between bytes.now else plain_text
@@ -120,14 +121,15 @@ fn push_between(bytes: &[u8], follows_word: bool, into: &mut String) -> Result<(
     push_lossy(bytes, into)
 }
 
-/// Whether all bytes are spaces and tabs.
+/// Returns whether all bytes are spaces and tabs.
 fn are_blanks(bytes: &[u8]) -> bool
     ensures { result ≡ list_all is_blank_of bytes.now }
 {
     after_blanks(bytes).is_empty()
 }
 
-/// Adds the text of an encoded word.
+/// Adds the text of an encoded word, whose bytes are gathered in `scratch`. If memory runs out, a front of the text may
+/// have been added.
 fn push_word(
     word: &EncodedWord<'_>,
     scratch: &mut Vec<u8>,
@@ -151,10 +153,14 @@ fn push_word(
     decode_into(Charset::of(word.charset), scratch, into)
 }
 
-/// Adds the text of an unfolded value (RFC 2047): its encoded words are found anywhere in it, the leftmost first, and each
-/// is decoded alone; spaces and tabs alone between two of them are dropped, and any other stretch is read as UTF-8 with
-/// U+FFFD for each maximal faulty part. It has at most three bytes for each of the value's. An encoded word's bytes are
-/// gathered in `scratch`. After an error the buffer holds its old text and a front of what was to be added.
+/// Adds the text of an unfolded value (RFC 2047). Encoded words are found anywhere in it, the leftmost first, and each
+/// is decoded alone. If there are only spaces and tabs between two of them, these are dropped. Any other text is read
+/// as UTF-8, with U+FFFD for each maximal faulty part. At most three bytes are added for each byte of the value. The
+/// bytes of an encoded word are gathered in `scratch`, which is cleared for each.
+///
+/// # Errors
+///
+/// `AllocError` if memory runs out. Then the buffer has its old text and a front of what was to be added.
 pub fn decode_words_into(
     unfolded: &[u8],
     scratch: &mut Vec<u8>,
@@ -179,7 +185,11 @@ pub fn decode_words_into(
     push_lossy(rest, into)
 }
 
-/// The text of an unfolded value (RFC 2047), as `decode_words_into` adds it.
+/// Returns the text of an unfolded value (RFC 2047), as [`decode_words_into`] adds it.
+///
+/// # Errors
+///
+/// `AllocError` if memory runs out.
 pub fn decode_words(alloc: Global, unfolded: &[u8]) -> Result<String, AllocError>
     ensures text { IfOk result (λ text. string_bytes text ≡ decoded unfolded.now) }
     ensures size { IfOk result (λ text. length (string_bytes text) ≤ 3 * length unfolded.now) }

@@ -1,4 +1,4 @@
-//! Escapes of bytes as `=` and two hexadecimal digits.
+//! Decodes bytes that are written as `=` and two hexadecimal digits.
 ghost use Rattle.std.specs.Prelude.{◌≡◌, ◌<◌, ◌≤◌, ◌+◌, ◌++◌, length, IfSome, OnOk, OnErr};
 ghost use Rattle.bstr.specs.Text.{Extends};
 ghost use Rattle.header_text.specs.Escapes.{hex_value, behind_equals as behind_equals_of, unescaped, q_bytes};
@@ -6,7 +6,7 @@ ghost use Rattle.header_text.specs.Escapes.{hex_value, behind_equals as behind_e
 use crate::cut::cut_at;
 use std::alloc::AllocError;
 
-/// The value of a hexadecimal digit, in either case.
+/// Returns the value of a hexadecimal digit, in either case.
 fn hex_digit(b: u8) -> Option<u8>
     ensures value { result ≡ hex_value b }
     ensures small { IfSome result (λ n. n < 16) }
@@ -19,7 +19,8 @@ fn hex_digit(b: u8) -> Option<u8>
     }
 }
 
-/// What `=` and the bytes behind it stand for, and what follows that.
+/// Decodes an `=` before these bytes. If they begin with two hexadecimal digits, returns the byte with this value and
+/// what follows the digits; otherwise returns the `=` and these bytes.
 fn behind_equals(bytes: &[u8]) -> (u8, &[u8])
     ensures { (result.0, result.1.now) ≡ behind_equals_of bytes.now }
 {
@@ -32,7 +33,7 @@ fn behind_equals(bytes: &[u8]) -> (u8, &[u8])
     (b'=', bytes)
 }
 
-/// Adds bytes as they stand, where there are any: in text beyond ASCII mostly one escape follows another.
+/// Adds bytes as they are. Often there are none, because in text beyond ASCII most escapes follow one another.
 fn add_plain(plain: &[u8], into: &mut Vec<u8>) -> Result<(), AllocError>
     ensures bytes { OnOk result (into.new.items ≡ into.old.items ++ plain.now) }
     ensures kept { Extends into.old.items into.new.items }
@@ -43,7 +44,7 @@ fn add_plain(plain: &[u8], into: &mut Vec<u8>) -> Result<(), AllocError>
     into.extend_from_slice(plain)
 }
 
-/// Adds what bytes with escapes stand for. Where memory is wanting, a front of it may stay.
+/// Adds bytes with their escapes decoded. If memory runs out, a front of them may have been added.
 fn add_unescaped(bytes: &[u8], into: &mut Vec<u8>) -> Result<(), AllocError>
     ensures bytes { OnOk result (into.new.items ≡ into.old.items ++ unescaped bytes.now) }
     ensures kept { Extends into.old.items into.new.items }
@@ -58,8 +59,13 @@ fn add_unescaped(bytes: &[u8], into: &mut Vec<u8>) -> Result<(), AllocError>
     into.extend_from_slice(rest)
 }
 
-/// Adds bytes in which `=` and two hexadecimal digits in either case stand for a byte, and any other byte for itself, a
-/// lone `=` too (RFC 2045, 6.7, rule 1). Where memory is wanting, nothing is added.
+/// Adds bytes with their escapes decoded: `=` and two hexadecimal digits, in either case, become the byte with this
+/// value, and any other byte stays as it is, even an `=` that begins no escape (RFC 2045, 6.7, rule 1). At most as many
+/// bytes are added as there are.
+///
+/// # Errors
+///
+/// `AllocError` if memory runs out. Then nothing is added.
 pub fn unescape_into(bytes: &[u8], into: &mut Vec<u8>) -> Result<(), AllocError>
     ensures bytes { OnOk result (into.new.items ≡ into.old.items ++ unescaped bytes.now) }
     ensures size { OnOk result (length into.new.items ≤ length into.old.items + length bytes.now) }
@@ -73,7 +79,8 @@ pub fn unescape_into(bytes: &[u8], into: &mut Vec<u8>) -> Result<(), AllocError>
     outcome
 }
 
-/// Adds the bytes of a text in Q: as `unescape_into`, but that `_` is a space (RFC 2047, 4.2).
+/// Adds the bytes of a text in Q (RFC 2047, 4.2). It is decoded as by `unescape_into`, except that `_` is a space. If
+/// memory runs out, some of the bytes may have been added.
 pub fn decode_q_into(text: &[u8], into: &mut Vec<u8>) -> Result<(), AllocError>
     ensures bytes { OnOk result (into.new.items ≡ into.old.items ++ q_bytes text.now) }
     ensures size { OnOk result (length into.new.items ≤ length into.old.items + length text.now) }

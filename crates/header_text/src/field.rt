@@ -1,4 +1,4 @@
-//! Fields, and the line that begins one.
+//! The fields of a header, and the line that begins one.
 ghost use Rattle.std.specs.Prelude.{◌≡◌, ◌+◌, ◌<◌, ◌≤◌, length, take, drop, IfSome, option_map};
 ghost use Rattle.header_text.specs.Blanks.{split_while};
 ghost use Rattle.header_text.specs.Names.{is_named as is_named_of};
@@ -7,17 +7,17 @@ ghost use Rattle.header_text.specs.Headers.{HeaderField, field_of_line, is_field
 use crate::blanks::after_blanks;
 use crate::names::is_named;
 
-/// A field of a header: its name, and all bytes after its colon, line breaks and continuation lines included.
+/// A field of a header: its name, and all bytes after its colon, with line breaks and continuation lines.
 #[derive(Clone, Copy)]
 pub struct Field<'a> {
-    /// One or more bytes 33 to 126 other than the colon.
+    /// One or more bytes from 33 to 126, but no colon.
     pub name: &'a [u8],
-    /// As it stands in the lines; unfold it before it is read.
+    /// As it is in the lines; it must be unfolded before it is read.
     pub body: &'a [u8],
 }
 
 impl Field<'_> {
-    /// Whether the field has this name, in any ASCII case.
+    /// Returns whether the field has this name, in any ASCII case.
     pub fn is(&self, name: &[u8]) -> bool
         ensures { result ≡ is_named_of self.now.name.now name.now }
     {
@@ -25,7 +25,7 @@ impl Field<'_> {
     }
 }
 
-/// The bytes behind the name in front, which has bytes from 33 to 126, but no colon.
+/// Returns the bytes after the name at the front; a name has bytes from 33 to 126, but no colon.
 fn after_name(line: &[u8]) -> &[u8]
     ensures { result.now ≡ (split_while is_field_name_byte_of line.now).1 }
 {
@@ -39,7 +39,7 @@ fn after_name(line: &[u8]) -> &[u8]
     rest
 }
 
-/// The field that a line begins, without its continuations.
+/// Returns the field that a line begins, without its continuation lines, or None if the line begins no field.
 pub fn field_of_line(line: &[u8]) -> Option<Field<'_>>
     ensures field { option_map (λ f. record { name = f.name.now; body = f.body.now }) result
         ≡ field_of_line line.now }

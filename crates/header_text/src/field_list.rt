@@ -1,4 +1,4 @@
-//! Fields kept one behind another, and the iterator over them.
+//! The list of a header's fields, and the iterator over them.
 ghost use Rattle.std.specs.Prelude.{◌≡◌, ℕ, ◌+◌, ◌<◌, ◌≤◌, List, [], ◌∷◌, ◌++◌, length, slice_range, vec_len, vec_capacity, is_ok, option_map, IfSome, OnOk, OnErr, if◌then◌else◌};
 ghost use Rattle.std.specs.Iterator.{YieldsFirstBy, item_count};
 ghost use Rattle.header_text.specs.Headers.{HeaderField, fields_size, most_in_header};
@@ -8,10 +8,10 @@ use crate::field::Field;
 use std::alloc::{AllocError, Global};
 use std::marker::Model;
 
-/// The bytes of names and bodies that a header usually has at most.
+/// The number of bytes that the names and bodies of a header usually have at most.
 const USUAL_BYTES: usize = 2_048;
 
-/// The fields that a header usually has at most.
+/// The number of fields that a header usually has at most.
 const USUAL_FIELDS: usize = 24;
 
 /// Where a field's name and its body begin. A name ends where its body begins, and a body where the next name does.
@@ -21,7 +21,7 @@ pub struct FieldPlace {
     body: usize,
 }
 
-/// Fields in order, in two buffers, of which each holds at most 262,144 items: what a header keeps.
+/// The fields of a header, in order. They are kept in two buffers, each of at most 262,144 items.
 #[derive(Drop)]
 pub struct FieldList {
     bytes: Vec<u8>,
@@ -41,7 +41,7 @@ impl Model for FieldList {
     ghost invariant = { λ s. AreKept s.bytes.items s.places.items };
 }
 
-/// The fields still to come of a header.
+/// An iterator over the fields of a header.
 #[derive(Drop)]
 pub struct Fields<'a> {
     bytes: &'a [u8],
@@ -62,7 +62,8 @@ impl<'a> Model for Fields<'a> {
     ghost invariant = { λ s. AreInOrder (length s.bytes.now) s.places.now };
 }
 
-/// Takes room for a place, and with the first one for all that a header usually has, so that few buffers grow more than once.
+/// Makes room for one more place. For the first one it takes the memory that a header usually needs, so that few
+/// buffers grow more than once. If memory runs out, the lists are as before.
 fn reserve_place(bytes: &mut Vec<u8>, places: &mut Vec<FieldPlace>) -> Result<(), AllocError>
     ensures bytes { bytes.new.items ≡ bytes.old.items }
     ensures places { places.new.items ≡ places.old.items }
@@ -78,6 +79,7 @@ fn reserve_place(bytes: &mut Vec<u8>, places: &mut Vec<FieldPlace>) -> Result<()
 impl FieldList {
     ghost use Rattle.header_text.specs.OpenFields.{onto_last};
 
+    /// Makes an empty list.
     pub fn new(alloc: Global) -> Self
         ensures { result ≡ [] }
     {
@@ -87,7 +89,7 @@ impl FieldList {
         }
     }
 
-    /// Drops all fields, and keeps the memory.
+    /// Removes all fields, and keeps the memory.
     pub fn clear(&mut self)
         ensures { self.new ≡ [] }
     {
@@ -95,7 +97,7 @@ impl FieldList {
         self.places.clear();
     }
 
-    /// Adds a field.
+    /// Adds a field. If memory runs out, nothing changes.
     pub fn push(&mut self, field: Field<'_>) -> Result<(), AllocError>
         requires name { 0 < length field.name.now }
         requires room { fields_size self.old + (length field.name.now + length field.body.now)
@@ -114,7 +116,7 @@ impl FieldList {
         Ok(())
     }
 
-    /// Adds bytes to the last field's body, where there is a field.
+    /// Adds bytes to the last field's body, if there is a field. If memory runs out, nothing changes.
     pub fn extend_last(&mut self, more: &[u8]) -> Result<(), AllocError>
         requires { fields_size self.old + length more.now ≤ most_in_header }
         ensures ok { OnOk result (self.new ≡ onto_last more.now self.old) }
@@ -126,6 +128,7 @@ impl FieldList {
         self.bytes.extend_from_slice(more)
     }
 
+    /// Returns an iterator over the fields.
     pub fn iter(&self) -> Fields<'_>
         ensures { result ≡ self.now }
     {
@@ -137,7 +140,7 @@ impl FieldList {
 }
 
 impl<'a> Fields<'a> {
-    /// The same fields, to be gone over once more.
+    /// Returns an iterator over the fields that are left, so that they can be read once more.
     pub fn again(&self) -> Fields<'a>
         ensures { result ≡ self.now }
     {
@@ -147,7 +150,7 @@ impl<'a> Fields<'a> {
         }
     }
 
-    /// The body of the first field of a name, in any ASCII case.
+    /// Returns the body of the first field that is left with this name, in any ASCII case.
     pub fn first_body(self, name: &[u8]) -> Option<&'a [u8]>
         ensures body { option_map (λ body. body.now) result ≡ first_body_of name.now self.entry }
         ensures fits { IfSome result (λ body. length body.now ≤ fields_size self.entry) }

@@ -1,4 +1,4 @@
-//! A header, read line by line.
+//! Reads a header line by line.
 ghost use Rattle.std.specs.Prelude.{◌≡◌, ℕ, ◌+◌, ◌≤◌, Bool, true, List, [], ◌∷◌, ◌++◌, length, IfOk, OnOk, OnErr};
 ghost use Rattle.header_text.specs.Headers.{fields_of, fields_size, most_in_header};
 ghost use Rattle.header_text.specs.OpenFields.{is_open_after, fields_with};
@@ -12,28 +12,28 @@ use std::alloc::{AllocError, Global};
 /// The most bytes of lines that a header keeps.
 const MOST_IN_HEADER: usize = 262_144;
 
-/// What became of a line that was pushed.
+/// What a pushed line means for the header.
 #[derive(Clone, Copy)]
 pub enum Taken {
-    /// The header goes on.
+    /// The header hasn't ended yet.
     More,
-    /// This line, or one before it, was empty: the header has ended.
+    /// This line, or one before it, was empty, so the header has ended.
     Ended,
 }
 
-/// Which lines still count.
+/// Whether lines to come still count.
 #[derive(Clone, Copy)]
 enum Stage {
-    /// Those to come, while they fit.
+    /// They count while they fit.
     Open,
-    /// None, since one didn't fit.
+    /// They don't count, because a line didn't fit.
     Full,
-    /// None, since an empty one came.
+    /// They don't count, because an empty line came.
     Ended,
 }
 
-/// The header of a message: the lines before its first empty one, of which those count that together have at most
-/// 262,144 bytes, up to the first that doesn't fit (RFC 5322, 2.1 and 2.2).
+/// The header of a message: the lines before its first empty one (RFC 5322, 2.1 and 2.2). Lines count while they have
+/// at most 262,144 bytes together. From the first line that doesn't fit, no line counts.
 #[derive(Drop)]
 pub struct Header {
     fields: FieldList,
@@ -48,7 +48,7 @@ impl Header {
     ghost use Rattle.header_text.specs.HeldLines.{HasLines, taken_of};
     ghost use Rattle.header_text.specs.Stages.{has_empty};
 
-    /// A header of no lines. It takes no memory.
+    /// Makes a header without lines. It takes no memory.
     #[tactic(auto, using(crate::proofs::HeaderLaws::PushLemmas::holds_new))]
     pub fn new(alloc: Global) -> Self
         ensures { HasLines result [] }
@@ -61,7 +61,7 @@ impl Header {
         }
     }
 
-    /// Drops all lines, and keeps the memory for those of another header.
+    /// Removes all lines, and keeps the memory for the lines of another header.
     #[tactic(auto, using(crate::proofs::HeaderLaws::PushLemmas::holds_new))]
     pub fn clear(&mut self)
         ensures { HasLines self.new [] }
@@ -72,14 +72,19 @@ impl Header {
         self.stage = Stage::Open;
     }
 
-    /// Reads the next line. It answers Ended from the first empty line (LF, or CR LF) on, and then changes nothing.
+    /// Reads the next line. Returns `Ended` for the first empty line (LF or CR LF) and for every later line; later
+    /// lines change nothing.
+    ///
+    /// # Errors
+    ///
+    /// `AllocError` if memory runs out. Then the header is as before. After an empty line no call fails.
     pub fn push_line(&mut self, line: &[u8]) -> Result<Taken, AllocError>
         ensures lines { OnOk result ((ls : List (List ℕ)) → HasLines self.old ls
             → HasLines self.new (ls ++ line.now ∷ [])) }
         ensures taken { IfOk result (λ taken. (ls : List (List ℕ)) → HasLines self.old ls
             → taken ≡ taken_of (ls ++ line.now ∷ [])) }
 
-        // Once it has ended, nothing is refused.
+        // After the header has ended, no line fails.
         ensures ended { (ls : List (List ℕ)) → HasLines self.old ls → has_empty ls ≡ true
             → (result ≡ Ok Taken.Ended) × (self.new ≡ self.old) }
         ensures refused { OnErr result (self.new ≡ self.old) }
@@ -104,18 +109,19 @@ impl Header {
         }
     }
 
-    /// The fields in order, with their continuation lines. It takes no memory.
+    /// Returns the fields in order, with their continuation lines. It takes no memory.
     pub fn fields(&self) -> Fields<'_>
         ensures fields { (ls : List (List ℕ)) → HasLines self.now ls → result ≡ fields_of ls }
 
-        // All names and bodies together.
+        // The bytes of all names and bodies together.
         ensures bounded { fields_size result ≤ most_in_header }
     {
         self.fields.iter()
     }
 }
 
-/// Which lines still count behind a line, and whether this one does: then the answer is Open.
+/// Returns the stage after a line, if the lines that counted before it have `size` bytes. It is `Open` exactly if the
+/// line counts.
 fn stage_behind(stage: Stage, size: usize, line: &[u8]) -> Stage
     requires { size ≤ most_in_header }
     ensures { result ≡ stage_behind_of stage size line.now }
@@ -129,14 +135,15 @@ fn stage_behind(stage: Stage, size: usize, line: &[u8]) -> Stage
     }
 }
 
-/// Adds what a line says to the fields before it, the last of which is open or isn't: answers whether one is open behind it.
+/// Adds a line to the header's fields. Returns whether its last field may be continued; `in_field` says whether it may
+/// before this line. If memory runs out, nothing changes.
 fn add_line(fields: &mut FieldList, in_field: bool, line: &[u8]) -> Result<bool, AllocError>
     requires { fields_size fields.old + length line.now ≤ most_in_header }
     ensures in_field { IfOk result (λ after. after ≡ is_open_after in_field line.now) }
     ensures fields { OnOk result (fields.new ≡ fields_with in_field line.now fields.old) }
     ensures refused { OnErr result (fields.new ≡ fields.old) }
 {
-    // It continues the field before it.
+    // The line continues the field before it, if there is one; otherwise it is skipped.
     if let [b' ' | b'\t', ..] = line {
         if in_field {
             return fields.extend_last(line).and(Ok(true));

@@ -1,4 +1,4 @@
-//! What holds of the definitions that the contracts cite.
+//! Laws of the definitions that contracts use.
 ghost use Rattle.std.specs.Prelude.{◌≡◌, ℕ, List};
 ghost use Rattle.header_text.specs.EncodedWords.{WordAfter, AreLeftmost, pieces};
 
@@ -7,7 +7,7 @@ pub fn encoded_words_are_leftmost()
     ensures { (value : List ℕ) → AreLeftmost value (pieces value).words (pieces value).rest }
 {}
 
-/// No other words are.
+/// No other words are the leftmost ones.
 pub fn encoded_words_are_the_only_leftmost()
     ensures { (value : List ℕ) (ws : List WordAfter) (rest : List ℕ) → AreLeftmost value ws rest
         → pieces value ≡ record { words = ws; rest = rest } }

@@ -1,4 +1,5 @@
-//! The header of a message: its fields (RFC 5322), their encoded words (RFC 2047) and charsets, and the ids in them.
+//! The header of a message: its fields (RFC 5322), their encoded words (RFC 2047) and charsets, and the message ids in
+//! them.
 #![tactic(auto)]
 
 mod base64_groups;

@@ -1,4 +1,4 @@
-//! Message ids.
+//! Finds the message ids of a value.
 ghost use Rattle.std.specs.Prelude.{◌≡◌, ◌<◌, ◌≤◌, ◌∷◌, ◌++◌, length, map, filter, option_map, All, IfOk, OnOk, OnErr, if◌then◌else◌, nat_lt, []};
 ghost use Rattle.header_text.specs.Ids.{ids_of, ids_size, is_id_byte};
 ghost use Rattle.header_text.specs.Inside.Ids.{ids_in, after_last_open as after_last_open_of};
@@ -8,7 +8,7 @@ use crate::cut::cut_at;
 use memchr::memrchr;
 use std::alloc::{AllocError, Global};
 
-/// What stands behind the last `<`.
+/// Returns what is after the last `<`, if there is one.
 fn after_last_open(text: &[u8]) -> Option<&[u8]>
     ensures { option_map (λ t. t.now) result ≡ after_last_open_of text.now }
 {
@@ -16,7 +16,7 @@ fn after_last_open(text: &[u8]) -> Option<&[u8]>
     Some(&text[at + 1..])
 }
 
-/// Adds the id that a text before a `>` ends with, if it does.
+/// Adds the id that is at the end of the text before a `>`, if there is one.
 fn push_id(alloc: Global, ids: &mut Vec<Vec<u8>>, text: &[u8]) -> Result<(), AllocError>
     ensures ids { OnOk result (map (λ id. id.items) ids.new.items
         ≡ map (λ id. id.items) ids.old.items ++ ids_in (text.now ∷ [])) }
@@ -32,7 +32,7 @@ fn push_id(alloc: Global, ids: &mut Vec<Vec<u8>>, text: &[u8]) -> Result<(), All
     Ok(())
 }
 
-/// Adds the ids of a value. Where memory is wanting, some of them may stay.
+/// Adds the ids of a value. If memory runs out, some of them may have been added.
 fn push_each(alloc: Global, value: &[u8], ids: &mut Vec<Vec<u8>>) -> Result<(), AllocError>
     ensures ids { OnOk result (map (λ id. id.items) ids.new.items
         ≡ map (λ id. id.items) ids.old.items ++ ids_of value.now) }
@@ -46,15 +46,20 @@ fn push_each(alloc: Global, value: &[u8], ids: &mut Vec<Vec<u8>>) -> Result<(), 
     Ok(())
 }
 
-/// Adds the ids of a value behind others, in order (RFC 5322, 3.6.4): each text between a `<` and the next `>` with neither
-/// between, without its spaces, tabs, CRs and LFs, if then not empty. Where memory is wanting, none is added.
+/// Adds the ids of a value to the end of a list, in order (RFC 5322, 3.6.4). An id is the text between a `<` and the
+/// next `>`, with neither between them, without its spaces, tabs, CRs and LFs. If nothing is left of it, it is left
+/// out.
+///
+/// # Errors
+///
+/// `AllocError` if memory runs out. Then none is added.
 pub fn push_ids(alloc: Global, value: &[u8], ids: &mut Vec<Vec<u8>>) -> Result<(), AllocError>
     ensures ids { OnOk result (map (λ id. id.items) ids.new.items
         ≡ map (λ id. id.items) ids.old.items ++ ids_of value.now) }
     ensures sizes { OnOk result (All (λ id. (0 < length id) × (length id ≤ length value.now))
         (ids_of value.now)) }
 
-    // All together, with the `<` and the `>` round each.
+    // The bytes of all ids together, with the `<` and the `>` around each.
     ensures size { OnOk result (ids_size (ids_of value.now) ≤ length value.now) }
     ensures refused { OnErr result (ids.new.items ≡ ids.old.items) }
 {
@@ -66,13 +71,17 @@ pub fn push_ids(alloc: Global, value: &[u8], ids: &mut Vec<Vec<u8>>) -> Result<(
     outcome
 }
 
-/// The ids of a value, as `push_ids` adds them. Together they have at most as many bytes as the value.
+/// Returns the ids of a value, as [`push_ids`] adds them. Together they have at most as many bytes as the value.
+///
+/// # Errors
+///
+/// `AllocError` if memory runs out.
 pub fn message_ids(alloc: Global, value: &[u8]) -> Result<Vec<Vec<u8>>, AllocError>
     ensures ids { IfOk result (λ ids. map (λ id. id.items) ids.items ≡ ids_of value.now) }
     ensures sizes { IfOk result (λ ids. All (λ id. (0 < length id.items)
         × (length id.items ≤ length value.now)) ids.items) }
 
-    // All together, with the `<` and the `>` round each.
+    // The bytes of all ids together, with the `<` and the `>` around each.
     ensures size { IfOk result (λ ids. ids_size (map (λ id. id.items) ids.items)
         ≤ length value.now) }
 {

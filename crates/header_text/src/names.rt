@@ -2,7 +2,7 @@
 ghost use Rattle.std.specs.Prelude.{◌≡◌};
 ghost use Rattle.header_text.specs.Names.{is_named as is_named_of};
 
-/// Whether a name is this one, in any ASCII case.
+/// Returns whether a name is the wanted one, in any ASCII case.
 pub fn is_named(name: &[u8], wanted: &[u8]) -> bool
     ensures { result ≡ is_named_of name.now wanted.now }
 {

@@ -1,4 +1,4 @@
-//! Unfolding.
+//! Unfolds the bodies of fields to one line.
 ghost use Rattle.std.specs.Prelude.{◌≡◌, ◌++◌, ◌+◌, ◌≤◌, length, take, drop, nat_lt, IfOk, OnOk, OnErr, is_ok, vec_len, if◌then◌else◌};
 ghost use Rattle.bstr.specs.Text.{Extends};
 ghost use Rattle.header_text.specs.Blanks.{after_blanks as after_blanks_of, before_blanks as before_blanks_of};
@@ -9,7 +9,8 @@ use crate::blanks::{after_blanks, before_blanks};
 use crate::cut::cut_at;
 use std::alloc::{AllocError, Global};
 
-/// Adds a part, of the first parts only what follows their spaces and tabs: these begin at a place.
+/// Adds a part of a body. Until a byte of the body was added at `start`, the spaces and tabs at the front of each part
+/// are left out.
 fn add_part(into: &mut Vec<u8>, start: usize, part: &[u8]) -> Result<(), AllocError>
     ensures part { OnOk result (into.new.items ≡ into.old.items ++ led
         (nat_lt start (length into.old.items)) part.now) }
@@ -23,8 +24,8 @@ fn add_part(into: &mut Vec<u8>, start: usize, part: &[u8]) -> Result<(), AllocEr
     into.extend_from_slice(part)
 }
 
-/// Adds a body without line breaks, and without spaces and tabs in front. It begins at a place, which is the buffer's end. Where
-/// memory is wanting, a front of it may stay.
+/// Adds a body without line breaks, and without spaces and tabs at the front. It begins at `start`, which is the end of
+/// the buffer. If memory runs out, a front of it may have been added.
 fn add_lines(body: &[u8], start: usize, into: &mut Vec<u8>) -> Result<(), AllocError>
     requires { start ≡ length into.old.items }
     ensures text { OnOk result (into.new.items
@@ -39,8 +40,12 @@ fn add_lines(body: &[u8], start: usize, into: &mut Vec<u8>) -> Result<(), AllocE
     add_part(into, start, rest)
 }
 
-/// Adds a field's body in one line: without line breaks, and without spaces and tabs at both ends (RFC 5322, 2.2.3). It has
-/// at most as many bytes as the body. Where memory is wanting, nothing is added.
+/// Adds a field's body in one line, without line breaks, and without spaces and tabs at both ends (RFC 5322, 2.2.3). At
+/// most as many bytes are added as the body has.
+///
+/// # Errors
+///
+/// `AllocError` if memory runs out. Then nothing is added.
 pub fn unfold_into(body: &[u8], into: &mut Vec<u8>) -> Result<(), AllocError>
     ensures text { OnOk result (into.new.items ≡ into.old.items ++ unfolded body.now) }
     ensures size { OnOk result (length into.new.items ≤ length into.old.items + length body.now) }
@@ -56,7 +61,11 @@ pub fn unfold_into(body: &[u8], into: &mut Vec<u8>) -> Result<(), AllocError>
     Ok(())
 }
 
-/// A field's body in one line: without line breaks, and without spaces and tabs at both ends (RFC 5322, 2.2.3).
+/// Returns a field's body in one line, as [`unfold_into`] adds it.
+///
+/// # Errors
+///
+/// `AllocError` if memory runs out.
 pub fn unfold(alloc: Global, body: &[u8]) -> Result<Vec<u8>, AllocError>
     ensures text { IfOk result (λ value. value.items ≡ unfolded body.now) }
     ensures size { IfOk result (λ value. length value.items ≤ length body.now) }

@@ -1,9 +1,9 @@
--- The fields of lines, and one line more.
+-- The fields of lines with one more line.
 use Rattle.header_text.proofs.Words.{get_or, take, drop, take_rest, eq-eqb, ◌-◌, ◌≡◌, ◌∙◌, ◌+◌, ◌≤◌, ◌<◌, ◌++◌, ℕ, Bool, true, false, List, [], ◌∷◌, Option, Some, None, length, refl, sym, ap, arith, length-append, append_assoc, append-nil, is_some, HeaderField, is_continuation, field_of_line, with_continuations, continued_and_fields, fields_in, fields_size, named, is_field_name_byte, split_while, after_blanks, onto_last, is_open_after, is_open_behind, fields_with}
 use Rattle.std.specs.Option.{option_to_list}
 use Rattle.header_text.proofs.Fronts.{split_while-joined}
 
--- what comes of one line more in front
+-- the field with one more line at the end of its body
 abbrev grown : Option HeaderField → List ℕ → Option HeaderField
 grown None l = None
 grown (Some f) l = Some (record { name = f.name; body = f.body ++ l })
@@ -11,7 +11,7 @@ grown (Some f) l = Some (record { name = f.name; body = f.body ++ l })
 abbrev whole : Option HeaderField → List (List ℕ) → List HeaderField
 whole o ls = let rest = continued_and_fields ls in with_continuations o rest.0 rest.1
 
--- a continuation in front of what follows a field
+-- continuation bytes before what follows a field
 with_continuations-grown : (o : Option HeaderField) (l more : List ℕ) (later : List HeaderField) → with_continuations o (l ++ more) later ≡ with_continuations (grown o l) more later
 with_continuations-grown o l more later = grind (arith, append_assoc)
 
@@ -27,7 +27,7 @@ with_continuations-append o more later end = grind arith
 is_some-grown : (o : Option HeaderField) (l : List ℕ) → is_some (grown o l) ≡ is_some o
 is_some-grown o l = grind arith
 
--- a last line that is no continuation
+-- a last line that isn't a continuation
 whole-push_no : (o : Option HeaderField) (ls : List (List ℕ)) (l : List ℕ) → is_continuation l ≡ false → whole o (ls ++ l ∷ []) ≡ whole o ls ++ whole (field_of_line l) []
 whole-push_no o [] l e = rw (e, continued_and_fields) (with_continuations-append o [] [] (whole (field_of_line l) []))
 whole-push_no o (k ∷ ks) l e = go (λ p. whole-push_no p ks l e) (is_continuation k) refl
@@ -38,7 +38,7 @@ whole-push_no o (k ∷ ks) l e = go (λ p. whole-push_no p ks l e) (is_continuat
         whole-cons_yes o k (ks ++ l ∷ []) f ∙ later (grown o k) ∙ ap (λ (fs : List HeaderField). fs ++ whole (field_of_line l) []) (sym (whole-cons_yes o k ks f))
     go later false f = grind arith
 
--- a last line that is a continuation goes to the last field where one is open, and else is skipped
+-- a last line that is a continuation: it goes to the last field if that may be continued, and otherwise it is skipped
 record Continued (o : Option HeaderField) (ls : List (List ℕ)) (l : List ℕ) (opened : Bool) : Type 0 where
   goes : opened ≡ true → (whole o (ls ++ l ∷ []) ≡ onto_last l (whole o ls)) × (0 < length (whole o ls))
   skips : opened ≡ false → whole o (ls ++ l ∷ []) ≡ whole o ls
@@ -78,7 +78,7 @@ continued o (k ∷ ks) l e = go (λ p. continued p ks l e) (is_continuation k) r
           skips = λ is. next ∙ ap (λ (fs : List HeaderField). with_continuations o [] fs) (later.skips is) ∙ sym now;
         })
 
--- one line more
+-- one more line
 pub fields_in-push : (ls : List (List ℕ)) (l : List ℕ) → fields_in (ls ++ l ∷ []) ≡ fields_with (is_open_behind false ls) l (fields_in ls)
 fields_in-push ls l = go (is_continuation l) refl (is_open_behind false ls) refl
   where

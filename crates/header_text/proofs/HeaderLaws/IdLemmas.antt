@@ -1,11 +1,11 @@
--- Ids one after another.
+-- Reading text after text, each up to a `>`, gives the ids of a value.
 use Rattle.header_text.proofs.Words.{◌≡◌, ◌∙◌, ◌+◌, ◌<◌, ◌≤◌, ◌++◌, ◌==◌, ℕ, zero, suc, Bool, true, false, nat_lt, List, [], ◌∷◌, Option, Some, None, length, drop, get_or, slice_index, map, refl, sym, ap, subst, arith, filter, IfSome, Vec, filter_map, length-map, get_or-map, ltb-true, is_id_byte, ids_of, ids_size, onto_first, closed_texts, after_last_open, ids_in}
 use Rattle.std.specs.Global.{Global}
 use Rattle.std.specs.Prelude.{All}
 use Rattle.header_text.proofs.HeaderLaws.IdRanges.{ids_of-closed}
 use Rattle.header_text.proofs.CutLemmas.{Lacks}
 
--- ---- behind the last `<`
+-- ---- after the last `<`
 
 abbrev judged : ℕ → List ℕ → Option (List ℕ) → Option (List ℕ)
 judged b bs o = elim o [ Some id ↦ Some id | None ↦ elim (b == 0x3C) [ true ↦ Some bs | false ↦ None ] ]
@@ -33,12 +33,12 @@ closed_texts-free (b ∷ text) free = rw (free.0, closed_texts) (ap (onto_first 
 
 -- ---- sizes
 
--- each has a byte, and at most so many
+-- each has at least one byte, and at most this many
 abbrev AreSized : ℕ → List (List ℕ) → Type 0
 AreSized n [] = Unit {0}
 AreSized n (id ∷ ids) = (0 < length id) × (length id ≤ n) × AreSized n ids
 
--- each has at most so many
+-- each has at most this many bytes
 abbrev AreShort : ℕ → List (List ℕ) → Type 0
 AreShort n [] = Unit {0}
 AreShort n (t ∷ ts) = (length t ≤ n) × AreShort n ts
@@ -77,7 +77,7 @@ ids_in-sized n (t ∷ ts) h = go (after_last_open t) refl (after_last_open-short
             rw f (ltb-true 0 (length (filter is_id_byte u)) f, omega (arith, filter-short is_id_byte u, h.0), later)
         last false f = rw f later
 
--- how many bytes texts have that end at a `>`, with it
+-- the number of bytes of texts that end at a `>`, with the `>`
 abbrev closed_size : List (List ℕ) → ℕ
 closed_size [] = 0
 closed_size (t ∷ ts) = length t + 1 + closed_size ts
@@ -103,7 +103,7 @@ All-sized n (id ∷ ids) h (suc k) d lt = All-sized n ids h.2 k d (omega arith)
 pub ids_of-sized : (value : List ℕ) (k : ℕ) (d : List ℕ) → k < length (ids_of value) → (0 < length (get_or (ids_of value) k d)) × (length (get_or (ids_of value) k d) ≤ length value)
 ids_of-sized value = All-sized (length value) (ids_of value) (rw (ids_of-closed value) (ids_in-sized (length value) (closed_texts value) (closed_texts-short value)))
 
--- what holds of each text holds of each vector that keeps one
+-- what is true of each text is true of each vector that has one of these texts
 pub each-kept : (P : List ℕ → Type 0) (ids : List (Vec ℕ Global)) (texts : List (List ℕ)) → map (λ (id : Vec ℕ Global). id.items) ids ≡ texts → All P texts → All (λ (id : Vec ℕ Global). P id.items) ids
 each-kept P ids texts e all k d lt =
     let below : k < length texts = omega (arith, ap length e, length-map ids (λ (id : Vec ℕ Global). id.items)) in

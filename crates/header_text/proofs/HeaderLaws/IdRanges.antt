@@ -1,4 +1,4 @@
--- Ids by place are those of the texts up to each `>`.
+-- The ids found by their ranges are those of the texts up to each `>`.
 use Rattle.header_text.proofs.Words.{◌≡◌, ◌∙◌, ◌++◌, ◌&&◌, ◌==◌, ℕ, Bool, true, false, cond, List, [], ◌∷◌, Option, Some, None, refl, sym, ap, ap₂, append_assoc, append-nil, inl, inr, ◌⊎◌, nat_lt, arith, list_all, map-append, filter-append, filter_map-append, eqb-true, open_sign, close_sign, begins_with, is_inside_id, is_id, kept_ids, ids_of, closed_texts, after_last_open, ids_in}
 use Rattle.std.proofs.lemmas.List.Folds.{list_all-append}
 use Rattle.contract_words.proofs.RangePlaces.{seen_on, seen_from, if_passes, seen_behind-places}
@@ -29,7 +29,7 @@ refused before inside behind e = ap (λ (t : Bool). cond t (inside ∷ []) []) e
 taken : (before inside behind : List ℕ) → is_id before inside behind ≡ true → one before inside behind ≡ inside ∷ []
 taken before inside behind e = ap (λ (t : Bool). cond t (inside ∷ []) []) e
 
--- a byte more inside
+-- one more byte inside
 inside_more : (inside : List ℕ) (b : ℕ) → list_all is_inside_id inside ≡ true → is_inside_id b ≡ true → list_all is_inside_id (inside ++ b ∷ []) ≡ true
 inside_more inside b e f = list_all-append is_inside_id inside (b ∷ []) ∙ rw (e, f) refl
 
@@ -45,7 +45,7 @@ broken_by inside b e = list_all-append is_inside_id inside (b ∷ []) ∙ rw e (
 is_inside : (b : ℕ) → (b == open_sign) ≡ false → (b == close_sign) ≡ false → is_inside_id b ≡ true
 is_inside b e f = rw (e, f) refl
 
--- no `<` stands before them
+-- no `<` is directly before them
 on-unopened : (before inside rest : List ℕ) → begins_with open_sign before ≡ false → ids_on before inside rest ≡ []
 on-unopened before inside [] e = refl
 on-unopened before inside (c ∷ cs) e = grind (arith, refused, before, not_first, on-unopened before (inside ++ c ∷ []) cs e)
@@ -78,7 +78,7 @@ on-end : (before inside x : List ℕ) → Lacks close_sign x → ids_on before i
 on-end before inside [] free = refl
 on-end before inside (b ∷ x) free = grind (arith, append-nil, not_closed, refused_open, before, on-end before (inside ++ b ∷ []) x free.1)
 
--- a text, unless these bytes are none
+-- a text, or nothing if these bytes are none
 abbrev unless_none : List ℕ → List ℕ → List (List ℕ)
 unless_none [] text = []
 unless_none (b ∷ bs) text = text ∷ []
@@ -92,7 +92,7 @@ on-found before inside (b ∷ c ∷ u) rest e f unopened unclosed =
     ap₂ ◌++◌ (refused_open before (inside ++ b ∷ []) (c ∷ (u ++ close_sign ∷ rest)) unclosed.1.0) (on-found before (inside ++ b ∷ []) (c ∷ u) rest e more unopened.1 unclosed.1)
     ∙ ap (λ (l : List ℕ). l ∷ []) (append_assoc inside (b ∷ []) (c ∷ u))
 
--- ---- whether a `<` stands before is all that counts of what stands before
+-- ---- of the bytes before, it matters only whether a `<` comes last
 
 on-same : (x y inside rest : List ℕ) → begins_with open_sign x ≡ begins_with open_sign y → ids_on x inside rest ≡ ids_on y inside rest
 on-same x y inside [] e = refl
@@ -127,7 +127,7 @@ kept-append xs ys = grind (arith, nat_lt, map-append, filter-append)
 pub ids_in-cons : (text : List ℕ) (texts : List (List ℕ)) → ids_in (text ∷ texts) ≡ ids_in (text ∷ []) ++ ids_in texts
 ids_in-cons text texts = grind (arith, filter_map-append, kept-append)
 
--- a `<` stands in the text, none after it
+-- a `<` is in the text, and none after it
 record LastOpen (text : List ℕ) : Type 0 where
   before : List ℕ
   behind : List ℕ
@@ -172,7 +172,7 @@ from-text text rest free = grind (arith, last_open, from-unopened, append_assoc,
 
 -- ---- all texts
 
--- a front of the first text
+-- the texts with a front before the first
 abbrev onto_text : List ℕ → List (List ℕ) → List (List ℕ)
 onto_text front [] = []
 onto_text front (text ∷ texts) = (front ++ text) ∷ texts

@@ -1,4 +1,4 @@
--- Fields at places, as bytes and places are added.
+-- The fields at places stay the fields of a list as bytes and places are added.
 use Rattle.header_text.proofs.Words.{◌≡◌, ◌∙◌, ◌+◌, ◌-◌, ◌<◌, ◌≤◌, ◌++◌, ℕ, List, [], ◌∷◌, length, take, drop, refl, sym, ap, ap₂, arith, length-append, append_assoc, slice_range, take-append-le, drop-append-le, take_all, take_at, drop_at, length-take-le, FieldPlace, HeaderField, fields_size, most_in_header, onto_last}
 use Rattle.std.proofs.lemmas.List.{length-drop}
 use Rattle.header_text.specs.Inside.Places.{next_start, AreInOrder, AreKept, fields_at}
@@ -6,7 +6,7 @@ use Rattle.header_text.specs.Inside.Places.{next_start, AreInOrder, AreKept, fie
 length-slice_range : (xs : List ℕ) (i j : ℕ) → i ≤ j → j ≤ length xs → length (slice_range xs i j) ≡ j - i
 length-slice_range xs i j low high = let left : length (drop i xs) ≡ length xs - i = length-drop i xs in length-take-le (j - i) (drop i xs) (omega arith)
 
--- a range within the front
+-- a range inside the front
 pub slice_range-append : (xs ys : List ℕ) (i j : ℕ) → i ≤ j → j ≤ length xs → slice_range (xs ++ ys) i j ≡ slice_range xs i j
 slice_range-append xs ys i j low high = grind (arith, length-drop, drop-append-le, take-append-le)
 
@@ -18,7 +18,7 @@ pub next_start-le : (end : ℕ) (ps : List FieldPlace) → AreInOrder end ps →
 next_start-le end [] h = omega arith
 next_start-le end (p ∷ ps) h = let later = next_start-le end ps h.2 in omega (arith, h.0, h.1, later)
 
--- a field more
+-- places with one more field
 AreInOrder-push : (end : ℕ) (ps : List FieldPlace) (p : FieldPlace) (more : ℕ) → AreInOrder end ps → p.name ≡ end → p.name < p.body → p.body ≤ more → AreInOrder more (ps ++ p ∷ [])
 AreInOrder-push end [] p more h e low high = (low, high, tt)
 AreInOrder-push end (q ∷ []) p more h e low high = (h.0, omega (arith, h.1), (low, high, tt))
@@ -27,7 +27,7 @@ AreInOrder-push end (q ∷ r ∷ ps) p more h e low high = (h.0, h.1, AreInOrder
 next_start-push : (end : ℕ) (ps : List FieldPlace) (p : FieldPlace) (more : ℕ) → p.name ≡ end → next_start (ps ++ p ∷ []) more ≡ next_start ps end
 next_start-push end ps p more h = grind arith
 
--- more bytes behind the last field
+-- places with more bytes after the last field
 AreInOrder-more : (end more : ℕ) (ps : List FieldPlace) → AreInOrder end ps → end ≤ more → AreInOrder more ps
 AreInOrder-more end more [] h le = tt
 AreInOrder-more end more (q ∷ []) h le = (h.0, omega (arith, h.1), tt)
@@ -38,14 +38,14 @@ length-places : (end : ℕ) (ps : List FieldPlace) → AreInOrder end ps → len
 length-places end [] h = omega arith
 length-places end (p ∷ ps) h = omega (arith, h.0, h.1, length-places end ps h.2)
 
--- so few bytes have few places
+-- the number of places is limited by the number of bytes
 kept : (bytes : List ℕ) (ps : List FieldPlace) → AreInOrder (length bytes) ps → next_start ps (length bytes) ≡ 0 → length bytes ≤ most_in_header → AreKept bytes ps
 kept bytes ps order first few = record { order = order; first = first; few_bytes = few; few_places = omega (arith, length-places (length bytes) ps order) }
 
 abbrev one : List ℕ → List ℕ → HeaderField
 one name body = record { name = name; body = body }
 
--- the field whose bytes are the last
+-- the field that has the last bytes
 last_field : (bytes name body : List ℕ) (at : ℕ) (from : ℕ) → at ≡ length bytes → from ≡ length bytes + length name
     → one (slice_range (bytes ++ (name ++ body)) at from) (slice_range (bytes ++ (name ++ body)) from (length (bytes ++ (name ++ body)))) ≡ one name body
 last_field bytes name body at from e f =
@@ -69,7 +69,7 @@ fields_at-append bytes more [] h = refl
 fields_at-append bytes more (q ∷ []) h = grind (arith, slice_range-append, slice_range-append_end)
 fields_at-append bytes more (q ∷ r ∷ ps) h = grind (arith, next_start-le, slice_range-append, fields_at-append bytes more (r ∷ ps) h.2)
 
--- names and bodies are the bytes from the first name on
+-- names and bodies fill the bytes from the first name on
 fields_size-at : (bytes : List ℕ) (ps : List FieldPlace) → AreInOrder (length bytes) ps → fields_size (fields_at bytes ps) + next_start ps (length bytes) ≡ length bytes
 fields_size-at bytes [] h = omega arith
 fields_size-at bytes (p ∷ ps) h = grind (arith, next_start-le, length-slice_range, fields_size-at bytes ps h.2)
@@ -78,7 +78,7 @@ fields_size-at bytes (p ∷ ps) h = grind (arith, next_start-le, length-slice_ra
 pub fields_size-kept : (bytes : List ℕ) (ps : List FieldPlace) → AreKept bytes ps → fields_size (fields_at bytes ps) ≡ length bytes
 fields_size-kept bytes ps k = let size = fields_size-at bytes ps k.order in omega (arith, k.first)
 
--- a field that was added, by what the two buffers hold
+-- a field was added, given what the two buffers hold
 pub record HoldsPushed (bytes name body : List ℕ) (ps : List FieldPlace) (new : List ℕ) (qs : List FieldPlace) : Type 0 where
   pub kept : AreKept new qs
   pub fields : fields_at new qs ≡ fields_at bytes ps ++ record { name = name; body = body } ∷ []
@@ -95,7 +95,7 @@ pushed bytes new name body ps qs start from k e f low high some room =
       fields = rw (e, f) (fields_at-push bytes name body ps p k.order low (omega arith));
     }
 
--- more bytes for the last field, by what the buffers hold
+-- more bytes for the last field, given what the buffers hold
 pub AreKept-more : (bytes more new : List ℕ) (ps : List FieldPlace) → AreKept bytes ps → new ≡ bytes ++ more → 0 < length ps → fields_size (fields_at bytes ps) + length more ≤ most_in_header → AreKept new ps
 AreKept-more bytes more new [] k e some room = absurd (omega arith)
 AreKept-more bytes more new (p ∷ ps) k e some room =

@@ -1,4 +1,4 @@
--- What a Header holds, behind one line more.
+-- The state of a Header after one more line, for each stage before the line.
 use Rattle.header_text.proofs.Words.{◌≡◌, ◌∙◌, ◌+◌, ◌-◌, ◌≤◌, ◌<◌, ◌++◌, ◌||◌, ◌⊎◌, inl, inr, ℕ, Bool, true, false, nat_le, nat_lt, List, [], ◌∷◌, length, refl, sym, ap, ap₂, arith, length-append, cases_lt, nat_tests, is_empty, HeaderField, most_in_header, lines_before_empty, lines_within, header, fields_in, fields_of, is_open_after, is_open_behind, fields_with, has_empty, lines_size, stage_of, stage_behind, Open, Full, Ended}
 use Rattle.header_text.specs.HeldLines.{Holds, taken_of}
 use Rattle.header_text.specs.declared.header.Stage.{Stage}
@@ -33,7 +33,7 @@ within-all : (room : ℕ) (ls : List (List ℕ)) → lines_size ls ≤ room → 
 within-all room [] h = refl
 within-all room (l ∷ ls) h = grind (arith, nat_le, within-all (room - length l) ls (omega arith))
 
--- once a line didn't fit, no later one counts
+-- after a line that didn't fit, no line counts
 record Stops (room : ℕ) (ls more : List (List ℕ)) : Type 0 where
   same : lines_within room (ls ++ more) ≡ lines_within room ls
   fewer : length (lines_within room ls) < length ls
@@ -65,7 +65,7 @@ stage_of-open : (ls : List (List ℕ)) → has_empty ls ≡ false → header ls 
 unfolding stage_of
 stage_of-open ls h same = grind (arith, same, nat_lt)
 
--- what a line does to the stage, and whether it counts
+-- the stage after a line, and whether the line counts
 pub record Steps (ls : List (List ℕ)) (l : List ℕ) (stage : Stage) (size : ℕ) : Type 0 where
   pub next : stage_behind stage size l ≡ stage_of (ls ++ l ∷ [])
   pub counts : stage_of (ls ++ l ∷ []) ≡ Open → header (ls ++ l ∷ []) ≡ header ls ++ l ∷ []
@@ -105,7 +105,7 @@ steps-end ls l stage size h e =
     ends : (s : Stage) → stage_of (ls ++ l ∷ []) ≡ Ended → stage_behind s size l ≡ stage_of (ls ++ l ∷ [])
     ends s h = grind arith
 
--- the header is full before the line
+-- a line didn't fit before this line
 steps-full : (ls : List (List ℕ)) (l : List ℕ) (stage : Stage) (size : ℕ) → has_empty ls ≡ false → is_empty l ≡ false → stage ≡ stage_of ls → most_in_header < lines_size ls → Steps ls l stage size
 steps-full ls l stage size h e s over =
     let none : has_empty (ls ++ l ∷ []) ≡ false = rw (has_empty-push ls l, h, e) refl in
@@ -122,7 +122,7 @@ steps-full ls l stage size h e s over =
       stays = λ _. same;
     }
 
--- all lines count before the line
+-- all lines before this one count
 steps-open : (ls : List (List ℕ)) (l : List ℕ) (stage : Stage) (size : ℕ) → has_empty ls ≡ false → is_empty l ≡ false → stage ≡ stage_of ls → size ≡ lines_size (header ls) → lines_size ls ≤ most_in_header → Steps ls l stage size
 steps-open ls l stage size h e s n fits = go (cases_lt (most_in_header - lines_size ls) (length l))
   where
@@ -179,7 +179,7 @@ taken-ended ls h = rw h refl
 taken-more : (ls : List (List ℕ)) → (stage_of ls ≡ Ended → ⊥) → More ≡ taken_of ls
 taken-more ls goes_on = grind (arith, stage_of-ended ls)
 
--- ---- one line more
+-- ---- one more line
 
 pub holds_new : (fs : List HeaderField) → fs ≡ [] → Holds fs 0 false Open []
 unfolding fields_of stage_of
@@ -203,7 +203,7 @@ module _ (fs : List HeaderField) (size : ℕ) (in_field : Bool) (stage : Stage) 
         stage_is = stepped.was_open still ∙ sym still;
       }
 
-  -- a line that doesn't
+  -- a line that doesn't count
   pub holds-skipped : (next : Stage) → stage_behind stage size l ≡ next → (next ≡ Open → ⊥) → Holds fs size in_field next (ls ++ l ∷ [])
   unfolding fields_of
   holds-skipped next e closed =
@@ -216,7 +216,7 @@ module _ (fs : List HeaderField) (size : ℕ) (in_field : Bool) (stage : Stage) 
         stage_is = is;
       }
 
-  -- a line behind the end
+  -- a line after the end
   pub holds-ended : stage ≡ Ended → Holds fs size in_field stage (ls ++ l ∷ [])
   holds-ended e = let next : stage_behind stage size l ≡ stage = rw e refl in holds-skipped stage next (λ o. absurd (cc))
 
@@ -226,7 +226,7 @@ module _ (fs : List HeaderField) (size : ℕ) (in_field : Bool) (stage : Stage) 
   pub never_ended : has_empty ls ≡ true → (stage ≡ Ended → ⊥) → ⊥
   never_ended some goes_on = goes_on (h.stage_is ∙ stage_of-ended ls some)
 
-  -- what the line is answered
+  -- what the line means for the header
   pub taken-next_ended : stage_behind stage size l ≡ Ended → HeaderEnded ≡ taken_of (ls ++ l ∷ [])
   taken-next_ended e = taken-ended (ls ++ l ∷ []) (stage_of-ended_only (ls ++ l ∷ []) (sym stepped.next ∙ e))
 

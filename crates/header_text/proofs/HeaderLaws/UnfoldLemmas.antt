@@ -1,4 +1,4 @@
--- Unfolding part by part.
+-- Unfolding part by part gives the unfolded body.
 use Rattle.header_text.proofs.Words.{suc, Some, ◌≡◌, ◌+◌, ◌-◌, Bor, Option, MatchOption, unwrap_or, bytes_eq, ◌∙◌, ◌++◌, ◌&&◌, ℕ, Bool, true, false, nat_lt, List, [], ◌∷◌, None, length, take, drop, refl, sym, ap, ap₂, arith, length-append, append_assoc, append-nil, nat_tests, lt-ltb, take_at, drop_at, after_blanks, before_blanks, without_breaks, unfolded, without_final_cr, led, cut_at}
 use Rattle.header_text.proofs.CutLemmas.{Lacks, IsCut, Lacks-from}
 
@@ -21,7 +21,7 @@ no_cr-stays (b ∷ c ∷ bs) h =
     let e : length (b ∷ c ∷ bs) - 1 ≡ suc (length (c ∷ bs) - 1) = omega arith in
     ap (λ (l : List ℕ). b ∷ l) (no_cr-stays (c ∷ bs) (rw e at h))
 
--- what `strip_suffix` answers
+-- the result of `strip_suffix`
 pub without_final_cr-stripped : (bs : Bor (List ℕ)) (r : Option (Bor (List ℕ)))
     → MatchOption r (ends_in_cr bs.now ≡ false) (λ x. (ends_in_cr bs.now ≡ true) × (x.now ≡ take (length bs.now - 1) bs.now) × (length x.now + 1 ≡ length bs.now))
     → (unwrap_or r bs).now ≡ without_final_cr bs.now
@@ -33,7 +33,7 @@ without_final_cr-stripped bs (Some x) h = h.1 ∙ sym (cr-goes bs.now h.0)
 and_false : (b : Bool) → (b && false) ≡ false
 and_false b = grind arith
 
--- a byte that is dropped, or isn't, before others
+-- a byte before others, which is dropped or kept
 chosen : ℕ → List ℕ → Bool → List ℕ
 chosen b bs t = elim t [ true ↦ without_breaks bs | false ↦ b ∷ without_breaks bs ]
 
@@ -47,14 +47,14 @@ breaks-cut [] later free = breaks-feed later
 breaks-cut (b ∷ []) later free = grind arith
 breaks-cut (b ∷ c ∷ line) later free = grind (arith, and_false, chosen, breaks-cut (c ∷ line) later free.1)
 
--- nothing is a break
+-- a line without LF has no break
 breaks-free : (line : List ℕ) → Lacks 0x0A line → without_breaks line ≡ line
 unfolding chosen
 breaks-free [] free = refl
 breaks-free (b ∷ []) free = rw (free.0, without_breaks) refl
 breaks-free (b ∷ c ∷ line) free = grind (arith, and_false, chosen, breaks-free (c ∷ line) free.1)
 
--- ---- blanks in front
+-- ---- blanks at the front
 
 abbrev pub is_some_bytes : List ℕ → Bool
 is_some_bytes [] = false
@@ -64,7 +64,7 @@ after_blanks-append : (p w : List ℕ) → after_blanks p ++ led (is_some_bytes 
 after_blanks-append [] w = refl
 after_blanks-append (b ∷ p) w = grind (arith, after_blanks-append p w)
 
--- one part more
+-- one more part
 led-append : (done p w : List ℕ) → (done ++ led (is_some_bytes done) p) ++ led (is_some_bytes (done ++ led (is_some_bytes done) p)) w ≡ done ++ led (is_some_bytes done) (p ++ w)
 led-append done p w = grind (arith, after_blanks-append, append_assoc)
 
@@ -73,7 +73,7 @@ is_some-test old done = grind (arith, nat_tests, append-nil, length-append, lt-l
 
 -- ---- the whole
 
--- so much is written, and the rest gives what is left
+-- this much is written, and the rest gives what is missing
 pub record Unfolds (old body items rest : List ℕ) : Type 0 where
   pub done : List ℕ
   pub items_are : items ≡ old ++ done

@@ -1,8 +1,8 @@
--- An unfolded body is no longer than the body.
+-- An unfolded body is no longer than the body, because bytes are only dropped.
 use Rattle.header_text.proofs.Words.{◌≤◌, ◌==◌, ℕ, suc, Bool, true, false, List, [], ◌∷◌, length, ap, arith, length-append, after_blanks, before_blanks, without_breaks, unfolded}
 use Rattle.header_text.proofs.Fronts.{after_blanks-joined, before_blanks-joined}
 
--- a byte that is dropped, or isn't, before others
+-- a byte before others, which is dropped or kept
 kept : ℕ → List ℕ → Bool → List ℕ
 kept b bs t = elim t [ true ↦ bs | false ↦ b ∷ bs ]
 

@@ -1,4 +1,4 @@
--- The text of bytes of which each is a character.
+-- The text of bytes in a charset in which each byte is a character.
 use Rattle.header_text.proofs.Words.{◌≡◌, ◌∙◌, ◌<◌, ◌≤◌, ◌+◌, ◌++◌, ℕ, suc, true, nat_lt, List, [], ◌∷◌, map, length, slice_index, take, drop, refl, sym, ap, ap₂, subst, arith, encode_utf8_all, append_assoc, encode_utf8, IsAscii, ne_eqb, cases_lt, lt-ltb, nat_tests, map-append, take-append-drop, drop_more, get_or-take, take_all, encodes-append, encodes-IsAscii, IsUtf8-from_ascii, length-encode, lossy_chars, lossy_chars-utf8, character, text_of, Charset, Utf8, Latin1, Latin9, Windows1252, Unknown}
 use Rattle.std.proofs.lemmas.List.{length-take}
 use Rattle.std.proofs.lemmas.Str.Ascii.{IsAscii-from_reads}
@@ -15,7 +15,7 @@ map-character-ascii c (b ∷ bs) h = ap₂ (λ (x : ℕ) (xs : List ℕ). x ∷ 
 pub lossy-ascii : (c : Charset) (bs : List ℕ) → IsAscii bs → encode_utf8_all (lossy_chars bs) ≡ encode_utf8_all (map (character c) bs)
 lossy-ascii c bs h = lossy_chars-utf8 bs (IsUtf8-from_ascii bs h) ∙ sym (encodes-IsAscii bs h) ∙ ap encode_utf8_all (sym (map-character-ascii c bs h))
 
--- ASCII bytes, one that isn't, and the rest
+-- ASCII bytes, a byte that isn't ASCII, and the rest
 pub characters-split : (c : Charset) (bs : List ℕ) (at : ℕ) → at < length bs → IsAscii (take at bs)
     → encode_utf8_all (map (character c) bs) ≡ encode_utf8_all (lossy_chars (take at bs)) ++ (encode_utf8 (character c (slice_index bs at)) ++ encode_utf8_all (map (character c) (drop (at + 1) bs)))
 characters-split c bs at lt h =
@@ -29,13 +29,13 @@ characters-split c bs at lt h =
 pub length-encode_small : (c : ℕ) → c < 65536 → length (encode_utf8 c) ≤ 3
 length-encode_small c lt = rw length-encode (grind (arith, nat_tests))
 
--- one character more
+-- one more character
 pub characters-step : (c : Charset) (bs old new newer : List ℕ) (at : ℕ) → at < length bs → IsAscii (take at bs)
     → new ≡ old ++ encode_utf8_all (lossy_chars (take at bs)) → newer ≡ new ++ encode_utf8 (character c (slice_index bs at))
     → newer ++ encode_utf8_all (map (character c) (drop (at + 1) bs)) ≡ old ++ encode_utf8_all (map (character c) bs)
 characters-step c bs old new newer at lt h e f = grind (arith, encode_utf8_all, slice_index, append_assoc, characters-split)
 
--- a byte alone is a character in any charset but UTF-8
+-- in any charset but UTF-8 each byte is a character
 pub text_of-single : (c : Charset) → (c ≡ Utf8 → ⊥) → (bs : List ℕ) → text_of c bs ≡ encode_utf8_all (map (character c) bs)
 unfolding text_of
 text_of-single Utf8 other bs = absurd (other refl)
@@ -44,10 +44,10 @@ text_of-single Latin9 other bs = refl
 text_of-single Windows1252 other bs = refl
 text_of-single Unknown other bs = refl
 
--- bytes below 128 up to a place
+-- the bytes before a place are ASCII
 pub IsAscii-before : (bs : List ℕ) (at : ℕ) → ((k : ℕ) → 0 ≤ k → k < at → nat_lt 127 (slice_index bs k) ≡ true → ⊥) → IsAscii (take at bs)
 IsAscii-before bs at h = grind (arith, IsAscii-from_reads, length-take, get_or-take, slice_index, cases_lt, lt-ltb)
 
--- all bytes below 128
+-- all bytes are ASCII
 pub IsAscii-all : (bs : List ℕ) → ((k : ℕ) → 0 ≤ k → k < length bs → nat_lt 127 (slice_index bs k) ≡ true → ⊥) → IsAscii bs
 IsAscii-all bs h = subst (λ (l : List ℕ). IsAscii l) (take_all (length bs) bs (omega arith)) (IsAscii-before bs (length bs) h)

@@ -1,7 +1,7 @@
 -- The text of a value, word by word.
 use Rattle.header_text.proofs.Words.{◌≡◌, ◌++◌, ℕ, Bool, true, false, List, refl, append_assoc, arith, if◌then◌else◌, WordAfter, Pieces, pieces, word_text, plain_text, text_between, later_words_text, words_text, decoded, word_first}
 
--- the text of words that follow one, or don't
+-- the text of words, which follow a word or are at the front
 abbrev pub words_behind : Bool → List WordAfter → List ℕ
 words_behind follows ws = if follows then later_words_text ws else words_text ws
 
@@ -12,10 +12,10 @@ decoded-start value = refl
 abbrev pub rest_text : Bool → Pieces → List ℕ
 rest_text follows p = words_behind follows p.words ++ plain_text p.rest
 
--- one word more
+-- one more word
 pub decoded-step : (follows : Bool) (w : WordAfter) (p : Pieces) (later old new newer : List ℕ) → p ≡ word_first w later
     → new ≡ old ++ (if follows then text_between w.between else plain_text w.between) → newer ≡ new ++ word_text w.word
     → newer ++ rest_text true (pieces later) ≡ old ++ rest_text follows p
 decoded-step follows w p later old new newer e f g = grind (arith, append_assoc)
 
--- no word more
+-- no more words

@@ -1,4 +1,4 @@
--- Escapes stretch by stretch.
+-- Decoding escapes part by part gives the whole text decoded.
 use Rattle.header_text.proofs.Words.{◌≡◌, ◌∙◌, ◌==◌, ◌≤◌, ◌++◌, ℕ, false, List, [], ◌∷◌, Option, Some, None, length, refl, sym, ap, arith, append_assoc, append-nil, if◌then◌else◌, escaped, unescaped_by, unescaped, q_bytes, behind_equals}
 use Rattle.header_text.proofs.CutLemmas.{Lacks, IsCut}
 
@@ -61,7 +61,7 @@ length-behind_equals bytes = grind arith
 abbrev q : ℕ → ℕ
 q b = if b == 0x5F then 0x20 else b
 
--- a `_` in front, behind a byte that isn't one
+-- a `_` after a byte that isn't one
 q-then_space : (a : ℕ) (later : List ℕ) → (a == 0x5F) ≡ false → unescaped_by q (a ∷ 0x5F ∷ later) ≡ a ∷ 0x20 ∷ unescaped_by q later
 q-then_space a later h = grind (arith, u-plain)
 
@@ -79,7 +79,7 @@ q_bytes-free (a ∷ []) free = rw free.0 refl
 q_bytes-free (a ∷ b ∷ []) free = rw (free.0, free.1.0) refl
 q_bytes-free (a ∷ b ∷ c ∷ stretch) free = grind (arith, q_bytes-free stretch free.1.1.1, q_bytes-free (b ∷ c ∷ stretch) free.1)
 
--- ---- a stretch more
+-- ---- one more part
 
 pub unescaped-step : (rest plain behind later : List ℕ) (byte : ℕ) → IsCut 0x3D rest plain behind → byte ≡ (behind_equals behind).0 → later ≡ (behind_equals behind).1
     → unescaped rest ≡ plain ++ byte ∷ unescaped later
@@ -88,6 +88,6 @@ unescaped-step rest plain behind later byte cut e f = grind (arith, unescaped-pl
 pub unescaped-rest : (rest : List ℕ) → Lacks 0x3D rest → unescaped rest ≡ rest
 unescaped-rest rest free = ap unescaped (sym (append-nil rest)) ∙ unescaped-plain rest [] free ∙ ap (λ (l : List ℕ). rest ++ l) unescaped-nil ∙ append-nil rest
 
--- what was written before goes on with a stretch, a byte and what follows
+-- after what was written come a part, a byte and the rest
 pub written : (items plain later : List ℕ) (byte : ℕ) → ((items ++ plain) ++ byte ∷ []) ++ later ≡ items ++ (plain ++ byte ∷ later)
 written items plain later byte = append_assoc (items ++ plain) (byte ∷ []) later ∙ append_assoc items plain (byte ∷ later)

@@ -1,4 +1,4 @@
--- Whole groups of base64, as the decoder reads them.
+-- The decoder reads whole groups of base64 as the definition does.
 use Rattle.header_text.proofs.Words.{◌≡◌, ◌∙◌, ◌==◌, ◌&&◌, ◌<◌, ◌≤◌, ◌+◌, ◌-◌, ◌*◌, ◌/◌, ◌%◌, ◌++◌, ℕ, zero, suc, Bool, true, false, ◌⊎◌, inl, inr, nat_lt, List, [], ◌∷◌, Option, Some, None, length, slice_index, slice_set, take, drop, map, refl, sym, ap, subst, arith, length-append, append_assoc, append-nil, if◌then◌else◌, not, Ok, Result, OnOk, is_none, filter_map, and_parts, eqb-true, ne_eqb, not-true, cases_lt, cases_eq, filter_map-append, drop_more, drop_all, map-append, length-map, length-take-le, take-append-drop, take_at, take_all, take_more_set, length-set, get_or-set_same, get_or-set_other, get_or-take, nat_tests, sextet, bytes_of_sextets, bytes_of_symbols, is_symbol}
 use Rattle.base64.specs.Engines.{standard}
 use Rattle.base64.specs.GeneralPurpose.{decode_slice_of, decoded_bytes_of}
@@ -19,7 +19,7 @@ is_value : Option ℕ → ℕ → Bool
 is_value None n = false
 is_value (Some m) n = m == n
 
--- a symbol isn't padding, and has a value, which is its place in the alphabet; any other byte has none
+-- a symbol isn't padding, and its value is its place in the alphabet; any other byte has no value
 abbrev test : ℕ → Bool
 test b = if is_symbol b then not (b == 61) && (not (value b == 255) && is_value (sextet b) (value b)) else is_none (sextet b)
 
@@ -74,7 +74,7 @@ one_group : (a b c d : ℕ) → bytes_of_sextets (a ∷ b ∷ c ∷ d ∷ []) �
 unfolding bytes_of_sextets
 one_group a b c d = append-nil (decode_group a b c d)
 
--- ---- what the decoder answers for symbols in whole groups
+-- ---- the decoder's result for symbols in whole groups
 
 -- all are symbols
 abbrev pub AreSymbols : List ℕ → Type 0
@@ -107,7 +107,7 @@ module _ (s : List ℕ) (h : AreSymbols s) (bytes : AreBytes s) where
   four : (i : ℕ) → i + 3 < length s → drop i s ≡ slice_index s i ∷ slice_index s (i + 1) ∷ slice_index s (i + 2) ∷ slice_index s (i + 3) ∷ drop (i + 4) s
   four i lt = grind (arith, drop_more, slice_index)
 
-  -- one group more
+  -- one more group
   taken_group : (j : ℕ) → 4 * suc j ≤ length s
       → take (4 * suc j) s ≡ take (4 * j) s ++ slice_index s (4 * j) ∷ slice_index s (4 * j + 1) ∷ slice_index s (4 * j + 2) ∷ slice_index s (4 * j + 3) ∷ []
   taken_group j le =
@@ -168,7 +168,7 @@ module _ (s : List ℕ) (h : AreSymbols s) (bytes : AreBytes s) where
   unfolding groups_bytes
   groups_bytes-suc j = refl
 
-  -- the whole
+  -- all groups
   abbrev pub out : List ℕ
   out = bytes_of_sextets (filter_map sextet s)
 
@@ -195,7 +195,7 @@ module _ (s : List ℕ) (h : AreSymbols s) (bytes : AreBytes s) where
       let len : length (decoded_bytes_of standard s) ≡ 3 * suc m = length-decoded m e in
       rw (len, lone, last, room, groups_error-none m (omega arith), ends.0, fits) refl
 
--- what the decoder has written into a slice of the right length
+-- what the decoder wrote into a slice of the right length
 pub decoded-into : (s back new : List ℕ) (r : Result ℕ DecodeSliceError) → AreSymbols s → AreBytes s → 0 < length s → length s % 4 ≡ 0 → length back ≡ length s / 4 * 3
     → r ≡ decode_slice_of standard s (length back) → OnOk r (IsWrittenOver (decoded_bytes_of standard s) back new) → new ≡ bytes_of_sextets (filter_map sextet s)
 decoded-into s back new r h bytes some whole room e written =
@@ -218,7 +218,7 @@ AreBytes-symbols [] h k = omega arith
 AreBytes-symbols (x ∷ s) h zero = below x (h 0 (omega arith))
 AreBytes-symbols (x ∷ s) h (suc k) = AreBytes-symbols s (λ j lt. h (suc j) (omega arith)) k
 
--- whole groups in front
+-- whole groups at the front
 pub bytes_of_symbols-groups : (s later : List ℕ) → AreSymbols s → length s % 4 ≡ 0 → bytes_of_symbols (s ++ later) ≡ bytes_of_symbols s ++ bytes_of_symbols later
 bytes_of_symbols-groups s later h whole =
     let values : filter_map sextet s ≡ map value s = sextets-symbols s h (AreBytes-symbols s h) in
@@ -258,7 +258,7 @@ module _ (symbols : List ℕ) (count symbol : ℕ) (size : length symbols ≡ 4)
       ap (λ (l : List ℕ). l ++ bytes_of_symbols later) e ∙ append_assoc old (bytes_of_symbols group) (bytes_of_symbols later)
       ∙ ap (λ (l : List ℕ). old ++ l) (sym (bytes_of_symbols-groups group later hold-symbols whole) ∙ ap (λ (l : List ℕ). bytes_of_symbols (l ++ later)) (sym front) ∙ ap bytes_of_symbols (append_assoc (take count symbols) (symbol ∷ []) later))
 
--- ---- a text's groups, where no symbol is held
+-- ---- the groups of a text, if no symbol is held
 
 pub text-groups : (symbols : List ℕ) (count : ℕ) (rest : List ℕ) (n : ℕ) → count ≡ 0 → n ≤ length rest → n % 4 ≡ 0 → ((k : ℕ) → k < n → is_symbol (slice_index rest k) ≡ true)
     → (later old new : List ℕ) → new ≡ old ++ bytes_of_symbols (take n rest) → (behind : List ℕ) → behind ≡ drop n rest

@@ -1,4 +1,4 @@
--- The length of a lossy text.
+-- A lossy text has at most three bytes for each byte.
 use Rattle.header_text.proofs.Words.{◌≡◌, ◌≤◌, ◌*◌, ℕ, zero, suc, List, [], ◌∷◌, Option, Some, None, map, drop, length, refl, encode_utf8_all, arith, length-drop, length-append, encode_utf8, or_replacement, pieces_from, lossy_chars}
 use Rattle.bstr.specs.Utf8.{decoded}
 use Rattle.bstr.proofs.lemmas.PieceLemmas.{piece-bounds}
@@ -25,6 +25,6 @@ bounded (suc n) (b ∷ rest) =
     let both = length-append (encode_utf8 (or_replacement p.char)) (encode_utf8_all (map (λ q. or_replacement q.char) (pieces_from n (drop p.size (b ∷ rest))))) in
     omega (arith, fits, first, left, later, both)
 
--- at most three bytes of text for each byte
+-- the text has at most three bytes for each byte
 pub length-lossy : (bs : List ℕ) → length (encode_utf8_all (lossy_chars bs)) ≤ 3 * length bs
 length-lossy bs = bounded (length bs) bs

@@ -1,4 +1,4 @@
--- The pieces of a value are its leftmost encoded words, and no others are.
+-- The pieces of a value are its leftmost encoded words, and no other words are.
 use Rattle.header_text.proofs.Words.{◌≡◌, ◌∙◌, ◌==◌, ◌&&◌, ◌||◌, ◌≤◌, ◌++◌, ℕ, zero, suc, Bool, true, false, nat_lt, nat_le, List, [], ◌∷◌, Option, Some, None, length, refl, sym, ap, subst, arith, length-append, append-nil, not, option_map, unwrap_or, list_all, eqb-true, and_parts, not-true, ne_eqb, EncodedWord, spelled, is_charset_byte, is_text_byte, is_q, is_b, is_well_formed, question, equals_sign, word_and_later, word_at, WordAfter, Pieces, pieces, BeginsWord, NoneBegins, AreLeftmost, no_word, word_first}
 use Rattle.header_text.proofs.CutLemmas.{Lacks, cut_at-is}
 use Rattle.header_text.proofs.WordLaws.WordLemmas.{spells, spelled-append, chain, with_charset, with_encoding, with_text, with_front, in_front, pieces-none, pieces-some, word_at-equals, word_at-other, in_front-append}
@@ -33,11 +33,11 @@ found : (w : EncodedWord) (later : List ℕ) → is_well_formed w ≡ true
     → word_and_later (question ∷ (w.charset ++ question ∷ w.encoding ∷ question ∷ (w.text ++ question ∷ equals_sign ∷ later))) ≡ Some (w, later)
 found w later h = grind (arith, parts, cut_at-is, Lacks-charset, letter, Lacks-text, chain, with_charset, with_encoding, with_text)
 
--- at a place one word begins at most, and it is found
+-- at most one word begins at a place, and it is found
 pub word_at-begins : (bytes : List ℕ) (w : EncodedWord) → BeginsWord bytes w → word_at bytes ≡ Some w
 word_at-begins bytes w h = grind (arith, spelled-append, word_at-equals, found)
 
--- what is found begins there
+-- the word that is found begins there
 pub record Begins (bytes : List ℕ) (w : EncodedWord) : Type 0 where
   pub rest : List ℕ
   pub later : List ℕ
@@ -72,7 +72,7 @@ none_begins bytes e w h = absurd (cc (sym (word_at-begins bytes w h) ∙ e))
 
 -- ---- the pieces are the leftmost words
 
--- a byte more in front, at which none begins
+-- one more byte at the front, at which no word begins
 more_in_front : (b : ℕ) (bs : List ℕ) (ws : List WordAfter) (rest : List ℕ) → word_at (b ∷ bs) ≡ None → AreLeftmost bs ws rest
     → AreLeftmost (b ∷ bs) (with_front (b ∷ []) ws rest).words (with_front (b ∷ []) ws rest).rest
 more_in_front b bs [] rest e h = grind (arith, rest, append-nil, none_begins)
@@ -99,7 +99,7 @@ within (suc n) (b ∷ bs) le = go (word_at (b ∷ bs)) refl (within n)
 pub are_leftmost : (value : List ℕ) → AreLeftmost value (pieces value).words (pieces value).rest
 are_leftmost value = within (length value) value (omega arith)
 
--- ---- and no others are
+-- ---- no other words are
 
 nowhere : (bytes : List ℕ) → ((w : EncodedWord) → ¬ BeginsWord bytes w) → word_at bytes ≡ None
 nowhere bytes h = go (word_at bytes) refl

@@ -1,4 +1,4 @@
--- Base64 piece by piece.
+-- Reading base64 piece by piece gives the bytes of the whole text.
 use Rattle.header_text.proofs.Words.{◌≡◌, ◌∙◌, ◌==◌, ◌<◌, ◌≤◌, ◌+◌, ◌-◌, ◌++◌, ℕ, zero, suc, Bool, true, false, List, [], ◌∷◌, Some, None, length, slice_index, take, drop, refl, sym, ap, ap₂, arith, length-append, append_assoc, append-nil, not, if◌then◌else◌, get_or-take, split_while, cut_at, sextet, bytes_of_sextets, bytes_of_symbols, base64_bytes, is_symbol, filter_map}
 use Rattle.std.proofs.lemmas.List.{length-take}
 use Rattle.header_text.proofs.CutLemmas.{Lacks, IsCut-from, Lacks-from, split_while-lacks}
@@ -6,7 +6,7 @@ use Rattle.header_text.proofs.Fronts.{split_while-joined}
 use Rattle.header_text.proofs.WordLaws.GroupLemmas.{AreSymbols, symbol, below}
 use Rattle.std.proofs.Math.Seq.{take-append-add}
 
--- what stands before the first `=`
+-- what is before the first `=`
 abbrev text_in : List ℕ → List ℕ
 text_in text = (split_while (λ b. not (b == 0x3D)) text).0
 
@@ -34,7 +34,7 @@ module _ (old new before after : List ℕ) (piece : List ℕ) (held : AreSymbols
       ap (λ (l : List ℕ). new ++ bytes_of_symbols l) (sym (append-nil after)) ∙ h [] ∙ ap (λ (l : List ℕ). old ++ bytes_of_symbols (before ++ l)) (append-nil text ∙ sym split)
       ∙ ap (λ (l : List ℕ). old ++ l) (sym (base64_bytes-front before (piece ++ later) held))
 
-  -- a piece without
+  -- a piece without `=`
   pub read-on : cut_at 0x3D piece ≡ None → ((later : List ℕ) → new ++ bytes_of_symbols (after ++ later) ≡ old ++ bytes_of_symbols (before ++ (piece ++ later)))
       → (later : List ℕ) → new ++ base64_bytes (after ++ later) ≡ old ++ base64_bytes (before ++ (piece ++ later))
   read-on e h later = grind (arith, Lacks-from, base64_bytes-front, text_in-front)
@@ -82,7 +82,7 @@ filled-bytes (a ∷ b ∷ c ∷ []) are low high =
     rw (x, y, z, sextet-A) refl
 filled-bytes (a ∷ b ∷ c ∷ d ∷ h) are low high = absurd (omega arith)
 
--- what is kept of the last group
+-- the bytes that are kept of the last group
 pub kept : (old new : List ℕ) (held : List ℕ) (count end : ℕ) → AreSymbols held → length held ≡ count → 2 ≤ count → count ≤ 3 → end ≡ length old + count - 1
     → new ≡ old ++ bytes_of_symbols (held ++ drop count fill) → take end new ≡ old ++ bytes_of_symbols held
 kept old new held count end h size low high e f =
@@ -92,18 +92,18 @@ kept old new held count end h size low high e f =
     ap₂ (λ (n : ℕ) (l : List ℕ). take n l) at f ∙ take-append-add old group (length held - 1)
     ∙ ap (λ (l : List ℕ). old ++ l) (ap (λ (l : List ℕ). take (length held - 1) (bytes_of_symbols (held ++ l))) same ∙ filled-bytes held h (omega arith) (omega arith))
 
--- less than two symbols give nothing
+-- fewer than two symbols give nothing
 pub short-bytes : (h : List ℕ) → length h < 2 → bytes_of_symbols h ≡ []
 unfolding bytes_of_sextets
 short-bytes [] lt = refl
 short-bytes (a ∷ []) lt = grind arith
 short-bytes (a ∷ b ∷ h) lt = absurd (omega arith)
 
--- the symbols in front of a group
+-- the held symbols are symbols
 pub held-symbols : (symbols : List ℕ) (count : ℕ) → ((k : ℕ) → k < count → is_symbol (slice_index symbols k) ≡ true) → AreSymbols (take count symbols)
 held-symbols symbols count all k lt = grind (arith, length-take, get_or-take)
 
--- ---- at most one byte for each of the text
+-- ---- the bytes are no more than those of the text
 
 length-bytes_of_sextets : (xs : List ℕ) → length (bytes_of_sextets xs) ≤ length xs
 unfolding bytes_of_sextets

@@ -1,8 +1,8 @@
--- Encoded words one after another.
+-- Searching for encoded words one after another gives the pieces of a value.
 use Rattle.header_text.proofs.Words.{◌≡◌, ◌∙◌, ◌==◌, ◌<◌, ◌+◌, ◌-◌, ◌++◌, ℕ, zero, suc, true, false, List, [], ◌∷◌, Option, Some, None, length, take, drop, refl, sym, ap, ap₂, arith, length-append, append_assoc, append-nil, option_map, take_at, cut_at, EncodedWord, spelled, is_well_formed, question, equals_sign, after, word_of, ◌>>=◌, word_and_later, word_at, WordAfter, Pieces, onto_front, pieces_behind, pieces, no_word, word_first}
 use Rattle.header_text.proofs.CutLemmas.{Lacks, IsCut-from, Lacks-from}
 
--- ---- how a word is spelled
+-- ---- the bytes of a word
 
 after-one : (c : ℕ) (bytes rest : List ℕ) → after (c ∷ []) bytes ≡ Some rest → bytes ≡ c ∷ rest
 after-one c bytes rest h = grind arith
@@ -45,7 +45,7 @@ pub chain : (bytes : List ℕ) → word_and_later bytes ≡ (after (question ∷
 unfolding word_and_later
 chain bytes = refl
 
--- what a step that succeeded went through
+-- if a step on an option gives a value, the option has one
 record Passed {A B : Type 0} (o : Option A) (f : A → Option B) (y : B) : Type 0 where
   value : A
   was : o ≡ Some value
@@ -89,7 +89,7 @@ spells bytes w later h =
 
 -- ---- pieces
 
--- a text before the first word
+-- the pieces with a text at the front, before the first word
 abbrev pub with_front : List ℕ → List WordAfter → List ℕ → Pieces
 with_front seen [] rest = record { words = []; rest = seen ++ rest }
 with_front seen (w ∷ ws) rest = record { words = record { between = seen ++ w.between; word = w.word } ∷ ws; rest = rest }
@@ -117,7 +117,7 @@ pub pieces-none : (b : ℕ) (bs : List ℕ) → word_at (b ∷ bs) ≡ None → 
 unfolding judged
 pieces-none b bs e = grind (arith, pieces-cons)
 
--- what is skipped is behind
+-- the pieces after the skipped bytes are those of the rest
 pieces_behind-skip : (front later : List ℕ) → pieces_behind (length front) (front ++ later) ≡ pieces later
 pieces_behind-skip [] [] = refl
 pieces_behind-skip [] (b ∷ later) = refl
@@ -133,7 +133,7 @@ pieces-some bytes later w e joined =
     let skipped : pieces_behind (length (spelled w) - 1) bytes ≡ pieces later = rw (size, rest) (pieces_behind-skip front later) in
     pieces-cons equals_sign bytes ∙ ap (judged equals_sign bytes) e ∙ ap (λ (p : Pieces). record { words = record { between = []; word = w } ∷ p.words; rest = p.rest }) skipped
 
--- at a byte other than `=` no word begins
+-- no word begins at a byte other than `=`
 pub word_at-other : (b : ℕ) (bs : List ℕ) → (b == equals_sign) ≡ false → word_at (b ∷ bs) ≡ None
 unfolding word_at
 word_at-other b bs e = rw (e, after) refl
@@ -148,13 +148,13 @@ pieces-plain (b ∷ plain) later free = grind (arith, pieces-none, word_at-other
 
 -- ---- searching for the first word
 
--- so far none has begun
+-- no word has begun so far
 pub record Seen (value rest : List ℕ) : Type 0 where
   pub seen : List ℕ
   pub joined : value ≡ seen ++ rest
   pub found : pieces value ≡ in_front seen (pieces rest)
 
--- an `=` at which none begins
+-- an `=` at which no word begins
 pub seen-more : (value rest plain behind : List ℕ) → Seen value rest → Some (plain, behind) ≡ cut_at equals_sign rest → word_and_later behind ≡ None → Seen value behind
 seen-more value rest plain behind s h e =
     let cut = IsCut-from equals_sign rest plain behind (sym h) in
@@ -167,7 +167,7 @@ seen-more value rest plain behind s h e =
       found = s.found ∙ ap (in_front s.seen) passed ∙ sym (in_front-append s.seen (plain ++ equals_sign ∷ []) (pieces behind));
     }
 
--- one at which one begins
+-- an `=` at which a word begins
 pub record First (value behind later : List ℕ) (w : EncodedWord) : Type 0 where
   pub found : pieces value ≡ word_first (record { between = take (length value - length behind - 1) value; word = w }) later
   pub size : length (take (length value - length behind - 1) value) + length w.text + length later < length value
@@ -194,14 +194,14 @@ seen-first value rest plain behind later w s h e =
       size = rw taken (omega (arith, sizes, written, a, b));
     }
 
--- none is left
+-- no `=` is left
 pub seen-end : (value rest : List ℕ) → Seen value rest → cut_at equals_sign rest ≡ None → pieces value ≡ no_word value
 seen-end value rest s e =
     let free = Lacks-from equals_sign rest e in
     let alone : pieces rest ≡ no_word rest = ap pieces (sym (append-nil rest)) ∙ pieces-plain rest [] free ∙ ap no_word (append-nil rest) in
     s.found ∙ ap (in_front s.seen) alone ∙ ap no_word (sym s.joined)
 
--- what is behind is shorter
+-- what is after an `=` is shorter
 pub seen-shorter : (value rest plain behind : List ℕ) → Seen value rest → Some (plain, behind) ≡ cut_at equals_sign rest → length behind < length value
 seen-shorter value rest plain behind s h =
     let cut = IsCut-from equals_sign rest plain behind (sym h) in

@@ -1,19 +1,21 @@
--- Where fields lie in bytes that hold them one behind another.
+-- Where fields are in the bytes of a list of fields.
 use Rattle.std.specs.Prelude.{◌≡◌, ℕ, ◌<◌, ◌≤◌, List, [], ◌∷◌, length, slice_range}
 use Rattle.header_text.specs.declared.field_list.FieldPlace.{FieldPlace}
 use Rattle.header_text.specs.Headers.{HeaderField, most_in_header}
 
--- where the next field begins, or the bytes end
+-- where the next field begins, or where the bytes end
 abbrev pub next_start : List FieldPlace → ℕ → ℕ
 next_start [] end = end
 next_start (p ∷ ps) end = p.name
 
--- a name begins, which isn't empty, then its body, then the next name, or the bytes end
+-- The places are in order. Each name has a byte or more and ends where its body begins; the body ends where the next
+-- name begins, or at `end`.
 abbrev pub AreInOrder : ℕ → List FieldPlace → Type 0
 AreInOrder end [] = Unit {0}
 AreInOrder end (p ∷ ps) = (p.name < p.body) × (p.body ≤ next_start ps end) × AreInOrder end ps
 
--- fields one behind another, from the first of the bytes to the last; of both there are no more than a header keeps bytes
+-- The fields fill the bytes from the first to the last, one after another. There are at most 262,144 bytes, and at most
+-- as many fields.
 pub record AreKept (bytes : List ℕ) (places : List FieldPlace) : Type 0 where
   pub order : AreInOrder (length bytes) places
   pub first : next_start places (length bytes) ≡ 0

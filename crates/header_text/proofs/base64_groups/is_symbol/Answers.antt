@@ -1,4 +1,4 @@
--- The table is held against the definition at each of the 256 bytes, by computing.
+-- The table agrees with the definition at each of the 256 bytes, by computation.
 use Rattle.header_text.proofs.Words.{refl, arith, is_symbol, get_or, ◌==◌, agree_below_at}
 use Rattle.header_text.specs.declared.base64_groups.TheConstants.{SYMBOLS}
 use Rattle.header_text.proofs.base64_groups.is_symbol.Goals as goal

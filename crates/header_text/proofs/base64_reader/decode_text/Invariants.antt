@@ -1,7 +1,7 @@
 use Rattle.header_text.proofs.Words.{◌≡◌, ◌++◌, ℕ, List, length, Extends, bytes_of_symbols, symbols_of}
 use Rattle.header_text.proofs.base64_reader.decode_text.Given as goal
 
--- what was written, and what comes of the symbols that are held and the rest, whatever follows
+-- what was written, and what the held symbols and the rest still give, whatever follows
 abbrev pub invariant-loop-first : goal.invariant-loop-first
 invariant-loop-first l = record {
   sofar : (later : List ℕ) → l.into.items ++ bytes_of_symbols (symbols_of l.held ++ (l.rest ++ later)) ≡ l.fn.into.items ++ bytes_of_symbols (symbols_of l.fn.held ++ (l.fn.text ++ later));

@@ -2,7 +2,7 @@ use Rattle.header_text.proofs.Words.{◌≡◌, length}
 use Rattle.header_text.specs.Blanks.{after_blanks as after_blanks_of}
 use Rattle.header_text.proofs.blanks.after_blanks.Given as goal
 
--- what is left has the same behind its blanks
+-- the rest has the same bytes after its blanks
 abbrev pub invariant-loop-first : goal.invariant-loop-first
 invariant-loop-first l = after_blanks_of l.rest ≡ after_blanks_of l.fn.bytes
 

@@ -2,7 +2,7 @@ use Rattle.header_text.proofs.Words.{◌≡◌, length}
 use Rattle.header_text.specs.Blanks.{before_blanks as before_blanks_of}
 use Rattle.header_text.proofs.blanks.before_blanks.Given as goal
 
--- what is left has the same before its blanks
+-- the rest has the same bytes before its blanks
 abbrev pub invariant-loop-last : goal.invariant-loop-last
 invariant-loop-last l = before_blanks_of l.rest ≡ before_blanks_of l.fn.bytes
 

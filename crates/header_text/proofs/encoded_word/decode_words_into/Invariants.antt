@@ -2,7 +2,7 @@ use Rattle.header_text.proofs.Words.{◌≡◌, ◌≤◌, ◌+◌, ◌*◌, ◌
 use Rattle.header_text.proofs.WordLaws.DecodedLemmas.{words_behind}
 use Rattle.header_text.proofs.encoded_word.decode_words_into.Given as goal
 
--- what was written, and what comes of the rest
+-- what was written, and what the rest still gives
 abbrev pub invariant-loop-found : goal.invariant-loop-found
 invariant-loop-found l = record {
   sofar : string_bytes l.into ++ (words_behind l.follows_word (pieces l.rest).words ++ plain_text (pieces l.rest).rest) ≡ string_bytes l.fn.into ++ decoded l.fn.unfolded;

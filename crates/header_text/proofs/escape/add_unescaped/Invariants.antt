@@ -1,7 +1,7 @@
 use Rattle.header_text.proofs.Words.{◌≡◌, ◌++◌, length, Extends, unescaped}
 use Rattle.header_text.proofs.escape.add_unescaped.Given as goal
 
--- what was written, and what comes of the rest
+-- what was written, and what the rest still gives
 abbrev pub invariant-loop-plain : goal.invariant-loop-plain
 invariant-loop-plain l = record {
   sofar : l.into.items ++ unescaped l.rest ≡ l.fn.into.items ++ unescaped l.fn.bytes;

@@ -1,7 +1,7 @@
 use Rattle.header_text.proofs.Words.{◌≡◌, ◌++◌, length, q_bytes}
 use Rattle.header_text.proofs.escape.decode_q_into.Given as goal
 
--- what was written, and what comes of the rest
+-- what was written, and what the rest still gives
 abbrev pub invariant-loop-stretch : goal.invariant-loop-stretch
 invariant-loop-stretch l = l.into.items ++ q_bytes l.rest ≡ l.fn.into.items ++ q_bytes l.fn.text
 

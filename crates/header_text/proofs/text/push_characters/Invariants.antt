@@ -1,7 +1,7 @@
 use Rattle.header_text.proofs.Words.{◌≡◌, ◌≤◌, ◌+◌, ◌*◌, ◌++◌, map, length, encode_utf8_all, string_bytes, Extends, character}
 use Rattle.header_text.proofs.text.push_characters.Given as goal
 
--- what was written, and what comes of the rest
+-- what was written, and what the rest still gives
 abbrev pub invariant-loop-at : goal.invariant-loop-at
 invariant-loop-at l = record {
   sofar : string_bytes l.into ++ encode_utf8_all (map (character l.fn.charset) l.rest) ≡ string_bytes l.fn.into ++ encode_utf8_all (map (character l.fn.charset) l.fn.bytes);

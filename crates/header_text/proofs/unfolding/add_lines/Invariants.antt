@@ -2,7 +2,7 @@ use Rattle.header_text.proofs.Words.{length, Extends}
 use Rattle.header_text.proofs.HeaderLaws.UnfoldLemmas.{Unfolds}
 use Rattle.header_text.proofs.unfolding.add_lines.Given as goal
 
--- what was written, and what comes of the rest
+-- what was written, and what the rest still gives
 abbrev pub invariant-loop-line : goal.invariant-loop-line
 invariant-loop-line l = record {
   sofar : Unfolds l.fn.into.items l.fn.body l.into.items l.rest;

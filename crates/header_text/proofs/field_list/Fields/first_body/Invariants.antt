@@ -2,7 +2,7 @@ use Rattle.header_text.proofs.Words.{◌≡◌, ◌≤◌, fields_size}
 use Rattle.header_text.specs.Names.{first_body}
 use Rattle.header_text.proofs.field_list.Fields.first_body.Given as goal
 
--- no field so far had the name, so those that are left decide
+-- no field so far had the name, so the result depends on those that are left
 abbrev pub invariant-loop-field : goal.invariant-loop-field
 invariant-loop-field l =
     (goal.iterator-loop-field).can_next l.field-iterator ×
