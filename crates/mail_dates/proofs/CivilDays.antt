@@ -1,4 +1,4 @@
--- The test of a day of the calendar, and the fact.
+-- The days of the calendar are those that the test accepts, and later years have greater numbers.
 use Rattle.mail_dates.proofs.Words.{◌≡◌, ℕ, ◌≤◌, Bool, true, Some, None, refl, ap, sym, ◌∙◌, arith, ℤ, pos, negsuc, ◌≤ℤ◌, ◌<ℤ◌, unsigned_abs, to_z, w8, if◌then◌else◌, nat_tests, ints, days_from_civil, days_in_month, IsDate, epoch_day, IsYmd, days_in_month_bounds, days_from_civil-day_count, day_count-lt_year, signed_arith, is_civil_day, day_number}
 use Rattle.jiff_core.specs.declared.civil.date.Date.{Date}
 use Rattle.jiff_core.proofs.DateLemmas.{civil}
@@ -27,7 +27,7 @@ day_number_none year month day not_civil = go (is_civil_day year month day) refl
     go : (t : Bool) → is_civil_day year month day ≡ t → (if t then Some (days_from_civil year month day) else None) ≡ None
     go t h = grind (arith, civil_parts)
 
--- the same, as the calendar's own constructor asks it
+-- the same limits, as the calendar's own constructor tests them
 pub year_within : (year : ℤ) → unsigned_abs year ≤ 9999 → (negsuc 9998 ≤ℤ year) × (year ≤ℤ pos 9999)
 year_within year h = grind (arith, ints)
 
@@ -44,7 +44,7 @@ civil_date year month day h =
 pub date_civil : (year : ℤ) (month day : ℕ) → month ≤ 12 → day ≤ 31 → IsDate year (to_z w8 month) (to_z w8 day) → IsCivilDay year month day
 date_civil year month day few short h = grind (arith, to_z, ints, within_year)
 
--- what a date with these parts says
+-- the number of the date with these parts
 pub day_number_at : (year : ℤ) (month day : ℕ) (date : Date) (number : ℤ) → IsCivilDay year month day → IsYmd year (to_z w8 month) (to_z w8 day) date → number ≡ epoch_day date → Some number ≡ day_number year month day
 day_number_at year month day date number h is e =
     let long = days_in_month_bounds year month in
@@ -52,7 +52,7 @@ day_number_at year month day date number h is e =
     let d : date.day ≡ day = omega (arith, ints, is.2, h.day_high) in
     ap Some (e ∙ rw (is.0, m, d) refl) ∙ sym (day_number_some year month day h)
 
--- what has a number is a day of the calendar
+-- a day with a number is a day of the calendar
 pub record IsNumbered (year : ℤ) (month day : ℕ) (number : ℤ) : Type 0 where
   pub civil : IsCivilDay year month day
   pub is : number ≡ days_from_civil year month day
@@ -72,7 +72,7 @@ later_number date next month day number later e =
     let is : number ≡ days_from_civil next month day = n.is in
     omega (arith, signed_arith, days_from_civil-day_count, far, is)
 
--- after the year 9999 nothing has a number
+-- no day after the year 9999 has a number
 pub none_later : (next : ℤ) (month day : ℕ) (number : ℤ) → pos 9999 <ℤ next → day_number next month day ≡ Some number → ⊥
 none_later next month day number later e =
     let n = numbered next month day number e in

@@ -1,4 +1,4 @@
--- Lists that are cut where a test passes.
+-- Cutting lists where a test passes.
 use Rattle.mail_dates.proofs.Words.{◌≡◌, ◌<◌, ◌≤◌, ◌+◌, ℕ, Bool, true, false, cond, List, [], ◌∷◌, length, take, drop, Some, None, refl, arith, slice_split, onto_first, position, position_or_len, nat_tests}
 use Rattle.std.proofs.lemmas.List.Splits.{slice_split_first}
 
@@ -7,11 +7,11 @@ module _ (p : ℕ → Bool) where
   whole [] h = refl
   whole (x ∷ xs) h = grind (arith, whole xs)
 
-  -- a list where no element passes is its one part
+  -- a list in which no element passes is its only part
   pub split_none : (xs : List ℕ) → None ≡ position p xs → slice_split p xs ≡ xs ∷ []
   split_none xs e = grind (arith, whole, nat_tests)
 
-  -- what stands before the first element that passes, and the parts behind it
+  -- what is before the first element that passes, and the parts after it
   pub record IsCut (xs : List ℕ) (at : ℕ) : Type 0 where
     pub within : at < length xs
     pub parts : slice_split p xs ≡ take at xs ∷ slice_split p (drop (at + 1) xs)
@@ -28,6 +28,6 @@ module _ (p : ℕ → Bool) where
       go true r = ([], slice_split p xs, refl)
       go false r = (x ∷ r.0, r.1, rw r.2 refl)
 
-  -- a list that is cut three times has four parts and more
+  -- a list that is cut three times has four or more parts
   pub split_four : (xs first ys second zs third ws : List ℕ) → slice_split p xs ≡ first ∷ slice_split p ys → slice_split p ys ≡ second ∷ slice_split p zs → slice_split p zs ≡ third ∷ slice_split p ws → (fourth : List ℕ) × (rest : List (List ℕ)) × (slice_split p xs ≡ first ∷ second ∷ third ∷ fourth ∷ rest)
   split_four xs first ys second zs third ws e f g = let front = split_front ws in (front.0, front.1, rw (e, f, g, front.2) refl)

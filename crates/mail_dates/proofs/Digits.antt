@@ -1,4 +1,4 @@
--- Lists of digits.
+-- A list of digits has a digit at each place.
 use Rattle.mail_dates.proofs.Words.{◌≡◌, ◌<◌, ◌≤◌, ◌-◌, ℕ, zero, suc, Bool, true, ◌&&◌, List, [], ◌∷◌, length, get_or, arith, list_all, nat_tests}
 use Rattle.std.specs.Char.{is_ascii_digit, digit_value}
 
@@ -13,7 +13,7 @@ digit_is b e = record { low = grind (arith, nat_tests); high = grind (arith, nat
 and_true : (a b : Bool) → (a && b) ≡ true → (a ≡ true) × (b ≡ true)
 and_true a b h = grind arith
 
--- each of them is a digit
+-- the element at each place is a digit
 pub digit_at : (xs : List ℕ) (i : ℕ) → list_all is_ascii_digit xs ≡ true → i < length xs → IsDigit (get_or xs i 0)
 digit_at [] i e h = absurd (omega arith)
 digit_at (x ∷ xs) zero e h = digit_is x (and_true (is_ascii_digit x) (list_all is_ascii_digit xs) e).0

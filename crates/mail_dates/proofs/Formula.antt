@@ -1,10 +1,10 @@
--- Day numbers in closed form, in which long rows compute.
+-- Day numbers by a formula, with which long tables can be computed.
 use Rattle.mail_dates.proofs.Words.{◌≡◌, ℕ, suc, ◌+◌, ◌≤◌, Bool, true, false, Option, Some, None, refl, arith, ℤ, pos, ◌+ℤ◌, ◌-ℤ◌, unsigned_abs, nat_le, if◌then◌else◌, nat_tests, ints, days_from_civil, days_from_civil-day_count, signed_arith, is_civil_day, day_number}
 use Rattle.jiff_core.specs.March.{march_days, march_months}
 use Rattle.jiff_core.proofs.MarchLemmas.{day_count-late, day_count-early}
 use Rattle.mail_dates.proofs.CivilDays.{IsCivilDay, civil_parts}
 
--- through years that begin in March, counted from the year -10000
+-- counted in years that begin in March, from the year -10000
 abbrev march_count : ℤ → ℕ → ℕ → ℤ
 march_count years month day = pos (march_days (unsigned_abs years) + march_months month + day + 59) -ℤ pos 4371953
 

@@ -1,4 +1,4 @@
--- The latest year that passes, from a year on down.
+-- The search from a year downwards finds the latest year that passes.
 use Rattle.mail_dates.proofs.Words.{◌≡◌, ℕ, zero, suc, ◌<◌, ◌≤◌, Bool, true, false, Option, Some, None, refl, sym, ap, ◌∙◌, subst, arith, ℤ, pos, negsuc, ◌+ℤ◌, ◌-ℤ◌, ◌≤ℤ◌, ◌<ℤ◌, unsigned_abs, ◌↔◌, option_map, IsTrue, int_le, ints, ◌>>=◌, day_number, greatest_below, year_at, latest_year, IsLatestYear, HasNoLater, days_from_to, days_in_by, latest_days_by, begin_by, fit_by}
 use Rattle.mail_dates.specs.declared.days.DaysOfYear.{DaysOfYear}
 use Rattle.mail_dates.specs.declared.days.DaysOfYear.TheVariants as days
@@ -33,7 +33,7 @@ module _ (passes : ℤ → Bool) where
   pub latest_none : latest_up_to (negsuc 9999) passes ≡ None
   latest_none = refl
 
-  -- the years after this one can be left out, where none of them passes
+  -- the years after this one can be left out, if none of them passes
   pub latest_from : (k : ℕ) (year : ℤ) → negsuc 9998 ≤ℤ year → ((next : ℤ) → year <ℤ next → passes next ≡ false) → latest_up_to (year +ℤ pos k) passes ≡ latest_up_to year passes
   latest_from zero year low no_later = let same : year +ℤ pos 0 ≡ year = omega (arith, ints) in rw same refl
   latest_from (suc k) year low no_later =
@@ -50,7 +50,7 @@ module _ (passes : ℤ → Bool) where
       rest : (year : ℤ) → year ≤ℤ pos 9999 → year +ℤ pos (unsigned_abs (pos 9999 -ℤ year)) ≡ pos 9999
       rest year h = grind (arith, ints)
 
--- days that lie in a later year than this day don't begin by it
+-- days of a year later than that of this day don't begin by this day
 begins_later : (by year next : ℤ) (month date : ℕ) (last : Option ℤ) → HasNoLater by year → year <ℤ next → begin_by by (days_from_to (day_number next month date) last) ≡ false
 begins_later by year next month date last h later = go (day_number next month date) last refl
   where
@@ -67,7 +67,7 @@ none_later_begins by year days.All h next later = begins_later by year next 1 1 
 none_later_begins by year (days.Month month) h next later = begins_later by year next month 1 _ h later
 none_later_begins by year (days.Day month day) h next later = begins_later by year next month day _ h later
 
--- the search has come down to this year, and none above it fits
+-- the search has come down to this year, and no year above it fits
 pub record IsSearch (which : DaysOfYear) (by year : ℤ) : Type 0 where
   pub low : negsuc 9999 ≤ℤ year
   pub high : year ≤ℤ pos 9999
@@ -101,7 +101,7 @@ search_over which by year h over =
 
 -- ---- the year found is the latest, and the latest is found
 
--- the number passes, and each that passes below the limit is at most it
+-- the number passes, and no number below the limit that passes is greater
 record IsGreatest (passes : ℕ → Bool) (limit found : ℕ) : Type 0 where
   has : passes found ≡ true
   below : found < limit
@@ -144,7 +144,7 @@ is_latest passes year calendar h =
     not_later next later true e = let below : next ≤ℤ year = h.latest next e in absurd (omega (arith, ints))
     not_later next later false e = refl
 
--- days that a year has lie in a year of the calendar
+-- a year that has days is a year of the calendar
 of_calendar : (by year : ℤ) (month date : ℕ) (last : Option ℤ) → begin_by by (days_from_to (day_number year month date) last) ≡ true → (negsuc 9998 ≤ℤ year) × (year ≤ℤ pos 9999)
 of_calendar by year month date last h = grind (arith, year_within, numbered)
 

@@ -1,4 +1,5 @@
--- The forms of periods exclude one another: they differ in how many digits and other bytes they have, and in what they begin with.
+-- The forms of periods exclude one another, because they differ in the number of digits and of other bytes, and in
+-- whether a digit comes first.
 use Rattle.mail_dates.proofs.Words.{◌≡◌, ℕ, zero, suc, ◌+◌, ◌≤◌, ◌<◌, Bool, true, false, cond, ◌&&◌, ◌==◌, nat_le, List, [], ◌∷◌, ◌++◌, length, get_or, Option, Some, None, refl, sym, ap, ◌∙◌, arith, ℤ, list_all, nat_tests, if◌then◌else◌, number_in, month_of, option_map, position}
 use Rattle.std.specs.Char.{is_ascii_digit, is_ascii_alphabetic, to_ascii_lowercase}
 use Rattle.std.specs.Str.{str_to_ascii_lowercase, str_eq_ignore_ascii_case}
@@ -84,7 +85,7 @@ passes_at p [] i e h = absurd (omega (arith, h))
 passes_at p (x ∷ xs) zero e h = grind arith
 passes_at p (x ∷ xs) (suc i) e h = grind (arith, passes_at p xs i)
 
--- three letters, in small letters
+-- whether a name has three letters
 is_lower_name : List ℕ → Bool
 is_lower_name lower = (length lower == 3) && list_all is_ascii_alphabetic lower
 
@@ -105,7 +106,7 @@ name_is text month e =
     let same : str_to_ascii_lowercase text ≡ str_to_ascii_lowercase name = (bytes_eq-Decides (str_to_ascii_lowercase text) (str_to_ascii_lowercase name)).0 at.1 in
     lower_name text (ap is_lower_name same ∙ passes_at (λ m. is_lower_name (str_to_ascii_lowercase m)) month_names f.0 refl at.0)
 
--- ---- the form, by how many digits and other bytes there are, and whether a digit is first
+-- ---- the form, by the number of digits and of other bytes, and by whether a digit comes first
 
 abbrev form_of : List ℕ → Option Form
 form_of text =
@@ -180,7 +181,7 @@ pub same_form : (today by : ℤ) (text : List ℕ) (f g : Form) (d e : Option Da
 same_form today by text f g d e h k =
     let same : Some f ≡ Some g = sym (formed today by text f d h) ∙ formed today by text g e k in cc
 
--- a count that is too long is of no form
+-- a count that is too long has none of the forms
 pub no_form : (text : List ℕ) → IsLongCount text → form_of text ≡ None
 no_form text (DigitsAndUnit digits letter unit many h u) =
     let c = count_is digits letter h (unit_letter letter unit u) in

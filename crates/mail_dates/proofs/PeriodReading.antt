@@ -1,4 +1,4 @@
--- How periods are read, which is as their grammar says.
+-- Periods are read as their grammar says.
 use Rattle.mail_dates.proofs.Words.{◌≡◌, ℕ, ◌-◌, ◌<◌, Bool, true, false, ◌&&◌, ◌==◌, List, [], ◌∷◌, ◌++◌, length, take, drop, Option, Some, None, Result, Ok, Err, refl, sym, ap, ◌∙◌, subst, arith, ℤ, pos, list_all, nat_tests, if◌then◌else◌, option_map, number_in, month_of, day_number, period_of, ◌>>=◌, DateFault, BadDate, BadNumber, ◌↔◌}
 use Rattle.std.specs.Prelude.{slice_get, slice_range, is_some, nat_lt, ok_or}
 use Rattle.contract_words.specs.Answers.{◌>>=◌ as ◌>>=ᵣ◌}
@@ -19,7 +19,7 @@ use Rattle.mail_dates.specs.Ranges.{named_days_by}
 use Rattle.mail_dates.specs.PeriodGrammar.{Names, Form, DaysAgo, FullDate, WholeYear, NamedMonth, DayThenMonth, MonthThenDay, IsPeriod, CountOfUnits, YearMonthDay, Year, Month, DayMonth, MonthDay, IsLongCount, DigitsAndUnit, IsRefused, LongCount, NoPeriod}
 use Rattle.mail_dates.proofs.PeriodForms.{number_is, name_is, formed, no_form, same_form}
 
--- what is read of a text of this form
+-- the period that is read from a text of this form
 abbrev read : Form → List ℕ → Option Period
 read DaysAgo text = periods.ago text
 read FullDate text = periods.full_date text
@@ -28,7 +28,7 @@ read NamedMonth text = periods.yearly_month text
 read DayThenMonth text = periods.day_and_month text
 read MonthThenDay text = periods.month_and_day text
 
--- ---- where texts are cut
+-- ---- the parts of a text
 
 record IsCutAt (n : ℕ) (xs ys : List ℕ) : Type 0 where
   front : take n (xs ++ ys) ≡ xs
@@ -100,7 +100,7 @@ long_is text (DigitsAndUnit digits letter unit many h u) =
     let more : nat_lt 4 (length digits) ≡ true = grind (arith, nat_tests) in
     rw (last_unit-last digits letter, before_last digits letter, u, more, h) refl
 
--- ---- the parts of what is read
+-- ---- the parts of periods that are read
 
 same_some : {A : Type 0} (x y : A) → Some x ≡ Some y → x ≡ y
 same_some x y e = cc
@@ -143,7 +143,7 @@ yearly_parts : (name digits : Option ℕ) (period : Period) → yearly_day name 
 yearly_parts name digits period e = grind arith
 
 module _ (today by : ℤ) where
-  -- what is read has these days
+  -- a period of these days is read
   record Reads (form : Form) (text : List ℕ) (said : Option Days) : Type 0 where
     period : Period
     is : read form text ≡ Some period
@@ -184,9 +184,9 @@ module _ (today by : ℤ) where
   reads text form said (MonthDay name digits month day e d) =
       record { period = Yearly (days.Day month day); is = month_first name digits month day e d; has = refl }
 
-  -- ---- what is read is of the form
+  -- ---- a text that is read has the form
 
-  -- the text is of this form, with the days of this period
+  -- the text has this form, with the days of this period
   abbrev Is : Form → List ℕ → Period → Type 0
   Is form text period = IsPeriod today by text form (period_days_by day_number today by period)
 
@@ -241,7 +241,7 @@ module _ (today by : ℤ) where
   chosen text = option_or (periods.ago text) (option_or (periods.full_date text) (option_or (periods.whole_year text)
       (option_or (periods.yearly_month text) (option_or (periods.day_and_month text) (periods.month_and_day text)))))
 
-  -- what is read of another form is the same
+  -- a period that is read for another form is the same
   later : (g f : Form) (text : List ℕ) (period : Period) (rest : Option Period) → read f text ≡ Some period
       → rest ≡ Some period → option_or (read g text) rest ≡ Some period
   later g f text period rest e h = go (read g text) refl

@@ -1,4 +1,4 @@
--- How ranges of days are read, which is as their grammar says.
+-- Ranges of days are read as their grammar says.
 use Rattle.mail_dates.proofs.Words.{◌≡◌, ℕ, Bool, true, false, cond, List, [], ◌∷◌, ◌++◌, Some, None, Result, Ok, Err, refl, sym, ap, ◌∙◌, subst, arith, ℤ, pos, ◌↔◌, list_all, nat_tests, day_number, number_in, month_of, period_of, slice_split, onto_first, is_dash, range_at, range_of_parts_by, DateFault, BadDate, BadNumber, Range, start_of_day, end_of_day, Option}
 use Rattle.contract_words.specs.Answers.{◌>>=◌ as ◌>>=ᵣ◌}
 use Rattle.std.specs.List.{list_any, join_with_byte}
@@ -91,12 +91,12 @@ long_free : (text : List ℕ) → IsLongCount text → Free text
 long_free text (DigitsAndUnit digits letter unit many h u) =
     append_free digits (letter ∷ []) (digits_free digits h) (letter_free letter unit u)
 
--- ---- what is a range is read
+-- ---- each range is read
 
 abbrev named : ℤ → ℤ → List ℕ → Result Days DateFault
 named today by text = named_days_by day_number today by text
 
--- an empty text is no period
+-- an empty text isn't a period
 none_named : (today by : ℤ) → named today by [] ≡ Err BadDate
 unfolding period_of month_of
 none_named today by = refl
@@ -148,7 +148,7 @@ module _ (now : ℕ) where
   range_read text range (Since start first f) =
       two_parts start [] (names_free (day_at now) (day_at now) start first f) refl ∙ since_read start first (names_read (day_at now) (day_at now) start first f)
 
-  -- ---- what comes of the days
+  -- ---- the range of days
 
   abbrev after_period : Result Days DateFault → Result Range DateFault
   after_period period = period >>=ᵣ (λ days. Ok (range_of_days days))
@@ -160,7 +160,7 @@ module _ (now : ℕ) where
   abbrev after_end : List ℕ → Result Days DateFault → Result Range DateFault
   after_end start end = end >>=ᵣ (λ last. range_from_by day_number now last.last start (end_of_day last.last))
 
-  -- an end's last day, and its last second
+  -- the last day of an end, and its last second
   abbrev day_and_second : Days → ℤ × ℤ
   day_and_second last = (last.last, end_of_day last.last)
 
@@ -174,7 +174,7 @@ module _ (now : ℕ) where
   with_end [] b bs = ended [] (days_of (b ∷ bs))
   with_end (a ∷ more) b bs = ended (a ∷ more) (days_of (b ∷ bs))
 
-  -- ---- what is read is a range
+  -- ---- each text that is read is a range
 
   record IsStart (end : ℤ) (start : List ℕ) (until : ℤ) (range : Range) : Type 0 where
     first : Days
@@ -339,7 +339,7 @@ module _ (now : ℕ) where
       is_refused fault (TooLong long) = too_long text long
       is_refused fault (NoRange h k) = go (range_at text now) refl h k
 
-  -- the same of what is answered
+  -- the same for the result of a call
   pub range_answered : (text : List ℕ) (r : Result Range DateFault) → r ≡ range_at text now → (range : Range)
       → (r ≡ Ok range) ↔ IsRange now text range
   range_answered text r e range = rw e (range_law text range)

@@ -1,8 +1,8 @@
--- Tables of worked rows, which compute by the formula of day numbers. The seconds were computed outside.
+-- Tables of worked examples, computed by the formula of day numbers. The expected seconds were computed by other means.
 use Rattle.mail_dates.proofs.Words.{◌≡◌, ℕ, List, map, Option, Some, Result, Ok, ℤ, pos, ap, ◌∙◌, DateFault, Range, day_number}
 use Rattle.mail_dates.proofs.Formula.{number_by_formula, day_number-formula}
 
--- what is read, and what it says
+-- each row has an input and its result
 pub record Holds {A B : Type 0} (read : A → B) (rows : List (A × B)) : Type 0 where
   pub each : map (λ row. read row.0) rows ≡ map (λ row. row.1) rows
 
@@ -10,7 +10,7 @@ pub hold : {A B : Type 0} (by : (ℤ → ℕ → ℕ → Option ℤ) → A → B
     map (λ row. by number_by_formula row.0) rows ≡ map (λ row. row.1) rows → Holds (by day_number) rows
 hold by {rows} e = record { each = ap (λ number. map (λ row. by number row.0) rows) day_number-formula ∙ e }
 
--- each of these says the same
+-- rows in which each text has the same result
 abbrev pub all_say : {A B : Type 0} → B → List A → List (A × B)
 all_say said texts = map (λ text. (text, said)) texts
 

@@ -1,11 +1,11 @@
--- Worked rows of header dates: fields, and the second that each says.
+-- Worked examples of header dates: fields, and the second that each says.
 use Rattle.mail_dates.proofs.Words.{ℕ, List, [], ◌∷◌, ◌++◌, map, refl, Option, Some, None, ℤ, pos, negsuc, codes, month_of, date_of, date_by, tokens, time_of, offset_of, hours_west}
 use Rattle.mail_dates.proofs.RowTables.{Holds, hold, all_say}
 
 abbrev Dated : List (List ℕ × ℤ) → Type 0
 Dated rows = Holds date_of (map (λ row. (row.0, Some row.1)) rows)
 
--- each of these fields says this
+-- each of these fields says this second
 abbrev Say : Option ℤ → List (List ℕ) → Type 0
 Say date fields = Holds date_of (all_say date fields)
 
@@ -37,7 +37,7 @@ rows : Dated ((codes "Thu, 2 Jan 2003 10:00:00 +0100 (CET)", pos 1041498000)
     ∷ (codes "2 Jan 2003 10:00 MST", pos 1041526800) ∷ (codes "2 Jan 2003 10:00 MDT", pos 1041523200)
     ∷ (codes "2 Jan 2003 10:00 PST", pos 1041530400) ∷ (codes "2 Jan 2003 10:00 PDT", pos 1041526800)
     ∷ (codes "2 Jan 2003 10:00 Est", pos 1041519600) ∷ [])
-    -- a comment ends the field, and a zone of no form or of another name is UTC
+    -- a comment ends the field; a zone with another form or name is UTC
     × Say (Some (pos 1041501600)) (codes "2 Jan 103 10:00" ∷ codes "Fri 2 Jan 2003 10:00"
     ∷ codes "  2 Jan 2003 10:00" ∷ (codes "2 Jan 2003 10:00 +0100" ++ (0x0D ∷ []))
     ∷ codes "2 Jan 2003 10:00 (+0100) +0100" ∷ codes "2 Jan 2003 10:00(x +0100"
@@ -49,7 +49,7 @@ rows : Dated ((codes "Thu, 2 Jan 2003 10:00:00 +0100 (CET)", pos 1041498000)
     ∷ codes "2 Jan 2003 10:00 ESTX" ∷ codes "2 Jan 2003 10:00 ES" ∷ codes "2 Jan 2003 10:00 EST+1"
     ∷ (codes "2 Jan 2003 10:00 " ++ (0xC3 ∷ 0xB1 ∷ []))
     ∷ (codes "2 Jan 2003 10:00 +" ++ (0xD9 ∷ 0xA0 ∷ []) ++ codes "100") ∷ [])
-    -- parts that are missing, in another order, out of range or of no form
+    -- parts that are missing, in another order, out of range or of another form
     × Say None (codes "31 Apr 2003 10:00" ∷ codes "Thu Thu 2 Jan 2003 10:00" ∷ codes "Jan 2 2003 10:00"
     ∷ codes "2Jan 2003 10:00" ∷ codes "2-Jan-2003 10:00" ∷ (codes "2 Jan 2003" ++ (0x0A ∷ []) ++ codes "10:00")
     ∷ (codes "2 Jan 2003 10:00" ++ (0x0D ∷ [])) ∷ (codes "2 Jan 2003 10:00" ++ (0x0D ∷ []) ++ codes " +0100")

@@ -1,4 +1,4 @@
--- Worked rows of ranges of days. A table of tests has many more.
+-- Worked examples of ranges of days. A table of tests has many more.
 use Rattle.mail_dates.proofs.Words.{◌≡◌, ℕ, List, [], ◌∷◌, ◌++◌, map, refl, Some, None, Result, Ok, Err, pos, codes, DateFault, BadDate, BadNumber, Range, month_of, period_of, latest_days_by, range_at, range_by}
 use Rattle.std.specs.List.{AllByRecursion}
 use Rattle.mail_dates.specs.RangeGrammar.{IsRange, IsFault}
@@ -6,7 +6,7 @@ use Rattle.mail_dates.proofs.RangeReading.{range_law, fault_law}
 use Rattle.mail_dates.proofs.Formula.{number_by_formula}
 use Rattle.mail_dates.proofs.RowTables.{hold, all_say, between, days}
 
--- what the grammar says of a text at this second
+-- what the grammar says of a text at the second `now`
 abbrev Says : ℕ → List ℕ → Result Range DateFault → Type 0
 Says now text (Ok range) = IsRange now text range
 Says now text (Err fault) = IsFault now text fault
@@ -43,11 +43,11 @@ rows : Mean in_2003 ((codes "1d", days 1053129600 1053215999) ∷ (codes "1M", d
     ∷ (codes "6w-2w", days 1049587200 1052092799) ∷ (codes "21apr-1w", days 1050883200 1052697599)
     ∷ (codes "21apr-", days 1050883200 1053259200) ∷ [])
     × Mean 1046476800 ((codes "29feb", days 951782400 951868799) ∷ [])
-    -- the latest year; a start is taken against its end, and an end is not cut to today
+    -- the latest year; a start is compared with its end, and an end isn't cut to today
     × Mean in_9603 ((codes "may18", days 240886051200 240886137599) ∷ (codes "dec-jan", days 240871536000 240876892799)
     ∷ (codes "29feb-", days 240784617600 240886094400) ∷ (codes "-may", between None (Some (pos 240887260799))) ∷ [])
     × Mean 0 ((codes "jan", days 0 2678399) ∷ [])
-    -- days that no year has, texts of no form, and counts that are too long
+    -- days that no year has, texts with none of the forms, and counts that are too long
     × Mean in_2003 (all_say (Err BadDate) (codes "31apr" ∷ codes "20030229" ∷ codes "200302" ∷ codes "12345d-1-2" ∷ codes "01oct" ∷ [] ∷ codes "12345d " ∷ (codes "mar" ++ (0x0D ∷ []))
     ∷ (codes "mar" ++ (0x0A ∷ [])) ∷ []))
     × Mean in_2003 (all_say (Err BadNumber) (codes "12345d" ∷ codes "x-12345d" ∷ codes "12345d-" ∷ []))

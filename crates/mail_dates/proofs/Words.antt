@@ -1,4 +1,4 @@
--- The words of std and of the definitions that proofs take, from one place.
+-- The names of std and of the definitions that the proofs use, in one place.
 pub use Rattle.jiff_core.proofs.CalendarLemmas.{day_count-lt_year, days_from_civil-day_count, days_in_month_bounds}
 pub use Rattle.jiff_core.proofs.SignedLemmas.{signed_arith}
 pub use Rattle.jiff_core.specs.Calendar.{IsDate, IsEpochDay, days_from_civil, days_in_month}

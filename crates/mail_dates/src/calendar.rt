@@ -1,4 +1,4 @@
-//! Days of the calendar by their numbers, and the names of months.
+//! The days of the calendar and their numbers, and the names of months.
 
 ghost use Rattle.std.specs.Prelude.{◌≡◌, ◌≤◌, ◌<◌, IfSome, position};
 ghost use Rattle.std.specs.Str.{str_eq_ignore_ascii_case};
@@ -7,7 +7,8 @@ ghost use Rattle.mail_dates.specs.Calendar.{day_number, month_names, month_of, H
 
 use jiff::civil::Date;
 
-/// The number of a day from 1970-01-01, where the calendar has it, in a year from -9999 to 9999.
+/// Returns the number of a day, counted from 1970-01-01 as 0. Returns None if the calendar doesn't have the day, or if
+/// its year isn't from -9999 to 9999.
 pub fn day_number(year: i16, month: u8, day: u8) -> Option<i32>
     ensures value { result ≡ day_number year month day }
     ensures bound { IfSome result IsEpochDay }
@@ -21,7 +22,7 @@ pub fn day_number(year: i16, month: u8, day: u8) -> Option<i32>
     }
 }
 
-/// The year of a day, or 9999 where the calendar hasn't this day.
+/// Returns the year of a day, or 9999 if the calendar doesn't have the day.
 pub fn year_of_day(day: i32) -> i16
     ensures { HasNoLater day result }
 {
@@ -37,7 +38,7 @@ const MONTH_NAMES: [[u8; 3]; 12] = [
     *b"nov", *b"dec",
 ];
 
-/// The month that three letters stand for, in either case.
+/// Returns the number of the month that three letters name, in either case: 1 for `jan`, 12 for `dec`.
 #[tactic(auto, unfolding(crate::specs::Calendar::month_of))]
 pub fn month_of(name: &[u8]) -> Option<u8>
     ensures value { result ≡ month_of name.now }
@@ -47,6 +48,7 @@ pub fn month_of(name: &[u8]) -> Option<u8>
     Some(index as u8 + 1)
 }
 
+/// Returns the place of a month's name in the list, from 0.
 fn index_of_month(name: &[u8]) -> Option<usize>
     ensures value { result ≡ position (str_eq_ignore_ascii_case name.now) month_names }
     ensures bound { IfSome result (λ index. index < 12) }

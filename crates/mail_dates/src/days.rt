@@ -1,4 +1,4 @@
-//! Days by their numbers, and days that years have.
+//! Days by their numbers, and days that can be in any year.
 
 ghost use Rattle.std.specs.Prelude.{◌≡◌};
 ghost use Rattle.mail_dates.specs.Calendar.{day_number};
@@ -7,26 +7,26 @@ ghost use Rattle.mail_dates.specs.Periods.{days_in_by, latest_days_by, begin_by}
 use crate::calendar::{day_number, year_of_day};
 use jiff_core::civil::days_in_month;
 
-/// Days from one to another, both included, by their numbers from 1970-01-01.
+/// The days from `first` to `last`, both included. They are numbers, counted from 1970-01-01 as 0.
 #[derive(Clone, Copy)]
 pub struct Days {
     pub first: i32,
     pub last: i32,
 }
 
-/// Days that years have.
+/// Days of a year that isn't given yet.
 #[derive(Clone, Copy)]
 pub enum DaysOfYear {
     /// From 1 January to 31 December.
     All,
-    /// A month, from 1.
+    /// A month; January is 1.
     Month(u8),
-    /// A day of a month.
+    /// A day of a month, each counted from 1.
     Day { month: u8, day: u8 },
 }
 
 impl DaysOfYear {
-    /// Their numbers in a year, where the year has them.
+    /// Returns the numbers of these days in a year, or None if the year doesn't have them.
     pub fn in_year(self, year: i16) -> Option<Days>
         ensures { result ≡ days_in_by day_number self year }
     {
@@ -47,7 +47,8 @@ impl DaysOfYear {
         }
     }
 
-    /// Those of the latest year that has them and in which they begin by this day.
+    /// Returns the numbers of these days in the latest year that has them and in which they begin by the day `by`.
+    /// Returns None if there is no such year.
     pub fn latest(self, by: i32) -> Option<Days>
         ensures { result ≡ latest_days_by day_number self by }
     {
@@ -63,7 +64,7 @@ impl DaysOfYear {
     }
 }
 
-/// Whether they are there, and begin by this day.
+/// Returns whether there are days, and they begin on the day `by` or before it.
 fn begin_by(by: i32, days: Option<Days>) -> bool
     ensures { result ≡ begin_by by days }
 {

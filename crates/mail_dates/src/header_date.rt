@@ -1,4 +1,4 @@
-//! The date of a Date field (RFC 5322 3.3, and its obsolete forms, 4.3).
+//! Reads the date of a Date field (RFC 5322 3.3, and its obsolete forms, 4.3).
 
 ghost use Rattle.std.specs.Prelude.{◌≡◌, ◌<◌, IfSome};
 ghost use Rattle.mail_dates.specs.Calendar.{day_number};
@@ -10,15 +10,17 @@ use crate::time_of_day::time_of;
 use crate::token::{are_letters, next_token, without_comments};
 use crate::zone::offset_of;
 
-/// The second that a Date field says, from 1970-01-01T00:00:00Z, or None where it can't be read.
+/// Returns the second that a Date field says, counted from 1970-01-01T00:00:00Z as 0, or None if the field can't be
+/// read.
 ///
-/// What follows the first `(` is ignored. The rest is tokens between spaces, tabs and commas: perhaps the name of a day of
-/// the week, then the day, the month, the year and the time, and perhaps a zone.
+/// All from the first `(` on is ignored. The rest is tokens, with spaces, tabs and commas between them: perhaps the
+/// name of a day of the week, then the day, the month, the year and the time, and perhaps a zone. Tokens after these
+/// are ignored.
 #[tactic(auto, unfolding(crate::specs::HeaderDates::date_of))]
 pub fn read_date(text: &str) -> Option<i64>
     ensures { result ≡ date_of text.now }
 {
-    // A token that is missing is read as an empty one: an empty zone is UTC, and nothing else may be empty.
+    // A missing token is read as an empty one. An empty zone is UTC, and no other token may be empty.
     let (day, rest) = day_token(without_comments(text.as_bytes()));
     let (month, rest) = next_token(rest);
     let (year, rest) = next_token(rest);
@@ -27,7 +29,8 @@ pub fn read_date(text: &str) -> Option<i64>
     date_of_parts(day, month, year, time, offset_of(zone))
 }
 
-/// The first token but for the name of a day of the week, right or not, and what stands behind it.
+/// Returns the first token after the name of a day of the week, if there is such a name, and what follows this token.
+/// Any token of letters alone counts as such a name.
 fn day_token(text: &[u8]) -> (&[u8], &[u8])
     ensures { without_day_name (tokens text.now) ≡ with_first result.0.now result.1.now }
 {
@@ -39,6 +42,7 @@ fn day_token(text: &[u8]) -> (&[u8], &[u8])
     }
 }
 
+/// Returns the second that these parts say, if each can be read. `offset` is how many seconds the zone is east of UTC.
 fn date_of_parts(day: &[u8], month: &[u8], year: &[u8], time: &[u8], offset: i32) -> Option<i64>
     ensures { result ≡ date_of_parts_by day_number day.now month.now year.now time.now offset }
 {
@@ -56,7 +60,7 @@ fn date_of_parts(day: &[u8], month: &[u8], year: &[u8], time: &[u8], offset: i32
     }
 }
 
-/// The year that a token says: two digits are a year from 1950 to 2049, and three count from 1900.
+/// Returns the year that a token says. Two digits mean a year from 1950 to 2049, and three digits count from 1900.
 fn year_of(token: &[u8]) -> Option<u16>
     ensures value { result ≡ year_of token.now }
     ensures bound { IfSome result (λ year. year < 12000) }

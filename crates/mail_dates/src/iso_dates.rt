@@ -1,4 +1,4 @@
-//! Ranges of ISO 8601 dates, as in `2003-02..2003-04-15`.
+//! Reads ranges of ISO 8601 dates, as in `2003-02..2003-04-15`.
 
 ghost use Rattle.std.specs.Prelude.{◌≡◌};
 ghost use Rattle.std.specs.List.{slice_split};
@@ -12,11 +12,13 @@ use crate::range::Range;
 use crate::range_of_days::{end_of_day, range_of_days, start_of_day};
 use crate::text::cut;
 
-/// The range from the first second of one expression to the last second of another, with `..` between them, of which one may
-/// be empty, or from the first to the last second of a lone expression. An expression is `YYYY-MM` or `YYYY-MM-DD`, in UTC.
-/// An empty end is no bound.
+/// Returns the range of a text: one expression, or two with `..` between them, one of which may be empty. An expression
+/// is `YYYY-MM` or `YYYY-MM-DD`, in UTC. The range has all seconds from the first of the first expression to the last
+/// of the last one. If an expression is empty, there is no bound on its side.
 ///
-/// The error is `BadDate`, at anything else, and at a month or a day that the calendar hasn't.
+/// # Errors
+///
+/// `BadDate` if the text has another form, or a month or a day that the calendar doesn't have.
 #[tactic(auto, unfolding(crate::specs::IsoRanges::iso_range_of))]
 pub fn iso_range(spec: &str) -> Result<Range, DateFault>
     ensures { result ≡ iso_range_of spec.now }
@@ -24,6 +26,7 @@ pub fn iso_range(spec: &str) -> Result<Range, DateFault>
     range_of_text(spec.as_bytes()).ok_or(DateFault::BadDate)
 }
 
+/// Returns the range of a text, or None if it has none of the forms.
 fn range_of_text(text: &[u8]) -> Option<Range>
     ensures { result ≡ iso_range_of_parts_by day_number (slice_split is_dot text.now) }
 {
@@ -41,6 +44,7 @@ fn range_of_text(text: &[u8]) -> Option<Range>
     }
 }
 
+/// Returns the range between two expressions, one of which may be empty.
 fn range_between(since: &[u8], until: &[u8]) -> Option<Range>
     ensures { result ≡ iso_between_by day_number since.now until.now }
 {
@@ -62,7 +66,7 @@ fn range_between(since: &[u8], until: &[u8]) -> Option<Range>
     Some(Range { from, until })
 }
 
-/// The days of an expression.
+/// Returns the days of an expression.
 #[tactic(auto, unfolding(crate::specs::IsoRanges::iso_days_by))]
 fn days_of(text: &[u8]) -> Option<Days>
     ensures { result ≡ iso_days_by day_number text.now }
@@ -77,6 +81,7 @@ fn days_of(text: &[u8]) -> Option<Days>
     }
 }
 
+/// Returns the days of a month, given as `YYYY` and `MM`.
 fn days_of_month(year: &[u8], month: &[u8]) -> Option<Days>
     ensures { result ≡ iso_month_by day_number year.now month.now }
 {
@@ -86,6 +91,7 @@ fn days_of_month(year: &[u8], month: &[u8]) -> Option<Days>
     }
 }
 
+/// Returns the day given as `YYYY`, `MM` and `DD`.
 fn days_of_day(year: &[u8], month: &[u8], day: &[u8]) -> Option<Days>
     ensures { result ≡ iso_day_by day_number year.now month.now day.now }
 {

@@ -1,7 +1,7 @@
-//! Dates of mail: what a Date field says, and the seconds that a range of days takes in. Nothing here takes memory.
+//! Dates of mail: reads Date fields, and texts that name a range of days. Nothing here takes memory.
 //!
-//! A second is a second of UTC from 1970-01-01T00:00:00Z, without leap seconds. Days are those of the proleptic
-//! Gregorian calendar, in which year 0 is a leap year.
+//! A second is a second of UTC, counted from 1970-01-01T00:00:00Z as 0, without leap seconds. Days are those of the
+//! proleptic Gregorian calendar, in which year 0 is a leap year.
 #![tactic(auto)]
 
 mod calendar;

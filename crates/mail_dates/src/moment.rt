@@ -1,4 +1,4 @@
-//! The moment at which a range is read.
+//! The moment at which a range is read: its second and its day.
 
 ghost use Rattle.std.specs.Prelude.{◌≡◌, ◌↔◌, ◌<◌, ◌≤◌, ◌^◌, ◌/◌, ℕ, pos, IsSome, IfSome};
 ghost use Rattle.mail_dates.specs.Calendar.{IsMoment};
@@ -25,7 +25,7 @@ impl Model for Moment {
 }
 
 impl Moment {
-    /// The moment with this second, or None outside those years.
+    /// Returns the moment with this second, or None if it is before 1970 or after 9999.
     pub fn new(second: i64) -> Option<Moment>
         ensures exists { IsSome result ↔ IsMoment second }
         ensures value { IfSome result (λ moment. pos moment ≡ second) }
@@ -38,14 +38,14 @@ impl Moment {
         }
     }
 
-    /// The day that it is in, by its number from 1970-01-01.
+    /// Returns the number of the day that the moment is in, counted from 1970-01-01 as 0.
     pub(crate) fn day(self) -> i32
         ensures { result ≡ pos (self / 86400) }
     {
         (self.second / 86_400) as i32
     }
 
-    /// Its second, below 2^38.
+    /// Returns the second of the moment, which is below 2^38.
     pub fn second(self) -> i64
         ensures value { result ≡ pos self }
         ensures bound { self < 2 ^ 38 }

@@ -1,4 +1,4 @@
-//! Numbers in decimal digits.
+//! Reads numbers in decimal digits.
 
 ghost use Rattle.std.specs.Prelude.{◌≡◌, ◌<◌, ◌≤◌, ◌^◌, length, true, IfSome};
 ghost use Rattle.std.specs.Char.{is_ascii_digit};
@@ -6,7 +6,7 @@ ghost use Rattle.std.specs.List.{list_all};
 ghost use Rattle.std.specs.Str.Parse.{digits_value};
 ghost use Rattle.mail_dates.specs.Numbers.{number_in};
 
-/// The number that the text writes in decimal, where it has `least` to `most` digits and nothing else.
+/// Returns the number that the text writes in decimal, if it has `least` to `most` digits and nothing else.
 pub fn number_in(least: usize, most: usize, text: &[u8]) -> Option<u16>
     requires { most ≤ 4 }
     ensures value { result ≡ number_in least most text.now }
@@ -18,14 +18,14 @@ pub fn number_in(least: usize, most: usize, text: &[u8]) -> Option<u16>
     Some(decimal_value(text) as u16)
 }
 
-/// Whether it is digits alone.
+/// Returns whether a text has digits alone. An empty text does.
 pub fn are_digits(text: &[u8]) -> bool
     ensures { result ≡ list_all is_ascii_digit text.now }
 {
     text.iter().all(u8::is_ascii_digit)
 }
 
-/// The number that digits write in decimal.
+/// Returns the number that these digits write in decimal.
 pub fn decimal_value(digits: &[u8]) -> u64
     requires few { length digits.now ≤ 18 }
     requires digits { list_all is_ascii_digit digits.now ≡ true }

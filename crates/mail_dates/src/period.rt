@@ -1,4 +1,4 @@
-//! Periods of days, as a range names them.
+//! Reads the periods of days that a range can name.
 
 ghost use Rattle.std.specs.Prelude.{◌≡◌, ◌≤◌, ◌≤ℤ◌, pos};
 ghost use Rattle.mail_dates.specs.Calendar.{day_number, month_of as month_of_name};
@@ -9,7 +9,7 @@ use crate::days::{Days, DaysOfYear};
 use crate::fault::DateFault;
 use crate::number::{are_digits, number_in};
 
-/// A unit of the time before today.
+/// A unit in which time before today is counted.
 #[derive(Clone, Copy)]
 pub enum Unit {
     Day,
@@ -21,6 +21,7 @@ pub enum Unit {
 }
 
 impl Unit {
+    /// Returns the unit that a letter means: `d`, `w`, `m` or `y`, in either case.
     fn of(letter: u8) -> Option<Unit>
         ensures { result ≡ unit_of letter }
     {
@@ -33,6 +34,7 @@ impl Unit {
         }
     }
 
+    /// Returns how many days the unit has.
     fn days(self) -> u16
         ensures value { result ≡ days_in_unit self }
         ensures bound { result ≤ 365 }
@@ -49,16 +51,17 @@ impl Unit {
 /// A period of days.
 #[derive(Clone, Copy)]
 pub enum Period {
-    /// The day so long before today.
+    /// The day that is this long before today.
     Ago { count: u16, unit: Unit },
     /// Days of one year.
     InYear { year: i16, days: DaysOfYear },
-    /// Days of the latest year that fits.
+    /// Days of the latest year that has them and in which they begin by a given day.
     Yearly(DaysOfYear),
 }
 
 impl Period {
-    /// The period that a text names.
+    /// Returns the period that a text names. The fault is `BadNumber` if the text is more than four digits and then a
+    /// unit, and `BadDate` for any other text that names no period.
     #[tactic(auto, unfolding(crate::specs::Periods::period_of))]
     pub fn of(text: &[u8]) -> Result<Period, DateFault>
         ensures { result ≡ period_of text.now }
@@ -75,7 +78,9 @@ impl Period {
             .ok_or(DateFault::BadDate)
     }
 
-    /// Its days, where today is this day and a period without a year begins by that day.
+    /// Returns the days of the period, if the calendar has them. The numbers count from 1970-01-01 as 0. `today` is
+    /// today's number. Days without a year are those of the latest year that has them and in which they begin by the
+    /// day `by`.
     pub fn days(self, today: i32, by: i32) -> Option<Days>
         requires { pos 0 ≤ℤ today }
         ensures { result ≡ period_days_by day_number today by self }
@@ -92,7 +97,7 @@ impl Period {
     }
 }
 
-/// Whether it is more than four digits and then a unit.
+/// Returns whether a text is more than four digits and then a unit.
 fn has_long_count(text: &[u8]) -> bool
     ensures { result ≡ has_long_count text.now }
 {
@@ -102,7 +107,7 @@ fn has_long_count(text: &[u8]) -> bool
     Unit::of(*letter).is_some() && digits.len() > 4 && are_digits(digits)
 }
 
-/// One to four digits, and then a unit.
+/// Reads one to four digits and then a unit.
 fn ago(text: &[u8]) -> Option<Period>
     ensures { result ≡ ago text.now }
 {
@@ -115,7 +120,7 @@ fn ago(text: &[u8]) -> Option<Period>
     None
 }
 
-/// `YYYYMMDD`.
+/// Reads `YYYYMMDD`.
 fn full_date(text: &[u8]) -> Option<Period>
     ensures { result ≡ full_date text.now }
 {
@@ -138,7 +143,7 @@ fn full_date(text: &[u8]) -> Option<Period>
     }
 }
 
-/// `YYYY`.
+/// Reads `YYYY`.
 fn whole_year(text: &[u8]) -> Option<Period>
     ensures { result ≡ whole_year text.now }
 {
@@ -149,7 +154,7 @@ fn whole_year(text: &[u8]) -> Option<Period>
     })
 }
 
-/// A month's name.
+/// Reads a month's name.
 fn yearly_month(text: &[u8]) -> Option<Period>
     ensures { result ≡ yearly_month text.now }
 {
@@ -157,7 +162,7 @@ fn yearly_month(text: &[u8]) -> Option<Period>
     Some(Period::Yearly(DaysOfYear::Month(month)))
 }
 
-/// A day and a month's name.
+/// Reads a day and a month's name.
 fn day_and_month(text: &[u8]) -> Option<Period>
     ensures { result ≡ day_and_month text.now }
 {
@@ -165,7 +170,7 @@ fn day_and_month(text: &[u8]) -> Option<Period>
     yearly_day(month, day)
 }
 
-/// A month's name and a day.
+/// Reads a month's name and a day.
 fn month_and_day(text: &[u8]) -> Option<Period>
     ensures { result ≡ month_and_day text.now }
 {
@@ -173,6 +178,7 @@ fn month_and_day(text: &[u8]) -> Option<Period>
     yearly_day(month, day)
 }
 
+/// Returns the period of a day and a month's name, if both can be read.
 fn yearly_day(month: &[u8], day: &[u8]) -> Option<Period>
     ensures { result ≡ yearly_day (month_of_name month.now) (day_of day.now) }
 {
@@ -182,7 +188,7 @@ fn yearly_day(month: &[u8], day: &[u8]) -> Option<Period>
     }
 }
 
-/// One or two digits from 1 to 31, without a 0 before others.
+/// Reads the number of a day: one or two digits, from 1 to 31, without a 0 at the front.
 fn day_of(text: &[u8]) -> Option<u8>
     ensures { result ≡ day_of text.now }
 {

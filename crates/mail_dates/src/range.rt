@@ -1,8 +1,8 @@
-//! Ranges of dates.
+//! Ranges of seconds, in which dates are looked for.
 
 ghost use Rattle.std.specs.Prelude.{◌≡◌};
 
-/// The seconds from one to another, both included; an end that is None is no bound.
+/// The seconds from `from` to `until`, both included. A side that is None has no bound.
 #[derive(Clone, Copy, PartialEq, Eq)]
 pub struct Range {
     /// The first second.
@@ -14,7 +14,7 @@ pub struct Range {
 impl Range {
     ghost use Rattle.mail_dates.specs.Ranges.{has_date};
 
-    /// Whether there is a date, and it lies in the range.
+    /// Returns whether there is a date and it is in the range.
     pub fn has(&self, date: Option<i64>) -> bool
         ensures { result ≡ has_date self.now date }
     {

@@ -1,4 +1,4 @@
-//! Ranges of days, as in `2w-`, `oct` or `21apr-mar`.
+//! Reads ranges of days, as in `2w-`, `oct` or `21apr-mar`.
 
 ghost use Rattle.std.specs.Prelude.{◌≡◌, ◌↔◌, ◌≤ℤ◌, pos, Ok, Err};
 ghost use Rattle.mail_dates.specs.declared.fault.DateFault.{DateFault};
@@ -14,16 +14,25 @@ use crate::period::Period;
 use crate::range::Range;
 use crate::text::cut;
 
-/// The range that the text names at this moment: a period, or a start and an end with a `-` between them, of which one may
-/// be empty. Days are those of UTC.
+/// Returns the range that a text names at the moment `now`. The text is a period, or a start and an end with a `-`
+/// between them, one of which may be empty. Days are those of UTC, and today is the day of `now`.
 ///
-/// A period is `N` and `d`, `w`, `m` or `y` (one to four digits: the one day so many days, weeks, months of 30 days or years
-/// of 365 days before today), `YYYYMMDD`, `YYYY`, a month (`jan` to `dec`), or a day and a month in either order, letters
-/// in either case. An end or a period without a year is the latest that has begun today, a start the latest that has begun
-/// by the end's last day; none is cut to today. An empty start is no bound, an empty end is this moment.
+/// A period is one of these, with letters in either case:
 ///
-/// The error is `BadNumber` where a start, an end or a period is more than four digits and then such a letter, and
-/// `BadDate` at anything else. The end is read first, and its fault goes first.
+/// - one to four digits and `d`, `w`, `m` or `y`: the day that is this many days, weeks, months of 30 days or years of
+///   365 days before today
+/// - `YYYYMMDD` or `YYYY`
+/// - a month, from `jan` to `dec`
+/// - a day and a month, in either order
+///
+/// A period or an end without a year is the latest that has begun by today. A start without a year is the latest that
+/// has begun by the end's last day. None of them is cut to today. An empty start is no bound, and an empty end is this
+/// moment.
+///
+/// # Errors
+///
+/// `BadNumber` if a period, a start or an end is more than four digits and then one of these letters. `BadDate` if the
+/// text names no range for any other reason. The end is read before the start, so its fault is reported first.
 pub fn range_of(spec: &str, now: Moment) -> Result<Range, DateFault>
     ensures value { result ≡ range_at spec.now now }
     ensures range { (range : Range) → (result ≡ Ok range) ↔ IsRange now spec.now range }
@@ -39,6 +48,7 @@ pub fn range_of(spec: &str, now: Moment) -> Result<Range, DateFault>
     }
 }
 
+/// Returns the range of a text that is a period.
 fn range_of_period(now: Moment, text: &[u8]) -> Result<Range, DateFault>
     ensures { result ≡ range_of_period_by day_number now text.now }
 {
@@ -47,7 +57,7 @@ fn range_of_period(now: Moment, text: &[u8]) -> Result<Range, DateFault>
     Ok(range_of_days(days))
 }
 
-/// All seconds of these days.
+/// Returns the range of all seconds of these days.
 pub fn range_of_days(days: Days) -> Range
     ensures { result ≡ range_of_days days }
 {
@@ -57,20 +67,21 @@ pub fn range_of_days(days: Days) -> Range
     }
 }
 
-/// The first second of a day.
+/// Returns the first second of a day.
 pub fn start_of_day(day: i32) -> i64
     ensures { result ≡ start_of_day day }
 {
     i64::from(day) * 86_400
 }
 
-/// The last second of a day.
+/// Returns the last second of a day.
 pub fn end_of_day(day: i32) -> i64
     ensures { result ≡ end_of_day day }
 {
     i64::from(day) * 86_400 + 86_399
 }
 
+/// Returns the range of a start and an end, at least one of which isn't empty.
 fn range_between(now: Moment, start: &[u8], end: &[u8]) -> Result<Range, DateFault>
     ensures { result ≡ range_between_by day_number now start.now end.now }
 {
@@ -85,7 +96,7 @@ fn range_between(now: Moment, start: &[u8], end: &[u8]) -> Result<Range, DateFau
     range_from(now, days.last, start, end_of_day(days.last))
 }
 
-/// The range from a start to a second of the end's last day.
+/// Returns the range from the start in a text to the second `until`. `end` is the last day of the end.
 fn range_from(now: Moment, end: i32, text: &[u8], until: i64) -> Result<Range, DateFault>
     ensures { result ≡ range_from_by day_number now end text.now until }
 {
@@ -98,7 +109,7 @@ fn range_from(now: Moment, end: i32, text: &[u8], until: i64) -> Result<Range, D
     Ok(Range { from, until })
 }
 
-/// The days that a text names, where one without a year begins by this day.
+/// Returns the days that a text names. Days without a year begin by the day `by`.
 fn named_days(today: i32, by: i32, text: &[u8]) -> Result<Days, DateFault>
     requires { pos 0 ≤ℤ today }
     ensures { result ≡ named_days_by day_number today by text.now }

@@ -1,9 +1,9 @@
-//! Cutting texts at a byte.
+//! Cuts texts at a byte.
 
 ghost use Rattle.std.specs.Prelude.{◌≡◌, ◌==◌, [], ◌∷◌, position, MatchOption};
 ghost use Rattle.std.specs.List.{slice_split};
 
-/// What stands before the first such byte, and behind it.
+/// Returns what is before the first such byte, and what is after it, or None if the byte isn't there.
 #[tactic(auto, using(crate::proofs::Cuts::split_some, crate::proofs::Cuts::split_none, std::proofs::lemmas::List::take_rest))]
 pub fn cut(text: &[u8], byte: u8) -> Option<(&[u8], &[u8])>
     ensures { MatchOption result (slice_split (λ b. b == byte) text.now ≡ text.now ∷ [])
@@ -14,6 +14,7 @@ pub fn cut(text: &[u8], byte: u8) -> Option<(&[u8], &[u8])>
     Some((&text[..at], &text[at + 1..]))
 }
 
+/// Returns the place of the first such byte, if there is one.
 pub fn place_of(text: &[u8], byte: u8) -> Option<usize>
     ensures { result ≡ position (λ b. b == byte) text.now }
 {

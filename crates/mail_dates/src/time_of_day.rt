@@ -1,4 +1,4 @@
-//! Times of day.
+//! Reads times of day.
 
 ghost use Rattle.std.specs.Prelude.{◌≡◌};
 ghost use Rattle.mail_dates.specs.HeaderDates.{time_by, time_of};
@@ -6,7 +6,7 @@ ghost use Rattle.mail_dates.specs.HeaderDates.{time_by, time_of};
 use crate::number::number_in;
 use crate::text::cut;
 
-/// The second of the day that `h:mm`, `hh:mm`, `h:mm:ss` or `hh:mm:ss` says: 86,400 at 23:59:60.
+/// Returns the second of the day that `h:mm`, `hh:mm`, `h:mm:ss` or `hh:mm:ss` says. It is 86,400 for 23:59:60.
 #[tactic(auto, unfolding(crate::specs::HeaderDates::time_of))]
 pub fn time_of(token: &[u8]) -> Option<u32>
     ensures { result ≡ time_of token.now }
@@ -21,6 +21,7 @@ pub fn time_of(token: &[u8]) -> Option<u32>
     }
 }
 
+/// Returns the second of the day of an hour and a minute, as texts, and a second, if they are a time.
 fn time_by(hour: &[u8], minute: &[u8], second: Option<u16>) -> Option<u32>
     ensures { result ≡ time_by hour.now minute.now second }
 {

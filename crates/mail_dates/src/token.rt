@@ -1,4 +1,4 @@
-//! Tokens of a header field.
+//! Takes the tokens of a header field.
 
 ghost use Rattle.std.specs.Prelude.{◌≡◌, ◌<◌, [], ◌∷◌, length, position, MatchOption, IfSome};
 ghost use Rattle.std.specs.List.{list_all, slice_split};
@@ -7,7 +7,7 @@ ghost use Rattle.mail_dates.specs.HeaderDates.{is_gap, tokens, with_first, witho
 
 use crate::text::place_of;
 
-/// What stands before the first comment.
+/// Returns what is before the first `(`, where comments begin.
 pub fn without_comments(text: &[u8]) -> &[u8]
     ensures { result.now ≡ without_comments text.now }
 {
@@ -17,7 +17,7 @@ pub fn without_comments(text: &[u8]) -> &[u8]
     }
 }
 
-/// The first token, and what stands behind it. Where there is no token, both are empty.
+/// Returns the first token, and what follows it. If there is no token, both are empty.
 pub fn next_token(text: &[u8]) -> (&[u8], &[u8])
     ensures tokens { tokens text.now ≡ with_first result.0.now result.1.now }
     ensures none { result.0.now ≡ [] → result.1.now ≡ [] }
@@ -32,13 +32,14 @@ pub fn next_token(text: &[u8]) -> (&[u8], &[u8])
     (rest, b"")
 }
 
-/// Whether it is ASCII letters alone.
+/// Returns whether a token has ASCII letters alone. An empty one does.
 pub fn are_letters(token: &[u8]) -> bool
     ensures { result ≡ list_all is_ascii_alphabetic token.now }
 {
     token.iter().all(u8::is_ascii_alphabetic)
 }
 
+/// Returns what is before the first space, tab or comma, and what is after it.
 #[tactic(auto, using(crate::proofs::Cuts::split_some, crate::proofs::Cuts::split_none, std::proofs::lemmas::List::take_rest))]
 fn cut_at_gap(text: &[u8]) -> Option<(&[u8], &[u8])>
     ensures shorter { IfSome result (λ parts. length parts.1.now < length text.now) }
@@ -49,6 +50,7 @@ fn cut_at_gap(text: &[u8]) -> Option<(&[u8], &[u8])>
     Some((&text[..at], &text[at + 1..]))
 }
 
+/// Returns the place of the first space, tab or comma.
 fn place_of_gap(text: &[u8]) -> Option<usize>
     ensures { result ≡ position is_gap text.now }
 {

@@ -1,4 +1,4 @@
-//! Time zones of header dates.
+//! Reads the time zones of header dates.
 
 ghost use Rattle.std.specs.Prelude.{◌≡◌, ◌<◌, bytes_eq, find, option_copied, IfSome};
 ghost use Rattle.std.specs.Option.{option_map_or};
@@ -6,7 +6,7 @@ ghost use Rattle.mail_dates.specs.HeaderDates.{zones, hours_west, offset_size, n
 
 use crate::number::number_in;
 
-/// The names of zones other than UTC, in small letters, and how many hours west of UTC each is.
+/// The names of zones other than UTC, in small letters, and how many hours each is west of UTC.
 const ZONES: [([u8; 3], u8); 8] = [
     (*b"est", 5),
     (*b"edt", 4),
@@ -18,7 +18,7 @@ const ZONES: [([u8; 3], u8); 8] = [
     (*b"pdt", 7),
 ];
 
-/// How many seconds east of UTC the zone is: `+hhmm` and `-hhmm`, or a name; any other is UTC.
+/// Returns how many seconds a zone is east of UTC. The zone is `+hhmm`, `-hhmm` or a name; any other text means UTC.
 pub fn offset_of(zone: &[u8]) -> i32
     ensures { result ≡ offset_of zone.now }
 {
@@ -28,6 +28,7 @@ pub fn offset_of(zone: &[u8]) -> i32
     }
 }
 
+/// Returns the offset of `+hhmm` or `-hhmm`, in seconds east of UTC.
 fn numeric_offset(zone: &[u8]) -> Option<i32>
     ensures { result ≡ numeric_offset zone.now }
 {
@@ -39,6 +40,7 @@ fn numeric_offset(zone: &[u8]) -> Option<i32>
     }
 }
 
+/// Returns how many seconds `hhmm` is.
 fn offset_size(digits: &[u8]) -> Option<u32>
     ensures value { result ≡ offset_size digits.now }
     ensures bound { IfSome result (λ size. size < 86400) }
@@ -51,7 +53,7 @@ fn offset_size(digits: &[u8]) -> Option<u32>
     }
 }
 
-/// How many hours west of UTC a zone with a name is.
+/// Returns how many hours a zone with this name is west of UTC. It is 0 for a name that isn't known.
 #[tactic(auto, unfolding(crate::specs::HeaderDates::hours_west))]
 fn hours_west(name: &[u8]) -> u8
     ensures value { result ≡ hours_west name.now }
@@ -69,6 +71,7 @@ fn hours_west(name: &[u8]) -> u8
     }
 }
 
+/// Returns the zone with this name, which is in small letters.
 fn zone_named(lower: [u8; 3]) -> Option<&'static ([u8; 3], u8)>
     ensures { option_copied result ≡ find (λ zone. bytes_eq zone.0 lower) zones }
 {

@@ -6,7 +6,7 @@ nothing : {A B : Type 0} (o : Option A) (f : A → Option B) → ((x : A) → f 
 nothing None f h = refl
 nothing (Some x) f h = h x
 
--- what a missing token makes of the date
+-- the date if a token is missing
 read : (day month year time zone r s t u v : List ℕ) → tokens r ≡ with_first month s → tokens s ≡ with_first year t → tokens t ≡ with_first time u → tokens u ≡ with_first zone v
     → date_of_parts_by day_number day month year time (offset_of zone) ≡ date_of_tokens_by day_number (with_first day r)
 unfolding month_of time_of offset_of hours_west

@@ -2,7 +2,7 @@ use Rattle.mail_dates.proofs.Words.{sym, ap, day_number, is_dash, iso_days_by, i
 use Rattle.mail_dates.proofs.Cuts.{split_four}
 use Rattle.mail_dates.proofs.iso_dates.days_of.Goals as goal
 
--- four parts and more are of no form
+-- four or more parts have none of the forms
 pub returns-in-Some-cut : goal.returns-in-Some-cut
 unfolding iso_days_by
 returns-in-Some-cut c =

@@ -2,7 +2,7 @@ use Rattle.mail_dates.proofs.Words.{◌≡◌, ℕ, List, ◌∷◌, None, sym, 
 use Rattle.mail_dates.proofs.Cuts.{split_four}
 use Rattle.mail_dates.proofs.iso_dates.range_of_text.Goals as goal
 
--- four parts and more are of no form
+-- four or more parts have none of the forms
 too_many : (since between third fourth : List ℕ) (rest : List (List ℕ)) → None ≡ iso_range_of_parts_by day_number (since ∷ between ∷ third ∷ fourth ∷ rest)
 too_many since between third fourth rest = grind arith
 

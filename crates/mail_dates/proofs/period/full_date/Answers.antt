@@ -5,7 +5,7 @@ use Rattle.mail_dates.specs.declared.period.Period.TheVariants.{InYear}
 use Rattle.mail_dates.specs.Periods.{full_date}
 use Rattle.mail_dates.proofs.period.full_date.Goals as goal
 
--- the parts, read
+-- the period of parts that can be read
 read : (text : List ℕ) (y m d : ℕ) → length text ≡ 8 → Some y ≡ number_in 4 4 (take 4 text) → Some m ≡ number_in 2 2 (slice_range text 4 6) → Some d ≡ number_in 2 2 (drop 6 text) → Some (InYear (pos y) (days.Day m d)) ≡ full_date text
 read text y m d len e f g = rw (len, ← e, ← f, ← g) refl
 

@@ -19,7 +19,7 @@ returns-in-None-cut c =
     ∙ ap (range_by day_number c.args.now) c.as_bytes-text.ensures.value in
     record { value = value; range = range_answered c.args.now c.args.spec.now _ value; fault = fault_answered c.args.now c.args.spec.now _ value }
 
--- three parts and more are of no form
+-- three or more parts have none of the forms
 pub returns-in-Some-cut : goal.returns-in-Some-cut
 unfolding range_at
 returns-in-Some-cut c =

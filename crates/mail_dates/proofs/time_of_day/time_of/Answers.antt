@@ -2,7 +2,7 @@ use Rattle.mail_dates.proofs.Words.{sym, ap, time_of, time_of_parts, is_colon}
 use Rattle.mail_dates.proofs.Cuts.{split_four}
 use Rattle.mail_dates.proofs.time_of_day.time_of.Goals as goal
 
--- four parts and more are of no form
+-- four or more parts have none of the forms
 pub returns-in-Some-cut : goal.returns-in-Some-cut
 unfolding time_of
 returns-in-Some-cut c =

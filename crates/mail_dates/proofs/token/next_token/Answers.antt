@@ -1,7 +1,7 @@
 use Rattle.mail_dates.proofs.Words.{◌≡◌, ◌==◌, ℕ, List, [], ◌∷◌, true, false, length, refl, sym, ◌∙◌, arith, nat_tests, slice_split, tokens, is_gap, with_first}
 use Rattle.mail_dates.proofs.token.next_token.Goals as goal
 
--- an empty piece is no token
+-- an empty part isn't a token
 skipped : (text front back : List ℕ) → slice_split is_gap text ≡ front ∷ slice_split is_gap back → (length front == 0) ≡ true → tokens text ≡ tokens back
 unfolding tokens
 skipped text front back e empty = rw (e, empty) refl
