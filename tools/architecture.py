@@ -1,10 +1,13 @@
 #!/usr/bin/env python3
-"""Holds docs/ARCHITECTURE.md to the crates: its last part names each module and each file of definitions, with what it says of itself, and
-"What a reader has to believe" names the definitions that the two runs of the program rest on, and no others.
+"""Compares docs/ARCHITECTURE.md and docs/MODULES.md with the crates. In ARCHITECTURE.md, the functions of each walk
+exist, each is called by the one above it, and those of one caller are in the order of its code. "What a reader has to
+believe" names the definitions that the two runs of the program depend on, and no others. "The crates" has each crate
+with the crates that crates.txt gives it. MODULES.md names each module and each file of definitions, with the first
+sentence of its comment.
 
     tools/architecture.py [--write]
 
-With --write the last part is written anew. The last line is `N passed, M failed`.
+With --write MODULES.md is written anew. The last line is `N passed, M failed`.
 """
 import re
 import sys
@@ -12,11 +15,13 @@ from pathlib import Path
 
 sys.dont_write_bytecode = True
 from crates import Crates
+from function_bodies import blanked, block_end, bodies_of_file
 
 TOP = Path(__file__).resolve().parent.parent
-PAGE = TOP / "docs/ARCHITECTURE.md"
-MARK = "## Every module\n"
-BELIEVED = "## What a reader has to believe"
+PAGE, MODULES = TOP / "docs/ARCHITECTURE.md", TOP / "docs/MODULES.md"
+WALKS, BELIEVED, THE_CRATES = "## The walks", "## What a reader has to believe, in this order", "## The crates"
+# A line of a walk: a function, its crate and its module.
+STEP = re.compile(r"( *)(?:(\w+)::)?(\w+) +(\w+) +([\w/]+)(?:  .*)?")
 # The calls that the program makes, whose clauses are the headline.
 RUNS = {"once_run": "mairix_tool/src/once.rt", "search_run": "mairix_tool/src/stored.rt"}
 USE = re.compile(r"^\s*(?:ghost )?use Rattle\.(\w+)\.specs\.([\w.]+?)(?:\.\{([^}]*)\}| as (\w+))?;?\s*$", re.M)
@@ -34,9 +39,9 @@ def first_sentence(text, sign):
 
 
 def names_in(folder, suffix):
-    """The files of a folder by their paths without suffix, those of a folder behind the file of its name."""
-    files = [it for it in folder.rglob(f"*{suffix}") if it.is_file()]
-    return {str(it.relative_to(folder))[: -len(suffix)]: it for it in sorted(files, key=lambda it: str(it)[: -len(suffix)])}
+    """The files of a folder by their paths without suffix, those of a folder after the file of its name."""
+    files = {str(it.relative_to(folder))[: -len(suffix)]: it for it in folder.rglob(f"*{suffix}") if it.is_file()}
+    return dict(sorted(files.items()))
 
 
 def modules_of(folder):
@@ -59,7 +64,7 @@ def uses_in(text):
     return found
 
 
-# ---- the last part
+# ---- the list of modules
 
 
 def row(*cells):
@@ -69,7 +74,7 @@ def row(*cells):
 def part_of(crates, name):
     """The part of a crate: its modules with the definitions that their contracts name, and what these are about."""
     folder = crates.folder(name)
-    written = f"\n### {name}\n\n" + row("Module", "What it is about", "Its contracts name") + "|---|---|---|\n"
+    written = f"\n## {name}\n\n" + row("Module", "What it is about", "Its contracts name") + "|---|---|---|\n"
     definitions = definitions_of(folder)
     for path, file in modules_of(folder).items():
         text = file.read_text("utf-8")
@@ -82,11 +87,101 @@ def part_of(crates, name):
     return written
 
 
-def last_part(crates):
-    """The last part of the page, crate by crate, lowest first."""
+def list_of_modules(crates):
+    """The page of all modules, crate by crate, lowest first."""
     names = sorted(crates.libraries, key=lambda it: (it.startswith("worked_"), len(crates.below(it)), it))
-    said = "\nWritten by `tools/architecture.py --write` from the first lines of the files themselves.\n"
-    return MARK + said + "".join(part_of(crates, it) for it in names)
+    said = "`tools/architecture.py --write` writes this page from the first sentences of the files themselves."
+    where = "[ARCHITECTURE.md](ARCHITECTURE.md) says how the crates work together."
+    return f"# Every module\n\n{said}\n{where}\n" + "".join(part_of(crates, it) for it in names)
+
+
+# ---- the walks
+
+
+def walks_of(page):
+    """The walks, each as its lines."""
+    return [it.splitlines() for it in re.findall(r"(?m)^```text\n(.*?)^```$", section(page, WALKS), re.S | re.M)]
+
+
+def section(page, title):
+    return page[page.index(f"{title}\n") :].partition("\n## ")[0]
+
+
+class Bodies:
+    """The bodies of the functions of all crates."""
+
+    def __init__(self, crates):
+        self.crates = crates
+        self.files = {}
+
+    def body(self, owner, function, crate, module):
+        """The body of a function, or None where the module has none of this name."""
+        file = self.crates.folder(crate) / "src" / f"{module}.rt"
+        if file not in self.files:
+            self.files[file] = self.read(crate, file) if file.is_file() else {}
+        names = self.files[file]
+        wanted = rf"{owner}(?:[A-Z]\w*)?::{function}" if owner else function
+        return next((body for name, body in names.items() if re.fullmatch(wanted, name)), None)
+
+    def read(self, crate, file):
+        text = blanked(file.read_text("utf-8"))
+        found = bodies_of_file(crate, file.relative_to(self.crates.folder(crate)).as_posix(), text)
+        own = {name: re.match(r".*?((?:[A-Z]\w*::)?\w+)$", name)[1] for _, _, name in found}
+        return {own[name]: text[start:end] for start, end, name in found}
+
+
+def call_after(body, owner, function, at):
+    """Where the first call of a function ends that ends after a place in a body, or None. A function that is passed as
+    an argument counts as called."""
+    front = rf"(?:\.|\b{owner}::)" if owner else r"(?<![\w.:])(?:\w+::)?"
+    calls = [it.end() for it in re.finditer(rf"{front}{function}(?=[(,)])", body)]
+    ends = [end_of_brackets(body, it) if body[it] == "(" else it for it in calls]
+    return min((it for it in ends if it > at), default=None)
+
+
+def end_of_brackets(text, at):
+    depth = 0
+    for bracket in re.compile(r"[()]").finditer(text, at):
+        depth += 1 if bracket[0] == "(" else -1
+        if not depth:
+            return bracket.end()
+    return len(text)
+
+
+def faults_of_walk(lines, bodies, known):
+    """What is wrong with a walk. Its first function has to be known, and all of its functions are known after it."""
+    # The callers of a line, outermost first: indentation, name, body, and where the last call ends that a line names.
+    above = []
+    for line in lines:
+        step = STEP.fullmatch(line)
+        if not step:
+            yield f"{line.strip()!r} isn't a function, a crate and a module"
+            return
+        indent, owner, function, crate, module = step.groups()
+        name = f"{owner}::{function}" if owner else function
+        body = bodies.body(owner, function, crate, module)
+        if body is None:
+            yield f"{crate} {module} has no function {name}"
+            return
+        while above and above[-1][0] >= len(indent):
+            above.pop()
+        if above:
+            caller = above[-1]
+            end = call_after(caller[2], owner, function, caller[3])
+            if end is None:
+                yield f"{caller[1]} doesn't call {name} there"
+            else:
+                caller[3] = end
+        elif (name, crate, module) not in known:
+            yield f"{name} is in no earlier walk"
+        known.add((name, crate, module))
+        above.append([len(indent), name, body, 0])
+
+
+def faults_of_walks(page, crates):
+    bodies, known = Bodies(crates), {("main", "mairix", "main")}
+    walks = walks_of(page)
+    return [fault for lines in walks for fault in faults_of_walk(lines, bodies, known)] if walks else ["there is none"]
 
 
 # ---- what a reader has to believe
@@ -117,8 +212,7 @@ def closure(crates):
 
 def believed(page, crates):
     """The definitions that the page names there."""
-    part = page[page.index(BELIEVED) :].partition("\n## ")[0]
-    listed = "\n".join(re.findall(r"(?m)^(?:\d+\. |   ).*", part))
+    listed = "\n".join(re.findall(r"(?m)^(?:\d+\. |   ).*", section(page, BELIEVED)))
     found, crate = set(), None
     for word in re.findall(r"`\w+`|\b[a-z]+_[a-z]+\b", listed):
         if word in crates.libraries:
@@ -130,18 +224,35 @@ def believed(page, crates):
 
 def difference(want, got):
     shown = lambda places: ", ".join(f"{crate} {path}" for crate, path in sorted(places))
-    return "; ".join(it for it in (f"missing: {shown(want - got)}" if want - got else "", f"too many: {shown(got - want)}" if got - want else "") if it)
+    told = (("missing", want - got), ("too many", got - want))
+    return "; ".join(f"{what}: {shown(places)}" for what, places in told if places)
+
+
+# ---- the crates
+
+
+def faults_of_table(page, crates):
+    """What is wrong with the table of crates: each crate is there, with the crates that crates.txt gives it; a crate of
+    tests with none."""
+    rows = re.findall(r"(?m)^\| (`.*`) \| .* \|(.*)\|$", section(page, THE_CRATES))
+    told = {name: set(re.findall(r"\w+", below)) for names, below in rows for name in re.findall(r"`(\w+)`", names)}
+    for name, libraries in crates.libraries.items():
+        want = set() if name.startswith("worked_") else {it for it in libraries if it in crates.libraries}
+        if told.get(name) != want:
+            yield f"{name} depends on {', '.join(sorted(want)) or 'none'}"
+    yield from (f"{it} is no crate" for it in told.keys() - crates.libraries.keys())
 
 
 def main(write):
     crates = Crates(TOP)
-    page = PAGE.read_text("utf-8")
     if write:
-        PAGE.write_text(page.partition(MARK)[0] + last_part(crates), "utf-8")
-        page = PAGE.read_text("utf-8")
+        MODULES.write_text(list_of_modules(crates), "utf-8")
+    page = PAGE.read_text("utf-8")
     wrong = {
-        "every module": "" if page.partition(MARK)[1:] == (MARK, last_part(crates)[len(MARK) :]) else "it isn't what --write writes",
+        "walks": "; ".join(faults_of_walks(page, crates)),
         "what a reader has to believe": difference(closure(crates), believed(page, crates)),
+        "the crates": "; ".join(faults_of_table(page, crates)),
+        "MODULES.md": "" if MODULES.read_text("utf-8") == list_of_modules(crates) else "it isn't what --write writes",
     }
     for name, why in wrong.items():
         if why:
