@@ -2,8 +2,8 @@
 """Compares docs/ARCHITECTURE.md and docs/MODULES.md with the crates. In ARCHITECTURE.md, the functions of each walk
 exist, each is called by the one above it, and those of one caller are in the order of its code. "What a reader has to
 believe" names the definitions that the two runs of the program depend on, and no others. "The crates" has each crate
-with the crates that crates.txt gives it. MODULES.md names each module and each file of definitions, with the first
-sentence of its comment.
+with the crates that crates.txt gives it, and PERFORMANCE.md names no other. MODULES.md names each module and each file
+of definitions, with the first sentence of its comment.
 
     tools/architecture.py [--write]
 
@@ -18,7 +18,7 @@ from crates import Crates
 from function_bodies import blanked, block_end, bodies_of_file
 
 TOP = Path(__file__).resolve().parent.parent
-PAGE, MODULES = TOP / "docs/ARCHITECTURE.md", TOP / "docs/MODULES.md"
+PAGE, MODULES, TIMES = (TOP / "docs" / name for name in ("ARCHITECTURE.md", "MODULES.md", "PERFORMANCE.md"))
 WALKS, BELIEVED, THE_CRATES = "## The walks", "## What a reader has to believe, in this order", "## The crates"
 # A line of a walk: a function, its crate and its module.
 STEP = re.compile(r"( *)(?:(\w+)::)?(\w+) +(\w+) +([\w/]+)(?:  .*)?")
@@ -243,15 +243,27 @@ def faults_of_table(page, crates):
     yield from (f"{it} is no crate" for it in told.keys() - crates.libraries.keys())
 
 
+def crates_in_tables(page):
+    """What the tables of a page have in columns `Crate`: the word at the front of each cell."""
+    columns = []
+    for line in page.splitlines():
+        cells = [it.strip() for it in line.strip("|").split("|")] if line.startswith("|") else []
+        if "Crate" in cells or not cells:
+            columns = [at for at, cell in enumerate(cells) if cell == "Crate"]
+        else:
+            yield from (word for at in columns for word in re.findall(r"^\w+", cells[at]))
+
+
 def main(write):
     crates = Crates(TOP)
     if write:
         MODULES.write_text(list_of_modules(crates), "utf-8")
-    page = PAGE.read_text("utf-8")
+    page, timed = PAGE.read_text("utf-8"), list(crates_in_tables(TIMES.read_text("utf-8")))
     wrong = {
         "walks": "; ".join(faults_of_walks(page, crates)),
         "what a reader has to believe": difference(closure(crates), believed(page, crates)),
         "the crates": "; ".join(faults_of_table(page, crates)),
+        "crates in PERFORMANCE.md": ", ".join(f"{it} is no crate" for it in timed if it not in crates.libraries),
         "MODULES.md": "" if MODULES.read_text("utf-8") == list_of_modules(crates) else "it isn't what --write writes",
     }
     for name, why in wrong.items():
