@@ -1,0 +1,81 @@
+#!/usr/bin/env python3
+"""Looks for private words in the comments of crates and on pages. tools/plain_words.txt lists the words, each with the
+usual one, and the crates and pages.
+
+    tools/plain_words.py [CRATE ..]
+
+With names of crates, the comments of these are looked at, whether they are listed or not, and nothing else. The last
+line is `N passed, M failed`: crates and pages.
+"""
+import re
+import sys
+from pathlib import Path
+
+sys.dont_write_bytecode = True
+from function_bodies import HIDDEN
+
+TOP = Path(__file__).resolve().parent.parent
+WORDS = TOP / "tools/plain_words.txt"
+# In a file of definitions: a text, or a comment.
+DEFINED = re.compile(r'"(?:\\.|[^"\\\n])*"|(?<!\S)--[^\n]*')
+# Names of code in a comment or on a page.
+CODE = re.compile(r"```.*?```|`[^`\n]*`", re.S)
+
+
+def spaces(found):
+    return re.sub(r"\S", " ", found[0])
+
+
+class Words:
+    """The private words with the usual ones, and where they are looked for."""
+
+    def __init__(self, text):
+        lines = [it.strip() for it in text.splitlines() if it.strip() and not it.startswith("#")]
+        self.crates = [it.split()[1] for it in lines if it.startswith("crate ")]
+        self.pages = [it.split()[1] for it in lines if it.startswith("page ")]
+        self.usual = dict(it.split(" = ") for it in lines if " = " in it)
+        # The longest first: "in front of" has "in front" in it.
+        longest = sorted(self.usual, key=len, reverse=True)
+        self.pattern = re.compile(rf"(?<![\w'-])(?:{'|'.join(longest)})(?![\w'-])".replace(" ", r"\s+"), re.I)
+
+    def faults(self, text):
+        """Each private word of a text: the number of its line, the word, and the usual one."""
+        for found in self.pattern.finditer(CODE.sub(spaces, text)):
+            word = " ".join(found[0].split())
+            yield text.count("\n", 0, found.start()) + 1, word, self.usual[word.lower()]
+
+
+def comments_of(file):
+    """The comments of a file of code or of definitions, each at its place; all else is spaces."""
+    text = file.read_text("utf-8")
+    pattern = HIDDEN if file.suffix == ".rt" else DEFINED
+    kept = [" " if it != "\n" else it for it in text]
+    for found in pattern.finditer(text):
+        if found[0].startswith(("//", "/*", "--")):
+            said = re.sub(r"^(//[/!]?|/\*|--)", spaces, found[0])
+            kept[found.start() : found.end()] = said
+    return "".join(kept)
+
+
+def files_of(crate):
+    folder = TOP / "crates" / crate
+    return [*sorted(folder.glob("src/**/*.rt")), *sorted(folder.glob("specs/**/*.antt"))]
+
+
+def main(crates):
+    words = Words(WORDS.read_text("utf-8"))
+    looked_at = {it: [(file, comments_of(file)) for file in files_of(it)] for it in crates or words.crates}
+    if not crates:
+        looked_at |= {it: [(TOP / it, (TOP / it).read_text("utf-8"))] for it in words.pages}
+    failed = 0
+    for name, texts in looked_at.items():
+        wrong = [(file, *fault) for file, text in texts for fault in words.faults(text)]
+        for file, line, word, usual in wrong:
+            print(f"{file.relative_to(TOP)}:{line}: {word}: {usual}")
+        failed += bool(wrong) or not texts
+    print(f"{len(looked_at) - failed} passed, {failed} failed")
+    return 1 if failed else 0
+
+
+if __name__ == "__main__":
+    sys.exit(main(sys.argv[1:]))
