@@ -1,7 +1,8 @@
 #!/usr/bin/env python3
 """Compares the pages, the completions and the program's help with the built program and its source. The examples of the manual pages, README.md
 and docs/RECIPES.md are run (page_examples.py says how they are written). Each option, text of a fault and prefix stands where readers look for it, and
-no others do. Code that a page quotes stands in the file that it names. No page is too wide, and some aren't too long.
+no others do. Code that a page quotes stands in the file that it names. Decisions are in the order of their numbers. No page is too wide, and some
+aren't too long.
 
     check_pages.py PROGRAM
 
@@ -343,6 +344,30 @@ def tool_checks():
     yield "tools in CONTRIBUTING.md", differences("file", written, {it for names in named for it in names.split(", ")})
 
 
+# ---- decisions
+
+DECISIONS = TOP / "docs" / "DECISIONS.md"
+
+
+def numbers_in(cell):
+    """The numbers of a cell such as `1 to 13, 91`."""
+    for first, last in re.findall(r"(\d+)(?: to (\d+))?", cell):
+        yield from range(int(first), int(last or first) + 1)
+
+
+def decision_checks():
+    """The entries are in the order of their numbers, the table of subjects has each of them once, and those that are cited are there."""
+    text = DECISIONS.read_text(encoding="utf-8")
+    entries = [int(it) for it in re.findall(r"(?m)^- \*\*(\d+)\.", text)]
+    yield "order of DECISIONS.md", "" if entries and entries == sorted(set(entries)) else "the numbers don't rise"
+    told = [number for cell in re.findall(r"(?m)^\| .* \| (\d[\d, to]*) \|$", text) for number in numbers_in(cell)]
+    yield "subjects of DECISIONS.md", "" if sorted(told) == entries else f"{sorted(set(entries) ^ set(told))}, or one of them twice"
+    citing = [*PAGES, *(TOP / "crates").glob("*/src/**/*.rt"), *(TOP / "crates").glob("*/specs/**/*.antt")]
+    cited = re.findall(r"(?i)\bdecisions? (\d+(?:(?:, | and )\d+)*)", "\n".join(it.read_text(encoding="utf-8") for it in citing))
+    missing = {number for cell in cited for number in numbers_in(cell)} - set(entries)
+    yield "decisions that are cited", ", ".join(f"there is no decision {it}" for it in sorted(missing))
+
+
 # ---- form
 
 
@@ -433,6 +458,7 @@ def all_checks(program):
     yield from quote_checks()
     yield from claim_checks()
     yield from tool_checks()
+    yield from decision_checks()
     yield from form_checks(program)
     yield from install_checks(program)
     yield from dist_checks()
