@@ -1,4 +1,4 @@
--- Lines fed and pairs given.
+-- How the lines read and the pairs given grow with each call of MessageText.
 use Rattle.mime_text.proofs.Words.{◌≡◌, ◌∙◌, ◌++◌, ℕ, List, [], ◌∷◌, sym, ap, append_assoc, arith, Result, OnOk, IfErr, TextKind, SinkFault, TextFault, Pair, texts_of_message, Passed, Stopped, Passes, IsOver, Comes, KnowsFacts}
 use Rattle.std.proofs.lemmas.List.{append-nil}
 use Rattle.mime_text.specs.declared.message_text.MessageText.{MessageText}

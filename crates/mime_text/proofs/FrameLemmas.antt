@@ -1,12 +1,12 @@
--- Delimiter lines, and the multiparts that are open.
+-- Delimiter lines and the open multiparts: what the code finds is what Stream defines.
 use Rattle.mime_text.proofs.Words.{◌≡◌, ◌∙◌, ◌≤◌, ◌<◌, ◌+◌, ◌-◌, ◌++◌, ◌==◌, ℕ, zero, suc, Bool, true, false, cond, List, [], ◌∷◌, Option, Some, None, length, take, drop, refl, sym, ap, arith, add-one, get_or, Bor, slice_get, option_map, MatchOption, IfSome, eqb-true, bytes_eq, without_break, after_blanks, DefaultType, Frame, Delimiter, are_blanks, is_delimiter, is_closing, StreamPlace, Skip, InHeader, or_else, own_hit, hit, dash_dash, dashes, kind_behind, delimiter_of, led, scan, inside_out, opened, AreNested}
 use Rattle.std.proofs.lemmas.Option.{slice_get-get_or}
 use Rattle.header_text.specs.EncodedWords.{after}
 use Rattle.mime_text.specs.declared.parts.delimiter.Delimiter.TheVariants.{Next, Closing}
 
--- ---- a front of some bytes
+-- ---- the beginning of some bytes
 
--- what follows the second front, behind the first
+-- what follows the second text, if it comes after the first
 abbrev then_after : Option (List ℕ) → List ℕ → Option (List ℕ)
 then_after None b = None
 then_after (Some rest) b = after b rest
@@ -21,23 +21,23 @@ after-tested [] bytes = refl
 after-tested (c ∷ front) [] = refl
 after-tested (c ∷ front) (x ∷ bytes) = grind (arith, after-tested front bytes)
 
--- nothing stands behind blanks alone
+-- bytes are blanks only if nothing comes after the blanks
 pub blanks_alone : (bytes : List ℕ) → (length (after_blanks bytes) == 0) ≡ are_blanks (Some bytes)
 blanks_alone [] = refl
 blanks_alone (b ∷ bs) = grind (arith, blanks_alone bs)
 
--- what begins with two dashes isn't blank
+-- bytes that begin with two dashes aren't blanks only
 pub not_blank : (rest end : List ℕ) → after dash_dash rest ≡ Some end → are_blanks (Some rest) ≡ false
 not_blank [] end h = absurd (cc h)
 not_blank (x ∷ xs) end h = grind arith
 
--- what `strip_prefix` answers
+-- the result of `strip_prefix`
 pub after-stripped : (front bytes : List ℕ) (r : Option (Bor (List ℕ)))
     → MatchOption r (bytes_eq (take (length front) bytes) front ≡ false) (λ x. (bytes_eq (take (length front) bytes) front ≡ true) × (x.now ≡ drop (length front) bytes) × (length x.now + length front ≡ length bytes))
     → option_map (λ x. x.now) r ≡ after front bytes
 after-stripped front bytes r h = grind (arith, after-tested)
 
--- each byte of a front that stands there
+-- each byte of the text that begins some bytes
 pub after-each : (front bytes : List ℕ) (k : ℕ) → k < length front → IfSome (after front bytes) (λ _. (k < length bytes) × (get_or bytes k 0 ≡ get_or front k 0))
 after-each [] bytes k below = absurd (omega (arith, below))
 after-each (c ∷ front) [] k below = tt
@@ -64,7 +64,7 @@ own_hit-is {A} l f outer =
     by_dashes : (o : Option (List ℕ)) → own_hit {A = A} (are_blanks (then_after o (f.boundary ++ dash_dash))) (are_blanks (then_after o f.boundary)) f outer ≡ led_by o f outer
     by_dashes o = grind (arith, after-append, by_rest)
 
--- ---- the outermost that a line delimits
+-- ---- the outermost multipart that a line delimits
 
 abbrev pub scan_by : {A : Type 0} → Option (List ℕ) → List Frame → List Frame → Option (List Frame × StreamPlace A)
 scan_by None outer fs = None
@@ -87,7 +87,7 @@ hit_inside {A} l (f ∷ fs) outer =
 pub hit-is : {A : Type 0} (l : List ℕ) (fs : List Frame) → hit {A = A} (inside_out fs []) l ≡ scan_by (dashes l) [] fs
 hit-is l fs = hit_inside l fs []
 
--- behind a multipart that the line doesn't delimit, or at one that it does
+-- the search passes over the multiparts that the line doesn't delimit, and ends at one that it does
 pub scan-at : {A : Type 0} (text : List ℕ) (fs : List Frame) (n : ℕ) (outer : List Frame) (f : Frame) → slice_get fs n ≡ Some f
     → scan {A = A} (inside_out (take n fs) outer) (drop n fs) text
     ≡ or_else (led (delimiter_of f.boundary text) f (inside_out (take n fs) outer)) (scan (inside_out (take (suc n) fs) outer) (drop (suc n) fs) text)
@@ -104,7 +104,7 @@ pub inside_out-push : (fs outer : List Frame) (f : Frame) → inside_out (fs ++ 
 inside_out-push [] outer f = refl
 inside_out-push (g ∷ gs) outer f = inside_out-push gs (g ∷ outer) f
 
--- ---- how deep they lie
+-- ---- how deep multiparts are
 
 pub AreNested_push : (above : ℕ) (fs : List Frame) (f : Frame) → AreNested above fs → above + length fs + 1 + f.left ≤ 16 → AreNested above (fs ++ f ∷ [])
 AreNested_push above [] f h e = (omega arith, tt)
@@ -120,17 +120,17 @@ AreNested-at above [] n f h e = absurd (cc)
 AreNested-at above (g ∷ gs) zero f h e = grind (arith)
 AreNested-at above (g ∷ gs) (suc n) f h e = omega (arith, AreNested-at (above + 1) gs n f h.1 e)
 
--- a multipart more
+-- the open multiparts with one more
 pub open_frames : (fs : List Frame) (left : ℕ) (boundary : List ℕ) (d : DefaultType) → 0 < left
     → inside_out (fs ++ record { boundary = boundary; default = d; left = left - 1 } ∷ []) [] ≡ opened left boundary d (inside_out fs [])
 open_frames fs left boundary d h = grind (arith, inside_out-push)
 
--- ---- where a delimiter leads
+-- ---- the place after a delimiter
 
 pub or_else-led : {A : Type 0} (k : Delimiter) (f : Frame) (outer : List Frame) (o : Option (List Frame × StreamPlace A)) → or_else (led (Some k) f outer) o ≡ led (Some k) f outer
 or_else-led k f outer o = grind arith
 
--- the element of an index that a loop or a place reads
+-- the element at the index that a loop or an index expression reads
 pub got-at : (fs : List Frame) (n : ℕ) (f : Frame) → n < length fs → f ≡ get_or fs n f → slice_get fs n ≡ Some f
 got-at fs n f h e = slice_get-get_or fs n f h ∙ ap (λ (x : Frame). Some x) (sym e)
 
@@ -144,7 +144,7 @@ pub scanned : {A : Type 0} (l text : List ℕ) (frames fs seen : List Frame) (o 
     → frames ≡ inside_out fs [] → seen ≡ fs → dashes l ≡ Some text → scan [] seen text ≡ o → hit frames l ≡ o
 scanned {A} l text frames fs seen o v q e s = grind (arith, hit-is)
 
--- what is found of the multipart that a line delimits
+-- what the search finds of the multipart that a line delimits
 abbrev pub Found : (A : Type 0) → List Frame → List ℕ → ℕ → Delimiter → Type 0
 Found A seen text n k = (f : Frame) × (slice_get seen n ≡ Some f) × (scan {A = A} [] seen text ≡ led (Some k) f (inside_out (take n seen) []))
 

@@ -1,4 +1,4 @@
--- Texts of fields that a sink is given.
+-- How the texts of fields are given to a sink, one after another.
 use Rattle.mime_text.proofs.Words.{◌≡◌, ◌∙◌, ◌++◌, ℕ, List, [], ◌∷◌, Option, Some, refl, ap, append_assoc, arith, Result, Ok, Err, option_map, cons_option, HeaderField, TextKind, SinkFault, TextFault, Failed, OutOfMemory, Sink, Pair, Coming, Gave, Broke, Hands, kind_of_field, text_of_body, texts_of_fields}
 use Rattle.std.proofs.lemmas.List.{append-nil}
 use Rattle.mime_text.specs.Inside.Showing.{Shows}
@@ -19,7 +19,7 @@ module _ {S : Type 0} (takes : S → TextKind → List ℕ → S → Type 0) (re
   hands-one p (Err (Sink fault)) s t h = record { pairs = p ∷ []; broken = ([], p, s, refl, refl, h); front = λ ms. ([], refl) }
   hands-one p (Err Failed) s t h = absurd h
 
-  -- in front of more
+  -- a call that gives all of A gives the first of the pairs B, if B begins with those of A
   pub gave-front : (A B R : Coming) (s t : S) → ((ms : List (List ℕ)) → B ms ≡ A ms ++ R ms) → Gave takes refuses A (λ _. []) s t → Gave takes refuses B R s t
   gave-front A B R s t e h = grind (arith, append-nil)
 
@@ -31,6 +31,6 @@ module _ {S : Type 0} (takes : S → TextKind → List ℕ → S → Type 0) (re
         front = λ ms. ((h.front ms).0 ++ R ms, e ms ∙ ap (λ (ps : List Pair). ps ++ R ms) (h.front ms).1 ∙ append_assoc h.pairs (h.front ms).0 (R ms));
       }
 
-  -- the same, of what comes behind
+  -- the pairs that come after the call may be replaced by equal ones
   pub gave-behind : (A B C : Coming) (s t : S) → ((ms : List (List ℕ)) → B ms ≡ C ms) → Gave takes refuses A B s t → Gave takes refuses A C s t
   gave-behind A B C s t e h = record { pairs = h.pairs; taken = h.taken; rest = λ ms. h.rest ms ∙ ap (λ (ps : List Pair). h.pairs ++ ps) (e ms) }

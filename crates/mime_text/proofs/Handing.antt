@@ -1,7 +1,7 @@
 -- What a sink was given, call by call.
 use Rattle.mime_text.proofs.Words.{◌≡◌, ◌∙◌, ◌++◌, ℕ, List, [], ◌∷◌, refl, sym, ap, subst, append_assoc, arith, Result, Ok, Err, IsErrAnd, TextKind, SinkFault, TextFault, Pair, Coming, TakesAll, Breaks, Gave, Broke, Hands}
 
--- a fault that goes up
+-- a fault that is returned to the caller
 pub fault-up : {T : Type 0} (result : Result T TextFault) (fault : TextFault) → IsErrAnd result (λ f. f ≡ fault) → result ≡ Err fault
 fault-up (Err f) fault e = ap Err e
 fault-up (Ok x) fault e = absurd e
@@ -14,11 +14,11 @@ module _ {S : Type 0} (takes : S → TextKind → List ℕ → S → Type 0) (re
   breaks-append : (fault : TextFault) (ps qs : List Pair) (s t u : S) → TakesAll takes refuses ps s t → Breaks takes refuses fault qs t u → Breaks takes refuses fault (ps ++ qs) s u
   breaks-append fault ps qs s t u h h2 = grind (arith, taken-append, append_assoc)
 
-  -- nothing
+  -- a call that gives nothing
   pub gave-nothing : (A : Coming) (s : S) → Gave takes refuses A A s s
   gave-nothing A s = record { pairs = []; taken = refl; rest = λ ms. refl }
 
-  -- one call behind another
+  -- one call after another
   pub gave-more : (A B C : Coming) (s t u : S) → Gave takes refuses A B s t → Gave takes refuses B C t u → Gave takes refuses A C s u
   gave-more A B C s t u h k = grind (arith, taken-append, append_assoc)
 
@@ -34,7 +34,7 @@ module _ {S : Type 0} (takes : S → TextKind → List ℕ → S → Type 0) (re
   hands-later A B C (Ok x) s t u h k = gave-more A B C s t u h k
   hands-later A B C (Err fault) s t u h k = broke-later A B fault s t u h k
 
-  -- the same, said of other lines to come
+  -- the same for other lines to come
   pub gave-along : (A B A' B' : Coming) (to : List (List ℕ) → List (List ℕ)) (s t : S) → ((ms : List (List ℕ)) → A' ms ≡ A (to ms)) → ((ms : List (List ℕ)) → B' ms ≡ B (to ms))
       → Gave takes refuses A B s t → Gave takes refuses A' B' s t
   gave-along A B A' B' to s t p q h = grind arith

@@ -1,4 +1,4 @@
--- A line's end, where its beginning was searched before.
+-- The end of a line whose beginning was searched before.
 use Rattle.mime_text.proofs.Words.{◌≡◌, ◌∙◌, ◌+◌, ◌<◌, ◌≤◌, ◌==◌, ◌++◌, ℕ, zero, suc, true, false, cond, List, [], ◌∷◌, Some, None, length, take, drop, sym, ap, arith, min, nat_lt, nat_tests, length-take, length-drop, take-append-le, length_before_feed, line_end_of, length_before_feed-le, length_before_feed-take, length_before_feed-found, length_before_feed-not_found}
 use Rattle.memchr.specs.Find.{IsFirstByte, is_byte}
 
@@ -8,7 +8,7 @@ before_feed-drop (suc n) [] h = absurd (omega arith)
 before_feed-drop (suc n) (x ∷ xs) h = (elim (x == 10) as (λ v. suc n ≤ cond v 0 (suc (length_before_feed xs)) → cond v 0 (suc (length_before_feed xs)) ≡ suc n + length_before_feed (drop n xs))
     [ true ↦ λ k. absurd (omega arith) | false ↦ λ k. omega (arith, before_feed-drop n xs (omega arith)) ]) h
 
--- the front has no line feed either
+-- the part that was searched has no line feed
 front-free : (b : List ℕ) (n s : ℕ) → n ≡ min (length b) 65537 → s ≤ length_before_feed b → s ≤ 65536 → s ≤ length_before_feed (take n b)
 front-free b n s e free few = omega (arith, length_before_feed-take n b, length_before_feed-le b)
 
@@ -51,12 +51,12 @@ behind-open b rest n s e free few is h short =
 
 -- ---- bytes that are held
 
--- they have no line feed
+-- bytes whose line has no end yet have no line feed
 pub held-free : (b : List ℕ) → line_end_of b ≡ None → length_before_feed b ≡ length b
 unfolding line_end_of
 held-free b e = let le = length_before_feed-le b in grind (arith, nat_tests)
 
--- nor has their front, where bytes were added behind them
+-- their beginning has none either, after bytes were added at the end
 pub still-free : (old new x y : List ℕ) (k : ℕ) → new ++ x ≡ old ++ y → k ≤ length old → k ≤ length new → length_before_feed old ≡ length old → k ≤ length_before_feed new
 still-free old new x y k e in_old in_new free =
     let fronts : take k new ≡ take k old = sym (take-append-le k new x in_new) ∙ ap (take k) e ∙ take-append-le k old y in_old in

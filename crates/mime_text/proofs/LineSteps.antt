@@ -1,4 +1,4 @@
--- A leaf's decoded bytes, line by line.
+-- The decoded bytes of a leaf, line by line: each call gives the first lines and keeps the rest.
 use Rattle.mime_text.proofs.Words.{◌≡◌, ◌∙◌, ◌+◌, ◌-◌, ◌<◌, ◌≤◌, ◌==◌, ◌++◌, ℕ, suc, true, false, cond, List, [], ◌∷◌, Some, None, length, take, drop, refl, sym, ap, ap₂, subst, arith, length-append, append-nil, Result, Ok, Err, OnOk, concat, eqb-true, nat_tests, length-drop, drop-drop, take-append-le, drop-append-le, take_all, drop_all, take-append-drop, length_before_feed, line_end_of, lines, line_end-more, line_end-positive, line_end-within, line_end-whole, TextKind, SinkFault, TextFault, OutOfMemory, Sink, Failed, LineTexts, Pair, Gave, Broke, Hands, ends_in, line_text, is_open_behind_line, texts_behind, body_pairs, pairs_of_lines, pairs_of_bytes}
 use Rattle.std.proofs.lemmas.Slice.Eq.{bytes_eq-Decides}
 use Rattle.mbox_cutter.proofs.LineLists.{lines-cons, lines-nil}
@@ -11,14 +11,14 @@ use Rattle.mime_text.proofs.Handing.{gave-along, broke-along}
 pub concat-one : (bytes : List ℕ) → concat (bytes ∷ []) ≡ bytes
 concat-one bytes = append-nil bytes
 
--- the first line of some bytes, where none to come can change it
+-- the first line of some bytes, if no bytes to come can change it
 pub lines-first : (b more : List ℕ) (n : ℕ) → Some n ≡ line_end_of b → lines (b ++ more) ≡ take n b ∷ lines (drop n b ++ more)
 lines-first b more n e = grind (arith, line_end-more, line_end-within, line_end-positive, length-append, lines-cons, take-append-le, drop-append-le)
 
 pub lines-parts : (b line later more : List ℕ) (n : ℕ) → Some n ≡ line_end_of b → line ≡ take n b → later ≡ drop n b → lines (b ++ more) ≡ line ∷ lines (later ++ more)
 lines-parts b line later more n e f g = lines-first b more n e ∙ ap₂ (λ (x y : List ℕ). x ∷ lines (y ++ more)) (sym f) (sym g)
 
--- the last one
+-- the last line
 pub lines-last : (b : List ℕ) → None ≡ line_end_of b → 0 < length b → lines b ≡ b ∷ []
 lines-last b e some = grind (arith, line_end-whole, lines-cons, take_all, drop_all, lines-nil)
 
@@ -42,7 +42,7 @@ pub lines-whole : (line more : List ℕ) → Some (length line) ≡ line_end_of 
 lines-whole line more e =
     lines-first line more (length line) e ∙ ap₂ (λ (x y : List ℕ). x ∷ lines (y ++ more)) (take_all (length line) line (omega arith)) (drop_all (length line) line (omega arith))
 
--- ---- what comes of them
+-- ---- the texts of lines
 
 pub no_bytes : (b : List ℕ) → (length b == 0) ≡ true → b ≡ []
 no_bytes [] e = refl
@@ -61,7 +61,7 @@ pub rest-step : (b rest later : List ℕ) (n : ℕ) → length rest ≤ length b
 rest-step b rest later n fits is next within = grind (arith, length-drop, drop-drop)
 
 module _ {S : Type 0} (takes : S → TextKind → List ℕ → S → Type 0) (refuses : S → TextKind → List ℕ → SinkFault → S → Type 0) where
-  -- a line that is given
+  -- the text of a line is given
   pub hands_line : {T : Type 0} (old new : LineTexts) (line : List ℕ) (result : Result T TextFault) (s t : S) → Shows takes refuses kind.Body (line_text old.charset old.is_html old.is_open line) result s t
       → new.charset ≡ old.charset → new.is_html ≡ old.is_html → OnOk result (new.is_open ≡ is_open_behind_line old.charset old.is_html old.is_open line)
       → Hands takes refuses (λ ls. pairs_of_lines old (line ∷ ls)) (λ ls. pairs_of_lines new ls) result s t
@@ -93,14 +93,14 @@ module _ {S : Type 0} (takes : S → TextKind → List ℕ → S → Type 0) (re
       broke-along takes refuses (λ ls. pairs_of_lines old (line ∷ ls)) (λ ms. pairs_of_bytes old (b ++ concat ms)) (λ ms. lines (drop n b ++ concat ms)) fault s t
       (λ ms. ap (pairs_of_lines old) (lines-parts b line (drop n b) (concat ms) n e f refl)) h
 
-  -- the lines in front were given, and nothing is left
+  -- the first lines were given, and nothing is left
   pub gave-all : (old new : LineTexts) (b rest : List ℕ) (s t : S) → rest ≡ [] → Gave takes refuses (λ ms. pairs_of_bytes old (b ++ concat ms)) (λ ms. pairs_of_bytes new (rest ++ concat ms)) s t
       → Gave takes refuses (λ _. pairs_of_bytes old b) (λ _. []) s t
   gave-all old new b rest s t e h =
       gave-along takes refuses (λ ms. pairs_of_bytes old (b ++ concat ms)) (λ ms. pairs_of_bytes new (rest ++ concat ms)) (λ _. pairs_of_bytes old b) (λ _. []) (λ _. []) s t
       (λ ms. ap (pairs_of_bytes old) (sym (append-nil b))) (λ ms. sym (ap (pairs_of_bytes new) (append-nil rest ∙ e) ∙ ap (pairs_of_lines new) lines-nil)) h
 
-  -- the lines in front were given, and what is left is the last line
+  -- the first lines were given, and the last line is left
   pub gave-front : (old new : LineTexts) (b rest : List ℕ) (s t : S) → None ≡ line_end_of rest → 0 < length rest
       → Gave takes refuses (λ ms. pairs_of_bytes old (b ++ concat ms)) (λ ms. pairs_of_bytes new (rest ++ concat ms)) s t
       → Gave takes refuses (λ _. pairs_of_bytes old b) (λ _. pairs_of_lines new (rest ∷ [])) s t

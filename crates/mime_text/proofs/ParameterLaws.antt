@@ -1,4 +1,4 @@
--- The parameters of a value are those of its pieces, and no others are.
+-- The parameters of a value are those of its pieces, and no other list is.
 use Rattle.mime_text.proofs.Words.{◌≡◌, ◌≤◌, ℕ, zero, suc, List, [], ◌∷◌, Option, Some, None, length, refl, sym, subst, arith, Parameter, piece_of, AreParameters, none_left, piece_first, parameters_behind}
 use Rattle.mime_text.proofs.ParameterLemmas.{behind-step, later-shorter}
 

@@ -1,4 +1,4 @@
--- Parameters piece by piece.
+-- Parameters piece by piece: each piece is shorter than the bytes that it begins, so the recursion ends.
 use Rattle.mime_text.proofs.Words.{◌≡◌, ◌∙◌, ◌<◌, ◌≤◌, ◌+◌, ◌++◌, ◌==◌, ℕ, zero, suc, Bool, true, false, List, [], ◌∷◌, Option, Some, None, length, cond, refl, sym, ap, arith, length-append, option_map, unwrap_or, find, option_map_or, option_to_list, split_while, after_blanks, trimmed, cut_at, length-split_while, split_while-joined, IsCut-from, Parameter, Piece, quoted, value_and_rest, is_parameter_name_byte, behind_semicolon, piece_of, parameters_within, parameters_behind, first_named, parameter}
 use Rattle.header_text.specs.Names.{is_named}
 
@@ -8,7 +8,7 @@ length-after_blanks : (bs : List ℕ) → length (after_blanks bs) ≤ length bs
 length-after_blanks [] = omega arith
 length-after_blanks (b ∷ bs) = grind (arith, length-after_blanks bs)
 
--- what stands between quotes, and what follows them
+-- what is between quotes and what follows them are together no longer than the bytes
 length-quoted : (bs : List ℕ) → length (quoted bs).0 + length (quoted bs).1 ≤ length bs
 length-quoted [] = omega arith
 length-quoted (b ∷ []) = grind arith
@@ -45,7 +45,7 @@ pub later-shorter : (bs rest : List ℕ) → (piece_of bs).later ≡ Some rest �
 unfolding piece_of piece_behind
 later-shorter bs rest h = grind (arith, length-split_while is_parameter_name_byte bs, later-shorter_behind (trimmed (split_while is_parameter_name_byte bs).0) (split_while is_parameter_name_byte bs).1 rest h)
 
--- ---- any number of pieces that is large enough
+-- ---- any number of pieces that is large enough gives the same parameters
 
 within-nil : (n : ℕ) → parameters_within n [] ≡ []
 unfolding piece_of
@@ -62,12 +62,12 @@ behind-nil : [] ≡ option_to_list (piece_of []).parameter ++ parameters_behind 
 unfolding piece_of
 behind-nil = refl
 
--- a piece more
+-- the parameters with one piece more
 pub behind-step : (bs : List ℕ) → parameters_behind (Some bs) ≡ option_to_list (piece_of bs).parameter ++ parameters_behind (piece_of bs).later
 behind-step [] = behind-nil
 behind-step (b ∷ bs) = grind (arith, later-shorter (b ∷ bs), within-enough)
 
--- a piece that is no parameter, a parameter of another name, and one of the name
+-- a piece that is no parameter, a parameter with another name, and one with the name
 pub named-none : (name bs : List ℕ) → (piece_of bs).parameter ≡ None → first_named name (parameters_behind (Some bs)) ≡ first_named name (parameters_behind (piece_of bs).later)
 named-none name bs e = ap (first_named name) (behind-step bs) ∙ rw e refl
 
@@ -92,19 +92,19 @@ pub piece-found : {A : Type 0} (o : Option A) (now : A → List ℕ) (name value
 piece-found None now name value bs e f = absurd (cc f)
 piece-found (Some a) now name value bs e f = named-found name bs (parameter_of (now a) value) (sym e) f
 
--- fewer bytes are left behind a piece
+-- after a piece fewer bytes are left
 pub later-measure : {A : Type 0} (before : Option A) (now : A → List ℕ) (a : A) (o : Option (List ℕ)) → before ≡ Some a → (piece_of (now a)).later ≡ o
     → option_map_or (λ rest. suc (length rest)) o 0 < option_map_or (λ rest. suc (length rest)) (option_map now before) 0
 later-measure before now a None is e = rw is (omega arith)
 later-measure before now a (Some rest) is e = grind (arith, later-shorter (now a) rest)
 
--- a name, `=` and a value
+-- a piece that is a name, `=` and a value
 pub piece-parameter : (text rest : List ℕ) (sign : ℕ) → (split_while is_parameter_name_byte text).1 ≡ sign ∷ rest → (sign == 0x3D) ≡ true
     → (piece_of text).parameter ≡ Some (record { name = trimmed (split_while is_parameter_name_byte text).0; value = (value_and_rest (after_blanks rest)).0 })
 unfolding piece_of
 piece-parameter text rest sign e f = rw (e, f, piece_of) refl
 
--- ---- a value is no longer than what it stands in
+-- ---- a value is no longer than the bytes in which it is
 
 size-front : (p : ℕ → Bool) (bs : List ℕ) → length (split_while p bs).0 ≤ length bs
 size-front p bs = let joined = ap length (split_while-joined p bs) in omega (arith, joined, length-append (split_while p bs).0 (split_while p bs).1)
@@ -112,7 +112,7 @@ size-front p bs = let joined = ap length (split_while-joined p bs) in omega (ari
 size-value : (bs : List ℕ) → length (value_and_rest bs).0 ≤ length bs
 size-value bs = grind (arith, length-quoted, size-front)
 
--- its value's length, where there is a parameter
+-- the length of a parameter's value, 0 if there is no parameter
 abbrev size_of : Option Parameter → ℕ
 size_of None = 0
 size_of (Some p) = length p.value

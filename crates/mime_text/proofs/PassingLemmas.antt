@@ -1,4 +1,4 @@
--- What comes of a reader's calls.
+-- What a part reader's calls give to a sink, and what is known of the facts after them.
 use Rattle.mime_text.proofs.Words.{◌≡◌, ◌∙◌, ◌++◌, ℕ, Bool, true, false, List, [], ◌∷◌, Option, Some, None, refl, sym, ap, subst, append_assoc, arith, if◌then◌else◌, Result, Ok, Err, OnOk, IfErr, is_empty, HeaderField, fields_of, HasLines, taken_of, has_empty, More, Ended, TextKind, SinkFault, TextFault, OutOfMemory, DefaultType, TextPlain, Frame, State, PartReader, Pair, Coming, Gave, Broke, Hands, shape_of, facts_of, pairs_to_come, StreamPlace, Skip, InHeader, InLeaf, hit, Nest, lead_to, texts_of_message, Passed, Stopped, Passes, IsOver, given_from, header_texts, ending, given_behind, given_after, ComesAt, Comes, ComesBehindHeader, ComesEndingAt, ComesEnding, KnowsAt, KnowsFacts, Notes}
 use Rattle.std.proofs.lemmas.List.{append-nil}
 use Rattle.std.specs.Result.{result_or}
@@ -63,7 +63,7 @@ delimited r n lead l h h2 c h3 = grind (arith, delimits)
 one_more : (f : Facts) (ls : List Line) (l : Line) → ((ms : List Line) → f ≡ facts_of (fields_of (ls ++ ms))) → (ms : List Line) → f ≡ facts_of (fields_of ((ls ++ l ∷ []) ++ ms))
 one_more f ls l k ms = k (l ∷ ms) ∙ ap (λ (ks : List Line). facts_of (fields_of ks)) (sym (append_assoc ls (l ∷ []) ms))
 
--- a line that delimits belongs to no header of the message's own
+-- a delimiter line isn't part of the message's own header
 pub facts-delimited : (r n : PartReader) (nest : Nest) (lead : Lead) (l : Line) → lead_to {A = Pair} lead nest ≡ hit r.nesting.frames l → (lead ≡ Nowhere → ⊥) → n.facts ≡ r.facts
     → (ls : List Line) → KnowsFacts r ls → KnowsFacts n (ls ++ l ∷ [])
 facts-delimited r n nest lead l e away same ls k = let P : Option Facts → Type 0 = λ o. KnowsAt o n (ls ++ l ∷ []) in subst P (sym same) (go r.facts k)
@@ -77,7 +77,7 @@ facts-delimited r n nest lead l e away same ls k = let P : Option Facts → Type
     go None k = absurd (outside lead (e ∙ ap (λ (fs : List Frame). hit {A = Pair} fs l) k.outside) away)
     go (Some f) k = one_more f ls l k
 
--- where the header has ended
+-- the facts when the header has ended
 pub facts-ended : (r n : PartReader) (h : Header) (l : Line) → ((ls : List Line) → HasLines r.header ls → HasLines h (ls ++ l ∷ [])) → ((ls : List Line) → HasLines r.header ls → Ended ≡ taken_of (ls ++ l ∷ []))
     → Notes r.facts n.facts h → (ls : List Line) → KnowsFacts r ls → KnowsFacts n (ls ++ l ∷ [])
 facts-ended r n h l push taken notes ls k = go r.facts notes k
@@ -89,7 +89,7 @@ facts-ended r n h l push taken notes ls k = go r.facts notes k
         subst P (sym (e (ls ++ l ∷ []) (push ls k.lines))) (λ ms. ap facts_of (sym (fields-on ls l ms k.open_ended t)))
     go (Some f) e k = let P : Option Facts → Type 0 = λ o. KnowsAt o n (ls ++ l ∷ []) in subst P (sym e) (one_more f ls l k)
 
--- where the message has ended
+-- the facts when the message has ended
 pub facts-whole : (r : PartReader) (f : Facts) → Notes r.facts (Some f) r.header → (ls : List Line) → KnowsFacts r ls → f ≡ facts_of (fields_of ls)
 facts-whole r f notes ls k = go r.facts notes k
   where
@@ -97,7 +97,7 @@ facts-whole r f notes ls k = go r.facts notes k
     go None e k = let q = e ls k.lines in cc
     go (Some g) e k = let q : f ≡ g = cc in q ∙ k [] ∙ ap (λ (ks : List Line). facts_of (fields_of ks)) (append-nil ls)
 
--- what comes behind the header of these lines, and all that comes with it
+-- what comes after the header of these lines
 abbrev behind_lines : PartReader → DefaultType → List Line → Coming
 behind_lines r d ls = given_behind (shape_of d (fields_of ls)) r.nesting (fields_of ls)
 
@@ -106,7 +106,7 @@ header-is_first : (r : PartReader) (counted : Bool) (d : DefaultType) (fields : 
 header-is_first r counted d fields f c k ms = k.2 ms ∙ ap (λ (fs : List HeaderField). header_texts counted fs ++ behind_lines r d k.0 ms) (sym (f k.0 k.1))
 
 module _ {S : Type 0} (takes : S → TextKind → List ℕ → S → Type 0) (refuses : S → TextKind → List ℕ → SinkFault → S → Type 0) where
-  -- what comes before, said otherwise
+  -- a call that passes some pairs, with what comes before it stated in another way
   pub passes-from : {T : Type 0} (A A' B : Coming → Type 0) (seen : Coming → Coming) (result : Result T TextFault) (s t : S) → ((c : Coming) → A c → A' (seen c))
       → Passes takes refuses A' B (λ c. c) result s t → Passes takes refuses A B seen result s t
   passes-from A A' B seen result s t h h2 = grind arith
@@ -115,7 +115,7 @@ module _ {S : Type 0} (takes : S → TextKind → List ℕ → S → Type 0) (re
       → Passes takes refuses A' B seen result s t → Passes takes refuses A B seen result s t
   passes-before A A' B seen result s t h h2 = grind arith
 
-  -- a call that gives all that comes in front of something
+  -- a call that gives all pairs that come before some others
   passed-front : (before after : Coming → Type 0) (A : Coming) (s t : S) (R : (c : Coming) → before c → Coming) → ((c : Coming) (k : before c) → after (R c k))
       → ((c : Coming) (k : before c) (ms : List Line) → c ms ≡ A ms ++ R c k ms) → Gave takes refuses A (λ _. []) s t → Passed takes refuses before after (λ c. c) s t
   passed-front before after A s t R a e h =
@@ -130,7 +130,7 @@ module _ {S : Type 0} (takes : S → TextKind → List ℕ → S → Type 0) (re
         front = λ c k ms. ((h.front ms).0 ++ R c k ms, e c k ms ∙ ap (λ (ps : List Pair). ps ++ R c k ms) (h.front ms).1 ∙ append_assoc h.pairs (h.front ms).0 (R c k ms));
       }
 
-  -- ---- behind a header
+  -- ---- after a header
 
   pub header-stopped : (r : PartReader) (counted : Bool) (d : DefaultType) (fields : List HeaderField) (fault : TextFault) (s t : S)
       → ((ls : List Line) → HasLines r.header ls → fields ≡ fields_of ls) → Broke takes refuses (λ _. header_texts counted fields) fault s t
@@ -138,11 +138,11 @@ module _ {S : Type 0} (takes : S → TextKind → List ℕ → S → Type 0) (re
   header-stopped r counted d fields fault s t f h =
       stopped-front (ComesBehindHeader r counted d) (λ _. header_texts counted fields) fault s t (λ c k. behind_lines r d k.0) (header-is_first r counted d fields f) h
 
-  -- all was given, and then memory is wanting
+  -- all was given, and then memory ran out
   pub broke-memory_behind : (A : Coming) (s t : S) → Gave takes refuses A (λ _. []) s t → Broke takes refuses A OutOfMemory s t
   broke-memory_behind A s t h = record { pairs = h.pairs; broken = h.taken; front = λ ms. ([], h.rest ms) }
 
-  -- the header's texts were given, and then the body begins or memory is wanting
+  -- the header's texts were given, and then the body begins or memory runs out
   pub header-passes : {T E : Type 0} (r : PartReader) (counted : Bool) (d : DefaultType) (fields : List HeaderField) (after : Coming → Type 0) (begun : Result T E) (s t : S)
       → ((ls : List Line) → HasLines r.header ls → fields ≡ fields_of ls) → Gave takes refuses (λ _. header_texts counted fields) (λ _. []) s t
       → OnOk begun ((ls : List Line) → HasLines r.header ls → after (given_behind (shape_of d (fields_of ls)) r.nesting (fields_of ls)))
@@ -217,7 +217,7 @@ module _ {S : Type 0} (takes : S → TextKind → List ℕ → S → Type 0) (re
             ∙ ap (λ (x : Nest). header_texts counted fields ++ given_behind (shape_of d fields) x fields ms) (sym q),
       )
 
-  -- ---- an entity's end, and the message's
+  -- ---- the end of an entity, and of the message
 
   pub leave-passes : {T : Type 0} (r n : PartReader) (lead : Lead) (fields : List HeaderField) (result : Result T TextFault) (s t : S) → ((ls : List Line) → HasLines r.header ls → fields ≡ fields_of ls)
       → Hands takes refuses (λ _. ending r.state fields r.leaf) (λ _. []) result s t → Comes n (given_after lead r.nesting) → Passes takes refuses (ComesEnding r lead) (Comes n) (λ c. c) result s t

@@ -1,4 +1,4 @@
--- Rows of limits: what the texts of a line and of a header come to.
+-- Rows of limits: the most bytes of the texts of a line and of a header.
 use Rattle.mime_text.proofs.Words.{◌≡◌, refl}
 use Rattle.mime_text.specs.Limits.{most_in_line_text, most_in_header_text}
 

@@ -1,15 +1,15 @@
--- Rows of names; the values on the right come from a separate reading of the rules.
+-- Rows of names. The values on the right were found by reading the rules separately.
 use Rattle.mime_text.proofs.Words.{◌≡◌, ℕ, zero, suc, List, [], ◌∷◌, ◌++◌, replicate, Option, None, Some, refl, codes, is_empty, lines, first_length, without_break, before_blanks, fields_of, unfolded, piece_of, parameter, shape_of, shape_of_value, name_of, Part, Entity, Counted, Leaf, is_delimiter, parts_of_message}
 use Rattle.mime_text.proofs.RowTables.{Each}
 
--- the names of the entities, in order, as they are written
+-- the names of the entities, in order, as written
 names : List Part → List (Option (List ℕ))
 names [] = []
 names (Entity fields ∷ ps) = name_of fields ∷ names ps
 names (Counted fields ∷ ps) = names ps
 names (Leaf is_html fields body ∷ ps) = names ps
 
--- so many messages around one with a name, which has a part of another name
+-- this many messages around a message with a name, which has a part with another name
 nested : ℕ → List (List ℕ)
 nested zero = codes "Content-Type: message/rfc822; name=a\n" ∷ codes "\n" ∷ codes "Content-Type: text/plain; name=b\n" ∷ codes "\n" ∷ []
 nested (suc n) = codes "Content-Type: message/rfc822\n" ∷ codes "\n" ∷ nested n

@@ -1,4 +1,4 @@
--- Rows of the tree of parts; the values on the right come from a separate reading of the rules.
+-- Rows of the tree of parts. The values on the right were found by reading the rules separately.
 use Rattle.mime_text.proofs.Words.{◌≡◌, ℕ, zero, suc, List, [], ◌∷◌, ◌++◌, length, refl, codes, map, is_empty, lines, first_length, without_break, before_blanks, HeaderField, fields_of, unfolded, piece_of, parameter, shape_of, shape_of_value, Part, Entity, Counted, Leaf, is_delimiter, parts_of_message}
 use Rattle.mime_text.proofs.RowTables.{Each}
 
@@ -16,7 +16,7 @@ names (Entity fields ∷ ps) = names ps
 names (Counted fields ∷ ps) = map (λ (f : HeaderField). f.name) fields ∷ names ps
 names (Leaf is_html fields body ∷ ps) = names ps
 
--- so many messages, one in another
+-- this many messages, one in another
 nested : ℕ → List (List ℕ)
 nested zero = codes "\n" ∷ codes "a\n" ∷ []
 nested (suc n) = codes "Content-Type: message/rfc822\n" ∷ codes "\n" ∷ nested n

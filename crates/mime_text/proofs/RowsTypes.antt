@@ -1,4 +1,4 @@
--- Rows of types and parameters; the values on the right come from a separate reading of the rules.
+-- Rows of types and parameters. The values on the right were found by reading the rules separately.
 use Rattle.mime_text.proofs.Words.{◌≡◌, ℕ, true, false, List, [], ◌∷◌, ◌++◌, refl, codes, is_empty, before_blanks, HeaderField, fields_of, unfolded, charset_of, Utf8, Latin1, Unknown, Parameter, piece_of, parameters, parameter, shape_of, shape_of_value, charset_in, charset_of_value, transfer_in, transfer_named, TextPlain, MessageRfc822, Multipart, Message, Text, Other, Identity, QuotedPrintable, Base64}
 use Rattle.mime_text.proofs.RowTables.{Each}
 

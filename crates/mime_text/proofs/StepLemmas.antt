@@ -1,4 +1,4 @@
--- The places of a reader of lines, one line on.
+-- The place of a reader after one more line.
 use Rattle.mime_text.proofs.Words.{◌≡◌, ◌∙◌, ◌++◌, ℕ, zero, suc, Bool, true, false, ◌||◌, List, [], ◌∷◌, Option, Some, None, refl, sym, ap, append_assoc, arith, flat_map, flat_map-append, is_empty, lines, fields_of, before_blanks, unfolded, has_empty, base64_bytes, bytes_of_sextets, Charset, DefaultType, TextPlain, Shape, Multipart, Message, Text, Other, Frame, Identity, QuotedPrintable, Base64, Pair, Coming, texts_of_fields, piece_of, parameter, shape_of, charset_in, transfer_in, name_texts, leaf_texts, body_pairs, body_lines, pieces, parts, parts_by, is_left, StreamPlace, InHeader, InLeaf, hit, counted_part, header_parts, value, behind_header, inner_step, Nest, part_texts, texts_of_message, given_from, counted_texts, header_texts, given_behind}
 use Rattle.std.proofs.lemmas.List.{append-nil}
 use Rattle.mime_text.specs.declared.leaf.transfer.TransferEncoding.{TransferEncoding}
@@ -17,7 +17,7 @@ pub has_empty-push : (ls : List Line) (l : Line) → has_empty (ls ++ l ∷ []) 
 has_empty-push [] l = grind arith
 has_empty-push (k ∷ ls) l = grind (arith, has_empty-push ls l)
 
--- a line that ends a header, and one that doesn't
+-- whether a line ends a header
 pub empty_ends : (ls : List Line) (l : Line) (t : Bool) → has_empty ls ≡ false → has_empty (ls ++ l ∷ []) ≡ t → is_empty l ≡ t
 empty_ends ls l t e q = let p = has_empty-push ls l in let r : (false || is_empty l) ≡ t = ap (λ (b : Bool). b || is_empty l) (sym e) ∙ sym p ∙ q in r
 
@@ -33,7 +33,7 @@ counted-is c ls = grind (arith, append-nil)
 header-is : (c : Bool) (ls : List Line) → flat_map part_texts (header_parts c ls) ≡ header_texts c (fields_of ls)
 header-is c ls = grind (arith, flat_map-append, counted-is, append-nil)
 
--- ---- an entity without a body gives its name alone
+-- ---- an entity without a body gives its name only
 
 body-none : (ls : List Line) → has_empty ls ≡ false → body_lines ls ≡ []
 body-none [] e = refl
@@ -56,7 +56,7 @@ leaf_texts-none QuotedPrintable charset false = refl
 leaf_texts-none Base64 charset true = refl
 leaf_texts-none Base64 charset false = refl
 
--- the name, where some depth is left
+-- the name, if a depth is left
 abbrev name_at : ℕ → List Line → List Pair
 name_at zero ls = []
 name_at (suc n) ls = name_texts (fields_of ls)

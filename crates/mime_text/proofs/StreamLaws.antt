@@ -1,4 +1,4 @@
--- One line at a time gives what the parts of the outermost split first give.
+-- Reading one line at a time gives what the parts of the outermost split give: induction over the lines and the depths.
 use Rattle.mime_text.proofs.Words.{◌≡◌, ℕ, zero, suc, Bool, true, false, cond, List, [], ◌∷◌, ◌++◌, Option, Some, None, refl, sym, ap, ◌∙◌, append_assoc, arith, flat_map, AllByRecursion, flat_map-append, is_empty, HeaderField, lines_before_empty, fields_of, DefaultType, Shape, Multipart, Message, Text, Other, Frame, Part, Entity, Counted, body_lines, is_closing, is_delimiter, preamble_and_pieces, pieces, parts, parts_by, is_left, StreamPlace, Skip, InHeader, InLeaf, or_else, own_hit, hit, counted_part, header_parts, value, behind_header, inner_step, step_by, given}
 use Rattle.std.proofs.lemmas.List.{append-nil}
 
@@ -17,7 +17,7 @@ before_empty_all : (ls : List Line) → IsHeader ls → lines_before_empty ls �
 before_empty_all [] h = refl
 before_empty_all (k ∷ ls) h = rw (h.0, lines_before_empty) (ap (λ (t : List Line). k ∷ t) (before_empty_all ls h.1))
 
--- a header's fields are there once it has ended
+-- the fields of a header are known once it has ended
 pub fields_of-ended : (ls : List Line) (l : Line) (rest : List Line) → IsHeader ls → is_empty l ≡ true → fields_of (ls ++ l ∷ rest) ≡ fields_of ls
 unfolding fields_of
 fields_of-ended ls l rest h e = grind (arith, before_empty_of, before_empty_all)
@@ -92,7 +92,7 @@ module _ {A : Type 0} (shape_of : DefaultType → List HeaderField → Shape) (g
           → (preamble_and_pieces f.boundary (before_by o l (before outer ls))).0 ≡ before_by (or_else o (own_hit (is_closing f.boundary l) (is_delimiter f.boundary l) f outer)) l (before (f ∷ outer) ls)
       by_outer o h = grind (arith, by_own)
 
-  -- what pieces of a multipart give
+  -- what the pieces of a multipart give
   abbrev of_pieces : ℕ → DefaultType → List (List Line) → List A
   of_pieces left d ps = flat_map gives (flat_map (parts shape_of left d) ps)
 
@@ -108,7 +108,7 @@ module _ {A : Type 0} (shape_of : DefaultType → List HeaderField → Shape) (g
   abbrev AllFrames : List Line → Type 0
   AllFrames ls = (f : Frame) (outer : List Frame) → FrameIs ls f outer
 
-  -- the entity whose header has ended, and what comes behind it
+  -- the entity whose header has ended, and what comes after it
   abbrev EntityIs : Shape → List Line → List Frame → ℕ → List Line → Line → Type 0
   EntityIs sh ls fs left lines l =
       given shape_of gives (behind_header shape_of gives sh fs left (fields_of lines)).0 (behind_header shape_of gives sh fs left (fields_of lines)).1 ls
@@ -180,7 +180,7 @@ module _ {A : Type 0} (shape_of : DefaultType → List HeaderField → Shape) (g
     frame_is [] f outer = refl
     frame_is (l ∷ ls) f outer = by_outer (hits outer l) ls f outer l (λ gs p k. given_is ls gs p k) (λ e o. frame_is ls e o)
 
-  -- from the front of an entity on, with nothing open
+  -- from the beginning of an entity on, with no multipart open
   pub whole_given : (c : Bool) (n : ℕ) (d : DefaultType) (ls : List Line)
       → given shape_of gives [] (InHeader c n d []) ls ≡ flat_map gives (counted_part c ls ++ parts shape_of (suc n) d ls)
   whole_given c n d ls = grind (arith, given_is, later_none, append-nil, before_all)

@@ -1,9 +1,9 @@
--- Tags line by line.
+-- Tags line by line give what tags in the whole text give.
 use Rattle.mime_text.proofs.Words.{◌≡◌, ◌∙◌, ◌<◌, ◌==◌, ◌++◌, ℕ, Bool, true, false, List, [], ◌∷◌, map, reverse, refl, ap, ap₂, arith, append_assoc, encode_utf8_all, IsUtf8, eqb-true, reverse-append, encode_ascii, encodes-chars, Lacks, text_of, Charset, is_open, without_tags, lines_without_tags, texts_of_lines, is_open_after, is_open_behind, blanked, texts_behind}
 use Rattle.std.specs.Char.{encode_utf8}
 use Rattle.std.specs.Str.{chars}
 
--- ---- of what stands before, whether a tag is open is all that counts
+-- ---- of the text before, only whether a tag is open counts
 
 is_open-step : (before : List ℕ) (c : ℕ) → is_open (c ∷ before) ≡ is_open_after (is_open before) c
 is_open-step before c = grind arith
@@ -40,7 +40,7 @@ lacks-append : (c : ℕ) (xs ys : List ℕ) → Lacks c (xs ++ ys) → Lacks c x
 lacks-append c [] ys h = (tt, h)
 lacks-append c (x ∷ xs) ys h = let rest = lacks-append c xs ys h.1 in ((h.0, rest.0), rest.1)
 
--- no byte is this ASCII one, so no character is
+-- if no byte is this ASCII character, no character is
 lacks-chars : (c : ℕ) → c < 128 → (cs : List ℕ) → Lacks c (encode_utf8_all cs) → Lacks c cs
 lacks-chars c ascii [] h = tt
 lacks-chars c ascii (x ∷ cs) h = let parts = lacks-append c (encode_utf8 x) (encode_utf8_all cs) h in (go (x == c) refl parts.0, lacks-chars c ascii cs parts.1)

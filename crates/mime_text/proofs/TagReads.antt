@@ -1,11 +1,11 @@
--- A loop over the spans of a text that blanks its tags.
+-- The loop that blanks the tags of a text, one span at a time.
 use Rattle.mime_text.proofs.Words.{◌≡◌, ℕ, zero, suc, ◌+◌, ◌≤◌, ◌<◌, Bool, true, false, List, [], ◌∷◌, ◌++◌, length, drop, get_or, replicate, chars, encode_utf8, encode_utf8_all, IsUtf8, refl, sym, ap, ap₂, ◌∙◌, subst, arith, length-append, append_assoc, not, ◌≢◌, ◌==◌, option_map, Option, eqb-true, false_from_ne_true, IsAscii, take_at, drop_at, get_or_at, length_push, length-replicate, replicate-append-replicate, IsUtf8-take, IsUtf8-drop, IsUtf8-from_ascii, IsCharBoundary-before_ascii, IsCharBoundary-after_ascii, chars-append, chars-IsAscii, encode_ascii, encodes-append, encodes-chars, length-le-encodes, cut_at, Lacks, IsCut, cut_at-none, cut_at-is, is_open_after, is_open_behind, blanked, span_end, shown_span}
 use denote.Ref.{Bor}
 use Rattle.std.proofs.lemmas.Str.Ascii.{IsAscii-nil, IsAscii-cons}
 use Rattle.std.proofs.lemmas.Str.Pattern.{IsSplitOnceResult, split_parts}
 use Rattle.mime_text.proofs.TagLemmas.{lacks-text, blanked-free, is_open-free}
 
--- ---- characters one behind another
+-- ---- characters one after another
 
 is_open_behind-append : (o : Bool) (xs ys : List ℕ) → is_open_behind o (xs ++ ys) ≡ is_open_behind (is_open_behind o xs) ys
 is_open_behind-append o [] ys = refl
@@ -15,7 +15,7 @@ blanked-append : (o : Bool) (xs ys : List ℕ) → blanked o (xs ++ ys) ≡ blan
 blanked-append o [] ys = refl
 blanked-append o (x ∷ xs) ys = ap (λ (l : List ℕ). blanked o (x ∷ []) ++ l) (blanked-append (is_open_after o x) xs ys)
 
--- ---- a span, without what ends it
+-- ---- a span, without the character that ends it
 
 blanked-tag : (cs : List ℕ) → Lacks 0x3E cs → blanked true cs ≡ replicate (length cs) 0x20
 blanked-tag [] h = refl
@@ -35,7 +35,7 @@ encodes-spaces : (n : ℕ) → encode_utf8_all (replicate n 0x20) ≡ replicate 
 encodes-spaces zero = refl
 encodes-spaces (suc n) = ap₂ (λ (xs ys : List ℕ). xs ++ ys) (encode_ascii 0x20 (omega arith)) (encodes-spaces n)
 
--- what a span in a tag or outside of one is written as
+-- how a span in a tag, or outside tags, is written
 pub written_tag : (text : List ℕ) → replicate (length (chars text)) 0x20 ≡ encode_utf8_all (shown_span true (chars text))
 written_tag text = sym (encodes-spaces (length (chars text)))
 
@@ -51,7 +51,7 @@ pub spaces-ascii : (n : ℕ) → IsAscii (replicate n 0x20)
 spaces-ascii zero = IsAscii-nil
 spaces-ascii (suc n) = IsAscii-cons 0x20 (replicate n 0x20) (omega arith) (spaces-ascii n)
 
--- some of those that are left are added
+-- some of the spaces that are left are added
 pub spaces-more : (into new some : List ℕ) (left n rest : ℕ) → some ≡ replicate n 0x20 → n + rest ≡ left → new ≡ into ++ some → new ++ replicate rest 0x20 ≡ into ++ replicate left 0x20
 spaces-more into new some left n rest are parts added = grind (arith, append_assoc, replicate-append-replicate)
 
@@ -97,14 +97,14 @@ cut_text c before behind ascii utf8 =
 
 -- ---- the loop
 
--- a tag was open at the start of the text or wasn't, so much is written, and the rest gives what is left
+-- this much is written of a text, at whose start a tag was open or not, and the rest gives what is missing
 pub record TagsRead (text : List ℕ) (start : Bool) (old into : List ℕ) (o : Bool) (rest : List ℕ) : Type 0 where
   utf8 : IsUtf8 rest
   sofar : into ++ encode_utf8_all (blanked o (chars rest)) ≡ old ++ encode_utf8_all (blanked start (chars text))
   behind : is_open_behind o (chars rest) ≡ is_open_behind start (chars text)
   size : length into + length rest ≤ length old + length text
 
--- all is written
+-- the whole text is written
 pub record TagsBlanked (text : List ℕ) (start : Bool) (old into : List ℕ) (o : Bool) : Type 0 where
   pub whole : into ≡ old ++ encode_utf8_all (blanked start (chars text))
   pub behind : o ≡ is_open_behind start (chars text)

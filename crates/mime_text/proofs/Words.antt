@@ -1,4 +1,4 @@
--- The words of std and of the definitions that proofs take, from one place.
+-- The names of std and of the definitions that proofs use, all from one place.
 pub use Rattle.header_text.proofs.CutLemmas.{IsCut, IsCut-from, Lacks, Lacks-from, cut_at-is, cut_at-none, split_while-cut, split_while-free}
 pub use Rattle.header_text.proofs.Fronts.{length-split_while, split_while-joined, take-split_while}
 unfoldable pub use Rattle.header_text.specs.Base64.{base64_bytes, bytes_of_sextets, sextet}

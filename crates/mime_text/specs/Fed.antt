@@ -1,4 +1,4 @@
--- What a MessageText was fed.
+-- How the lines that a MessageText has read relate to the texts that it gives.
 use Rattle.std.specs.Prelude.{◌≡◌, ℕ, Bool, false, List, [], ◌∷◌, ◌++◌}
 use Rattle.mail_words.specs.declared.kind.TextKind.{TextKind}
 use Rattle.mime_text.specs.declared.fault.SinkFault.{SinkFault}
@@ -8,12 +8,12 @@ use Rattle.mime_text.specs.Sinks.{Pair, Coming, TakesAll, Breaks}
 use Rattle.mime_text.specs.Texts.{texts_of_message}
 use Rattle.mime_text.specs.Feeding.{Comes, KnowsFacts}
 
--- an earlier call has failed, or the message has ended
+-- whether an earlier call has failed, or the message has ended
 abbrev pub has_ended : MessageText → Bool
 has_ended m = m.ended
 
--- It was fed these lines and gave these pairs: whatever lines come, the message's texts are these pairs and those that it still
--- gives. What it knows of the message's facts is right too.
+-- It has read these lines and given these pairs: whatever lines come, the message's texts are these pairs, and then
+-- those that it still gives. Its facts are right too, if they are known already.
 pub record Fed (m : MessageText) (ls : List (List ℕ)) (ps : List Pair) : Type 0 where
   pub live : m.ended ≡ false
   pub coming : Coming
@@ -22,26 +22,26 @@ pub record Fed (m : MessageText) (ls : List (List ℕ)) (ps : List Pair) : Type 
   pub facts : KnowsFacts m.reader ls
 
 module _ {S : Type 0} (takes : S → TextKind → List ℕ → S → Type 0) (refuses : S → TextKind → List ℕ → SinkFault → S → Type 0) where
-  -- the sink took some pairs, with which a line more was fed, whatever was fed before
+  -- the sink took some pairs; whatever lines m was fed before, n was fed this line too, and gave these pairs too
   pub record Feeds (m n : MessageText) (l : List ℕ) (old new : S) : Type 0 where
     pub pairs : List Pair
     pub taken : TakesAll takes refuses pairs old new
     pub fed : (ls : List (List ℕ)) (ps : List Pair) → Fed m ls ps → Fed n (ls ++ l ∷ []) (ps ++ pairs)
 
-  -- the sink was given some pairs, and there a fault came: they are in front of what comes, whatever was fed before, and
-  -- whatever comes behind the line
+  -- the sink was given some pairs, and then a fault came: after the pairs given before, the message's texts go on with
+  -- these, whatever was fed before and whatever lines come after this one
   pub record FeedsPart (m : MessageText) (l : List ℕ) (fault : TextFault) (old new : S) : Type 0 where
     pub pairs : List Pair
     pub broken : Breaks takes refuses fault pairs old new
     pub front : (ls : List (List ℕ)) (ps : List Pair) → Fed m ls ps → (ms : List (List ℕ)) → (later : List Pair) × (texts_of_message (ls ++ l ∷ ms) ≡ (ps ++ pairs) ++ later)
 
-  -- the sink took the pairs that were left, whatever was fed before
+  -- the sink took the pairs that were left: with those given before, they are the texts of the whole message
   pub record Finishes (m : MessageText) (old new : S) : Type 0 where
     pub pairs : List Pair
     pub taken : TakesAll takes refuses pairs old new
     pub whole : (ls : List (List ℕ)) (ps : List Pair) → Fed m ls ps → texts_of_message ls ≡ ps ++ pairs
 
-  -- the sink was given some of them, and there a fault came
+  -- the sink was given some of the pairs that were left, and then a fault came
   pub record FinishesPart (m : MessageText) (fault : TextFault) (old new : S) : Type 0 where
     pub pairs : List Pair
     pub broken : Breaks takes refuses fault pairs old new

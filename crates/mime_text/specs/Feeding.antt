@@ -1,6 +1,5 @@
--- What a reader of a message's lines still gives, told by its fields. Clauses of MessageText reach it through Fed, which says
--- all that a caller has to know: with what was given before it is the texts of the message, whatever lines come. The rest
--- serves proofs.
+-- What a reader of a message's lines still gives, by its fields. Public clauses of MessageText use it through Fed only:
+-- together with what was given before, it is the texts of the message, whatever lines come. The rest serves proofs.
 use Rattle.std.specs.Prelude.{◌≡◌, ℕ, Bool, true, false, List, [], ◌++◌, Option, Some, None}
 use Rattle.header_text.specs.Headers.{HeaderField, fields_of}
 use Rattle.header_text.specs.declared.header.Header.{Header}
@@ -36,69 +35,72 @@ abbrev pub counted_texts : Bool → List HeaderField → List Pair
 counted_texts true fields = texts_of_fields fields
 counted_texts false fields = []
 
--- those of the header of an entity, and then the entity's name
+-- the texts of an entity's header, if it counts, and then the entity's name
 abbrev pub header_texts : Bool → List HeaderField → List Pair
 header_texts counted fields = counted_texts counted fields ++ name_texts fields
 
--- what an entity gives that ends here, with these fields where it is in its header
+-- what an entity gives if it ends here; the fields are those of its header, if that is still being read
 abbrev pub ending : State → List HeaderField → LeafReader → List Pair
 ending state.Skipping fields leaf = []
 ending (state.InHeader counted d) fields leaf = header_texts counted fields
 ending state.InLeaf fields leaf = pairs_to_come leaf []
 
--- what comes behind the end of a header with these fields
+-- what comes after the end of a header with these fields
 abbrev pub given_behind : Shape → Nest → List HeaderField → Coming
 given_behind shape nest fields ms =
     let behind = behind_header shape_of part_texts shape nest.frames nest.left fields in given_from behind.0 behind.1 ms
 
--- what comes behind a line that delimits
+-- what comes after a delimiter line, by what the line delimits
 abbrev pub given_after : Lead → Nest → Coming
 given_after Nowhere nest ms = given_from nest.frames Skip ms
 given_after (Piece d) nest ms = given_from nest.frames (InHeader false nest.left d []) ms
 given_after Behind nest ms = given_from nest.frames Skip ms
 
--- these pairs come, in a state
+-- these pairs come, if the reader is in this state
 abbrev pub ComesAt : State → PartReader → Coming → Type 0
 ComesAt state.Skipping r c = (ms : List (List ℕ)) → c ms ≡ given_from r.nesting.frames Skip ms
 ComesAt (state.InHeader counted d) r c = (held : List (List ℕ)) × HasLines r.header held × (has_empty held ≡ false)
     × ((ms : List (List ℕ)) → c ms ≡ given_from r.nesting.frames (InHeader counted r.nesting.left d held) ms)
 ComesAt state.InLeaf r c = (ms : List (List ℕ)) → c ms ≡ given_from r.nesting.frames (InLeaf (pairs_to_come r.leaf)) ms
 
--- these pairs come, by the lines to come
+-- these pairs come from the reader, for any lines to come
 abbrev pub Comes : PartReader → Coming → Type 0
 Comes r c = ComesAt r.state r c
 
--- these pairs come where a header has just ended
+-- these pairs come from a reader whose header has just ended
 abbrev pub ComesBehindHeader : PartReader → Bool → DefaultType → Coming → Type 0
 ComesBehindHeader r counted d c = (ls : List (List ℕ)) × HasLines r.header ls
     × ((ms : List (List ℕ)) → c ms ≡ header_texts counted (fields_of ls) ++ given_behind (shape_of d (fields_of ls)) r.nesting (fields_of ls) ms)
 
--- these pairs come where an entity ends, and then what a lead goes to
+-- these pairs come if the entity ends in this state, and then those after a delimiter line
 abbrev pub ComesEndingAt : State → PartReader → Lead → Coming → Type 0
 ComesEndingAt state.Skipping r lead c = (ms : List (List ℕ)) → c ms ≡ given_after lead r.nesting ms
 ComesEndingAt (state.InHeader counted d) r lead c = (held : List (List ℕ)) × HasLines r.header held
     × ((ms : List (List ℕ)) → c ms ≡ header_texts counted (fields_of held) ++ given_after lead r.nesting ms)
 ComesEndingAt state.InLeaf r lead c = (ms : List (List ℕ)) → c ms ≡ pairs_to_come r.leaf [] ++ given_after lead r.nesting ms
 
+-- the same for the state of the reader
 abbrev pub ComesEnding : PartReader → Lead → Coming → Type 0
 ComesEnding r lead c = ComesEndingAt r.state r lead c
 
--- the message's own header is being read, and these are its lines
+-- the header of the message itself is being read, and these are its lines
 pub record IsInOwnHeader (r : PartReader) (ls : List (List ℕ)) : Type 0 where
   pub state_is : r.state ≡ state.InHeader true TextPlain
   pub outside : r.nesting.frames ≡ []
   pub lines : HasLines r.header ls
   pub open_ended : has_empty ls ≡ false
 
--- what is known of the facts behind these lines
+-- what is known of the facts after these lines: they are right whatever lines come; until they are known, the message's
+-- own header is being read
 abbrev pub KnowsAt : Option Facts → PartReader → List (List ℕ) → Type 0
 KnowsAt None r ls = IsInOwnHeader r ls
 KnowsAt (Some facts) r ls = (ms : List (List ℕ)) → facts ≡ facts_of (fields_of (ls ++ ms))
 
--- facts that aren't known yet are those of the header that has ended
+-- facts that were known stay; otherwise the new ones are those of the header that has ended
 abbrev pub Notes : Option Facts → Option Facts → Header → Type 0
 Notes None new h = (ls : List (List ℕ)) → HasLines h ls → new ≡ Some (facts_of (fields_of ls))
 Notes (Some facts) new h = new ≡ Some facts
 
+-- what the reader knows of the facts after these lines
 abbrev pub KnowsFacts : PartReader → List (List ℕ) → Type 0
 KnowsFacts r ls = KnowsAt r.facts r ls

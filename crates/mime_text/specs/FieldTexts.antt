@@ -8,7 +8,7 @@ use Rattle.header_text.specs.EncodedWords.{decoded}
 use Rattle.mail_words.specs.declared.kind.TextKind.{TextKind}
 use Rattle.mail_words.specs.declared.kind.TextKind.TheVariants as kind
 
--- the kind of text that a field of this name has
+-- the kind of the text of a field with this name, in any ASCII case; None for fields without a text
 abbrev pub kind_of_field : List ℕ → Option TextKind
 kind_of_field name =
     if is_named name (codes "to") then Some kind.To
@@ -18,7 +18,7 @@ kind_of_field name =
     else if is_named name (codes "subject") then Some kind.Subject
     else None
 
--- the text of a field's body, its encoded words decoded
+-- the text of a field's body: unfolded, its encoded words decoded
 abbrev pub text_of_body : List ℕ → List ℕ
 text_of_body body = decoded (unfolded body)
 

@@ -1,4 +1,5 @@
--- What private functions say of one another, and views of fields: it serves proofs alone, and no public clause rests on it.
+-- Definitions for private functions and proofs only: what these functions promise one another, and views of fields. No
+-- public clause depends on them.
 pub mod Passing
 pub mod Showing
 pub mod TagSpans

@@ -1,3 +1,4 @@
+-- The definitions of a message's texts; each file comes after those that it uses.
 pub mod FieldTexts
 pub mod MessageFacts
 pub mod Limits

@@ -1,4 +1,4 @@
--- What a message's own header says beside its texts.
+-- What a message's own header says besides its texts.
 use Rattle.std.specs.Prelude.{ℕ, ◌<◌, ◌≤◌, Bool, ◌&&◌, ◌||◌, ◌==◌, List, [], ◌∷◌, length, All, IfSome, filter, flat_map, Option, Some, None, option_map, codes}
 use Rattle.std.specs.List.{list_any}
 use Rattle.header_text.specs.Headers.{HeaderField, most_in_header}
@@ -9,7 +9,7 @@ use Rattle.mail_words.specs.declared.flags.Flags.{Flags}
 use Rattle.mime_text.specs.declared.header.facts.Facts.{Facts}
 use Rattle.mime_text.specs.FieldTexts.{text_of_body}
 
--- the first, where there is one
+-- the first element, if there is one
 abbrev pub first_of : {A : Type 0} → List A → Option A
 first_of [] = None
 first_of (x ∷ xs) = Some x
@@ -18,23 +18,23 @@ first_of (x ∷ xs) = Some x
 abbrev pub date_text_of : List HeaderField → Option (List ℕ)
 date_text_of fields = option_map text_of_body (first_body (codes "date") fields)
 
--- the field says what mail programs noted of the message
+-- whether a field of this name has the flags that mail programs set
 abbrev pub is_status : List ℕ → Bool
 is_status name = is_named name (codes "status") || is_named name (codes "x-status")
 
--- the letter stands in the value of a Status or X-Status field
+-- whether the letter is in the value of a Status or X-Status field
 abbrev pub has_letter : ℕ → List HeaderField → Bool
 has_letter letter fields = list_any (λ f. is_status f.name && list_any (λ b. b == letter) (unfolded f.body)) fields
 
--- R for read, A for answered, F for flagged
+-- the flags: R for read, A for replied, F for flagged
 abbrev pub flags_of : List HeaderField → Flags
 flags_of fields = record { seen = has_letter 0x52 fields; replied = has_letter 0x41 fields; flagged = has_letter 0x46 fields }
 
--- the message's own id: the first in a Message-ID field (RFC 5322, 3.6.4)
+-- the message's own id: the first id in a Message-ID field (RFC 5322, 3.6.4)
 abbrev pub own_id_of : List HeaderField → Option (List ℕ)
 own_id_of fields = first_of (flat_map (λ f. ids_of f.body) (filter (λ f. is_named f.name (codes "message-id")) fields))
 
--- the field links the message to others
+-- whether a field of this name links the message to others
 abbrev pub is_linking : List ℕ → Bool
 is_linking name = is_named name (codes "message-id") || is_named name (codes "in-reply-to") || is_named name (codes "references")
 
@@ -42,17 +42,18 @@ is_linking name = is_named name (codes "message-id") || is_named name (codes "in
 abbrev pub ids_of_fields : List HeaderField → List (List ℕ)
 ids_of_fields fields = flat_map (λ f. ids_of f.body) (filter (λ f. is_linking f.name) fields)
 
--- an id, or another text of a header, has one to so many bytes
+-- the most bytes of an id, which are those that are kept of a header
 abbrev pub most_in_id : ℕ
 most_in_id = most_in_header
 
+-- an id has at least one byte, and at most as many as are kept of a header
 abbrev pub IsSizedId : List ℕ → Type 0
 IsSizedId id = (0 < length id) × (length id ≤ most_in_id)
 
--- each id of these facts is sized
+-- each id of these facts has such a size
 abbrev pub HasSizedIds : Facts → Type 0
 HasSizedIds facts = IfSome facts.own_id IsSizedId × All IsSizedId facts.ids
 
--- what the header of these fields says
+-- the facts that a header with these fields says
 unfoldable pub facts_of : List HeaderField → Facts
 facts_of fields = record { date_text = date_text_of fields; flags = flags_of fields; own_id = own_id_of fields; ids = ids_of_fields fields }

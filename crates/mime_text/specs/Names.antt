@@ -1,4 +1,4 @@
--- The name of an entity: that of the file in which it is to be kept.
+-- The name of an entity: the name of the file in which it is to be saved.
 use Rattle.std.specs.Prelude.{ℕ, List, [], ◌∷◌, Option, None, Some, option_map, codes}
 use Rattle.std.specs.Option.{option_or, option_to_list}
 use Rattle.header_text.specs.Headers.{HeaderField}
@@ -18,18 +18,18 @@ unless_empty (Some (b ∷ bs)) = Some (b ∷ bs)
 abbrev pub filename_of : List HeaderField → Option (List ℕ)
 filename_of fields = parameter (codes "filename") (first_value (codes "content-disposition") fields)
 
--- the parameter `name` of the first Content-Type field (RFC 2045, 5.1), even of one that names no type
+-- the parameter `name` of the first Content-Type field (RFC 2045, 5.1), even if the field names no type
 abbrev pub type_name_of : List HeaderField → Option (List ℕ)
 type_name_of fields = parameter (codes "name") (content_type fields)
 
--- the name of the entity with this header, as it is written there: its file name, or where that is missing or empty its type's
+-- the name of the entity with this header, as written: `filename`, or `name` if that is missing or empty
 abbrev pub name_of : List HeaderField → Option (List ℕ)
 name_of fields = option_or (unless_empty (filename_of fields)) (unless_empty (type_name_of fields))
 
--- its text, encoded words decoded as in other fields of a header: that may be empty where the name isn't
+-- the name's text, with encoded words decoded as in other fields of a header; it may be empty even if the name isn't
 abbrev pub name_text : List HeaderField → Option (List ℕ)
 name_text fields = option_map decoded (name_of fields)
 
--- of an entity that has a name, its text
+-- the text of an entity's name as a list, which is empty if the entity has no name
 abbrev pub name_texts : List HeaderField → List Pair
 name_texts fields = option_to_list (option_map (λ text. (kind.Name, text)) (name_text fields))

@@ -1,19 +1,19 @@
--- Tags, one character and one line at a time: whether one is open is all that counts of what stands before.
+-- The tags of HTML read one character and one line at a time: of the text before, only whether a tag is open counts.
 use Rattle.std.specs.Prelude.{ℕ, Bool, true, false, not, ◌&&◌, ◌||◌, ◌==◌, if◌then◌else◌, List, [], ◌∷◌, encode_utf8_all}
 use Rattle.std.specs.Str.{chars}
 use Rattle.header_text.specs.Charsets.{text_of}
 use Rattle.header_text.specs.declared.charset.Charset.{Charset}
 
--- whether a tag is open behind a character
+-- whether a tag is open after this character
 abbrev pub is_open_after : Bool → ℕ → Bool
 is_open_after open_before c = (open_before || (c == 0x3C)) && not (c == 0x3E)
 
--- whether one is open behind characters
+-- whether a tag is open after these characters
 abbrev pub is_open_behind : Bool → List ℕ → Bool
 is_open_behind open_before [] = open_before
 is_open_behind open_before (c ∷ cs) = is_open_behind (is_open_after open_before c) cs
 
--- what stands for a character
+-- the character that is written for this one: a space for each in a tag
 abbrev pub shown_character : Bool → ℕ → ℕ
 shown_character open_before c = if open_before || (c == 0x3C) then 0x20 else c
 
@@ -22,16 +22,17 @@ abbrev pub blanked : Bool → List ℕ → List ℕ
 blanked open_before [] = []
 blanked open_before (c ∷ cs) = shown_character open_before c ∷ blanked (is_open_after open_before c) cs
 
--- the text of a line, and whether a tag is open behind it
+-- the text of a line, if a tag is open before it or none is; only in HTML are there tags
 abbrev pub line_text : Charset → Bool → Bool → List ℕ → List ℕ
 line_text charset false open_before line = text_of charset line
 line_text charset true open_before line = encode_utf8_all (blanked open_before (chars (text_of charset line)))
 
+-- whether a tag is open after a line
 abbrev pub is_open_behind_line : Charset → Bool → Bool → List ℕ → Bool
 is_open_behind_line charset false open_before line = open_before
 is_open_behind_line charset true open_before line = is_open_behind open_before (chars (text_of charset line))
 
--- the texts of lines behind those
+-- the texts of the lines that follow, if a tag is open before them or none is
 abbrev pub texts_behind : Charset → Bool → Bool → List (List ℕ) → List (List ℕ)
 texts_behind charset is_html open_before [] = []
 texts_behind charset is_html open_before (l ∷ ls) =

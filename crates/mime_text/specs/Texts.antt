@@ -8,13 +8,13 @@ use Rattle.mime_text.specs.LeafTexts.{leaf_texts}
 use Rattle.mime_text.specs.Types.{shape_of, charset_in, transfer_in}
 use Rattle.mime_text.specs.Parts.{Part, Entity, Counted, Leaf, parts_of_message}
 
--- of an entity its name, if it has one; of a header that counts one for each To, Cc, Bcc, From and Subject field; of a leaf one for each
--- line of what it encodes
+-- the texts of a part: for an entity its name, if it has one; for a header that counts one for each To, Cc, Bcc, From
+-- and Subject field; for a leaf one for each line of its decoded body
 abbrev pub part_texts : Part → List Pair
 part_texts (Entity fields) = name_texts fields
 part_texts (Counted fields) = texts_of_fields fields
 part_texts (Leaf is_html fields body) = body_pairs (leaf_texts (transfer_in fields) (charset_in fields) is_html body)
 
--- those of the message whose text has these lines, in order
+-- the texts of the message whose text has these lines, in order
 unfoldable pub texts_of_message : List (List ℕ) → List Pair
 texts_of_message ls = flat_map part_texts (parts_of_message shape_of ls)

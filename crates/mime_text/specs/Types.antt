@@ -16,44 +16,49 @@ use Rattle.mime_text.specs.declared.parts.shape.Shape.TheVariants.{Multipart, Me
 use Rattle.mime_text.specs.declared.leaf.transfer.TransferEncoding.{TransferEncoding}
 use Rattle.mime_text.specs.declared.leaf.transfer.TransferEncoding.TheVariants.{Identity, QuotedPrintable, Base64}
 
--- the value of the first field of a name, empty where it is missing
+-- the value of the first field with this name, empty if there is none
 abbrev pub first_value : List ℕ → List HeaderField → List ℕ
 first_value name fields = unfolded (unwrap_or (first_body name fields) [])
 
+-- the value of the first Content-Type field
 abbrev pub content_type : List HeaderField → List ℕ
 content_type = first_value (codes "content-type")
 
+-- the name of the type of an entity that doesn't name its own
 abbrev pub default_type : DefaultType → List ℕ
 default_type TextPlain = codes "text/plain"
 default_type MessageRfc822 = codes "message/rfc822"
 
--- what stands before the first semicolon of a value, even one in quotes, without blanks round it
+-- what is before the first semicolon of a value, even of one in quotes, without blanks around it
 abbrev pub type_text : List ℕ → List ℕ
 type_text value = trimmed (split_while (λ b. not (b == semicolon)) value).0
 
+-- whether there is a `/` in a text
 abbrev pub has_slash : List ℕ → Bool
 has_slash text = list_any (λ b. b == 0x2F) text
 
--- the type that a value names, or the default where it has no `/`
+-- the type that a value names, or the default if it has no `/`
 abbrev pub media_type : DefaultType → List ℕ → List ℕ
 media_type default value = if has_slash (type_text value) then type_text value else default_type default
 
--- a boundary isn't empty, nor too long
+-- a boundary, if it isn't empty and not too long
 abbrev pub usable : List ℕ → Option (List ℕ)
 usable boundary = if nat_le 1 (length boundary) && nat_le (length boundary) most_in_boundary then Some boundary else None
 
--- the entities in a multipart/digest are messages, where they don't say what they are (RFC 2046, 5.1.5)
+-- the type of entities in a multipart that don't name theirs: messages in a multipart/digest (RFC 2046, 5.1.5)
 abbrev pub default_in : List ℕ → DefaultType
 default_in type = if is_named type (codes "multipart/digest") then MessageRfc822 else TextPlain
 
--- a multipart with a boundary that is usable; any other is read as text/plain
+-- a multipart with a usable boundary; one without is read as text/plain
 abbrev pub shape_of_multipart : List ℕ → Option (List ℕ) → Shape
 shape_of_multipart type None = Text false
 shape_of_multipart type (Some boundary) = elim (usable boundary) [ Some b ↦ Multipart b (default_in type) | None ↦ Text false ]
 
+-- whether a type begins with `multipart/`, in any ASCII case
 abbrev pub is_multipart : List ℕ → Bool
 is_multipart type = is_named (take 10 type) (codes "multipart/")
 
+-- what an entity of this type is, which isn't a multipart
 abbrev pub shape_of_single : List ℕ → Shape
 shape_of_single type =
     if is_named type (codes "message/rfc822") then Message
@@ -72,16 +77,19 @@ shape_of_value default value = shape_of_type (media_type default value) (paramet
 abbrev pub shape_of : DefaultType → List HeaderField → Shape
 shape_of default fields = shape_of_value default (content_type fields)
 
--- how its text is to be read: by its parameter `charset`, where that is missing as UTF-8
+-- the charset of an entity's text, by the parameter `charset` of this value; UTF-8 if that is missing
 unfoldable pub charset_of_value : List ℕ → Charset
 charset_of_value value = charset_of (unwrap_or (parameter (codes "charset") value) [])
 
+-- the charset of an entity with this header
 abbrev pub charset_in : List HeaderField → Charset
 charset_in fields = charset_of_value (content_type fields)
 
--- how an entity's body was encoded, by the value of its Content-Transfer-Encoding field; an unknown encoding changes nothing
+-- the encoding of an entity's body, by the value of its Content-Transfer-Encoding field; an unknown encoding changes
+-- nothing
 unfoldable pub transfer_named : List ℕ → TransferEncoding
 transfer_named value = if is_named value (codes "quoted-printable") then QuotedPrintable else if is_named value (codes "base64") then Base64 else Identity
 
+-- the encoding of the body of an entity with this header
 abbrev pub transfer_in : List HeaderField → TransferEncoding
 transfer_in fields = transfer_named (first_value (codes "content-transfer-encoding") fields)

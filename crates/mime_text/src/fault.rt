@@ -1,14 +1,14 @@
-//! Why a message's texts aren't all there.
+//! Why the texts of a message weren't all given.
 use std::alloc::AllocError;
 use thiserror::Error;
 
 /// Why a sink refused a text.
 #[derive(Clone, Copy, Debug, Error)]
 pub enum SinkFault {
-    /// There was no memory left.
+    /// Memory ran out.
     #[error("out of memory")]
     OutOfMemory,
-    /// It doesn't take the text.
+    /// The sink doesn't take the text.
     #[error("refused")]
     Refused,
 }
@@ -24,10 +24,10 @@ impl From<AllocError> for SinkFault {
     }
 }
 
-/// Why a message's texts weren't all given.
+/// Why the texts of a message weren't all given.
 #[derive(Clone, Copy, Debug, Error)]
 pub enum TextFault {
-    /// There was no memory left.
+    /// Memory ran out.
     #[error("out of memory")]
     OutOfMemory,
     /// The sink refused a text.

@@ -1,4 +1,4 @@
-//! What the headers of entities tell: texts, names and facts.
+//! What the headers of entities say: texts, names and facts.
 
 pub mod facts;
 pub mod field_text;

@@ -1,4 +1,4 @@
-//! The texts of a message: its parts (RFC 2045, RFC 2046), from its lines to decoded texts, one line at a time.
+//! The texts of a message: its lines are read one at a time, split into parts (RFC 2045, RFC 2046) and decoded.
 #![tactic(auto)]
 
 mod fault;

@@ -14,19 +14,25 @@ use crate::sink::TextSink;
 use std::alloc::{AllocError, Global};
 use std::mem::replace;
 
-/// Reads a message one line at a time, and gives its texts to a sink as they come: of each header that counts the texts of its
-/// To, Cc, Bcc, From and Subject fields in order; of each part of any type, the message too, the name of the file in which it is
-/// to be kept (RFC 2183, 2.3), if it has one; and then of each text/plain and text/html part a text for each line (RFC 2045,
-/// RFC 2046). Parts below the depth of 16 give nothing. No content is refused.
+/// Reads a message one line at a time, and gives its texts to a sink as they come.
+///
+/// Each header that counts gives the texts of its To, Cc, Bcc, From and Subject fields, in order. Each part of any
+/// type, and the message too, gives the name of the file in which it is to be saved (RFC 2183, 2.3), if it has one.
+/// Each text/plain and text/html part then gives a text for each line (RFC 2045, RFC 2046). Parts below the depth of 16
+/// give nothing. No content is refused.
 #[derive(Drop)]
 pub struct MessageText {
     reader: PartReader,
-    // No more may come: an earlier call has failed, or the message has ended.
+    // An earlier call has failed, or the message has ended, so no line may come.
     ended: bool,
 }
 
 impl MessageText {
-    /// Before the message's first line.
+    /// Returns a reader that is before the message's first line.
+    ///
+    /// # Errors
+    ///
+    /// `AllocError` if memory runs out; but a reader takes none before the first line.
     pub fn new(alloc: Global) -> Result<Self, AllocError>
         ensures { IfOk result (λ m. Fed m [] []) }
     {
@@ -36,8 +42,13 @@ impl MessageText {
         })
     }
 
-    /// Reads the next line of the message's text, with its LF where it has one: 1 to 65,537 bytes, LF at most the last. After a
-    /// fault, and after `finish`, every call but `begin_again` answers Failed.
+    /// Reads the next line of the message's text, with its LF if it has one: 1 to 65,537 bytes, LF only as the last
+    /// byte. Gives the texts that the line completes to the sink.
+    ///
+    /// # Errors
+    ///
+    /// `OutOfMemory` if memory runs out, and `Sink` if the sink refuses a text; the texts before that were given.
+    /// `Failed` after a fault and after `finish`, until `begin_again`.
     #[tactic(auto, using(crate::proofs::FedLemmas::feeds, crate::proofs::FedLemmas::feeds_part))]
     pub fn line<S: TextSink>(&mut self, line: &[u8], sink: &mut S) -> Result<(), TextFault>
         requires some { 0 < length line.now }
@@ -60,8 +71,13 @@ impl MessageText {
         outcome
     }
 
-    /// Ends the message, gives the texts that are left, and answers what its own header says beside its texts. From then on every
-    /// call answers Failed, until `begin_again`.
+    /// Ends the message, gives the texts that are left to the sink, and returns what the message's own header says
+    /// besides its texts. After that each call returns `Failed`, until `begin_again`.
+    ///
+    /// # Errors
+    ///
+    /// `OutOfMemory` if memory runs out, and `Sink` if the sink refuses a text; the texts before that were given.
+    /// `Failed` if an earlier call has failed, or the message has ended.
     pub fn finish<S: TextSink>(&mut self, sink: &mut S) -> Result<Facts, TextFault>
         ensures texts { OnOk result (Finishes S.takes S.refuses self.old sink.old sink.new) }
         ensures facts { IfOk result (λ facts. (ls : List (List ℕ)) (ps : List Pair)
@@ -80,8 +96,8 @@ impl MessageText {
         self.reader.end(sink)
     }
 
-    /// Goes to before the first line of another message, and keeps the memory. Whatever was read before, and whether a call failed
-    /// or not, it then tells what a new reader would.
+    /// Begins another message, whether a call has failed or not, and keeps the memory. The reader is then like a new
+    /// one.
     pub fn begin_again(&mut self)
         ensures { Fed self.new [] [] }
     {
@@ -89,7 +105,11 @@ impl MessageText {
         self.ended = false;
     }
 
-    /// Ends the last message that is read, as `finish` does.
+    /// Ends the last message, as `finish` does.
+    ///
+    /// # Errors
+    ///
+    /// Those of `finish`.
     pub fn end<S: TextSink>(mut self, sink: &mut S) -> Result<Facts, TextFault>
         ensures texts { OnOk result (Finishes S.takes S.refuses self sink.old sink.new) }
         ensures facts { IfOk result (λ facts. (ls : List (List ℕ)) (ps : List Pair)

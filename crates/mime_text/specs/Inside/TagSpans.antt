@@ -1,12 +1,12 @@
--- Spans of a text: what stands in one tag, and what stands between two.
+-- Spans of a text: the characters inside one tag, or between two tags.
 use Rattle.std.specs.Prelude.{ℕ, Bool, true, false, List, length, replicate}
 
--- what ends a span: `>` in a tag, and `<` outside of one
+-- the character that ends a span: `>` for a tag, and `<` outside tags
 abbrev pub span_end : Bool → ℕ
 span_end true = 0x3E
 span_end false = 0x3C
 
--- what stands for the characters of a span
+-- the characters that a span is written as: in a tag a space for each
 abbrev pub shown_span : Bool → List ℕ → List ℕ
 shown_span true cs = replicate (length cs) 0x20
 shown_span false cs = cs

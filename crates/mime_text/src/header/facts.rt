@@ -1,4 +1,4 @@
-//! What a message's own header says beside its texts.
+//! What a message's own header says besides its texts.
 ghost use Rattle.std.specs.Prelude.{◌≡◌, ◌==◌, ◌<◌, ◌≤◌, ℕ, List, length, map, All, IfOk, IfErr, IfSome, OnOk, option_map};
 ghost use Rattle.std.specs.List.{list_any};
 ghost use Rattle.header_text.specs.Headers.{fields_size, most_in_header};
@@ -13,16 +13,16 @@ use mail_words::Flags;
 use std::alloc::{AllocError, Global};
 use std::marker::Model;
 
-/// What a message's own header says beside its texts.
+/// What a message's own header says besides its texts.
 #[derive(Drop)]
 pub struct Facts {
     /// The text of the first Date field.
     pub date_text: Option<DateText>,
-    /// The letters R, A and F in the values of the Status and X-Status fields.
+    /// Which of the letters R, A and F are in the values of the Status and X-Status fields.
     pub flags: Flags,
     /// The first id in a Message-ID field (RFC 5322, 3.6.4), 1 to 262,144 bytes.
     pub own_id: Option<MessageId>,
-    /// All ids in Message-ID, In-Reply-To and References fields, in order, together of fewer than 262,144 bytes.
+    /// All ids in Message-ID, In-Reply-To and References fields, in order; together they have fewer than 262,144 bytes.
     pub ids: MessageIds,
 }
 
@@ -31,7 +31,7 @@ impl Facts {
     ghost use Rattle.header_text.specs.HeldLines.{HasLines};
     ghost use Rattle.mime_text.specs.MessageFacts.{facts_of};
 
-    /// What this header says.
+    /// Returns the facts that a header says. The only fault is `OutOfMemory`.
     #[tactic(auto, unfolding(crate::specs::MessageFacts::facts_of))]
     pub(crate) fn of(
         alloc: Global,
@@ -55,7 +55,7 @@ impl Facts {
     }
 }
 
-/// The facts of a message, once its own header has ended, which contracts see as these facts.
+/// The facts of a message, which are there once its own header has ended. Contracts see them as these facts.
 #[derive(Drop)]
 pub(crate) struct KeptFacts {
     facts: Option<Facts>,
@@ -82,7 +82,7 @@ impl KeptFacts {
         KeptFacts { facts: None }
     }
 
-    /// Keeps these in place of those before, if any.
+    /// Replaces the facts.
     pub(crate) fn set(&mut self, facts: Option<Facts>)
         requires { IfSome facts HasSizedIds }
         ensures { self.new ≡ facts }
@@ -90,7 +90,7 @@ impl KeptFacts {
         self.facts = facts;
     }
 
-    /// What the message's own header says, which is no longer kept: what is known of it, or else what this one says.
+    /// Takes the noted facts, or reads them from `header` if there are none. No facts are kept then.
     pub(crate) fn take(
         &mut self,
         alloc: Global,
@@ -107,7 +107,7 @@ impl KeptFacts {
         }
     }
 
-    /// Keeps what the header says of the message, if it is the first that has ended.
+    /// Notes the facts of this header, if none are noted. If memory runs out, none are.
     pub(crate) fn note(
         &mut self,
         alloc: Global,
@@ -125,7 +125,7 @@ impl KeptFacts {
     }
 }
 
-/// The text of the first Date field.
+/// Returns the text of the first Date field.
 fn date_text(
     alloc: Global,
     fields: Fields<'_>,
@@ -142,14 +142,14 @@ fn date_text(
     Ok(Some(DateText::of(text)))
 }
 
-/// Whether mail programs note flags in a field of this name.
+/// Whether a field of this name has flags that mail programs set.
 fn is_status(name: &[u8]) -> bool
     ensures { result ≡ is_status_of name.now }
 {
     is_named(name, b"status") || is_named(name, b"x-status")
 }
 
-/// The flags that the values of the Status and X-Status fields have together.
+/// Returns the flags of all Status and X-Status fields together.
 fn flags(fields: Fields<'_>) -> Flags
     ensures { result ≡ flags_of fields.entry }
 {
@@ -160,7 +160,7 @@ fn flags(fields: Fields<'_>) -> Flags
     };
     for field in fields {
         if is_status(field.name) {
-            // A line break is none of these letters, so the body isn't unfolded.
+            // The body isn't unfolded, because no letter is part of a line break.
             flags.seen |= field.body.contains(&b'R');
             flags.replied |= field.body.contains(&b'A');
             flags.flagged |= field.body.contains(&b'F');
@@ -169,7 +169,7 @@ fn flags(fields: Fields<'_>) -> Flags
     flags
 }
 
-/// The first id of a body.
+/// Returns the first id in a body.
 fn first_id(alloc: Global, body: &[u8]) -> Result<Option<MessageId>, AllocError>
     requires { length body.now ≤ most_in_header }
     ensures id { IfOk result (λ id. id ≡ first_of (ids_of body.now)) }
@@ -179,7 +179,7 @@ fn first_id(alloc: Global, body: &[u8]) -> Result<Option<MessageId>, AllocError>
     Ok(ids.into_iter().next().map(MessageId::of))
 }
 
-/// The first id of the first Message-ID field that has one.
+/// Returns the first id in a Message-ID field. A field without an id is passed over.
 fn own_id(alloc: Global, fields: Fields<'_>) -> Result<Option<MessageId>, AllocError>
     requires { fields_size fields ≤ most_in_header }
     ensures id { IfOk result (λ id. id ≡ own_id_of fields.entry) }
@@ -203,7 +203,7 @@ fn is_linking(name: &[u8]) -> bool
     is_named(name, b"message-id") || is_named(name, b"in-reply-to") || is_named(name, b"references")
 }
 
-/// All ids of the linking fields.
+/// Returns all ids of the linking fields, in order.
 fn linking_ids(alloc: Global, fields: Fields<'_>) -> Result<MessageIds, AllocError>
     requires { fields_size fields ≤ most_in_header }
     ensures ids { IfOk result (λ ids. ids ≡ ids_of_fields fields.entry) }

@@ -1,4 +1,4 @@
-//! The texts of a header's fields, and of the name of its entity.
+//! The texts of a header's fields, and of an entity's name.
 ghost use Rattle.std.specs.Prelude.{◌≡◌, ◌≤◌, ◌*◌, length, option_map, IfSome, OnOk, string_bytes};
 ghost use Rattle.header_text.specs.Headers.{fields_size, most_in_header};
 ghost use Rattle.mime_text.specs.Names.{name_text, unless_empty};
@@ -10,7 +10,7 @@ use header_text::{Fields, decode_words_into, is_named, unfold_into};
 use mail_words::TextKind;
 use std::alloc::{AllocError, Global};
 
-/// The kind of text that a field of this name has, if it is one of the five.
+/// Returns the kind of the text of a field with this name, in any ASCII case; None unless it is one of the five.
 pub(crate) fn kind_of_field(name: &[u8]) -> Option<TextKind>
     ensures { result ≡ kind_of_field_of name.now }
 {
@@ -30,7 +30,7 @@ pub(crate) fn kind_of_field(name: &[u8]) -> Option<TextKind>
     Some(kind)
 }
 
-/// Writes the text of a body, and before that the body in one line. What the buffers hold after an error isn't said.
+/// Writes the unfolded body, and its text. After an error nothing is promised of the buffers.
 fn write_text(
     body: &[u8],
     unfolded: &mut Vec<u8>,
@@ -47,8 +47,8 @@ fn write_text(
     decode_words_into(unfolded, scratch, into)
 }
 
-/// Reads the bodies of fields and the names of entities, into memory that is used again for each and bounded by what a header
-/// keeps.
+/// Reads the bodies of fields and the names of entities. Its memory is used again for each, and is bounded by what is
+/// kept of a header.
 #[derive(Drop)]
 pub(crate) struct FieldReader {
     unfolded: Vec<u8>,
@@ -60,7 +60,7 @@ pub(crate) struct FieldReader {
 }
 
 impl FieldReader {
-    /// It takes no memory before the first body.
+    /// Takes no memory before the first body.
     pub(crate) fn new(alloc: Global) -> Self {
         FieldReader {
             unfolded: Vec::new(alloc),
@@ -69,8 +69,8 @@ impl FieldReader {
         }
     }
 
-    /// Reads the text of a body: in one line, its encoded words decoded (RFC 2047). It has at most three bytes for each of the
-    /// body's. Where memory is wanting nothing is kept.
+    /// Reads the text of a body: unfolded, with its encoded words decoded (RFC 2047). The text has at most three bytes
+    /// for each byte of the body. If memory runs out, nothing is kept.
     pub(crate) fn read(&mut self, body: &[u8]) -> Result<(), AllocError>
         requires { length body.now ≤ most_in_header }
         ensures text { OnOk result (string_bytes self.new.text ≡ text_of_body body.now) }
@@ -85,7 +85,7 @@ impl FieldReader {
         outcome
     }
 
-    /// The text that was read last.
+    /// Returns the text that was read last.
     pub(crate) fn text(&self) -> &str
         ensures text { result.now ≡ string_bytes self.now.text }
         ensures size { length result.now ≤ most_in_header_text }
@@ -93,7 +93,7 @@ impl FieldReader {
         self.text.as_str()
     }
 
-    /// Reads the name of a header's entity, which is empty where it has none, and keeps nothing where memory is wanting.
+    /// Reads the name of a header's entity, which is empty if the entity has none. If memory runs out, nothing is kept.
     pub(crate) fn read_name(&mut self, fields: Fields<'_>) -> Result<(), AllocError>
         requires { fields_size fields ≤ most_in_header }
         ensures { OnOk result (option_map (λ _. string_bytes self.new.text)
@@ -113,7 +113,8 @@ impl FieldReader {
         outcome
     }
 
-    /// The text of the name that was read last, if the entity has one. It has at most three bytes for each of the name's.
+    /// Returns the text of the name that was read last; None if the entity has no name. The text has at most three
+    /// bytes for each byte of the name.
     pub(crate) fn name(&self) -> Option<&str>
         ensures text { option_map (λ text. text.now) result
             ≡ option_map (λ _. string_bytes self.now.text)

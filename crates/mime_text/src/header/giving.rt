@@ -1,4 +1,4 @@
-//! The texts of headers, given to a sink.
+//! Giving the texts of headers to a sink.
 ghost use Rattle.std.specs.Prelude.{◌≡◌, ◌≤◌, [], ◌∷◌, length};
 ghost use Rattle.header_text.specs.Headers.{fields_size, most_in_header};
 ghost use Rattle.mime_text.specs.FieldTexts.{texts_of_fields};
@@ -12,7 +12,7 @@ use crate::sink::{TextSink, give_text};
 use header_text::{Field, Fields};
 use mail_words::TextKind;
 
-/// Gives the text of a field, if it is one of the five.
+/// Gives the text of a field to the sink, if it is one of the five.
 fn give_field<S: TextSink>(
     field: Field<'_>,
     reader: &mut FieldReader,
@@ -30,7 +30,7 @@ fn give_field<S: TextSink>(
     give_text(kind, reader.text(), sink)
 }
 
-/// Gives the texts of a header's fields, in order, if it counts.
+/// Gives the texts of a header's fields to the sink, in order, if the header counts.
 fn give_counted<S: TextSink>(
     counted: bool,
     fields: Fields<'_>,
@@ -50,7 +50,7 @@ fn give_counted<S: TextSink>(
     Ok(())
 }
 
-/// Gives the name of a header's entity, if it has one.
+/// Gives the name of a header's entity to the sink, if it has one.
 fn give_name<S: TextSink>(
     fields: Fields<'_>,
     reader: &mut FieldReader,
@@ -67,7 +67,7 @@ fn give_name<S: TextSink>(
     }
 }
 
-/// Gives the texts of a header, if it counts, and then the name of its entity.
+/// Gives the texts of a header to the sink, if it counts, and then the name of its entity.
 pub(crate) fn give_header<S: TextSink>(
     counted: bool,
     fields: Fields<'_>,

@@ -7,7 +7,7 @@ use crate::parts::content_type::read_parameter_in;
 use header_text::{Fields, decode_words_into};
 use std::alloc::AllocError;
 
-/// Writes the name of a header's entity, as it stands there, into the second buffer; nothing where it has none.
+/// Writes the name of a header's entity, as written there, into `into`; nothing if it has none.
 fn read_name(fields: Fields<'_>, value: &mut Vec<u8>, into: &mut Vec<u8>) -> Result<(), AllocError>
     ensures name { OnOk result (unless_empty (Some into.new.items) ≡ name_of fields.entry) }
     ensures size { OnOk result (length into.new.items ≤ fields_size fields.entry) }
@@ -20,9 +20,10 @@ fn read_name(fields: Fields<'_>, value: &mut Vec<u8>, into: &mut Vec<u8>) -> Res
     Ok(())
 }
 
-/// Writes the name of a header's entity (RFC 2183, 2.3), and its text: its first Content-Disposition field's parameter
-/// `filename`, or where that is missing or empty its first Content-Type field's parameter `name`; encoded words (RFC 2047) are
-/// decoded. The name is empty where it has none. What the buffers hold after an error isn't said.
+/// Writes the name of a header's entity (RFC 2183, 2.3), and the name's text. The name is the parameter `filename` of
+/// the first Content-Disposition field; if that is missing or empty, it is the parameter `name` of the first
+/// Content-Type field. In the text encoded words are decoded (RFC 2047). The name is empty if the entity has none.
+/// After an error nothing is promised of the buffers.
 pub(crate) fn write_name(
     fields: Fields<'_>,
     name: &mut Vec<u8>,
@@ -37,7 +38,7 @@ pub(crate) fn write_name(
 {
     into.clear();
     read_name(fields, scratch, name)?;
-    // Most entities have no name, so none is decoded in vain.
+    // Most entities have no name, so nothing has to be decoded.
     if name.is_empty() {
         return Ok(());
     }

@@ -1,4 +1,4 @@
-//! What facts keep of a header. Each type bounds by itself what it keeps.
+//! What is kept of a header. Each type has its own bound on what it keeps.
 ghost use Rattle.std.specs.Prelude.{◌≡◌, ◌+◌, ◌≤◌, ℕ, List, [], ◌++◌, All, length, map, IfOk, OnOk, OnErr, string_bytes};
 ghost use Rattle.header_text.specs.Headers.{most_in_header};
 ghost use Rattle.header_text.specs.Ids.{ids_of, ids_size};
@@ -9,7 +9,7 @@ use header_text::push_ids;
 use std::alloc::{AllocError, Global};
 use std::marker::Model;
 
-/// The text of a Date field, of at most 786,432 bytes, which contracts see as its bytes.
+/// The text of a Date field, of at most 786,432 bytes. Contracts see it as its bytes.
 #[derive(Drop)]
 pub struct DateText {
     text: String,
@@ -36,6 +36,7 @@ impl DateText {
         DateText { text }
     }
 
+    /// Returns the text.
     pub fn as_str(&self) -> &str
         ensures { result.now ≡ self.now }
     {
@@ -43,7 +44,7 @@ impl DateText {
     }
 }
 
-/// A message id, of 1 to 262,144 bytes, which contracts see as its bytes.
+/// A message id, of 1 to 262,144 bytes. Contracts see it as its bytes.
 #[derive(Drop)]
 pub struct MessageId {
     bytes: Vec<u8>,
@@ -69,6 +70,7 @@ impl MessageId {
         MessageId { bytes }
     }
 
+    /// Returns the bytes of the id.
     pub fn as_bytes(&self) -> &[u8]
         ensures bytes { result.now ≡ self.now }
         ensures size { IsSizedId result.now }
@@ -77,8 +79,8 @@ impl MessageId {
     }
 }
 
-/// Message ids, which contracts see as the list of their bytes. Each has 1 to 262,144 bytes; and all together have at most
-/// 262,144 with the `<` and the `>` round each, since no more bytes are kept of the header in which they stand.
+/// Message ids. Contracts see them as the list of their bytes. Each has 1 to 262,144 bytes, and all together have at
+/// most 262,144 with the `<` and the `>` around each, because no more bytes are kept of the header in which they are.
 #[derive(Drop)]
 pub struct MessageIds {
     ids: Vec<Vec<u8>>,
@@ -108,7 +110,7 @@ impl MessageIds {
         }
     }
 
-    /// Adds the ids of a field's body. Where memory is wanting, none is added.
+    /// Adds the ids in the body of a field. If memory runs out, none is added.
     pub(crate) fn push_ids_of(&mut self, alloc: Global, body: &[u8]) -> Result<(), AllocError>
         requires room { ids_size self.old + length body.now ≤ most_in_header }
         ensures ids { OnOk result (self.new ≡ self.old ++ ids_of body.now) }
@@ -119,7 +121,7 @@ impl MessageIds {
         push_ids(alloc, body, &mut self.ids)
     }
 
-    /// The ids, in order.
+    /// Returns the ids, in order.
     pub fn as_slice(&self) -> &[Vec<u8>]
         ensures ids { map (λ id. id.items) result.now ≡ self.now }
         ensures sizes { All (λ id. IsSizedId id.items) result.now }

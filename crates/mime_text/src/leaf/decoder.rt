@@ -1,4 +1,4 @@
-//! Transfer encodings, undone line by line (RFC 2045, 6).
+//! Decoding the lines of a body (RFC 2045, 6).
 ghost use Rattle.std.specs.Prelude.{◌≡◌, ℕ, ◌++◌, ◌∷◌, [], List, OnOk, OnErr};
 ghost use Rattle.mime_text.specs.Transfer.{printable_bytes, decoded_bytes};
 ghost use Rattle.mime_text.specs.Decoders.{still_decoded};
@@ -8,7 +8,7 @@ use header_text::{Base64, before_blanks, unescape_into};
 use mbox_cutter::without_break;
 use std::alloc::AllocError;
 
-/// Undoes a transfer encoding, one line of the body at a time.
+/// Decodes a transfer encoding, one line of the body at a time.
 #[derive(Clone, Copy)]
 pub(crate) enum Decoder {
     Identity,
@@ -16,8 +16,9 @@ pub(crate) enum Decoder {
     Base64(Base64),
 }
 
-/// Adds the bytes of a line of quoted-printable: without its line break and the spaces and tabs before that; a final `=` takes
-/// the break away, else it is LF where the line has one (RFC 2045, 6.7, rules 3 and 5). Where memory is wanting, nothing is added.
+/// Adds the bytes of a line of quoted-printable, without its line break and the spaces and tabs before it. A final `=`
+/// is dropped; without it, LF is added if the line has a line break (RFC 2045, 6.7, rules 3 and 5). If memory runs out,
+/// nothing is added.
 #[tactic(auto, unfolding(crate::specs::Transfer::printable_bytes))]
 fn push_printable(line: &[u8], into: &mut Vec<u8>) -> Result<(), AllocError>
     ensures bytes { OnOk result (into.new.items ≡ into.old.items ++ printable_bytes line.now) }
@@ -37,7 +38,7 @@ fn push_printable(line: &[u8], into: &mut Vec<u8>) -> Result<(), AllocError>
 }
 
 impl Decoder {
-    /// At the beginning of a body.
+    /// Returns the decoder for the beginning of a body.
     pub(crate) fn new(transfer: TransferEncoding) -> Self
         ensures { (ls : List (List ℕ)) → still_decoded result ls ≡ decoded_bytes transfer ls }
     {
@@ -48,7 +49,7 @@ impl Decoder {
         }
     }
 
-    /// Adds what the next line gives. Where memory is wanting, the decoder and the buffer stay as they were.
+    /// Adds the bytes that the next line gives. If memory runs out, the decoder and the buffer are as before.
     pub(crate) fn push(&mut self, line: &[u8], into: &mut Vec<u8>) -> Result<(), AllocError>
         ensures bytes { OnOk result ((later : List (List ℕ))
             → into.new.items ++ still_decoded self.new later
@@ -63,7 +64,7 @@ impl Decoder {
         }
     }
 
-    /// Adds what is left over at the body's end. Where memory is wanting, nothing is added.
+    /// Adds the bytes that are left at the end of the body. If memory runs out, nothing is added.
     pub(crate) fn finish(self, into: &mut Vec<u8>) -> Result<(), AllocError>
         ensures bytes { OnOk result (into.new.items ≡ into.old.items ++ still_decoded self []) }
         ensures refused { OnErr result (into.new.items ≡ into.old.items) }

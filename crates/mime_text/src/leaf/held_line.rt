@@ -1,4 +1,4 @@
-//! The line of a leaf that isn't whole yet.
+//! The beginning of a leaf's line whose end hasn't come.
 ghost use Rattle.std.specs.Prelude.{◌≡◌, ℕ, ◌≤◌, ◌-◌, ◌∷◌, ◌++◌, [], List, None, true, length, drop, OnOk, IfOk, IfErr};
 ghost use Rattle.std.specs.List.{concat};
 ghost use Rattle.mbox_cutter.specs.Lines.{length_before_feed, line_end_of, most_before_feed};
@@ -14,7 +14,7 @@ use crate::sink::TextSink;
 use std::alloc::Global;
 use std::marker::Model;
 
-/// Decoded bytes that begin a line, where it isn't known yet how long that is: at most 65,536, and no LF.
+/// Decoded bytes that begin a line whose end isn't known yet: at most 65,536, without LF.
 #[derive(Drop)]
 pub(crate) struct HeldLine {
     bytes: Vec<u8>,
@@ -31,7 +31,8 @@ impl Model for HeldLine {
     ghost invariant = { λ h. line_end_of h.bytes.items ≡ None };
 }
 
-/// Gives the lines in front that are whole, and answers the bytes behind them. So many bytes in front have no LF.
+/// Gives the texts of the whole lines at the beginning to the sink, and returns the bytes after them. The first
+/// `searched` bytes have no LF.
 fn give_lines<'a, S: TextSink>(
     searched: usize,
     bytes: &'a [u8],
@@ -61,7 +62,7 @@ fn give_lines<'a, S: TextSink>(
     Ok(rest)
 }
 
-/// Keeps so many bytes at the end.
+/// Keeps this many bytes at the end.
 fn keep_last(bytes: &mut Vec<u8>, count: usize)
     requires { count ≤ length bytes.old.items }
     ensures { bytes.new.items ≡ drop (length bytes.old.items - count) bytes.old.items }
@@ -73,7 +74,8 @@ fn keep_last(bytes: &mut Vec<u8>, count: usize)
     }
 }
 
-/// Gives the lines in front that are whole, and drops them. So many bytes in front have no LF.
+/// Gives the texts of the whole lines at the beginning to the sink, and drops these lines. The first `searched` bytes
+/// have no LF.
 fn take_lines<S: TextSink>(
     searched: usize,
     bytes: &mut Vec<u8>,
@@ -92,7 +94,8 @@ fn take_lines<S: TextSink>(
     Ok(())
 }
 
-/// Decodes the next line of the body behind the bytes that are held, and gives the lines that are whole then.
+/// Decodes the next line of the body, adds its bytes to those that are held, and gives the texts of the lines that are
+/// whole then.
 fn take_encoded<S: TextSink>(
     bytes: &mut Vec<u8>,
     decoder: &mut Decoder,
@@ -112,7 +115,8 @@ fn take_encoded<S: TextSink>(
     take_lines(held.min(bytes.len()), bytes, texts, sink)
 }
 
-/// Decodes the body's end behind the bytes that are held, and gives all lines, the last one too, which needn't be whole.
+/// Decodes the end of the body, adds its bytes to those that are held, and gives the texts of all lines. The last line
+/// needn't be whole.
 fn give_rest<S: TextSink>(
     bytes: &mut Vec<u8>,
     decoder: Decoder,
@@ -132,7 +136,7 @@ fn give_rest<S: TextSink>(
 
 #[tactic(auto, unfolding(mbox_cutter::specs::Lines::line_end_of))]
 impl HeldLine {
-    /// Of no bytes. It takes no memory.
+    /// Returns a line that holds no bytes. It takes no memory.
     pub(crate) fn new(alloc: Global) -> Self
         ensures { result ≡ [] }
     {
@@ -153,7 +157,8 @@ impl HeldLine {
         self.bytes.clear();
     }
 
-    /// Reads the next line of the body, and gives the lines that are whole then. At a fault nothing is held.
+    /// Reads the next line of the body, and gives the texts of the lines that are whole then. After a fault nothing is
+    /// held.
     pub(crate) fn take<S: TextSink>(
         &mut self,
         decoder: &mut Decoder,
@@ -175,7 +180,7 @@ impl HeldLine {
         }
     }
 
-    /// Gives all lines that are left. Then nothing is held.
+    /// Gives the texts of all lines that are left. After that nothing is held.
     pub(crate) fn finish<S: TextSink>(
         &mut self,
         decoder: Decoder,

@@ -17,8 +17,8 @@ use crate::sink::TextSink;
 use header_text::Charset;
 use std::alloc::Global;
 
-/// Reads the bodies of texts, one after another, and gives their texts to a sink: one for each line of what the body encodes.
-/// Of a body it keeps at most the beginning of one such line.
+/// Reads the bodies of texts, one after another, and gives their texts to a sink: one for each line of the decoded
+/// body. It keeps at most the beginning of one such line.
 #[derive(Drop)]
 pub struct LeafReader {
     decoder: Decoder,
@@ -26,7 +26,7 @@ pub struct LeafReader {
     texts: LineTexts,
 }
 
-/// Whether a line of the body is a line of what it encodes, and nothing stands before it in that.
+/// Whether a line of the body is given as it is: it isn't encoded, no bytes are held before it, and it ends in LF.
 fn is_passed_on(decoder: &Decoder, held: &HeldLine, line: &[u8]) -> bool
     ensures decoder { result ≡ true → decoder.now ≡ decoder_of.Identity }
     ensures held { result ≡ true → held.now ≡ [] }
@@ -39,7 +39,7 @@ fn is_passed_on(decoder: &Decoder, held: &HeldLine, line: &[u8]) -> bool
 }
 
 impl LeafReader {
-    /// A reader of a body that is plain text in UTF-8 as it stands. It takes no memory.
+    /// Returns a reader for a body that is plain text in UTF-8 and isn't encoded. It takes no memory.
     #[tactic(auto, using(crate::proofs::TagLemmas::texts_begin), unfolding(crate::specs::LeafTexts::leaf_texts))]
     pub fn new(alloc: Global) -> Self
         ensures { (ls : List (List ℕ)) → pairs_to_come result ls
@@ -52,7 +52,7 @@ impl LeafReader {
         }
     }
 
-    /// Begins a body.
+    /// Begins a body. What was left of the body before is lost.
     #[tactic(auto, using(crate::proofs::TagLemmas::texts_begin), unfolding(crate::specs::LeafTexts::leaf_texts))]
     pub fn begin(&mut self, transfer: TransferEncoding, charset: Charset, is_html: bool)
         ensures { (ls : List (List ℕ)) → pairs_to_come self.new ls
@@ -63,7 +63,11 @@ impl LeafReader {
         self.texts.begin(charset, is_html);
     }
 
-    /// Reads the next line of the body.
+    /// Reads the next line of the body, and gives the texts that it completes to the sink.
+    ///
+    /// # Errors
+    ///
+    /// `OutOfMemory` if memory runs out, and `Sink` if the sink refuses a text. The texts before that were given.
     pub fn line<S: TextSink>(&mut self, line: &[u8], sink: &mut S) -> Result<(), TextFault>
         requires short { length line.now ≤ most_in_line }
         requires last { length line.now ≤ length_before_feed line.now + 1 }
@@ -77,7 +81,11 @@ impl LeafReader {
             .take(&mut self.decoder, line, &mut self.texts, sink)
     }
 
-    /// Ends the body: gives what is left of it.
+    /// Ends the body: gives the texts that are left to the sink.
+    ///
+    /// # Errors
+    ///
+    /// `OutOfMemory` if memory runs out, and `Sink` if the sink refuses a text. The texts before that were given.
     pub fn end<S: TextSink>(&mut self, sink: &mut S) -> Result<(), TextFault>
         ensures { Hands S.takes S.refuses (λ _. pairs_to_come self.old []) (λ _. []) result
             sink.old sink.new }

@@ -1,12 +1,12 @@
-//! Where a line ends whose beginning was searched before.
+//! The end of a line whose beginning was searched before.
 ghost use Rattle.std.specs.Prelude.{◌≡◌, ◌≤◌};
 ghost use Rattle.mbox_cutter.specs.Lines.{length_before_feed, line_end_of, most_before_feed};
 
 use mbox_cutter::MOST_IN_LINE;
 use memchr::memchr;
 
-/// The first line's length, where no byte to come can change it, as `mbox_cutter::line_end` has it: so many bytes in front,
-/// which have no LF, aren't searched again.
+/// Returns the length of the first line, as `mbox_cutter::line_end` does; None if bytes to come can change it. The
+/// first `searched` bytes have no LF, and aren't searched again.
 pub(crate) fn line_end_behind(searched: usize, bytes: &[u8]) -> Option<usize>
     requires free { searched ≤ length_before_feed bytes.now }
     requires few { searched ≤ most_before_feed }

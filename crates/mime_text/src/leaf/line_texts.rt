@@ -15,13 +15,13 @@ use std::alloc::Global;
 pub(crate) struct LineTexts {
     charset: Charset,
     is_html: bool,
-    // Whether a tag goes on in the next line.
+    // Whether a tag is open after the last line, so that it goes on in the next one.
     is_open: bool,
     buffers: TextBuffers,
 }
 
 impl LineTexts {
-    /// Those of a leaf that is plain text in UTF-8. It takes no memory.
+    /// Returns the state for a leaf that is plain text in UTF-8. It takes no memory.
     pub(crate) fn new(alloc: Global) -> Self
         ensures charset { result.charset ≡ Charset.Utf8 }
         ensures is_html { result.is_html ≡ false }
@@ -35,7 +35,7 @@ impl LineTexts {
         }
     }
 
-    /// Begins another leaf: no tag is open.
+    /// Begins another leaf, with no tag open.
     pub(crate) fn begin(&mut self, charset: Charset, is_html: bool)
         ensures charset { self.new.charset ≡ charset }
         ensures is_html { self.new.is_html ≡ is_html }
@@ -46,7 +46,7 @@ impl LineTexts {
         self.is_open = false;
     }
 
-    /// Gives a sink the text of the next line, and keeps whether a tag is open behind it.
+    /// Gives the text of the next line to the sink, and notes whether a tag is open after it.
     pub(crate) fn give<S: TextSink>(&mut self, line: &[u8], sink: &mut S) -> Result<(), TextFault>
         requires { length line.now ≤ most_in_line }
         ensures { Hands S.takes S.refuses (λ ls. pairs_of_lines self.old (line.now ∷ ls))

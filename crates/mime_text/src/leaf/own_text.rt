@@ -4,7 +4,8 @@ ghost use Rattle.header_text.specs.Charsets.{text_of};
 
 use header_text::Charset;
 
-/// The text of bytes in a charset, where it is seen to be these bytes: valid UTF-8 as UTF-8, and ASCII in any charset.
+/// Returns the text of bytes in a charset, if it is seen to be these same bytes: valid UTF-8 in UTF-8, and ASCII in any
+/// charset.
 pub(crate) fn own_text(charset: Charset, bytes: &[u8]) -> Option<&str>
     ensures { IfSome result (λ text. (text.now ≡ bytes.now)
         × (text.now ≡ text_of charset bytes.now)) }

@@ -8,10 +8,10 @@ ghost use Rattle.mime_text.specs.Inside.TagSpans.{span_end, shown_span};
 use header_text::cut_at;
 use std::alloc::AllocError;
 
-/// As many spaces as are added at once at most.
+/// The most spaces that are added at once.
 const SPACES: &str = "                                                                ";
 
-/// Whether it is plain to see that no character of a text stands in a tag, of which one may be open before it.
+/// Whether a quick look finds that no character of a text is in a tag, if one is open before it or none is.
 pub(crate) fn is_free_of_tags(open_before: bool, text: &str) -> bool
     ensures text { result ≡ true → encode_utf8_all (blanked open_before (chars text.now))
         ≡ text.now }
@@ -23,7 +23,7 @@ pub(crate) fn is_free_of_tags(open_before: bool, text: &str) -> bool
     cut_at(b'<', text.as_bytes()).is_none()
 }
 
-/// How many characters a text has.
+/// Returns the number of characters of a text.
 fn character_count(text: &str) -> usize
     ensures { result ≡ length (chars text.now) }
 {
@@ -34,7 +34,7 @@ fn character_count(text: &str) -> usize
     }
 }
 
-/// Adds so many spaces.
+/// Adds this many spaces.
 fn push_spaces(count: usize, into: &mut String) -> Result<(), AllocError>
     ensures { OnOk result (string_bytes into.new ≡ string_bytes into.old ++ replicate count 0x20) }
 {
@@ -47,7 +47,7 @@ fn push_spaces(count: usize, into: &mut String) -> Result<(), AllocError>
     Ok(())
 }
 
-/// Adds what stands in a tag or outside of one, with a space for each character in a tag.
+/// Adds a span: in a tag a space for each character, and outside tags the span as it is.
 #[tactic(auto, using(crate::proofs::TagReads::written_tag, crate::proofs::TagReads::written_outside))]
 fn push_span(in_tag: bool, span: &str, into: &mut String) -> Result<(), AllocError>
     ensures { OnOk result (string_bytes into.new ≡ string_bytes into.old ++ encode_utf8_all
@@ -60,15 +60,15 @@ fn push_span(in_tag: bool, span: &str, into: &mut String) -> Result<(), AllocErr
     }
 }
 
-/// What ends what stands in a tag, or outside of one.
+/// Returns the character that ends a span: `>` in a tag, and `<` outside tags.
 fn end_of_span(in_tag: bool) -> char
     ensures { result ≡ span_end in_tag }
 {
     if in_tag { '>' } else { '<' }
 }
 
-/// Adds a text with a space for each character in a tag: from a `<` through the next `>`, or the end. A tag may be open before
-/// it, and the answer is whether one is behind it.
+/// Adds a text with a space for each character in a tag. A tag goes from a `<` to the next `>`, or to the end. Returns
+/// whether a tag is open after the text; one may be open before it.
 pub(crate) fn blank_tags(
     open_before: bool,
     text: &str,
@@ -84,7 +84,7 @@ pub(crate) fn blank_tags(
     let mut rest = text;
     while let Some((span, behind)) = rest.split_once(end_of_span(is_open)) {
         push_span(is_open, span, into)?;
-        // What was cut at is of the tag too.
+        // The character at which the text was cut is part of the tag too.
         into.push(' ')?;
         is_open = !is_open;
         rest = behind;

@@ -14,7 +14,7 @@ use header_text::{Charset, decode_into};
 use mail_words::TextKind;
 use std::alloc::{AllocError, Global};
 
-/// Memory for the text of a line, and for the same without tags, which is used again for each line.
+/// Memory for the text of a line, and for the text without tags. It is used again for each line.
 #[derive(Drop)]
 pub(crate) struct TextBuffers {
     text: String,
@@ -23,7 +23,7 @@ pub(crate) struct TextBuffers {
     ghost blanked_fits: { length (string_bytes blanked) ≤ most_in_line_text },
 }
 
-/// Writes the text of a line; nothing where memory is wanting.
+/// Writes the text of a line; nothing if memory runs out.
 fn write_text(charset: Charset, line: &[u8], into: &mut String) -> Result<(), AllocError>
     requires { length line.now ≤ most_in_line }
     ensures text { OnOk result (string_bytes into.new ≡ text_of charset line.now) }
@@ -37,7 +37,7 @@ fn write_text(charset: Charset, line: &[u8], into: &mut String) -> Result<(), Al
     outcome
 }
 
-/// Writes a text without its tags; nothing where memory is wanting. The answer is whether a tag is open behind it.
+/// Writes a text without its tags; nothing if memory runs out. Returns whether a tag is open after it.
 fn write_blanked(open_before: bool, text: &str, into: &mut String) -> Result<bool, AllocError>
     requires { length text.now ≤ most_in_line_text }
     ensures text { OnOk result (string_bytes into.new
@@ -54,7 +54,7 @@ fn write_blanked(open_before: bool, text: &str, into: &mut String) -> Result<boo
 }
 
 impl TextBuffers {
-    /// Without any text. It takes no memory.
+    /// Returns buffers without text. They take no memory.
     pub(crate) fn new(alloc: Global) -> Self {
         TextBuffers {
             text: String::new(alloc),
@@ -62,7 +62,7 @@ impl TextBuffers {
         }
     }
 
-    /// Gives a sink the text of a line.
+    /// Gives the text of a line to the sink.
     pub(crate) fn show_plain<S: TextSink>(
         &mut self,
         charset: Charset,
@@ -80,7 +80,8 @@ impl TextBuffers {
         give_text(TextKind::Body, self.text.as_str(), sink)
     }
 
-    /// Writes the text of a line, which may stand in its own bytes, without its tags. The answer is whether a tag is open behind it.
+    /// Writes the text of a line without its tags; if the line is its own text, it isn't decoded. Returns whether a tag
+    /// is open after it.
     fn write_blanked_line(
         &mut self,
         charset: Charset,
@@ -103,7 +104,7 @@ impl TextBuffers {
         write_blanked(open_before, self.text.as_str(), &mut self.blanked)
     }
 
-    /// Gives a sink the text of a line without its tags, and keeps whether a tag is open behind it.
+    /// Gives the text of a line without its tags to the sink, and notes whether a tag is open after it.
     pub(crate) fn show_html<S: TextSink>(
         &mut self,
         charset: Charset,

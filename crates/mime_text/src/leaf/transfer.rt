@@ -4,19 +4,19 @@ ghost use Rattle.mime_text.specs.Types.{transfer_named};
 
 use header_text::is_named;
 
-/// How the bytes of a body were made into lines (RFC 2045, 6).
+/// How the lines of a body encode its bytes (RFC 2045, 6).
 #[derive(Clone, Copy)]
 pub enum TransferEncoding {
-    /// They are the lines.
+    /// The lines are the bytes.
     Identity,
-    /// RFC 2045, 6.7.
+    /// Quoted-printable (RFC 2045, 6.7).
     QuotedPrintable,
-    /// RFC 2045, 6.8.
+    /// Base64 (RFC 2045, 6.8).
     Base64,
 }
 
 impl TransferEncoding {
-    /// The encoding of a name, in any ASCII case. An unknown one changes nothing.
+    /// Returns the encoding with this name, in any ASCII case; `Identity` for an unknown name.
     #[tactic(auto, unfolding(crate::specs::Types::transfer_named))]
     pub fn named(name: &[u8]) -> Self
         ensures { result ≡ transfer_named name.now }

@@ -5,10 +5,10 @@ ghost use Rattle.mime_text.specs.Types.{usable};
 
 use std::marker::Model;
 
-/// The most bytes that a boundary has (RFC 2046, 5.1.1).
+/// The most bytes of a boundary (RFC 2046, 5.1.1).
 const MOST_IN_BOUNDARY: usize = 70;
 
-/// A boundary: 1 to 70 bytes.
+/// A boundary, of 1 to 70 bytes.
 #[derive(Drop)]
 pub struct Boundary {
     bytes: [u8; MOST_IN_BOUNDARY],
@@ -27,7 +27,7 @@ impl Model for Boundary {
 }
 
 impl Boundary {
-    /// The boundary of these bytes; none where they are none or more than 70.
+    /// Returns the boundary with these bytes; None if there are no bytes or more than 70.
     pub fn new(bytes: &[u8]) -> Option<Self>
         ensures { result ≡ usable bytes.now }
     {
@@ -40,7 +40,7 @@ impl Boundary {
         Some(Boundary { bytes: copy, count })
     }
 
-    /// Its bytes.
+    /// Returns the bytes of the boundary.
     pub fn as_bytes(&self) -> &[u8]
         ensures bytes { result.now ≡ self.now }
         ensures some { 0 < length self.now }

@@ -15,15 +15,15 @@ use std::alloc::{AllocError, Global};
 /// What an entity's header says of its body.
 #[derive(Drop)]
 pub struct EntityType {
-    /// By its first Content-Type field (RFC 2045, 5).
+    /// What the entity is, by its first Content-Type field (RFC 2045, 5).
     pub shape: Shape,
-    /// By that field's first parameter `charset`.
+    /// The charset of its text, by that field's first parameter `charset`.
     pub charset: Charset,
-    /// By its first Content-Transfer-Encoding field (RFC 2045, 6).
+    /// The encoding of its body, by its first Content-Transfer-Encoding field (RFC 2045, 6).
     pub transfer: TransferEncoding,
 }
 
-/// Writes the unfolded value of the first field of a name, in any ASCII case; nothing where there is none.
+/// Writes the unfolded value of the first field with this name, in any ASCII case; nothing if there is none.
 #[tactic(auto, unfolding(header_text::specs::Unfolding::unfolded, header_text::specs::Blanks::before_blanks))]
 fn read_first_value(fields: Fields<'_>, name: &[u8], into: &mut Vec<u8>) -> Result<(), AllocError>
     ensures value { OnOk result (into.new.items ≡ first_value name.now fields.entry) }
@@ -36,8 +36,8 @@ fn read_first_value(fields: Fields<'_>, name: &[u8], into: &mut Vec<u8>) -> Resu
     }
 }
 
-/// Writes the unfolded value of the first field of a name, and the value of its first parameter of a name; nothing where it is
-/// missing.
+/// Writes the unfolded value of the first field with one name, and the value of its first parameter with another name;
+/// nothing if it is missing.
 pub(crate) fn read_parameter_in(
     fields: Fields<'_>,
     field: &[u8],
@@ -54,7 +54,7 @@ pub(crate) fn read_parameter_in(
     read_parameter(value, name, into)
 }
 
-/// The type that a Content-Type field's value names before its first semicolon, or the default where it names none.
+/// Returns the type that a Content-Type field's value names before its first semicolon; the default if it names none.
 fn media_type(default: DefaultType, value: &[u8]) -> &[u8]
     ensures { result.now ≡ media_type_of default value.now }
 {
@@ -69,14 +69,14 @@ fn media_type(default: DefaultType, value: &[u8]) -> &[u8]
     }
 }
 
-/// Whether a type is some kind of multipart.
+/// Whether a type is a multipart, of any kind.
 fn is_multipart(name: &[u8]) -> bool
     ensures { result ≡ is_multipart_of name.now }
 {
     is_named(&name[..name.len().min(10)], b"multipart/")
 }
 
-/// The default of the entities in a multipart of this type.
+/// Returns the type of the entities in a multipart of this type that don't name theirs.
 fn default_in(name: &[u8]) -> DefaultType
     ensures { result ≡ default_in_of name.now }
 {
@@ -87,7 +87,7 @@ fn default_in(name: &[u8]) -> DefaultType
     }
 }
 
-/// What an entity of a type is that is no multipart.
+/// Returns what an entity of this type is, which isn't a multipart.
 fn shape_of_single(name: &[u8]) -> Shape
     ensures { result ≡ shape_of_single_of name.now }
 {
@@ -103,7 +103,7 @@ fn shape_of_single(name: &[u8]) -> Shape
     Shape::Other
 }
 
-/// What an entity is whose Content-Type field has this value.
+/// Returns what an entity is whose Content-Type field has this value.
 #[tactic(auto, unfolding(crate::specs::Types::shape_of_value))]
 fn read_shape(default: DefaultType, value: &[u8], buffer: &mut Vec<u8>) -> Result<Shape, AllocError>
     ensures { IfOk result (λ shape. shape ≡ shape_of_value default value.now) }
@@ -124,7 +124,7 @@ fn read_shape(default: DefaultType, value: &[u8], buffer: &mut Vec<u8>) -> Resul
 }
 
 impl EntityType {
-    /// What the fields of an entity's header say. What the buffers hold then isn't said.
+    /// Returns what the fields of an entity's header say. Nothing is promised of the buffers after that.
     #[tactic(auto, unfolding(crate::specs::Types::charset_of_value))]
     fn read(
         default: DefaultType,
@@ -148,7 +148,11 @@ impl EntityType {
         })
     }
 
-    /// What the header of an entity says, where the lines are those that it was given.
+    /// Returns what a header says of its entity's body, by the lines that the header was given.
+    ///
+    /// # Errors
+    ///
+    /// `AllocError` if memory runs out.
     pub fn of(alloc: Global, default: DefaultType, header: &Header) -> Result<Self, AllocError>
         ensures shape { IfOk result (λ entity. (ls : List (List ℕ)) → HasLines header.now ls
             → entity.shape ≡ shape_of default (fields_of ls)) }

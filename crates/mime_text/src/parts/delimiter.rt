@@ -14,11 +14,11 @@ use mbox_cutter::without_break;
 pub(crate) enum Delimiter {
     /// The next piece begins.
     Next,
-    /// It ends.
+    /// The multipart ends.
     Closing,
 }
 
-/// What follows a front of some bytes.
+/// Returns what follows `front` at the beginning of some bytes; None if they don't begin with it.
 fn after<'a>(front: &[u8], bytes: &'a [u8]) -> Option<&'a [u8]>
     ensures { option_map (λ rest. rest.now) result ≡ after_of front.now bytes.now }
 {
@@ -33,7 +33,8 @@ fn are_blanks(bytes: &[u8]) -> bool
     after_blanks(bytes).is_empty()
 }
 
-/// What follows the two dashes that a delimiter line begins with, without the line break.
+/// Returns what follows the two dashes that begin a delimiter line, without the line break; None if the line doesn't
+/// begin with them.
 #[tactic(auto, unfolding(crate::specs::Frames::dashes))]
 pub(crate) fn after_dashes(line: &[u8]) -> Option<&[u8]>
     ensures { option_map (λ rest. rest.now) result ≡ dashes line.now }
@@ -41,8 +42,8 @@ pub(crate) fn after_dashes(line: &[u8]) -> Option<&[u8]>
     after(b"--", without_break(line))
 }
 
-/// Whether a boundary's last byte stands where the boundary would end. Boundaries of one message mostly begin alike.
-/// To answer true would cost only time.
+/// Whether a boundary's last byte is where the boundary would end. It is tried first because boundaries of one message
+/// mostly begin with the same bytes. To return true for all texts would only cost time.
 fn has_last_of(boundary: &[u8], text: &[u8]) -> bool
     ensures { result ≡ false → after_of boundary.now text.now ≡ None }
 {
@@ -50,7 +51,7 @@ fn has_last_of(boundary: &[u8], text: &[u8]) -> bool
     length == 0 || length <= text.len() && text[length - 1] == boundary[length - 1]
 }
 
-/// What a line is to the multipart of a boundary, by what follows the line's two dashes.
+/// Returns what a line is to the multipart of a boundary, by what follows the line's two dashes.
 #[tactic(auto, using(crate::proofs::FrameLemmas::not_blank), unfolding(crate::specs::Frames::delimiter_of))]
 pub(crate) fn delimiter_behind(boundary: &[u8], text: &[u8]) -> Option<Delimiter>
     ensures { result ≡ delimiter_of boundary.now text.now }

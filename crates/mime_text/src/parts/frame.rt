@@ -1,14 +1,14 @@
-//! A multipart entity that is open.
+//! An open multipart entity.
 
 use crate::parts::boundary::Boundary;
 use crate::parts::shape::DefaultType;
 
-/// A multipart entity that is open.
+/// An open multipart entity.
 #[derive(Drop)]
 pub(crate) struct Frame {
     pub(crate) boundary: Boundary,
-    /// The default type of its pieces.
+    /// The type of its pieces that don't name theirs.
     pub(crate) default: DefaultType,
-    /// How many depths are left below its pieces.
+    /// The number of depths that are left below its pieces.
     pub(crate) left: usize,
 }

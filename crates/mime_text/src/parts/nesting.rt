@@ -1,4 +1,4 @@
-//! The multipart entities that are open.
+//! The open multipart entities.
 ghost use Rattle.std.specs.Prelude.{◌≡◌, ◌<◌, [], length, take, slice_get, IfSome, IfNone, OnOk};
 ghost use Rattle.mime_text.specs.declared.parts.frame.Frame.{Frame};
 ghost use Rattle.mime_text.specs.Sinks.{Pair};
@@ -15,12 +15,12 @@ use std::marker::Model;
 /// The greatest depth at which an entity is read; the message is at depth 0.
 const MOST_DEPTH: usize = 16;
 
-/// The multipart entities that are open, of which there are at most 16, and how deep the entity lies that is read.
+/// The open multipart entities, of which there are at most 16, and the depth of the entity that is read.
 #[derive(Drop)]
 pub(crate) struct Nesting {
-    // The outermost first.
+    // The outermost comes first.
     frames: Vec<Frame>,
-    // How many depths are left below the entity that is read.
+    // The number of depths that are left below the entity that is read.
     left: usize,
 }
 
@@ -42,13 +42,14 @@ impl Model for Nesting {
 pub(crate) enum Lead {
     /// Nothing.
     Nowhere,
-    /// The next piece of an open multipart begins, which has this type where it doesn't name its own.
+    /// The next piece of an open multipart begins; it has this type if it doesn't name its own.
     Piece(DefaultType),
     /// An open multipart ends.
     Behind,
 }
 
-/// The outermost multipart that a line delimits, by what follows the line's two dashes.
+/// Returns the outermost multipart that a line delimits, by what follows the line's two dashes, and what the line is to
+/// it.
 fn outermost(frames: &[Frame], text: &[u8]) -> Option<(usize, Delimiter)>
     ensures within { IfSome result (λ r. r.0 < length frames.now) }
     ensures none { IfNone result (scan {A = Pair} [] frames.now text.now ≡ None) }
@@ -67,7 +68,7 @@ fn outermost(frames: &[Frame], text: &[u8]) -> Option<(usize, Delimiter)>
 impl Nesting {
     ghost use Rattle.mime_text.specs.Frames.{lead_to, opened, below};
 
-    /// The message itself is read, and no multipart is open. It takes no memory.
+    /// Returns the state in which the message itself is read, and no multipart is open. It takes no memory.
     pub(crate) fn new(alloc: Global) -> Self
         ensures { result ≡ record { frames = []; left = 16 } }
     {
@@ -77,7 +78,7 @@ impl Nesting {
         }
     }
 
-    /// Goes back to the message itself, and keeps the memory.
+    /// Goes back to the message itself, with no multipart open, and keeps the memory.
     pub(crate) fn clear(&mut self)
         ensures { self.new ≡ record { frames = []; left = 16 } }
     {
@@ -85,7 +86,8 @@ impl Nesting {
         self.left = MOST_DEPTH;
     }
 
-    /// Goes to where a line leads that delimits an open multipart, the outermost first.
+    /// Ends the multiparts inside the outermost open one that the line delimits, and that one too if the line closes
+    /// it. Returns what the line delimits; if that is nothing, nothing changes.
     pub(crate) fn delimit(&mut self, line: &[u8]) -> Lead
         ensures leads { lead_to {A = Pair} result self.new ≡ hit self.old.frames line.now }
         ensures none { result ≡ Lead.Nowhere → self.new ≡ self.old }
@@ -108,7 +110,7 @@ impl Nesting {
         }
     }
 
-    /// Opens a multipart, the one that is read, where a depth is left for its pieces.
+    /// Opens a multipart, which is the entity that is read, if a depth is left for its pieces.
     #[tactic(auto, using(crate::proofs::FrameLemmas::AreNested_push, crate::proofs::FrameLemmas::open_frames))]
     pub(crate) fn open(
         &mut self,
@@ -131,7 +133,8 @@ impl Nesting {
         Ok(())
     }
 
-    /// Goes down to a message in the entity that is read, if a depth is left for it.
+    /// Begins a message in the entity that is read, if a depth is left for it. Returns whether one was left; if not,
+    /// nothing changes.
     pub(crate) fn descend(&mut self) -> bool
         ensures { below self.old result self.new }
     {

@@ -8,7 +8,7 @@ ghost use Rattle.mime_text.specs.Parameters.{quoted, is_token_byte as is_token_b
 use header_text::{after_blanks, cut_at, is_named, trimmed};
 use std::alloc::AllocError;
 
-/// The bytes behind those in front that a value may have that isn't in quotes.
+/// Returns the bytes after a value without quotes.
 fn after_token(bytes: &[u8]) -> &[u8]
     ensures { result.now ≡ (split_while is_token_byte_of bytes.now).1 }
 {
@@ -23,7 +23,7 @@ fn after_token(bytes: &[u8]) -> &[u8]
     rest
 }
 
-/// The bytes behind those in front that a name may have.
+/// Returns the bytes after a name.
 fn after_name(bytes: &[u8]) -> &[u8]
     ensures { result.now ≡ (split_while is_parameter_name_byte_of bytes.now).1 }
 {
@@ -37,7 +37,7 @@ fn after_name(bytes: &[u8]) -> &[u8]
     rest
 }
 
-/// Adds what stands in quotes, behind the first of them, and answers what follows them.
+/// Adds what is in quotes, from after the first quote, and returns what follows the quotes.
 fn read_quoted<'a>(text: &'a [u8], into: &mut Vec<u8>) -> Result<&'a [u8], AllocError>
     ensures value { IfOk result (λ rest. into.new.items ≡ into.old.items ++ (quoted text.now).0) }
     ensures rest { IfOk result (λ rest. rest.now ≡ (quoted text.now).1) }
@@ -63,7 +63,7 @@ fn read_quoted<'a>(text: &'a [u8], into: &mut Vec<u8>) -> Result<&'a [u8], Alloc
     Ok(rest)
 }
 
-/// Adds the value that begins a text, and answers what follows it.
+/// Adds the value that begins a text, and returns what follows it.
 fn read_value<'a>(text: &'a [u8], into: &mut Vec<u8>) -> Result<&'a [u8], AllocError>
     ensures value { IfOk result (λ rest. into.new.items
         ≡ into.old.items ++ (value_and_rest text.now).0) }
@@ -77,16 +77,16 @@ fn read_value<'a>(text: &'a [u8], into: &mut Vec<u8>) -> Result<&'a [u8], AllocE
     into.extend_from_slice(token).and(Ok(rest))
 }
 
-/// What stands between a semicolon and the next.
+/// What is between a semicolon and the next one.
 #[derive(Clone, Copy)]
 struct Piece<'a> {
-    /// Of the parameter, where it is one.
+    /// The name of the parameter; None if the piece is no parameter.
     name: Option<&'a [u8]>,
-    /// What follows the next semicolon, where there is one.
+    /// What follows the next semicolon; None if there is no other semicolon.
     later: Option<&'a [u8]>,
 }
 
-/// What follows the first semicolon.
+/// Returns what follows the first semicolon; None if there is none.
 fn behind_semicolon(text: &[u8]) -> Option<&[u8]>
     ensures { option_map (λ rest. rest.now) result ≡ behind_semicolon_of text.now }
 {
@@ -94,7 +94,7 @@ fn behind_semicolon(text: &[u8]) -> Option<&[u8]>
     Some(behind)
 }
 
-/// Reads what begins behind a semicolon. The buffer then holds its value, where it is a parameter.
+/// Reads the piece after a semicolon, and writes its value into the buffer, if it is a parameter.
 #[tactic(auto, unfolding(crate::specs::Parameters::piece_of))]
 fn read_piece<'a>(text: &'a [u8], into: &mut Vec<u8>) -> Result<Piece<'a>, AllocError>
     ensures parameter { IfOk result (λ piece. option_map
@@ -125,7 +125,11 @@ fn read_piece<'a>(text: &'a [u8], into: &mut Vec<u8>) -> Result<Piece<'a>, Alloc
     }
 }
 
-/// Writes the value of the first parameter of a name, in any ASCII case, that an unfolded value has; nothing where there is none.
+/// Writes the value of an unfolded value's first parameter with this name, in any ASCII case; nothing if there is none.
+///
+/// # Errors
+///
+/// `AllocError` if memory runs out.
 pub fn read_parameter(value: &[u8], name: &[u8], into: &mut Vec<u8>) -> Result<(), AllocError>
     ensures value { OnOk result (into.new.items ≡ unwrap_or (parameter_of name.now value.now) []) }
     ensures size { OnOk result (length into.new.items ≤ length value.now) }

@@ -27,22 +27,22 @@ use std::alloc::{AllocError, Global};
 /// What the next line of a message belongs to.
 #[derive(Clone, Copy)]
 pub(crate) enum State {
-    /// To nothing that gives texts.
+    /// Nothing that gives texts.
     Skipping,
-    /// To the header of an entity, which has this type where it doesn't name its own.
+    /// The header of an entity, which has this type if it doesn't name its own.
     InHeader { counted: bool, default: DefaultType },
-    /// To the body of a text.
+    /// The body of a text.
     InLeaf,
 }
 
-/// A message begins with its header.
+/// The state at the beginning of a message, which begins with its header.
 const IN_MESSAGE: State = State::InHeader {
     counted: true,
     default: DefaultType::TextPlain,
 };
 
-/// Reads the parts of a message one line at a time: of the multiparts that are open it keeps their boundaries, of an entity its
-/// header or the beginning of a line of its text.
+/// Reads the parts of a message one line at a time. It keeps the boundaries of the open multiparts, and the header of
+/// one entity or the beginning of one line of its text.
 #[derive(Drop)]
 pub(crate) struct PartReader {
     alloc: Global,
@@ -54,7 +54,7 @@ pub(crate) struct PartReader {
     facts: KeptFacts,
 }
 
-/// Gives what an entity still gives where it ends.
+/// Gives the texts that are left of an entity at its end.
 fn end_entity<S: TextSink>(
     state: State,
     fields: Fields<'_>,
@@ -76,7 +76,7 @@ fn end_entity<S: TextSink>(
 impl PartReader {
     ghost use Rattle.mime_text.specs.Feeding.{Comes, ComesBehindHeader, ComesEnding, KnowsFacts, given_after, given_behind};
 
-    /// A reader of a message, before its first line. It takes no memory.
+    /// Returns a reader that is before the first line of a message. It takes no memory.
     pub(crate) fn new(alloc: Global) -> Self
         ensures comes { Comes result texts_of_message }
         ensures facts { KnowsFacts result [] }
@@ -92,7 +92,7 @@ impl PartReader {
         }
     }
 
-    /// Reads the next line.
+    /// Reads the next line, and gives the texts that it completes to the sink.
     pub(crate) fn line<S: TextSink>(&mut self, line: &[u8], sink: &mut S) -> Result<(), TextFault>
         requires short { length line.now ≤ most_in_line }
         requires last { length line.now ≤ length_before_feed line.now + 1 }
@@ -107,7 +107,7 @@ impl PartReader {
         }
     }
 
-    /// Ends the entity, and goes on where a delimiter leads.
+    /// Ends the entity, and goes on at the place after a delimiter.
     fn leave<S: TextSink>(&mut self, lead: Lead, sink: &mut S) -> Result<(), TextFault>
         ensures pairs { Passes S.takes S.refuses (ComesEnding self.old lead) (Comes self.new)
             (λ c. c) result sink.old sink.new }
@@ -120,12 +120,12 @@ impl PartReader {
             &mut self.fields,
             sink,
         );
-        // After a fault no more is read, wherever the reader stands.
+        // After a fault no line is read, so the reader's place doesn't matter.
         self.follow(lead);
         outcome
     }
 
-    /// Goes on where a delimiter leads.
+    /// Goes on at the place after a delimiter.
     fn follow(&mut self, lead: Lead)
         ensures comes { Comes self.new (given_after lead self.old.nesting) }
         ensures facts { self.new.facts ≡ self.old.facts }
@@ -205,7 +205,7 @@ impl PartReader {
         }
     }
 
-    /// Ends the message: gives what it still gives, and answers what its own header says.
+    /// Ends the message: gives the texts that are left, and returns what the message's own header says.
     pub(crate) fn end<S: TextSink>(&mut self, sink: &mut S) -> Result<Facts, TextFault>
         ensures pairs { Passes S.takes S.refuses (Comes self.old) IsOver (λ c _. c []) result
             sink.old sink.new }
@@ -223,7 +223,7 @@ impl PartReader {
         self.facts.take(self.alloc, &self.header, &mut self.fields)
     }
 
-    /// Before the first line of another message. Nothing of the message before it counts, and the memory is kept.
+    /// Goes to before the first line of another message. Nothing of the earlier message counts, and the memory is kept.
     pub(crate) fn begin_again(&mut self)
         ensures comes { Comes self.new texts_of_message }
         ensures facts { KnowsFacts self.new [] }

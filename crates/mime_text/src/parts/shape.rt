@@ -11,23 +11,23 @@ pub enum DefaultType {
     MessageRfc822,
 }
 
-/// What an entity is, as far as its texts go.
+/// What an entity is, by how its texts are read.
 #[derive(Drop)]
 pub enum Shape {
-    /// Entities between delimiters.
+    /// A multipart: entities between delimiters.
     Multipart {
-        /// Of the delimiters.
+        /// The boundary of its delimiters.
         boundary: Boundary,
-        /// Of the entities.
+        /// The type of its entities that don't name theirs.
         default: DefaultType,
     },
     /// A message.
     Message,
     /// A text.
     Text {
-        /// Whether it has tags.
+        /// Whether it is HTML, which has tags.
         is_html: bool,
     },
-    /// Without texts.
+    /// An entity without texts.
     Other,
 }

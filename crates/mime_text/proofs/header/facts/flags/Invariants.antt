@@ -1,7 +1,7 @@
 use Rattle.mime_text.proofs.Words.{◌≡◌, ◌||◌, has_letter}
 use Rattle.mime_text.proofs.header.facts.flags.Given as goal
 
--- a letter stood in a field so far, or stands in one of those that are left
+-- a letter was in a field so far, or is in one of those that are left
 abbrev pub invariant-loop-field : goal.invariant-loop-field
 invariant-loop-field l =
     (goal.iterator-loop-field).can_next l.field-iterator ×

@@ -1,7 +1,7 @@
 use Rattle.mime_text.proofs.Words.{◌≤◌, fields_size, most_in_header, texts_of_fields, Gave}
 use Rattle.mime_text.proofs.header.giving.give_counted.Given as goal
 
--- the texts of the fields so far are given
+-- the texts of the fields so far have been given
 abbrev pub invariant-loop-field : goal.invariant-loop-field
 invariant-loop-field g l =
     (goal.iterator-loop-field g).can_next l.field-iterator ×

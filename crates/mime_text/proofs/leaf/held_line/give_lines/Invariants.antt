@@ -1,7 +1,7 @@
 use Rattle.mime_text.proofs.Words.{◌≡◌, ◌-◌, ◌≤◌, ◌++◌, length, drop, concat, length_before_feed, Gave, pairs_of_bytes}
 use Rattle.mime_text.proofs.leaf.held_line.give_lines.Given as goal
 
--- the lines before the rest were given
+-- the lines before the rest have been given
 abbrev pub invariant-loop-len : goal.invariant-loop-len
 invariant-loop-len g l = record {
   free : l.searched ≤ length_before_feed l.rest;

@@ -2,7 +2,7 @@ use Rattle.mime_text.proofs.Words.{◌≡◌, length, split_while}
 use Rattle.mime_text.specs.Parameters.{is_parameter_name_byte as is_parameter_name_byte_of}
 use Rattle.mime_text.proofs.parts.parameter.after_name.Given as goal
 
--- what is left has the same behind its name
+-- the bytes after the name are the same for what is left
 abbrev pub invariant-loop-first : goal.invariant-loop-first
 invariant-loop-first l = (split_while is_parameter_name_byte_of l.rest).1 ≡ (split_while is_parameter_name_byte_of l.fn.bytes).1
 

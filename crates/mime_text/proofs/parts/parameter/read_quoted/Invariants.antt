@@ -1,7 +1,7 @@
 use Rattle.mime_text.proofs.Words.{◌≡◌, ◌++◌, length, quoted}
 use Rattle.mime_text.proofs.parts.parameter.read_quoted.Given as goal
 
--- what was written, and what comes of the rest
+-- what was written, and what the rest gives
 abbrev pub invariant-loop-first : goal.invariant-loop-first
 invariant-loop-first l = record {
   value : l.into.items ++ (quoted l.rest).0 ≡ l.fn.into.items ++ (quoted l.fn.text).0;

@@ -5,7 +5,7 @@ use Rattle.mime_text.proofs.Handing.{hands-along}
 use Rattle.mime_text.proofs.LineSteps.{lines-whole, feed-end}
 use Rattle.mime_text.proofs.leaf.leaf_reader.LeafReader.line.Goals as goal
 
--- a line that is passed on, and those behind it
+-- a line that is given as it is, and the lines after it
 passed : (texts : LineTexts) (decoder : Decoder) (held line : List ℕ) (ls : List (List ℕ)) → decoder ≡ Identity → held ≡ [] → Some (length line) ≡ line_end_of line
     → pairs_of_bytes texts (held ++ still_decoded decoder (line ∷ ls)) ≡ pairs_of_lines texts (line ∷ lines (concat ls))
 passed texts decoder held line ls e f whole = rw (e, f) (ap (pairs_of_lines texts) (lines-whole line (concat ls) whole))
