@@ -12,31 +12,34 @@ use std::io::Read;
 use std::rt::Files;
 use std::{fs, io};
 
-/// How far a file has been read.
+/// How much of a file has been read.
 #[derive(Drop)]
 enum Reading<F> {
-    /// Nothing was asked of it yet.
+    /// Nothing was read yet, and the file isn't open.
     Closed,
-    /// It is open, and more may come.
+    /// The file is open, and more bytes may come.
     Open(F),
-    /// It was read to its end, and is closed again.
+    /// The file was read to its end, and is closed again.
     Ended,
 }
 
-/// A file that is opened at its first read and closed at its end, so that a run over thousands of archives holds one open at
-/// a time. An opening that fails is a failed read. So is a read of a file that isn't in the state in which it was to be, looked at
-/// behind the read: what was read while the file changed goes nowhere.
+/// A file that is opened at its first read and closed at its end, so that a run over thousands of archives has one open
+/// at a time.
+///
+/// A read fails if the file can't be opened. If the file has to be in a given state, that is checked after each read,
+/// and the read fails in any other state: bytes that were read while the file changed aren't used.
 #[derive(Drop)]
 pub struct FileSource<'p, R: Files> {
     rt: &'p R,
     path: &'p str,
-    /// The state in which the file has to be; none where it is read as it is.
+    /// The state in which the file has to be; None if it may be in any.
     state: Option<FileState>,
     file: Reading<R::File>,
     failures: u64,
 }
 
 impl<'p, R: Files> FileSource<'p, R> {
+    /// Returns a source that hasn't opened the file.
     pub fn new(rt: &'p R, path: &'p str, state: Option<FileState>) -> FileSource<'p, R>
         ensures { ⟦<FileSource<'p, R> as Source>⟧.failures result ≡ 0 }
     {
@@ -49,7 +52,7 @@ impl<'p, R: Files> FileSource<'p, R> {
         }
     }
 
-    /// Reads on, from the file's opening to its end.
+    /// Reads on, and opens the file first if this is the first read.
     fn read_file(&mut self, into: &mut [u8]) -> io::Result<usize>
         ensures failures { self.new.failures ≡ self.old.failures }
         ensures bound { IfOk result (λ n. n ≤ length into.new) }
@@ -69,7 +72,8 @@ impl<'p, R: Files> FileSource<'p, R> {
     }
 }
 
-/// Reads on in a file that is in this state, if one is given. A read that a signal interrupts has failed: it is no end of the file.
+/// Reads on in a file that has to be in this state, if one is given. A read that a signal interrupts fails; it isn't
+/// the end of the file.
 fn read_in<F: Read + OpenFile>(
     file: &mut F,
     state: Option<FileState>,
@@ -98,7 +102,11 @@ impl<'p, R: Files> Source for FileSource<'p, R> {
     }
 }
 
-/// A source for each path, of a file as it is.
+/// Returns a source for each path, whose file may be in any state.
+///
+/// # Errors
+///
+/// `AllocError` if memory runs out.
 pub fn sources_of<'p, R: Files>(
     rt: &'p R,
     alloc: Global,
@@ -111,7 +119,11 @@ pub fn sources_of<'p, R: Files>(
     sources_with(rt, alloc, paths, &[])
 }
 
-/// A source for each path, of a file that has to be in the state of the same place.
+/// Returns a source for each path, whose file has to be in the state with the same index.
+///
+/// # Errors
+///
+/// `AllocError` if memory runs out.
 pub fn sources_in<'p, R: Files>(
     rt: &'p R,
     alloc: Global,
@@ -126,7 +138,7 @@ pub fn sources_in<'p, R: Files>(
     sources_with(rt, alloc, paths, states)
 }
 
-/// A source for each path, of a file that has to be in the state of the same place, where there is one.
+/// Returns a source for each path, whose file has to be in the state with the same index, if there is one.
 fn sources_with<'p, R: Files>(
     rt: &'p R,
     alloc: Global,

@@ -1,4 +1,4 @@
-//! Whether a file is still what it was.
+//! Whether a file has changed.
 //!
 //! A search sees each archive in one state, or fails (decision 95 in docs/DECISIONS.md).
 
@@ -7,23 +7,24 @@ use std::io;
 use std::io::ErrorKind;
 use std::os::unix::fs::MetadataExt;
 
-/// What the system tells of a file: which it is, how long it is, and when its bytes and what else is known of it were changed last.
+/// What the system reports of a file: which file it is, its length, and when its bytes and its other properties were
+/// changed last.
 ///
-/// Two readings of a file in one state give the same bytes, as far as the system tells of changes: of two within one tick of its
-/// clock that leave the length, it doesn't.
+/// Two reads of a file in one state give the same bytes, unless the file changed in a way that the system doesn't
+/// report, such as a second change within one tick of its clock that leaves the length.
 #[derive(Clone, Copy, PartialEq, Eq)]
 pub struct FileState {
     device: u64,
     inode: u64,
     length: u64,
-    /// When its bytes were changed last, by the system's clock: in seconds, and nanoseconds behind them.
+    /// When the bytes were changed last, by the system's clock: in seconds, and the nanoseconds after them.
     written: (i64, i64),
-    /// When anything that is known of it was.
+    /// When any property of the file was changed last.
     changed: (i64, i64),
 }
 
 impl FileState {
-    /// The state of the file of which the system tells this.
+    /// Returns the state that these data of the system are.
     pub fn of(found: &Metadata) -> FileState {
         FileState {
             device: found.dev(),
@@ -34,13 +35,21 @@ impl FileState {
         }
     }
 
-    /// Fails where an open file is in another state.
+    /// Checks that an open file is in this state.
+    ///
+    /// # Errors
+    ///
+    /// The kind `InvalidData` if the file is in another state, and what the system refuses.
     pub fn check<F: OpenFile>(&self, file: &F) -> io::Result<()> {
         let told = file.metadata()?;
         self.check_told(&told)
     }
 
-    /// Fails where the system tells another state of a file.
+    /// Checks that these data of the system are this state.
+    ///
+    /// # Errors
+    ///
+    /// The kind `InvalidData` if they are another state.
     pub fn check_told(&self, found: &Metadata) -> io::Result<()> {
         if FileState::of(found) == *self {
             Ok(())

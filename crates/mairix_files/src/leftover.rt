@@ -1,6 +1,6 @@
-//! What lies under a name that a run wants for a new file.
+//! Removing what a killed run has left under the name of a new file.
 //!
-//! A run removes only what is its own (decision 93 in docs/DECISIONS.md).
+//! A run removes only such files (decision 93 in docs/DECISIONS.md).
 ghost use Rattle.std.specs.Prelude.{◌≡◌, IsTrue, bit_and};
 ghost use Rattle.std.specs.Fs.{IsFile, file_type, metadata_mode};
 
@@ -17,15 +17,15 @@ use std::{fs, io};
 /// The bits of a mode that say who may do what with a file, and as whom it runs.
 const MODE_BITS: u32 = 0o7777;
 
-/// What has the owner of what this process makes.
+/// A path whose owner is that of the files that this process makes.
 const THIS_PROCESS: &str = "/proc/self";
 
-/// Removes what a killed run left under a name: a plain file of this process's owner, marked as a new file is, that no other run has
-/// locked, whatever it holds. Anything else stays.
+/// Removes what a killed run left under a name, whatever its bytes are: a plain file of this process's owner, with the
+/// mark of a new file, that no other run has locked. Does nothing if the name is free.
 ///
 /// # Errors
 ///
-/// Where anything else lies there, and what the system refused.
+/// If anything else has the name, which isn't touched then; otherwise what the system refused.
 pub(crate) fn remove_leftover<R: Files<File = File>>(
     rt: &R,
     alloc: Global,
@@ -40,7 +40,7 @@ pub(crate) fn remove_leftover<R: Files<File = File>>(
     }
 }
 
-/// Removes what was found under a name, if a killed run left it.
+/// Removes the file that was found under a name, if a killed run left it.
 fn remove_found<R: Files<File = File>>(
     rt: &R,
     alloc: Global,
@@ -51,13 +51,13 @@ fn remove_found<R: Files<File = File>>(
     if !is_left(found, &process) {
         return Err(ErrorKind::AlreadyExists.into());
     }
-    // A link may have taken the name since, and where that leads nothing must be opened for writing.
+    // The name may be a link by now, and what a link leads to mustn't be opened for writing.
     let seen = fs::open(rt, name)?;
     let opened = seen.metadata()?;
     if !is_one_node(found, &opened) {
         return Err(ErrorKind::AlreadyExists.into());
     }
-    // Its lock is held until its name is gone. For a lock some file systems ask that a file is open for writing.
+    // The lock is held until the name is gone. Some file systems lock a file only if it is open for writing.
     let path = format!(in alloc; "{THIS_PROCESS}/fd/{}", seen.as_raw_fd())?;
     let left = OpenOptions::new()
         .read(true)
@@ -67,7 +67,7 @@ fn remove_found<R: Files<File = File>>(
     fs::remove_file(rt, name)
 }
 
-/// Whether a file is one that a run makes, of this process's owner.
+/// Whether a file is one that a run makes, and of this process's owner.
 fn is_left(found: &Metadata, process: &Metadata) -> bool
     ensures file { IsTrue result → IsFile (file_type found.now) }
     ensures mode { IsTrue result → bit_and (metadata_mode found.now) 0o7777 ≡ 0o1600 }

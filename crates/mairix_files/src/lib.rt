@@ -1,5 +1,5 @@
-//! Real files as devices, what tells whether they have changed, files that take their names once they are whole, and what names
-//! lead to.
+//! Real files as devices, the check whether files have changed, files that get their names once they are whole, and
+//! where names lead.
 #![tactic(auto)]
 
 mod file_source;

@@ -1,4 +1,4 @@
-//! What names lead to.
+//! Where names lead.
 
 use std::alloc::{AllocError, Global};
 use std::fs::Metadata;
@@ -8,27 +8,27 @@ use std::path::{Path, PathBuf};
 use std::rt::Files;
 use std::{fs, io};
 
-/// Where the system shows what each process has open.
+/// The folder in which the system has a folder for each process.
 const PROCESSES: &str = "/proc/";
 
-/// A name there that is always taken.
+/// A name in it that always exists.
 const A_PROCESS: &str = "/proc/self";
 
-/// How many links the system follows.
+/// The most links that the system follows.
 const MOST_LINKS: usize = 40;
 
-/// Where a name leads, as far as the system tells. Links are followed.
+/// Where a name leads, if the system reports it. Links are followed.
 #[derive(Drop)]
 pub struct Place<'n> {
-    /// The path of the file, or where none is yet of the place where it would be.
+    /// The path of the file, or of the place where it would be if it doesn't exist.
     path: Option<PathBuf>,
-    /// Which file it is.
+    /// The file, if it exists.
     file: Option<Node>,
-    /// Which folder it would be in, and its last part there, where no file is yet.
+    /// The folder in which the file would be and its name there, if it doesn't exist.
     wanted: Option<(Node, &'n str)>,
 }
 
-/// What tells a file from each other one, by whatever name.
+/// What identifies a file, whatever its name is.
 #[derive(Clone, Copy, PartialEq, Eq)]
 struct Node {
     device: u64,
@@ -43,7 +43,7 @@ impl Node {
         }
     }
 
-    /// The file to which a path leads.
+    /// Returns the file to which a path leads; None if the system reports none.
     fn at<R: Files>(rt: &R, path: &str) -> Option<Node> {
         match fs::metadata(rt, path) {
             Ok(found) => Some(Node::of(&found)),
@@ -53,6 +53,11 @@ impl Node {
 }
 
 impl<'n> Place<'n> {
+    /// Returns the place to which a name leads.
+    ///
+    /// # Errors
+    ///
+    /// `AllocError` if memory runs out.
     pub fn of<R: Files>(rt: &R, alloc: Global, name: &'n str) -> Result<Place<'n>, AllocError> {
         let file = Node::at(rt, name);
         let wanted = match file {
@@ -63,8 +68,12 @@ impl<'n> Place<'n> {
         Ok(Place { path, file, wanted })
     }
 
-    /// Whether another name leads to the same file, or to the same place where a file isn't yet: where their paths agree, or device
-    /// and inode, as of hard links and of what is mounted at two places.
+    /// Whether another name leads to the same file, or to the same place if the file doesn't exist. That is so if their
+    /// real paths are the same, or device and inode, as for hard links and for what is mounted at two places.
+    ///
+    /// # Errors
+    ///
+    /// `AllocError` if memory runs out.
     pub fn is_of<R: Files>(&self, rt: &R, alloc: Global, name: &str) -> Result<bool, AllocError> {
         let other = Place::of(rt, alloc, name)?;
         Ok(self.is_same(&other))
@@ -96,12 +105,12 @@ impl<'n> Place<'n> {
     }
 }
 
-/// Whether the system tells the same file twice.
+/// Whether these data of the system are of the same file.
 pub(crate) fn is_one_node(one: &Metadata, two: &Metadata) -> bool {
     Node::of(one) == Node::of(two)
 }
 
-/// The folder of a name.
+/// Returns the folder of a name.
 pub(crate) fn folder_of(name: &str) -> &str {
     match Path::new(name).parent() {
         Some(folder) if !folder.as_str().is_empty() => folder.as_str(),
@@ -109,14 +118,15 @@ pub(crate) fn folder_of(name: &str) -> &str {
     }
 }
 
-/// The folder in which a name is, and its last part.
+/// Returns the folder in which a name is, and its last part.
 fn wanted_place<'n, R: Files>(rt: &R, name: &'n str) -> Option<(Node, &'n str)> {
     let last = Path::new(name).file_name()?;
     let folder = Node::at(rt, folder_of(name))?;
     Some((folder, last))
 }
 
-/// Where a path leads. Where no file is there yet, that is a name in the folder where it would be.
+/// Returns the real path to which a path leads. If no file is there, that is a name in the folder where it would be.
+/// None if the system reports neither.
 fn real_path<R: Files>(rt: &R, alloc: Global, path: &str) -> Result<Option<PathBuf>, AllocError> {
     if let Some(real) = told(rt.canonicalize(alloc, path))? {
         return Ok(Some(real));
@@ -130,10 +140,15 @@ fn real_path<R: Files>(rt: &R, alloc: Global, path: &str) -> Result<Option<PathB
     real.push(name).and(Ok(Some(real)))
 }
 
-/// Whether a name leads to a device, a pipe or a socket: neither file nor folder. Links are followed, and a link to what a process
-/// has open, as `/dev/stdout` is one, counts so whatever that is. A name that leads nowhere doesn't.
+/// Whether a name leads to a device, a pipe or a socket, which is neither a file nor a folder. Links are followed. A
+/// link to what a process has open, such as `/dev/stdout`, counts whatever that is. A name that leads nowhere doesn't
+/// count.
 ///
 /// No run replaces one of these, nor a link to one (decision 58 in docs/DECISIONS.md).
+///
+/// # Errors
+///
+/// `AllocError` if memory runs out.
 pub fn is_special_file<R: Files>(rt: &R, alloc: Global, name: &str) -> Result<bool, AllocError> {
     if leads_to_processes(rt, alloc, name)? {
         return Ok(true);
@@ -145,7 +160,7 @@ pub fn is_special_file<R: Files>(rt: &R, alloc: Global, name: &str) -> Result<bo
     Ok(is_special)
 }
 
-/// Whether a name is a link into what the system shows of processes, by whatever texts and over whatever other links.
+/// Whether a name is a link into the system's folder of processes, by any text and through any other links.
 fn leads_to_processes<R: Files>(rt: &R, alloc: Global, name: &str) -> Result<bool, AllocError> {
     let mut path = PathBuf::from_str(alloc, name)?;
     for _ in 0..MOST_LINKS {
@@ -159,7 +174,7 @@ fn leads_to_processes<R: Files>(rt: &R, alloc: Global, name: &str) -> Result<boo
     Ok(false)
 }
 
-/// Goes on to where a path leads as a link, if it is one.
+/// Follows the path, if it is a link. Returns whether it was one.
 fn follow<R: Files>(rt: &R, alloc: Global, path: &mut PathBuf) -> Result<bool, AllocError> {
     let Some(target) = told(rt.read_link(alloc, path.as_path().as_str()))? else {
         return Ok(false);
@@ -167,7 +182,7 @@ fn follow<R: Files>(rt: &R, alloc: Global, path: &mut PathBuf) -> Result<bool, A
     path.set_file_name(target.as_path().as_str()).and(Ok(true))
 }
 
-/// Whether a path goes through what the system shows of processes.
+/// Whether a path is in the system's folder of processes.
 fn is_in_processes<R: Files>(rt: &R, path: Path<'_>) -> bool {
     if path.as_str().starts_with(PROCESSES) {
         return true;
@@ -185,7 +200,7 @@ fn is_in_processes<R: Files>(rt: &R, path: Path<'_>) -> bool {
     false
 }
 
-/// What the system tells, if it does. Want of memory alone is an error.
+/// Returns what the system reports, or None if it refuses. The only error is lack of memory.
 fn told<T: Drop>(found: io::Result<T>) -> Result<Option<T>, AllocError> {
     match found {
         Ok(found) => Ok(Some(found)),

@@ -1,6 +1,6 @@
-//! A file that takes its name once it is whole.
+//! A file that gets its name once it is whole.
 //!
-//! Decisions 53 to 56 in docs/DECISIONS.md say why it is so.
+//! Decisions 53 to 56 in docs/DECISIONS.md say why.
 
 use crate::leftover::remove_leftover;
 use crate::names::{folder_of, is_one_node};
@@ -11,29 +11,32 @@ use std::os::unix::fs::{MetadataExt, OpenOptionsExt, PermissionsExt};
 use std::rt::Files;
 use std::{fs, io};
 
-/// The mode of a file that tells of mail: its owner alone reads and writes it.
+/// The mode of a file that says something of mail: only its owner may read and write it.
 const PRIVATE: u32 = 0o600;
 
-/// The mode of a file that isn't whole: its owner's alone, and with a mark that no other program gives a file.
+/// The mode of a file that isn't whole: only its owner may read and write it, and it has a mark that other programs
+/// don't set.
 pub(crate) const MARKED: u32 = 0o1600;
 
 /// The bits of a mode that say who may read, write and run a file.
 const PERMISSION_BITS: u32 = 0o777;
 
-/// Those of them that say what the file's group may do.
+/// Those of these bits that say what the file's group may do.
 const GROUP_BITS: u32 = 0o070;
 
-/// Those that let others than the owner write.
+/// The bits of a mode that let others than the owner write.
 const OTHERS_WRITE: u32 = 0o022;
 
-/// A file that is written under a name for the time being, and then takes the name that it is for. It is let go only by
-/// `take_name` or `discard`.
+/// A file that is written under a passing name, and then gets its own name. A caller ends it with `take_name` or
+/// `discard`.
 ///
-/// It is locked while it is open, and a lock ends with its process, however that ends. So of two runs that want one file the
-/// second is refused, and what a killed run left is nobody's. Only who has the lock of the file under a passing name renames or
-/// removes it. A lock is believed once the name is seen to lead to the file that was locked, which may have lost its name before.
+/// It is locked while it is open, and a lock ends with its process, however the process ends. So if two runs want the
+/// same file, the second is refused; and the next run may remove what a killed run left. Only the run that has locked
+/// the file under a passing name renames or removes it. A lock counts only if the name is found to lead to the locked
+/// file after locking, because the file may have lost its name before.
 ///
-/// It is private and has a mark until it has its name, by which the next run knows what a killed one left.
+/// Until it has its name, only its owner may use it, and it has a mark by which the next run recognizes what a killed
+/// run left.
 pub struct NewFile<'p, R: Files<File = File>> {
     rt: &'p R,
     passing: &'p str,
@@ -42,13 +45,13 @@ pub struct NewFile<'p, R: Files<File = File>> {
 }
 
 impl<'p, R: Files<File = File>> NewFile<'p, R> {
-    /// A new and empty file under a passing name, which only its owner may read. The file of a run that was killed, where one lies
-    /// there, is removed first.
+    /// Makes a new and empty file under a passing name, which only its owner may read. What a killed run left under
+    /// that name is removed first.
     ///
     /// # Errors
     ///
-    /// Where another run has made its own file there and is still at work, or anything lies there that no killed run left: that is
-    /// untouched. Else what the system refused, or want of memory, of the kind `OutOfMemory`.
+    /// If another run is still writing its own file there, or if anything is there that no killed run left; that isn't
+    /// touched. Otherwise what the system refused; the kind is `OutOfMemory` if memory ran out.
     pub fn create(
         rt: &'p R,
         alloc: Global,
@@ -72,18 +75,19 @@ impl<'p, R: Files<File = File>> NewFile<'p, R> {
         Ok(new)
     }
 
-    /// The file, to be written from its front.
+    /// Returns the file, which is to be written from its beginning.
     pub fn file(&self) -> &File {
         &self.file
     }
 
-    /// Gives the file its name, once all of it is on the disk, and then its mode; and then its name is on the disk too. Where the
-    /// system refuses the mode, it stays private.
+    /// Gives the file its name, once all of it is on the disk, and its mode, and brings the name to the disk. If the
+    /// system refuses the mode, only the owner may use the file.
     ///
     /// # Errors
     ///
-    /// What the system refused, or the passing name leads to another file. The old file is as it was, and this one is removed. Where
-    /// only its folder can't be brought to the disk, it has its name, but a power cut may yet take it.
+    /// What the system refused, or that the passing name leads to another file. The old file is as it was, and this one
+    /// is removed. If only the folder can't be brought to the disk, the file has its name, but may lose it if the power
+    /// fails.
     pub fn take_name(self) -> io::Result<()> {
         let mode = match self.rename() {
             Ok(mode) => mode,
@@ -98,7 +102,7 @@ impl<'p, R: Files<File = File>> NewFile<'p, R> {
         synced
     }
 
-    /// Removes the file. Where the passing name leads to another one, that is left.
+    /// Removes the file. If the passing name leads to another file, that isn't touched.
     pub fn discard(self) {
         if check_named(self.rt, &self.file, self.passing, ErrorKind::NotFound).is_ok() {
             let _ = fs::remove_file(self.rt, self.passing);
@@ -106,7 +110,7 @@ impl<'p, R: Files<File = File>> NewFile<'p, R> {
         self.close();
     }
 
-    /// Answers the mode that it is to have.
+    /// Renames the file, once all of it is on the disk. Returns the mode that it is to have.
     fn rename(&self) -> io::Result<u32> {
         self.file.sync_all()?;
         let mode = mode_for(self.rt, &self.file, self.name)?;
@@ -114,8 +118,8 @@ impl<'p, R: Files<File = File>> NewFile<'p, R> {
         fs::rename(self.rt, self.passing, self.name).and(Ok(mode))
     }
 
-    /// Marks the file, of which the process may have been told to make it with less than that mode. On a file system that has no mark
-    /// for files it is private alone.
+    /// Marks the file, because the process may have a mask that took bits of the mode away when the file was made. If
+    /// the file system refuses the mark, the file is private without it.
     fn mark(&self) -> io::Result<()> {
         match self.set_mode(MARKED) {
             Ok(()) => Ok(()),
@@ -137,7 +141,8 @@ impl<'p, R: Files<File = File>> NewFile<'p, R> {
     }
 }
 
-/// Opens the file of a name and locks it, unless another run has its lock, or has renamed or removed it since it was opened.
+/// Opens the file with this name and locks it. Fails if another run has its lock, or has renamed or removed it since it
+/// was opened.
 fn open_locked<R: Files<File = File>>(
     rt: &R,
     options: &OpenOptions,
@@ -147,13 +152,13 @@ fn open_locked<R: Files<File = File>>(
     lock(rt, &file, name).and(Ok(file))
 }
 
-/// Locks the open file of a name, on the same terms.
+/// Locks an open file with this name. Fails if another run has its lock, or has renamed or removed it.
 pub(crate) fn lock<R: Files>(rt: &R, file: &File, name: &str) -> io::Result<()> {
     file.try_lock()?;
     check_named(rt, file, name, ErrorKind::WouldBlock)
 }
 
-/// Fails with this kind where a name doesn't lead to this very file, or does by a link.
+/// Fails with the kind `other` if a name doesn't lead to this file, or leads to it by a link.
 fn check_named<R: Files>(rt: &R, file: &File, name: &str, other: ErrorKind) -> io::Result<()> {
     let named = fs::symlink_metadata(rt, name)?;
     let open = file.metadata()?;
@@ -170,8 +175,9 @@ fn sync_folder<R: Files<File = File>>(rt: &R, name: &str) -> io::Result<()> {
     folder.sync_all()
 }
 
-/// The mode of a file that takes a name: that of the file that has it, if nobody but the owner can have put that there, who may have
-/// chosen to share it. What its group might do counts where the group is the same too.
+/// Returns the mode for a file that gets a name: that of the file that has the name now, if only the owner can have put
+/// it there, because the owner may have chosen to share it; otherwise the private one. What the group may do counts
+/// only if the group is the same.
 fn mode_for<R: Files>(rt: &R, file: &File, name: &str) -> io::Result<u32> {
     let old = match fs::symlink_metadata(rt, name) {
         Ok(old) if old.is_file() => old,
@@ -189,7 +195,7 @@ fn mode_for<R: Files>(rt: &R, file: &File, name: &str) -> io::Result<u32> {
     }
 }
 
-/// Whether a folder is of a file's owner, and nobody else may write into it.
+/// Whether a folder belongs to a file's owner, and nobody else may write into it.
 fn is_own_folder<R: Files>(rt: &R, folder: &str, file: &Metadata) -> bool {
     match fs::metadata(rt, folder) {
         Ok(found) => found.uid() == file.uid() && found.mode() & OTHERS_WRITE == 0,

@@ -1,4 +1,4 @@
-//! A writer that a signal doesn't stop.
+//! A writer that signals don't stop.
 ghost use Rattle.std.specs.Prelude.{◌≡◌, ◌≢◌, ◌≤◌, length, IfOk, IfErr};
 ghost use Rattle.std.specs.Io.KnownBytes.{WriteAppends};
 ghost use Rattle.std.specs.IoError.{error_kind};
@@ -6,13 +6,14 @@ ghost use Rattle.std.specs.IoError.{error_kind};
 use std::io;
 use std::io::{ErrorKind, Write};
 
-/// Writes as another writer does, but tries again what a signal interrupts.
+/// Writes as another writer does, but repeats a write that a signal has interrupted.
 #[derive(Drop)]
 pub struct Retried<W: Write + Drop> {
     writer: W,
 }
 
 impl<W: Write + Drop> Retried<W> {
+    /// Returns a writer to this one.
     pub fn new(writer: W) -> Retried<W>
         ensures { ⟦<Retried<W> as Write>⟧.contents result ≡ W.contents writer }
     {
@@ -32,7 +33,7 @@ impl<W: Write + Drop> Write for Retried<W> {
     }
 }
 
-/// One write, tried again while a signal interrupts it.
+/// Writes once, and repeats that while a signal interrupts it.
 fn write_retried<W: Write>(writer: &mut W, bytes: &[u8]) -> io::Result<usize>
     ensures bound { IfOk result (λ n. n ≤ length bytes.now) }
     ensures bytes { WriteAppends (W.contents writer.old) (W.contents writer.new) result bytes.now }

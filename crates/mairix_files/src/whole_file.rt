@@ -7,11 +7,11 @@ use std::io::Read;
 use std::rt::Files;
 use std::{fs, io};
 
-/// The bytes of a file, in one allocation of its length where it doesn't grow meanwhile.
+/// Returns the bytes of a file. It takes memory once, for the length of the file, unless the file grows meanwhile.
 ///
 /// # Errors
 ///
-/// What the system refuses, as of a folder, and want of memory, of the kind `OutOfMemory`.
+/// What the system refuses, such as reading a folder; the kind is `OutOfMemory` if memory ran out.
 pub fn read_whole<R: Files<File = File>>(rt: &R, alloc: Global, path: &str) -> io::Result<Vec<u8>> {
     let mut file = fs::open(rt, path)?;
     let told = file.metadata()?;
@@ -19,16 +19,16 @@ pub fn read_whole<R: Files<File = File>>(rt: &R, alloc: Global, path: &str) -> i
     read_rest(&mut file, &mut bytes, told.len()).and(Ok(bytes))
 }
 
-/// All that a reader still has, behind these bytes, which grow at most once where that is as long as expected.
+/// Appends the rest of the reader to `bytes`. The memory grows at most once if the rest is as long as expected.
 ///
 /// # Errors
 ///
-/// What the system refuses, and want of memory, of the kind `OutOfMemory`.
+/// What the system refuses; the kind is `OutOfMemory` if memory ran out.
 pub fn read_rest<R: Read>(reader: &mut R, bytes: &mut Vec<u8>, expected: u64) -> io::Result<()>
     ensures { OnOk result (IfSome (R.remaining reader.old)
         (λ rest. bytes.new.items ≡ bytes.old.items ++ rest)) }
 {
-    // With room for one byte more the end is seen without growing.
+    // With room for one more byte the end is found without growing.
     bytes.reserve_exact((expected as usize).saturating_add(1))?;
     reader.read_to_end(bytes).and(Ok(()))
 }
