@@ -1,4 +1,4 @@
-//! The program: files in, standard output, standard error and an exit status out.
+//! The program: files in; standard output, standard error and an exit status out.
 ghost use Rattle.std.specs.Prelude.{All};
 ghost use Rattle.mail_index.specs.Tables.{IsPath};
 
@@ -27,18 +27,21 @@ use std::fs::File;
 use std::io::{ErrorKind, Write};
 use std::rt::Files;
 
-/// Runs the words after the program's name over the files that they name, and answers the exit status.
+/// Runs the words after the program's name over the files that they name, and returns the exit status.
 ///
-/// Without a pattern and without `--once` the archives are indexed into the rcfile's `database`. Else they are searched: by the
-/// index in `database`, with `--verify` once they are proved to be those that were indexed, or with `--once` by one that is made in
-/// memory, whatever `--verify` says. An mbox goes to the file that words and rcfile name, in place of an older answer, unless
-/// `--stdout` is given; any other answer goes to `out`.
+/// Without a pattern and without `--once`, the archives are indexed into the rcfile's `database`. Otherwise they are
+/// searched by the index in `database`; with `--verify` only if they are proved to be those that were indexed. With
+/// `--once` they are searched by an index that is made in memory, whatever `--verify` says. An mbox goes to the file
+/// that words and rcfile name, in place of an older answer, unless `--stdout` is given; any other answer goes to `out`.
 ///
-/// A fault goes to `err` as one line, `mairix: ` and its text; of words that the parser refuses the parser's own text, which
-/// for help and version goes to `out`. The first file that can't be opened, read or made ends the run, before the query is looked at.
-/// The status is 0 with messages or a new index, 1 without a message, 2 where words, rcfile or query are refused, 3 where the index
-/// is refused or isn't that of the archives, 4 where a file can't be opened, read, made or renamed, the output failed or an archive
-/// is no mbox, and 5 with want of memory, too many messages or keys, or an archive that is too long.
+/// A fault is written to `err` as one line, `mairix: ` and its text. If the parser refuses the words, its own text is
+/// written instead, which for help and version goes to `out`. The first file that can't be opened, read or made ends
+/// the run, before the query is read.
+///
+/// The status is 0 with messages or a new index, and 1 without a message. It is 2 if words, rcfile or query are
+/// refused, and 3 if the index is refused or isn't that of the archives. It is 4 if a file can't be opened, read, made
+/// or renamed, if the output failed, or if an archive is no mbox. It is 5 if memory runs out, or if there are too many
+/// messages or keys, or an archive is too long.
 pub fn run_program<R: Files<File = File>, W: Write, E: Write>(
     rt: &R,
     alloc: Global,
@@ -53,7 +56,8 @@ pub fn run_program<R: Files<File = File>, W: Write, E: Write>(
     }
 }
 
-/// Tells on `err` that the words after the program's name can't be had, as some that are no UTF-8, and answers the exit status.
+/// Reports on `err` that the words after the program's name can't be read, for example because one isn't UTF-8, and
+/// returns the exit status.
 pub fn tell_unread_words<E: Write>(alloc: Global, kind: ErrorKind, err: &mut E) -> u8 {
     let fault = match kind {
         ErrorKind::OutOfMemory => Fault::Memory,
@@ -62,7 +66,7 @@ pub fn tell_unread_words<E: Write>(alloc: Global, kind: ErrorKind, err: &mut E) 
     tell_fault(alloc, fault, err)
 }
 
-/// The status of a run that wasn't stopped.
+/// Runs the words, and returns the status unless the run was stopped.
 fn run_words<R: Files<File = File>, W: Write>(
     rt: &R,
     alloc: Global,
@@ -124,8 +128,8 @@ fn run_asked<R: Files<File = File>, W: Write>(
     run_search(rt, alloc, &search, out)
 }
 
-/// Prints the parser's own text: of refused words on standard error, of help and version on standard output. `-r` with `-x`, which
-/// the parser accepts, is told as a fault.
+/// Prints the parser's own text: for refused words on standard error, for help and version on standard output. `-r`
+/// with `-x`, which the parser accepts, is reported as a fault. Returns the status.
 fn tell_usage<W: Write, E: Write>(
     alloc: Global,
     words: &[String],
@@ -147,7 +151,7 @@ fn tell_usage<W: Write, E: Write>(
     Fault::Usage(fault).status()
 }
 
-/// Prints why a run was stopped: in one line, or for refused words in the parser's own text.
+/// Prints why a run was stopped: in one line, or for refused words in the parser's own text. Returns the status.
 fn tell_stopped<W: Write, E: Write>(
     alloc: Global,
     words: &[String],
@@ -165,7 +169,8 @@ fn tell_stopped<W: Write, E: Write>(
     }
 }
 
-/// Prints a fault in one line. One whose text wants memory that isn't there is told as want of memory.
+/// Prints a fault in one line, and returns its status. If there is no memory for its text, lack of memory is reported
+/// instead.
 fn tell_fault<E: Write>(alloc: Global, fault: Fault, err: &mut E) -> u8 {
     let Ok(text) = fault_text(alloc, &fault) else {
         let _ = writeln!(err, "mairix: {OUT_OF_MEMORY}");

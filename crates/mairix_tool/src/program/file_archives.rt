@@ -1,4 +1,4 @@
-//! Archives' files, read at any place.
+//! The archives' files, read at any offset.
 ghost use Rattle.std.specs.Prelude.{None, ◌≡◌, ◌≤◌, ◌<◌, ◌-◌, ◌^◌, ◌↔◌, IsSome, IfSome, IfOk, length};
 
 use crate::program::read_ahead::ReadAhead;
@@ -11,21 +11,21 @@ use std::io::ErrorKind;
 use std::rt::Files;
 use std::{fs, io};
 
-/// The files of some paths, of which at most one is open at a time: the one that was read last. A length is known without reading.
-/// What is no file has none, as a folder, or a path that leads nowhere.
+/// The files of some paths, of which at most one is open at a time: the one that was read last. A length is found
+/// without reading. A path that leads to no file, but to a folder or nowhere, has no length.
 ///
-/// Each file has to be in the state in which it was when the run first looked at it. One that isn't has failed.
+/// Each file has to be in the state in which it was when the run first looked at it; otherwise it has failed.
 #[derive(Drop)]
 pub(crate) struct FileArchives<'p, R: Files<File = File>> {
     rt: &'p R,
     paths: &'p [String],
-    /// The state of each.
+    /// The state of each file.
     states: &'p [FileState],
-    /// The number of the one that was opened last.
+    /// The number of the file that was opened last.
     number: u32,
-    /// Its file, while it is open.
+    /// That file, while it is open.
     open: Option<File>,
-    /// What was read of the open one.
+    /// What was read of the open file.
     ahead: ReadAhead,
     failures: u64,
     ghost few: { length paths.now < 2 ^ 32 },
@@ -33,7 +33,7 @@ pub(crate) struct FileArchives<'p, R: Files<File = File>> {
 }
 
 impl<'p, R: Files<File = File>> FileArchives<'p, R> {
-    /// Opens no file yet. There are no numbers for more than 4,294,967,295 paths, and for these it answers none.
+    /// Opens no file yet. Returns None for more than 4,294,967,295 paths, because there are no numbers for them.
     pub(crate) fn new(
         rt: &'p R,
         alloc: Global,
@@ -61,7 +61,7 @@ impl<'p, R: Files<File = File>> FileArchives<'p, R> {
         })
     }
 
-    /// The length of the file of this number.
+    /// Returns the length of the file with this number.
     fn known_length(&self, n: u32) -> io::Result<u64>
         requires { n < length self.now.paths.now }
     {
@@ -74,7 +74,7 @@ impl<'p, R: Files<File = File>> FileArchives<'p, R> {
             .and(Ok(found.len()))
     }
 
-    /// Reads from the file of this number. Where another one is open that is closed first.
+    /// Reads from the file with this number. If another file is open, that is closed first.
     fn read_file(&mut self, n: u32, offset: u64, into: &mut [u8]) -> io::Result<usize>
         requires { n < length self.old.paths.now }
         ensures paths { self.new.paths ≡ self.old.paths }

@@ -1,6 +1,6 @@
 //! The first look at the archives' files.
 //!
-//! Every later look at an archive has to find what this one found (decision 95 in docs/DECISIONS.md).
+//! Each later look at an archive has to find the same state (decision 95 in docs/DECISIONS.md).
 ghost use Rattle.std.specs.Prelude.{◌≡◌, IfOk, length, vec_len};
 
 use crate::program::stopped::Stopped;
@@ -10,11 +10,11 @@ use std::fs;
 use std::fs::OpenFile;
 use std::rt::Files;
 
-/// Opens each archive in its order, which tells whether it can be opened, and closes it again. Answers the state of each.
+/// Opens each archive in order, to see whether it can be opened, and closes it again. Returns the state of each.
 ///
 /// # Errors
 ///
-/// `CannotOpen` of the first that can't be opened, or want of memory.
+/// `CannotOpen` for the first archive that can't be opened, or lack of memory.
 pub(crate) fn first_states<R: Files>(
     rt: &R,
     alloc: Global,

@@ -1,6 +1,6 @@
 //! The index that a search reads.
 //!
-//! Of a file that is no index only the first 80 bytes are read (decision 96 in docs/DECISIONS.md).
+//! If a file isn't an index, only its first 80 bytes are read (decision 96 in docs/DECISIONS.md).
 ghost use Rattle.std.specs.Prelude.{◌≤◌, ◌++◌, ℕ, List, length, IfSome};
 ghost use Rattle.mail_index.specs.Faults.{IsFirstFault};
 
@@ -12,15 +12,15 @@ use std::io::Read;
 use std::rt::Files;
 use std::{fs, io};
 
-/// How many bytes the shortest index has. So many tell its version, or that the file is none.
+/// The number of bytes of the shortest index, which are enough to see the version, or that the file is no index.
 const SHORTEST: u64 = 80;
 
-/// The bytes of the index of this path. Where the first of them tell that it is none, or of no known version, they are all: a
-/// search refuses them as it would refuse the whole file, however long that is.
+/// Reads the bytes of the index with this path. If its first bytes show that it is no index, or of an unknown version,
+/// only these are returned: a search refuses them as it would refuse the whole file, however long that is.
 ///
 /// # Errors
 ///
-/// What the system refuses, and want of memory, of the kind `OutOfMemory`.
+/// What the system refuses; the kind is `OutOfMemory` if memory ran out.
 pub(crate) fn read_index<R: Files<File = File>>(
     rt: &R,
     alloc: Global,
@@ -40,7 +40,7 @@ fn read_bytes(file: &mut File, bytes: &mut Vec<u8>) -> io::Result<()> {
     read_rest(file, bytes, found.len().saturating_sub(SHORTEST))
 }
 
-/// What is wrong with the first bytes of an index. Of as many as the shortest has that is wrong with the whole, whatever follows.
+/// Returns the fault of the first bytes of an index. With 80 bytes, the whole file has this fault too.
 #[tactic(auto, using(crate::proofs::IndexFronts::marked_otherwise, crate::proofs::IndexFronts::unknown_version))]
 fn fault_of_front(front: &[u8]) -> Option<IndexFault>
     ensures own { IfSome result (λ fault. IsFirstFault front.now fault) }

@@ -1,6 +1,6 @@
 //! Mail that an index run must not replace.
 //!
-//! What begins with a separator is somebody's mail (decision 94 in docs/DECISIONS.md).
+//! A file that begins with a separator is somebody's mail (decision 94 in docs/DECISIONS.md).
 
 use crate::program::stopped::Stopped;
 use mairix_files::FileSource;
@@ -9,14 +9,15 @@ use std::alloc::Global;
 use std::fs;
 use std::rt::Files;
 
-/// How many of a file's first bytes are looked at.
+/// How many of a file's first bytes are read.
 const LOOKED_AT: u64 = 131_072;
 
-/// Looks whether a path leads to a file that begins as an mbox: its first line that isn't empty is a separator.
+/// Checks that a path doesn't lead to a file that begins as an mbox: with a separator as its first line that isn't
+/// empty.
 ///
 /// # Errors
 ///
-/// `CannotOpen` where it does, and where the file can't be read, so that nobody can tell; or want of memory.
+/// `CannotOpen` if it does, and if the file can't be read, because then that is unknown; or lack of memory.
 pub(crate) fn check_no_mail<R: Files>(rt: &R, alloc: Global, path: &str) -> Result<(), Stopped> {
     let is_file = match fs::metadata(rt, path) {
         Ok(found) => found.is_file(),

@@ -1,4 +1,4 @@
-//! The new index that takes the place of an old one: archives in, an index file out.
+//! The new index that replaces an old one: archives in, an index file out.
 ghost use Rattle.std.specs.Prelude.{map, All};
 ghost use Rattle.std.specs.String.{string_bytes};
 ghost use Rattle.mail_index.specs.Tables.{IsPath};
@@ -20,18 +20,19 @@ use std::rt::Files;
 /// How many bytes of an index are gathered before they are written.
 const GATHERED: usize = 65_536;
 
-/// Indexes the archives that the rcfile of this path names, puts the index under the name `database`, and answers status 0.
+/// Indexes the archives that the rcfile with this path names, puts the index under the name `database`, and returns the
+/// status 0.
 ///
-/// The index is written to `<database>.new`, which takes the name of the old index once it is whole, and its mode where nobody but
-/// the owner can have put that there; else it is removed, and the old index is as it was. What a run that was killed left under
-/// `<database>.new` is lost.
+/// The index is written to `<database>.new`. Once it is whole, it gets the name of the old index, and its mode too if
+/// only the owner can have put that there. If the run fails, the new file is removed, and the old index is as it was.
+/// What a killed run left under `<database>.new` is lost.
 ///
 /// # Errors
 ///
-/// `CannotOpen` with nothing touched where either name leads to an archive or to the rcfile, where `database` leads to an mbox, a
-/// device, a pipe or a socket, where another run is making an index of it, and where the new file can't be made; else the fault of
-/// an archive, of the output or of memory. Where only its folder can't be brought to the disk, the output has failed, and the new
-/// index is there.
+/// `CannotOpen`, with nothing touched, if either name leads to an archive or to the rcfile, if `database` leads to an
+/// mbox, a device, a pipe or a socket, if another run is making an index under this name, and if the new file can't be
+/// made. Otherwise the fault of an archive, of the output or of memory. If only the folder can't be brought to the
+/// disk, the output has failed, and the new index is there.
 pub(crate) fn replace_index<'p, R: Files<File = File>>(
     rt: &R,
     alloc: Global,
@@ -54,7 +55,7 @@ pub(crate) fn replace_index<'p, R: Files<File = File>>(
     settle_file(new, indexed).map_err(Stopped::Fault)
 }
 
-/// Indexes the archives from their files, one open at a time, into a file, and answers the status.
+/// Indexes the archives from their files, one open at a time, into a file, and returns the status.
 fn fill_index_file<R: Files>(
     rt: &R,
     alloc: Global,

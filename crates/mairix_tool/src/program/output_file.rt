@@ -10,20 +10,20 @@ use std::fs::File;
 use std::io::Write;
 use std::rt::Files;
 
-/// The name that a file has until it is whole.
+/// Returns the name that a file has until it is whole.
 pub(crate) fn passing_name(alloc: Global, name: &str) -> Result<String, AllocError>
     ensures { IfOk result (λ passing. string_bytes passing ≡ name.now ++ codes ".new") }
 {
     format!(in alloc; "{name}.new")
 }
 
-/// A new file that is to have a name, under a passing name for the time being.
+/// Makes a new file that is to have a name, under a passing name.
 ///
 /// # Errors
 ///
-/// `CannotOpen` with nothing touched where the name has no last part; where either name leads to a file that the run reads, or the
-/// name to a device, a pipe or a socket, which would lose it; and where no file can be made under the passing name, as while another
-/// run makes its own there, or where anything lies there that no killed run left.
+/// `CannotOpen`, with nothing touched, if the name has no last part; if either name leads to a file that the run reads,
+/// which would be lost; if the name leads to a device, a pipe or a socket; and if no file can be made under the passing
+/// name, because another run is making its own there, or anything is there that no killed run left.
 pub(crate) fn create_file<'p, R: Files<File = File>>(
     rt: &'p R,
     alloc: Global,
@@ -43,8 +43,8 @@ pub(crate) fn create_file<'p, R: Files<File = File>>(
     Stopped::unless(alloc, passing, new)
 }
 
-/// Gives a file its name where all of it was written, and removes it else. A name that can't be given is a failed output, and so is
-/// one that can't be brought to the disk.
+/// Gives a file its name if all of it was written, and removes it otherwise. If the name can't be given or brought to
+/// the disk, the output has failed.
 pub(crate) fn settle_file<R: Files<File = File>>(
     new: NewFile<'_, R>,
     written: Result<u8, Fault>,
@@ -56,7 +56,7 @@ pub(crate) fn settle_file<R: Files<File = File>>(
     new.take_name().or(Err(Fault::Out)).and(written)
 }
 
-/// What was written, once all of it is out.
+/// Flushes the output of a run that succeeded, and returns the status. If that fails, the output has failed.
 pub(crate) fn flushed<W: Write>(written: Result<u8, Fault>, out: &mut W) -> Result<u8, Fault> {
     if written.is_ok() && out.flush().is_err() {
         Err(Fault::Out)

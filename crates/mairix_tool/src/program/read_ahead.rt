@@ -1,4 +1,4 @@
-//! Bytes of a file that are read before they are asked for.
+//! Bytes of a file that are read before they are needed.
 ghost use Rattle.std.specs.Prelude.{◌≤◌, IfOk, length};
 
 use mairix_files::FileState;
@@ -7,29 +7,29 @@ use std::fs::File;
 use std::io;
 use std::os::unix::fs::FileExt;
 
-/// At most so many bytes are read at once.
+/// The most bytes that are read at once.
 const MOST: usize = 65_536;
 
-/// Reads of one file, of which those that follow one another are answered from larger pieces.
+/// Reads of one file, in which reads that follow one another are served from larger pieces.
 ///
-/// Messages that stand side by side are read together so. A piece has at most as many bytes as were just read without a gap: reads
-/// here and there cost what they always cost, and no more than twice the bytes that are asked for are read.
+/// Adjacent messages are read in one call. A piece has at most as many bytes as were just read without a gap. So single
+/// reads in other places cost no more than without pieces, and at most twice the bytes that are needed are read.
 #[derive(Drop)]
 pub(crate) struct ReadAhead {
-    /// Room for a piece, none before the first.
+    /// The memory for a piece, empty before the first piece.
     room: Vec<u8>,
     /// How many bytes of it are a piece of the file.
     held: usize,
-    /// Where in the file the piece begins.
+    /// The offset in the file at which the piece begins.
     offset: u64,
-    /// Where the last read ended.
+    /// The offset at which the last read ended.
     end: u64,
     /// How many bytes were read up to there without a gap.
     in_a_row: u64,
 }
 
 impl ReadAhead {
-    /// It takes no memory.
+    /// Takes no memory.
     pub(crate) fn new(alloc: Global) -> ReadAhead {
         ReadAhead {
             room: Vec::new(alloc),
@@ -40,7 +40,7 @@ impl ReadAhead {
         }
     }
 
-    /// Forgets the file that was read, before another is.
+    /// Drops what was read, before another file is read.
     pub(crate) fn forget(&mut self) {
         self.held = 0;
         self.in_a_row = 0;
@@ -68,7 +68,8 @@ impl ReadAhead {
         Ok(read)
     }
 
-    /// Copies what is held from this place on, and answers how many bytes that is.
+    /// Copies bytes of the piece from this offset on, and returns how many were copied; 0 if the piece doesn't have the
+    /// first one.
     fn give(&self, offset: u64, into: &mut [u8]) -> usize
         ensures { result ≤ length into.new }
     {
@@ -83,8 +84,9 @@ impl ReadAhead {
         count
     }
 
-    /// Reads what isn't held: as the front of a piece, where the read goes on behind the last and the piece is larger than what is
-    /// asked for. Without memory for a piece it reads no more than that.
+    /// Reads bytes that aren't in the piece. They are read as the beginning of a new piece if the read begins where the
+    /// last one ended, and the piece has room for more than is needed. If there is no memory for a piece, only what is
+    /// needed is read.
     fn read_on(
         &mut self,
         file: &File,
@@ -105,7 +107,8 @@ impl ReadAhead {
     }
 }
 
-/// Reads from a file that is in this state, looked at behind the read: what was read while it changed goes nowhere.
+/// Reads from a file, and then checks that it is in this state: bytes that were read while the file changed aren't
+/// used.
 fn read_in(file: &File, state: FileState, offset: u64, into: &mut [u8]) -> io::Result<usize>
     ensures bound { IfOk result (λ bytes. bytes ≤ length into.new) }
 {

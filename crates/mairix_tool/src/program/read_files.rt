@@ -5,23 +5,23 @@ use mairix_files::Place;
 use std::alloc::Global;
 use std::rt::Files;
 
-/// The files that a run reads, and in whose place it makes no other.
+/// The files that a run reads, and which it replaces by no other file.
 #[derive(Clone, Copy)]
 pub(crate) struct ReadFiles<'a> {
     /// The rcfile's path.
     pub(crate) rcfile: &'a str,
     /// The archives' paths.
     pub(crate) archives: &'a [String],
-    /// The index's path; none where the run makes it.
+    /// The index's path; None if the run makes the index.
     pub(crate) database: Option<&'a str>,
 }
 
 impl<'a> ReadFiles<'a> {
-    /// Looks whether a name leads to one of them.
+    /// Checks that a name leads to none of these files.
     ///
     /// # Errors
     ///
-    /// `CannotOpen` where it does, or want of memory.
+    /// `CannotOpen` if it leads to one of them, or lack of memory.
     pub(crate) fn check_not_read<R: Files>(
         &self,
         rt: &R,

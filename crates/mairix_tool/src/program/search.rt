@@ -1,4 +1,4 @@
-//! A search of archives' files.
+//! A search of the archives' files.
 ghost use Rattle.std.specs.Prelude.{◌≡◌, Ok, length};
 ghost use Rattle.mairix_options.specs.Rcfile.{rc_of};
 
@@ -19,41 +19,41 @@ use std::fs::File;
 use std::io::Write;
 use std::rt::Files;
 
-/// What is asked.
+/// What a user's words and rcfile say.
 #[derive(Clone, Copy)]
 pub(crate) struct Asked<'a> {
     /// The words after the program's name.
     pub(crate) words: &'a [String],
-    /// What they plan.
+    /// The plan that the words are.
     pub(crate) plan: &'a Plan,
     /// The rcfile's text.
     pub(crate) text: &'a [u8],
     /// What the rcfile says.
     pub(crate) rc: &'a Rc,
-    /// What ages and days without a year are reckoned from.
+    /// The moment from which ages, and days without a year, are counted.
     pub(crate) now: Moment,
     ghost said: { rc_of text.now ≡ Ok rc.now },
 }
 
-/// What is searched, and for what.
+/// What is searched, and what for.
 #[derive(Clone, Copy)]
 pub(crate) struct Search<'a> {
     pub(crate) asked: &'a Asked<'a>,
-    /// How the file of each archive was when the run first looked at it.
+    /// The state of each archive's file when the run first looked at it.
     pub(crate) states: &'a [FileState],
-    /// The stored index; nothing with `--once`, where the archives are indexed in memory.
+    /// The stored index; empty with `--once`, when the archives are indexed in memory.
     pub(crate) index: &'a [u8],
     ghost each: { length states.now ≡ length asked.now.rc.now.paths },
 }
 
-/// Searches the archives' files, and answers the status, 0 or 1: to `out`, or to the file that words and rcfile name,
-/// which then takes the place of an older answer. An archive's file that isn't in its first state has failed.
+/// Searches the archives' files, and returns the status, 0 or 1. The answer goes to `out`, or to the file that words
+/// and rcfile name, which then replaces an older answer. An archive's file that isn't in its first state has failed.
 ///
 /// # Errors
 ///
-/// `CannotOpen` where that file can't be made; with nothing touched where it would be an archive, the rcfile or the index. Else the
-/// run's own fault, or want of more numbers for archives. No file is left then, and an older answer is as it was, unless only the
-/// folder of the new one can't be brought to the disk.
+/// `CannotOpen` if that file can't be made; with nothing touched if it would replace an archive, the rcfile or the
+/// index. Otherwise the run's own fault, or that there are more archives than numbers. No file is left then, and an
+/// older answer is as it was, unless only the folder of the new one can't be brought to the disk.
 pub(crate) fn run_search<R: Files<File = File>, W: Write>(
     rt: &R,
     alloc: Global,
@@ -66,7 +66,7 @@ pub(crate) fn run_search<R: Files<File = File>, W: Write>(
     }
 }
 
-/// Writes the answer to a new file, which takes this name once it is whole.
+/// Writes the answer to a new file, which gets this name once it is whole.
 fn make_answer_file<R: Files<File = File>>(
     rt: &R,
     alloc: Global,
@@ -85,7 +85,7 @@ fn make_answer_file<R: Files<File = File>>(
     settle_file(new, answered).map_err(Stopped::Fault)
 }
 
-/// Writes the answer of the run over the archives' files, and tells its status.
+/// Writes the answer of the run over the archives' files, and returns its status.
 fn answer_to<R: Files<File = File>, W: Write>(
     rt: &R,
     alloc: Global,

@@ -1,4 +1,4 @@
-//! Why a run over files ended before it was done.
+//! Why a run over files ended early.
 
 use mairix_options::OrMemory;
 use run_faults::Fault;
@@ -6,17 +6,18 @@ use std::alloc::{AllocError, Global};
 use std::io;
 use std::io::ErrorKind;
 
-/// Why a run over files ended before it was done.
+/// Why a run over files ended early.
 #[derive(Drop)]
 pub(crate) enum Stopped {
-    /// The file of this path can't be opened, read or made.
+    /// The file with this path can't be opened, read or made.
     CannotOpen(String),
-    /// Anything else.
+    /// Any other fault.
     Fault(Fault),
 }
 
 impl Stopped {
-    /// The file of this path can't be opened, read or made.
+    /// Returns that the file with this path can't be opened, read or made; or lack of memory if there is none for the
+    /// path.
     pub(crate) fn at(alloc: Global, path: &str) -> Stopped {
         match String::from_str(alloc, path) {
             Ok(path) => Stopped::CannotOpen(path),
@@ -24,7 +25,8 @@ impl Stopped {
         }
     }
 
-    /// What the system gives of the file of this path. A refusal stops the run, as want of memory does.
+    /// Returns what the system gave for the file with this path. If it refused, the run is stopped, for this path or
+    /// for lack of memory.
     pub(crate) fn unless<T>(alloc: Global, path: &str, given: io::Result<T>) -> Result<T, Stopped> {
         match given {
             Ok(value) => Ok(value),
