@@ -1,4 +1,4 @@
-//! The program `mairix`: finds every message of mbox archives that fits, and tells nothing else.
+//! The program `mairix`: prints exactly the messages of mbox archives that match.
 #![tactic(auto)]
 
 use mail_dates::Moment;
@@ -8,7 +8,7 @@ use std::rt::Clock;
 use std::time::{SystemTime, UNIX_EPOCH};
 use std::{env, io};
 
-/// The words after the program's name. Words that are no UTF-8 are an error.
+/// Returns the words after the program's name. Words that aren't UTF-8 are an error.
 fn words_of<R: Env + AllocGlobal>(rt: &R) -> io::Result<Vec<String>> {
     let mut words = Vec::new(rt.alloc());
     for word in env::args(rt)?.skip(1) {
@@ -17,7 +17,7 @@ fn words_of<R: Env + AllocGlobal>(rt: &R) -> io::Result<Vec<String>> {
     Ok(words)
 }
 
-/// The clock's second, or 0 where the clock fails.
+/// Returns the clock's second, or 0 if the clock fails.
 fn second<R: Clock>(rt: &R) -> i64 {
     let Ok(time) = SystemTime::now(rt) else {
         return 0;
@@ -28,7 +28,7 @@ fn second<R: Clock>(rt: &R) -> i64 {
     }
 }
 
-/// The moment of the clock's second, or that of second 0 where it is too late for one.
+/// Returns the moment of the clock's second; that of second 0 if the second is too large for a moment.
 fn moment<R: Clock>(rt: &R) -> Moment {
     match Moment::new(second(rt)) {
         Some(moment) => moment,
