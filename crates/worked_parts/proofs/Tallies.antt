@@ -1,4 +1,4 @@
--- What a caller counts: the messages that start, and the bytes of the texts that end.
+-- The loop of a caller that counts the messages that start, and the bytes of the texts that end.
 use Rattle.std.proofs.Common.{◌≡◌, ℕ, suc, ◌+◌, ◌≤◌, List, [], ◌∷◌, ◌++◌, Option, Some, None, IfSome, length, map, refl, ap, sym, ◌∙◌, arith}
 use Rattle.std.specs.List.{sum_by}
 use Rattle.std.proofs.lemmas.List.Sums.{sum_by-cons}
@@ -24,12 +24,12 @@ sizes (Line line ∷ es) = sizes es
 sizes (End span size ∷ es) = size + sizes es
 sizes (Done all ∷ es) = sizes es
 
--- so many have been counted since
+-- this many messages and bytes have been counted since
 abbrev pub Tallied : Option Coming → ℕ → ℕ → Option Coming → Type 0
 Tallied before count bytes after =
     IfSome before (λ k. (m : Coming) × (after ≡ Some m) × (starts k.events ≡ count + starts m.events) × (sizes k.events ≡ bytes + sizes m.events))
 
--- the texts that ended lie before the bytes taken, and before an open message
+-- the texts that have ended come before the bytes taken, and before an open message
 abbrev pub IsBehind : ℕ → Phase → ℕ → Type 0
 IsBehind bytes Between at = bytes ≤ at
 IsBehind bytes (Inside start size) at = bytes ≤ start

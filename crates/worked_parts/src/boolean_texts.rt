@@ -1,13 +1,14 @@
-//! Boolean texts, and what is read of them.
+//! Boolean texts, and the queries that are read from them.
 
 use crate::reading::read_text;
 use crate::told::is_told;
 use std::alloc::Global;
 
-/// How many rows the table has.
+/// The number of rows of the table.
 const COUNT: usize = 230;
 
-/// A row is `TEXT => TOLD`, where what is told is as [`is_told`] says. Their answers are those of a second reader.
+/// The rows have the form `TEXT => QUERY`, with the query as [`is_told`] reads it. The queries were found by a second
+/// reader.
 const BOOLEAN_TEXTS: &str = "\
 subject:hello and not date:2003-02 => all(word s hello, not date 1044057600 1046476799)
 (subject:ho or body:hi) hel* => all(either(word s ho, word b hi), prefix tchfsb hel)
@@ -261,7 +262,7 @@ subject:c to: to: not or => query item 2: term missing
 id:x ) and or from:b => query item 2: bad parenthesis
 ";
 
-/// Whether a text is read as its row tells.
+/// Whether the text of a row is read as the row's query. It is None if memory runs out.
 fn row_is_told(alloc: Global, row: &str) -> Option<bool> {
     let (text, told) = row.split_once(" => ")?;
     Some(is_told(&read_text(alloc, text)?, told))

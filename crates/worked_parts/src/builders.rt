@@ -1,4 +1,4 @@
-//! What builders write, and a builder's limit with ample memory.
+//! The files that builders write, and a builder's limits, with enough memory.
 ghost use Rattle.std.specs.Prelude.{◌≡◌, ◌<◌, ◌≤◌, Some, None, length, IfOk, IfSome, OnErr};
 ghost use Rattle.mail_index.specs.Builders.{empty_draft, IsBetweenArchives};
 ghost use Rattle.mail_index.specs.Tables.{IsPath};
@@ -13,7 +13,11 @@ use std::alloc::Global;
 
 pub const PATH: &str = "m.mbox";
 
-/// Gives a builder an archive of one message, with the subject "hello" and a key that comes twice.
+/// Gives a builder an archive with one message, which has the subject "hello", and a key that comes twice.
+///
+/// # Errors
+///
+/// The first fault of the builder.
 pub fn build(builder: &mut Builder, path: &str, kind: Kind, key: &[u8]) -> Result<(), BuildFault>
     requires empty { builder.old ≡ Some (empty_draft 2) }
     requires path { IsPath path.now }
@@ -31,7 +35,8 @@ pub fn build(builder: &mut Builder, path: &str, kind: Kind, key: &[u8]) -> Resul
     builder.end_archive(58, ARCHIVE_DIGEST)
 }
 
-/// What a builder writes, if it tells how many bytes that are. It is None where memory is wanting, and so are the answers below.
+/// Returns the file that a builder writes, if the length that it reports is right. It is None if memory runs out, and
+/// so are the results below.
 fn file_of(alloc: Global, builder: &Builder) -> Option<MemoryOut>
     requires phase { IfSome builder.now IsBetweenArchives }
 {
@@ -41,7 +46,7 @@ fn file_of(alloc: Global, builder: &Builder) -> Option<MemoryOut>
     matches!(count, Ok(told) if told == length).then_some(out)
 }
 
-/// The file of the archive of one message.
+/// Returns the file of the archive with one message.
 pub fn written(alloc: Global, kind: Kind, key: &[u8]) -> Option<MemoryOut>
     requires some { 0 < length key.now }
     requires short { length key.now ≤ 262144 }
@@ -56,12 +61,12 @@ pub fn written(alloc: Global, kind: Kind, key: &[u8]) -> Option<MemoryOut>
     }
 }
 
-/// The file of the table with nothing in it.
+/// Returns the file of an empty table.
 pub fn written_of_none(alloc: Global) -> Option<MemoryOut> {
     file_of(alloc, &Builder::new(alloc, 0))
 }
 
-/// Whether both are want of memory, or both a count that is too large.
+/// Whether both faults are lack of memory, or both are that there are too many.
 fn is_same(one: BuildFault, other: BuildFault) -> bool {
     match one {
         BuildFault::OutOfMemory => matches!(other, BuildFault::OutOfMemory),
@@ -70,7 +75,8 @@ fn is_same(one: BuildFault, other: BuildFault) -> bool {
     }
 }
 
-/// Whether a call was refused so, and the builder has lost all that it was given: every later call answers that one failed.
+/// Whether a call was refused with this fault, and the builder has lost all that it was given: each later call returns
+/// `Failed`.
 pub fn is_lost(builder: &mut Builder, answer: Result<(), BuildFault>, fault: BuildFault) -> bool
     requires { OnErr answer (builder.old ≡ None) }
 {
@@ -95,7 +101,7 @@ pub fn is_lost(builder: &mut Builder, answer: Result<(), BuildFault>, fault: Bui
     is_refused && has_failed && matches!(written, Err(BuildFault::Failed))
 }
 
-/// What a builder may have one of.
+/// The parts of which a builder may have one each.
 #[derive(Clone, Copy, Debug)]
 enum Part {
     Archive,
@@ -103,7 +109,8 @@ enum Part {
     Key,
 }
 
-/// What a builder answers that has an archive, a message and a key and is given one more of these, where all before was taken.
+/// Returns what a builder with an archive, a message and a key returns when it is given a second one of these. All
+/// before it was taken.
 fn answer_to_second(
     builder: &mut Builder,
     path: &str,
@@ -127,7 +134,7 @@ fn answer_to_second(
     Ok(builder.begin_archive(path))
 }
 
-/// Whether a builder of one archive, one message and one key at most answers one more so.
+/// Whether a builder for at most one archive, one message and one key refuses a second one of this part.
 fn has_too_many(alloc: Global, second: Part) -> bool {
     if !is_path(PATH) {
         return false;
@@ -146,7 +153,8 @@ fn one_more_is_too_many(rt: HostRuntime) {
     }
 }
 
-/// Whether a builder tells that the open message has a key once it has it, and neither of another key nor in the next message.
+/// Whether a builder reports that the open message has a key once it has it, and doesn't report that for another key,
+/// or in the next message.
 fn tells_key(builder: &mut Builder, path: &str) -> Result<bool, BuildFault>
     requires empty { builder.old ≡ Some (empty_draft 2) }
     requires path { IsPath path.now }
@@ -164,7 +172,7 @@ fn tells_key(builder: &mut Builder, path: &str) -> Result<bool, BuildFault>
     Ok([before, behind, of_others, in_next] == [false, true, false, false])
 }
 
-/// Whether a new builder does.
+/// Whether a new builder does that.
 fn tells_what_it_has(alloc: Global) -> bool {
     is_path(PATH) && matches!(tells_key(&mut Builder::new(alloc, 2), PATH), Ok(true))
 }
@@ -174,7 +182,7 @@ fn keys_that_came_are_told(rt: HostRuntime) {
     assert!(rt; tells_what_it_has(rt.alloc()));
 }
 
-/// Whether a file has an id in its first message alone.
+/// Whether in a file only the first message has an id.
 fn has_id(alloc: Global, file: &[u8], id: &[u8]) -> bool {
     match IndexView::open(file) {
         Ok(view) => {
@@ -186,7 +194,7 @@ fn has_id(alloc: Global, file: &[u8], id: &[u8]) -> bool {
     }
 }
 
-/// Whether a key of so many bytes is written and found.
+/// Whether a key with this many bytes is written and found.
 fn is_found(alloc: Global, length: usize) -> Option<bool>
     requires some { 0 < length }
     requires short { length ≤ 262144 }
@@ -196,7 +204,7 @@ fn is_found(alloc: Global, length: usize) -> Option<bool>
     Some(has_id(alloc, file.bytes(), &id))
 }
 
-/// An entry has 15 bytes of a key in itself, and the longest key is as long as a header.
+/// The entry of a key has room for 15 of its bytes, and the longest key is as long as a header.
 #[test]
 fn keys_of_each_length_are_found(rt: HostRuntime) {
     for length in [1usize, 15, 16, 2_048, 2_049, 65_537, 262_144] {

@@ -1,4 +1,4 @@
-//! What the words of a command line say, and the parser's own texts.
+//! What the words of a command line mean, and the parser's own texts.
 
 use mairix_options::{OrMemory, Plan, UsageFault, plan_of, usage_text};
 use std::alloc::{AllocError, Global};
@@ -61,7 +61,8 @@ Examples:
 Manual pages: mairix(1); mairixrc(5), the rcfile; mairix-query(7), queries
 ";
 
-/// Words, and what they plan: the rcfile, then each option, then the patterns. Accepted words have no text of the parser.
+/// Words, and the plan that they are: the rcfile, then each option, then the patterns. For accepted words the parser
+/// has no text.
 const PLANS: [(&str, &str); 4] = [
     ("-f rc -r --once s:hello", "rc raw once: s:hello"),
     ("s:b -r b:a -f rc s:b -- -h --", "rc raw: s:b b:a s:b -h --"),
@@ -72,7 +73,7 @@ const PLANS: [(&str, &str); 4] = [
     ("-frc s:a --verify b:b", "rc verify: s:a b:b"),
 ];
 
-/// Words that are refused, what is told of them, and how the parser's text begins.
+/// Words that are refused, the refusal, and the beginning of the parser's text.
 const REFUSALS: [(&str, &str, &str); 7] = [
     ("-h", "help", HELP),
     ("--help", "help", HELP),
@@ -87,7 +88,7 @@ const REFUSALS: [(&str, &str, &str); 7] = [
     ("-f rc -r -x s:a", "-r and -x exclude each other", ""),
 ];
 
-/// The words of a command line.
+/// Returns the words of a command line.
 fn words(alloc: Global, line: &str) -> Result<Vec<String>, AllocError> {
     let mut words = Vec::new(alloc);
     for word in line.split(' ') {
@@ -96,7 +97,7 @@ fn words(alloc: Global, line: &str) -> Result<Vec<String>, AllocError> {
     Ok(words)
 }
 
-/// What words plan, as a text.
+/// Returns the plan of words as a text.
 fn told_plan(alloc: Global, words: &[String]) -> Result<String, Fail> {
     let plan = plan_of(alloc, words)?;
     let mut told = String::new(alloc);
@@ -136,7 +137,7 @@ fn push_word(told: &mut String, word: &str) -> Result<(), AllocError> {
     told.push_str(word)
 }
 
-/// Whether it is a refusal of which this is told.
+/// Whether the fault is this refusal.
 fn is_refusal(fault: Option<OrMemory<UsageFault>>, refusal: &str) -> bool {
     match fault {
         Some(OrMemory::Refused(fault)) => {
@@ -172,7 +173,7 @@ fn words_are_refused(rt: HostRuntime) -> Result<(), Fail> {
     Ok(())
 }
 
-/// Each allocation is refused in turn.
+/// The gate refuses each allocation in turn.
 #[test]
 fn sweep_plan_of(rt: HostRuntime) {
     let alloc = rt.alloc();

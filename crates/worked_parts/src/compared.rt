@@ -1,4 +1,4 @@
-//! The reader in place beside the second decoder.
+//! The reader in place, compared with the second decoder.
 use crate::index_decoder::{Decoded, DecodedArchive, DecodedKey, DecodedMessage, decode};
 use mail_index::IndexFault::{self, BadDigest, BadLayout, BadMagic, BadVersion, TooShort};
 use mail_index::{IndexView, Key, Keys, Kind, Postings, Record, Section, Steps};
@@ -18,7 +18,7 @@ const KINDS: &[Kind] = &[
     Kind::Text(TextKind::Name),
 ];
 
-/// The message of a record, as it is decoded.
+/// Returns the message of a record, in the form of the decoder.
 fn message_of(record: Record) -> DecodedMessage {
     let place = [record.offset, record.length, record.size];
     let flags = record.flags;
@@ -26,7 +26,7 @@ fn message_of(record: Record) -> DecodedMessage {
     (u64::from(record.archive), place, record.date, marks)
 }
 
-/// Whether just these numbers are given, each in a step.
+/// Whether the list has exactly these numbers, each in one step.
 pub fn have_numbers(mut postings: Postings<'_>, numbers: &[u32], steps: &mut Steps) -> bool {
     let begun = steps.count();
     let mut same = true;
@@ -37,7 +37,7 @@ pub fn have_numbers(mut postings: Postings<'_>, numbers: &[u32], steps: &mut Ste
     is_whole && steps.count().saturating_sub(begun) == numbers.len() as u64
 }
 
-/// Whether a key that was met is the decoded one.
+/// Whether the key is the decoded one.
 fn is_key(met: Option<Key<'_>>, key: &DecodedKey, steps: &mut Steps) -> bool {
     match met {
         Some(met) => {
@@ -48,7 +48,7 @@ fn is_key(met: Option<Key<'_>>, key: &DecodedKey, steps: &mut Steps) -> bool {
     }
 }
 
-/// Whether keys are the decoded ones with a kind's number that begin with a text, met in their order.
+/// Whether the keys are, in order, the decoded ones with this kind's number that begin with a text.
 fn are_keys(
     mut keys: Keys<'_>,
     number: u64,
@@ -65,7 +65,7 @@ fn are_keys(
     same && keys.next().is_none()
 }
 
-/// Whether the keys of a kind are the decoded ones with its number, met in their order, looked up, and among those that begin
+/// Whether the keys of a kind are the decoded ones with its number: in order, looked up, and among those that begin
 /// with the same byte.
 fn has_keys(
     view: &IndexView<'_>,
@@ -129,8 +129,8 @@ fn has_table(alloc: Global, view: &IndexView<'_>, decoded: &Decoded) -> bool {
     same
 }
 
-/// A number for each thing that can be found, by which two of them are compared. Those that a turned bit of a body can bring come
-/// first.
+/// Returns a number for each result of a reader, by which two results are compared. Results that one changed bit in a
+/// body can cause come first.
 pub fn number_of(found: Result<(), IndexFault>) -> usize {
     match found {
         Ok(()) => 0,
@@ -146,12 +146,12 @@ pub fn number_of(found: Result<(), IndexFault>) -> usize {
     }
 }
 
-/// Whether this was found.
+/// Whether this is the result.
 pub fn is_found(found: Option<Result<(), IndexFault>>, wanted: Result<(), IndexFault>) -> bool {
     found.map(number_of) == Some(number_of(wanted))
 }
 
-/// What both readers find: the same table, or the same fault. It is None where they differ.
+/// Returns the result of both readers: the same table, or the same fault. It is None if they differ.
 pub fn found(alloc: Global, bytes: &[u8]) -> Option<Result<(), IndexFault>> {
     match (IndexView::open(bytes), decode(alloc, bytes)) {
         (Ok(view), Ok(decoded)) => has_table(alloc, &view, &decoded).then_some(Ok(())),

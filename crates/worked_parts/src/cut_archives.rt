@@ -1,4 +1,4 @@
-//! Whole archives through devices that give their bytes in pieces, fail, or never end; and callers over any source.
+//! Whole archives through devices that give their bytes in pieces, fail, or never end; and callers for any source.
 ghost use Rattle.std.specs.Prelude.{◌≡◌, ◌-◌, ◌^◌, ◌<◌, None, length, IfOk, IfSome};
 ghost use Rattle.std.specs.List.{sum_by};
 ghost use Rattle.mbox_cutter.specs.Archives.{messages, size};
@@ -15,7 +15,7 @@ const ONE: &[u8] = b"From a@x.org Thu Jan  2 10:00:00 2003\nSubject: Hello\n\nhi
 
 const TOLD: &str = "start 0 38, line 15, line 1, line 3, end 58 19, done 58";
 
-/// How many messages an archive has, and how many bytes their texts have.
+/// The number of an archive's messages, and the number of bytes of their texts.
 #[derive(Clone, Copy)]
 struct Tally {
     count: u64,
@@ -43,7 +43,7 @@ fn tally_of<S: Source>(buffer: Buffer, source: &mut S, most: u64) -> Result<Tall
     }
 }
 
-/// What is told of an archive: its events in words, with the lengths of the lines, and the lines, which are lent one after another.
+/// The events of an archive as a text, with the lengths of the lines; and the lines themselves, one after another.
 #[derive(Drop)]
 struct Told {
     text: String,
@@ -67,7 +67,7 @@ impl Told {
     }
 }
 
-/// Tells the events of an archive, or the fault that ends them.
+/// Writes the events of an archive, and the fault that ends them, if there is one.
 fn tell<S: Source>(cutter: &mut Cutter<'_, S>, told: &mut Told) -> Result<(), AllocError>
     requires { S.failures cutter.old.source.now < 2 ^ 64 - 1 }
 {
@@ -80,7 +80,7 @@ fn tell<S: Source>(cutter: &mut Cutter<'_, S>, told: &mut Told) -> Result<(), Al
     }
 }
 
-/// What is told of a source. It is None where memory is wanting, and so are the answers below.
+/// Returns the events of a source. It is None if memory runs out, and so are the results below.
 fn told_of<S: Source>(alloc: Global, source: &mut S, most: u64) -> Option<Told>
     requires { S.failures source.old < 2 ^ 64 - 1 }
 {
@@ -93,14 +93,14 @@ fn told_of<S: Source>(alloc: Global, source: &mut S, most: u64) -> Option<Told>
     Some(told)
 }
 
-/// Whether this is told of a source.
+/// Whether the events of a source are these.
 fn is_told<S: Source>(alloc: Global, source: &mut S, most: u64, wanted: &str) -> Option<bool>
     requires { S.failures source.old < 2 ^ 64 - 1 }
 {
     Some(told_of(alloc, source, most)?.text.as_str() == wanted)
 }
 
-/// In each line the most bytes that come at a read, the most bytes that are taken, an archive, and what is told of it.
+/// In each line: the most bytes that a read gives, the most bytes that are allowed, an archive, and its events.
 const ARCHIVES: &str = "\
 1 58 ^Subject: Hello||hi|| => start 0 38, line 15, line 1, line 3, end 58 19, done 58
 7 58 ^Subject: Hello||hi|| => start 0 38, line 15, line 1, line 3, end 58 19, done 58
@@ -123,7 +123,7 @@ const ARCHIVES: &str = "\
 4096 1099511627776 ^{65537*a} => start 0 38, line 65536, line 1, end 65575 65537, done 65575
 ";
 
-/// Whether an archive is told as its row says.
+/// Whether the events of an archive are those of its row.
 fn row_is_told(alloc: Global, row: &str) -> Option<bool> {
     let (given, wanted) = row.split_once(" => ")?;
     let (piece, given) = given.split_once(' ')?;
@@ -142,8 +142,8 @@ fn archives_are_told(rt: HostRuntime) {
     }
 }
 
-/// Whether a front of the events is told before a read that fails, or all of them where fewer reads are made. Then all lines but the
-/// closing one are lent.
+/// Whether the events before a read that fails are the first ones of the archive; if fewer reads are made, they are
+/// all, and the lines are all but the closing one.
 fn is_told_up_to(alloc: Global, piece: usize, fail_at: u64, reads: u64) -> Option<bool> {
     let mut source = MemorySource::new(alloc, ONE, piece.max(1), Some(fail_at)).ok()?;
     let told = told_of(alloc, &mut source, 1000)?;
@@ -165,7 +165,7 @@ fn each_read_fails(rt: HostRuntime) {
     }
 }
 
-/// Whether each call behind the fault of an archive that is too long has failed.
+/// Whether each call after the fault of an archive that is too long returns `Failed`.
 fn fails_from_then_on(alloc: Global) -> Option<bool> {
     let mut source = FromRead::new(ONE);
     let mut cutter = Cutter::new(alloc, &mut source, 10).ok()?;
@@ -203,7 +203,7 @@ fn a_source_without_end(rt: HostRuntime) {
     assert!(rt; is_told(rt.alloc(), &mut Feeds, 10, "too long").unwrap_or(false));
 }
 
-/// Whether a cutter counts right with the buffer of a first one.
+/// Whether a cutter with the buffer of an earlier one counts right.
 fn counts_again(alloc: Global, source: &mut MemorySource) -> Option<bool>
     requires { source.old.failures < 2 ^ 64 - 1 }
 {
@@ -220,7 +220,7 @@ fn one_buffer_for_two(rt: HostRuntime) {
     assert!(rt; counts_again(rt.alloc(), &mut source).unwrap_or(false));
 }
 
-/// Whether an output in memory with this room takes just so many bytes.
+/// Whether an output in memory with this room takes exactly this many bytes.
 fn takes(alloc: Global, room: Option<u64>, length: usize) -> bool {
     let mut out = MemoryOut::new(alloc, room);
     let is_sent = send(&mut out, ONE).is_ok();

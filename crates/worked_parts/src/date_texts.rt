@@ -1,11 +1,11 @@
-//! Values from outside, and what no clause says.
+//! Dates from other programs, and properties that no clause states.
 
 use crate::day_ranges::DAY_RANGES;
 use crate::header_dates::HEADER_DATES;
 use crate::rows::has_text;
 use mail_dates::{DateFault, Moment, Range, iso_range, range_of, read_date};
 
-/// Whether the date of a row is read as its second. It is None where the row has no second or no field.
+/// Whether the date of a row is read as its second. It is None if the row has no second or no field.
 fn is_read(row: &str) -> Option<bool> {
     let (second, text) = row.split_once(' ')?;
     let date = match second {
@@ -50,7 +50,7 @@ fn has_range() -> Option<bool> {
     Some(now.second() == NOW && day == DAY_IN_MAY && has_until && !has_other && is_refused)
 }
 
-/// The end of a range in a row, where `-` is none. It is None where the text is neither.
+/// Returns the end of a range in a row, where `-` means no end. It is None if the text is neither.
 fn end_of(text: &str) -> Option<Option<i64>> {
     match text {
         "-" => Some(None),
@@ -58,7 +58,8 @@ fn end_of(text: &str) -> Option<Option<i64>> {
     }
 }
 
-/// Whether the text of a row is read as its range, or refused with its fault. It is None where the row has no such form.
+/// Whether the text of a row is read as its range, or refused with its fault. It is None if the row doesn't have this
+/// form.
 fn is_range(row: &str) -> Option<bool> {
     let (second, rest) = row.split_once(' ')?;
     let (first, rest) = rest.split_once(' ')?;

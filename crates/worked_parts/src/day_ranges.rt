@@ -1,6 +1,7 @@
-//! Ranges of days at a second. The seconds were computed outside.
+//! Ranges of days from a second on. The values were computed by another program.
 
-/// In each line the second, the first and the last second of the range, of which `-` is none, or the text of the fault, and what is read.
+/// In each line: the second, the first and the last second of the range (`-` means none) or the text of the fault, and
+/// the text that is read.
 pub const DAY_RANGES: &str = "\
 1053259200 1053216000 1053302399 0d
 1053259200 1053129600 1053215999 1d

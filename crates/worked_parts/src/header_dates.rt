@@ -1,6 +1,6 @@
-//! Header dates and their seconds, as tools/header_dates.py writes them.
+//! Dates of headers and their seconds, as tools/header_dates.py writes them.
 
-/// In each line a second or `none`, a space, and the field; a line that begins with `#` is a comment.
+/// In each line: a second or `none`, a space, and the field. A line that begins with `#` is a comment.
 pub const HEADER_DATES: &str = "\
 # email.utils and datetime agree
 0 Thu, 1 Jan 1970 00:00:00 +0000

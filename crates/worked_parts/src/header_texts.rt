@@ -1,5 +1,5 @@
-//! One happy path for each call that can want memory, the same with each allocation refused in turn, and the characters of all
-//! bytes.
+//! One successful case for each call that takes memory, the same with each allocation refused in turn, and the
+//! characters of all bytes.
 use header_text::{
     Base64, Charset, Header, Taken, decode, decode_words, message_ids, push_ids, unescape_into,
     unfold,
@@ -23,7 +23,7 @@ const UPPER: [(Charset, &str); 3] = [
     (Charset::Windows1252, WINDOWS_1252),
 ];
 
-/// Whether this text was decoded. It is None where memory is wanting, and so are the answers below.
+/// Whether this text was decoded. It is None if memory runs out, and so are the results below.
 fn is_text(decoded: Result<String, AllocError>, text: &str) -> Option<bool> {
     Some(decoded.ok()?.as_str() == text)
 }
@@ -44,8 +44,8 @@ fn all_bytes_of_single_byte_charsets(rt: HostRuntime) {
     }
 }
 
-/// Whether a line is taken, and ends the header or not; once more where it was refused: a refused line changes nothing, so the same
-/// line again is taken as if it hadn't been refused.
+/// Whether a line is accepted, and ends the header or doesn't. A line that is refused is tried again: a refusal changes
+/// nothing, so the same line is then accepted as if it hadn't been refused.
 fn is_taken(header: &mut Header, line: &[u8], ends: bool) -> bool {
     let answer = match header.push_line(line) {
         Ok(first) => Ok(first),
@@ -73,7 +73,7 @@ fn has_two_lines(alloc: Global, header: &mut Header) -> Option<bool> {
     Some(are_taken && is_only && [field.name, field.body, value.as_slice()] == wanted)
 }
 
-/// Charsets, bytes of them, and their text. Without a charset, the bytes are a value with encoded words.
+/// Charsets, bytes in them, and their text. Without a charset, the bytes are a value with encoded words.
 const TEXTS: [(Option<&[u8]>, &[u8], &str); 4] = [
     (None, b"a =?utf-8?B?w7w=?= b", "a \u{FC} b"),
     (None, b"=?utf-8*en?q?a_b?=", "a b"),
@@ -81,7 +81,7 @@ const TEXTS: [(Option<&[u8]>, &[u8], &str); 4] = [
     (Some(b"utf-8"), b"\xC3", "\u{FFFD}"),
 ];
 
-/// Whether bytes are decoded so.
+/// Whether bytes are decoded to this text.
 fn is_decoded(alloc: Global, charset: Option<&[u8]>, bytes: &[u8], text: &str) -> Option<bool> {
     match charset {
         Some(name) => is_text(decode(alloc, Charset::of(name), bytes), text),
@@ -103,7 +103,7 @@ fn has_ids(alloc: Global) -> Option<bool> {
     Some(as_wanted)
 }
 
-/// Reads base64 in two pieces, and then escapes, whose bytes come one behind the other.
+/// Reads base64 in two pieces, and then escapes. The bytes come one after the other.
 fn push_pieces(bytes: &mut Vec<u8>) -> Result<(), AllocError> {
     let mut reader = Base64::new();
     reader.push(b"ZsO\n", bytes)?;
@@ -118,7 +118,7 @@ fn has_pieces(alloc: Global) -> Option<bool> {
     Some(bytes.as_slice() == b"f\xC3\xBCrA=".as_slice())
 }
 
-/// Asserts that all values are read so. Only in a sweep may memory be wanting.
+/// Asserts that all values are read right. Memory may run out only in a sweep.
 fn check_values(rt: &impl Abort, alloc: Global, sweeps: bool) {
     for (charset, bytes, text) in TEXTS {
         let as_wanted = is_decoded(alloc, charset, bytes, text);

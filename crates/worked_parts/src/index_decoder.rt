@@ -1,6 +1,6 @@
-//! A second decoder of index files, written apart from the one that opens them in place: it copies what it reads into values of
-//! its own, section by section, and stops at the first rule that is broken. Tests compare the two. They have ample memory: where it
-//! is wanting the section that is read counts as broken.
+//! A second decoder of index files, written independently of the one that opens them in place. It copies the file into
+//! values of its own, section by section, and stops at the first rule that is broken. Tests compare the two, with
+//! enough memory: if memory runs out, the section that is read counts as broken.
 use mail_index::IndexFault::{self, BadLayout};
 use mail_index::Section;
 use sha2::{Digest, Sha256};
@@ -10,7 +10,7 @@ use std::str;
 /// The table of an index file.
 #[derive(Drop)]
 pub struct Decoded {
-    /// 1 or 2.
+    /// The version, 1 or 2.
     pub version: u64,
     pub archives: Vec<DecodedArchive>,
     pub messages: Vec<DecodedMessage>,
@@ -21,28 +21,29 @@ pub struct Decoded {
 pub struct DecodedArchive {
     pub path: String,
     pub length: u64,
-    /// None in version 1.
+    /// The digest; None in version 1.
     pub digest: Option<[u8; 32]>,
 }
 
-/// A message: the number of its archive, its offset, length and size, its date, and whether it was seen, replied to and flagged.
+/// A message: the number of its archive, its offset, length and size, its date, and whether it was seen, replied to and
+/// flagged.
 pub type DecodedMessage = (u64, [u64; 3], Option<i64>, [bool; 3]);
 
 #[derive(Drop)]
 pub struct DecodedKey {
-    /// 1 to 9.
+    /// The number of the kind, 1 to 9.
     pub kind: u64,
     pub text: Vec<u8>,
-    /// Where its list begins in the postings.
+    /// The offset in the postings where its list begins.
     pub place: u64,
     pub numbers: Vec<u32>,
 }
 
-/// Bytes that are read from the front.
+/// Bytes that are read from the beginning.
 #[derive(Drop)]
 struct Reader<'a> {
     rest: &'a [u8],
-    /// Whether more was asked for than there was. All that was read since is empty or 0.
+    /// Whether more was to be read than there was. All that was read after that is empty or 0.
     is_short: bool,
 }
 
@@ -54,7 +55,7 @@ impl<'a> Reader<'a> {
         }
     }
 
-    /// The next so many bytes.
+    /// Reads this many bytes.
     fn take(&mut self, count: u64) -> &'a [u8] {
         match self.rest.split_at_checked(count as usize) {
             Some((taken, rest)) => {
@@ -69,7 +70,7 @@ impl<'a> Reader<'a> {
         }
     }
 
-    /// The number in the next so many bytes, at most 8, the highest first.
+    /// Reads a number of this many bytes, at most 8, the highest byte first.
     fn number(&mut self, count: u64) -> u64 {
         let mut number = 0u64;
         for byte in self.take(count) {
@@ -78,13 +79,13 @@ impl<'a> Reader<'a> {
         number
     }
 
-    /// Whether just the bytes that there are were read.
+    /// Whether exactly the bytes that there are were read.
     fn is_at_end(&self) -> bool {
         self.rest.is_empty() && !self.is_short
     }
 }
 
-/// The bytes that the digest is of.
+/// Returns the bytes of which the digest is made.
 fn signed_part(bytes: &[u8]) -> Result<&[u8], IndexFault> {
     if bytes.len() < 80 {
         return Err(IndexFault::TooShort);
@@ -103,7 +104,7 @@ fn signed_part(bytes: &[u8]) -> Result<&[u8], IndexFault> {
     }
 }
 
-/// The sections as the counts cut them.
+/// The sections of a file, cut by the counts.
 #[derive(Clone, Copy)]
 struct Sections<'a> {
     version: u64,
@@ -116,7 +117,7 @@ struct Sections<'a> {
     postings: &'a [u8],
 }
 
-/// The sections, which are all that there is.
+/// Cuts a file into its sections, which must be the whole file.
 fn cut(signed: &[u8]) -> Option<Sections<'_>> {
     let mut file = Reader::new(signed);
     let _magic = file.take(8);
@@ -196,7 +197,8 @@ fn message_of(record: &[u8]) -> Option<DecodedMessage> {
     Some((archive, place, is_dated.then_some(date), marks))
 }
 
-/// Where the message ends, if it lies in its archive, and none of it lies before the least place, of an archive and an offset.
+/// Returns the end of a message. It is None unless the message is in its archive, and doesn't begin before the least
+/// place, which is an archive and an offset.
 fn end_of(archives: &[DecodedArchive], message: DecodedMessage, least: (u64, u64)) -> Option<u64> {
     let (number, [offset, length, size], _, _) = message;
     let archive = archives.get(number as usize)?;
@@ -219,7 +221,7 @@ fn read_messages(
     Some(())
 }
 
-/// Whether a key may stand just behind another one, or be the first.
+/// Whether a key may come directly after another one, or be the first.
 fn may_follow(before: Option<&DecodedKey>, kind: u64, text: &[u8], place: u64) -> bool {
     match before {
         None => place == 0,
@@ -272,7 +274,7 @@ fn read_directory(
     (texts.is_at_end() && keys.is_empty() == sections.postings.is_empty()).then_some(())
 }
 
-/// Reads a list of the differences between numbers, each in groups of seven bits, the lowest one first.
+/// Reads a list of the differences between numbers, each in groups of seven bits, the lowest group first.
 fn read_numbers(list: &[u8], message_count: u64, numbers: &mut Vec<u32>) -> Option<()> {
     let mut next = 0u64;
     let mut difference = 0u64;
@@ -281,10 +283,10 @@ fn read_numbers(list: &[u8], message_count: u64, numbers: &mut Vec<u32>) -> Opti
         let group = u64::from(*byte % 128);
         difference = difference.saturating_add(unit.saturating_mul(group));
         unit = unit.saturating_mul(128);
-        // From 128 on it isn't the last group.
+        // A group from 128 on isn't the last one.
         if *byte < 128 {
             let number = next.saturating_add(difference).saturating_sub(1);
-            // A last group of 0 makes the difference 0 or isn't the shortest form.
+            // If the last group is 0, the difference is 0 or isn't in its shortest form.
             if *byte == 0 || number >= message_count {
                 return None;
             }
@@ -297,7 +299,8 @@ fn read_numbers(list: &[u8], message_count: u64, numbers: &mut Vec<u32>) -> Opti
     (unit == 1 && !numbers.is_empty()).then_some(())
 }
 
-/// Reads the lists of all keys. The last one is the end of the postings, and each of the others ends where the next one begins.
+/// Reads the lists of all keys, beginning with the last. That one goes to the end of the postings, and each other list
+/// ends where the next one begins.
 fn read_postings(sections: &Sections<'_>, keys: &mut [DecodedKey]) -> Option<()> {
     let mut rest = sections.postings;
     for key in keys.iter_mut().rev() {
@@ -322,7 +325,11 @@ fn read_table(
     read_postings(sections, &mut decoded.keys).ok_or(Section::Postings)
 }
 
-/// The table of these bytes, or the first rule that they break.
+/// Returns the table of these bytes.
+///
+/// # Errors
+///
+/// The fault of the first rule that they break.
 pub fn decode(alloc: Global, bytes: &[u8]) -> Result<Decoded, IndexFault> {
     let sections = cut(signed_part(bytes)?).ok_or(BadLayout(Section::Counts))?;
     let mut decoded = Decoded {

@@ -1,4 +1,4 @@
-//! Index files against answers that were worked out by hand, and the reader in place against the second decoder.
+//! Index files against results that were worked out by hand, and the reader in place against the second decoder.
 use crate::builders::{written, written_of_none};
 use crate::compared::{found, is_found, number_of};
 use crate::index_decoder::{Decoded, DecodedArchive, DecodedKey, DecodedMessage, decode};
@@ -10,8 +10,9 @@ use mbox_cutter::MemoryOut;
 use sha2::{Digest, Sha256};
 use std::alloc::Global;
 
-/// The index file of one archive `m.mbox` of 58 bytes, whose one message has the subject `Hello` and the text `hi`, without its
-/// digest. It is of version 1, which isn't written any more: a builder wrote it when that was the only one.
+/// The index file of the archive `m.mbox` of 58 bytes, without its digest. The archive's one message has the subject
+/// `Hello` and the text `hi`. The file is of version 1, which isn't written any more: a builder wrote it when version 1
+/// was the only one.
 const BODY: &[u8] = b"MAIRIX\r\n\
     \0\0\0\x01\0\0\0\x01\0\0\0\x01\0\0\0\x02\0\0\0\0\0\0\0\x12\0\0\0\0\0\0\0\x07\0\0\0\0\0\0\0\x02\
     \0\0\0\0\0\0\0\x3a\0\0\0\x06m.mbox\
@@ -21,16 +22,16 @@ const BODY: &[u8] = b"MAIRIX\r\n\
     hellohi\
     \x01\x01";
 
-/// The digest of that file, from outside.
+/// The digest of that file, computed by another program.
 const DIGEST: &[u8] = b"\xbe\x22\x1b\xc0\x97\xae\xcd\xe7\x1f\x26\x77\x17\xf7\x2e\xdb\xcc\
     \x9d\x3c\x32\x27\x3e\xe3\x56\xa3\x4b\x24\x92\xd5\x7b\x98\xc0\xc3";
 
-/// A digest of that archive, whose bytes are each another one.
+/// A digest of that archive with 32 different bytes.
 pub const ARCHIVE_DIGEST: [u8; 32] = *b"\
     \xe0\xe1\xe2\xe3\xe4\xe5\xe6\xe7\xe8\xe9\xea\xeb\xec\xed\xee\xef\
     \xf0\xf1\xf2\xf3\xf4\xf5\xf6\xf7\xf8\xf9\xfa\xfb\xfc\xfd\xfe\xff";
 
-/// The index file of the same archive with that digest as it is written now, in version 2, without its own digest.
+/// The index file of the same archive with that digest, as written today in version 2, without its own digest.
 pub const NEW_BODY: &[u8] = b"MAIRIX\r\n\
     \0\0\0\x02\0\0\0\x01\0\0\0\x01\0\0\0\x02\0\0\0\0\0\0\0\x32\0\0\0\0\0\0\0\x07\0\0\0\0\0\0\0\x02\
     \0\0\0\0\0\0\0\x3a\0\0\0\x06m.mbox\
@@ -42,7 +43,7 @@ pub const NEW_BODY: &[u8] = b"MAIRIX\r\n\
     hellohi\
     \x01\x01";
 
-/// The digest of that file, from outside.
+/// The digest of that file, computed by another program.
 const NEW_DIGEST: &[u8] = b"\xc1\xb5\x32\xfd\xef\x00\x69\x02\xd2\xeb\x2d\x25\x1c\x05\x04\x45\
     \x3c\x88\x2b\xa1\x8a\xb9\xba\x28\x5b\x6c\x9a\x42\x48\xc1\xd8\x8e";
 
@@ -82,7 +83,7 @@ pub const ONLY: Record = Record {
     },
 };
 
-/// Places in a body, and bytes that are put there.
+/// Offsets in a body, and bytes that are put there.
 type Puts = &'static [(usize, &'static [u8])];
 
 /// An archive: its path, its length and its digest.
@@ -91,7 +92,7 @@ type ArchiveSaid = (&'static str, u64, Option<[u8; 32]>);
 /// A key: its kind, its text and the numbers of its messages.
 type KeySaid = (u64, &'static [u8], &'static [u32]);
 
-/// What a file says, in its order: its version, its archives, its messages, and its keys.
+/// What a file says, in order: its version, its archives, its messages, and its keys.
 type Table = (
     u64,
     &'static [ArchiveSaid],
@@ -133,8 +134,8 @@ const OF_TWO: Table = (
     ],
 );
 
-/// A body, bytes that are put into it in place of as many others, its digest as far as it is known from outside, the bytes of its
-/// file, and what that says.
+/// A body, bytes that replace some of it, the end of its digest that another program has computed, the number of bytes
+/// of its file, and what the file says.
 type Row = (&'static [u8], Puts, &'static [u8], usize, Table);
 
 const TABLES: &[Row] = &[
@@ -146,7 +147,7 @@ const TABLES: &[Row] = &[
     (BODY_OF_TWO, &[], b"", 445, OF_TWO),
 ];
 
-/// Puts bytes from some places on in place of as many others.
+/// Puts bytes at some offsets, in place of those that are there.
 fn put(bytes: &mut [u8], puts: &[(usize, &[u8])]) {
     for (at, new) in puts {
         if let Some((_, rest)) = bytes.split_at_mut_checked(*at)
@@ -157,14 +158,14 @@ fn put(bytes: &mut [u8], puts: &[(usize, &[u8])]) {
     }
 }
 
-/// Turns a bit. They are counted from the lowest one of the first byte on.
+/// Turns a bit. Bits are counted from the lowest one of the first byte on.
 fn turn(bytes: &mut [u8], bit: usize) {
     if let Some(byte) = bytes.get_mut(bit / 8) {
         *byte ^= 1 << (bit % 8);
     }
 }
 
-/// The file of a body with its own digest, into which bytes are put, and some behind it.
+/// Returns the file of a body with its own digest, after bytes were put into the body and some after it.
 fn changed(alloc: Global, body: &[u8], puts: &[(usize, &[u8])], behind: &[u8]) -> Option<Vec<u8>> {
     let mut file = body.to_vec(alloc).ok()?;
     put(&mut file, puts);
@@ -174,7 +175,7 @@ fn changed(alloc: Global, body: &[u8], puts: &[(usize, &[u8])], behind: &[u8]) -
     Some(file)
 }
 
-/// The file of a body.
+/// Returns the file of a body.
 fn signed(alloc: Global, body: &[u8]) -> Option<Vec<u8>> {
     changed(alloc, body, &[], b"")
 }
@@ -204,8 +205,8 @@ fn is_key(key: &DecodedKey, wanted: &KeySaid) -> bool {
     key.kind == kind && key.text.as_slice() == text && key.numbers.as_slice() == numbers
 }
 
-/// Whether a file has its digest, so many bytes, and this table, as both readers find. It is None where memory is wanting, and so are
-/// the answers below.
+/// Whether a file has this digest, this many bytes, and this table, as both readers find it. It is None if memory runs
+/// out, and so are the results below.
 fn is_file_of(alloc: Global, (body, puts, digest, size, table): Row) -> Option<bool> {
     let file = changed(alloc, body, puts, b"")?;
     let has_digest = file.as_slice().ends_with(digest) && file.len() == size;
@@ -230,7 +231,7 @@ fn is_of(alloc: Global, file: Option<MemoryOut>, body: &[u8]) -> Option<bool> {
     Some(file?.bytes() == wanted.as_slice())
 }
 
-/// A builder writes the file of [`NEW_BODY`] and that of nothing.
+/// A builder writes the file of [`NEW_BODY`] and that of no archive.
 #[test]
 fn files_are_written(rt: HostRuntime) {
     let alloc = rt.alloc();
@@ -240,14 +241,15 @@ fn files_are_written(rt: HostRuntime) {
     assert!(rt; is_of(alloc, none, BODY_OF_NONE) == Some(true));
 }
 
-/// What is before and behind the messages of a file with 130 of them.
+/// What comes before and after the messages of a file with 130 of them.
 const FRONT_OF_MANY: &[u8] = b"MAIRIX\r\n\
     \0\0\0\x01\0\0\0\x01\0\0\0\x82\0\0\0\x01\0\0\0\0\0\0\0\x0d\0\0\0\0\0\0\0\x01\0\0\0\0\0\0\0\x03\
     \0\0\0\0\0\0\0\x82\0\0\0\x01m";
 
 const END_OF_MANY: &[u8] = b"\x06\0\0\0\0\0\0\x01\0\0\0\0\0\0\0\0\0\0\0\0\0\0\0\0x\x01\x81\x01";
 
-/// That file, without its digest, of an archive with messages of a byte each, of which the first and the last have a word.
+/// Returns that file, without its digest: an archive with messages of one byte each, of which the first and the last
+/// have a word.
 fn body_of_many(alloc: Global) -> Option<Vec<u8>> {
     let mut body = FRONT_OF_MANY.to_vec(alloc).ok()?;
     let mut record = [0u8; 40];
@@ -261,7 +263,7 @@ fn body_of_many(alloc: Global) -> Option<Vec<u8>> {
     is_whole.then_some(body)
 }
 
-/// What is found of the file of a body with a bit turned, under its own digest. The body stays as it was.
+/// Returns the result for the file of a body with one bit turned, under its own digest. The body is then as before.
 fn found_of_turned(alloc: Global, body: &mut [u8], bit: usize) -> Option<Result<(), IndexFault>> {
     turn(body, bit);
     let file = signed(alloc, body);
@@ -281,7 +283,7 @@ fn is_of_many(alloc: Global, file: &[u8]) -> bool {
     is_read && is_found(found(alloc, file), Ok(()))
 }
 
-/// Whether a long difference is read, and both readers find the same where a bit of its list is turned.
+/// Whether a long difference is read, and both readers find the same if a bit of its list is turned.
 fn is_long_difference_read(alloc: Global) -> Option<bool> {
     let mut body = body_of_many(alloc)?;
     let mut as_wanted = is_of_many(alloc, &signed(alloc, &body)?);
@@ -301,15 +303,15 @@ fn long_differences_are_read(rt: HostRuntime) {
 const EXCHANGED: &[u8] = b"\x06\0\0\0\0\0\0\x02\0\0\0\0\0\0\0\x05\0\0\0\0\0\0\0\x01\
     \x05\0\0\0\0\0\0\x05\0\0\0\0\0\0\0\0\0\0\0\0\0\0\0\0";
 
-/// A difference that isn't in its shortest form, with a byte more in the postings.
+/// A difference that isn't in its shortest form, with one byte more in the postings.
 const LONG_DIFFERENCE: Puts = &[(47, b"\x03"), (161, b"\x01\x81")];
 
-/// The second key, whose kind is Body, made one of Name.
+/// The second key, with the kind Name instead of Body.
 const NAMED: Puts = &[(162, b"\x09")];
 
-/// Bodies, bytes that are put into them in place of as many others, and bytes behind them; and what is found, under their own digest.
+/// Bodies, bytes that replace some of them, and bytes after them; and the result, under their own digest.
 const CHANGED_BODIES: &[(&[u8], Puts, &[u8], Result<(), IndexFault>)] = &[
-    // Version 9, keys exchanged, a difference of 0, a message that there isn't, a byte behind.
+    // Version 9, keys exchanged, a difference of 0, a message that doesn't exist, one more byte at the end.
     (BODY, &[(11, b"\x09")], b"", Err(BadVersion)),
     (BODY, &[(106, EXCHANGED)], b"", Err(BadLayout(Directory))),
     (BODY, &[(161, b"\0\x01")], b"", Err(BadLayout(Postings))),
@@ -325,7 +327,7 @@ const CHANGED_BODIES: &[(&[u8], Puts, &[u8], Result<(), IndexFault>)] = &[
     (NEW_BODY, NAMED, b"", Ok(())),
 ];
 
-/// What is found of the file of a changed body.
+/// Returns the result for the file of a changed body.
 fn found_of_change(
     alloc: Global,
     body: &[u8],
@@ -343,14 +345,14 @@ fn changed_bodies_are_refused(rt: HostRuntime) {
     }
 }
 
-/// What is found of the file of a body with a bit turned, under the digest that it had.
+/// Returns the result for the file of a body with one bit turned, under the digest that it had before.
 fn found_with_turned(alloc: Global, body: &[u8], bit: usize) -> Option<Result<(), IndexFault>> {
     let mut file = signed(alloc, body)?;
     turn(&mut file, bit);
     found(alloc, &file)
 }
 
-/// Bits that are turned in the file of [`BODY`], where it says `MAIRIX`, version 1 and `m.mbox`, and what is found.
+/// Bits that are turned in the file of [`BODY`], in `MAIRIX`, in the version 1 and in `m.mbox`, and the result.
 const CHANGED_FILES: &[(usize, IndexFault)] = &[
     (5, BadMagic),
     (8 * 11 + 3, BadVersion),
@@ -365,7 +367,7 @@ fn changed_files_are_refused(rt: HostRuntime) {
     }
 }
 
-/// The files of both versions, each by its body and its bytes.
+/// The files of both versions, each by its body and its number of bytes.
 const FILES: &[(&[u8], usize)] = &[(BODY, 195), (NEW_BODY, 227)];
 
 #[test]
@@ -383,7 +385,7 @@ fn a_turned_bit_is_refused(rt: HostRuntime) {
     }
 }
 
-/// What is found of so many bytes of the file of a body.
+/// Returns the result for this many bytes of the file of a body.
 fn found_of_front(alloc: Global, body: &[u8], size: usize) -> Option<Result<(), IndexFault>> {
     let mut file = signed(alloc, body)?;
     file.truncate(size);
@@ -401,12 +403,12 @@ fn a_front_is_refused(rt: HostRuntime) {
     }
 }
 
-/// Bytes that are put into a body, and how often each outcome, by its number, is found where one of its bits is turned, under a
-/// right digest.
+/// Bytes that are put into a body, and how often each result comes, by its number, if one of its bits is turned, under
+/// a right digest.
 ///
-/// The counts of one message were made by hand, section by section. In version 2 an archive's digest may have any bits. One fault
-/// more, in the postings and in the archive's name, shows that the first one counts, and few bits mend it. The counts of two
-/// archives come from a third reading of the format, in another language.
+/// The numbers for one message were found by hand, section by section. In version 2 an archive's digest may have any
+/// bits. In rows with a second fault, in the postings and in the archive's name, the first one counts, and few bits
+/// repair it. The numbers for two archives come from a third reader of the format, in another language.
 const TALLIES: &[(&[u8], Puts, [usize; 8])] = &[
     (BODY, &[], [151, 64, 32, 256, 94, 310, 381, 16]),
     (NEW_BODY, &[], [407, 64, 32, 256, 94, 310, 381, 16]),
@@ -415,8 +417,8 @@ const TALLIES: &[(&[u8], Puts, [usize; 8])] = &[
     (BODY_OF_TWO, &[], [576, 64, 32, 256, 163, 793, 1355, 65]),
 ];
 
-/// How often each outcome is found of a body with bytes put into it, where one of its bits is turned, under its own digest. Together
-/// they are as many as the bits if nothing else is found.
+/// Returns how often each result comes for a body with bytes put into it, if one of its bits is turned, under its own
+/// digest. If no other result comes, their sum is the number of bits.
 fn tally(alloc: Global, body: &[u8], puts: Puts) -> Option<[usize; 8]> {
     let mut body = body.to_vec(alloc).ok()?;
     put(&mut body, puts);
@@ -438,8 +440,8 @@ fn turned_bits_under_a_right_digest(rt: HostRuntime) {
     }
 }
 
-/// Files by their bodies and bytes put into these, words that are looked up in them, in how many steps at most, and the message that
-/// has them.
+/// Files by their bodies and the bytes put into these, words that are looked up in them, the most steps of a look-up,
+/// and the message that has the word.
 const LOOKED_UP: &[(&[u8], Puts, (TextKind, &str), u64, Option<u32>)] = &[
     (BODY_OF_NONE, &[], (TextKind::Body, "hi"), 1, None),
     (BODY, &[], (TextKind::Subject, "hello"), 3, Some(0)),
@@ -451,7 +453,7 @@ const LOOKED_UP: &[(&[u8], Puts, (TextKind, &str), u64, Option<u32>)] = &[
     (NEW_BODY, NAMED, (TextKind::Name, "hi"), 3, Some(0)),
 ];
 
-/// Whether a word's look-up takes so many steps at most, and gives just this message or none.
+/// Whether the look-up of a word takes at most this many steps, and finds exactly this message or none.
 fn finds(
     alloc: Global,
     view: &IndexView<'_>,

@@ -1,4 +1,4 @@
-//! Index files that a job makes of archives, against answers that were worked out by hand.
+//! Index files that a job makes of archives, against results that were worked out by hand.
 ghost use Rattle.std.specs.Prelude.{◌<◌};
 
 use crate::rows::bytes_of;
@@ -13,7 +13,7 @@ const HELLO: &str = "^Subject: Hello||hi||";
 
 pub const PATH: &str = "m.mbox";
 
-/// Its index file, with both digests from outside.
+/// The index file of `HELLO`, with both digests computed by another program.
 const FILE: &[u8] = b"MAIRIX\r\n\
     \0\0\0\x02\0\0\0\x01\0\0\0\x01\0\0\0\x02\0\0\0\0\0\0\0\x32\0\0\0\0\0\0\0\x07\0\0\0\0\0\0\0\x02\
     \0\0\0\0\0\0\0\x3a\0\0\0\x06m.mbox\
@@ -27,8 +27,8 @@ const FILE: &[u8] = b"MAIRIX\r\n\
     \x5f\xe7\xac\x60\x10\x5f\x15\x52\xa1\x0f\xe7\x04\x98\xf7\xc4\x44\
     \xed\xa9\x8a\x70\x3c\xd9\xa8\x95\x83\x4b\x2d\x17\xcf\x2b\xc7\x49";
 
-/// A job and what it answers of an archive under the path, which comes in such pieces and fails at such a read. It is None where
-/// memory is wanting.
+/// Returns a job and what it returned for an archive under the path. The archive comes in pieces of this many bytes,
+/// and may fail at a read. It is None if memory runs out.
 fn begun(
     alloc: Global,
     text: &str,
@@ -87,7 +87,7 @@ fn is_of_first(alloc: Global, view: &IndexView<'_>, kind: TextKind, word: &[u8])
     first == Some(0) && postings.next(&mut steps).is_none()
 }
 
-/// Whether in the file in these bytes message 0 alone has this word in its body.
+/// Whether in the index file of these bytes only message 0 has this word in its body.
 pub fn has_body_word(alloc: Global, file: &[u8], word: &str) -> bool {
     match IndexView::open(file) {
         Ok(view) => is_of_first(alloc, &view, TextKind::Body, word.as_bytes()),
@@ -110,7 +110,7 @@ fn a_folded_subject_is_a_key(rt: HostRuntime) {
     assert!(rt; has_folded_subject(rt.alloc()) == Some(true));
 }
 
-/// Whether a job answers that it failed before, whatever comes, and writes nothing. It is None where memory is wanting.
+/// Whether a job returns `Failed` from each call, and writes nothing. It is None if memory runs out.
 pub fn has_failed(alloc: Global, mut job: IndexJob) -> Option<bool> {
     if !is_path(PATH) {
         return None;
@@ -123,7 +123,7 @@ pub fn has_failed(alloc: Global, mut job: IndexJob) -> Option<bool> {
     Some(are_refused && out.bytes().is_empty())
 }
 
-/// Whether a job gives an archive this fault, and has failed then. It is None where memory is wanting.
+/// Whether a job refuses an archive with this fault, and has failed then. It is None if memory runs out.
 fn is_lost(alloc: Global, text: &str, fail_at: Option<u64>, fault: &str) -> Option<bool> {
     match begun(alloc, text, 7, fail_at)? {
         (job, Err(JobFault::Cut(told))) => {
@@ -146,7 +146,7 @@ fn nothing_goes_on_after_a_fault(rt: HostRuntime) {
     }
 }
 
-/// Whether an output with so much room takes just so much of the file. It is None where memory is wanting.
+/// Whether an output with this much room takes exactly this much of the file. It is None if memory runs out.
 fn is_front(alloc: Global, room: usize) -> Option<bool> {
     let (job, answer) = begun(alloc, HELLO, 7, None)?;
     let mut out = MemoryOut::new(alloc, Some(room as u64));
@@ -156,7 +156,7 @@ fn is_front(alloc: Global, room: usize) -> Option<bool> {
     Some(is_refused && out.bytes() == front)
 }
 
-/// An output with room for less than the file takes just so much of it.
+/// An output with less room than the file takes as many bytes as it has room for.
 #[test]
 fn a_failed_output_leaves_a_front(rt: HostRuntime) {
     for room in 0..FILE.len() {

@@ -1,6 +1,6 @@
 //! Calls of which each allocation is refused in turn: the gate runs these tests with a library that refuses the first
-//! allocation, then the second, and so on. Each call answers in full, or its own want of memory with what that leaves. Where a
-//! fixture has no memory the test ends well.
+//! allocation, then the second, and so on. Each call returns its whole result, or reports lack of memory and leaves
+//! what it promises. If there is no memory for a fixture, the test succeeds.
 use crate::index_jobs::{PATH, has_body_word, has_failed};
 use crate::rows::bytes_of;
 use index_job::{IndexJob, JobFault};
@@ -8,8 +8,8 @@ use mail_index::is_path;
 use mbox_cutter::{MemoryOut, MemorySource};
 use std::alloc::Global;
 
-/// Whether an archive with one message, that has this word in its body, is indexed into a file of so many bytes, or memory is told to
-/// be wanting. A job that has wanted memory has failed. It is None where a fixture has no memory.
+/// Whether an archive with one message, which has this word in its body, is indexed into a file of this many bytes, or
+/// lack of memory is reported. A job that has reported it has failed. It is None if there is no memory for a fixture.
 fn is_indexed_or_wanting(alloc: Global, text: &str, word: &str, size: u64) -> Option<bool> {
     if !is_path(PATH) {
         return Some(false);
@@ -27,7 +27,7 @@ fn is_indexed_or_wanting(alloc: Global, text: &str, word: &str, size: u64) -> Op
     }
 }
 
-/// Whether a job writes so many bytes of an index with this word, or the output has no memory.
+/// Whether a job writes this many bytes of an index with this word, or the output has no memory.
 fn is_written_or_wanting(alloc: Global, job: IndexJob, word: &str, size: u64) -> bool {
     let mut out = MemoryOut::new(alloc, None);
     match job.finish(&mut out) {

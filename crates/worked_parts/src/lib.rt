@@ -1,5 +1,5 @@
-//! Tests of the parts of a run: what is read (archives, headers, words, dates, the texts of messages, queries, command lines and rcfiles), and index
-//! files with the jobs that make them. It has no code of its own.
+//! Tests of the parts of a run. They cover what is read (archives, headers, words, dates, the texts of messages,
+//! queries, command lines and rcfiles), and index files with the jobs that make them. The crate has only tests.
 #![tactic(auto)]
 
 #[cfg(test)]

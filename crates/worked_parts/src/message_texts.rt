@@ -1,4 +1,4 @@
-//! The texts of a message, and what its header says beside them, read by themselves.
+//! The texts of a message, and what its header says besides them, read without an index.
 ghost use Rattle.std.specs.Prelude.{◌-◌, ◌^◌, ◌<◌};
 
 use crate::rows::bytes_of;
@@ -12,9 +12,9 @@ use std::process::Abort;
 /// More texts than any message has.
 const ALL: usize = usize::MAX;
 
-/// In each line how many texts are taken before one is refused, the archive of a message, and what is told of it: its texts, those
-/// behind `end` where it ends, and then `none` if it says nothing of itself, or its only id, or `other`. Where it has failed it tells
-/// why, and after how many lines.
+/// In each line: the number of texts that are taken before one is refused, the archive of a message, and the outcome.
+/// The outcome is the message's texts, with those given at its end after `end`, and then what it says of itself: `none`
+/// if that is nothing, its only id, or `other`. If the reader failed, it is the fault, and after how many lines.
 const MESSAGES: &str = "\
 # A fault comes once, and then each call has failed, which gives the sink nothing.
 0 ^Subject: a||b| => end, text refused: refused after 1
@@ -69,20 +69,21 @@ all ^Content-Transfer-Encoding: quoted-printable||{16384*a=41}| => Body [{16384*
 all ^Content-Transfer-Encoding: base64||{16384*YWFh}| => end, Body [{16384*aaa}], none
 ";
 
-/// A sink that tells each text that it takes, with its kind. It refuses one where it has no room, and none after that.
+/// A sink that writes each text that it takes, with its kind. It refuses a text if it has no room, and takes none after
+/// that.
 #[derive(Drop)]
 struct Told {
     told: String,
     room: usize,
-    /// How many calls were answered in full.
+    /// How many calls have succeeded.
     taken: usize,
-    /// The first fault, where each call behind it has failed, or Failed.
+    /// The first fault; or `Failed` if a call after it returned anything but `Failed`.
     fault: Option<TextFault>,
-    /// The message was read to its end.
+    /// Whether the message was read to its end.
     is_read: bool,
 }
 
-/// The name of a kind.
+/// Returns the name of a kind.
 fn name_of(kind: TextKind) -> &'static str {
     match kind {
         TextKind::To => "To",
@@ -113,7 +114,7 @@ impl TextSink for Told {
 }
 
 impl Told {
-    /// A sink with so much room, which is told nothing yet.
+    /// Returns a sink with this much room, which has no text yet.
     fn new(alloc: Global, room: usize) -> Told {
         Told {
             told: String::new(alloc),
@@ -124,7 +125,7 @@ impl Told {
         }
     }
 
-    /// Notes what a call has answered.
+    /// Notes the result of a call.
     fn note(&mut self, answer: Result<(), TextFault>) {
         match (self.fault, answer) {
             (None, Ok(())) => self.taken = self.taken.saturating_add(1),
@@ -134,7 +135,8 @@ impl Told {
         }
     }
 
-    /// Whether this is all that is told of a message that has ended. It is None where memory is wanting, and so are the answers below.
+    /// Whether this is the whole outcome of a message that has ended. It is None if memory runs out, and so are the
+    /// results below.
     fn tells(&mut self, ended: &Result<Facts, TextFault>, wanted: &[u8]) -> Option<bool> {
         let (answer, facts) = match ended {
             Ok(facts) => (Ok(()), told_of_facts(facts)),
@@ -153,7 +155,7 @@ impl Told {
     }
 }
 
-/// What a message says of itself.
+/// Returns what a message says of itself.
 fn told_of_facts(facts: &Facts) -> &'static str {
     let flags = facts.flags;
     let is_marked = flags.seen || flags.replied || flags.flagged || facts.date_text.is_some();
@@ -193,10 +195,10 @@ fn give_lines<S: Source>(
     }
 }
 
-/// How many texts are taken, an archive, and what is told of its message.
+/// How many texts are taken, an archive, and the outcome of its message.
 type Row<'a> = (usize, &'a [u8], &'a [u8]);
 
-/// Whether a new reader tells of a message what its row says.
+/// Whether a new reader gives the outcome of a row.
 fn is_told(alloc: Global, row: Row<'_>) -> Option<bool> {
     let (room, archive, wanted) = row;
     let mut reader = MessageText::new(alloc).ok()?;
@@ -206,7 +208,7 @@ fn is_told(alloc: Global, row: Row<'_>) -> Option<bool> {
     sink.tells(&ended, wanted)
 }
 
-/// Whether a reader that has read other messages tells it.
+/// Whether a reader that has read other messages gives it.
 fn is_told_again(alloc: Global, row: Row<'_>, reader: &mut MessageText) -> Option<bool> {
     let (room, archive, wanted) = row;
     let mut sink = Told::new(alloc, room);
@@ -216,7 +218,7 @@ fn is_told_again(alloc: Global, row: Row<'_>, reader: &mut MessageText) -> Optio
     sink.tells(&ended, wanted)
 }
 
-/// Whether both tell what a line of the table says.
+/// Whether both give the outcome of a line of the table.
 fn are_told(alloc: Global, line: &str, reader: &mut MessageText) -> Option<bool> {
     let (given, wanted) = line.split_once(" => ")?;
     let (room, archive) = given.split_once(' ')?;
@@ -228,7 +230,7 @@ fn are_told(alloc: Global, line: &str, reader: &mut MessageText) -> Option<bool>
     Some(is_told_again(alloc, row, reader).unwrap_or(false) && is_new)
 }
 
-/// Nothing of one message is left where the next begins, also where a reader has failed.
+/// Nothing of one message is left when the next one begins, even if a reader has failed.
 #[test]
 fn one_reader_reads_many_messages(rt: HostRuntime) {
     let mut reader = MessageText::new(rt.alloc()).expect(&rt, "a reader");
@@ -244,7 +246,8 @@ fn read_all(rt: &impl Abort, alloc: Global, reader: &mut MessageText) {
     }
 }
 
-/// The gate refuses each allocation of this test in turn. The message is read in full, or tells that memory is wanting.
+/// The gate refuses each allocation of this test in turn. The message is read as a whole, or lack of memory is
+/// reported.
 #[test]
 fn sweep_message_text(rt: HostRuntime) {
     let archive = b"From a@x.org Thu Jan  2 10:00:00 2003\nMessage-ID: <a@x>\nSubject: lunch\n\

@@ -1,4 +1,4 @@
-//! What is printed of refused words and rcfiles.
+//! What is printed for refused words and rcfiles.
 
 use crate::rows::has_text;
 use mairix_options::{Name, RcFault, UsageFault};

@@ -1,13 +1,14 @@
-//! Mairix patterns, and what is read of them.
+//! Mairix patterns, and the queries that are read from them.
 
 use crate::reading::read_patterns;
 use crate::told::is_told;
 use std::alloc::Global;
 
-/// How many rows the table has.
+/// The number of rows of the table.
 const COUNT: usize = 240;
 
-/// A row is `PATTERN, PATTERN => TOLD`, where what is told is as [`is_told`] says. Their answers are those of a second reader.
+/// The rows have the form `PATTERN, PATTERN => QUERY`, with the query as [`is_told`] reads it. The queries were found
+/// by a second reader.
 const PATTERNS: &str = "\
 F:-rs, s:one/GRÜSSE, d:mar => all(all(flag -r, flag s), either(word s one, word s grüsse), date 1046476800 1049155199)
  => query item 1: no pattern
@@ -257,7 +258,7 @@ report => word tcfsb report
 tcfsban:x => word tcfsbn x
 ";
 
-/// Whether patterns are read as their row tells. It is None where memory is wanting before they are read.
+/// Whether patterns are read as the query of their row. It is None if memory runs out before they are read.
 fn row_is_told(alloc: Global, row: &str) -> Option<bool> {
     let (text, told) = row.split_once(" => ")?;
     Some(is_told(&read_patterns(alloc, text)?, told))

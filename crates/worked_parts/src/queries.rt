@@ -11,7 +11,7 @@ enum Wanted {
     UsesNames(bool),
 }
 
-/// Patterns, which `, ` parts, and what their query says.
+/// Patterns, separated by `, `, and what their query says.
 const PATTERNS: [(&str, Wanted); 5] = [
     ("F:-rs, s:one/GRÜSSE, d:mar", Wanted::Depth(3)),
     ("F:s, n:report", Wanted::UsesNames(true)),
@@ -29,7 +29,7 @@ const BOOLEANS: [(&str, Wanted); 5] = [
     ("report", Wanted::UsesNames(false)),
 ];
 
-/// Thirty parentheses in one another, which is as many as a text may have.
+/// Thirty parentheses, one inside another, which is the most that a text may have.
 const DEEPEST: &str = "\
     a or b (a or b (a or b (a or b (a or b (a or b (a or b (a or b (a or b (a or b (\
     a or b (a or b (a or b (a or b (a or b (a or b (a or b (a or b (a or b (a or b (\

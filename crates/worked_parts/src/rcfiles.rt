@@ -23,7 +23,7 @@ fn an_rcfile_is_accepted(rt: HostRuntime) -> Result<(), Fail> {
     Ok(())
 }
 
-/// Each allocation is refused in turn.
+/// The gate refuses each allocation in turn.
 #[test]
 fn sweep_read_rc(rt: HostRuntime) {
     let as_wanted = match read_rc(rt.alloc(), b"mbox=a:b\nmbox=c\ndatabase=d\nmfolder=f\n") {

@@ -1,4 +1,4 @@
-//! What is read of texts, on one day.
+//! The queries that are read from texts, on one day.
 
 use mail_dates::Moment;
 use mail_query::{Query, QueryFault, read_boolean, read_mairix};
@@ -7,7 +7,7 @@ use std::alloc::Global;
 /// Noon of 18 May 2003, UTC.
 const NOW: i64 = 1_053_259_200;
 
-/// What is read of patterns, which `, ` parts. It is None where memory is wanting before they are read.
+/// Returns what is read from patterns, which are separated by `, `. It is None if memory runs out before they are read.
 pub fn read_patterns(alloc: Global, text: &str) -> Option<Result<Query, QueryFault>> {
     let now = Moment::new(NOW)?;
     let mut patterns = Vec::new(alloc);

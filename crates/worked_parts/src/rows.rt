@@ -1,4 +1,4 @@
-//! Archives and answers as the lines of tables have them.
+//! Archives and results as the lines of tables have them.
 
 use std::alloc::{AllocError, Global};
 use std::fmt::{Display, InlineText};
@@ -6,8 +6,8 @@ use std::fmt::{Display, InlineText};
 /// The line at which a message starts.
 const SEPARATOR: &[u8] = b"From a@x.org Thu Jan  2 10:00:00 2003\n";
 
-/// The bytes of a text, where `^` stands for the line at which a message starts, `|` for LF, `~` for the byte FC, which is `ü` in
-/// ISO 8859-1, and `{3*ab}` for `ababab`. It is None where memory is wanting.
+/// Returns the bytes of a text, in which `^` means the line at which a message starts, `|` LF, `~` the byte FC, which
+/// is `ü` in ISO 8859-1, and `{3*ab}` means `ababab`. It is None if memory runs out.
 pub fn bytes_of(alloc: Global, text: &str) -> Option<Vec<u8>> {
     let mut bytes = Vec::new(alloc);
     for piece in text.split('{') {

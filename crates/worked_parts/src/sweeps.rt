@@ -1,5 +1,6 @@
-//! A builder of which each allocation is refused in turn: the gate runs these tests with a library that refuses the first
-//! allocation, then the second, and so on. Where a call is refused it answers want of memory, and every later call that it failed.
+//! A builder of which each allocation is refused in turn: the gate runs these tests with a library that refuses the
+//! first allocation, then the second, and so on. A call that is refused reports lack of memory, and each later call
+//! returns `Failed`.
 ghost use Rattle.std.specs.Prelude.{IfSome};
 ghost use Rattle.mail_index.specs.Builders.{IsBetweenArchives};
 
@@ -11,10 +12,11 @@ use std::alloc::Global;
 /// A key that has memory of its own.
 const LONG_ID: &[u8] = b"an.id.of.more.than.15.bytes@x.org";
 
-/// The bytes of an index file of an archive at [`PATH`] with a message that has two keys, that one and one of five bytes.
+/// The number of bytes of an index file of an archive at [`PATH`] with a message that has two keys, this one and one of
+/// five bytes.
 const SIZE: u64 = 80 + 50 + 40 + 2 * 24 + 38 + 2;
 
-/// Whether a builder writes so many bytes.
+/// Whether a builder writes this many bytes.
 fn has_size(builder: &Builder) -> bool
     requires phase { IfSome builder.now IsBetweenArchives }
 {
@@ -22,7 +24,8 @@ fn has_size(builder: &Builder) -> bool
     matches!(builder.write(&mut out), Ok(SIZE)) && out.bytes == SIZE
 }
 
-/// Whether the archive is built, or the call that is refused leaves nothing. Where it is built it is also written, if that is asked.
+/// Whether the archive is built, or the call that is refused leaves nothing. If it is built and `writes` is true, it is
+/// also written.
 fn is_built_or_lost(alloc: Global, writes: bool) -> bool {
     if !is_path(PATH) {
         return false;
@@ -40,7 +43,7 @@ fn sweep_builder(rt: HostRuntime) {
     assert!(rt; is_built_or_lost(rt.alloc(), false));
 }
 
-/// Writing takes no memory, so it meets no refusal of its own.
+/// Writing takes no memory, so no allocation of it is refused.
 #[test]
 fn sweep_builder_takes_no_more(rt: HostRuntime) {
     assert!(rt; is_built_or_lost(rt.alloc(), true));

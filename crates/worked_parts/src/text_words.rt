@@ -1,4 +1,4 @@
-//! Calls with ample memory, a caller's loop, and texts on which a reader must not start over.
+//! Calls with enough memory, a caller's loop, and texts on which a reader must not start over.
 ghost use Rattle.std.specs.Prelude.{◌≡◌, string_bytes, IfOk};
 ghost use Rattle.std.specs.List.{concat};
 ghost use Rattle.mail_words.specs.Words.{words};
@@ -7,7 +7,7 @@ use crate::rows::bytes_of;
 use mail_words::{Words, fold, fold_ascii, fold_onto, is_one_word, is_part_of_word};
 use std::alloc::{AllocError, Global};
 
-/// The words of a text, one behind the other.
+/// Returns the words of a text, one after the other.
 fn joined(alloc: Global, text: &str) -> Result<String, AllocError>
     ensures { IfOk result (λ all. string_bytes all ≡ concat (words text.now)) }
 {
@@ -38,7 +38,8 @@ fn folds_to(alloc: Global, word: &str, folded: &str) -> Option<bool> {
     Some(fold(alloc, word).ok()?.as_str() == folded)
 }
 
-/// Whether words are folded behind what a text has, and one of ASCII alone is folded whole, in the place of what stands there.
+/// Whether words are folded after the text that is there, and a word of ASCII only is folded whole, in place of the
+/// text that is there.
 fn folds_all(folded: &mut String) -> Result<bool, AllocError> {
     fold_onto("ΣΑΣ", folded)?;
     fold_onto("E-MAIL", folded)?;
@@ -67,7 +68,7 @@ fn pieces_are_told(rt: HostRuntime) {
     assert!(rt; is_one && is_part_of_word("e-mail-") && !is_part_of_word(""));
 }
 
-/// Whether the text of a row has so many words.
+/// Whether the text of a row has this many words.
 fn has_words(alloc: Global, row: &str, count: u32) -> Option<bool> {
     let bytes = bytes_of(alloc, row)?;
     Some(word_count(str::from_utf8(&bytes).ok()?) == count)

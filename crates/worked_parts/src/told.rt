@@ -1,14 +1,14 @@
-//! What is told of a query, in a line.
+//! A query as a line of text.
 //!
-//! A query is `any`, `word KINDS TEXT`, `part KINDS TEXT`, `prefix KINDS TEXT`, `date FROM UNTIL` in seconds, `size LOW HIGH`,
-//! `flag s` or `flag -s` by its letter, `not QUERY`, `all(QUERY, QUERY)` or `either(QUERY, QUERY)`. A bound that isn't there is `-`. Kinds
-//! are as [`kinds_of`] reads them. A refusal is told as it is printed.
+//! A query is `any`, `word KINDS TEXT`, `part KINDS TEXT`, `prefix KINDS TEXT`, `date FROM UNTIL` in seconds, `size LOW
+//! HIGH`, `flag s` or `flag -s` by its letter, `not QUERY`, `all(QUERY, QUERY)` or `either(QUERY, QUERY)`. A bound that
+//! is missing is `-`. [`kinds_of`] reads the kinds. A refusal is its printed text.
 
 use mail_query::{Kinds, Node, Query, QueryFault};
 use mail_words::Flag;
 use std::fmt::{Display, InlineText};
 
-/// Whether this is what is told of a reader's answer.
+/// Whether the result of a reader is that of the line.
 pub fn is_told(answer: &Result<Query, QueryFault>, told: &str) -> bool {
     match answer {
         Ok(query) => behind_node(told, query.root()) == Some(""),
@@ -19,7 +19,7 @@ pub fn is_told(answer: &Result<Query, QueryFault>, told: &str) -> bool {
     }
 }
 
-/// What stands behind a query, where the line begins with what is told of it.
+/// Returns what follows a query in the line, if the line begins with this query.
 fn behind_node<'a>(told: &'a str, node: &Node) -> Option<&'a str> {
     match node {
         Node::Any => told.strip_prefix("any"),
@@ -58,7 +58,8 @@ fn behind_sought<'a>(told: &'a str, name: &str, kinds: Kinds, text: &str) -> Opt
     }
 }
 
-/// The kinds of letters: `h` is the blind copies', `m` the own id's, and each other one is the kind's first.
+/// Returns the kinds of some letters: `h` means Bcc, `m` the message's own id, and each other letter the kind that
+/// begins with it.
 fn kinds_of(letters: &str) -> Option<Kinds> {
     let mut kinds = Kinds::NONE;
     for letter in letters.as_bytes() {

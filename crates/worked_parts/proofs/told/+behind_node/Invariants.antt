@@ -5,6 +5,6 @@ use Rattle.worked_parts.proofs.told.+behind_node.Given as goal
 abbrev pub decreases-behind_node : goal.decreases-behind_node
 decreases-behind_node l = goal.size-behind_node l
 
--- the line's rest and the separator are text
+-- the rest of the line and the separator are text
 abbrev pub invariant-loop-member : goal.invariant-loop-member
 invariant-loop-member l = shadow (Utf8 l.rest) × shadow (Utf8 l.separator)
