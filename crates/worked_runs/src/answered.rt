@@ -13,15 +13,15 @@ use std::alloc::Global;
 /// Noon of 18 May 2003, UTC.
 pub const NOW: i64 = 1_053_259_200;
 
-/// The most archives that are held.
+/// The most archives of a test.
 const MOST: u32 = 20;
 
 /// The line at which a message of the rows starts.
 const SEPARATOR: &[u8] = b"From a@x.org Thu Jan  2 10:00:00 2003\n";
 
-/// The index of one archive m.mbox with two messages. The first has the subject "hello", the text "hi" and the own id 1@x; it has 19
-/// bytes of text and no date. The second has the subject "hello re", the text "high", the own id 2@x and the link id 1@x; it has 30
-/// bytes of text and the second 1000, and was seen.
+/// The index of one archive m.mbox with two messages. The first has the subject "hello", the text "hi" and its own id
+/// 1@x; it has 19 bytes of text and no date. The second has the subject "hello re", the text "high", its own id 2@x and
+/// the link id 1@x; it has 30 bytes of text and the second 1000, and was seen.
 pub const INDEX: &[u8] = b"MAIRIX\r\n\
     \0\0\0\x01\0\0\0\x01\0\0\0\x02\0\0\0\x07\0\0\0\0\0\0\0\x12\0\0\0\0\0\0\0\x16\0\0\0\0\0\0\0\x09\
     \0\0\0\0\0\0\0\x78\0\0\0\x06m.mbox\
@@ -39,29 +39,31 @@ pub const INDEX: &[u8] = b"MAIRIX\r\n\
     \xdd\x4b\xd8\x71\x2e\x1b\xc8\xe3\xcd\x73\xfe\xe3\x6c\xcc\xa0\xbc\
     \x0d\x9a\x70\xf8\x9d\x73\xe3\x6c\x84\0\x4f\x59\xad\xa2\x34\xb4";
 
-/// The archive of that index: a message of 58 bytes, whose last line ends in LF, and one of 62, whose last line has none.
+/// The archive of that index: a message of 58 bytes, whose last line ends in LF, and one of 62, whose last line
+/// doesn't.
 pub const ARCHIVE: &[u8] = b"From a\nSubject: =?utf-8?q?h=65llo?=\nTo: x@y\n\nhi to us all\n\
     From b\nSUBJECT: hello\n re\tno\nSubject: other\n\nSubject: highways";
 
-/// An archive of two messages, each with a subject and a body of its own: nine keys.
+/// An archive of two messages, each with its own subject and body: nine keys.
 pub const TWO_MESSAGES: &str =
     "^Subject: one||a||From here on we go||From - Sat Jan  4 12:00:00 2003|Subject: two||b||";
 
-/// A message that refers to another, which is in no archive.
+/// A message that refers to another one, which is in no archive.
 pub const COUSIN: (&str, &str) = ("a.mbox", "^Message-ID: <1@x>|References: <0@x>||hi||");
 
-/// A message that refers to the same one.
+/// Another message that refers to the same one.
 pub const OTHER_COUSIN: (&str, &str) = ("b.mbox", "^Message-ID: <2@x>|References: <0@x>||ho||");
 
 pub const COUSINS: [(&str, &str); 2] = [COUSIN, OTHER_COUSIN];
 
-/// Their answers as an mbox and in the raw form.
+/// The answer of both messages as an mbox and in the raw form.
 pub const BOTH_COUSINS: &str =
     "^Message-ID: <1@x>|References: <0@x>||hi||^Message-ID: <2@x>|References: <0@x>||ho||";
 
 pub const RAW_COUSINS: &str = "0 79 a.mbox|0 79 b.mbox|";
 
-/// A text, where `^` stands for the separator line and `|` for LF. It is None where memory is wanting, and so are those below.
+/// Returns the bytes of a text, in which `^` means the separator line and `|` LF. It is None if memory runs out, and so
+/// are the results below.
 pub fn text_of(alloc: Global, text: &str) -> Option<Vec<u8>> {
     let mut bytes = Vec::new(alloc);
     let mut is_whole = true;
@@ -76,7 +78,7 @@ pub fn text_of(alloc: Global, text: &str) -> Option<Vec<u8>> {
     is_whole.then_some(bytes)
 }
 
-/// Gives a job an archive by its path and text. It is None also where the archive is refused.
+/// Gives a job an archive by its path and text. It is None also if the archive is refused.
 fn index_archive(alloc: Global, job: &mut IndexJob, path: &str, text: &str) -> Option<u64> {
     if !is_path(path) {
         return None;
@@ -86,7 +88,7 @@ fn index_archive(alloc: Global, job: &mut IndexJob, path: &str, text: &str) -> O
     job.archive(path, &mut source).ok()
 }
 
-/// The index file of archives, each given by its path and text. It is None also where one of them is refused.
+/// Returns the index file of archives, each given by its path and text. It is None also if one of them is refused.
 pub fn indexed(alloc: Global, archives: &[(&str, &str)]) -> Option<Vec<u8>> {
     let mut job = IndexJob::new(alloc).ok()?;
     let mut are_indexed = true;
@@ -100,7 +102,7 @@ pub fn indexed(alloc: Global, archives: &[(&str, &str)]) -> Option<Vec<u8>> {
     }
 }
 
-/// Adds an archive of this text, if fewer than the most are held.
+/// Adds an archive with this text, if there are fewer than the most.
 fn hold(alloc: Global, held: &mut MemoryArchives, text: &str) -> Option<()> {
     if held.count() >= MOST {
         return None;
@@ -108,7 +110,7 @@ fn hold(alloc: Global, held: &mut MemoryArchives, text: &str) -> Option<()> {
     held.add(&text_of(alloc, text)?).ok()
 }
 
-/// The archives of these texts, which are at most so many.
+/// Returns the archives with these texts, if they aren't more than the most.
 pub fn held(alloc: Global, archives: &[(&str, &str)]) -> Option<MemoryArchives> {
     let mut held = MemoryArchives::new(alloc);
     let mut are_held = true;
@@ -118,14 +120,14 @@ pub fn held(alloc: Global, archives: &[(&str, &str)]) -> Option<MemoryArchives> 
     are_held.then_some(held)
 }
 
-/// What a pattern asks; None also where it is refused.
+/// Returns the query of a pattern. It is None also if the pattern is refused.
 pub fn query_of(alloc: Global, pattern: &str) -> Option<Query> {
     let now = Moment::new(NOW)?;
     let word = String::from_str(alloc, pattern).ok()?;
     read_mairix(alloc, &[word], now).ok()
 }
 
-/// The index of a file, and what a pattern asks of it; None also where one of them is refused.
+/// Returns the index of a file, and the query of a pattern. It is None also if one of them is refused.
 pub fn asked<'a>(alloc: Global, file: &'a [u8], pattern: &str) -> Option<(IndexView<'a>, Query)> {
     match IndexView::open(file) {
         Ok(index) => Some((index, query_of(alloc, pattern)?)),
@@ -133,11 +135,11 @@ pub fn asked<'a>(alloc: Global, file: &'a [u8], pattern: &str) -> Option<(IndexV
     }
 }
 
-/// What an answer tells, and what it has written.
+/// The result of an answer, and what it has written.
 pub type Told = (Result<u64, AnswerFault>, MemoryOut);
 
-/// What an answer from an index file over archives tells, which goes to an output. It is to a pattern, with threads or without, in a
-/// form.
+/// Writes the answer from an index file over archives to an output: for a pattern, with threads or without, in a form.
+/// It is None also if the file or the pattern is refused.
 pub fn told_to<A: Archives, O: Out>(
     alloc: Global,
     file: &[u8],
@@ -153,7 +155,7 @@ pub fn told_to<A: Archives, O: Out>(
     Some(answer(alloc, &index, &query, threads, format, archives, out))
 }
 
-/// What such an answer tells and writes, into so much room.
+/// Returns the result of such an answer, and what it writes into this much room.
 pub fn told<A: Archives>(
     alloc: Global,
     file: &[u8],
@@ -168,8 +170,8 @@ pub fn told<A: Archives>(
     Some((told, out))
 }
 
-/// What an answer by the index of some archives tells and writes, into so much room, over archives of which this call fails, and none
-/// where it is 0.
+/// Returns the result of an answer by the index of some archives, and what it writes into this much room. The archives
+/// are others, of which this call fails, or none if it is 0.
 pub fn told_of(
     alloc: Global,
     (of_index, archives): (&[(&str, &str)], &[(&str, &str)]),
@@ -182,7 +184,7 @@ pub fn told_of(
     told(alloc, &file, search, &mut archives, room)
 }
 
-/// Whether an answer of so many messages is whole.
+/// Whether an answer is this whole text, with this many messages.
 pub fn is_whole((told, sent): &Told, messages: u64, whole: &[u8]) -> bool {
     matches!(told, Ok(count) if *count == messages) && sent.bytes() == whole
 }
@@ -196,7 +198,7 @@ pub fn is_same(one: AnswerFaultKind, other: AnswerFaultKind) -> bool {
     }
 }
 
-/// Whether an answer failed so, with a front of the text sent and counted.
+/// Whether an answer failed with this fault, and has sent the first bytes of the text, as many as it reports.
 pub fn is_front((told, out): &Told, kind: AnswerFaultKind, whole: &[u8]) -> bool {
     let sent = out.bytes();
     let length = sent.len() as u64;

@@ -24,7 +24,7 @@ const EXCERPT_TO_ALICE: &str = "m.mbox|To: alice@x.org|Cc: bob@x.org|From:|Subje
 
 const EXCERPT_FROM_ALICE: &str = "m.mbox|To:|Cc:|From: Alice <alice@example.org>|Subject:|Date:|";
 
-/// The text of an archive, a pattern, a form, and how many messages are answered with what.
+/// The text of an archive, a pattern, a form, the number of messages of the answer, and its text.
 const OF_ONE_ARCHIVE: &[(&str, &str, Format, u64, &str)] = &[
     (HELLO_WITHOUT_LAST_LF, "s:hello", Raw, 1, "0 57 m.mbox|"),
     (HELLO_WITHOUT_LAST_LF, "s:hello", Mbox, 1, HELLO),
@@ -61,7 +61,7 @@ const CHAIN: [(&str, &str); 1] = [(
 
 const LINKED: &str = "0 61 m.mbox|61 79 m.mbox|140 80 m.mbox|";
 
-/// Archives, a pattern, whether whole threads are asked for, a form, and how many messages are answered with what.
+/// Archives, a pattern, whether whole threads are wanted, a form, the number of messages of the answer, and its text.
 const OF_ARCHIVES: &[(&[(&str, &str)], (&str, bool, Format), u64, &str)] = &[
     (&TWICE, ("s:hello", false, Mbox), 2, CLOSED),
     (&CHAIN, ("b:hi", true, Raw), 3, LINKED),
@@ -74,7 +74,8 @@ const OF_ARCHIVES: &[(&[(&str, &str)], (&str, bool, Format), u64, &str)] = &[
     (&COUSINS, ("b:absent", true, Mbox), 0, ""),
 ];
 
-/// Whether an answer over archives has so many messages and is this text. It is None where memory is wanting, and so is the next one.
+/// Whether an answer over archives has this many messages and this text. It is None if memory runs out, and so is the
+/// result below.
 fn is_answered(
     alloc: Global,
     archives: &[(&str, &str)],
@@ -116,8 +117,8 @@ const FORMS: &[(Format, &str)] = &[
     ),
 ];
 
-/// The archive of [`INDEX`], added once more where the first call had no memory. It is None where that one left anything, or the
-/// second is refused too.
+/// Returns the archive of [`INDEX`], which is added again if the first call had no memory. It is None if the first call
+/// left anything, or the second one is refused too.
 fn held_again(alloc: Global) -> Option<MemoryArchives> {
     let mut archives = MemoryArchives::new(alloc);
     if archives.add(ARCHIVE).is_err() && (archives.count() > 0 || archives.add(ARCHIVE).is_err()) {
@@ -126,7 +127,8 @@ fn held_again(alloc: Global) -> Option<MemoryArchives> {
     Some(archives)
 }
 
-/// Whether an answer in a form is whole, or tells that memory is wanting, or that the output in memory failed, with nothing sent.
+/// Whether an answer in a form is whole, or reports lack of memory or that the output in memory failed, with nothing
+/// sent.
 fn is_whole_or_wanting(alloc: Global, format: Format, text: &str) -> Option<bool> {
     if IndexView::open(INDEX).is_err() {
         return Some(false);
@@ -140,8 +142,8 @@ fn is_whole_or_wanting(alloc: Global, format: Format, text: &str) -> Option<bool
     Some(is_wanting || is_whole(&told, 2, &text))
 }
 
-/// Each refused allocation is answered as want of memory with nothing sent, or as a failure of the output in memory, and else the
-/// answer is whole. An archive that was refused leaves none, and is added by the next call.
+/// Each refused allocation is reported as lack of memory with nothing sent, or as a failure of the output in memory;
+/// otherwise the answer is whole. An archive that was refused leaves none, and the next call adds it.
 #[test]
 fn sweep_answer_with_threads(rt: HostRuntime) {
     for (format, text) in FORMS {

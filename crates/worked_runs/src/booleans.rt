@@ -1,4 +1,4 @@
-//! Boolean texts of many shapes, against a filter over facts that were written by hand.
+//! Boolean texts of many shapes, compared with a filter over facts that were written by hand.
 
 use crate::answered::{NOW, indexed};
 use mail_answer::matches;
@@ -7,11 +7,12 @@ use mail_index::IndexView;
 use mail_query::read_boolean;
 use std::alloc::Global;
 
-/// Eight messages. The subject of every second is `a`, of every second pair the body is `b`, and the last four are from `c`.
+/// Eight messages. The subject of each second one is `a`, the body of each second pair is `b`, and the last four are
+/// from `c`.
 const EIGHT: &str =
     "^Subject: x|From: x||x||^Subject: a|From: x||x||^Subject: x|From: x||b||^Subject: a|From: x||b||^Subject: x|From: c||x||^Subject: a|From: c||x||^Subject: x|From: c||b||^Subject: a|From: c||b||";
 
-/// A set of messages: the bit 2^n stands for the message n.
+/// A set of messages: the bit 2^n is set if the message n is in it.
 type Messages = u8;
 
 const ALL: Messages = 0b1111_1111;
@@ -22,9 +23,9 @@ const BODY_B: Messages = 0b1100_1100;
 
 const FROM_C: Messages = 0b1111_0000;
 
-/// Texts before and behind another one. Behind each pair is how many parentheses and negations wait for the inner text, and what is
-/// chosen: the messages that the inner text chooses, or where the next field is ALL the others, as far as the next one keeps them, and
-/// those of the last.
+/// Texts before and after an inner one. Each pair is followed by the number of parentheses and negations that are open
+/// at the inner text, and by what is chosen: of the messages that the inner text chooses (the others if the next field
+/// is ALL), those that are also in the field after it, and all those of the last field.
 static SHAPES: [(&str, &str, u32, Messages, Messages, Messages); 6] = [
     ("subject:a or body:b (", ")", 1, 0, BODY_B, SUBJECT_A),
     ("not (", ")", 2, ALL, ALL, 0),
@@ -34,13 +35,13 @@ static SHAPES: [(&str, &str, u32, Messages, Messages, Messages); 6] = [
     ("body:x or from:c not (", ")", 2, ALL, FROM_C, !BODY_B),
 ];
 
-/// The text that is inmost, and what it chooses.
+/// The innermost text, and what it chooses.
 const INMOST: (&str, Messages) = ("subject:a or from:c body:b", SUBJECT_A | FROM_C & BODY_B);
 
-/// The most parentheses and negations that may wait.
+/// The most parentheses and negations that may be open.
 const MOST_WAITS: u32 = 30;
 
-/// Whether just these messages are chosen.
+/// Whether exactly these messages are chosen.
 fn are(chosen: &[u32], messages: Messages) -> bool {
     let mut as_wanted = true;
     for n in 0..8u32 {
@@ -50,7 +51,7 @@ fn are(chosen: &[u32], messages: Messages) -> bool {
     as_wanted
 }
 
-/// The depth of the query that this text is, if it chooses just these messages.
+/// Returns the depth of the query that this text is, if it chooses exactly these messages.
 fn depth_of(alloc: Global, index: &IndexView<'_>, text: &str, messages: Messages) -> Option<u32> {
     let query = read_boolean(alloc, text, Moment::new(NOW)?).ok()?;
     match matches(alloc, index, &query) {
@@ -59,8 +60,8 @@ fn depth_of(alloc: Global, index: &IndexView<'_>, text: &str, messages: Messages
     }
 }
 
-/// Puts shapes round the inmost text, from this one on and so many further each time, as deep as a reader takes. It gives the depth
-/// of the last query, if each chooses as it should.
+/// Puts shapes around the innermost text, from this shape on and this many further each time, as deep as a reader
+/// accepts. Returns the depth of the last query, if each chooses the right messages.
 fn depth_of_nested(alloc: Global, index: &IndexView<'_>, first: usize, step: usize) -> Option<u32> {
     let (inmost, mut messages) = INMOST;
     let mut text = String::from_str(alloc, inmost).ok()?;
@@ -80,7 +81,7 @@ fn depth_of_nested(alloc: Global, index: &IndexView<'_>, first: usize, step: usi
     Some(depth)
 }
 
-/// The same of the eight messages.
+/// Does the same for the eight messages.
 fn depth_among_eight(alloc: Global, first: usize, step: usize) -> Option<u32> {
     let file = indexed(alloc, &[("m.mbox", EIGHT)])?;
     match IndexView::open(&file) {

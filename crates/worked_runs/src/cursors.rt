@@ -1,4 +1,4 @@
-//! What no clause says: that cursors are made where memory is ample, and what they answer call by call.
+//! What no clause says: that cursors are made if there is enough memory, and what each call of them returns.
 
 use crate::answered::{INDEX, TWO_MESSAGES, asked, indexed, query_of};
 use mail_answer::{Cursor, matches};
@@ -24,7 +24,7 @@ const CASES: &[(&str, &[u32])] = &[
     ("F:-s", &[0]),
 ];
 
-/// Whether a pattern chooses these messages of an index. It is None where memory is wanting, and so are those below.
+/// Whether a pattern chooses these messages of an index. It is None if memory runs out, and so are the results below.
 fn chooses(alloc: Global, file: &[u8], pattern: &str, numbers: &[u32]) -> Option<bool> {
     let Ok(index) = IndexView::open(file) else {
         return Some(false);
@@ -36,7 +36,7 @@ fn chooses(alloc: Global, file: &[u8], pattern: &str, numbers: &[u32]) -> Option
     }
 }
 
-/// Whether a pattern chooses the second of two messages alone.
+/// Whether a pattern chooses only the second of two messages.
 fn chooses_second(alloc: Global) -> Option<bool> {
     let file = indexed(alloc, &[("m.mbox", TWO_MESSAGES)])?;
     chooses(alloc, &file, "s:two", &[1])
@@ -51,7 +51,7 @@ fn patterns_choose_messages(rt: HostRuntime) {
     assert!(rt; chooses_second(rt.alloc()) == Some(true));
 }
 
-/// Whether a cursor gives the last message that a query chooses, from it on, and none behind it.
+/// Whether a cursor gives the last message that a query chooses, if it starts there, and none after it.
 fn gives_last(alloc: Global, index: &IndexView<'_>, query: &Query, last: u32) -> Option<bool> {
     let mut steps = Steps::new(alloc, index);
     let mut cursor = Cursor::new(alloc, index, query, &mut steps).ok()?;
@@ -85,7 +85,7 @@ fn steps_of(
     is_whole.then_some((begun, first, taken))
 }
 
-/// The same of a pattern and of messages that a text makes which comes so often.
+/// The same for a pattern, and for messages of a text that is repeated this many times.
 fn steps_among(
     alloc: Global,
     (text, times): (&str, usize),
@@ -104,22 +104,23 @@ fn a_complement_gives_all_messages(rt: HostRuntime) {
     assert!(rt; steps.is_some());
 }
 
-// A look-up among nine keys takes four steps at most, and each of the two lists has one number.
+// A look-up among nine keys takes at most four steps, and each of the two lists has one number.
 #[test]
 fn a_choice_takes_few_steps(rt: HostRuntime) {
     let steps = steps_among(rt.alloc(), (TWO_MESSAGES, 1), "s:one/two", 2);
     assert!(rt; matches!(steps, Some((1..=10, _, 1..=2))), "{steps:?}");
 }
 
-// A message with five words, in each of which stands the same letter. So many of them are more than a window covers: for the first
-// number a window of 4,096 messages is marked in each of five lists of 4,200 numbers, and no list is read to its end.
+// Each message has five words, and each word contains the same letter. There are more messages than a window covers.
+// For the first number, a window of 4,096 messages is marked in each of the five lists of 4,200 numbers, and no list is
+// read to its end.
 #[test]
 fn a_union_reads_its_lists_window_by_window(rt: HostRuntime) {
     let steps = steps_among(rt.alloc(), ("^|ea eb ec ed ee||", 4_200), "b:e=", 4_200);
     assert!(rt; matches!(steps, Some((_, 1..=20_500, 21_000))), "{steps:?}");
 }
 
-// Each refused allocation is answered as want of memory, and nothing else is answered than all or that.
+// Each refused allocation is reported as lack of memory, and the result is either that or everything.
 #[test]
 fn sweep_all_matches_or_want_of_memory(rt: HostRuntime) {
     let as_wanted = chooses(rt.alloc(), INDEX, "s:~re,hello/~h=", &[0]);

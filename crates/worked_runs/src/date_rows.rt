@@ -1,7 +1,7 @@
 //! Runs over one archive: which messages are of the days of a pattern, at noon of 18 May 2003.
 
-/// Days belong whole to a range, and an open end is the run's moment. What has no year is the latest before that moment. The first
-/// Date field alone counts, and where it can't be read there is no date.
+/// The whole of each day is in a range, and an open end is the moment of the run. A day without a year is the latest
+/// one before that moment. Only the first Date field counts, and if it can't be read there is no date.
 pub const DATE_ROWS: &str = "\
 words -f, rc, --once, -r
 rcfile mbox=m.mbox|database=m.idx|mfolder=hits|

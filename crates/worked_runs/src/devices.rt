@@ -8,24 +8,25 @@ use mail_answer::AnswerFaultKind::{Device, OutFailed, Stale};
 use mail_answer::Format;
 use std::alloc::Global;
 
-/// The answer to `b:hi` with threads, of two messages, in a form: its text, how many calls of the archives it makes at least, and how
-/// many bytes of each message it reads. The calls are a length of each archive, and a read for each message whose bytes are shown.
+/// The answer to `b:hi` with threads, of two messages, in a form: its text, the least number of calls of the archives
+/// that it makes, and how many bytes of each message it reads. The calls are a length of each archive, and a read for
+/// each message whose bytes are in the answer.
 pub type Form = (Format, &'static str, u64, u64);
 
 const EXCERPTS: &str = "a.mbox|To:|Cc:|From:|Subject:|Date:|b.mbox|To:|Cc:|From:|Subject:|Date:|";
 
-/// An excerpt reads no more than the header of 75 bytes.
+/// An excerpt reads only the header of 75 bytes.
 pub const FORMS: &[Form] = &[
     (Format::Raw, RAW_COUSINS, 2, 0),
     (Format::Excerpt, EXCERPTS, 4, 75),
     (Format::Mbox, BOTH_COUSINS, 4, 79),
 ];
 
-/// Calls of the archives that no answer to that query gets to.
+/// A call of the archives that no answer to that query makes.
 const BEYOND: u64 = 20;
 
-/// Whether a failure at one call is answered, and nothing else, where the answer makes that call. A raw answer makes no other calls
-/// than those of the lengths. It is None where memory is wanting, and so are those below.
+/// Whether a failure of one call is reported if the answer makes that call, and only then. A raw answer makes only the
+/// calls of the lengths. It is None if memory runs out, and so are the results below.
 fn tells_failed_call(alloc: Global, form: Form, fail_at: u64) -> Option<bool> {
     let (format, text, least, _) = form;
     let whole = text_of(alloc, text)?;
@@ -54,7 +55,7 @@ fn a_failed_call_leaves_a_front(rt: HostRuntime) {
     }
 }
 
-/// Whether an output takes just so much of an answer as it has room.
+/// Whether an output takes exactly as many bytes of an answer as it has room for.
 fn fills(alloc: Global, (format, text, _, _): Form, room: u64) -> Option<bool> {
     let whole = text_of(alloc, text)?;
     let search = ("b:hi", true, format);
@@ -66,7 +67,7 @@ fn fills(alloc: Global, (format, text, _, _): Form, room: u64) -> Option<bool> {
     })
 }
 
-/// An output with too little room takes just so much. The longest answer has 158 bytes.
+/// An output with too little room takes as many bytes as it has room for. The longest answer has 158 bytes.
 #[test]
 fn a_full_output_has_a_front(rt: HostRuntime) {
     for form in FORMS {
@@ -83,7 +84,8 @@ const SHORTER: (&str, &str) = ("a.mbox", "^Message-ID: <1@x>|References: <0@x>||
 
 const LONGER: (&str, &str) = ("m.mbox", "^Subject: x||ho|||");
 
-/// What has become of the archives A, B and OTHER, and which of them is told. Of several that have changed it is the first.
+/// What has become of the archives A, B and OTHER, and which of them is reported: of several that have changed the
+/// first; if there are more or fewer, the smaller number.
 const STALE: &[(&[(&str, &str)], u32)] = &[
     (&[], 0),
     (&[A], 1),
@@ -96,8 +98,9 @@ const STALE: &[(&[(&str, &str)], u32)] = &[
     (&[SHORTER, B], 2),
 ];
 
-/// Whether an answer over changed archives tells this one, or a failure of this call, where the call is made. Each length is asked in
-/// order up to the first other one, and none of another count of archives. Nothing is written.
+/// Whether an answer over changed archives reports this one, or a failure of this call if it makes the call. The
+/// lengths are read in order up to the first that differs, and none is if there are more or fewer archives. Nothing is
+/// written.
 fn is_stale(
     alloc: Global,
     format: Format,
@@ -112,8 +115,8 @@ fn is_stale(
     Some(is_front(&told, kind, &[]))
 }
 
-/// Archives of another count or length are refused in each form, those too that have no message of the answer; a failure is told
-/// exactly where it comes before.
+/// If there are more or fewer archives, or one has another length, the answer is refused in each form, even if that
+/// archive has no message of the answer. A failure is reported exactly if it comes before that.
 #[test]
 fn changed_archives_are_stale(rt: HostRuntime) {
     for (archives, number) in STALE {

@@ -1,4 +1,4 @@
-//! Answers over an archive that ends before the length that it tells.
+//! Answers over an archive that ends before the length that it reports.
 ghost use Rattle.std.specs.Prelude.{◌≡◌, ◌<◌, ◌≤◌, ◌-◌, ◌^◌, None, length, take, IfOk};
 ghost use Rattle.contract_words.specs.Devices.{Counts};
 ghost use Rattle.mail_answer.specs.Archives.{IsLength, IsRead};
@@ -9,7 +9,7 @@ use mail_answer::{AnswerFaultKind, Archives, Format, MemoryArchives};
 use mbox_cutter::DeviceFault;
 use std::alloc::Global;
 
-/// Archives of which each from the number `first` on is read as if it ended at an offset, while its length is told as it is.
+/// Archives of which each from the number `first` on is read as if it ended at an offset, but reports its own length.
 #[derive(Drop)]
 pub struct EarlyEnd {
     pub inner: MemoryArchives,
@@ -51,8 +51,8 @@ impl Archives for EarlyEnd {
     }
 }
 
-/// What an answer to `b:hi` with threads tells and writes where archives end so. It is None where memory is wanting, and so is the next
-/// one.
+/// Returns the result of an answer to `b:hi` with threads, and what it writes, if the archives end there. It is None if
+/// memory runs out, and so is the result below.
 fn told_at_end(alloc: Global, format: Format, first: u32, end: u64) -> Option<Told> {
     let file = indexed(alloc, &COUSINS)?;
     let inner = held(alloc, &COUSINS)?;
@@ -60,7 +60,8 @@ fn told_at_end(alloc: Global, format: Format, first: u32, end: u64) -> Option<To
     told(alloc, &file, ("b:hi", true, format), &mut archives, None)
 }
 
-/// Whether an end of the archives from a number on is told just where an answer reads so far: by the first of these archives.
+/// Whether the end of the archives from a number on is reported exactly if an answer reads up to it: by the number of
+/// the first of them.
 fn is_told(
     alloc: Global,
     (format, text, _, bytes_read): Form,

@@ -1,11 +1,12 @@
-//! Runs over devices of which one call fails, or that run full: over archives that are indexed, and over their stored index.
+//! Runs over devices of which one call fails, or that run full: over archives that are indexed, and over their stored
+//! index.
 
 use crate::fixture::{COUSINS, Given, HELLO, SOUND, TWO_MESSAGES, Told, tells};
 use std::alloc::Global;
 
-/// Archives, a row that runs over them tell where nothing fails, and how many messages are shown. The length of each archive is asked,
-/// and then a read is made for each message that is shown. `--verify` has each length asked and each archive read before that, in one
-/// read of these.
+/// Archives, a row of which runs over them have the outcome if nothing fails, and the number of messages in the answer.
+/// A run reads the length of each archive, and makes one read for each message in the answer. With `--verify` it first
+/// reads each length, and each archive in one read.
 const ANSWERED: [(&str, &str, u64); 5] = [
     (
         COUSINS,
@@ -30,11 +31,11 @@ const ANSWERED: [(&str, &str, u64); 5] = [
     ),
 ];
 
-/// A call of the archives that no run gets to.
+/// A call of the archives that no run makes.
 const BEYOND: u64 = 10;
 
-/// Whether a run that makes so many calls of the archives tells this where one of them fails, or where none does. Nothing is sent
-/// before the first read of what is shown.
+/// Whether the outcome of a run that makes this many calls of the archives is right: a failure if one of these calls
+/// fails, otherwise that of the row. Nothing is sent before the first read of a message in the answer.
 fn is_told(given: &Given, calls: u64, failing_call: u64, shown: u64, told: &Told) -> bool {
     let Some(told) = told else {
         return false;
@@ -46,8 +47,9 @@ fn is_told(given: &Given, calls: u64, failing_call: u64, shown: u64, told: &Told
     sent == Some(0) || (sent.is_some() && calls.saturating_sub(failing_call) < shown)
 }
 
-/// Whether all runs tell each failing call of the archives, with a front of the answer, and go on at the calls behind the last: the run
-/// that indexes them itself, the search of their stored index, and that with `--verify`.
+/// Whether all runs report each failing call of the archives with the first bytes of the answer, and succeed if the
+/// failing call is one that they don't make: the run that indexes the archives itself, the search of their stored
+/// index, and that with `--verify`.
 fn tell_failing_calls(alloc: Global, given: &Given, shown: u64) -> Option<bool> {
     let lengths = given.archives.len() as u64;
     let searched = lengths.saturating_add(shown);
@@ -64,7 +66,7 @@ fn tell_failing_calls(alloc: Global, given: &Given, shown: u64) -> Option<bool> 
     Some(as_wanted)
 }
 
-/// Whether this is told where the output has so much room.
+/// Whether this is the outcome if the output has this much room.
 fn fills(given: &Given, room: usize, told: &Told) -> bool {
     match told {
         Some(told) if room < given.answer().len() => {
@@ -88,7 +90,7 @@ fn fill_each_room(alloc: Global, given: &Given) -> Option<bool> {
     Some(as_wanted)
 }
 
-/// A failed call of the archives leaves a front, and a full output has one.
+/// After a failed call of the archives, and in a full output, the output has the first bytes of the answer.
 #[test]
 fn devices_that_end_leave_a_front(rt: HostRuntime) {
     for (archives, row, shown) in ANSWERED {
@@ -100,8 +102,8 @@ fn devices_that_end_leave_a_front(rt: HostRuntime) {
     }
 }
 
-/// Archives, a row that a run over them tells where no read fails, and how many reads of so many bytes each archive is asked for: the
-/// last one tells its end.
+/// Archives, a row whose outcome a run over them has if no read fails, and how many reads of this many bytes are made
+/// of each archive: the last read finds its end.
 const READ: [(&str, &str, [(usize, [u64; 2]); 2]); 4] = [
     (
         HELLO,
@@ -118,7 +120,7 @@ const READ: [(&str, &str, [(usize, [u64; 2]); 2]); 4] = [
         "-t, --stdout, b:hi => found 2: ^Message-ID: <1@x>|References: <0@x>||hi||^Message-ID: <2@x>|References: <0@x>||ho||",
         [(1, [80, 80]), (7, [13, 13])],
     ),
-    // A failed read of the first archive goes before a second one that is no mbox.
+    // A failed read of the first archive is reported before a second archive that is no mbox.
     (
         "^Subject: Hello||hi|| & x|",
         "-r, s:hello/two => refused 4: archive 2: not an mbox",
@@ -126,7 +128,7 @@ const READ: [(&str, &str, [(usize, [u64; 2]); 2]); 4] = [
     ),
 ];
 
-/// What is told where these reads fail, and each archive is asked for so many.
+/// Returns the outcome if these reads fail, and this many reads of each archive are made.
 fn told_of_reads(given: &Given, failing: [Option<u64>; 2], [first, second]: [u64; 2]) -> &[u8] {
     match failing {
         [Some(read), _] if read <= first => b"refused 4: archive 1: read failed",
@@ -135,7 +137,7 @@ fn told_of_reads(given: &Given, failing: [Option<u64>; 2], [first, second]: [u64
     }
 }
 
-/// Whether each read that fails, of either archive or of both, is told with nothing sent.
+/// Whether each failed read, of either archive or of both, is reported with nothing sent.
 fn tells_failing_reads(alloc: Global, given: &Given, piece: usize, reads: [u64; 2]) -> bool {
     let mut devices = SOUND;
     devices.piece = piece;

@@ -1,4 +1,4 @@
-//! What the program says of each fault, and its exit status.
+//! What the program prints of each fault, and its exit status.
 
 use mail_index::IndexFault::{BadDigest, BadLayout, BadMagic, BadVersion, TooShort};
 use mail_index::Section;
@@ -14,7 +14,7 @@ use std::fmt::InlineText;
 use std::process::Abort;
 use std::str::Lines;
 
-/// Each fault of the three tables below, in their order, with its status and its text.
+/// Each fault of the three tables below, in order, with its status and its text.
 const TEXTS: &str = "\
 Usage(Parse) => 2: bad words
 Usage(TwoFormats) => 2: -r and -x exclude each other
@@ -96,7 +96,7 @@ const FAULTS: [Fault; 28] = [
     Index(BadLayout(Section::Postings)),
 ];
 
-/// Faults of an archive of this number.
+/// Faults of an archive with this number.
 const OF_ARCHIVES: [(u64, CutFault); 4] = [
     (0, CutFault::Device),
     (1, CutFault::NotAnMbox),
@@ -104,7 +104,7 @@ const OF_ARCHIVES: [(u64, CutFault); 4] = [
     (0, CutFault::Failed),
 ];
 
-/// Faults of a query's item of this number.
+/// Faults of a query's item with this number.
 const OF_ITEMS: [(usize, Kind); 15] = [
     (7, Kind::OutOfMemory),
     (7, Kind::NoPattern),
@@ -132,7 +132,7 @@ fn is_shown(alloc: Global, fault: Fault, line: &str) -> Option<bool> {
     Some(told.as_str() == line && own.as_str() == text.as_str())
 }
 
-/// Asserts that a fault is shown as the next line says. Only in a sweep may memory be wanting.
+/// Asserts that a fault, its status and its text are those of the next line. Memory may run out only in a sweep.
 fn check_next(rt: &impl Abort, alloc: Global, lines: &mut Lines<'_>, fault: Fault, sweeps: bool) {
     let line = lines.next().unwrap_or("");
     let as_wanted = is_shown(alloc, fault, line);
@@ -159,7 +159,7 @@ fn faults_show_their_texts(rt: HostRuntime) {
     check_texts(&rt, rt.alloc(), false);
 }
 
-/// Each allocation is refused in turn.
+/// The gate refuses each allocation in turn.
 #[test]
 fn sweep_fault_text(rt: HostRuntime) {
     check_texts(&rt, rt.alloc(), true);

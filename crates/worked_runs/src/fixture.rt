@@ -1,4 +1,4 @@
-//! Runs in memory, of words, an rcfile and archives that are given as texts, and what they tell.
+//! Runs in memory, of words, an rcfile and archives that are given as texts, and the outcomes of these runs.
 ghost use Rattle.std.specs.Prelude.{◌≡◌, ◌<◌, ◌^◌, ◌-◌, length, All, IfSome, vec_len};
 
 use mail_answer::{Archives, FailAt, MemoryArchives};
@@ -26,11 +26,11 @@ pub const HELLO: &str = "^Subject: Hello||hi||";
 pub const TWO_MESSAGES: &str =
     "^Subject: one||a||From here on we go||From - Sat Jan  4 12:00:00 2003|Subject: two||b||";
 
-/// Two messages that refer to a third, which is in neither archive.
+/// Two messages that refer to a third one, which is in neither archive.
 pub const COUSINS: &str =
     "^Message-ID: <1@x>|References: <0@x>||hi|| & ^Message-ID: <2@x>|References: <0@x>||ho||";
 
-/// Adds the words of a part of a command line, which `, ` parts.
+/// Adds the words of a part of a command line, which are separated by `, `.
 pub fn push_words(alloc: Global, words: &mut Vec<String>, part: &str) -> Option<()> {
     for word in part.split(", ") {
         if !word.is_empty() {
@@ -40,7 +40,7 @@ pub fn push_words(alloc: Global, words: &mut Vec<String>, part: &str) -> Option<
     Some(())
 }
 
-/// The bytes of a text, where `^` stands for the separator line, `|` for LF, and `{3*ab}` for `ababab`.
+/// Returns the bytes of a text, in which `^` means the separator line, `|` LF, and `{3*ab}` means `ababab`.
 pub fn bytes_of(alloc: Global, text: &str) -> Option<Vec<u8>> {
     let mut bytes = Vec::new(alloc);
     for piece in text.split('{') {
@@ -74,13 +74,13 @@ fn push_signs(bytes: &mut Vec<u8>, signs: &str) -> Result<(), AllocError> {
 /// How the devices of a run behave.
 #[derive(Clone, Copy)]
 pub struct Devices {
-    /// The most bytes that a source gives at a read; 0 counts as 1.
+    /// The most bytes that a source gives in a read; 0 counts as 1.
     pub piece: usize,
-    /// The read that fails of each source, counted from 1.
+    /// The read of each source that fails, counted from 1.
     pub failing_reads: [Option<u64>; MOST],
-    /// The call of the archives that fails, counted from 1, and 0 for none.
+    /// The call of the archives that fails, counted from 1; 0 for none.
     pub failing_call: u64,
-    /// The bytes that the output takes, where it doesn't take all.
+    /// The number of bytes that the output takes; None if it takes all.
     pub room: Option<u64>,
 }
 
@@ -92,10 +92,10 @@ pub const SOUND: Devices = Devices {
     room: None,
 };
 
-/// What a run tells. It is None where memory is wanting before it begins or behind it.
+/// The outcome of a run as a text. It is None if memory runs out before or after the run.
 pub type Told = Option<Vec<u8>>;
 
-/// Whether a run tells this.
+/// Whether this is the outcome of a run.
 pub fn tells(told: Told, wanted: &[u8]) -> bool {
     match told {
         Some(told) => told.as_slice() == wanted,
@@ -103,23 +103,23 @@ pub fn tells(told: Told, wanted: &[u8]) -> bool {
     }
 }
 
-/// What is given to a run, and what it tells where no device fails.
+/// What a run is given, and its outcome if no device fails.
 #[derive(Drop)]
 pub struct Given {
-    /// The words of a run, and `--verify` behind them.
+    /// The words of a run, with `--verify` after them.
     verifying: Vec<String>,
     rc: Vec<u8>,
     pub archives: Vec<Vec<u8>>,
     /// The index file of the archives, if they have one.
     pub index: Option<Vec<u8>>,
     pub told: Vec<u8>,
-    /// How much is told before what goes out.
+    /// The number of bytes of the outcome before the answer.
     front: usize,
 }
 
 impl Given {
-    /// Reads a row `WORDS => TOLD`, the words before its own, an rcfile's text, and the texts of archives, which ` & ` parts. It is
-    /// None where memory is wanting.
+    /// Reads a row `WORDS => OUTCOME`, the words before its own, an rcfile's text, and the texts of archives, which are
+    /// separated by ` & `. It is None if memory runs out.
     pub fn of(alloc: Global, first: &str, row: &str, rc: &str, texts: &str) -> Option<Given> {
         let mut given = Given {
             verifying: Vec::new(alloc),
@@ -149,7 +149,8 @@ impl Given {
         Some(())
     }
 
-    /// Reads a row with `-f rc` before its words, and the archive `m.mbox`, or `a.mbox` and `b.mbox`. It is None where memory is wanting.
+    /// Reads a row with `-f rc` before its words, and the archive `m.mbox`, or `a.mbox` and `b.mbox`. It is None if
+    /// memory runs out.
     pub fn over(alloc: Global, texts: &str, row: &str) -> Option<Given> {
         let rc = if texts.contains(" & ") { RC_OF_TWO } else { RC };
         Given::of(alloc, "-f, rc", row, rc, texts)
@@ -162,12 +163,12 @@ impl Given {
         }
     }
 
-    /// What goes out, which is told behind `found N: `.
+    /// Returns the answer, which comes after `found N: ` in the outcome.
     pub fn answer(&self) -> &[u8] {
         self.told.get(self.front..).unwrap_or(&[])
     }
 
-    /// What a run tells that indexes the archives itself.
+    /// Returns the outcome of a run that indexes the archives itself.
     pub fn once(&self, alloc: Global, devices: Devices) -> Told {
         let mut sources = sources(alloc, &self.archives, devices)?;
         let mut out = MemoryOut::new(alloc, devices.room);
@@ -175,8 +176,8 @@ impl Given {
         told(alloc, reply, &out)
     }
 
-    /// A run over archives of which this call fails, or none for 0, and over their sources. It is None where memory is wanting before it
-    /// begins, or the rcfile has more or fewer paths than there are archives.
+    /// Runs over archives of which this call fails, or none for 0, and over their sources. It is None if memory runs
+    /// out before the run, or if the rcfile has more or fewer paths than there are archives.
     fn run(
         &self,
         alloc: Global,
@@ -205,12 +206,12 @@ impl Given {
         Some(once_run(alloc, words, rc, sources, &mut held, now, out))
     }
 
-    /// What a search of an index over the archives tells.
+    /// Returns the outcome of a search of an index over the archives.
     pub fn stored(&self, alloc: Global, index: &[u8], devices: Devices) -> Told {
         self.searched(alloc, self.words(), index, devices)
     }
 
-    /// The same with `--verify`.
+    /// Returns the same with `--verify`.
     pub fn verified(&self, alloc: Global, index: &[u8], devices: Devices) -> Told {
         self.searched(alloc, &self.verifying, index, devices)
     }
@@ -223,8 +224,8 @@ impl Given {
         told(alloc, Some(reply), &out)
     }
 
-    /// What a run tells that indexes the archives itself, a search of their stored index, and one with `--verify`. It is None where
-    /// they have no index.
+    /// Returns the outcomes of a run that indexes the archives itself, of a search of their stored index, and of a
+    /// search with `--verify`. It is None if the archives have no index.
     pub fn all(&self, alloc: Global, devices: Devices) -> Option<[Told; 3]> {
         let index = self.index.as_ref()?;
         Some([
@@ -234,15 +235,15 @@ impl Given {
         ])
     }
 
-    /// How many bytes of the answer went out before this refusal. It is None where something else is told.
+    /// Returns how many bytes of the answer were sent before this refusal. It is None if the outcome is another one.
     pub fn sent_before(&self, refusal: &[u8], told: &[u8]) -> Option<usize> {
         let sent = told.strip_prefix(refusal)?;
         self.answer().starts_with(sent).then_some(sent.len())
     }
 }
 
-/// `found 2: ` and the bytes that went out, `none` and them, or `refused 4: `, the fault's text and them. A reply whose parts
-/// don't fit one another is told as `unlike a reply`.
+/// Returns the outcome: `found 2: ` and the bytes that were sent, `none` and these bytes, or `refused 4: `, the fault's
+/// text and these bytes. If the parts of a reply don't agree, it is `unlike a reply`.
 fn told(alloc: Global, reply: Option<Reply>, out: &MemoryOut) -> Told {
     let reply = reply?;
     let text = match reply.fault {
@@ -260,7 +261,7 @@ fn told(alloc: Global, reply: Option<Reply>, out: &MemoryOut) -> Told {
         .ok()
 }
 
-/// Sources that give these archives.
+/// Returns sources that give these archives.
 fn sources(alloc: Global, archives: &[Vec<u8>], devices: Devices) -> Option<Vec<MemorySource>>
     ensures { IfSome result (λ v. All (λ s. s.failures ≡ 0) v.items) }
 {
@@ -272,7 +273,7 @@ fn sources(alloc: Global, archives: &[Vec<u8>], devices: Devices) -> Option<Vec<
     Some(sources)
 }
 
-/// These archives, if there aren't too many.
+/// Returns these archives, if there aren't too many.
 fn held(alloc: Global, archives: &[Vec<u8>]) -> Option<MemoryArchives> {
     let mut held = MemoryArchives::new(alloc);
     for archive in archives {
@@ -284,7 +285,7 @@ fn held(alloc: Global, archives: &[Vec<u8>]) -> Option<MemoryArchives> {
     Some(held)
 }
 
-/// The archives of texts, which ` & ` parts.
+/// Returns the archives of texts, which are separated by ` & `.
 fn archives_of(alloc: Global, texts: &str) -> Option<Vec<Vec<u8>>> {
     let mut archives = Vec::new(alloc);
     for text in texts.split(" & ") {
@@ -293,13 +294,13 @@ fn archives_of(alloc: Global, texts: &str) -> Option<Vec<Vec<u8>>> {
     Some(archives)
 }
 
-/// The index file of archives under the paths of an rcfile.
+/// Returns the index file of archives under the paths of an rcfile.
 pub fn index_of(alloc: Global, rc: &str, texts: &str) -> Option<Vec<u8>> {
     indexed(alloc, &bytes_of(alloc, rc)?, &archives_of(alloc, texts)?)
 }
 
-/// The index file of archives under the paths of an rcfile, or where that is refused of one as `m.mbox`. It is None where memory
-/// is wanting or an archive is refused.
+/// Returns the index file of archives under the paths of an rcfile; if that is refused, of one archive under `m.mbox`.
+/// It is None if memory runs out or an archive is refused.
 fn indexed(alloc: Global, rc: &[u8], archives: &[Vec<u8>]) -> Option<Vec<u8>> {
     match read_rc(alloc, rc) {
         Ok(rc) => indexed_as(alloc, rc.paths.as_slice(), archives),
@@ -311,7 +312,7 @@ fn indexed(alloc: Global, rc: &[u8], archives: &[Vec<u8>]) -> Option<Vec<u8>> {
     }
 }
 
-/// The index file of archives under these paths.
+/// Returns the index file of archives under these paths.
 fn indexed_as(alloc: Global, paths: &[String], archives: &[Vec<u8>]) -> Option<Vec<u8>> {
     let mut job = IndexJob::new(alloc).ok()?;
     add_archives(alloc, &mut job, paths, archives)?;

@@ -1,6 +1,6 @@
 //! Runs in every form, with threads, in both query languages, and over several archives.
 
-/// The forms of an answer and who chooses them, threads, boolean queries, the order of an answer, and own ids.
+/// The forms of an answer and what chooses them, threads, boolean queries, the order of an answer, and own ids.
 pub const FORM_ROWS: &str = "\
 words -f, rc
 rcfile mbox=m.mbox|database=m.idx|mfolder=hits|

@@ -1,8 +1,8 @@
-//! Searches of stored indexes that are none, too old, or not those of the rcfile or of the archives.
+//! Searches of stored indexes that are invalid, too old, or not those of the rcfile or of the archives.
 
-/// Refusals in their order: each row has one reason less than the row before it. Then archives that have changed: their lengths count
-/// before their digests, which `--verify` alone compares. Then an index that has no names of parts and no digests of archives: its own
-/// faults go before that, and another path behind.
+/// Refusals in order: each row has one reason less than the row before it. Then archives that have changed: their
+/// lengths count before their digests, which only `--verify` compares. Then an index without names of attachments and
+/// digests of archives: its own faults count before that, and another path counts after it.
 pub const INDEX_ROWS: &str = "\
 words -f, rc
 index hello 31

@@ -1,4 +1,4 @@
-//! The texts that the layers show for their own faults.
+//! The texts that the layers have for their own faults.
 use mail_answer::AnswerFaultKind::{self, Stale};
 use mail_index::IndexFault::{self, BadLayout};
 use mail_index::Section;
@@ -33,7 +33,7 @@ const OF_ANSWERS: &[(AnswerFaultKind, &str)] = &[
     (AnswerFaultKind::OutFailed, "write failed"),
 ];
 
-/// Whether a fault shows this text.
+/// Whether a fault has this text.
 fn shows<T: Display + Drop>(fault: T, text: &str) -> bool {
     let shown: InlineText<64> = InlineText::of(fault);
     shown.as_str() == text

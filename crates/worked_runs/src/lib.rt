@@ -1,4 +1,5 @@
-//! Tests that cross crates: answers from an index, and worked runs over archives in memory. It has no code of its own.
+//! Tests that use several crates: answers from an index, and worked runs over archives in memory. The crate has only
+//! tests.
 #![tactic(auto)]
 
 #[cfg(test)]

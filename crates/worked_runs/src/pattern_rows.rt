@@ -1,6 +1,7 @@
 //! Runs over one archive: patterns of each form.
 
-/// Sizes, choices and negations, kinds of text, parts of words, flags, names of parts, and several patterns together.
+/// Sizes, choices and negations, kinds of text, parts of words, flags, names of attachments, and several patterns
+/// together.
 pub const PATTERN_ROWS: &str = "\
 words -f, rc, --once, -r
 rcfile mbox=m.mbox|database=m.idx|mfolder=hits|

@@ -5,10 +5,10 @@ use mairix_tool::run_program;
 use std::alloc::Global;
 use std::{fs, process};
 
-/// Steps that come one behind the other in the folder, for which `@` stands. Texts are as [`bytes_of`] reads them.
+/// Steps that are taken one after another in the folder, which is written as `@`. [`bytes_of`] reads the texts.
 ///
-/// `write FILE => TEXT` makes a file, `has FILE => TEXT` says what one has, and `run WORDS => TEXT` what a run prints on standard output
-/// and on standard error, and its status.
+/// `write FILE => TEXT` makes a file, `has FILE => TEXT` gives the bytes of a file, and `run WORDS => TEXT` what a run
+/// prints on standard output and on standard error, and its status.
 const STEPS: &str = "\
 run -V => mairix 0.1.0|exit 0
 run -f, @/rc, -r, s:hello => mairix: cannot open @/rc|exit 4
@@ -35,7 +35,7 @@ run -f, @/rc, --once, --stdout, s:world => ^Subject: World||hi||exit 0
 has @/hits => ^Subject: Hello||hi||
 ";
 
-/// A text with the folder in place of each `@`. It is None where memory is wanting, and so are the answers below.
+/// Returns a text with the folder in place of each `@`. It is None if memory runs out, and so are the results below.
 fn in_folder(alloc: Global, folder: &str, text: &str) -> Option<String> {
     let mut whole = String::new(alloc);
     for c in text.chars() {
@@ -47,7 +47,7 @@ fn in_folder(alloc: Global, folder: &str, text: &str) -> Option<String> {
     Some(whole)
 }
 
-/// What a run of these words prints.
+/// Returns what a run with these words prints.
 fn printed(rt: &HostRuntime, alloc: Global, line: &str) -> Option<Vec<u8>> {
     let now = Moment::new(NOW)?;
     let mut words = Vec::new(alloc);
@@ -63,7 +63,7 @@ fn all_printed(alloc: Global, out: &[u8], err: &[u8], status: u8) -> Option<Vec<
     [out, err, exit.as_str().as_bytes()].concat(alloc).ok()
 }
 
-/// Whether a step in this folder has gone as it says.
+/// Whether a step in this folder has the result that it gives.
 fn is_done(rt: &HostRuntime, folder: &str, step: &str) -> Option<bool> {
     let alloc = rt.alloc();
     let step = in_folder(alloc, folder, step)?;

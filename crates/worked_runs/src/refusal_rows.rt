@@ -1,7 +1,7 @@
 //! Runs that are refused.
 
-/// Words, rcfiles, patterns, boolean queries and archives that are refused. The first faulty pattern is told, and the first archive
-/// at fault.
+/// Words, rcfiles, patterns, boolean queries and archives that are refused. The first faulty pattern is reported, and
+/// the first faulty archive.
 pub const REFUSAL_ROWS: &str = "\
 rcfile mbox=m.mbox|database=m.idx|mfolder=hits|
 archives {}

@@ -1,11 +1,10 @@
-//! Tables of runs, whose answers were worked out by hand.
+//! Tables of runs, whose outcomes were worked out by hand.
 //!
 //! `words WORDS`, `rcfile TEXT`, `archives TEXT & TEXT` and `index NAME LENGTH` hold for the rows below them. A row is
-//! `WORDS => TOLD`. Words are parted by `, `, and those of a row come behind those above it. Texts are as [`bytes_of`] reads them, and
-//! what is told is as [`told`] says. So many bytes of a named index are as [`front_of_index`] makes them.
+//! `WORDS => OUTCOME`. Words are separated by `, `, and those of a row come after those above it. [`bytes_of`] reads
+//! the texts, [`front_of_index`] makes this many bytes of a named index, and [`Given::once`] returns an outcome.
 //!
 //! [`bytes_of`]: crate::fixture::bytes_of
-//! [`told`]: crate::fixture::told
 
 use crate::date_rows::DATE_ROWS;
 use crate::fixture::{Devices, Given, SOUND, tells};
@@ -27,7 +26,7 @@ const TABLES: [(&str, u32); 6] = [
     (INDEX_ROWS, 39),
 ];
 
-/// The most bytes that a source gives at a read.
+/// The most bytes that a source gives in a read.
 const PIECES: [usize; 3] = [1, 7, 65_536];
 
 /// What holds for the rows below a line.
@@ -36,7 +35,7 @@ struct Setting<'a> {
     words: &'a str,
     rcfile: &'a str,
     archives: &'a str,
-    /// The name and the length of the index that is searched; it is empty for that of the archives.
+    /// The name and the length of the index that is searched; empty for the index of the archives.
     index: &'a str,
 }
 
@@ -53,7 +52,7 @@ impl<'a> Setting<'a> {
         true
     }
 
-    /// Whether runs tell what a row says. It is None where memory is wanting.
+    /// Whether runs have the outcome of a row. It is None if memory runs out.
     fn is_told(&self, alloc: Global, row: &str) -> Option<bool> {
         let given = Given::of(alloc, self.words, row, self.rcfile, self.archives)?;
         match self.index {
@@ -63,15 +62,15 @@ impl<'a> Setting<'a> {
     }
 }
 
-/// Whether a search of an index of this name and length tells what a row says.
+/// Whether a search of an index with this name and length has the outcome of a row.
 fn is_told_of(alloc: Global, given: &Given, index: &str) -> Option<bool> {
     let (name, length) = index.split_once(' ')?;
     let index = front_of_index(alloc, name, length.parse().ok()?)?;
     Some(tells(given.stored(alloc, &index, SOUND), &given.told))
 }
 
-/// Whether a run that indexes the archives itself, in pieces of each size, and a search of their stored index, also with `--verify`,
-/// tell what a row says. Archives that are refused have no index.
+/// Whether the outcome of a row is that of a run that indexes the archives itself, in pieces of each size, and of a
+/// search of their stored index, also with `--verify`. Archives that are refused have no index.
 fn is_told_by_all(alloc: Global, given: &Given) -> bool {
     let mut as_wanted = match &given.index {
         Some(index) => {
@@ -104,7 +103,8 @@ fn rows_are_told(rt: HostRuntime) {
     }
 }
 
-/// Archives whose every front is run, a pattern, and the least bytes in which it is found: an encoded text, and parts in one another.
+/// Archives of which each beginning is searched, a pattern, and the fewest bytes in which it is found: an encoded text,
+/// and parts inside one another.
 const FRONTS: [(&str, &str, usize); 2] = [
     (
         "From a@x.org Thu Jan  2 10:00:00 2003|Content-Type: text/plain; charset=utf-8|Content-Transfer-Encoding: base64||ZsO|8cg==||",
@@ -121,8 +121,8 @@ const FRONTS: [(&str, &str, usize); 2] = [
 /// The bytes of a separator line without its LF.
 const SEPARATOR_SIZE: usize = 37;
 
-/// Whether a front of an archive is told as it has to be: the pattern is found in so many bytes and more. It is None where memory is
-/// wanting.
+/// Whether the outcome for the beginning of an archive is right: the pattern is found in this many bytes and more. It
+/// is None if memory runs out.
 fn front_is_told(
     alloc: Global,
     (text, pattern, enough): (&str, &str, usize),

@@ -1,4 +1,4 @@
-//! In how many calls an answer goes out.
+//! The number of calls in which an answer is sent.
 ghost use Rattle.std.specs.Prelude.{None};
 
 use crate::answered::{held, indexed, told_to};
@@ -6,7 +6,7 @@ use mail_answer::Format;
 use mbox_cutter::{DeviceFault, Out};
 use std::alloc::Global;
 
-/// An output that takes all that it is given, and keeps only its calls: how many there were, and the most bytes of one.
+/// An output that takes all that it is given, and keeps only the number of calls and the most bytes of a call.
 #[derive(Drop)]
 struct Calls {
     count: u64,
@@ -25,17 +25,17 @@ impl Out for Calls {
     }
 }
 
-/// How many archives are answered, of one message each.
+/// The number of archives of the answer, of one message each.
 const ARCHIVES: usize = 20;
 
-/// The bytes of the path of each, and of a line of each message.
+/// The number of bytes of the path of each archive, and of a line of each message.
 const LONG: usize = 4096;
 
-/// So many bytes of an answer are gathered, and then go out.
+/// The number of bytes of an answer that are gathered before they are sent.
 const GATHERED: usize = 65_536;
 
-/// The calls in which an answer to `s:hello` over archives of a message each goes out, and the most bytes of one. It is None where
-/// memory is wanting, or where the messages aren't all answered.
+/// Returns the number of calls in which an answer to `s:hello` over archives of one message each is sent, and the most
+/// bytes of a call. It is None if memory runs out, or if the answer doesn't have all messages.
 fn calls_over(alloc: Global, archives: &[(&str, &str)], format: Format) -> Option<(u64, usize)> {
     let file = indexed(alloc, archives)?;
     let mut held = held(alloc, archives)?;
@@ -46,14 +46,14 @@ fn calls_over(alloc: Global, archives: &[(&str, &str)], format: Format) -> Optio
     matches!(told, Some(Ok(count)) if count == all).then_some((calls.count, calls.most))
 }
 
-/// The same over those archives.
+/// Returns the same for those archives.
 fn calls_of(alloc: Global, format: Format) -> Option<(u64, usize)> {
     let path = "x".repeat(alloc, LONG).ok()?;
     let text = format!(in alloc; "^Subject: Hello||{path}||").ok()?;
     calls_over(alloc, &[(path.as_str(), text.as_str()); ARCHIVES], format)
 }
 
-/// An answer goes out in a call once enough of it is gathered, before much more is, and in another at its end.
+/// An answer is sent in one call once enough of it is gathered, before much more is, and in another call at its end.
 #[test]
 fn a_long_answer_goes_out_before_its_end(rt: HostRuntime) {
     for (name, format) in [

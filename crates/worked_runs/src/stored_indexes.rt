@@ -1,4 +1,4 @@
-//! Stored indexes that the rows name, and others that are none.
+//! The stored indexes that the rows name, and files that aren't valid indexes.
 
 use crate::fixture::{Given, HELLO, RC, SOUND, Told, index_of};
 use sha2::{Digest, Sha256};
@@ -12,16 +12,16 @@ const RC_OF_TWO: &str = "mbox=n.mbox:o.mbox|database=m.idx|mfolder=hits|";
 /// A row over [`HELLO`].
 const ROW: &str = "-r, s:hello => found 1: 0 58 m.mbox|";
 
-/// The bytes of its index.
+/// The number of bytes of its index.
 const SIZE: usize = 227;
 
-/// Those before the digest.
+/// The number of bytes before the digest.
 const BODY: usize = 195;
 
-/// Where it has the archive's digest.
+/// The offset of the archive's digest.
 const DIGEST: usize = 66;
 
-/// What it was as `m.mbox` before names of parts and digests of archives were in an index: version 1.
+/// The index of `m.mbox` in version 1, from before names of attachments and digests of archives were in an index.
 const OLD_INDEX: &[u8; 195] = b"MAIRIX\r\n\
     \x00\x00\x00\x01\x00\x00\x00\x01\x00\x00\x00\x01\x00\x00\x00\x02\
     \x00\x00\x00\x00\x00\x00\x00\x12\x00\x00\x00\x00\x00\x00\x00\x07\x00\x00\x00\x00\x00\x00\x00\x02\
@@ -40,10 +40,10 @@ const EXCHANGED: &[u8] =
     b"\x06\x00\x00\x00\x00\x00\x00\x02\x00\x00\x00\x00\x00\x00\x00\x05\x00\x00\x00\x00\x00\x00\x00\x01\
     \x05\x00\x00\x00\x00\x00\x00\x05\x00\x00\x00\x00\x00\x00\x00\x00\x00\x00\x00\x00\x00\x00\x00\x00";
 
-/// Bytes that are put in place of as many others, from a place on, and whether the digest is made anew.
+/// An offset, bytes that are put there in place of others, and whether the digest is computed again.
 type Change<'a> = (usize, &'a [u8], bool);
 
-/// The bytes with such a change.
+/// Returns the bytes with such a change.
 fn changed(alloc: Global, bytes: &[u8], (at, new, signs_again): Change) -> Option<Vec<u8>> {
     let (front, rest) = bytes.split_at_checked(at)?;
     let mut changed = [front, new, rest.get(new.len()..)?].concat(alloc).ok()?;
@@ -55,7 +55,7 @@ fn changed(alloc: Global, bytes: &[u8], (at, new, signs_again): Change) -> Optio
     Some(changed)
 }
 
-/// The index of a name. It is None where memory is wanting.
+/// Returns the index with this name. It is None if memory runs out.
 fn named_index(alloc: Global, name: &str) -> Option<Vec<u8>> {
     match name {
         "hello" => index_of(alloc, RC, HELLO),
@@ -69,13 +69,14 @@ fn named_index(alloc: Global, name: &str) -> Option<Vec<u8>> {
     }
 }
 
-/// The front of an index, as a line `index NAME LENGTH` names it. It is None where memory is wanting, or the index has fewer bytes.
+/// Returns the beginning of an index, as a line `index NAME LENGTH` names it. It is None if memory runs out, or if the
+/// index has fewer bytes.
 pub fn front_of_index(alloc: Global, name: &str, length: usize) -> Option<Vec<u8>> {
     let index = named_index(alloc, name)?;
     index.get(..length)?.to_vec(alloc).ok()
 }
 
-/// Changes, and why the index is then refused.
+/// Changes, and why the index is refused after them.
 const CHANGES: [(Change, &str); 5] = [
     ((0, b"m", false), "bad magic"),
     ((60, b"\x6c", false), "bad digest"),
@@ -87,7 +88,7 @@ const CHANGES: [(Change, &str); 5] = [
 /// Each bit of a byte.
 const BITS: [u8; 8] = [1, 2, 4, 8, 16, 32, 64, 128];
 
-/// Whether a search refuses its index so.
+/// Whether a search refuses its index for this reason.
 fn refuses(told: Told, why: &str) -> bool {
     match &told {
         Some(told) => told.strip_prefix(b"refused 3: index: ".as_slice()) == Some(why.as_bytes()),
@@ -95,20 +96,20 @@ fn refuses(told: Told, why: &str) -> bool {
     }
 }
 
-/// Whether a search of an index and one with `--verify` refuse it so.
+/// Whether a search of an index and one with `--verify` refuse it for this reason.
 fn is_refused(alloc: Global, given: &Given, index: &[u8], why: &str) -> bool {
     refuses(given.stored(alloc, index, SOUND), why)
         && refuses(given.verified(alloc, index, SOUND), why)
 }
 
-/// Whether the index with such a change is refused so.
+/// Whether the index with such a change is refused for this reason.
 fn is_refused_with(alloc: Global, given: &Given, change: Change, why: &str) -> Option<bool> {
     let index = given.index.as_ref()?;
     let changed = changed(alloc, index, change)?;
     Some(is_refused(alloc, given, &changed, why) && index.len() == SIZE)
 }
 
-/// Whether the bytes of the index before this one, and the index with each of its bits turned, are refused.
+/// Whether the bytes of the index before this one, and the index with each bit of this one turned, are refused.
 fn are_refused_at(alloc: Global, given: &Given, at: usize) -> Option<bool> {
     let index = given.index.as_ref()?;
     let (front, byte) = (index.get(..at)?, *index.get(at)?);

@@ -1,13 +1,14 @@
 //! Calls of which each allocation is refused in turn: the gate runs these tests with a library that refuses the first
-//! allocation, then the second, and so on. Each call answers in full, or its own want of memory with what that leaves. Where a
-//! fixture has no memory the test ends well.
+//! allocation, then the second, and so on. Each call returns its whole result, or reports lack of memory and leaves
+//! what it promises. If there is no memory for a fixture, the test succeeds.
 
 use crate::fixture::{COUSINS, Given, HELLO, SOUND, TWO_MESSAGES, Told};
 use std::alloc::Global;
 use std::process::Abort;
 
-/// Whether a run tells that it found messages and the whole answer, or want of memory and a front of the answer. A refused growth of
-/// an output in memory is that device's failure. Nothing is told where its fixture had no memory.
+/// Whether a run reports that it found messages, with the whole answer, or lack of memory, with the first bytes of the
+/// answer. If an output in memory can't grow, that device has failed. There is no outcome if there was no memory for
+/// the fixture.
 fn is_answered(given: &Given, told: Told) -> bool {
     let Some(told) = told else {
         return true;
@@ -21,8 +22,8 @@ fn is_answered(given: &Given, told: Told) -> bool {
             .is_some()
 }
 
-/// Whether a run that indexes the archives itself, then a search of their stored index, and then one that first reads the archives
-/// through, are answered so.
+/// Whether this is so for a run that indexes the archives itself, then for a search of their stored index, and then for
+/// one that first reads all archives.
 fn are_answered(alloc: Global, given: &Given) -> bool {
     is_answered(given, given.once(alloc, SOUND))
         && match &given.index {
@@ -34,7 +35,7 @@ fn are_answered(alloc: Global, given: &Given) -> bool {
         }
 }
 
-/// Asserts that the runs of a row are answered so.
+/// Asserts that this is so for the runs of a row.
 fn check<R: Abort + AllocGlobal>(rt: &R, archives: &str, row: &str) {
     if let Some(given) = Given::over(rt.alloc(), archives, row) {
         assert!(rt; are_answered(rt.alloc(), &given), "{row}");

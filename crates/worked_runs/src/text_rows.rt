@@ -1,6 +1,6 @@
-//! Runs over one archive: which texts of a message are sought.
+//! Runs over one archive: which texts of a message are searched.
 
-/// Fields and encoded words, bodies, and how far a line, a header and parts are read.
+/// Fields and encoded words, bodies, and how much of a line, a header and parts is read.
 pub const TEXT_ROWS: &str = "\
 words -f, rc, --once, -r
 rcfile mbox=m.mbox|database=m.idx|mfolder=hits|

@@ -1,4 +1,4 @@
-//! What no clause says of threads: that they are answered where memory is ample.
+//! What no clause says of threads: that they are found if there is enough memory.
 ghost use Rattle.std.specs.Prelude.{◌<◌};
 ghost use Rattle.std.specs.List.{AllByRecursion};
 ghost use Rattle.mail_index.specs.Tables.{RisesFrom};
@@ -8,8 +8,9 @@ use mail_answer::with_threads;
 use mail_index::IndexView;
 use std::alloc::Global;
 
-// The index of six messages by their link ids alone, with no words. The first has the id 1@x, the second 2@x and refers to 1@x, the
-// third 3@x and answers 2@x. The fourth has no id. The fifth has 5@x, the sixth 6@x, and both refer to 0@x, which no message has.
+// The index of six messages by their link ids only, without words. The first has the id 1@x, the second 2@x and refers
+// to 1@x, the third 3@x and replies to 2@x. The fourth has no id. The fifth has 5@x, the sixth 6@x, and both refer to
+// 0@x, which no message has.
 const LINKED: &[u8] = b"MAIRIX\r\n\
     \0\0\0\x01\0\0\0\x01\0\0\0\x06\0\0\0\x06\0\0\0\0\0\0\0\x12\0\0\0\0\0\0\0\x12\0\0\0\0\0\0\0\x09\
     \0\0\0\0\0\0\x01\xa5\0\0\0\x06m.mbox\
@@ -38,7 +39,7 @@ const ALONE: &[u8] = b"MAIRIX\r\n\
     \xec\x6c\x1c\xa2\x93\xbd\x6c\x3f\xf6\x53\x57\x49\xdb\x94\x88\x38\
     \x93\x48\x64\xf0\x13\x92\x7b\x2f\x78\x38\x95\x5f\xfe\xce\x06\x56";
 
-/// Whether an index of so many messages gives these threads of some of them.
+/// Whether an index of this many messages gives these threads for some of them.
 fn are(alloc: Global, file: &[u8], count: u32, numbers: &[u32], threads: &[u32]) -> bool
     requires rises { RisesFrom 0 numbers.now }
     requires within { AllByRecursion (λ n. n < count) numbers.now }
@@ -54,16 +55,16 @@ fn are(alloc: Global, file: &[u8], count: u32, numbers: &[u32], threads: &[u32])
     }
 }
 
-/// Whether each choice of messages has its threads: among the six, of the one without ids, and of two that refer to a third, which no
-/// archive has.
+/// Whether each choice of messages has its threads: among the six, for the message without ids, and for two that refer
+/// to a third one, which no archive has.
 fn have_threads(alloc: Global) -> Option<[bool; 7]> {
     let cousins = indexed(alloc, &COUSINS)?;
     Some([
         are(alloc, LINKED, 6, &[], &[]),
         are(alloc, LINKED, 6, &[0], &[0, 1, 2]),
-        // Without ids.
+        // A message without ids.
         are(alloc, LINKED, 6, &[3], &[3]),
-        // By an id that no message has.
+        // Two messages with an id that no message has.
         are(alloc, LINKED, 6, &[4], &[4, 5]),
         are(alloc, LINKED, 6, &[1, 2, 3], &[0, 1, 2, 3]),
         are(alloc, ALONE, 1, &[0], &[0]),
@@ -77,7 +78,7 @@ fn messages_have_threads(rt: HostRuntime) {
     assert!(rt; told == Some([true; 7]), "{told:?}");
 }
 
-/// Whether the threads of two messages are whole, or want memory.
+/// Whether the threads of two messages are whole, or lack of memory is reported.
 fn are_whole_or_wanting(alloc: Global) -> bool {
     match IndexView::open(LINKED) {
         Ok(index) if index.message_count() == 6 => {
@@ -90,7 +91,7 @@ fn are_whole_or_wanting(alloc: Global) -> bool {
     }
 }
 
-// Each refused allocation is answered as want of memory, and nothing else is answered than all or that.
+// Each refused allocation is reported as lack of memory, and the result is either that or everything.
 #[test]
 fn sweep_all_threads_or_want_of_memory(rt: HostRuntime) {
     assert!(rt; are_whole_or_wanting(rt.alloc()));

@@ -22,15 +22,15 @@ const MANY: [u8; 32] = *b"\xcd\xc7\x6e\x5c\x99\x14\xfb\x92\x81\xa1\xc7\xe2\x84\x
 const NOTHING: [u8; 32] = *b"\xe3\xb0\xc4\x42\x98\xfc\x1c\x14\x9a\xfb\xf4\xc8\x99\x6f\xb9\x24\
     \x27\xae\x41\xe4\x64\x9b\x93\x4c\xa4\x95\x99\x1b\x78\x52\xb8\x55";
 
-/// How many calls of the archives are made: three lengths, and a read of the first and eight of the second.
+/// The number of calls of the archives: three lengths, and a read of the first archive and eight of the second.
 const CALLS: u64 = 12;
 
-/// What becomes of an archive after it was indexed.
+/// How an archive changes after it was indexed.
 #[derive(Clone, Copy)]
 enum Change {
-    /// The lowest bit of the byte at this offset.
+    /// The lowest bit of the byte at this offset is turned.
     Bit(usize),
-    /// A byte more at its end.
+    /// The archive has one more byte at its end.
     Longer,
 }
 
@@ -48,7 +48,7 @@ fn build(builder: &mut Builder, path: &str) -> Result<(), BuildFault>
     builder.end_archive(0, NOTHING)
 }
 
-/// Their index file. It is None where memory is wanting, and so are the answers below.
+/// Returns the index file of the archives. It is None if memory runs out, and so are the results below.
 fn index_file(alloc: Global) -> Option<MemoryOut> {
     let path = "m.mbox";
     if !is_path(path) {
@@ -64,7 +64,7 @@ fn index_file(alloc: Global) -> Option<MemoryOut> {
     }
 }
 
-/// Makes a change of an archive's bytes.
+/// Changes the bytes of an archive.
 fn make(change: Change, bytes: &mut Vec<u8>) -> Option<()> {
     match change {
         Longer => bytes.push(b'a').ok(),
@@ -75,7 +75,8 @@ fn make(change: Change, bytes: &mut Vec<u8>) -> Option<()> {
     }
 }
 
-/// The bytes of the archive of this number as they were indexed, and none behind the last, after those changes that are its own.
+/// Returns the bytes of the archive with this number as they were indexed, with the changes of this archive. After the
+/// last archive there are no bytes.
 fn changed_bytes(alloc: Global, n: usize, changes: &[(usize, Change)]) -> Option<Vec<u8>> {
     let indexed = match n {
         0 => b"abc".to_vec(alloc),
@@ -92,7 +93,7 @@ fn changed_bytes(alloc: Global, n: usize, changes: &[(usize, Change)]) -> Option
     are_made.then_some(bytes)
 }
 
-/// Adds the archive of this number behind the others, of which there are few.
+/// Adds the archive with this number after the others, of which there are few.
 fn hold(
     alloc: Global,
     held: &mut MemoryArchives,
@@ -105,7 +106,7 @@ fn hold(
     held.add(&changed_bytes(alloc, n, changes)?).ok()
 }
 
-/// So many archives, of which some have changed.
+/// Returns this many archives, with these changes.
 fn held(alloc: Global, count: usize, changes: &[(usize, Change)]) -> Option<MemoryArchives> {
     let mut held = MemoryArchives::new(alloc);
     let mut are_held = true;
@@ -115,15 +116,15 @@ fn held(alloc: Global, count: usize, changes: &[(usize, Change)]) -> Option<Memo
     are_held.then_some(held)
 }
 
-/// An end that no archive gets to.
+/// An end after the end of each archive.
 const NO_END: u64 = u64::MAX;
 
-/// The answer that tells a fault. Nothing is sent by [`verify`].
+/// The result for a fault. [`verify`] sends nothing.
 fn failed(kind: AnswerFaultKind) -> Result<(), AnswerFault> {
     Err(AnswerFault { kind, sent: 0 })
 }
 
-/// Whether this is told.
+/// Whether this is the result.
 fn is_told(told: &Option<Result<(), AnswerFault>>, wanted: Result<(), AnswerFault>) -> bool {
     match (told, wanted) {
         (Some(Ok(())), Ok(())) => true,
@@ -132,8 +133,9 @@ fn is_told(told: &Option<Result<(), AnswerFault>>, wanted: Result<(), AnswerFaul
     }
 }
 
-/// What is told of so many archives with these changes, by the index of those that were indexed. This call fails, and none where it is
-/// 0, and each archive is read as if it ended there. An index that can't be read tells what no row wants.
+/// Returns the result for this many archives with these changes, by the index of those that were indexed. This call
+/// fails, or none if it is 0, and each archive is read as if it ended at this offset. If the index can't be read, the
+/// result is one that no row has.
 fn told(
     alloc: Global,
     count: usize,
@@ -151,7 +153,7 @@ fn told(
     }
 }
 
-/// The answer that tells a failed call, or this archive, or none.
+/// Returns the result if a call fails; otherwise that of this changed archive, or success if none has changed.
 fn told_of(is_failing: bool, stale: Option<u32>) -> Result<(), AnswerFault> {
     match stale {
         _ if is_failing => failed(Device),
@@ -160,8 +162,9 @@ fn told_of(is_failing: bool, stale: Option<u32>) -> Result<(), AnswerFault> {
     }
 }
 
-/// How many archives there are by now, their changes, which is told, and how many calls of the archives are made. The count comes
-/// first, then the lengths, then the digests; of each the first archive is told, and none behind it is asked.
+/// The number of archives there are now, their changes, the archive that is reported, and the number of calls of the
+/// archives. The number of archives is compared first, then the lengths, then the digests. The first archive that
+/// differs is reported, and none after it is read.
 const CHANGED: &[(usize, &[(usize, Change)], Option<u32>, u64)] = &[
     (3, &[], None, CALLS),
     (3, &[(0, Bit(0))], Some(0), 4),
@@ -180,8 +183,8 @@ const CHANGED: &[(usize, &[(usize, Change)], Option<u32>, u64)] = &[
     (0, &[], Some(0), 0),
 ];
 
-/// A failure is told where one of these calls fails, and else what has changed, also where a call behind the last one would fail. Where
-/// nothing has changed each call fails in turn, and elsewhere the last one.
+/// A failure is reported if one of these calls fails; otherwise the change is, even if a call after the last one would
+/// fail. If nothing has changed, each call fails in turn; otherwise only the last one does.
 #[test]
 fn changed_archives_are_told(rt: HostRuntime) {
     for (count, changes, stale, calls) in CHANGED {
@@ -197,7 +200,7 @@ fn changed_archives_are_told(rt: HostRuntime) {
     }
 }
 
-/// Where archives end before the lengths that they tell, and which is told as one that has changed.
+/// Where archives end, before the lengths that they report, and which archive is reported as changed.
 const ENDS: &[(u64, Option<u32>)] = &[
     (0, Some(0)),
     (2, Some(0)),
@@ -218,14 +221,15 @@ fn an_early_end_is_told(rt: HostRuntime) {
     }
 }
 
-/// Changes, and which archive is told.
+/// Changes, and the archive that is reported.
 const SWEPT: &[(&[(usize, Change)], Option<u32>)] = &[
     (&[], None),
     (&[(0, Bit(0))], Some(0)),
     (&[(1, Longer)], Some(1)),
 ];
 
-/// Each refused allocation is answered as want of memory, and only where the count and the lengths are those that were indexed.
+/// Each refused allocation is reported as lack of memory, but only if the number of archives and their lengths are
+/// those that were indexed.
 #[test]
 fn sweep_verify(rt: HostRuntime) {
     for (changes, stale) in SWEPT {
