@@ -1,4 +1,4 @@
--- Laws of a file and the one table that it is of.
+-- The laws of a file and its one table.
 pub mod Accepts
 pub mod Bytes
 pub mod FileLemmas

@@ -1,4 +1,4 @@
--- What holds of each item of a list, and of a list without items.
+-- Properties of each item of a list, and a list without items.
 use Rattle.mail_index.proofs.Words.{◌≡◌, ◌<◌, ℕ, zero, suc, List, [], ◌∷◌, ◌++◌, length, take, drop, get_or, refl, arith, AllByRecursion}
 
 pub all-snoc : {A : Type 0} (P : A → Type 0) (xs : List A) (x : A) → AllByRecursion P xs → P x → AllByRecursion P (xs ++ x ∷ [])

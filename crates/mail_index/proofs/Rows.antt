@@ -37,13 +37,13 @@ hello_bytes =
     ∷ 6 ∷ 0 ∷ 0 ∷ 0 ∷ 0 ∷ 0 ∷ 0 ∷ 2 ∷ 0 ∷ 0 ∷ 0 ∷ 0 ∷ 0 ∷ 0 ∷ 0 ∷ 5 ∷ 0 ∷ 0 ∷ 0 ∷ 0 ∷ 0 ∷ 0 ∷ 0 ∷ 1
     ∷ 0x68 ∷ 0x65 ∷ 0x6c ∷ 0x6c ∷ 0x6f ∷ 0x68 ∷ 0x69 ∷ 1 ∷ 1 ∷ []
 
--- 32 bytes, each another one
+-- 32 different bytes
 abbrev some_digest : List ℕ
 some_digest =
     0xe0 ∷ 0xe1 ∷ 0xe2 ∷ 0xe3 ∷ 0xe4 ∷ 0xe5 ∷ 0xe6 ∷ 0xe7 ∷ 0xe8 ∷ 0xe9 ∷ 0xea ∷ 0xeb ∷ 0xec ∷ 0xed ∷ 0xee ∷ 0xef
     ∷ 0xf0 ∷ 0xf1 ∷ 0xf2 ∷ 0xf3 ∷ 0xf4 ∷ 0xf5 ∷ 0xf6 ∷ 0xf7 ∷ 0xf8 ∷ 0xf9 ∷ 0xfa ∷ 0xfb ∷ 0xfc ∷ 0xfd ∷ 0xfe ∷ 0xff ∷ []
 
--- the same in version 2
+-- the same table in version 2
 abbrev pub new : Table
 new = record hello { version = 2; archives = record { path = codes "m.mbox"; length = 58; digest = Some some_digest } ∷ [] }
 
@@ -72,7 +72,7 @@ records : (record_bytes (record { archive = 258; offset = 1; length = 65536; siz
     ≡ 8 ∷ 0 ∷ 0 ∷ 0 ∷ 0 ∷ 0 ∷ 0 ∷ 3 ∷ 0 ∷ 0 ∷ 0 ∷ 0 ∷ 0 ∷ 0 ∷ 1 ∷ 0 ∷ 0 ∷ 0 ∷ 0 ∷ 0 ∷ 0 ∷ 0 ∷ 255 ∷ 255 ∷ [])
 records = (refl, refl, refl)
 
--- the greatest difference is that of the number 2 ^ 32 - 1 from none
+-- the greatest difference is that of the number 2 ^ 32 - 1, if no number comes before it
 numbers : (map (leb128 5) (300 ∷ 127 ∷ 128 ∷ []) ≡ (0xAC ∷ 2 ∷ []) ∷ (0x7F ∷ []) ∷ (0x80 ∷ 1 ∷ []) ∷ [])
     × (postings (0xFFFF_FFFF ∷ []) ≡ 0x80 ∷ 0x80 ∷ 0x80 ∷ 0x80 ∷ 0x10 ∷ [])
     × (postings (0 ∷ 2 ∷ 300 ∷ []) ≡ 1 ∷ 2 ∷ 0xAA ∷ 2 ∷ [])

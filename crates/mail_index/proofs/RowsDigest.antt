@@ -1,4 +1,4 @@
--- The digests of the least file, and of a file with one message in both versions.
+-- The digests of the smallest file, and of a file with one message in both versions.
 use Rattle.std.proofs.Common.{◌≡◌, [], ◌∷◌, refl}
 use Rattle.sha2.specs.Sha256.{sha256, first_words, schedule, rounds, compress, hash_after, digest_bytes}
 use Rattle.mail_index.proofs.Rows.{nothing_bytes, hello_bytes, new_bytes}

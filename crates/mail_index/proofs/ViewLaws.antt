@@ -1,4 +1,4 @@
--- Laws of a file that is read in place.
+-- The laws of a file that is read in place.
 pub mod ArchiveReads
 pub mod Comparisons
 pub mod DigestReads

@@ -1,4 +1,4 @@
--- The words of std and of the definitions that proofs take, from one place.
+-- The words of std and of the definitions that proofs use, from one place.
 pub use Rattle.std.proofs.Common.{Bool, Bor, Err, Fits, FitsSigned, IfOk, IfSome, IsErr, IsSome, List, None, Ok, OnErr, OnOk, Option, Result, Some, Vec, [], add-one, ap, append-nil, append_assoc, ap₂, arith, cond, drop, drop-drop, false, flat_map, fold, get_or, if◌then◌else◌, inl, inr, length, length-append, length-drop, length-take-le, lit<, ltb, ltb-true, map, min, nat_cmp, nat_eq, nat_le, nat_lt, refl, replicate, rules, set, slice_get, slice_index, string_bytes, subst, suc, sym, take, take-take, true, w8, zero, ℕ, ℤ, ◌%◌, ◌&&◌, ◌*◌, ◌++◌, ◌+◌, ◌-◌, ◌/◌, ◌<◌, ◌^◌, ◌||◌, ◌↔◌, ◌∙◌, ◌∷◌, ◌≡◌, ◌≢◌, ◌≤◌}
 pub use Rattle.std.proofs.Math.Facts.{Fits-lt-pow, Fits-of_z}
 pub use Rattle.std.proofs.Math.Nat.{add-mul, mul-le-mul_right, mul_assoc, pow-suc, pow-succ'}

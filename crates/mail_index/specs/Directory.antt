@@ -1,4 +1,5 @@
--- The directory read entry by entry. Of bytes that no table has this says anything.
+-- The entries of a directory, read one after another. For bytes that are in no table's file these definitions may say
+-- anything.
 use Rattle.std.specs.Prelude.{◌≡◌, ℕ, zero, suc, ◌+◌, ◌-◌, ◌<◌, ◌≤◌, Bool, true, ◌&&◌, nat_eq, cond, List, [], ◌∷◌, length, take, drop}
 use Rattle.std.specs.declared.cmp.Ordering.TheVariants.{Less}
 use Rattle.mail_index.specs.Kinds.{is_kind_number, kind_of_number}
@@ -7,17 +8,20 @@ use Rattle.mail_index.specs.Fields.{byte_at, u32_at, u64_at}
 use Rattle.mail_index.specs.Files.{Entry}
 use Rattle.mail_index.specs.OrderOfKeys.{key_cmp}
 
--- the kind is one, and zeros follow
+-- the first byte is the number of a kind that the version has, and three zeros follow
 unfoldable pub is_entry : ℕ → List ℕ → Bool
 is_entry version d = is_kind_number (last_kind version) (byte_at d 0) && nat_eq (byte_at d 1) 0 && nat_eq (byte_at d 2) 0 && nat_eq (byte_at d 3) 0
 
 -- where the postings of the entry before this directory end: where those of its first entry begin, or at the end of all
+-- if there is no entry
 abbrev pub end_before : List ℕ → ℕ → ℕ
 end_before d total = cond (nat_eq (length d) 0) total (u64_at d 16)
 
+-- the text of the directory's first entry
 abbrev pub text_at : List ℕ → List ℕ → List ℕ
 text_at texts d = take (u32_at d 4) (drop (u64_at d 8) texts)
 
+-- the directory's first entry, with its text and its postings
 unfoldable pub read_entry : List ℕ → List ℕ → List ℕ → Entry
 read_entry texts postings d = record {
   kind = kind_of_number (byte_at d 0);
@@ -25,12 +29,16 @@ read_entry texts postings d = record {
   postings = take (end_before (drop 24 d) (length postings) - u64_at d 16) (drop (u64_at d 16) postings);
 }
 
+-- this many entries, one after another
 abbrev pub read_entries : List ℕ → List ℕ → ℕ → List ℕ → List Entry
 read_entries texts postings zero d = []
 read_entries texts postings (suc n) d = read_entry texts postings d ∷ read_entries texts postings n (drop 24 d)
 
 -- ---- the entries of a directory, from where the texts and the postings of an earlier one ended
 
+-- The directory's first entry may come at these places: its text begins at `text_place` and its postings at `place`,
+-- both have some bytes and stay within their sections, and its key comes after the key of this kind's number and this
+-- text.
 pub record IsEntryAt (version : ℕ) (texts : List ℕ) (total text_place place number : ℕ) (text d : List ℕ) : Type 0 where
   pub spelled : is_entry version d ≡ true
   pub text_begins : u64_at d 8 ≡ text_place
@@ -41,6 +49,8 @@ pub record IsEntryAt (version : ℕ) (texts : List ℕ) (total text_place place 
   pub end : end_before (drop 24 d) total ≤ total
   pub after : key_cmp number text (byte_at d 0) (text_at texts d) ≡ Less
 
+-- this many entries may come from these places on, each after the one before it, and they end where the texts and the
+-- postings end
 abbrev pub AreEntries : ℕ → List ℕ → ℕ → ℕ → ℕ → ℕ → List ℕ → ℕ → List ℕ → Type 0
 AreEntries version texts total text_place place number text zero d = (text_place ≡ length texts) × (place ≡ total)
 AreEntries version texts total text_place place number text (suc n) d =

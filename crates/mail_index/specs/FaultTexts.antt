@@ -1,10 +1,11 @@
--- What is told of bytes that are no index file.
+-- The texts that describe what is wrong with bytes that aren't an index file.
 use Rattle.std.specs.Prelude.{ℕ, List, ◌++◌, codes}
 use Rattle.mail_index.specs.declared.view.fault.IndexFault.{IndexFault}
 use Rattle.mail_index.specs.declared.view.fault.IndexFault.TheVariants.{TooShort, BadMagic, BadVersion, BadDigest, BadLayout}
 use Rattle.mail_index.specs.declared.view.fault.Section.{Section}
 use Rattle.mail_index.specs.declared.view.fault.Section.TheVariants.{Counts, Archives, Records, Directory, Postings}
 
+-- the name of a section
 abbrev pub text_of_section : Section → List ℕ
 text_of_section Counts = codes "counts"
 text_of_section Archives = codes "archives"
@@ -12,6 +13,7 @@ text_of_section Records = codes "records"
 text_of_section Directory = codes "directory"
 text_of_section Postings = codes "postings"
 
+-- the text of a fault
 abbrev pub text_of_index : IndexFault → List ℕ
 text_of_index TooShort = codes "too short"
 text_of_index BadMagic = codes "bad magic"

@@ -1,4 +1,4 @@
--- Which bytes are an index file, and what is the first thing wrong with others.
+-- Which bytes are an index file, and what the first fault of other bytes is.
 use Rattle.std.specs.Prelude.{◌≡◌, ◌≢◌, ℕ, ◌+◌, ◌-◌, ◌*◌, ◌<◌, ◌≤◌, List, length, take, drop, map, flat_map, slice_range}
 use Rattle.std.specs.List.{AllByRecursion}
 use Rattle.std.specs.declared.cmp.Ordering.TheVariants.{Less}
@@ -15,60 +15,73 @@ use Rattle.mail_index.specs.Files.{magic, archive_bytes, record_bytes, Entry, en
 use Rattle.mail_index.specs.Limits.{four_byte_limit}
 use Rattle.mail_index.specs.OrderOfKeys.{key_cmp}
 
--- the keys of two entries
+-- the key of the first entry comes before that of the second
 abbrev pub EntryBefore : Entry → Entry → Type 0
 EntryBefore a b = key_cmp (kind_number a.kind) a.text (kind_number b.kind) b.text ≡ Less
 
+-- the entry has a kind of the version, a text that isn't empty and fits its count, and postings
 abbrev pub IsEntry : ℕ → Entry → Type 0
 IsEntry version e = (kind_number e.kind ≤ last_kind version) × (0 < length e.text) × (length e.text < four_byte_limit) × (0 < length e.postings)
 
 module _ (bytes : List ℕ) where
+  -- the version that the bytes name
   abbrev pub version_told : ℕ
   version_told = u32_at bytes 8
 
-  -- ---- where the sections begin, by the lengths that the counts tell
+  -- ---- where the sections begin, by the lengths in the counts
 
+  -- the offset of the records
   abbrev pub records_start : ℕ
   records_start = 48 + u64_at bytes 24
 
+  -- the offset of the directory
   abbrev pub directory_start : ℕ
   directory_start = records_start + 40 * u32_at bytes 16
 
+  -- the offset of the texts
   abbrev pub texts_start : ℕ
   texts_start = directory_start + 24 * u32_at bytes 20
 
+  -- the offset of the postings
   abbrev pub postings_start : ℕ
   postings_start = texts_start + u64_at bytes 32
 
+  -- the offset of the digest
   abbrev pub digest_start : ℕ
   digest_start = postings_start + u64_at bytes 40
 
-  -- ---- the rules in their order, each with what it finds
+  -- ---- the rules in their order, each with those before it and with what it finds
 
+  -- the last 32 bytes are the SHA-256 of those before
   abbrev pub HasDigest : Type 0
   HasDigest = drop (length bytes - 32) bytes ≡ sha256 (take (length bytes - 32) bytes)
 
+  -- the bytes have the length, the magic, a known version and the digest of an index file
   pub record IsSigned : Type 0 where
     pub long : 80 ≤ length bytes
     pub marked : take 8 bytes ≡ magic
     pub known : IsVersion version_told
     pub digest : HasDigest
 
+  -- the bytes are signed, and the lengths in the counts add up to the length of the file
   abbrev pub HasCounts : Type 0
   HasCounts = IsSigned × (digest_start + 32 ≡ length bytes)
 
+  -- the counts are right, and the section of archives consists of these archives, and each keeps its rule
   pub record HasArchives (archives : List Archive) : Type 0 where
     pub before : HasCounts
     pub spelled : slice_range bytes 48 records_start ≡ flat_map archive_bytes archives
     pub counted : length archives ≡ u32_at bytes 12
     pub each : AllByRecursion (IsArchive version_told) archives
 
+  -- the archives are right, and the section of records consists of these records, each valid, in order
   pub record HasRecords (archives : List Archive) (messages : List Record) : Type 0 where
     pub before : HasArchives archives
     pub spelled : slice_range bytes records_start directory_start ≡ flat_map record_bytes messages
     pub each : AllByRecursion (IsMessage archives) messages
     pub in_order : AllNext Follows messages
 
+  -- the records are right, and directory, texts and postings are those of these entries, each valid, in order
   pub record HasDirectory (archives : List Archive) (messages : List Record) (es : List Entry) : Type 0 where
     pub before : HasRecords archives messages
     pub spelled : slice_range bytes directory_start texts_start ≡ directory_from 0 0 es
@@ -77,6 +90,7 @@ module _ (bytes : List ℕ) where
     pub each : AllByRecursion (IsEntry version_told) es
     pub sorted : AllNext EntryBefore es
 
+  -- the directory is right, and the postings of its entries are the rising numbers of these keys
   pub record HasPostings (archives : List Archive) (messages : List Record) (keys : List Key) : Type 0 where
     pub before : HasDirectory archives messages (map entry_of keys)
     pub each : AllByRecursion (IsKey version_told (length messages)) keys
@@ -85,7 +99,7 @@ module _ (bytes : List ℕ) where
   abbrev pub IsFileOf : Table → Type 0
   IsFileOf t = IsWellFormed t × (bytes ≡ index_file t)
 
-  -- the first rule that is broken
+  -- the fault is that of the first broken rule
   abbrev pub IsFirstFault : IndexFault → Type 0
   IsFirstFault TooShort = length bytes < 80
   IsFirstFault BadMagic = (80 ≤ length bytes) × (take 8 bytes ≢ magic)

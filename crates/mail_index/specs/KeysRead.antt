@@ -9,15 +9,16 @@ use Rattle.mail_index.specs.Directory.{read_entries, AreEntries}
 use Rattle.mail_index.specs.Lists.{AreLists}
 use Rattle.mail_index.specs.Limits.{four_byte_limit}
 
--- a key with its postings read
+-- the key of an entry, with its postings read
 abbrev pub key_of : Entry → Key
 key_of e = record { kind = e.kind; text = e.text; numbers = numbers_read 0 e.postings }
 
--- the keys of so many entries, by their texts and postings
+-- the keys of this many entries, with their texts and postings
 abbrev pub keys_read : List ℕ → List ℕ → ℕ → List ℕ → List Key
 keys_read texts postings count entries = map key_of (read_entries texts postings count entries)
 
--- the entries stand in the order of their keys, each with its own text and with postings of messages
+-- The entries are in the order of their keys, each with its own text and with postings of messages. Version and number
+-- of messages may be any.
 pub record IsDirectory (texts postings : List ℕ) (count : ℕ) (entries : List ℕ) : Type 0 where
   pub long : length entries ≡ 24 * count
   pub version : ℕ
@@ -26,9 +27,10 @@ pub record IsDirectory (texts postings : List ℕ) (count : ℕ) (entries : List
   pub few : messages ≤ four_byte_limit
   pub lists : AreLists messages postings count entries
 
--- of a place where there is none, any key
+-- any key, for a place where there is none
 abbrev pub no_key : Key
 no_key = record { kind = OwnId; text = []; numbers = [] }
 
+-- the key of this number, or any key after the last
 abbrev pub key_at : List Key → ℕ → Key
 key_at keys number = slice_index_or keys number no_key

@@ -4,6 +4,7 @@ use Rattle.mail_words.specs.declared.kind.TextKind.TheVariants.{To, Cc, Bcc, Fro
 use Rattle.mail_index.specs.declared.kind.Kind.{Kind}
 use Rattle.mail_index.specs.declared.kind.Kind.TheVariants.{Text, OwnId, LinkId}
 
+-- the number of a kind
 abbrev pub kind_number : Kind → ℕ
 kind_number (Text To) = 1
 kind_number (Text Cc) = 2
@@ -15,11 +16,11 @@ kind_number OwnId = 7
 kind_number LinkId = 8
 kind_number (Text Name) = 9
 
--- the number of a kind that isn't past the last
+-- whether this is the number of a kind, if `last` is the greatest
 abbrev pub is_kind_number : ℕ → ℕ → Bool
 is_kind_number last n = nat_le 1 n && nat_le n last
 
--- the kind of a number; of those past the last, the last
+-- the kind of a number: for 0 that of 1, and for numbers above 9 that of 9
 abbrev pub kind_of_number : ℕ → Kind
 kind_of_number zero = Text To
 kind_of_number (suc zero) = Text To

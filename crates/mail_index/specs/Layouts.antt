@@ -1,4 +1,4 @@
--- The sections of a file as slices, and the table that they tell.
+-- The sections of a file as slices, and the table that they give.
 use Rattle.std.specs.Prelude.{◌≡◌, ℕ, ◌+◌, ◌*◌, ◌^◌, ◌<◌, List, [], length, slice_range}
 use Rattle.mail_index.specs.declared.view.archive.Archive.{Archive}
 use Rattle.mail_index.specs.declared.view.layout.Layout.{Layout}
@@ -13,6 +13,7 @@ use Rattle.mail_index.specs.Lists.{AreLists}
 use Rattle.mail_index.specs.KeysRead.{keys_read}
 use Rattle.mail_index.specs.Limits.{four_byte_limit}
 
+-- the layout divides these bytes as their counts say
 pub record IsLayout (bytes : List ℕ) (l : Layout) : Type 0 where
   pub adds_up : digest_start bytes + 32 ≡ length bytes
   pub few : length bytes < 2 ^ 64
@@ -27,6 +28,7 @@ pub record IsLayout (bytes : List ℕ) (l : Layout) : Type 0 where
   pub texts : l.texts.now ≡ slice_range bytes (texts_start bytes) (postings_start bytes)
   pub postings : l.postings.now ≡ slice_range bytes (postings_start bytes) (digest_start bytes)
 
+-- the table that the sections give
 abbrev pub table_of : Layout → Table
 table_of l = record {
   version = version_number l.version;
@@ -35,10 +37,11 @@ table_of l = record {
   keys = keys_read l.texts.now l.postings.now l.key_count l.directory.now;
 }
 
+-- the archive of a view, as a table has it
 abbrev pub archive_of : Archive → table.Archive
 archive_of a = record { path = a.path.now; length = a.length; digest = a.digest }
 
--- the sections were looked at, each from its front on, and keep their rules
+-- the sections were checked, from the first to the last, and keep their rules
 pub record IsChecked (l : Layout) : Type 0 where
   pub archives : SpellsArchives (version_number l.version) l.archive_count l.archives.now
   pub record_bytes : length l.records.now ≡ 40 * l.message_count

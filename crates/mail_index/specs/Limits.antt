@@ -13,6 +13,6 @@ most_in_key = 262144
 abbrev pub most_in_archive : ℕ
 most_in_archive = 2 ^ 40
 
--- numbers that a file has in four bytes are below this one
+-- the numbers that a file has in four bytes are below this one
 abbrev pub four_byte_limit : ℕ
 four_byte_limit = 2 ^ 32

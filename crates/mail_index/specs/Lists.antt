@@ -8,11 +8,11 @@ use Rattle.mail_index.specs.PostingReads.{ArePosted}
 abbrev pub list_at : List ℕ → List ℕ → List ℕ
 list_at postings d = take (end_before (drop 24 d) (length postings) - u64_at d 16) (drop (u64_at d 16) postings)
 
--- one or more numbers of so many messages
+-- one or more rising numbers below `messages`
 abbrev pub IsList : ℕ → List ℕ → Type 0
 IsList messages list = (0 < length list) × ArePosted messages 0 list
 
--- the postings of each of so many entries are such a list
+-- the postings of each of this many entries are such a list
 abbrev pub AreLists : ℕ → List ℕ → ℕ → List ℕ → Type 0
 AreLists messages postings zero d = Unit {0}
 AreLists messages postings (suc n) d = IsList messages (list_at postings d) × AreLists messages postings n (drop 24 d)

@@ -1,4 +1,4 @@
--- What a table answers of a key.
+-- What a table returns for a key, and how many comparisons this takes.
 use Rattle.std.specs.Prelude.{◌≡◌, ℕ, zero, suc, ◌+◌, ◌/◌, ◌^◌, ◌<◌, ◌≤◌, Bool, true, false, ◌&&◌, nat_eq, nat_lt, List, [], ◌∷◌, length, take, drop, map, filter}
 use Rattle.std.specs.Str.{bytes_eq}
 use Rattle.std.specs.List.{starts_with}
@@ -13,39 +13,41 @@ use Rattle.mail_index.specs.Steps.{add_steps}
 use Rattle.mail_index.specs.OrderOfKeys.{key_cmp}
 use Rattle.mail_index.specs.Tables.{Key, Table}
 
+-- whether the key is of this kind
 abbrev pub is_of_kind : Kind → Key → Bool
 is_of_kind kind k = nat_eq (kind_number k.kind) (kind_number kind)
 
+-- whether the key has this kind and this text
 abbrev pub is_key : Kind → List ℕ → Key → Bool
 is_key kind text k = is_of_kind kind k && bytes_eq k.text text
 
--- how a key lies to another
+-- how a key compares with the key of this kind and this text
 abbrev pub lies_to : Kind → List ℕ → Key → Ordering
 lies_to kind text k = key_cmp (kind_number k.kind) k.text (kind_number kind) text
 
--- the keys stand in that order, each once
+-- the keys are in that order, and none comes twice
 abbrev pub AreSorted : List Key → Type 0
 AreSorted ks = IsStrictlySortedBy (slice_cmp nat_cmp) (map (λ k. kind_number k.kind ∷ k.text) ks)
 
--- the numbers of the messages that have the key; none where the table hasn't it
+-- the numbers of the messages that have the key; none if the table doesn't have it
 abbrev pub numbers_at : Kind → List ℕ → List Key → List ℕ
 numbers_at kind text [] = []
 numbers_at kind text (k ∷ ks) = elim (is_key kind text k) [ true ↦ k.numbers | false ↦ numbers_at kind text ks ]
 
--- the keys of a kind
+-- the keys of a kind, in order
 abbrev pub keys_of : Kind → List Key → List Key
 keys_of kind ks = filter (is_of_kind kind) ks
 
--- those of them whose texts begin with this one
+-- the keys of a kind whose texts begin with this one, in order
 abbrev pub keys_beginning : Kind → List ℕ → List Key → List Key
 keys_beginning kind text ks = filter (λ k. starts_with nat_eq k.text text) (keys_of kind ks)
 
--- a key without its kind
+-- the text and the numbers of a key
 abbrev pub text_and_numbers : Key → List ℕ × List ℕ
 text_and_numbers k = (k.text, k.numbers)
 
--- how many comparisons halving makes: of the key in the middle, and where that isn't the sought one, of those of the half in which
--- it would stand. The keys are halved at most `most` times
+-- How many comparisons a binary search makes: one with the key in the middle and, if that isn't the key, those in the
+-- half where it would be. The keys are halved at most `most` times.
 abbrev pub comparisons_within : ℕ → Kind → List ℕ → List Key → ℕ
 comparisons_within zero kind text ks = 0
 comparisons_within (suc most) kind text ks = elim (drop (length ks / 2) ks) [
@@ -57,26 +59,28 @@ comparisons_within (suc most) kind text ks = elim (drop (length ks / 2) ks) [
   ])
 ]
 
--- as often as there are keys is enough
+-- how many comparisons a binary search makes: halving as often as there are keys is enough
 abbrev pub comparisons : Kind → List ℕ → List Key → ℕ
 comparisons kind text ks = comparisons_within (length ks) kind text ks
 
--- so few steps were taken: at most so many as the number has binary digits, which is the least number of digits that holds it
+-- the new count is higher by the number of steps taken, and these are at most as many as the number has binary digits
+-- (the least number of digits that can hold it)
 abbrev pub TakesDigits : ℕ → ℕ → ℕ → Type 0
 TakesDigits number old new = (digits : ℕ) → number < 2 ^ digits → (taken : ℕ) × (taken ≤ digits) × (new ≡ add_steps old taken)
 
 -- ---- runs of keys: those of a kind that begin with one text
 
--- how a key lies to those of a kind whose texts begin with this one: of its own text only so much is compared
+-- how a key compares with a run, the keys of this kind whose texts begin with this one: only as much of its own text is
+-- compared
 abbrev pub lies_to_run : Kind → List ℕ → Key → Ordering
 lies_to_run kind text k = key_cmp (kind_number k.kind) (take (length text) k.text) (kind_number kind) text
 
--- the key lies before those that lie so
+-- whether the key compares with the run as less than `least`
 abbrev pub lies_below : Ordering → Kind → List ℕ → Key → Bool
 lies_below least kind text k = nat_lt (ordering_index (lies_to_run kind text k)) (ordering_index least)
 
--- how many comparisons halving makes to find where the keys end that pass a test: of the key in the middle, and of those of the half
--- in which the end lies. The keys are halved at most `most` times
+-- How many comparisons a binary search makes to find where the keys that pass a test end: one with the key in the
+-- middle, and those in the half where the end is. The keys are halved at most `most` times.
 abbrev pub bisections_within : ℕ → (Key → Bool) → List Key → ℕ
 bisections_within zero passes ks = 0
 bisections_within (suc most) passes ks = elim (drop (length ks / 2) ks) [
@@ -84,15 +88,17 @@ bisections_within (suc most) passes ks = elim (drop (length ks / 2) ks) [
   | k ∷ behind ↦ suc (elim (passes k) [ true ↦ bisections_within most passes behind | false ↦ bisections_within most passes (take (length ks / 2) ks) ])
 ]
 
+-- the same, halving as often as there are keys, which is enough
 abbrev pub bisections : (Key → Bool) → List Key → ℕ
 bisections passes ks = bisections_within (length ks) passes ks
 
--- how many find the keys of a kind whose texts begin with this one: where they begin, and where they end
+-- how many comparisons find a run: those for where it begins, and those for where it ends
 abbrev pub comparisons_of_run : Kind → List ℕ → List Key → ℕ
 comparisons_of_run kind text ks = bisections (lies_below Equal kind text) ks + bisections (lies_below Greater kind text) ks
 
 -- ---- look-ups on one count
 
+-- a table, and the count of the steps that look-ups in it take
 pub record CountedTable : Type 0 where
   pub table : Table
   pub steps : ℕ

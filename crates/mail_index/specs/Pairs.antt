@@ -1,4 +1,4 @@
--- Which pairs of a key and a message some keys tell.
+-- Which pairs of a key and a message are among some keys.
 use Rattle.std.specs.Prelude.{◌≡◌, ◌⊎◌, ℕ, List, [], ◌∷◌}
 use Rattle.mail_index.specs.declared.kind.Kind.{Kind}
 use Rattle.mail_index.specs.Tables.{Key}
@@ -8,7 +8,7 @@ abbrev pub IsIn : List ℕ → ℕ → Type 0
 IsIn [] m = ⊥
 IsIn (n ∷ ns) m = (n ≡ m) ⊎ IsIn ns m
 
--- some key of this kind and text has this number
+-- a key of this kind and this text has this number
 abbrev pub Tells : List Key → Kind → List ℕ → ℕ → Type 0
 Tells [] kind text n = ⊥
 Tells (k ∷ ks) kind text n = ((k.kind ≡ kind) × (k.text ≡ text) × IsIn k.numbers n) ⊎ Tells ks kind text n

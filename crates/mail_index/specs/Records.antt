@@ -1,4 +1,5 @@
--- Records and archives read from the front of their sections. Of bytes that no table has these say anything.
+-- Records and archives read from the beginning of their sections. For bytes that are in no table's file these
+-- definitions may say anything.
 use Rattle.std.specs.Prelude.{◌≡◌, ◌-◌, true, ℕ, zero, suc, ◌+◌, ◌<◌, ◌≤◌, Bool, ◌&&◌, ◌||◌, nat_eq, nat_le, nat_lt, cond, ℤ, List, [], ◌∷◌, ◌++◌, take, drop, Option, Some, None, flat_map, bit_and}
 use Rattle.std.specs.Int.{w64, cast_signed}
 use Rattle.std.specs.List.{AllByRecursion}
@@ -11,15 +12,19 @@ use Rattle.mail_index.specs.Files.{archive_bytes}
 
 -- ---- records
 
+-- whether the flags have all bits of b
 abbrev pub has_bit : ℕ → ℕ → Bool
 has_bit flags b = nat_eq (bit_and flags b) b
 
+-- the flags of a message: 1 seen, 2 replied, 4 flagged
 abbrev pub read_flags : ℕ → Flags
 read_flags flags = record { seen = has_bit flags 1; replied = has_bit flags 2; flagged = has_bit flags 4 }
 
+-- the date, if the flags have 8
 abbrev pub read_date : ℕ → ℕ → Option ℤ
 read_date flags date = cond (has_bit flags 8) (Some (cast_signed w64 date)) None
 
+-- the record in the first 40 bytes
 unfoldable pub read_record : List ℕ → Record
 read_record r = record {
   archive = u32_at r 0;
@@ -30,12 +35,12 @@ read_record r = record {
   flags = read_flags (byte_at r 4);
 }
 
--- so many of them
+-- this many records, one after another
 abbrev pub read_records : ℕ → List ℕ → List Record
 read_records zero r = []
 read_records (suc n) r = read_record r ∷ read_records n (drop 40 r)
 
--- the flags and zeros are those of some record, and without a date its bytes are 0
+-- whether the flags and the zeros after them are those of a record, and the date's bytes are 0 if there is no date
 unfoldable pub is_record : List ℕ → Bool
 is_record r =
     nat_le (byte_at r 4) 15 && nat_eq (byte_at r 5) 0 && nat_eq (byte_at r 6) 0 && nat_eq (byte_at r 7) 0
@@ -43,16 +48,19 @@ is_record r =
 
 -- ---- archives
 
--- what follows the path of an archive
+-- the bytes after the path of the first archive
 abbrev pub behind_path : List ℕ → List ℕ
 behind_path r = drop (u32_at r 8) (drop 12 r)
 
+-- the first archive
 unfoldable pub read_archive : ℕ → List ℕ → Archive
 read_archive version r = record { path = take (u32_at r 8) (drop 12 r); length = u64_at r 0; digest = read_digest version (behind_path r) }
 
+-- the bytes after the first archive
 unfoldable pub behind_archive : ℕ → List ℕ → List ℕ
 behind_archive version r = behind_digest version (behind_path r)
 
+-- this many archives, one after another
 abbrev pub read_archives : ℕ → ℕ → List ℕ → List Archive
 read_archives version zero r = []
 read_archives version (suc n) r = read_archive version r ∷ read_archives version n (behind_archive version r)
@@ -62,30 +70,31 @@ pub record HasArchive (version : ℕ) (r : List ℕ) : Type 0 where
   pub spelled : r ≡ archive_bytes (read_archive version r) ++ behind_archive version r
   pub valid : IsArchive version (read_archive version r)
 
--- the bytes are so many archives
+-- the bytes consist of exactly this many archives
 pub record SpellsArchives (version n : ℕ) (r : List ℕ) : Type 0 where
   pub spelled : r ≡ flat_map archive_bytes (read_archives version n r)
   pub each : AllByRecursion (IsArchive version) (read_archives version n r)
 
--- what follows so many archives
+-- the bytes after this many archives
 abbrev pub behind_archives : ℕ → ℕ → List ℕ → List ℕ
 behind_archives version zero r = r
 behind_archives version (suc n) r = behind_archives version n (behind_archive version r)
 
 -- ---- the records of a section, from where an earlier one ended
 
--- the message lies in a later archive, or in this one from the place on
+-- whether the message is in a later archive, or in this one from the place on
 abbrev pub is_behind : ℕ → ℕ → Record → Bool
 is_behind archive place m = nat_lt archive m.archive || (nat_eq archive m.archive && nat_le place m.offset)
 
--- the record may follow in the archive of this number from the place on, or in a later one; the rest is the archives from
--- this number on
+-- The record may come next: in the archive of this number from the place on, or in a later one. `rest` is the bytes of
+-- the archives from this number on.
 pub record IsNextRecord (version count archive place : ℕ) (rest : List ℕ) (m : Record) : Type 0 where
   pub exists : m.archive < count
   pub follows : is_behind archive place m ≡ true
   pub within : m.offset + m.length ≤ u64_at (behind_archives version (m.archive - archive) rest) 0
   pub size : m.size < m.length
 
+-- this many records may come from this place on, each after the end of the one before it
 abbrev pub AreRecords : ℕ → ℕ → ℕ → ℕ → List ℕ → ℕ → List ℕ → Type 0
 AreRecords version count archive place rest zero r = Unit {0}
 AreRecords version count archive place rest (suc n) r =

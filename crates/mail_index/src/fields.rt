@@ -1,4 +1,4 @@
-//! Numbers at a place of a file, the highest byte first.
+//! Numbers at an offset of a file, the highest byte first.
 ghost use Rattle.std.specs.Prelude.{◌≡◌, ◌+◌, ◌≤◌, ◌&&◌, nat_eq, length};
 ghost use Rattle.mail_index.specs.Fields.{byte_at, u32_at as u32_in, u64_at as u64_in};
 

@@ -1,13 +1,13 @@
-//! What the keys of an index are of, and their order.
+//! The kinds of keys of an index, and the order of keys.
 ghost use Rattle.std.specs.Prelude.{◌≡◌};
 ghost use Rattle.mail_index.specs.OrderOfKeys.{key_cmp};
 
 use mail_words::TextKind;
 use std::cmp::Ordering;
 
-/// What a key is of: a word of one of the kinds of text, a message's own id, or an id that links it to a thread.
+/// The kind of a key: a word of one of the kinds of text, a message's own id, or an id that links it to a thread.
 ///
-/// Kinds stand in an index file in the order of their numbers there, 1 to 9.
+/// Kinds come in an index file in the order of their numbers there, 1 to 9.
 #[derive(Clone, Copy)]
 pub enum Kind {
     /// A folded word of a text of this kind.
@@ -21,7 +21,7 @@ pub enum Kind {
 impl Kind {
     ghost use Rattle.mail_index.specs.Kinds.{kind_number};
 
-    /// The number that stands for the kind in an index file, 1 to 9. Names are the last, since files of version 1 have none.
+    /// The number of the kind in an index file, 1 to 9. Names come last, because files of version 1 have none.
     pub(crate) fn number(self) -> u8
         ensures { result ≡ kind_number self }
     {
@@ -39,7 +39,7 @@ impl Kind {
     }
 }
 
-/// The order of keys in a file: by the number of their kind, then byte by byte.
+/// Compares two keys as a file orders them: by the number of their kind, then byte by byte.
 pub(crate) fn compare_keys(number: u8, text: &[u8], other_number: u8, other_text: &[u8]) -> Ordering
     ensures { result ≡ key_cmp number text.now other_number other_text.now }
 {

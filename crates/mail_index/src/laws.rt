@@ -10,14 +10,14 @@ ghost use Rattle.mail_index.specs.Builders.{with_pair};
 ghost use Rattle.mail_index.specs.LookUps.{is_key, comparisons, comparisons_of_run};
 ghost use Rattle.mail_index.specs.Files.{index_file, HasSmallSections};
 
-/// One file is the file of one table: an index file can't mean two things.
+/// Two well-formed tables with the same file are the same table: an index file can't mean two things.
 pub fn one_table_for_a_file()
     ensures { (t u : Table) → IsWellFormed t → IsWellFormed u
         → HasSmallSections t → HasSmallSections u
         → index_file t ≡ index_file u → t ≡ u }
 {}
 
-/// The file of a table that lies in memory has no fault: so the bytes that are opened are exactly the files of tables.
+/// The file of a table that fits in memory has no fault. So `IndexView::open` accepts exactly the files of tables.
 pub fn the_file_of_a_table_has_no_fault()
     ensures { (bytes : List ℕ) (t : Table) (fault : IndexFault)
         → length bytes < 2 ^ 64 → IsFileOf bytes t → ¬ IsFirstFault bytes fault }
@@ -25,10 +25,10 @@ pub fn the_file_of_a_table_has_no_fault()
 
 /// How many comparisons a binary search makes.
 ///
-/// They are at most as many as the number of keys has binary digits, which is the least number of digits that holds it (`few`). If no
-/// key is the sought one, they are at least as many as the digits of the number of keys, less one (`many`): one more key would have
-/// that many digits behind its first. Where there are keys, one is compared (`some`). The two searches for a run of keys never end
-/// early, so the first two hold of each of them (`run_few`, `run_many`).
+/// There are at most as many as the number of keys has binary digits, that is, the least number of digits that can hold
+/// it (`few`). If the key isn't there, there are also at least as many as the number of keys plus one has binary
+/// digits, less one (`many`). If there are keys, at least one is compared (`some`). The two searches for a run of keys
+/// never end early, so the first two bounds hold for each of the two (`run_few`, `run_many`).
 pub fn comparisons_law()
     ensures few { (kind : Kind) (text : List ℕ) (ks : List Key) (digits : ℕ)
         → length ks < 2 ^ digits → comparisons kind text ks ≤ digits }
@@ -43,8 +43,8 @@ pub fn comparisons_law()
         → 2 ^ digits ≤ suc (length ks) → 2 * digits ≤ comparisons_of_run kind text ks }
 {}
 
-/// With a pair more, keys tell this pair and all that they told, and nothing else. A pair that would change nothing still changes
-/// nothing then.
+/// Adding a pair of a key and a message leaves all pairs that were there (`kept`), adds this pair (`added`) and adds no
+/// other (`only`). If adding another pair changed nothing before, it still changes nothing (`had`).
 pub fn pairs_law()
     ensures added { (version n : ℕ) (kind : Kind) (text : List ℕ) (ks : List Key)
         → AllByRecursion (IsKey version (suc n)) ks → Tells (with_pair kind text n ks) kind text n }

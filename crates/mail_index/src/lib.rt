@@ -1,5 +1,5 @@
-//! An index of archives: what a table of archives, messages and keys says, the file that it is written to, and a
-//! reader of such a file in place.
+//! An index of archives: a table of archives, messages and keys, the file that it is written to, and a reader that
+//! reads such a file in place.
 #![tactic(auto)]
 
 mod build;

@@ -2,7 +2,7 @@
 ghost use Rattle.std.specs.Prelude.{◌↔◌, IsTrue};
 ghost use Rattle.mail_index.specs.Tables.{IsPath};
 
-/// Whether an index may name an archive so: 1 to 4,096 bytes, without line feed and NUL.
+/// Whether an index may use this name for an archive: 1 to 4,096 bytes, with no line feed and no NUL.
 pub fn is_path(path: &str) -> bool
     ensures { IsTrue result ↔ IsPath path.now }
 {

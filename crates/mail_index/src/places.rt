@@ -1,9 +1,9 @@
-//! Where the fields of an index file stand, and how many bytes its parts have.
+//! The offsets of the fields of an index file, and the sizes of its parts in bytes.
 
 /// The bytes that a file begins with.
 pub(crate) const MAGIC: [u8; 8] = *b"MAIRIX\r\n";
 
-// The front of a file, from its first byte on.
+// The front of a file: offsets from its first byte.
 pub(crate) const VERSION_AT: usize = 8;
 
 pub(crate) const ARCHIVE_COUNT_AT: usize = 12;
@@ -20,13 +20,13 @@ pub(crate) const POSTING_BYTES_AT: usize = 40;
 
 pub(crate) const FRONT: usize = 48;
 
-/// A digest, of an archive or of the file.
+/// The size of a digest, of an archive or of the file.
 pub(crate) const DIGEST: usize = 32;
 
-/// The least file: a front and its digest.
+/// The size of the smallest file: a front and its digest.
 pub(crate) const LEAST_FILE: usize = 80;
 
-// An archive: its path follows its front, and its digest follows the path.
+// An archive: its front, then its path, then its digest.
 pub(crate) const ARCHIVE_LENGTH_AT: usize = 0;
 
 pub(crate) const PATH_LENGTH_AT: usize = 8;

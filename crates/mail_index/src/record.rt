@@ -1,4 +1,4 @@
-//! What an index tells of one message.
+//! What an index says about one message.
 ghost use Rattle.std.specs.Prelude.{◌≡◌, ◌≤◌, length};
 ghost use Rattle.mail_index.specs.Records.{has_bit as has_bit_of, is_record as is_record_of};
 
@@ -16,13 +16,13 @@ pub struct Record {
     pub archive: u32,
     /// Where the message begins in its archive, in bytes.
     pub offset: u64,
-    /// The bytes of the message with its separator and the empty line that closes it, at least 1.
+    /// The bytes of the message, with its separator and the empty line that closes it: at least 1.
     pub length: u64,
-    /// The bytes of its text, without separator and closing line: less than `length`.
+    /// The bytes of its text, without the separator and the closing line: less than `length`.
     pub size: u64,
-    /// The second of its Date field (UTC), where it has one that can be read.
+    /// The second of its Date field (UTC), if it has one that can be read.
     pub date: Option<i64>,
-    /// Which marks it has.
+    /// Its flags: seen, replied, flagged.
     pub flags: Flags,
 }
 
@@ -36,7 +36,7 @@ fn has_bit(flags: u8, mask: u8) -> bool
 impl Record {
     ghost use Rattle.mail_index.specs.Records.{read_record};
 
-    /// The record in the first 40 bytes.
+    /// Reads a record from the first 40 bytes.
     #[tactic(auto, unfolding(crate::specs::Records::read_record))]
     pub(crate) fn read(bytes: &[u8]) -> Record
         requires { 40 ≤ length bytes.now }
@@ -63,8 +63,8 @@ impl Record {
     }
 }
 
-/// Whether the first 40 bytes are those of some record: no unknown flag, zeros behind the flags, and no date without
-/// its flag.
+/// Whether the first 40 bytes are those of a record: no unknown flag, zeros after the flags, and no date without its
+/// flag.
 #[tactic(auto, unfolding(crate::specs::Records::is_record))]
 pub(crate) fn is_record(bytes: &[u8]) -> bool
     requires { 40 ≤ length bytes.now }

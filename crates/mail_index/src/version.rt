@@ -1,6 +1,6 @@
 //! The versions of index files.
 //!
-//! Decisions 86 and 88 in docs/DECISIONS.md say why it is so.
+//! Decisions 86 and 88 in docs/DECISIONS.md say why there are two.
 ghost use Rattle.std.specs.Prelude.{◌≡◌, MatchOption};
 ghost use Rattle.mail_index.specs.Versions.{IsVersion, version_number};
 
@@ -9,9 +9,9 @@ use crate::places::DIGEST;
 /// A version of index files.
 #[derive(Clone, Copy)]
 pub enum Version {
-    /// Without names of parts, and without digests of archives.
+    /// Without names of attachments, and without digests of archives.
     One,
-    /// The one that is written.
+    /// The version that is written.
     Two,
 }
 
@@ -21,7 +21,7 @@ impl Version {
     /// The version that is written.
     pub(crate) const NEWEST: Version = Version::Two;
 
-    /// The version of this number, None where it isn't known.
+    /// The version with this number, or None if the number isn't known.
     pub(crate) fn of(number: u32) -> Option<Self>
         ensures { MatchOption result (¬ IsVersion number)
             (λ version. version_number version ≡ number) }
@@ -33,7 +33,7 @@ impl Version {
         }
     }
 
-    /// Its number, with which a file says it.
+    /// Its number, as it is in a file.
     pub(crate) fn number(self) -> u32
         ensures { result ≡ version_number self }
     {
@@ -43,7 +43,7 @@ impl Version {
         }
     }
 
-    /// The greatest number of a kind: names are the last, and came with version 2.
+    /// The greatest number of a kind. Names have the last one, and came with version 2.
     pub(crate) fn greatest_kind(self) -> u8
         ensures { result ≡ last_kind (version_number self) }
     {
@@ -53,7 +53,7 @@ impl Version {
         }
     }
 
-    /// The bytes that follow an archive's path.
+    /// How many bytes the digest after an archive's path has.
     pub(crate) fn digest_length(self) -> usize
         ensures { result ≡ digest_length (version_number self) }
     {

@@ -1,4 +1,4 @@
-//! Reading an index file in place.
+//! Reads an index file in place.
 
 pub mod archive;
 pub mod archive_list;

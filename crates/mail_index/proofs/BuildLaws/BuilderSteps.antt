@@ -1,4 +1,4 @@
--- What a caller learns of a builder from the answer of a call.
+-- A key that was added to a builder leaves the draft that the definition gives, because the call's result says so.
 use Rattle.std.proofs.Common.{arith}
 use Rattle.mail_index.proofs.Words.{◌≡◌, ℕ, List, length, Ok, Kind, Draft, with_pair, added}
 

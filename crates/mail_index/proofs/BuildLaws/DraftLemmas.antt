@@ -1,4 +1,5 @@
--- Laws of drafts: each call keeps archives and keys well-formed.
+-- Each call of a draft keeps its archives and keys well-formed, because every new number is below the count of
+-- messages.
 use Rattle.mail_index.proofs.Words.{◌≡◌, ℕ, suc, ◌+◌, ◌^◌, ◌<◌, ◌≤◌, true, false, nat_lt, if◌then◌else◌, List, [], ◌∷◌, ◌++◌, length, Result, OnOk, OnErr, refl, length-append, arith, Less, Equal, Greater, match_ordering, nat_cmp, slice_cmp, AllByRecursion, nat_tests, Kind, kind_number, newest, leb128, postings_from, end_from, with_number, Key, RisesFrom, IsKey, Draft, with_pair}
 use Rattle.mail_index.specs.Inside.Drafts.{IsDraft, message_count}
 use Rattle.mail_index.proofs.BuildLaws.PostingLemmas.{length-leb128}
@@ -8,7 +9,7 @@ rises-snoc : (low : ℕ) (ns : List ℕ) (n : ℕ) → RisesFrom low ns → end_
 rises-snoc low [] n r e = (e, tt)
 rises-snoc low (x ∷ ns) n r e = (r.0, rises-snoc (suc x) ns n r.1 e)
 
--- what holds of a list with and without a number at its end holds of the list with this number
+-- a property of a list with and without a number at its end is one of the list with this number
 pub by-number : (P : List ℕ → Type 0) (ns : List ℕ) (n : ℕ) → P ns → (end_from 0 ns ≤ n → P (ns ++ n ∷ [])) → P (with_number ns n)
 unfolding with_number
 by-number P ns n stays more = (elim (nat_lt n (end_from 0 ns)) as (λ v. nat_lt n (end_from 0 ns) ≡ v → P (if v then ns else ns ++ n ∷ [])) [
@@ -16,7 +17,7 @@ by-number P ns n stays more = (elim (nat_lt n (end_from 0 ns)) as (λ v. nat_lt 
   | false ↦ λ e. let new : end_from 0 ns ≤ n = grind (arith, nat_tests) in more new
 ]) refl
 
--- a key of one number more, which is below the count
+-- a key that gets one more number below the count is still a valid key
 pub key-more : (count n : ℕ) (k : Key) → IsKey newest count k → n < count → IsKey newest count (record { kind = k.kind; text = k.text; numbers = with_number k.numbers n })
 key-more count n k is low = record {
   kind = is.kind;
@@ -39,12 +40,12 @@ with_pair-listed count n kind text some short low (k ∷ ks) all =
       | Greater ↦ (all.0, with_pair-listed count n kind text some short low ks all.1)
     ]
 
--- what a call made of the keys keeps them well-formed
+-- whatever the result of the call, the keys stay well-formed
 pub listed-after : {T E : Type 0} (r : Result T E) (count n : ℕ) (kind : Kind) (text : List ℕ) → 0 < length text → length text < 2 ^ 32 → n < count → (ks after : List Key)
     → OnOk r (after ≡ with_pair kind text n ks) → OnErr r (after ≡ ks) → AllByRecursion (IsKey newest count) ks → AllByRecursion (IsKey newest count) after
 listed-after r count n kind text h h2 h3 ks after h4 h5 h6 = grind (arith, newest, with_pair-listed)
 
--- keys of so many messages are keys of more
+-- keys whose numbers are below a count are also keys for a higher count
 pub listed-weaker : (count more : ℕ) → count ≤ more → (ks : List Key) → AllByRecursion (IsKey newest count) ks → AllByRecursion (IsKey newest more) ks
 listed-weaker count more h = all-weaker (IsKey newest count) (IsKey newest more) (λ k is. record {
   kind = is.kind;
@@ -55,7 +56,7 @@ listed-weaker count more h = all-weaker (IsKey newest count) (IsKey newest more)
   below = all-weaker (λ n. n < count) (λ n. n < more) (λ n low. omega arith) k.numbers is.below;
 })
 
--- ---- how many bytes the numbers take
+-- ---- how many bytes the numbers need
 
 pub end_from-below : (count low : ℕ) (ns : List ℕ) → low ≤ count → AllByRecursion (λ n. n < count) ns → end_from low ns ≤ count
 end_from-below count low [] h all = h
@@ -69,6 +70,6 @@ length-postings_from low (n ∷ ns) r = grind (arith, length-append, leb128, pos
 pub length-postings : (count : ℕ) (k : Key) → IsKey newest count k → length (postings_from 0 k.numbers) ≤ count
 length-postings count k is = omega (arith, length-postings_from 0 k.numbers is.rises, end_from-below count 0 k.numbers (omega arith) is.below)
 
--- the message that is open counts within the limit
+-- the open message counts within the limit
 pub message_count-within : (d : Draft) → IsDraft d → message_count d ≤ d.most
 message_count-within d is = grind arith

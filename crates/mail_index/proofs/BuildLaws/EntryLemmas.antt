@@ -1,4 +1,4 @@
--- Laws of an entry's bytes: the number of its kind, its text, and its postings.
+-- The bytes of an entry are the number of its kind, its text and its postings, wherever their parts are kept.
 use Rattle.mail_index.proofs.Words.{◌≡◌, ◌∙◌, ℕ, ◌+◌, ◌-◌, ◌^◌, ◌<◌, ◌≤◌, nat_le, Bool, true, false, cond, List, [], ◌∷◌, ◌++◌, length, take, drop, slice_index, refl, sym, ap, ap₂, subst, arith, append-nil, append_assoc, length-append, nat_tests, length-take-le, take-append-le, drop-append-le, drop_at, take-length, drop-append_seam, Kind, kind_number, kind_of_number, Key, leb128, end_from, numbers_of}
 use Rattle.mail_index.specs.Inside.KeyMaps.{new_key, with_one, key_in, short_front, front_holder, key_bytes, AreEntryBytes, HoldsFront}
 use Rattle.mail_index.proofs.ViewLaws.KindNumbers.{kind_of-number}
@@ -20,7 +20,7 @@ entry-none kind text bytes e = grind (arith, front-all, kind_number, kind_of-num
 key-none : (kind : Kind) (text bytes : List ℕ) → bytes ≡ kind_number kind ∷ text → key_in (take (length text + 1) bytes) (drop (length text + 1) bytes) ≡ record { kind = kind; text = text; numbers = [] }
 key-none kind text bytes e = grind (arith, front-all, kind_number, behind-none, kind_of-number, numbers_of-nil)
 
--- ---- what stands apart
+-- ---- the front, which is kept apart if it is short
 
 short-front : (kept : List ℕ) (n : ℕ) → n ≤ 16 → short_front kept n ≡ take n kept
 short-front kept n h = let e : nat_le n 16 ≡ true = grind (arith, nat_tests) in rw e refl
@@ -34,15 +34,15 @@ holder-short kept bytes n h long = let e : nat_le n 16 ≡ true = grind (arith, 
 holder-long : (kept bytes : List ℕ) (n : ℕ) → 16 < n → n ≤ length (front_holder kept n bytes) → n ≤ length (slice_index kept 0 ∷ bytes)
 holder-long kept bytes n h long = let e : nat_le n 16 ≡ false = grind (arith, nat_tests) in subst (λ (b : Bool). n ≤ length (cond b kept (slice_index kept 0 ∷ bytes))) e long
 
--- a short front is the one that is kept apart, and the postings are all the others
+-- after a short front, which is kept apart, all other bytes are the postings
 pub behind-short : (kept bytes recent : List ℕ) (n : ℕ) → n ≤ 16 → n ≤ length (front_holder kept n bytes) → bytes ++ recent ≡ drop n (key_bytes kept n bytes recent)
 behind-short kept bytes recent n h long = grind (arith, length-take-le, holder-short, short-front, drop_at)
 
--- a long text stands before the others
+-- a long text comes before the postings, in the same bytes
 pub behind-long : (kept bytes recent : List ℕ) (m : ℕ) → 16 < m + 1 → m + 1 ≤ length (front_holder kept (m + 1) bytes) → drop m bytes ++ recent ≡ drop (m + 1) (key_bytes kept (m + 1) bytes recent)
 behind-long kept bytes recent m h long = grind (arith, long-front, drop-append-le, holder-long)
 
--- more bytes hold it too
+-- longer bytes hold the front too
 pub within-more : (kept old new : List ℕ) (n : ℕ) → n ≤ length (front_holder kept n old) → length old ≤ length new → n ≤ length (front_holder kept n new)
 within-more kept old new n long more = grind arith
 
@@ -72,7 +72,7 @@ key-same bytes front next n i low = grind (arith, end_from, numbers_of, kind_of_
 
 -- ---- one number
 
--- with the first posting behind them they are the bytes of a key of one message
+-- the front with the first posting after it is the bytes of a key of one message
 new-whole : (kind : Kind) (text kept bytes recent : List ℕ) (n : ℕ) → HoldsFront kind text kept bytes → recent ≡ leb128 5 (n + 1)
     → key_bytes kept (length text + 1) bytes recent ≡ (kind_number kind ∷ text) ++ leb128 5 (n + 1 - 0)
 new-whole kind text kept bytes recent n holds e =

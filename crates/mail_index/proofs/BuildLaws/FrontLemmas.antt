@@ -1,16 +1,16 @@
--- Laws of fronts of keys: keys whose fronts differ lie as their fronts do.
+-- Keys whose fronts differ compare as their fronts do, because a front is the number of a key's first eight bytes.
 use Rattle.mail_index.proofs.Words.{◌≡◌, ◌∙◌, ℕ, zero, suc, ◌+◌, ◌*◌, ◌^◌, ◌<◌, ◌≤◌, Bool, nat_eq, nat_lt, List, [], ◌∷◌, ◌++◌, length, take, drop, min, replicate, set, get_or, refl, sym, ap, ap₂, arith, length-append, nat_cmp, lit<, Fits, w8, Ordering, Less, Equal, Greater, MatchOrdering, ordering_then, ordering_reverse, slice_cmp, w64, from_be_bytes, AllByRecursion, insert, nat_tests, nat_list_cmp_total, ranked, length-take-le, get_or_append_left, get_or-append_right, get_or-take, get_or-drop, get_or_past, get_or-set_same, get_or-set_other, length-set, get_or-append_seam, mul-le-mul_right, pow-succ', Kind, Key, kind_number, lies_to, key_at, no_key}
 use Rattle.mail_index.specs.declared.build.key_front.Fronted.{Fronted}
 use Rattle.mail_index.specs.Inside.KeyFronts.{number_of_first, IsFrontOf, IsFronted}
 use Rattle.mail_index.specs.Inside.KeyMaps.{new_key, with_one}
 use Rattle.mail_index.proofs.BuildLaws.KeyMapLemmas.{all-inserted}
 
--- ---- the order of some items
+-- ---- the order of lists by their first items
 
 abbrev AreBytes : List ℕ → Type 0
 AreBytes items = AllByRecursion (λ b. b < 256) items
 
--- it is below the power for so many items
+-- the number of the first n bytes is below 256 ^ n
 number-below : (n : ℕ) (items : List ℕ) → AreBytes items → number_of_first n items < 256 ^ n
 unfolding number_of_first
 number-below zero items all = lit< tt
@@ -18,7 +18,7 @@ number-below (suc n) [] all = omega (arith, number-below n [] tt, pow-succ' 256 
 number-below (suc n) (item ∷ items) all =
     omega (arith, number-below n items all.1, pow-succ' 256 n, mul-le-mul_right (256 ^ n) (let h : suc item ≤ 256 = omega (arith, all.0) in h))
 
--- the one of the lower number comes first
+-- the list with the lower number comes first
 lower-first : (n : ℕ) (xs ys : List ℕ) → AreBytes xs → AreBytes ys → number_of_first n xs < number_of_first n ys → slice_cmp nat_cmp xs ys ≡ Less
 unfolding number_of_first
 lower-first zero xs ys all others h = absurd (omega (arith, h))
@@ -33,7 +33,7 @@ lower-first (suc n) (x ∷ xs) (y ∷ ys) all others h = go (nat_cmp x y) (ranke
 
 -- ---- the number of eight bytes
 
--- n values to the base 256
+-- the number with these n digits to the base 256
 weighed : ℕ → (ℕ → ℕ) → ℕ
 weighed zero f = 0
 weighed (suc n) f = f 0 * 256 ^ n + weighed n (λ i. f (suc i))
@@ -53,7 +53,7 @@ unfolding weighed
 weighed-same zero f g h = refl
 weighed-same (suc n) f g h = ap₂ (λ (a b : ℕ). a * 256 ^ n + b) (h 0 (omega arith)) (weighed-same n (λ i. f (suc i)) (λ i. g (suc i)) (λ i lt. h (suc i) (omega (arith, lt))))
 
--- where they are the same items at each place, also behind the end, their numbers are
+-- bytes that are the same at each place, or 0 after the end, have the same number
 eight-bytes : (bytes items : List ℕ) → ((i : ℕ) → i < 8 → get_or bytes i 0 ≡ get_or items i 0) → from_be_bytes w64 bytes ≡ number_of_first 8 items
 unfolding weighed
 eight-bytes bytes items same =
@@ -68,7 +68,7 @@ zeros-alone zero i = refl
 zeros-alone (suc n) zero = refl
 zeros-alone (suc n) (suc i) = zeros-alone n i
 
--- a kind's number, as much of the text as has room, and zeros behind it
+-- the eight bytes of a front: the kind's number, as much of the text as fits, and zeros after it
 pub padded-front : (kind : ℕ) (text part : List ℕ) (n m : ℕ) → n ≡ min (length text) 7 → part ≡ take n text → from_be_bytes w64 (kind ∷ part ++ drop m (zeros 7)) ≡ number_of_first 8 (kind ∷ text)
 padded-front kind text part n m e p = eight-bytes (kind ∷ part ++ drop m (zeros 7)) (kind ∷ text) same
   where
@@ -90,7 +90,7 @@ pub all-bytes : (text : List ℕ) → ((i : ℕ) → Fits w8 (get_or text i 0)) 
 all-bytes [] fits = tt
 all-bytes (b ∷ text) fits = ((fits 0).fits, all-bytes text (λ i. fits (suc i)))
 
--- keys whose fronts differ lie as these do
+-- keys whose fronts differ compare as the fronts do
 pub lies-as-fronts : (kind : Kind) (text : List ℕ) (front : ℕ) (k : Key) (own : ℕ) → IsFrontOf kind text front → IsFrontOf k.kind k.text own
     → (o : Ordering) → o ≡ nat_cmp own front → (o ≡ Equal → ⊥) → o ≡ lies_to kind text k
 lies-as-fronts kind text front k own wanted is o e other = go o (ranked own front o e) other
@@ -105,22 +105,22 @@ lies-as-fronts kind text front k own wanted is o e other = go o (ranked own fron
 
 -- ---- slots
 
--- an entry keeps its kind and its text
+-- two entries have the same kind and text
 record IsSameKey (old new : Key) : Type 0 where
   kind : old.kind ≡ new.kind
   text : old.text ≡ new.text
 
--- where the entries keep theirs, the slots keep their fronts
+-- if the entries keep their kinds and texts, the slots keep their fronts
 fronted-kept : (old new : List Key) → length old ≤ length new → ((i : ℕ) → i < length old → IsSameKey (key_at old i) (key_at new i)) → (slots : List Fronted) → AllByRecursion (IsFronted old) slots → AllByRecursion (IsFronted new) slots
 fronted-kept old new more same [] all = tt
 fronted-kept old new more same (slot ∷ slots) all = grind (arith, key_at, fronted-kept old new more same slots all.1)
 
--- a key more, with its slot
+-- one more key, with its slot
 pub fronted-new : (kind : Kind) (text : List ℕ) (n : ℕ) (entries : List Key) (slots : List Fronted) (place front : ℕ) → IsFrontOf kind text front → AllByRecursion (IsFronted entries) slots
     → AllByRecursion (IsFronted (entries ++ new_key kind text n ∷ [])) (insert slots place (record { number = length entries; front = front }))
 fronted-new kind text n entries slots place front new all = grind (arith, length-append, key_at, get_or-append_seam, no_key, all-inserted, fronted-kept, get_or_append_left)
 
--- a number more of a key
+-- one more number of a key
 pub fronted-found : (entries : List Key) (i n : ℕ) (slots : List Fronted) → i < length entries → AllByRecursion (IsFronted entries) slots → AllByRecursion (IsFronted (set entries i (with_one (key_at entries i) n))) slots
 fronted-found entries i n slots lt all =
     let k : Key = with_one (key_at entries i) n in

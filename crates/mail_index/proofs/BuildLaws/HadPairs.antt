@@ -1,9 +1,9 @@
--- A pair that is there already changes nothing, and neither does it once the keys have another pair.
+-- A pair that is there already changes nothing, also after another pair was added: by the order of the two keys.
 use Rattle.std.proofs.Common.{arith}
 use Rattle.mail_index.proofs.Words.{◌≡◌, ℕ, List, [], ◌∷◌, length, drop, get_or, refl, sym, ap, ◌∙◌, subst, Ordering, Less, Equal, Greater, match_ordering, ordering_reverse, nat_cmp, slice_cmp, nat_list_cmp_total, Kind, kind_number, key_cmp, Key, with_pair}
 use Rattle.mail_index.specs.Inside.KeyMaps.{new_key, with_one}
 
--- the keys with a pair, where its key lies so to the first of them
+-- the keys with a pair, if its key compares with the first of them in this way
 abbrev step : Kind → List ℕ → ℕ → Key → List Key → Ordering → List Key
 step kind text n key ks o = match_ordering o (new_key kind text n ∷ key ∷ ks) (with_one key n ∷ ks) (key ∷ with_pair kind text n ks)
 
@@ -16,7 +16,7 @@ key_bytes key = bytes_of key.kind key.text
 abbrev lies : Kind → List ℕ → Key → Ordering
 lies kind text key = key_cmp (kind_number kind) text (kind_number key.kind) key.text
 
--- a key that isn't before a third comes behind all that are
+-- a key that isn't before a third one comes after each key that is
 behind : (xs ys zs : List ℕ) → slice_cmp nat_cmp ys zs ≡ Less → slice_cmp nat_cmp xs zs ≡ Equal → slice_cmp nat_cmp xs ys ≡ Greater
 behind xs ys zs less equal = nat_list_cmp_total.congr xs zs ys equal ∙ nat_list_cmp_total.antisymm zs ys ∙ ap ordering_reverse less
 

@@ -1,4 +1,4 @@
--- Laws of the keys' map: what one more number and one more entry make of the keys in order.
+-- One more number and one more entry keep the map's keys in order, because a search finds the only gap for a new key.
 use Rattle.mail_index.proofs.Words.{◌≡◌, ◌∙◌, ℕ, zero, suc, ◌-◌, ◌<◌, ◌≤◌, inl, inr, Bool, true, false, nat_eq, nat_lt, List, [], ◌∷◌, ◌++◌, length, map, set, get_or, refl, sym, ap, ap₂, subst, arith, length-append, Vec, Global, Ordering, Less, Equal, Greater, match_ordering, ordering_reverse, nat_cmp, slice_cmp, AllByRecursion, insert, IsStrictlySortedBy, nat_tests, nat_list_cmp_total, length-map, length-set, get_or-map, get_or_append_left, get_or-set_same, get_or-set_other, get_or-append_seam, length-insert, Kind, kind_number, Key, key_at, no_key, lies_to, AreSorted, with_pair}
 use Rattle.mail_index.specs.declared.build.key_front.Fronted.{Fronted}
 use Rattle.mail_index.specs.Inside.KeyMaps.{new_key, with_one, placed, numbers_of_slots, slot_keys, rows, in_pages, position, IsAmong, IsOrder, IsGap}
@@ -9,7 +9,7 @@ use Rattle.mail_index.proofs.Items.{all-weaker}
 abbrev bytes_of : Kind → List ℕ → List ℕ
 bytes_of kind text = kind_number kind ∷ text
 
--- the wanted key lies to the other as the other way round
+-- the searched key compares with the other in the reverse way
 wanted-to : (kind : Kind) (text : List ℕ) (k : Key) (o : Ordering) → lies_to kind text k ≡ o → slice_cmp nat_cmp (bytes_of kind text) (key_bytes k) ≡ ordering_reverse o
 wanted-to kind text k o e = nat_list_cmp_total.antisymm (bytes_of kind text) (key_bytes k) ∙ ap ordering_reverse e
 
@@ -18,7 +18,7 @@ placed-at entries order j h = get_or-map (key_at entries) order j 0 no_key h
 
 -- ---- gaps
 
--- of a place where there is none, any slot
+-- any slot, for a place where there is none
 abbrev no_slot : Fronted
 no_slot = record { number = 0; front = 0 }
 
@@ -28,7 +28,7 @@ slots-long entries slots = length-map (numbers_of_slots slots) (key_at entries) 
 pub slot-at : (entries : List Key) (slots : List Fronted) (j : ℕ) (d : Fronted) → j < length slots → key_at (slot_keys entries slots) j ≡ key_at entries (get_or slots j d).number
 slot-at entries slots j d h = grind (arith, placed-at, length-map, key_at, get_or-map)
 
--- the gap of the page, found between the heads and then in the page, is the gap of the whole order
+-- the gap that is found between the heads and then in the page is the gap of the whole order
 pub gap-in_pages : (kind : Kind) (text : List ℕ) (entries : List Key) (pages : List (List Fronted)) (heads : List Fronted) (page at : ℕ) → length heads ≡ length pages - 1 → page < length pages
     → IsGap kind text (slot_keys entries heads) page → IsGap kind text (slot_keys entries (get_or pages page [])) at
     → IsGap kind text (slot_keys entries (in_pages pages heads)) (position pages page at)
@@ -102,7 +102,7 @@ gap-found kind text entries pages heads page at row b h r outer inner =
     let long : length (rows pages) ≡ length pages = length-map pages (λ (p : Vec Fronted Global). p.items) in
     gap-in_pages kind text entries (rows pages) heads page at (omega (arith, b, long)) (omega (arith, h, long)) outer (subst (λ (l : List Fronted). IsGap kind text (slot_keys entries l) at) r inner)
 
--- among sorted keys all before a gap lie before the wanted key, and all others behind it
+-- in sorted keys, all keys before a gap are before the searched key, and all others are after it
 gap-below : (kind : Kind) (text : List ℕ) (ks : List Key) (place j : ℕ) → AreSorted ks → IsGap kind text ks place → j < place → lies_to kind text (key_at ks j) ≡ Less
 gap-below kind text ks zero j s g h = absurd (omega (arith, h))
 gap-below kind text ks (suc m) j s g h = before-less kind text ks no_key m j s (omega (arith, g.within)) (g.below m refl) h
@@ -146,7 +146,7 @@ sorted-new kind text n (k ∷ ks) (suc place) s w below above = (
   sorted-new kind text n ks place s.1 (omega (arith, w)) (λ j lt. below (suc j) (omega (arith, lt))) (λ j le lt. above (suc j) (omega (arith, le)) (omega (arith, lt))),
 )
 
--- one more entry leaves the keys of the others
+-- one more entry leaves the keys of the others unchanged
 placed-more : (entries : List Key) (k : Key) (order : List ℕ) → AllByRecursion (λ i. i < length entries) order → placed (entries ++ k ∷ []) order ≡ placed entries order
 placed-more entries k [] all = refl
 placed-more entries k (i ∷ order) all = ap₂ (λ (x : Key) (l : List Key). x ∷ l) (get_or_append_left entries (k ∷ []) no_key i all.0) (placed-more entries k order all.1)
@@ -178,7 +178,7 @@ among-kept [] place m i a = absurd a
 among-kept (x ∷ order) zero m i a = inr a
 among-kept (x ∷ order) (suc place) m i a = elim a [ inl e ↦ inl e | inr b ↦ inr (among-kept order place m i b) ]
 
--- the keys with one more are the pairs with one more
+-- the keys with one more entry are those with one more pair
 pub with_pair-gap : (kind : Kind) (text : List ℕ) (n : ℕ) (entries : List Key) (order : List ℕ) (place : ℕ) → IsOrder entries order → IsGap kind text (placed entries order) place
     → placed (entries ++ new_key kind text n ∷ []) (insert order place (length entries)) ≡ with_pair kind text n (placed entries order)
 with_pair-gap kind text n entries order place o g =
@@ -215,7 +215,7 @@ order-new kind text n entries order place o g =
 
 -- ---- one more number
 
--- another entry leaves what has other numbers
+-- another entry leaves the keys with other numbers unchanged
 key-other : (entries : List Key) (i j : ℕ) (k : Key) → nat_eq j i ≡ false → key_at (set entries i k) j ≡ key_at entries j
 key-other entries i j k e = get_or-set_other entries i j k no_key (grind (arith, nat_tests))
 
@@ -236,7 +236,7 @@ placed-other entries i k (j ∷ order) all = ap₂ (λ (x : Key) (l : List Key).
         irreflexive Greater e r = absurd cc
     go false e = key-other entries i j k e
 
--- one of those behind a key lies behind it
+-- a key among those after a key comes after it
 among-behind : (entries : List Key) (i : ℕ) (first : List ℕ) (order : List ℕ) → IsAmong i order → AllByRecursion (λ y. slice_cmp nat_cmp first y ≡ Less) (map key_bytes (placed entries order))
     → slice_cmp nat_cmp first (key_bytes (key_at entries i)) ≡ Less
 among-behind entries i first [] a all = absurd a
@@ -280,7 +280,7 @@ with_pair-found kind text n entries i (j ∷ order) lt equal s a = go (λ rest. 
         ap branch greater
         ∙ ap₂ (λ (x : Key) (l : List Key). x ∷ l) (sym (key-other entries i j (with_one (key_at entries i) n) e)) (others rest)
 
--- a number more leaves the keys' bytes
+-- one more number leaves the keys' bytes unchanged
 bytes-same : (entries : List Key) (i n : ℕ) (order : List ℕ) → i < length entries → map key_bytes (placed (set entries i (with_one (key_at entries i) n)) order) ≡ map key_bytes (placed entries order)
 bytes-same entries i n [] lt = refl
 bytes-same entries i n (j ∷ order) lt = ap₂ (λ (x : List ℕ) (l : List (List ℕ)). x ∷ l) (go (nat_eq j i) refl) (bytes-same entries i n order lt)
@@ -297,7 +297,7 @@ all-at P [] j d all h = absurd (omega (arith, h))
 all-at P (i ∷ order) zero d all h = all.0
 all-at P (i ∷ order) (suc j) d all h = all-at P order j d all.1 (omega (arith, h))
 
--- a slot more is a number more
+-- one more slot is one more number
 pub numbers-insert : (slots : List Fronted) (place : ℕ) (slot : Fronted) → numbers_of_slots (insert slots place slot) ≡ insert (numbers_of_slots slots) place slot.number
 numbers-insert slots place slot = map-insert (λ (slot : Fronted). slot.number) slots place slot
 

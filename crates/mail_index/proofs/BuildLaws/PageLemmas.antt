@@ -1,14 +1,14 @@
--- Laws of an order that stands in pages, with a head between each and the next.
+-- The order is kept in pages with a head between each two; reads, insertions and splits of pages are those of one list.
 use Rattle.mail_index.proofs.Words.{◌≡◌, ◌∙◌, ℕ, zero, suc, ◌+◌, ◌-◌, ◌<◌, ◌≤◌, List, [], ◌∷◌, ◌++◌, length, take, drop, set, get_or, Vec, refl, sym, ap, subst, arith, append-nil, length-append, Global, AllByRecursion, insert, length-map, get_or-map, append_assoc, get_or_append_left, get_or-append-add, take-map, drop-map, map-append, take-append-drop, get_or-append_seam, insert-append_left, insert-append_right}
 use Rattle.mail_index.specs.declared.build.key_front.Fronted.{Fronted}
 use Rattle.mail_index.specs.Inside.KeyMaps.{rows, in_pages, position}
 
--- those behind a page
+-- the slots after a page: each next head, and its page
 abbrev behind_page : List (List Fronted) → List Fronted → List Fronted
 behind_page rest [] = []
 behind_page rest (head ∷ heads) = head ∷ in_pages rest heads
 
--- a page's own numbers, and those behind them
+-- the slots of the first page, and those after them
 pub in_pages-front : (row : List Fronted) (rest : List (List Fronted)) (heads : List Fronted) → in_pages (row ∷ rest) heads ≡ row ++ behind_page rest heads
 in_pages-front row rest heads = grind arith
 
@@ -57,7 +57,7 @@ position-within (row ∷ rest) heads zero at b h w = grind (arith, in_pages-fron
 position-within (row ∷ rest) [] (suc page) at b h w = absurd (omega (arith, b, h))
 position-within (row ∷ rest) (head ∷ heads) (suc page) at b h w = grind (arith, length-behind, position-within rest heads page)
 
--- what stands behind a head
+-- what comes after a head
 get_or-behind : (xs : List Fronted) (y : Fronted) (ys : List Fronted) (i : ℕ) (d : Fronted) → get_or (xs ++ y ∷ ys) (length xs + suc i) d ≡ get_or ys i d
 get_or-behind xs y ys i d = get_or-append-add xs (y ∷ ys) (suc i) d
 
@@ -77,7 +77,7 @@ at-head (row ∷ rest) (head ∷ heads) (suc page) d b h =
     let few : length heads ≡ length rest - 1 = omega (arith, b, h) in
     get_or-behind row head (in_pages rest heads) (position rest page (length (get_or rest page []))) d ∙ at-head rest heads page d few (omega (arith, h))
 
--- ---- what holds of all numbers
+-- ---- properties of all slots
 
 pub all-append : (P : Fronted → Type 0) (xs ys : List Fronted) → AllByRecursion P (xs ++ ys) → AllByRecursion P xs × AllByRecursion P ys
 all-append P [] ys all = (tt, all)

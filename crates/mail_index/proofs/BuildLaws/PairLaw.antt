@@ -1,4 +1,4 @@
--- What the keys tell once they have a pair more.
+-- Keys with one more pair have this pair and those that they had, and no other: key by key.
 use Rattle.mail_index.proofs.Words.{◌≡◌, ℕ, suc, ◌<◌, ◌≤◌, true, false, nat_lt, if◌then◌else◌, List, [], ◌∷◌, ◌++◌, refl, sym, ◌∙◌, inl, inr, arith, ◌⊎◌, Ordering, Less, Equal, Greater, match_ordering, ordering_then, nat_cmp, slice_cmp, AllByRecursion, nat_tests, ranked, Kind, kind_number, kind_of_number, Key, RisesFrom, IsKey, end_from, with_number, with_pair, IsIn, Tells}
 use Rattle.mail_index.proofs.BuildLaws.DraftLemmas.{by-number, end_from-below}
 use Rattle.mail_index.proofs.ViewLaws.KindNumbers.{kind_of-number}
@@ -31,7 +31,7 @@ end_from-rises : (low : ℕ) (ns : List ℕ) → RisesFrom low ns → low ≤ en
 end_from-rises low [] r = omega arith
 end_from-rises low (x ∷ ns) r = omega (arith, r.0, end_from-rises (suc x) ns r.1)
 
--- the number before the end is there
+-- the number just before the end is in the list
 is_in-last : (low : ℕ) (ns : List ℕ) (n : ℕ) → RisesFrom low ns → end_from low ns ≡ suc n → low ≤ n → IsIn ns n
 is_in-last low [] n r e h = absurd (omega arith)
 is_in-last low (x ∷ []) n r e h = let same : x ≡ n = omega arith in inl same

@@ -1,4 +1,4 @@
--- Messages that are added behind one another are those of a well-formed table.
+-- Messages that are added one after another are those of a well-formed table, because each begins after the one before.
 use Rattle.mail_index.proofs.Words.{◌≡◌, ℕ, zero, suc, ◌+◌, ◌^◌, ◌<◌, ◌≤◌, Bool, false, if◌then◌else◌, List, [], ◌∷◌, ◌++◌, length, Option, None, Some, IsSome, IfSome, FitsSigned, refl, sym, subst, length-append, arith, w64, AllByRecursion, nat_tests, Record, newest, Archive, archive_length, IsMessage, Follows, AllNext, IsPath, IsKey, IsWellFormed, Draft, end_of, IsNextMessage, IsInMessage, IsBetweenArchives}
 use Rattle.mail_index.specs.Inside.Drafts.{with_open, IsDraft}
 use Rattle.mail_index.proofs.BuildLaws.DraftLemmas.{all-snoc, all-weaker, listed-weaker}
@@ -12,7 +12,7 @@ archive_length-last : (archives : List Archive) (a : Archive) → archive_length
 archive_length-last [] a = refl
 archive_length-last (x ∷ archives) a = archive_length-last archives a
 
--- a message stays one where an archive more comes
+-- a message stays valid if one more archive comes
 pub message-more : (archives : List Archive) (a : Archive) (m : Record) → IsMessage archives m → IsMessage (archives ++ a ∷ []) m
 message-more archives a m is = grind (arith, length-append, archive_length-before)
 
@@ -20,11 +20,11 @@ message-more archives a m is = grind (arith, length-append, archive_length-befor
 pub message-new : (archives : List Archive) (a : Archive) (m : Record) → m.archive ≡ length archives → m.offset + m.length ≤ a.length → m.size < m.length → IfSome m.date (FitsSigned w64) → IsMessage (archives ++ a ∷ []) m
 message-new archives a m last within size date = grind (arith, length-append, archive_length, archive_length-last)
 
--- where the last archive gets another length, within which its messages end
+-- if the last archive gets another length, its messages stay valid as long as they end within it
 message-ended : (archives : List Archive) (a b : Archive) (m : Record) → (m.archive ≡ length archives → m.offset + m.length ≤ b.length) → IsMessage (archives ++ a ∷ []) m → IsMessage (archives ++ b ∷ []) m
 message-ended archives a b m ends is = grind (arith, length-append, nat_tests, message-more, archive_length-before, message-new)
 
--- each message of the archive that was open last ends where the last one does, or before
+-- each message of the open archive ends no later than the last one
 ends-within : (a end : ℕ) (ms : List Record) → AllNext Follows ms → AllByRecursion (λ m. m.archive ≤ a) ms → end_of a ms ≤ end → AllByRecursion (λ m. m.archive ≡ a → m.offset + m.length ≤ end) ms
 ends-within a end [] f all h = tt
 ends-within a end (r ∷ []) f all h = grind (arith, nat_tests)
@@ -40,7 +40,7 @@ all-ended archives a b ms f all h =
     go [] all ends = tt
     go (m ∷ ms) all ends = (message-ended archives a b m ends.0 all.0, go ms all.1 ends.1)
 
--- the next message keeps them in order
+-- the next message keeps the messages in order
 pub in_order-next : (ms : List Record) (r : Record) → AllNext Follows ms → AllByRecursion (λ m. m.archive ≤ r.archive) ms → end_of r.archive ms ≤ r.offset → AllNext Follows (ms ++ r ∷ [])
 in_order-next [] r f all h = tt
 in_order-next (m ∷ []) r f all h = grind (arith, nat_tests)
@@ -49,7 +49,7 @@ in_order-next (m ∷ s ∷ ms) r f all h = (f.0, in_order-next (s ∷ ms) r f.1 
 pub archives-low : (archives : List Archive) (a : Archive) (ms : List Record) → AllByRecursion (IsMessage (archives ++ a ∷ [])) ms → AllByRecursion (λ m. m.archive ≤ length archives) ms
 archives-low archives a ms all = grind (arith, length-append, all-weaker)
 
--- ---- what each call makes of a draft
+-- ---- each call keeps a draft valid
 
 pub archive-opened : (d : Draft) (p : List ℕ) → IsDraft d → d.path ≡ None → length d.table.archives < d.most → IsPath p → IsDraft (record d { path = Some p })
 archive-opened d p is closed room named = record {
@@ -68,7 +68,7 @@ archive-opened d p is closed room named = record {
   sorted = is.sorted;
 }
 
--- a message of the archive that is open
+-- a message of the open archive
 message-open : (archives : List Archive) (path : Option (List ℕ)) (m : Record) → IsSome path → m.archive ≡ length archives → m.offset + m.length ≤ 2 ^ 40 → m.size < m.length → IfSome m.date (FitsSigned w64) → IsMessage (with_open archives path) m
 message-open archives None m some last within size date = absurd cc
 message-open archives (Some p) m some last within size date = message-new archives (record { path = p; length = 2 ^ 40; digest = None }) m last within size date
@@ -105,11 +105,11 @@ pub archive-ended_draft : (d : Draft) (p : List ℕ) (n : ℕ) (h : List ℕ) �
     → IsDraft (record { most = d.most; path = None; in_message = d.in_message; table = record { version = d.table.version; archives = d.table.archives ++ record { path = p; length = n; digest = Some h } ∷ []; messages = d.table.messages; keys = d.table.keys } })
 archive-ended_draft d p n h is open_now small size last = grind (arith, length-append, all-snoc, newest, all-ended)
 
--- what is open and what has ended is what a well-formed table has
+-- if nothing is open, the table of a draft is well-formed
 pub well_formed : (d : Draft) → IsDraft d → IsBetweenArchives d → IsWellFormed d.table
 well_formed d is between = grind (arith, newest)
 
--- no message is of the archive that comes next
+-- no message belongs to the archive that comes next
 pub none-of-next : (archives : List Archive) (ms : List Record) → AllByRecursion (IsMessage archives) ms → end_of (length archives) ms ≡ 0
 none-of-next archives [] all = refl
 none-of-next archives (r ∷ []) all = grind (arith, nat_tests)

@@ -1,4 +1,5 @@
--- Laws of posting lists: one more number is one more difference, and the bytes tell it back.
+-- One more number is one more difference, and the bytes give the numbers back: by the weights of their groups of seven
+-- bits.
 use Rattle.mail_index.proofs.Words.{◌≡◌, ℕ, zero, suc, ◌+◌, ◌-◌, ◌*◌, ◌/◌, ◌%◌, ◌^◌, ◌<◌, ◌≤◌, true, false, nat_lt, if◌then◌else◌, List, [], ◌∷◌, ◌++◌, length, fold, flat_map, refl, ap, sym, ◌∙◌, append-nil, length-append, arith, nat_tests, fold-append, flat_map-append, add-mul, mul_assoc, pow-suc, leb128, differences_from, postings, end_from, with_number, Told, told_whole, told_more, told, numbers_of, IsPosted}
 
 end_from-snoc : (low : ℕ) (ns : List ℕ) (n : ℕ) → end_from low (ns ++ n ∷ []) ≡ suc n
@@ -25,7 +26,7 @@ told_more-followed : (t : Told) (b : ℕ) → 128 ≤ b → told_more t b ≡ re
 unfolding told_more
 told_more-followed t b h = let e : nat_lt b 128 ≡ false = grind (arith, nat_tests) in rw e refl
 
--- what stands once a difference k has been read to its end
+-- the state after a difference k has been read to its end
 abbrev whole_after : Told → ℕ → Told
 whole_after t k = told_whole (t.numbers ++ (t.next + (t.part + k * t.weight) - 1) ∷ []) (t.next + (t.part + k * t.weight))
 
@@ -37,7 +38,7 @@ told-step bytes t k high e =
     let b : 128 ≤ 128 + k % 128 = omega arith in
     rw (told_more-followed t (128 + k % 128) b) (e ∙ ap (λ n. told_whole (t.numbers ++ (t.next + n - 1) ∷ []) (t.next + n)) (weights k t.part t.weight))
 
--- the bytes of a difference tell it
+-- the bytes of a difference give this difference
 told-leb128 : (m : ℕ) (t : Told) (k : ℕ) → k < 128 ^ suc m → fold told_more t (leb128 (suc m) k) ≡ whole_after t k
 told-leb128 zero t k h =
     let low : k < 128 = omega arith in
@@ -71,7 +72,7 @@ pub numbers_of-nil : numbers_of [] ≡ []
 unfolding numbers_of
 numbers_of-nil = refl
 
--- one more difference tells one more number
+-- the bytes of one more difference give one more number
 told-more : (bytes : List ℕ) (next n : ℕ) → IsPosted bytes next → next ≤ n → n + 1 < 2 ^ 32 → told (bytes ++ leb128 5 (n + 1 - next)) ≡ told_whole (numbers_of bytes ++ n ∷ []) (n + 1)
 told-more bytes next n p low high =
     let gap : n + 1 - next < 128 ^ 5 = omega arith in

@@ -1,4 +1,5 @@
--- Laws of writing in steps.
+-- Bytes that are written in steps are written as a whole: what was sent and what is still gathered are all bytes so
+-- far.
 use Rattle.std.proofs.Common.{arith}
 use Rattle.mail_index.proofs.Words.{◌≡◌, ℕ, suc, ◌+◌, ◌<◌, List, [], ◌∷◌, ◌++◌, length, flat_map, drop, get_or, Option, Result, IsErr, OnErr, ap, sym, subst, ◌∙◌, append_assoc, append-nil, add-one, drop-cons, Appends}
 use Rattle.sha2.specs.declared.Sha256.{Sha256}
@@ -15,29 +16,29 @@ absorbs-nothing h m held = subst (λ x. Holds256 h x) (sym (append-nil m)) held
 absorbs-join : (h j k : Sha256) (x y : List ℕ) → Absorbs h j x → Absorbs j k y → Absorbs h k (x ++ y)
 absorbs-join h j k x y first second m held = subst (λ z. Holds256 k z) (append_assoc m x y) (second (m ++ x) (first m held))
 
--- what was only gathered
+-- bytes that were only gathered
 pub signs-gathered : {k : Signer} (t : Option (List ℕ)) (s : Signer) (bytes : List ℕ) → k.hasher ≡ s.hasher → k.pending ≡ s.pending ++ bytes → Signs t t s k bytes
 signs-gathered {k} t s bytes same gathered = grind (arith, appends-nil, absorbs-nothing)
 
--- all that was gathered
+-- all gathered bytes were sent
 pub signs-flushed : {t u : Option (List ℕ)} {s k : Signer} → Appends t u s.pending → Absorbs s.hasher k.hasher s.pending → k.pending ≡ [] → Signs t u s k []
 signs-flushed {t} {u} {s} {k} out digest none = grind arith
 
--- what was sent at once, where nothing was gathered
+-- bytes that were sent at once, with nothing gathered before
 pub signs-at-once : {t u : Option (List ℕ)} {s k : Signer} {bytes : List ℕ} → s.pending ≡ [] → Appends t u bytes → Absorbs s.hasher k.hasher bytes → k.pending ≡ [] → Signs t u s k bytes
 signs-at-once {t} {u} {s} {k} {bytes} before out digest none = grind (arith, append-nil)
 
--- one after another
+-- two writes, one after the other
 pub signs-join : {t u v : Option (List ℕ)} {h j k : Signer} (x y : List ℕ) → Signs t u h j x → Signs u v j k y → Signs t v h k (x ++ y)
 signs-join {t} {u} {v} {h} {j} {k} x y first second = grind (arith, append_assoc, appends_join, absorbs-join)
 
--- one after another, where the second breaks off
+-- two writes, of which the second fails
 pub breaks-off-later : {t u : Option (List ℕ)} {h j : Signer} (v : Option (List ℕ)) (x y : List ℕ) → Signs t u h j x → BreaksOff u v j y → BreaksOff t v h (x ++ y)
 breaks-off-later {t} {u} {h} {j} v x y first second = sends_more t u v (h.pending ++ (x ++ y)) first.sent (j.pending ++ y) []
     (sym (append_assoc h.pending x y) ∙ ap (λ l. l ++ y) first.split ∙ append_assoc first.sent j.pending y ∙ ap (λ l. first.sent ++ l) (sym (append-nil (j.pending ++ y))))
     first.out second
 
--- a front of the bytes is one of more
+-- a front of some bytes is a front of more bytes
 pub sends-longer : (t u : Option (List ℕ)) (bytes more : List ℕ) → Sends t u bytes → Sends t u (bytes ++ more)
 sends-longer t u bytes more s = (s.0, s.1 ++ more, ap (λ l. l ++ more) s.2 ∙ append_assoc s.0 s.1 more, s.3)
 
@@ -51,7 +52,7 @@ on-failure r h = grind arith
 pub writes-failed : {T E : Type 0} (r : Result T E) (t u : Option (List ℕ)) (s k : Signer) (bytes : List ℕ) → IsErr r → BreaksOff t u s bytes → Writes r t u s k bytes
 writes-failed r t u s k bytes h h2 = grind arith
 
--- ---- all that was gathered goes out, where nothing was gathered at first
+-- ---- all that was gathered is sent, if nothing was gathered at first
 
 pub all-sent : {t u : Option (List ℕ)} {s k : Signer} {whole : List ℕ} → s.pending ≡ [] → (signs : Signs t u s k whole) → whole ≡ signs.sent ++ k.pending
 all-sent {t} {u} {s} {k} {whole} none signs = ap (λ l. l ++ whole) (sym none) ∙ signs.split
@@ -67,7 +68,7 @@ pub digests-all : {t u : Option (List ℕ)} {s k : Signer} {whole : List ℕ} (d
     → ((m : List ℕ) → Holds256 k.hasher m → digest ≡ sha256 (m ++ k.pending)) → digest ≡ sha256 whole
 digests-all {t} {u} {s} {k} {whole} digest none held signs told = told signs.sent (signs.digest [] held) ∙ ap sha256 (sym (all-sent none signs))
 
--- ---- of a whole
+-- ---- the parts of a whole
 
 -- nothing yet
 pub signing-start : (t : Option (List ℕ)) (s : Signer) (whole : List ℕ) → IsSigning t t s s whole whole
@@ -81,7 +82,7 @@ signing-step {t} {u} {v} {h} {j} {k} part rest so_far next = record {
   signs = signs-join so_far.front part so_far.signs next;
 }
 
--- only a front of the next part
+-- only a front of the next part was sent
 signing-fail : {t u : Option (List ℕ)} {h j : Signer} {whole : List ℕ} (v : Option (List ℕ)) (part rest : List ℕ) → IsSigning t u h j whole (part ++ rest) → BreaksOff u v j part → BreaksOff t v h whole
 signing-fail {t} {u} {h} {j} {whole} v part rest so_far fault =
     subst (λ x. BreaksOff t v h x) (append_assoc so_far.front part rest ∙ sym so_far.split)

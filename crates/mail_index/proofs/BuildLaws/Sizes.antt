@@ -1,4 +1,4 @@
--- How many bytes the sections of an index file have.
+-- The sections of an index file have the sizes that its counts give, and these stay below 2 ^ 64 by the limits.
 use Rattle.mail_index.proofs.Words.{◌≡◌, ℕ, ◌+◌, ◌*◌, ◌^◌, ◌<◌, ◌≤◌, List, [], ◌∷◌, ◌++◌, length, map, flat_map, Option, refl, ap, ◌∙◌, length-append, arith, unwrap_or, AllByRecursion, concat, length-map, newest, IsDigest, Archive, Key, Table, IsArchive, IsKey, postings, archive_bytes, record_bytes, entry_of, directory_from, texts_of, postings_of, entries, archive_section, counts, body, index_file, HasSmallSections}
 use Rattle.sha2.specs.Sha256.{sha256}
 use Rattle.sha2.proofs.Facts256.{length-sha256}
@@ -36,11 +36,11 @@ pub length-index_file : (t : Table) → length (index_file t) ≡ length (body t
 unfolding index_file
 length-index_file t = length-append (body t) (sha256 (body t)) ∙ ap (λ n. length (body t) + n) (length-sha256 (body t))
 
--- they tell the file's length
+-- the counts give the file's length
 pub counted_length-is : (t : Table) (c : Counts) → IsCountOf t c → counted_length c ≡ length (index_file t)
 counted_length-is t c is = omega (arith, length-index_file t, length-body t, is.messages, is.keys, is.archive_bytes, is.text_bytes, is.posting_bytes)
 
--- which is below 2 ^ 64
+-- this length is below 2 ^ 64
 pub counted_length-small : (t : Table) (c : Counts) (count : ℕ) → IsCountOf t c → length t.archives < 2 ^ 31 → length t.messages < 2 ^ 31 → length t.keys < 2 ^ 31 → count ≤ 2 ^ 31
     → AllByRecursion (IsArchive newest) t.archives → AllByRecursion (IsKey newest count) t.keys → counted_length c < 2 ^ 64
 counted_length-small t c count is archives messages keys h named listed = grind (arith, length-archives, length-texts, length-all_postings)

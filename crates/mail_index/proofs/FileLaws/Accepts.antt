@@ -1,4 +1,4 @@
--- The file of a table keeps every rule, so it has no fault.
+-- The file of a table keeps every rule, so it has no fault: section by section.
 use Rattle.mail_index.proofs.Words.{◌≡◌, ℕ, suc, ◌+◌, ◌-◌, ◌*◌, ◌^◌, ◌<◌, List, [], ◌∷◌, ◌++◌, length, map, take, drop, refl, sym, ap, subst, ◌∙◌, arith, length-append, flat_map, slice_range, AllByRecursion, concat, take-append_seam, drop-append_seam, drop-drop, from_be_bytes-to_be_bytes_4, from_be_bytes-to_be_bytes_8, Record, IsVersion, u32_at, u64_at, magic, entry_of, entries, archive_bytes, archive_section, record_bytes, directory_from, texts_of, postings_of, counts, sections, body, index_file, Archive, Key, Table, IsWellFormed, IsArchive, IsKey, AllNext, KeyBefore, version_told, IsFirstFault, EntryBefore, IsEntry, records_start, directory_start, texts_start, postings_start, digest_start, HasDigest, IsSigned, HasArchives, HasRecords, HasDirectory, HasPostings, IsFileOf, read_archives, read_records}
 use Rattle.sha2.specs.Sha256.{sha256}
 use Rattle.sha2.proofs.Facts256.{length-sha256}
@@ -11,7 +11,7 @@ use Rattle.mail_index.proofs.FileLaws.Fronts.{before, concat_then}
 use Rattle.mail_index.proofs.FileLaws.OneTable.{small_version}
 use Rattle.mail_index.proofs.ViewLaws.Opening.{length_records, length_directory, some_postings}
 
--- a part of some bytes, and what follows it
+-- a part of the bytes, and what follows it
 record PartAt (bytes : List ℕ) (i j : ℕ) (mid post : List ℕ) : Type 0 where
   is : slice_range bytes i j ≡ mid
   rest : drop j bytes ≡ post
@@ -24,7 +24,7 @@ part_at bytes i j mid post e n =
       rest = ap (λ (k : ℕ). drop k bytes) n ∙ sym (drop-drop (length mid) i bytes) ∙ ap (drop (length mid)) e ∙ drop-append_seam mid post;
     }
 
--- what the counts of a table's file tell
+-- what the counts of a table's file say
 pub record TellsCounts (bytes : List ℕ) (t : Table) : Type 0 where
   pub marked : take 8 bytes ≡ magic
   pub known : version_told bytes ≡ t.version
@@ -54,7 +54,7 @@ are_entries version count (k ∷ ks) h = ((h.0.kind, h.0.some_text, h.0.short, s
 length_body : (t : Table) → length (body t) ≡ 48 + length (archive_section t) + 40 * length t.messages + 24 * length t.keys + length (texts_of (entries t)) + length (postings_of (entries t))
 length_body t = grind (arith, archive_section, flat_map, record_bytes, directory_from, entries, texts_of, postings_of, length-append, concat, counts, length_records, length_directory, count_entries_of)
 
--- the file of a table that lies in memory keeps all rules
+-- the file of a table that fits in memory keeps all rules
 pub keeps_rules : (bytes : List ℕ) (t : Table) → length bytes < 2 ^ 64 → IsFileOf bytes t → HasPostings bytes t.archives t.messages t.keys
 unfolding index_file
 keeps_rules bytes t few f =

@@ -1,4 +1,4 @@
--- Numbers read from bytes and written back.
+-- A number that was read from bytes is written back as the same bytes.
 use Rattle.mail_index.proofs.Words.{length-take-le, ◌≡◌, ℕ, zero, suc, ◌+◌, ◌<◌, ◌≤◌, List, [], ◌∷◌, ◌++◌, length, take, drop, get_or, refl, Bool, true, ◌&&◌, sym, ap, ◌∙◌, arith, length-drop, take-append-drop, drop-drop, be_bytes_4, be_bytes_8, byte_at, u32_at, u64_at, be32, be64}
 
 pub record AreBytes (bytes : List ℕ) : Type 0 where

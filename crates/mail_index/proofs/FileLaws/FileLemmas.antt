@@ -1,4 +1,4 @@
--- The file that a layout is of: what each walk shows of it, and what each refuses.
+-- What each walk over a file finds is what the file has, and what a walk refuses is in no file.
 use Rattle.mail_index.proofs.Words.{◌≡◌, ℕ, ◌-◌, ◌*◌, ◌^◌, ◌<◌, ◌≤◌, List, length, drop, refl, sym, ap, subst, ◌∙◌, arith, length-drop, transport, flat_map, slice_range, AllByRecursion, Record, record_bytes, version_number, Archive, IsArchive, records_start, directory_start, texts_start, HasCounts, HasArchives, HasRecords, read_archives, SpellsArchives, AreRecords, read_records, IsLayout}
 use Rattle.mail_index.specs.declared.view.layout.Layout.{Layout}
 use Rattle.mail_index.proofs.FileLaws.Bytes.{AreBytes, bytes_behind, bytes_before, length_part}
@@ -42,7 +42,7 @@ has_records bytes l f a h =
     (section_bytes (records_start bytes) (directory_start bytes) bytes l.records.now f.layout.records f.are_bytes) (record_section bytes l f) h in
     record { before = has_archives bytes l f a; spelled = sym f.layout.records ∙ s.spelled; each = s.each; in_order = in_order 0 0 (read_records l.message_count l.records.now) s.behind }
 
--- only the records of the section can be spelled in it
+-- only the records that are read can be those of the section
 pub these_records : (bytes : List ℕ) (l : Layout) → IsLaidOut bytes l → SpellsArchives (version_number l.version) l.archive_count l.archives.now
     → (ms : List Record) → HasRecords bytes (read_archives (version_number l.version) l.archive_count l.archives.now) ms → AreRecords (version_number l.version) l.archive_count 0 0 l.archives.now l.message_count l.records.now
 these_records bytes l f a ms h =

@@ -1,4 +1,4 @@
--- What stands at the front of equal bytes is equal.
+-- Two equal lists of bytes begin with equal parts, if these have the same lengths.
 use Rattle.mail_index.proofs.Words.{◌≡◌, ℕ, ◌^◌, ◌<◌, List, [], ◌∷◌, ◌++◌, length, map, refl, sym, ap, ◌∙◌, append_assoc, arith, flat_map, unwrap_or, concat, AllByRecursion, w32, w64, from_be_bytes, from_be_bytes-to_be_bytes_4, from_be_bytes-to_be_bytes_8, Archive, IsArchive, be32, be64, archive_bytes}
 use Rattle.mail_index.proofs.ViewLaws.DigestReads.{same_size, digest_is}
 
@@ -13,7 +13,7 @@ split (c ∷ a) (d ∷ b) x y h e =
     let q : c ≡ d = cc in
     (cc, r.1)
 
--- the lists in a row, and then the rest
+-- the lists one after another, and then the rest
 abbrev pub before : List (List ℕ) → List ℕ → List ℕ
 before [] x = x
 before (y ∷ ys) x = y ++ before ys x
@@ -41,7 +41,7 @@ be32_is n m hn hm e = sym (from_be_bytes-to_be_bytes_4 n hn) ∙ ap (from_be_byt
 pub be64_is : (n m : ℕ) → n < 2 ^ 64 → m < 2 ^ 64 → be64 n ≡ be64 m → n ≡ m
 be64_is n m hn hm e = sym (from_be_bytes-to_be_bytes_8 n hn) ∙ ap (from_be_bytes w64) e ∙ from_be_bytes-to_be_bytes_8 m hm
 
--- bytes of each of as many
+-- the bytes of as many items in both lists
 pub front_each : {A : Type 0} (f : A → List ℕ) (P : A → Type 0)
     → ((a b : A) (x y : List ℕ) → P a → P b → f a ++ x ≡ f b ++ y → (a ≡ b) × (x ≡ y))
     → (xs ys : List A) (x y : List ℕ) → length xs ≡ length ys → AllByRecursion P xs → AllByRecursion P ys

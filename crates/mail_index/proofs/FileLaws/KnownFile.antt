@@ -1,4 +1,4 @@
--- A layout of bytes that are known to be a table's file keeps the rules of sections.
+-- If bytes are known to be a table's file, each section of their layout keeps its rules.
 use Rattle.mail_index.proofs.Words.{◌<◌, ◌^◌, ℕ, List, length, arith, entry_of, Table, HasCounts, IsFileOf, IsLayout, IsChecked, table_of}
 use Rattle.mail_index.specs.declared.view.layout.Layout.{Layout}
 use Rattle.mail_index.proofs.FileLaws.Accepts.{keeps_rules, same_records}

@@ -1,4 +1,4 @@
--- The whole file: each section in its turn.
+-- Equal files are those of equal tables: each section of the two is equal, in turn.
 use Rattle.mail_index.proofs.Words.{◌≡◌, ℕ, zero, suc, ◌+◌, ◌^◌, ◌<◌, ◌≤◌, List, [], ◌∷◌, ◌++◌, length, map, get_or, refl, sym, ap, subst, ◌∙◌, append_assoc, arith, flat_map, AllByRecursion, length-append, length-map, Record, kind_number, IsVersion, Archive, Key, Table, IsArchive, IsMessage, IsKey, IsWellFormed, archive_length, zeros, be32, be64, archive_bytes, record_bytes, Entry, entry_of, entry_bytes, directory_from, texts_of, postings_of, archive_section, entries, counts, sections, body, HasSmallSections, index_file}
 use Rattle.sha2.specs.Sha256.{sha256}
 use Rattle.mail_index.proofs.FileLaws.Fronts.{split, before, concat_then, same_parts, be32_is, be64_is, front_each, archive_front}

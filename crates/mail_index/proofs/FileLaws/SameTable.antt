@@ -1,4 +1,4 @@
--- Bytes that lie in memory are the file of one table at most.
+-- Bytes that fit in memory are the file of at most one table, because no section is too long for its count.
 use Rattle.mail_index.proofs.Words.{◌≡◌, ◌∙◌, ◌^◌, ◌<◌, ℕ, List, length, sym, arith, Table, HasSmallSections, IsFileOf}
 use Rattle.mail_index.proofs.BuildLaws.Sizes.{length-body, length-index_file}
 use Rattle.mail_index.proofs.FileLaws.OneTable.{one_file}

@@ -1,4 +1,4 @@
--- A file whose sections are those of a table is the file of that table.
+-- A file whose sections are those of a table is the file of that table: its sections are its parts in order.
 use Rattle.mail_index.proofs.Words.{◌≡◌, ℕ, ◌+◌, ◌-◌, ◌^◌, ◌<◌, ◌≤◌, List, [], ◌∷◌, ◌++◌, length, map, take, drop, refl, sym, ap, subst, ◌∙◌, arith, length-drop, length-append, length-map, transport, flat_map, slice_range, AllByRecursion, concat, take-append-drop, drop-drop, version_number, IsVersion, u32_at, u64_at, magic, be32, be64, Entry, entry_of, entries, archive_section, record_bytes, directory_from, texts_of, postings_of, counts, sections, body, index_file, Key, IsArchive, IsKey, IsWellFormed, IsEntry, version_told, IsSigned, records_start, directory_start, texts_start, postings_start, digest_start, HasDigest, HasDirectory, HasPostings, IsFileOf, SpellsArchives, AreRecords, AreEntries, read_entries, IsList, AreLists, IsLayout, IsChecked, table_of, key_of}
 use Rattle.sha2.specs.Sha256.{sha256}
 use Rattle.mail_index.specs.declared.view.layout.Layout.{Layout}
@@ -20,7 +20,7 @@ laid_out bytes l s y b = record {
   few_keys = omega (arith, y.key_count, u32_small bytes 20 b);
 }
 
--- the archives and the records hold
+-- the archives and the records keep their rules
 pub record HoldsRecords (l : Layout) : Type 0 where
   pub archives : SpellsArchives (version_number l.version) l.archive_count l.archives.now
   pub records : AreRecords (version_number l.version) l.archive_count 0 0 l.archives.now l.message_count l.records.now

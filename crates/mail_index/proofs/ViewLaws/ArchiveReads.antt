@@ -1,10 +1,10 @@
--- Archives read back from their bytes, and the bytes of archives that were read.
+-- An archive that is written and read is the same, and so are its bytes if they are read and written.
 use Rattle.mail_index.proofs.Words.{Some, slice_get, ◌≡◌, ◌↔◌, ℕ, zero, suc, ◌+◌, ◌-◌, ◌^◌, ◌<◌, ◌≤◌, List, [], ◌∷◌, ◌++◌, length, take, drop, Option, refl, sym, ap, subst, ◌∙◌, arith, length-append, length-drop, append_assoc, unwrap_or, flat_map, take-append_seam, drop-append_seam, take-append-drop, append-nil, AllByRecursion, from_be_bytes-to_be_bytes_4, from_be_bytes-to_be_bytes_8, u32_at, u64_at, be32, be64, archive_bytes, IsDigest, digest_length, read_digest, behind_digest, Archive, IsArchive, IsPath, archive_length, behind_path, read_archive, behind_archive, read_archives, behind_archives, HasArchive, SpellsArchives}
 use Rattle.mail_index.proofs.ViewLaws.DigestReads.{digest_back, digest_kept, digest_room}
 use Rattle.mail_index.proofs.FileLaws.Fronts.{concat_then}
 use Rattle.mail_index.proofs.FileLaws.Bytes.{AreBytes, u32_back, u64_back, length_part}
 
--- what the bytes of an archive are read as
+-- an archive is read back from its bytes, with whatever follows them
 pub archive_back : (version : ℕ) (a : Archive) (x : List ℕ) → IsArchive version a → (read_archive version (archive_bytes a ++ x) ≡ a) × (behind_archive version (archive_bytes a ++ x) ≡ x)
 unfolding read_archive behind_archive
 archive_back version a x h =
@@ -20,7 +20,7 @@ archive_back version a x h =
     let behind : behind_digest version (behind_path r) ≡ x = ap (behind_digest version) after ∙ back.1 in
     ((λ i. record { path = path i; length = span i; digest = digest i }), behind)
 
--- bytes that are long enough for a path, whose path is one and is followed by a digest
+-- bytes begin with an archive if they have room for a path, this is a valid path, and a digest follows it
 pub has_archive : (version : ℕ) (r : List ℕ) → AreBytes r → 12 ≤ length r → u32_at r 8 ≤ length (drop 12 r) → IsPath (take (u32_at r 8) (drop 12 r)) → u64_at r 0 ≤ 2 ^ 40
     → IsDigest version (read_digest version (behind_path r)) → HasArchive version r
 unfolding read_archive behind_archive
@@ -42,7 +42,7 @@ has_archive version r h l n p s t =
 length_archive : (a : Archive) (x : List ℕ) → length (archive_bytes a ++ x) ≡ 12 + length a.path + length (unwrap_or a.digest []) + length x
 length_archive a x = grind (arith, unwrap_or, length-append, archive_bytes)
 
--- what bytes that begin with an archive can be relied on for
+-- what is true of bytes that begin with an archive
 pub record ArchiveFront (version : ℕ) (r : List ℕ) : Type 0 where
   pub long : 12 ≤ length r
   pub path : u32_at r 8 ≤ length (drop 12 r)
@@ -60,7 +60,7 @@ archive_front_of version r h =
     let path : u32_at r 8 ≤ length (drop 12 r) = omega (arith, n, size, length-drop 12 r) in
     record { long = omega (arith, n); path = path; valid = h.valid.0; size = h.valid.1; digest = h.valid.2; room = digest_room version (behind_path r) h.valid.2 }
 
--- the first of some archives, and the others
+-- the first of these archives, and the others
 behind_spelled : (version n : ℕ) (r : List ℕ) → SpellsArchives version (suc n) r → behind_archive version r ≡ flat_map archive_bytes (read_archives version n (behind_archive version r))
 behind_spelled version n r h = ap (behind_archive version) h.spelled ∙ (archive_back version (read_archive version r) (flat_map archive_bytes (read_archives version n (behind_archive version r))) h.each.0).1
 
@@ -73,7 +73,7 @@ spells_rest version n r h = record { spelled = behind_spelled version n r h; eac
 pub spells_more : (version n : ℕ) (r : List ℕ) → HasArchive version r → SpellsArchives version n (behind_archive version r) → SpellsArchives version (suc n) r
 spells_more version n r h s = record { spelled = h.spelled ∙ ap (λ (x : List ℕ). archive_bytes (read_archive version r) ++ x) s.spelled; each = (h.valid, s.each) }
 
--- archives are read back as they are
+-- archives are read back from their bytes
 pub archives_back : (version : ℕ) (archives : List Archive) → AllByRecursion (IsArchive version) archives → read_archives version (length archives) (flat_map archive_bytes archives) ≡ archives
 archives_back version [] h = refl
 archives_back version (a ∷ rest) h =
@@ -82,7 +82,7 @@ archives_back version (a ∷ rest) h =
     let tail : read_archives version (length rest) (behind_archive version (flat_map archive_bytes (a ∷ rest))) ≡ rest = ap (read_archives version (length rest)) b.1 ∙ archives_back version rest h.1 in
     cc
 
--- ---- the reader of one archive, from what its calls answer
+-- ---- the reader of one archive, from the results of its calls
 
 pub cut_has_none : (version : ℕ) (r tail : List ℕ) (n : ℕ) → n ≡ u32_at r 8 → tail ≡ drop 12 r → length tail < n → HasArchive version r → ⊥
 cut_has_none version r tail n e t l h = let f = archive_front_of version r h in absurd (omega (arith, e, ap length t, l, f.path))
@@ -130,7 +130,7 @@ spells_stop version n i s r l h refuses p =
     let e : n - i ≡ suc (n - (i + 1)) = omega (arith, l) in
     refuses (spells_front version (n - (i + 1)) r (subst (λ (k : ℕ). SpellsArchives version k r) e (h.0 p)))
 
--- ---- the walk behind some archives
+-- ---- the walk past the first archives
 
 pub pass_step : (version count n i : ℕ) (s r behind : List ℕ) → i < n → n ≤ count → SpellsArchives version (count - i) r → behind_archives version (n - i) r ≡ behind_archives version n s → behind ≡ behind_archive version r
     → SpellsArchives version (count - (i + 1)) behind × (behind_archives version (n - (i + 1)) behind ≡ behind_archives version n s)

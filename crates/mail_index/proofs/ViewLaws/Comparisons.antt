@@ -1,4 +1,4 @@
--- The comparisons of a look-up.
+-- A search makes few comparisons, because each of them halves the keys; and without a match it makes many.
 use Rattle.mail_index.proofs.Words.{◌≡◌, ◌∙◌, ℕ, zero, suc, ◌+◌, ◌-◌, ◌/◌, ◌^◌, ◌<◌, ◌≤◌, List, [], ◌∷◌, length, take, drop, get_or, refl, ap, arith, length-drop, length-take-le, take-take, drop-drop, Ordering, Less, Equal, Greater, drop-take, drop_more, Kind, Key, lies_to, comparisons, comparisons_within, is_key, is_eq, sym, AllByRecursion, Bool, true, false, nat_lt, ordering_index, nat_tests, bisections_within}
 use Rattle.mail_index.specs.Inside.KeyRuns.{keys_between}
 use Rattle.mail_index.proofs.ViewLaws.LookUpLemmas.{halves, half_digits, is_key-as}
@@ -7,7 +7,7 @@ use Rattle.mail_index.proofs.ViewLaws.RunLemmas.{between-next}
 
 -- ---- one comparison
 
--- how many come after that of the key in the middle
+-- how many comparisons come after that with the key in the middle
 abbrev pub left : ℕ → Kind → List ℕ → Ordering → List Key → List Key → ℕ
 left most kind text Less before behind = comparisons_within most kind text behind
 left most kind text Equal before behind = 0
@@ -18,7 +18,7 @@ comparisons-more : (most : ℕ) (kind : Kind) (text : List ℕ) (ks : List Key) 
     → comparisons_within (suc most) kind text ks ≡ suc (left most kind text o before behind)
 comparisons-more most kind text ks k before behind o h h2 h3 = grind (arith, comparisons_within)
 
--- ---- they are few
+-- ---- there are few comparisons
 
 left-few : (most : ℕ) (kind : Kind) (text : List ℕ) (o : Ordering) (before behind : List Key) (few : ℕ)
     → comparisons_within most kind text before ≤ few → comparisons_within most kind text behind ≤ few → left most kind text o before behind ≤ few
@@ -39,7 +39,7 @@ comparisons-few (suc most) kind text (k ∷ ks) digits h =
     (comparisons-few most kind text (drop (n + 1) keys) half.fewer (omega (arith, half.upper, length-drop (n + 1) keys))) in
     omega (arith, counted, few, half.digits_are)
 
--- ---- they are many where no key is the sought one
+-- ---- there are many if no key is the searched one
 
 left-many : (most : ℕ) (kind : Kind) (text : List ℕ) (o : Ordering) (before behind : List Key) (many : ℕ) → is_eq o ≡ false
     → many ≤ comparisons_within most kind text before → many ≤ comparisons_within most kind text behind → many ≤ left most kind text o before behind
@@ -75,7 +75,7 @@ comparisons-some kind text (k ∷ ks) h =
     let counted = comparisons-more (length ks) kind text keys met (take n keys) (drop (n + 1) keys) (lies_to kind text met) (drop_more keys n k within) refl refl in
     omega (arith, counted)
 
--- ---- of keys in a row
+-- ---- keys from one number to another
 
 length-between : (low high : ℕ) (ks : List Key) → high ≤ length ks → length (keys_between low high ks) ≡ high - low
 length-between low high ks within = length-take-le (high - low) (drop low ks) (omega (arith, within, length-drop low ks))
@@ -90,7 +90,7 @@ from_place low high n ks d less within =
 before_place : (low high n : ℕ) (ks : List Key) → low + n < high → take n (keys_between low high ks) ≡ keys_between low (low + n) ks
 before_place low high n ks less = grind (arith, take-take)
 
--- the key in the middle of a row lies so to the sought one
+-- how a search goes on after the key in the middle compared in this way
 pub record Compared (most : ℕ) (kind : Kind) (text : List ℕ) (ks : List Key) (low high : ℕ) (o : Ordering) : Type 0 where
   pub fewer : ℕ
   pub enough : high - low ≤ suc fewer
@@ -112,9 +112,9 @@ compared (suc most) kind text ks low high d o some within enough lies =
           (ap (λ (k : ℕ). drop k row) half ∙ from_place low high n ks d inside within) (ap (λ (k : ℕ). take k row) half ∙ before_place low high n ks inside) lies;
     }
 
--- ---- where the keys end that pass a test
+-- ---- where the keys that pass a test end
 
--- how many comparisons come after that of the key in the middle
+-- how many comparisons come after that with the key in the middle
 abbrev pub left_of : ℕ → (Key → Bool) → Bool → List Key → List Key → ℕ
 left_of most passes true before behind = bisections_within most passes behind
 left_of most passes false before behind = bisections_within most passes before

@@ -1,4 +1,4 @@
--- Digests of archives read back from their bytes, and the bytes of digests that were read.
+-- A digest that is written and read is the same, and so are its bytes if they are read and written.
 use Rattle.mail_index.proofs.Words.{◌≡◌, ℕ, ◌+◌, ◌<◌, ◌≤◌, true, false, nat_eq, if◌then◌else◌, List, [], ◌++◌, length, take, drop, Option, None, Some, refl, sym, ap, ◌∙◌, arith, unwrap_or, take-append_seam, drop-append_seam, take-append-drop, length-take, version_number, IsDigest, digest_length, read_digest, behind_digest}
 use Rattle.mail_index.specs.declared.version.Version.{Version}
 use Rattle.mail_index.specs.declared.version.Version.TheVariants.{Two}
@@ -6,7 +6,7 @@ use Rattle.mail_index.specs.declared.version.Version.TheVariants.{Two}
 pub digest_size : (version : ℕ) (d : List ℕ) → IsDigest version (Some d) → length d ≡ 32
 digest_size version d h = h.1
 
--- what the bytes of a digest are read as
+-- a digest is read back from its bytes, with whatever follows them
 pub digest_back : (version : ℕ) (d : Option (List ℕ)) (x : List ℕ) → IsDigest version d
     → (read_digest version (unwrap_or d [] ++ x) ≡ d) × (behind_digest version (unwrap_or d [] ++ x) ≡ x)
 digest_back version None x h = rw h (refl, refl)
@@ -16,7 +16,7 @@ digest_back version (Some d) x h =
     let behind : drop 32 (d ++ x) ≡ x = ap (λ (n : ℕ). drop n (d ++ x)) size ∙ drop-append_seam d x in
     rw h.0 (ap Some front, behind)
 
--- what is read of some bytes are their first ones
+-- the bytes of the digest that is read, and those after it, are all bytes
 pub digest_kept : (version : ℕ) (y : List ℕ) → unwrap_or (read_digest version y) [] ++ behind_digest version y ≡ y
 digest_kept version y = elim (nat_eq version 1) as (λ b. unwrap_or (if b then None else Some (take 32 y)) [] ++ drop (if b then 0 else 32) y ≡ y) [
   | true ↦ refl
@@ -40,10 +40,10 @@ whole_digest v y d x e cut =
     let size : length (take 32 y) ≡ 32 = omega (arith, length-take 32 y, cut.2) in
     rw e ((refl, size), ap Some cut.0, cut.1)
 
--- two digests of a version have as many bytes
+-- two digests of a version have the same number of bytes
 pub same_size : (version : ℕ) (d e : Option (List ℕ)) → IsDigest version d → IsDigest version e → length (unwrap_or d []) ≡ length (unwrap_or e [])
 same_size version d e h h2 = grind (arith, digest_size)
 
--- they are told apart by their bytes
+-- digests with the same bytes are the same
 pub digest_is : (version : ℕ) (d e : Option (List ℕ)) → IsDigest version d → IsDigest version e → unwrap_or d [] ≡ unwrap_or e [] → d ≡ e
 digest_is version d e h h2 h3 = grind arith

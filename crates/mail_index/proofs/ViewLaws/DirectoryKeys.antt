@@ -1,4 +1,5 @@
--- The keys of a directory, entry by entry.
+-- The keys of a directory are read entry by entry, and they are sorted because each entry comes after the one before
+-- it.
 use Rattle.mail_index.proofs.Words.{◌≡◌, ◌∙◌, ℕ, zero, suc, ◌+◌, ◌-◌, ◌*◌, ◌^◌, ◌<◌, ◌≤◌, List, [], ◌∷◌, length, map, drop, refl, sym, ap, subst, arith, length-drop, AllByRecursion, Less, nat_cmp, slice_cmp, IsStrictlySortedBy, nat_list_cmp_total, drop-drop, length-map, kind_number, kind_of_number, last_kind, byte_at, u32_at, u64_at, Key, ArePosted, end_before, text_at, read_entry, read_entries, IsEntryAt, AreEntries, list_at, AreLists, key_of, keys_read, IsDirectory, key_at, AreSorted}
 use Rattle.mail_index.specs.Inside.FrontEntries.{IsInFront}
 use Rattle.mail_index.proofs.Items.{all-weaker}
@@ -20,7 +21,7 @@ key_at-read texts postings (suc n) d (suc i) h =
     key_at-read texts postings n (drop 24 d) i (omega (arith, h))
     ∙ ap (λ (l : List ℕ). key_of (read_entry texts postings l)) (drop-drop (24 * i) 24 d ∙ ap (λ (k : ℕ). drop k d) place)
 
--- what holds of each entry
+-- what is true of each entry
 record BeginsWithEntry (texts : List ℕ) (total : ℕ) (d : List ℕ) : Type 0 where
   pub kind : kind_number (kind_of_number (byte_at d 0)) ≡ byte_at d 0
   pub text : u64_at d 8 + u32_at d 4 ≤ length texts
@@ -53,7 +54,7 @@ list-at messages postings (suc n) d (suc i) few h lt =
 
 -- ---- the order of the keys
 
--- each comes after this one
+-- each key comes after this one
 after_first : (c : List ℕ) (d e : List ℕ) → slice_cmp nat_cmp c d ≡ Less → slice_cmp nat_cmp d e ≡ Less → slice_cmp nat_cmp c e ≡ Less
 after_first c d e h k = nat_list_cmp_total.trans c d e h k
 
@@ -84,7 +85,7 @@ sorted-entries version texts postings total tp pp number text (suc n) d h =
 pub directory-sorted : (texts postings : List ℕ) (count : ℕ) (entries : List ℕ) → IsDirectory texts postings count entries → AreSorted (keys_read texts postings count entries)
 directory-sorted texts postings count entries h = (sorted-entries h.version texts postings (length postings) 0 0 0 [] count entries h.sorted).sorted
 
--- ---- what is read at a number
+-- ---- the entry at a number
 
 pub number-below : (texts postings : List ℕ) (count : ℕ) (entries : List ℕ) (keys : List Key) (number : ℕ) → keys_read texts postings count entries ≡ keys → number < length keys → number < count
 number-below texts postings count entries keys number view less = omega (arith, less, ap length view, length-keys_read texts postings count entries)

@@ -1,11 +1,12 @@
--- What the walk over a directory shows of its section, and that it accepts the directory of a table.
+-- The walk over a directory accepts exactly the directories of tables: what it reads has the section's bytes, entry by
+-- entry.
 use Rattle.mail_index.proofs.Words.{◌≡◌, ℕ, zero, suc, ◌+◌, ◌-◌, ◌*◌, ◌^◌, ◌<◌, ◌≤◌, Bool, true, false, cond, ◌&&◌, List, [], ◌∷◌, ◌++◌, length, take, drop, refl, sym, ap, subst, ◌∙◌, arith, length-drop, length-append, nat_eq, Less, AllByRecursion, transport, take-append_seam, drop-append_seam, take-append-drop, drop-drop, nat_tests, from_be_bytes-to_be_bytes_4, from_be_bytes-to_be_bytes_8, kind_number, kind_of_number, is_kind_number, last_kind, byte_at, u32_at, u64_at, zeros, be32, be64, Entry, entry_bytes, directory_from, texts_of, postings_of, AllNext, IsEntry, EntryBefore, key_cmp, is_entry, end_before, text_at, read_entry, read_entries, IsEntryAt, AreEntries}
 use Rattle.mail_index.proofs.Items.{empty_list}
 use Rattle.mail_index.proofs.FileLaws.Fronts.{before, concat_then}
 use Rattle.mail_index.proofs.FileLaws.Bytes.{AreBytes, bytes_behind, bytes_before, u32_back, u64_back, byte_back, both, length_part}
 use Rattle.mail_index.proofs.ViewLaws.KindNumbers.{kind_of-number, kind_passes, kind_kept, few_kinds, first_less}
 
--- each entry comes after the one before it, and the first after this key
+-- each entry comes after the one before it, and the first entry comes after this key
 abbrev pub AreAfter : ℕ → List ℕ → List Entry → Type 0
 AreAfter number text [] = Unit {0}
 AreAfter number text (e ∷ es) = (key_cmp number text (kind_number e.kind) e.text ≡ Less) × AreAfter (kind_number e.kind) e.text es
@@ -23,7 +24,7 @@ pub are_after : (es : List Entry) → AllNext EntryBefore es → AreAfter 0 [] e
 are_after [] h = tt
 are_after (e ∷ es) h = (first_less [] e.kind e.text, after_first e es h)
 
--- ---- what the walk shows
+-- ---- what the walk finds
 
 pub record ShowsEntries (version : ℕ) (texts postings : List ℕ) (tp pp number : ℕ) (text : List ℕ) (n : ℕ) (d : List ℕ) : Type 0 where
   pub spelled : d ≡ directory_from tp pp (read_entries texts postings n d)
@@ -109,7 +110,7 @@ shows_entries version texts postings tp pp number text (suc n) d b l h =
       after = (ap (λ (k : ℕ). key_cmp number text k (text_at texts d)) kind ∙ x.after, subst (λ (k : ℕ). AreAfter k (text_at texts d) es) (sym kind) more.after);
     }
 
--- ---- that it accepts the directory of a table
+-- ---- the walk accepts the directory of a table
 
 some_length : (x : ℕ) (xs : List ℕ) (total n : ℕ) → cond (nat_eq (length (x ∷ xs)) 0) total n ≡ n
 some_length x xs total n = let e : nat_eq (suc (length xs)) 0 ≡ false = grind (arith, nat_tests) in ap (λ (b : Bool). cond b total n) e
@@ -119,7 +120,7 @@ end_of : (tp pp total : ℕ) (es : List Entry) → pp < 2 ^ 64 → total ≡ pp 
 end_of tp pp total [] l e = omega (arith, e)
 end_of tp pp total (f ∷ fs) l e = some_length (kind_number f.kind) (zeros ++ (be32 (length f.text) ++ (be64 tp ++ (be64 pp ++ []))) ++ directory_from (tp + length f.text) (pp + length f.postings) fs) total (u64_at (directory_from tp pp (f ∷ fs)) 16) ∙ from_be_bytes-to_be_bytes_8 pp l
 
--- the rest of the texts and of the postings are those of these entries
+-- the rest of the texts and of the postings is that of these entries
 pub record IsAhead (texts postings : List ℕ) (tp pp : ℕ) (es : List Entry) : Type 0 where
   pub text_bound : tp ≤ length texts
   pub bound : pp ≤ length postings

@@ -1,11 +1,10 @@
--- A kind is told by its number, and the newest version has each.
+-- A kind and its number determine each other, and the newest version has each kind.
 use Rattle.mail_index.proofs.Words.{◌≡◌, ℕ, ◌<◌, ◌≤◌, true, List, sym, ap, ◌∙◌, arith, Ordering, Less, Equal, nat_cmp, ordering_then, slice_cmp, nat_tests, Kind, kind_number, kind_of_number, is_kind_number, key_cmp, last_kind}
 
 pub kind_of-number : (k : Kind) → kind_of_number (kind_number k) ≡ k
 kind_of-number k = grind arith
 
--- the newest version has each kind
--- a number that is one of a kind is the number of that kind
+-- a number that is one of a kind is the number of the kind that is read from it
 pub kind_kept : (last n : ℕ) → last ≤ 9 → is_kind_number last n ≡ true → kind_number (kind_of_number n) ≡ n
 kind_kept last n h h2 = grind (arith, nat_tests)
 
@@ -21,7 +20,7 @@ kind_passes last k h = let some : 1 ≤ kind_number k = omega (arith, kind_some 
 pub few_kinds : (version : ℕ) → last_kind version ≤ 9
 few_kinds version = grind arith
 
--- ---- how numbers lie to one another
+-- ---- how numbers compare
 
 pub lower : (x y : ℕ) → x < y → nat_cmp x y ≡ Less
 lower x y h = grind (arith, nat_tests)
@@ -29,6 +28,6 @@ lower x y h = grind (arith, nat_tests)
 pub tied : (x y : ℕ) → x ≡ y → nat_cmp x y ≡ Equal
 tied x y h = grind (arith, nat_tests)
 
--- a key comes behind kind 0
+-- a key comes after kind 0
 pub first_less : (xs : List ℕ) (k : Kind) (ys : List ℕ) → key_cmp 0 xs (kind_number k) ys ≡ Less
 first_less xs k ys = ap (λ (o : Ordering). ordering_then o (slice_cmp nat_cmp xs ys)) (lower 0 (kind_number k) (kind_some k))

@@ -1,11 +1,11 @@
--- A key looked up among sorted ones.
+-- A look-up among sorted keys finds the key if it is there, because all keys before a lower one are lower.
 use Rattle.mail_index.proofs.Words.{◌≡◌, ◌∙◌, ℕ, zero, suc, ◌+◌, ◌-◌, ◌^◌, ◌<◌, ◌≤◌, Bool, true, false, List, [], ◌∷◌, ◌/◌, length, map, get_or, refl, sym, ap, ap₂, arith, nat_eq, Ordering, Less, Equal, Greater, nat_cmp, is_eq, ordering_reverse, slice_cmp, length-map, get_or-map, nat_tests, pow-suc, nat_list_cmp_total, is_eq-slice_cmp, Less-from_sorted, Kind, kind_number, Key, is_key, lies_to, numbers_at, AreSorted}
 
 -- a key's bytes, by which keys are sorted
 abbrev pub key_bytes : Key → List ℕ
 key_bytes k = kind_number k.kind ∷ k.text
 
--- the key is the wanted one exactly where it is equal to it
+-- the key is the searched one exactly if it compares as equal
 is_key-lies : (kind : Kind) (text : List ℕ) (k : Key) → is_eq (lies_to kind text k) ≡ is_key kind text k
 is_key-lies kind text k = is_eq-slice_cmp (key_bytes k) (kind_number kind ∷ text)
 
@@ -15,14 +15,14 @@ is_key-as kind text k o h = sym (is_key-lies kind text k) ∙ ap is_eq h
 pub is_key-greater : (kind : Kind) (text : List ℕ) (k : Key) → lies_to kind text k ≡ Greater → is_key kind text k ≡ false
 is_key-greater kind text k h = is_key-as kind text k Greater h
 
--- no key so far, and the rest
+-- if the first key isn't the searched one, the numbers are those of the rest
 numbers_at-other : (kind : Kind) (text : List ℕ) (k : Key) (ks : List Key) → is_key kind text k ≡ false → numbers_at kind text (k ∷ ks) ≡ numbers_at kind text ks
 numbers_at-other kind text k ks e = rw (e, numbers_at) refl
 
 numbers_at-this : (kind : Kind) (text : List ℕ) (k : Key) (ks : List Key) → is_key kind text k ≡ true → numbers_at kind text (k ∷ ks) ≡ k.numbers
 numbers_at-this kind text k ks e = rw (e, numbers_at) refl
 
--- the first keys aren't it, and the next is
+-- the first keys aren't the searched one, and the next is
 pub numbers_at-found : (kind : Kind) (text : List ℕ) (ks : List Key) (i : ℕ) (d : Key) → i < length ks
     → ((j : ℕ) → j < i → lies_to kind text (get_or ks j d) ≡ Less) → lies_to kind text (get_or ks i d) ≡ Equal → numbers_at kind text ks ≡ (get_or ks i d).numbers
 numbers_at-found kind text [] i d h below here = absurd (omega (arith, h))
@@ -31,7 +31,7 @@ numbers_at-found kind text (k ∷ ks) (suc i) d h below here =
     numbers_at-other kind text k ks (is_key-as kind text k Less (below 0 (omega arith)))
     ∙ numbers_at-found kind text ks i d (omega (arith, h)) (λ j lt. below (suc j) (omega (arith, lt))) here
 
--- the first keys lie before it, and all others behind it
+-- the first keys are before the searched one, and all others after it
 pub numbers_at-none : (kind : Kind) (text : List ℕ) (ks : List Key) (i : ℕ) (d : Key)
     → ((j : ℕ) → j < i → lies_to kind text (get_or ks j d) ≡ Less) → ((j : ℕ) → i ≤ j → j < length ks → lies_to kind text (get_or ks j d) ≡ Greater) → numbers_at kind text ks ≡ []
 numbers_at-none kind text [] i d below above = refl
@@ -44,7 +44,7 @@ numbers_at-none kind text (k ∷ ks) (suc i) d below above =
 
 -- ---- among sorted keys
 
--- those before one that lies before it do too
+-- keys before a lower key are lower too
 pub before-less : (kind : Kind) (text : List ℕ) (ks : List Key) (d : Key) (m j : ℕ) → AreSorted ks → m < length ks → lies_to kind text (get_or ks m d) ≡ Less → j < suc m
     → lies_to kind text (get_or ks j d) ≡ Less
 before-less kind text ks d m j sorted within less le = go (nat_eq j m) refl
@@ -62,7 +62,7 @@ before-less kind text ks d m j sorted within less le = go (nat_eq j m) refl
 reversed : (o : Ordering) → o ≡ Greater → ordering_reverse o ≡ Less
 reversed o h = grind arith
 
--- those behind one that lies behind it do too
+-- keys after a higher key are higher too
 pub behind-greater : (kind : Kind) (text : List ℕ) (ks : List Key) (d : Key) (m j : ℕ) → AreSorted ks → lies_to kind text (get_or ks m d) ≡ Greater → m ≤ j → j < length ks
     → lies_to kind text (get_or ks j d) ≡ Greater
 behind-greater kind text ks d m j sorted greater le within = go (nat_eq j m) refl
@@ -83,7 +83,7 @@ behind-greater kind text ks d m j sorted greater le within = go (nat_eq j m) ref
 
 -- ---- steps
 
--- the halves of some keys have a binary digit less
+-- the number of keys in each half has one binary digit less
 pub record Halves (keys digits : ℕ) : Type 0 where
   pub fewer : ℕ
   pub digits_are : digits ≡ suc fewer
@@ -103,9 +103,9 @@ half_digits keys fewer h =
     let twice = pow-suc 2 fewer in
     let some = pow_some fewer in (omega (arith, twice, some, h), omega (arith, twice, some, h), omega (arith, twice, some, h))
 
--- ---- a key that was met
+-- ---- a key that is found
 
--- one is met: those before it lie before the wanted key
+-- the searched key is found here: the keys before it are lower
 pub numbers_at-met : (kind : Kind) (text : List ℕ) (ks : List Key) (m : ℕ) (d : Key) → AreSorted ks → m < length ks → lies_to kind text (get_or ks m d) ≡ Equal
     → numbers_at kind text ks ≡ (get_or ks m d).numbers
 numbers_at-met kind text ks m d sorted within equal =

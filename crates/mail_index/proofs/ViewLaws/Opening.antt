@@ -1,4 +1,4 @@
--- What the walks over the sections show of a file, and what they refuse.
+-- What the walks over the sections find in a file is what its table has, and they refuse nothing of a table's file.
 use Rattle.mail_index.proofs.Words.{◌≡◌, ℕ, zero, suc, ◌+◌, ◌*◌, ◌^◌, ◌<◌, List, [], ◌∷◌, length, map, drop, refl, ap, ◌∙◌, arith, length-append, flat_map, AllByRecursion, Some, slice_get, drop-drop, Record, Entry, entry_of, entry_bytes, archive_bytes, record_bytes, directory_from, Archive, Key, IsArchive, IsKey, AllNext, KeyBefore, RisesFrom, postings, postings_from, IsEntry, EntryBefore, read_archives, SpellsArchives, read_record, read_records, read_entry, read_entries, numbers_read, IsList, AreLists, key_of}
 use Rattle.mail_index.proofs.Items.{all-weaker}
 use Rattle.mail_index.proofs.ViewLaws.ArchiveReads.{archives_back}
@@ -35,7 +35,7 @@ some_numbers : (bytes ns : List ℕ) → bytes ≡ postings_from 0 ns → 0 < le
 some_numbers bytes [] e l = absurd (omega (arith, ap length e, l))
 some_numbers bytes (n ∷ ns) e l = omega arith
 
--- the numbers that are read of a list
+-- the numbers that are read from a list
 pub record ReadsList (messages : ℕ) (list : List ℕ) : Type 0 where
   pub spelled : postings (numbers_read 0 list) ≡ list
   pub some : 0 < length (numbers_read 0 list)
@@ -45,7 +45,7 @@ pub record ReadsList (messages : ℕ) (list : List ℕ) : Type 0 where
 pub reads_list : (messages : ℕ) (list : List ℕ) → messages < 2 ^ 32 → IsList messages list → ReadsList messages list
 reads_list messages list l h = grind (arith, numbers_read, read-posted, all-weaker, postings, some_numbers)
 
--- the keys that are read of entries
+-- the keys that are read from entries
 pub record ReadsKeys (version messages : ℕ) (es : List Entry) : Type 0 where
   pub spelled : map entry_of (map key_of es) ≡ es
   pub each : AllByRecursion (IsKey version messages) (map key_of es)

@@ -1,4 +1,4 @@
--- Postings read back: the bytes of rising numbers tell these numbers.
+-- Postings are read back: the bytes of rising numbers give these numbers, difference by difference.
 use Rattle.mail_index.proofs.Words.{◌≡◌, ◌∙◌, ℕ, zero, suc, ◌+◌, ◌-◌, ◌*◌, ◌/◌, ◌%◌, ◌^◌, ◌<◌, ◌≤◌, Bool, true, false, cond, nat_lt, List, [], ◌∷◌, ◌++◌, length, Option, Some, None, refl, sym, ap, ap₂, subst, arith, length-append, AllByRecursion, is_some, false≢true, nat_tests, add-mul, mul_assoc, RisesFrom, leb128, postings_from, IsShort, numbers_behind, numbers_read, ArePostings, ArePosted}
 use Rattle.mail_index.proofs.FileLaws.RecordFronts.{leb_front, leb_some}
 
@@ -14,7 +14,7 @@ behind-last low p w b bs h = let e : nat_lt b 128 ≡ true = grind (arith, nat_t
 behind-more : (low p w b : ℕ) (bs : List ℕ) → 128 ≤ b → numbers_behind low p w (b ∷ bs) ≡ numbers_behind low (p + (b - 128) * w) (128 * w) bs
 behind-more low p w b bs h = let e : nat_lt b 128 ≡ false = grind (arith, nat_tests) in rw (e, numbers_behind) refl
 
--- what a difference k tells, behind the part that has come
+-- the numbers after a difference k has been read to its end
 abbrev told : ℕ → ℕ → List ℕ → List ℕ
 told low difference bs = (low + difference - 1) ∷ numbers_behind (low + difference) 0 1 bs
 
@@ -53,7 +53,7 @@ numbers_read-postings low (n ∷ ns) rises below =
 pub read-posted : (low : ℕ) (bytes ns : List ℕ) → ArePostings (2 ^ 32) low bytes ns → numbers_read low bytes ≡ ns
 read-posted low bytes ns h = ap (numbers_read low) h.spelled ∙ numbers_read-postings low ns h.rises h.below
 
--- ---- the front of some postings
+-- ---- the first difference of postings
 
 -- no number
 pub posted-none : (limit low : ℕ) (bytes ns : List ℕ) (r : Option (ℕ × List ℕ)) → limit ≤ 2 ^ 32
@@ -61,7 +61,7 @@ pub posted-none : (limit low : ℕ) (bytes ns : List ℕ) (r : Option (ℕ × Li
 posted-none limit low bytes [] r le only none h = refl
 posted-none limit low bytes (n ∷ ns) r le only none h = grind (arith, postings_from, short-difference, false≢true, is_some)
 
--- a number, and those behind it
+-- a number, and the numbers after it
 pub record Front (limit low difference : ℕ) (behind ns : List ℕ) : Type 0 where
   pub some : 0 < difference
   pub below : low + difference ≤ limit
@@ -89,7 +89,7 @@ posted-front limit low d bytes behind (n ∷ ns) le short split h =
       };
     }
 
--- a number in front of others
+-- a number before others
 pub posted-back : (limit low difference : ℕ) (bytes behind : List ℕ) → 0 < difference → low + difference ≤ limit → bytes ≡ leb128 5 difference ++ behind
     → ArePosted limit (low + difference) behind → ArePosted limit low bytes
 posted-back limit low d bytes behind some below split h =
@@ -104,11 +104,11 @@ posted-back limit low d bytes behind some below split h =
       },
     )
 
--- a difference has some bytes
+-- a difference has at least one byte
 pub posted-shorter : (difference : ℕ) (bytes behind : List ℕ) → bytes ≡ leb128 5 difference ++ behind → length behind < length bytes
 posted-shorter d bytes behind split = grind (arith, leb128, length-append)
 
--- what bytes tell that aren't nothing and begin with no difference
+-- bytes that aren't empty and begin with no difference are no postings
 pub posted-refused : (limit low : ℕ) (bytes : List ℕ) (r : Option (ℕ × List ℕ)) → limit ≤ 2 ^ 32
     → ((k : ℕ) (rest : List ℕ) → IsShort 5 k → bytes ≡ leb128 5 k ++ rest → r ≡ Some (k, rest)) → r ≡ None → 0 < length bytes → ArePosted limit low bytes → ⊥
 posted-refused limit low bytes r le only none some h =

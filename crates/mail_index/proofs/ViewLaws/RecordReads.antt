@@ -1,4 +1,4 @@
--- A record read back from its bytes, and the bytes of a record that was read.
+-- A record that is written and read is the same, and so are its bytes if they are read and written.
 use Rattle.mail_index.proofs.Words.{◌≡◌, ℕ, zero, suc, ◌+◌, ◌^◌, ◌<◌, ◌≤◌, Bool, true, false, cond, ◌&&◌, ◌||◌, List, [], ◌∷◌, ◌++◌, length, drop, Option, Some, None, refl, ap, ◌∙◌, arith, ℤ, IfSome, FitsSigned, is_some, nat_eq, nat_le, w64, cast_signed, to_z-of_z, Fits-of_z, Fits-lt-pow, from_be_bytes-to_be_bytes_4, from_be_bytes-to_be_bytes_8, Record, byte_at, u32_at, u64_at, be32, be64, zeros, bit, flags_byte, date_number, record_bytes, has_bit, read_flags, read_date, read_record, is_record, of_z-to_z, leb-true, nat_tests}
 use Rattle.mail_index.proofs.FileLaws.Fronts.{before, concat_then}
 use Rattle.mail_index.proofs.FileLaws.Bytes.{AreBytes, u32_back, u64_back, byte_back, both, bytes_behind, bytes_before}
@@ -20,7 +20,7 @@ date_back f date h h2 n h3 = grind (arith, to_z-of_z, w64)
 date_small : (date : Option ℤ) → IfSome date (FitsSigned w64) → date_number date < 2 ^ 64
 date_small date h = grind (arith, Fits-lt-pow, Fits-of_z)
 
--- what is read of a record's bytes is the record
+-- a record is read back from its bytes
 pub record_back : (m : Record) (x : List ℕ) → HasSmallFields m → read_record (record_bytes m ++ x) ≡ m
 unfolding read_record
 record_back m x h =
@@ -39,7 +39,7 @@ behind_record m x = refl
 rebuilt : ℕ → ℕ
 rebuilt f = bit 1 (has_bit f 1) + bit 2 (has_bit f 2) + bit 4 (has_bit f 4) + bit 8 (has_bit f 8)
 
--- four bits make all flags up to 15
+-- four bits make up all flags up to 15
 flags_kept : (f : ℕ) → f ≤ 15 → rebuilt f ≡ f
 unfolding rebuilt
 flags_kept zero h = refl

@@ -1,4 +1,4 @@
--- What the walk over records shows of a section, and that it accepts the records of a table.
+-- The walk over records accepts exactly the records of tables: what it reads has the section's bytes, record by record.
 use Rattle.mail_index.proofs.Words.{◌≡◌, ℕ, zero, suc, ◌+◌, ◌-◌, ◌*◌, ◌^◌, ◌<◌, ◌≤◌, Bool, true, cond, List, [], ◌∷◌, ◌++◌, length, drop, Some, None, refl, sym, ap, ◌∙◌, arith, length-drop, flat_map, IfSome, FitsSigned, w64, cast_signed, AllByRecursion, nat_tests, Record, byte_at, u64_at, record_bytes, Archive, IsArchive, IsMessage, Follows, AllNext, archive_length, has_bit, is_behind, behind_archives, read_archives, IsNextRecord, AreRecords, read_record, read_records, is_record}
 use Rattle.mail_index.proofs.Items.{empty_list}
 use Rattle.mail_index.proofs.FileLaws.Bytes.{AreBytes, bytes_behind}
@@ -6,7 +6,7 @@ use Rattle.mail_index.proofs.FileLaws.OneTable.{small_archive}
 use Rattle.mail_index.proofs.ViewLaws.RecordReads.{HasSmallFields, record_back, behind_record, record_kept, record_passes}
 use Rattle.mail_index.proofs.ViewLaws.ArchiveReads.{archives_behind, length_at, read_count}
 
--- each message is behind the place, and the next behind its end
+-- the first message comes after the place, and each other one after the end of the one before it
 abbrev pub AreBehind : ℕ → ℕ → List Record → Type 0
 AreBehind archive place [] = Unit {0}
 AreBehind archive place (m ∷ ms) = (is_behind archive place m ≡ true) × AreBehind m.archive (m.offset + m.length) ms
@@ -33,7 +33,7 @@ are_behind (m ∷ ms) h = (from_start m, behind_next m ms h)
 date_fits : (b : Bool) (n : ℕ) → IfSome (cond b (Some (cast_signed w64 n)) None) (FitsSigned w64)
 date_fits b n = grind (arith, w64)
 
--- ---- what the walk shows
+-- ---- what the walk finds
 
 pub record ShowsRecords (archives : List Archive) (archive place n : ℕ) (r : List ℕ) : Type 0 where
   pub spelled : r ≡ flat_map record_bytes (read_records n r)
@@ -69,7 +69,7 @@ shows_records version count s archive place rest (suc n) r e b l h =
       behind = (h.1.follows, more.behind);
     }
 
--- ---- that it accepts the records of a table
+-- ---- the walk accepts the records of a table
 
 pub small_fields : (version : ℕ) (archives : List Archive) (m : Record) → length archives < 2 ^ 32 → AllByRecursion (IsArchive version) archives → IsMessage archives m → HasSmallFields m
 small_fields version archives m l a h = grind (arith, small_archive)

@@ -1,4 +1,4 @@
--- The walk over records: what its steps keep, and what it shows of the section.
+-- Each step of the walk over records keeps the question the same: whether the rest are records from this place on.
 use Rattle.mail_index.proofs.Words.{transport, ◌≡◌, ◌↔◌, ℕ, suc, ◌+◌, ◌-◌, ◌<◌, true, false, List, drop, refl, sym, subst, ◌∙◌, arith, Record, behind_archives, IsNextRecord, AreRecords, read_record, is_record}
 
 -- ---- the loop

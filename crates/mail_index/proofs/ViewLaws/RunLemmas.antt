@@ -1,12 +1,13 @@
--- The keys of a kind whose texts begin with one stand in a row.
+-- The keys of a kind whose texts begin with a text follow one another, because sorted keys compare with them in rising
+-- order.
 use Rattle.mail_index.proofs.Words.{◌≡◌, ◌∙◌, ℕ, zero, suc, ◌+◌, ◌-◌, ◌<◌, ◌≤◌, Bool, true, false, cond, ◌&&◌, List, [], ◌∷◌, length, map, take, drop, get_or, refl, sym, ap, ap₂, subst, arith, length-drop, nat_eq, bytes_eq, Ordering, Less, Equal, Greater, nat_cmp, is_eq, is_lt, ordering_index, ordering_then, slice_cmp, filter, starts_with, length-map, get_or-map, get_or-drop, drop_more, nat_tests, same_from_decides, Decides-like, ranked, is_eq-slice_cmp, Less-from_sorted, bytes_eq-Decides, Kind, kind_number, Key, is_of_kind, AreSorted, keys_of, keys_beginning}
 use Rattle.mail_index.specs.Inside.KeyRuns.{lies_to_run, keys_between}
 use Rattle.mail_index.proofs.ViewLaws.KindNumbers.{tied}
 use Rattle.mail_index.proofs.ViewLaws.LookUpLemmas.{key_bytes}
 
--- ---- sorted keys lie in rising order to a run
+-- ---- sorted keys compare with a run in rising order
 
--- how the front of a list lies to another list
+-- how the front of a list compares with another list
 abbrev front_lies : List ℕ → List ℕ → Ordering
 front_lies wanted bytes = slice_cmp nat_cmp (take (length wanted) bytes) wanted
 
@@ -34,7 +35,7 @@ runs-rise kind text ks d i j sorted le within = go (nat_eq i j) refl
         (ap₂ (slice_cmp nat_cmp) (sym (get_or-map key_bytes ks i d (key_bytes d) (omega (arith, lower, within)))) (sym (get_or-map key_bytes ks j d (key_bytes d) within))
         ∙ Less-from_sorted (slice_cmp nat_cmp) (map key_bytes ks) i j (key_bytes d) sorted lower inside)
 
--- what a comparison of two answers says of them
+-- what a comparison of two orderings says about them
 pub less_index : (o p : Ordering) → is_lt (nat_cmp (ordering_index o) (ordering_index p)) ≡ true → ordering_index o < ordering_index p
 less_index o p h = grind (arith, nat_cmp, ordering_index, is_lt, ranked)
 
@@ -46,7 +47,7 @@ no_less_index o p h = grind (arith, nat_cmp, ordering_index, is_lt, ranked)
 pub bytes_turned : (xs ys : List ℕ) → bytes_eq xs ys ≡ bytes_eq ys xs
 bytes_turned xs ys = same_from_decides (bytes_eq xs ys) (bytes_eq ys xs) (bytes_eq-Decides xs ys) (Decides-like (bytes_eq ys xs) sym sym (bytes_eq-Decides ys xs))
 
--- a key lies among those of a run exactly where it is one of them
+-- a key compares as equal with a run exactly if it is one of its keys
 in_run : (kind : Kind) (text : List ℕ) (k : Key) → (is_of_kind kind k && starts_with nat_eq k.text text) ≡ is_eq (lies_to_run kind text k)
 in_run kind text k = grind (arith, is_of_kind, bytes_turned, is_eq-slice_cmp, kind_number)
 
@@ -67,7 +68,7 @@ lies_behind o h = grind arith
 lies_among : (o : Ordering) → ordering_index Equal ≤ ordering_index o → ordering_index o < ordering_index Greater → is_eq o ≡ true
 lies_among o h h2 = grind arith
 
--- none of the run stands before the first of it
+-- no key of the run comes before the run's first key
 beginning-behind : (kind : Kind) (text : List ℕ) (ks : List Key) (n : ℕ) (d : Key) → n ≤ length ks
     → ((j : ℕ) → j < n → is_eq (lies_to_run kind text (get_or ks j d)) ≡ false) → keys_beginning kind text ks ≡ keys_beginning kind text (drop n ks)
 beginning-behind kind text ks zero d within before = refl
@@ -87,7 +88,7 @@ beginning-first kind text (k ∷ ks) (suc n) d among behind =
     beginning-more kind text k ks true (among 0 (omega arith) (omega arith))
     ∙ ap (λ (l : List Key). k ∷ l) (beginning-first kind text ks n d (λ j lt less. among (suc j) (omega (arith, lt)) (omega (arith, less))) (λ j le lt. behind (suc j) (omega (arith, le)) (omega (arith, lt))))
 
--- the run stands between the first key that doesn't lie before it and the first behind it
+-- the run begins at the first key that isn't before it and ends at the first key after it
 pub keys_beginning-between : (kind : Kind) (text : List ℕ) (ks : List Key) (low high : ℕ) (d : Key) → low ≤ length ks
     → ((j : ℕ) → j < low → ordering_index (lies_to_run kind text (get_or ks j d)) < ordering_index Equal)
     → ((j : ℕ) → low ≤ j → j < length ks → ordering_index Equal ≤ ordering_index (lies_to_run kind text (get_or ks j d)))
@@ -114,7 +115,7 @@ all-kept (k ∷ ks) = ap (λ (l : List Key). k ∷ l) (all-kept ks)
 pub keys_beginning-none : (kind : Kind) (ks : List Key) → keys_beginning kind [] ks ≡ keys_of kind ks
 keys_beginning-none kind ks = all-kept (keys_of kind ks)
 
--- ---- the next key of a row
+-- ---- the next key of a run
 
 pub between-none : (low high : ℕ) (ks : List Key) → high ≤ low → keys_between low high ks ≡ []
 between-none low high ks le = let none : high - low ≡ 0 = omega (arith, le) in ap (λ n. take n (drop low ks)) none

@@ -1,4 +1,4 @@
--- The entry in front of others of a directory.
+-- The first entry of some entries of a directory.
 use Rattle.std.specs.Prelude.{◌≡◌, ℕ, ◌+◌, ◌<◌, ◌≤◌, List, length, drop}
 use Rattle.mail_index.specs.Kinds.{kind_number, kind_of_number}
 use Rattle.mail_index.specs.Fields.{byte_at, u32_at, u64_at}
@@ -7,7 +7,7 @@ use Rattle.mail_index.specs.Lists.{list_at}
 use Rattle.mail_index.specs.PostingReads.{ArePosted}
 use Rattle.mail_index.specs.Limits.{four_byte_limit}
 
--- the entries are whole, and the first is of some kind and lies with its text and with its postings in these texts and postings
+-- the entries are whole; the first has a kind, and its text and its postings are within these texts and postings
 pub record IsInFront (texts postings entries : List ℕ) : Type 0 where
   pub long : 24 ≤ length entries
   pub whole : 24 < length entries → 48 ≤ length entries

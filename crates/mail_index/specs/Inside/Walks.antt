@@ -1,4 +1,4 @@
--- How far the walks over the records and over the directory have come.
+-- The states of the walks over the records and over the directory.
 use Rattle.std.specs.Prelude.{◌≡◌, ℕ, ◌+◌, ◌-◌, List, drop}
 use Rattle.mail_index.specs.declared.record.Record.{Record}
 use Rattle.mail_index.specs.declared.view.record_walk.RecordPlace.{RecordPlace}
@@ -7,21 +7,21 @@ use Rattle.mail_index.specs.Fields.{byte_at, u32_at}
 use Rattle.mail_index.specs.Directory.{end_before, text_at, IsEntryAt}
 use Rattle.mail_index.specs.Records.{IsNextRecord, SpellsArchives, behind_archives}
 
--- the message may follow behind this place
+-- the message may come next at this place
 abbrev pub MayFollow : ℕ → ℕ → RecordPlace → Record → Type 0
 MayFollow version count p m = IsNextRecord version count p.archive p.offset p.archives.now m
 
--- the second place is the one behind this message
+-- q is the place after this message
 abbrev pub IsBehindMessage : ℕ → ℕ → RecordPlace → Record → RecordPlace → Type 0
 IsBehindMessage version count p m q =
     (q.archive ≡ m.archive) × (q.offset ≡ m.offset + m.length) × (q.archives.now ≡ behind_archives version (m.archive - p.archive) p.archives.now)
     × SpellsArchives version (count - q.archive) q.archives.now
 
--- the entry in front of a directory may stand at this place
+-- the first entry of the directory may come at this place
 abbrev pub MayStandAt : ℕ → List ℕ → ℕ → EntryPlace → List ℕ → Type 0
 MayStandAt version texts total p d = IsEntryAt version texts total p.text_place p.place p.number p.text.now d
 
--- the second place is the one behind it
+-- q is the place after this entry
 abbrev pub IsBehindEntry : List ℕ → ℕ → EntryPlace → List ℕ → EntryPlace → Type 0
 IsBehindEntry texts total p d q =
     (q.text_place ≡ p.text_place + u32_at d 4) × (q.place ≡ end_before (drop 24 d) total) × (q.number ≡ byte_at d 0) × (q.text.now ≡ text_at texts d)

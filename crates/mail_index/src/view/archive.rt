@@ -1,4 +1,4 @@
-//! Archives as an index names them.
+//! Archives in an index file.
 ghost use Rattle.std.specs.Prelude.{◌≡◌, ◌↔◌, ◌-◌, ◌≤◌, ◌<◌, length, MatchOption, IsTrue};
 ghost use Rattle.mail_index.specs.Versions.{version_number, IsDigest, read_digest, behind_digest};
 ghost use Rattle.mail_index.specs.Layouts.{archive_of};
@@ -10,10 +10,10 @@ use crate::places::{ARCHIVE_FRONT, ARCHIVE_LENGTH_AT, DIGEST, PATH_LENGTH_AT};
 use crate::version::Version;
 use std::str;
 
-/// The most bytes that an archive has.
+/// The most bytes that an archive may have.
 const MOST_LENGTH: u64 = 1 << 40;
 
-/// An archive that an index tells of.
+/// An archive, as an index describes it.
 #[derive(Clone, Copy)]
 pub struct Archive<'a> {
     /// Its name.
@@ -24,7 +24,8 @@ pub struct Archive<'a> {
     pub digest: Option<[u8; 32]>,
 }
 
-/// The digest that the bytes begin with in a file of the version, and the bytes behind it; None where they begin with none.
+/// Splits off the digest that the bytes begin with in a file of this version. Returns it with the bytes after it, or
+/// None if there is no room for it.
 fn split_digest(bytes: &[u8], version: Version) -> Option<(Option<[u8; DIGEST]>, &[u8])>
     ensures { MatchOption result
         (¬ IsDigest (version_number version) (read_digest (version_number version) bytes.now))
@@ -41,7 +42,8 @@ fn split_digest(bytes: &[u8], version: Version) -> Option<(Option<[u8; DIGEST]>,
     }
 }
 
-/// The archive that the bytes begin with in a file of the version, and the bytes behind it; None where they begin with none.
+/// Splits off the archive that the bytes begin with in a file of this version. Returns it with the bytes after it, or
+/// None if the bytes begin with no valid archive.
 pub(crate) fn split_archive(bytes: &[u8], version: Version) -> Option<(Archive<'_>, &[u8])>
     ensures { MatchOption result (¬ HasArchive (version_number version) bytes.now)
         (λ p. HasArchive (version_number version) bytes.now
@@ -78,7 +80,7 @@ pub(crate) fn split_archive(bytes: &[u8], version: Version) -> Option<(Archive<'
     ))
 }
 
-/// Whether the section of a file of the version is so many archives.
+/// Whether the section consists of exactly this many archives of this version.
 pub(crate) fn are_archives(section: &[u8], count: u32, version: Version) -> bool
     ensures { IsTrue result ↔ SpellsArchives (version_number version) count section.now }
 {
@@ -92,7 +94,7 @@ pub(crate) fn are_archives(section: &[u8], count: u32, version: Version) -> bool
     rest.is_empty()
 }
 
-/// What follows the first `n` of the section's archives, of which there are `count`, in a file of the version.
+/// The bytes after the first `n` archives of a section that has `count` archives of this version.
 pub(crate) fn behind_archives(section: &[u8], count: u32, n: u32, version: Version) -> &[u8]
     requires spelled { SpellsArchives (version_number version) count section.now }
     requires bound { n ≤ count }
@@ -106,7 +108,7 @@ pub(crate) fn behind_archives(section: &[u8], count: u32, n: u32, version: Versi
     rest
 }
 
-/// What follows the first of the section's archives, of which there are `count`. Its path isn't looked at.
+/// The bytes after the first archive of a section that has `count` archives. Doesn't read the path.
 pub(crate) fn behind_first(section: &[u8], count: u32, version: Version) -> &[u8]
     requires some { 0 < count }
     requires spelled { SpellsArchives (version_number version) count section.now }
@@ -118,7 +120,7 @@ pub(crate) fn behind_first(section: &[u8], count: u32, version: Version) -> &[u8
     behind.split_at(version.digest_length()).1
 }
 
-/// The first of the section's archives, of which there are `count`.
+/// The first archive of a section that has `count` archives.
 pub(crate) fn first_archive(section: &[u8], count: u32, version: Version) -> Archive<'_>
     requires some { 0 < count }
     requires spelled { SpellsArchives (version_number version) count section.now }

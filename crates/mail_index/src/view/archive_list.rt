@@ -7,7 +7,7 @@ use crate::version::Version;
 use crate::view::archive::{Archive, behind_first, first_archive};
 use std::marker::Model;
 
-/// The archives of an index still to come, in order. It takes no memory.
+/// The archives of an index that still come, in order. It takes no memory.
 #[derive(Drop)]
 pub struct ArchiveList<'a> {
     section: &'a [u8],
@@ -31,7 +31,7 @@ impl<'a> Model for ArchiveList<'a> {
 impl<'a> ArchiveList<'a> {
     ghost use Rattle.mail_index.specs.Layouts.{archive_of};
 
-    /// The archives of this section of a file of a version, of which there are `count`.
+    /// The archives of this section, which has `count` archives of this version.
     pub(crate) fn of(section: &'a [u8], count: u32, version: Version) -> Self
         requires { SpellsArchives (version_number version) count section.now }
         ensures { result ≡ read_archives (version_number version) count section.entry.now }
@@ -43,7 +43,7 @@ impl<'a> ArchiveList<'a> {
         }
     }
 
-    /// The next archive.
+    /// Returns the next archive, or None at the end.
     pub fn next(&mut self) -> Option<Archive<'a>>
         ensures { MatchOption result ((self.old ≡ []) × (self.new ≡ []))
             (λ archive. self.old ≡ archive_of archive ∷ self.new) }

@@ -1,4 +1,4 @@
-//! An index in which keys are looked up on one count.
+//! An index whose look-ups all count on one counter.
 ghost use Rattle.std.specs.Prelude.{◌≡◌, length, map};
 ghost use Rattle.mail_index.specs.Steps.{add_steps};
 ghost use Rattle.mail_index.specs.Tables.{IsWellFormed};
@@ -14,13 +14,13 @@ use std::alloc::Global;
 use std::marker::Model;
 use std::mem;
 
-/// An index, and the count of the steps that look-ups in it take. What has the index as this alone can't look up a key on another
-/// count.
+/// An index, and the count of the steps that its look-ups take. Code that has the index only in this form can't look up
+/// a key on another count.
 #[derive(Drop)]
 pub struct CountedIndex<'a> {
     index: IndexView<'a>,
     steps: Steps,
-    // Those that finding the keys of a run takes: a cursor counts its look-ups alone.
+    // Counts the steps that finding the keys of a run takes, because a cursor counts its look-ups alone.
     run_steps: Steps,
 }
 
@@ -33,7 +33,7 @@ impl<'a> Model for CountedIndex<'a> {
 }
 
 impl<'a> CountedIndex<'a> {
-    /// The index with its caller's count, which is left at 0. Takes no memory.
+    /// The index with the count that its caller has so far; the caller's own count is left at 0. Takes no memory.
     pub fn of(alloc: Global, index: &IndexView<'a>, steps: &mut Steps) -> Self
         ensures table { result.table ≡ index.now }
         ensures steps { result.steps ≡ steps.old }
@@ -47,7 +47,7 @@ impl<'a> CountedIndex<'a> {
         }
     }
 
-    /// The count.
+    /// Returns the count.
     pub fn into_steps(self) -> Steps
         ensures { result ≡ self.entry.steps }
     {
@@ -68,7 +68,7 @@ impl<'a> CountedIndex<'a> {
         self.index.records()
     }
 
-    /// The numbers of the messages that have the key, as `IndexView::look_up` gives them.
+    /// The numbers of the messages that have the key, as `IndexView::look_up` returns them.
     pub fn look_up(&mut self, kind: Kind, text: &[u8]) -> Postings<'a>
         ensures numbers { result ≡ numbers_at kind text.now self.old.table.keys }
         ensures exact { self.new.steps
@@ -79,7 +79,7 @@ impl<'a> CountedIndex<'a> {
         self.index.look_up(kind, text, &mut self.steps)
     }
 
-    /// The keys of a kind, as `IndexView::keys` gives them. No key is looked up.
+    /// The keys of a kind, as `IndexView::keys` returns them. Looks up no key, and adds nothing to the count.
     pub fn keys(&mut self, kind: Kind) -> Keys<'a>
         ensures keys { result ≡ map text_and_numbers (keys_of kind self.old.table.keys) }
         ensures steps { self.new.steps ≡ self.old.steps }
@@ -88,7 +88,8 @@ impl<'a> CountedIndex<'a> {
         self.index.keys(kind, &mut self.run_steps)
     }
 
-    /// The keys of a kind whose texts begin with this one, as `IndexView::keys_beginning` gives them. No key is looked up.
+    /// The keys of a kind whose texts begin with this one, as `IndexView::keys_beginning` returns them. Looks up no
+    /// key, and adds nothing to the count.
     pub fn keys_beginning(&mut self, kind: Kind, text: &[u8]) -> Keys<'a>
         ensures keys { result
             ≡ map text_and_numbers (keys_beginning kind text.now self.old.table.keys) }

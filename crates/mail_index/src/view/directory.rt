@@ -10,10 +10,11 @@ pub mod compared_keys;
 mod entry;
 pub mod keys;
 
-/// The directory of a file with the texts and the postings of its keys, which stand in order.
+/// The directory of a file with the texts and the postings of its keys, in order.
 ///
-/// Its entries are private to this module and those in it: from elsewhere a key is compared with another by `ComparedKeys` alone, a
-/// step each time, and its text is seen by `Keys` alone, which lend it and begin and end where comparisons found it.
+/// Its entries are private to this module and the modules in it. Other code compares a key with another only through
+/// `ComparedKeys`, a step each time, and sees a key's text only through `Keys`, which begin and end at places that were
+/// found by comparing.
 #[derive(Drop)]
 pub struct Directory<'a> {
     entries: &'a [u8],
@@ -37,7 +38,7 @@ impl<'a> Model for Directory<'a> {
 impl<'a> Directory<'a> {
     ghost use Rattle.mail_index.specs.LookUps.{AreSorted};
 
-    /// The keys of these sections.
+    /// The keys in these sections.
     pub(crate) fn of(entries: &'a [u8], texts: &'a [u8], postings: &'a [u8], count: u32) -> Self
         requires { IsDirectory texts.now postings.now count entries.now }
         ensures { result ≡ keys_read texts.entry.now postings.entry.now count entries.entry.now }
@@ -50,7 +51,7 @@ impl<'a> Directory<'a> {
         }
     }
 
-    /// How many keys there are. They stand in order.
+    /// How many keys there are. They are in order.
     fn len(&self) -> u32
         ensures count { result ≡ length self.now }
         ensures sorted { AreSorted self.now }
@@ -58,7 +59,7 @@ impl<'a> Directory<'a> {
         self.count
     }
 
-    /// The entry of the key of this number.
+    /// The entry of the key with this number.
     fn entry_at(&self, number: u32) -> Entry<'a>
         requires { number < length self.now }
         ensures { result ≡ key_at self.now number }

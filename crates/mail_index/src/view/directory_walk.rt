@@ -1,4 +1,4 @@
-//! The directory of a file, against the texts and the postings that its entries name.
+//! Checks the directory of a file against the texts and the postings that its entries name.
 ghost use Rattle.std.specs.Prelude.{◌≡◌, ◌↔◌, ◌+◌, ◌-◌, ◌*◌, ◌≤◌, ◌<◌, [], length, MatchOption, IsTrue};
 ghost use Rattle.mail_index.specs.Versions.{version_number};
 ghost use Rattle.mail_index.specs.Directory.{is_entry as is_entry_of, end_before as end_before_of, AreEntries};
@@ -19,7 +19,8 @@ fn is_entry(entry: &[u8], version: Version) -> bool
     1 <= number && number <= version.greatest_kind() && are_zeros_at(entry, KIND_AT + 1)
 }
 
-/// Where the postings of the entry before these end: where those of the first of them begin, or at the end of all.
+/// Where the postings of the entry before these entries end: where those of the first of these begin, or at the end of
+/// all if there is no entry.
 pub(crate) fn end_before(entries: &[u8], total: u64) -> u64
     requires { 0 < length entries.now → 24 ≤ length entries.now }
     ensures { result ≡ end_before_of entries.now total }
@@ -31,8 +32,8 @@ pub(crate) fn end_before(entries: &[u8], total: u64) -> u64
     }
 }
 
-/// Where the walk has come: where the texts and the postings of the next entry begin, and the key of the last one, which is
-/// of kind 0 before the first.
+/// The state of the walk: where the texts and the postings of the next entry begin, and the key of the last entry.
+/// Before the first entry that key has kind 0.
 #[derive(Clone, Copy)]
 struct EntryPlace<'a> {
     text_place: u64,
@@ -41,7 +42,8 @@ struct EntryPlace<'a> {
     text: &'a [u8],
 }
 
-/// The place behind the first entry, if it may stand behind the last one. There are `total` bytes of postings.
+/// The place after the first entry, or None if this entry may not follow the last one. There are `total` bytes of
+/// postings.
 fn behind_entry<'a>(
     place: EntryPlace<'a>,
     entries: &[u8],
@@ -84,8 +86,8 @@ fn behind_entry<'a>(
     })
 }
 
-/// Whether the directory is so many entries, in order, whose texts fill the section of texts and whose postings fill that of
-/// postings, which has `total` bytes, and whose kinds are of the version.
+/// Whether the directory consists of this many entries, in order, with kinds of the version, texts that fill the
+/// section of texts, and postings that fill the section of postings. That section has `total` bytes.
 pub(crate) fn are_entries(
     directory: &[u8],
     count: u32,

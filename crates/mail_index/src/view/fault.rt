@@ -1,4 +1,4 @@
-//! What is wrong with bytes that are no index file.
+//! What is wrong with bytes that aren't an index file.
 use std::error::Error;
 use std::fmt;
 
@@ -17,18 +17,18 @@ pub enum Section {
     Postings,
 }
 
-/// The first thing that is wrong with bytes that are no index file, looked for in this order.
+/// The first thing that is wrong with bytes that aren't an index file. The rules are checked in this order.
 #[derive(Clone, Copy, Debug)]
 pub enum IndexFault {
-    /// There are fewer than 80 bytes, those of the least file.
+    /// There are fewer than 80 bytes, the size of the smallest file.
     TooShort,
-    /// The file does not begin as an index file does.
+    /// The bytes don't begin as an index file does.
     BadMagic,
-    /// It is of a version other than 1 and 2.
+    /// The version is neither 1 nor 2.
     BadVersion,
-    /// Its last 32 bytes are not the SHA-256 of those before.
+    /// The last 32 bytes aren't the SHA-256 of those before them.
     BadDigest,
-    /// The first section that breaks its rule.
+    /// A section breaks its rule; this is the first that does.
     BadLayout(Section),
 }
 

@@ -23,7 +23,7 @@ use crate::view::records::Records;
 use crate::view::steps::Steps;
 use std::marker::Model;
 
-/// The table of an index file, read in the file's own bytes.
+/// The table of an index file, read in the bytes of the file.
 #[derive(Drop)]
 pub struct IndexView<'a> {
     layout: Layout<'a>,
@@ -45,8 +45,8 @@ impl<'a> IndexView<'a> {
     ghost use Rattle.mail_index.specs.Tables.{Table, IsWellFormed};
     ghost use Rattle.mail_index.specs.LookUps.{numbers_at, comparisons, TakesDigits, comparisons_of_run, keys_of, keys_beginning, text_and_numbers};
 
-    /// The table whose file these bytes are, in version 1 or 2, or the first thing that is wrong with them. No file of a
-    /// well-formed table is refused. Takes no memory.
+    /// Opens the index file in these bytes, of version 1 or 2, or returns the first thing that is wrong with them.
+    /// Every file of a well-formed table is accepted. Takes no memory.
     pub fn open(bytes: &'a [u8]) -> Result<IndexView<'a>, IndexFault>
         ensures ok { IfOk result (λ table. IsFileOf bytes.entry.now table) }
         ensures fault { IfErr result (λ fault. IsFirstFault bytes.entry.now fault) }
@@ -78,13 +78,13 @@ impl<'a> IndexView<'a> {
         Ok(IndexView { layout })
     }
 
-    /// The table whose file these bytes are, where that is known, as of a file that was written into memory the moment before:
-    /// neither its digest is taken nor a section walked. Takes no memory.
+    /// Opens bytes that are known to be an index file, such as a file that was just written into memory. Checks neither
+    /// its digest nor its sections. Takes no memory.
     pub fn of_file(bytes: &'a [u8]) -> IndexView<'a>
         requires { (t : Table) × IsFileOf bytes.now t }
         ensures { (t : Table) → IsFileOf bytes.entry.now t → result ≡ t }
     {
-        // The file of a table has a version, and sections whose lengths add up to its own.
+        // The file of a table has a known version, and its sections' lengths add up to its own.
         let Some(version) = Version::of(u32_at(bytes, VERSION_AT)) else {
             unreachable!();
         };
@@ -94,7 +94,7 @@ impl<'a> IndexView<'a> {
         IndexView { layout }
     }
 
-    /// The same view once more. Its table keeps the rules of tables, as that of each view.
+    /// Another view of the same file. Its table is well-formed, as that of each view.
     pub fn again(&self) -> IndexView<'a>
         ensures same { result ≡ self.now }
         ensures formed { IsWellFormed self.now }
@@ -104,7 +104,7 @@ impl<'a> IndexView<'a> {
         }
     }
 
-    /// The version of the file: 1, which has no names of parts, or 2. Takes no memory.
+    /// The version of the file: 1, which has no names of attachments, or 2. Takes no memory.
     pub fn version(&self) -> u32
         ensures { result ≡ self.now.version }
     {
@@ -119,7 +119,7 @@ impl<'a> IndexView<'a> {
         self.layout.archive_count
     }
 
-    /// The archive of this number, from 0.
+    /// The archive with this number, from 0.
     pub fn archive(&self, n: u32) -> Archive<'a>
         requires { n < length self.now.archives }
         ensures { slice_get self.now.archives n ≡ Some (archive_of result) }
@@ -129,7 +129,7 @@ impl<'a> IndexView<'a> {
         first_archive(rest, layout.archive_count - n, layout.version)
     }
 
-    /// The archives in order. It takes no memory.
+    /// The archives in order. Takes no memory.
     pub fn archives(&self) -> ArchiveList<'a>
         ensures { result ≡ self.now.archives }
     {
@@ -145,7 +145,7 @@ impl<'a> IndexView<'a> {
         self.layout.message_count
     }
 
-    /// The message of this number, from 0.
+    /// The message with this number, from 0.
     pub fn message(&self, n: u32) -> Record
         requires { n < length self.now.messages }
         ensures { slice_get self.now.messages n ≡ Some result }
@@ -153,7 +153,7 @@ impl<'a> IndexView<'a> {
         Record::read(self.layout.records.split_at(RECORD * n as usize).1)
     }
 
-    /// The records of all messages, from which no key can be reached. It takes no memory.
+    /// The records of all messages. No key can be reached from them. Takes no memory.
     pub fn records(&self) -> Records<'a>
         ensures { result ≡ self.now.messages }
     {
@@ -167,8 +167,8 @@ impl<'a> IndexView<'a> {
         ComparedKeys::of(self.layout.directory())
     }
 
-    /// The keys of a kind, in the order of their bytes: two binary searches, in which each comparison of a key is a step. It takes
-    /// no memory.
+    /// The keys of a kind, in the order of their bytes. Finds them by two binary searches, in which each comparison of
+    /// a key is a step. Takes no memory.
     pub fn keys(&self, kind: Kind, steps: &mut Steps) -> Keys<'a>
         ensures keys { result ≡ map text_and_numbers (keys_of kind self.now.keys) }
         ensures exact { steps.new ≡ add_steps steps.old (comparisons_of_run kind [] self.now.keys) }
@@ -176,8 +176,8 @@ impl<'a> IndexView<'a> {
         self.keys_beginning(kind, &[], steps)
     }
 
-    /// The keys of a kind whose texts begin with this one, in the order of their bytes: two binary searches, in which each
-    /// comparison of a key is a step. It takes no memory.
+    /// The keys of a kind whose texts begin with this one, in the order of their bytes. Finds them by two binary
+    /// searches, in which each comparison of a key is a step. Takes no memory.
     pub fn keys_beginning(&self, kind: Kind, text: &[u8], steps: &mut Steps) -> Keys<'a>
         ensures keys { result ≡ map text_and_numbers (keys_beginning kind text.now self.now.keys) }
         ensures exact { steps.new
@@ -186,8 +186,8 @@ impl<'a> IndexView<'a> {
         keys_of_run(self.compared_keys(), kind, text, steps)
     }
 
-    /// The numbers of the messages that have the key, none where there is no such key. A binary search: each comparison of a key
-    /// is a step, and there are at most as many as the number of keys has binary digits.
+    /// The numbers of the messages that have the key; none if there is no such key. A binary search: each comparison of
+    /// a key is a step, and there are at most as many as the number of keys has binary digits.
     pub fn look_up(&self, kind: Kind, text: &[u8], steps: &mut Steps) -> Postings<'a>
         ensures numbers { result ≡ numbers_at kind text.now self.now.keys }
         ensures exact { steps.new ≡ add_steps steps.old (comparisons kind text.now self.now.keys) }

@@ -1,4 +1,4 @@
-//! The keys of a kind that begin with a text, which stand in a row.
+//! Finds the keys of a kind that begin with a text. In the order of keys they follow one another.
 ghost use Rattle.std.specs.Prelude.{◌≡◌, ◌<◌, ◌≤◌, ℕ, length, map};
 ghost use Rattle.std.specs.Ordering.{ordering_index};
 ghost use Rattle.mail_index.specs.Steps.{add_steps};
@@ -12,7 +12,7 @@ use crate::view::steps::Steps;
 use std::cmp::Ordering;
 use std::marker::Model;
 
-/// The number of a key that was found by comparing: no other code makes one.
+/// The number of a key that was found by comparing. No other code makes one.
 #[derive(Drop)]
 pub(crate) struct Place {
     number: u32,
@@ -35,11 +35,11 @@ impl Place {
     }
 }
 
-/// Where a part of the keys begins, by a binary search.
+/// Finds where a part of the keys begins, by a binary search.
 ///
-/// A run is the keys of one kind that begin with one text. Of the keys in order, some stand before the run (`Less`), then come
-/// those of the run (`Equal`), then those behind it (`Greater`). The answer is the number of the first key that stands at `least`
-/// or further behind; where there is none, it is how many keys there are.
+/// A run is the keys of one kind that begin with one text. In the order of keys, first come those before the run
+/// (`Less`), then the run (`Equal`), then those after it (`Greater`). Returns the number of the first key whose place
+/// is `least` or later; if there is none, the number of keys.
 fn first_that_lies(
     least: Ordering,
     keys: &ComparedKeys<'_>,
@@ -69,7 +69,7 @@ fn first_that_lies(
     Place { number: low }
 }
 
-/// The keys of a kind whose texts begin with this one: two binary searches.
+/// The keys of a kind whose texts begin with this one, found by two binary searches.
 pub(crate) fn keys_of_run<'a>(
     keys: ComparedKeys<'a>,
     kind: Kind,

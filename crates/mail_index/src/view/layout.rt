@@ -1,4 +1,4 @@
-//! Where the sections of a file lie.
+//! Where the sections of a file are.
 ghost use Rattle.std.specs.Prelude.{◌≡◌, ◌↔◌, ◌+◌, ◌*◌, ◌≤◌, [], length, MatchOption, MatchResult, IsTrue};
 ghost use Rattle.mail_index.specs.Versions.{version_number};
 ghost use Rattle.sha2.specs.Sha256.{sha256};
@@ -16,7 +16,7 @@ use crate::view::fault::IndexFault;
 use crate::view::posting_walk::{are_lists, part};
 use sha2::{Digest, Sha256};
 
-/// The sections of a file, by the lengths that its counts tell.
+/// The sections of a file, divided by the lengths in its counts.
 #[derive(Clone, Copy)]
 pub(crate) struct Layout<'a> {
     pub(crate) version: Version,
@@ -24,14 +24,14 @@ pub(crate) struct Layout<'a> {
     pub(crate) message_count: u32,
     pub(crate) archives: &'a [u8],
     pub(crate) records: &'a [u8],
-    // The keys are reached by `Layout::directory` alone.
+    // The keys are reached only through `Layout::directory`.
     key_count: u32,
     directory: &'a [u8],
     texts: &'a [u8],
     postings: &'a [u8],
 }
 
-/// The version of a file, or what is wrong with its bytes before any section is looked at.
+/// The version of a file, or what is wrong with its bytes before any section is read.
 pub(crate) fn signed_version(bytes: &[u8]) -> Result<Version, IndexFault>
     ensures { MatchResult result
         (λ version. IsSigned bytes.now × (version_number version ≡ version_told bytes.now))
@@ -59,7 +59,7 @@ impl<'a> Layout<'a> {
     ghost use Rattle.mail_index.specs.Lists.{AreLists};
     ghost use Rattle.mail_index.specs.KeysRead.{IsDirectory, keys_read};
 
-    /// The sections, if their lengths with those of counts and digest add up to the file's.
+    /// The sections, or None if their lengths, with those of counts and digest, don't add up to the file's length.
     pub(crate) fn of(bytes: &'a [u8], version: Version) -> Option<Layout<'a>>
         requires long { 80 ≤ length bytes.now }
         requires version { version_number version ≡ version_told bytes.now }
@@ -74,7 +74,7 @@ impl<'a> Layout<'a> {
         let texts = directory.saturating_add(ENTRY as u64 * key_count as u64);
         let postings = texts.saturating_add(u64_at(bytes, TEXT_BYTES_AT));
         let digest = postings.saturating_add(u64_at(bytes, POSTING_BYTES_AT));
-        // A sum that is too large stays at the greatest number, behind which there is no room for a digest.
+        // A sum that is too large becomes the greatest number, and no digest fits after that.
         if digest != (bytes.len() - DIGEST) as u64 {
             return None;
         }
@@ -91,7 +91,7 @@ impl<'a> Layout<'a> {
         })
     }
 
-    /// Whether the directory is entries in order, with texts that fill their section and postings that fill theirs.
+    /// Whether the directory consists of entries in order, with texts and postings that fill their sections.
     pub(crate) fn has_entries(&self) -> bool
         requires { length self.now.directory.now ≡ 24 * self.now.key_count }
         ensures { IsTrue result ↔ AreEntries (version_number self.now.version) self.now.texts.now

@@ -3,8 +3,9 @@ ghost use Rattle.std.specs.Prelude.{◌≡◌, ◌≤◌, ◌<◌, ℕ, List, �
 ghost use Rattle.mail_index.specs.Postings.{leb128};
 ghost use Rattle.mail_index.specs.PostingReads.{IsShort, shown_split};
 
-/// The number that the bytes begin with, in the shortest unsigned LEB128 of at most so many bytes, and the bytes behind it;
-/// None where they begin with none. Of no byte it is 0.
+/// Splits off the number that the bytes begin with, in the shortest unsigned LEB128 of at most `most` bytes. Returns it
+/// with the bytes after it, or None if the bytes begin with no such number. If `most` is 0, the number is 0 and no byte
+/// is read.
 pub(crate) fn split_leb128(most: u32, bytes: &[u8]) -> Option<(u64, &[u8])>
     requires { most ≤ 5 }
     ensures small { IfSome result (λ p. p.0 < 34359738368) }
@@ -26,8 +27,8 @@ pub(crate) fn split_leb128(most: u32, bytes: &[u8]) -> Option<(u64, &[u8])>
     }
 }
 
-/// The difference that some postings begin with, and those behind it: a number of at most five bytes, as `split_leb128` splits
-/// it off. Most differences have one byte or two, and these are read here.
+/// Splits off the difference that these postings begin with: a number of at most five bytes, as `split_leb128` reads
+/// it. Most differences have one or two bytes, and these are read here.
 #[inline]
 pub(crate) fn split_difference(bytes: &[u8]) -> Option<(u64, &[u8])>
     ensures small { IfSome result (λ p. p.0 < 34359738368) }
@@ -46,7 +47,7 @@ pub(crate) fn split_difference(bytes: &[u8]) -> Option<(u64, &[u8])>
             }
         }
     }
-    // Taken apart and put together, so that only this way's result goes through memory.
+    // Taken apart and put together, so that only the result of this branch goes through memory.
     let (long, behind) = split_leb128(5, bytes)?;
     Some((long, behind))
 }

@@ -1,4 +1,4 @@
-//! The look-up of a key.
+//! Looks up a key.
 ghost use Rattle.std.specs.Prelude.{◌≡◌, ◌<◌, [], length, MatchOption};
 ghost use Rattle.mail_index.specs.Steps.{add_steps};
 ghost use Rattle.mail_index.specs.LookUps.{numbers_at, comparisons, TakesDigits};
@@ -10,7 +10,7 @@ use crate::view::postings::Postings;
 use crate::view::steps::Steps;
 use std::cmp::Ordering;
 
-/// The numbers of the messages that have the key; none where the directory hasn't it. A binary search.
+/// The numbers of the messages that have the key; none if the directory doesn't have it. A binary search.
 pub(crate) fn look_up<'a>(
     keys: &ComparedKeys<'a>,
     kind: Kind,

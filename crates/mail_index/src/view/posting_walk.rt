@@ -7,7 +7,7 @@ use crate::places::{ENTRY, POSTING_PLACE_AT};
 use crate::view::directory_walk::end_before;
 use crate::view::postings::are_postings;
 
-/// The bytes from one place to another, as far as there are any.
+/// The bytes from one offset to another, or as many of them as there are.
 pub(crate) fn part(bytes: &[u8], from: u64, to: u64) -> &[u8]
     ensures { result.now ≡ take (to - from) (drop from bytes.now) }
 {
@@ -17,7 +17,7 @@ pub(crate) fn part(bytes: &[u8], from: u64, to: u64) -> &[u8]
     rest.split_at(size).0
 }
 
-/// Whether the postings of each of the directory's `count` entries are one or more numbers of so many messages.
+/// Whether the postings of each of the directory's `count` entries are one or more numbers below `messages`.
 pub(crate) fn are_lists(directory: &[u8], count: u32, postings: &[u8], messages: u32) -> bool
     requires { length directory.now ≡ 24 * count }
     ensures { IsTrue result ↔ AreLists messages postings.now count directory.now }

@@ -9,7 +9,7 @@ use crate::view::leb128::split_difference;
 use crate::view::steps::Steps;
 use std::marker::Model;
 
-/// The rising numbers still to come of the messages that have a key.
+/// The rising numbers that still come, of the messages that have a key.
 #[derive(Drop)]
 pub struct Postings<'a> {
     bytes: &'a [u8],
@@ -31,7 +31,7 @@ impl<'a> Model for Postings<'a> {
 }
 
 impl<'a> Postings<'a> {
-    /// The numbers that these bytes are the postings of.
+    /// The numbers whose postings these bytes are.
     pub(crate) fn of(bytes: &'a [u8]) -> Self
         requires { ArePosted four_byte_limit 0 bytes.now }
         ensures { (ns : List ℕ) → ArePostings four_byte_limit 0 bytes.now ns → result ≡ ns }
@@ -39,14 +39,14 @@ impl<'a> Postings<'a> {
         Postings { bytes, low: 0 }
     }
 
-    /// No number.
+    /// An empty list of numbers.
     pub(crate) fn none() -> Self
         ensures { result ≡ [] }
     {
         Postings { bytes: &[], low: 0 }
     }
 
-    /// The next number, which is dropped: one step. Where no number is left nothing is dropped, and no step is counted.
+    /// Returns the next number and drops it: one step. At the end it returns None, drops nothing and counts no step.
     pub fn next(&mut self, steps: &mut Steps) -> Option<u32>
         ensures { MatchOption result ((self.old ≡ []) × (self.new ≡ []) × (steps.new ≡ steps.old))
             (λ n. (self.old ≡ n ∷ self.new) × (steps.new ≡ add_steps steps.old 1)) }
@@ -58,8 +58,8 @@ impl<'a> Postings<'a> {
         Some((self.low - 1) as u32)
     }
 
-    /// The least number to come that is at least n. It is dropped with all before it; where there is none, all numbers are. Each
-    /// number that is dropped is one step.
+    /// Returns the least number still to come that is at least n, and drops it with all before it. If there is none,
+    /// drops all numbers. Each dropped number is one step.
     pub fn next_at_least(&mut self, n: u32, steps: &mut Steps) -> Option<u32>
         ensures number { MatchOption result (AllByRecursion (λ m. m < n) self.old × (self.new ≡ []))
             (λ m. (n ≤ m) × ((dropped : List ℕ) × AllByRecursion (λ m. m < n) dropped

@@ -1,4 +1,4 @@
-//! The records of a section, against the archives that they are in.
+//! Checks the records of a section against the archives that they name.
 ghost use Rattle.std.specs.Prelude.{◌≡◌, ◌↔◌, ◌-◌, ◌*◌, ◌≤◌, length, MatchOption, IsTrue};
 ghost use Rattle.mail_index.specs.Versions.{version_number};
 ghost use Rattle.mail_index.specs.Records.{SpellsArchives, AreRecords};
@@ -10,8 +10,8 @@ use crate::record::{Record, is_record};
 use crate::version::Version;
 use crate::view::archive::behind_archives;
 
-/// Where the walk has come: the archive of the last message, the place in it where that one ended, and the archives from
-/// this one on.
+/// The state of the walk: the archive of the last message, the place in it where that message ended, and the archives
+/// from this one on.
 #[derive(Clone, Copy)]
 struct RecordPlace<'a> {
     archive: u32,
@@ -19,7 +19,8 @@ struct RecordPlace<'a> {
     archives: &'a [u8],
 }
 
-/// The place behind a message, if it may stand behind the last one and lies in its archive. There are `count` archives.
+/// The place after a message, or None if this message may not follow the last one or isn't within its archive. There
+/// are `count` archives.
 fn behind_message<'a>(
     place: RecordPlace<'a>,
     count: u32,
@@ -57,7 +58,7 @@ fn behind_message<'a>(
     })
 }
 
-/// Whether the section is the records of so many messages in these archives, in order.
+/// Whether the section consists of the records of this many messages in these archives, in order.
 pub(crate) fn are_records(
     section: &[u8],
     messages: u32,

@@ -29,7 +29,7 @@ impl<'a> Model for Records<'a> {
 }
 
 impl<'a> Records<'a> {
-    /// So many records.
+    /// The records in these bytes, of which there are `count`.
     pub(crate) fn of(bytes: &'a [u8], count: u32) -> Self
         requires { length bytes.now ≡ 40 * count }
         ensures { result ≡ read_records count bytes.entry.now }
@@ -37,7 +37,7 @@ impl<'a> Records<'a> {
         Records { bytes, count }
     }
 
-    /// How many there are.
+    /// How many records there are.
     #[tactic(auto, using(crate::proofs::ViewLaws::Opening::count_records))]
     pub fn len(&self) -> u32
         ensures { result ≡ length self.now }
@@ -45,7 +45,7 @@ impl<'a> Records<'a> {
         self.count
     }
 
-    /// The record of the message of this number, from 0: a step.
+    /// The record of the message with this number, from 0: a step.
     pub fn look_at(&self, n: u32, steps: &mut Steps) -> Record
         requires { n < length self.now }
         ensures record { slice_get self.now n ≡ Some result }

@@ -7,11 +7,11 @@ use std::marker::Model;
 
 /// How many steps a search has taken.
 ///
-/// One step is the comparison of one entry of the directory, the reading of one number of a key's messages, or the look at one
-/// record. The count stops at the greatest value of a `u64`.
+/// One step is the comparison of one entry of the directory, the reading of one number of a key's messages, or the look
+/// at one record. The count stops at the greatest value of a `u64`.
 ///
-/// A count begins only where both an index and an allocator are at hand, though it uses neither. A look-up has no allocator, and what
-/// goes through postings, keys or records has no index: so they can't begin a count that nobody reads (decision 75 in
+/// A new count needs an index and an allocator, though it uses neither. A look-up has no allocator, and code that goes
+/// through postings, keys or records has no index: so they can't begin a count that goes unread (decision 75 in
 /// docs/DECISIONS.md).
 #[derive(Drop)]
 pub struct Steps {
@@ -27,21 +27,21 @@ impl Model for Steps {
 impl Steps {
     ghost use Rattle.mail_index.specs.Steps.{add_steps};
 
-    /// No step, for a search of this index. Takes no memory.
+    /// A count of 0, for a search of this index. Takes no memory.
     pub fn new(_alloc: Global, _index: &IndexView<'_>) -> Self
         ensures { result ≡ 0 }
     {
         Steps { count: 0 }
     }
 
-    /// One step more.
+    /// Counts one more step.
     pub fn tick(&mut self)
         ensures { self.new ≡ add_steps self.old 1 }
     {
         self.count = self.count.saturating_add(1);
     }
 
-    /// How many steps there were.
+    /// How many steps were counted.
     pub fn count(&self) -> u64
         ensures { result ≡ self.now }
     {

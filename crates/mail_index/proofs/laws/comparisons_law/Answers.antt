@@ -1,3 +1,4 @@
+-- The law of comparisons, from lemmas about searches: each comparison halves the keys.
 use Rattle.mail_index.proofs.Words.{arith, length, lies_below, Equal, Greater}
 use Rattle.mail_index.proofs.ViewLaws.Comparisons.{comparisons-few, comparisons-many, comparisons-some, bisections-few, bisections-many}
 use Rattle.mail_index.proofs.laws.comparisons_law.Goals as goal

@@ -1,3 +1,4 @@
+-- Equal files are those of equal tables, section by section.
 use Rattle.mail_index.proofs.FileLaws.OneTable.{one_file}
 use Rattle.mail_index.proofs.laws.one_table_for_a_file.Goals as goal
 

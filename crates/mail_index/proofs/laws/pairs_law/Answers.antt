@@ -1,3 +1,4 @@
+-- The law of pairs, from lemmas about `with_pair`, key by key.
 use Rattle.mail_index.proofs.BuildLaws.PairLaw.{with_pair-has, with_pair-keeps, with_pair-tells}
 use Rattle.mail_index.proofs.BuildLaws.HadPairs.{with_pair-had}
 use Rattle.mail_index.proofs.laws.pairs_law.Goals as goal

@@ -13,7 +13,8 @@ use std::cmp::Ordering;
 
 /// The keys of a directory, in order, for a search.
 ///
-/// A search for a key has them as this alone. It sees no key but by a step on its caller's count, and it can't begin another count.
+/// A search for a key has them only in this form. It can read a key only by a step on its caller's count, and can't
+/// begin another count.
 #[derive(Drop)]
 pub(crate) struct ComparedKeys<'a> {
     pub(super) directory: Directory<'a>,
@@ -29,7 +30,7 @@ impl<'a> ComparedKeys<'a> {
         ComparedKeys { directory }
     }
 
-    /// How many keys there are. They stand in order.
+    /// How many keys there are. They are in order.
     pub(crate) fn len(&self) -> u32
         ensures count { result ≡ length self.now.directory }
         ensures sorted { AreSorted self.now.directory }
@@ -37,7 +38,7 @@ impl<'a> ComparedKeys<'a> {
         self.directory.len()
     }
 
-    /// The entry of the key of this number, to compare it: a step.
+    /// The entry of the key with this number, to be compared: a step.
     fn counted_entry(&self, number: u32, steps: &mut Steps) -> Entry<'a>
         requires { number < length self.now.directory }
         ensures entry { result ≡ key_at self.now.directory number }
@@ -47,7 +48,7 @@ impl<'a> ComparedKeys<'a> {
         self.directory.entry_at(number)
     }
 
-    /// Compares the key of this number with another: a step.
+    /// Compares the key with this number with another key: a step.
     pub(crate) fn compare(
         &self,
         number: u32,
@@ -63,7 +64,7 @@ impl<'a> ComparedKeys<'a> {
         compare_keys(entry.entries[KIND_AT], entry.text(), kind.number(), text)
     }
 
-    /// Compares the key of this number with those of a kind that begin with a text, which stand in a row: a step.
+    /// Compares the key with this number with the run of keys of a kind that begin with a text: a step.
     pub(crate) fn compare_to_run(
         &self,
         number: u32,
@@ -77,12 +78,12 @@ impl<'a> ComparedKeys<'a> {
     {
         let entry = self.counted_entry(number, steps);
         let own = entry.text();
-        // Of its own text only so much is compared.
+        // Only as much of its own text is compared as the searched text has.
         let front = own.split_at(own.len().min(text.len())).0;
         compare_keys(entry.entries[KIND_AT], front, kind.number(), text)
     }
 
-    /// The numbers of the messages that have the key of this number.
+    /// The numbers of the messages that have the key with this number.
     pub(crate) fn postings(&self, number: u32) -> Postings<'a>
         requires { number < length self.now.directory }
         ensures { result ≡ (key_at self.now.directory number).numbers }

@@ -7,7 +7,7 @@ use crate::view::directory_walk::end_before;
 use crate::view::postings::Postings;
 use std::marker::Model;
 
-/// An entry in front of those behind it, with the texts and the postings of its file.
+/// The first of these entries, with the texts and the postings of its file.
 #[derive(Drop)]
 pub(super) struct Entry<'a> {
     pub(super) entries: &'a [u8],

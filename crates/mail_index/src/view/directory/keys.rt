@@ -18,7 +18,7 @@ pub struct Key<'a> {
     pub postings: Postings<'a>,
 }
 
-/// Keys in a row still to come, in the order of their bytes. It takes no memory.
+/// The keys of a run that still come, in the order of their bytes. It takes no memory.
 #[derive(Drop)]
 pub struct Keys<'a> {
     directory: Directory<'a>,
@@ -52,7 +52,7 @@ impl<'a> Keys<'a> {
         }
     }
 
-    /// The next key.
+    /// Returns the next key, or None at the end.
     pub fn next(&mut self) -> Option<Key<'a>>
         ensures { MatchOption result ((self.old ≡ []) × (self.new ≡ []))
             (λ key. self.old ≡ (key.text.now, key.postings) ∷ self.new) }

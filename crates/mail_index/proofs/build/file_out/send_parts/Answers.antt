@@ -1,9 +1,10 @@
+-- `send_parts` writes its parts as one text, part by part.
 use Rattle.std.proofs.Common.{arith}
 use Rattle.mail_index.proofs.Words.{◌≡◌, ℕ, ◌+◌, ◌<◌, List, [], ◌++◌, length, map, drop, get_or, Bor, ap, concat}
 use Rattle.mail_index.proofs.BuildLaws.SigningLemmas.{signing-next, signing-stop, from-place}
 use Rattle.mail_index.proofs.build.file_out.send_parts.Goals as goal
 
--- the parts from one on
+-- the bytes of these parts
 abbrev told : List (Bor (List ℕ)) → List ℕ
 told parts = concat (map (λ p. p.now) parts)
 

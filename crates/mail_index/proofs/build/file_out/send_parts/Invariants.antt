@@ -1,3 +1,4 @@
+-- The parts so far were written, and the others are to come.
 use Rattle.mail_index.proofs.Words.{◌≡◌, map, drop, concat}
 use Rattle.mail_index.specs.Inside.Signing.{IsSigning}
 use Rattle.mail_index.proofs.build.file_out.send_parts.Given as goal

@@ -1,3 +1,4 @@
+-- `add_number` adds a number to the entry that was found; the order stays, because the entry keeps its key.
 use Rattle.mail_index.proofs.Words.{rules, ◌≡◌, ◌∙◌, ℕ, List, ap, sym, subst, arith, common_steps, set, Key, key_at}
 use Rattle.mail_index.specs.Inside.KeyMaps.{placed, with_one, slots_in, numbers_in, AreInStep}
 use Rattle.mail_index.proofs.BuildLaws.FrontLemmas.{fronted-found}

@@ -1,3 +1,4 @@
+-- `insert` puts a new key at the gap that was found, so the keys stay in order.
 use Rattle.mail_index.proofs.Words.{◌≡◌, ◌∙◌, ℕ, List, [], ◌∷◌, ◌++◌, length, ap, ap₂, sym, subst, arith, AllByRecursion, insert, Key}
 use Rattle.mail_index.specs.declared.build.key_front.Fronted.{Fronted}
 use Rattle.mail_index.specs.Inside.KeyFronts.{IsFronted}

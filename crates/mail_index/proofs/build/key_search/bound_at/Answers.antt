@@ -1,3 +1,4 @@
+-- `bound_at` gives a right bound, because it compares the key with the slot there.
 use Rattle.std.proofs.Common.{arith}
 use Rattle.mail_index.proofs.Words.{key_at, lies_to}
 use Rattle.mail_index.proofs.BuildLaws.KeyMapLemmas.{slot-at}

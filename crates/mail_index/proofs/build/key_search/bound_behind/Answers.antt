@@ -1,3 +1,4 @@
+-- `bound_behind` gives a right bound, because it compares the key with the slot before it.
 use Rattle.mail_index.proofs.Words.{◌≡◌, ◌∙◌, ℕ, sym, ap, arith, key_at, lies_to}
 use Rattle.mail_index.specs.declared.build.key_front.Fronted.{Fronted}
 use Rattle.mail_index.specs.Inside.KeyMaps.{slot_keys}

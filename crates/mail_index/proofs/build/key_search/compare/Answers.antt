@@ -1,3 +1,4 @@
+-- `compare` returns the order of the keys, because fronts that differ decide it.
 use Rattle.std.proofs.Common.{arith}
 use Rattle.mail_index.proofs.BuildLaws.FrontLemmas.{lies-as-fronts}
 use Rattle.mail_index.proofs.build.key_search.compare.Goals as goal

@@ -1,3 +1,4 @@
+-- `search` halves the slots between two bounds, and each comparison keeps the bounds right.
 use Rattle.mail_index.proofs.Words.{◌≡◌, ◌∙◌, ◌+◌, ◌-◌, ◌/◌, ◌<◌, ℕ, length, sym, ap, arith, key_at, lies_to}
 use Rattle.mail_index.specs.Inside.KeyMaps.{slot_keys}
 use Rattle.mail_index.proofs.BuildLaws.KeyMapLemmas.{slots-long, slot-at}

@@ -1,3 +1,4 @@
+-- The place of the key is between the two bounds, which come closer in each turn.
 use Rattle.std.proofs.Common.{◌-◌}
 use Rattle.mail_index.specs.Inside.KeyMaps.{slot_keys, AreBounds}
 use Rattle.mail_index.proofs.build.key_search.search.Given as goal

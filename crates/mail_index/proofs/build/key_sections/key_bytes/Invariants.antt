@@ -1,3 +1,4 @@
+-- The sums so far, with the bytes of the keys that still come, are those of all keys.
 use Rattle.mail_index.proofs.Words.{◌≡◌, ◌+◌, length, map, entry_of, texts_of, postings_of}
 use Rattle.mail_index.proofs.build.key_sections.key_bytes.Given as goal
 

@@ -1,3 +1,4 @@
+-- `send_key` writes one part of a key, by the cases of the part.
 use Rattle.mail_index.proofs.Words.{arith}
 use Rattle.mail_index.proofs.build.key_sections.send_key.Goals as goal
 

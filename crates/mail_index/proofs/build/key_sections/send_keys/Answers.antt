@@ -1,3 +1,4 @@
+-- `send_keys` writes one part of all keys as one text, key by key.
 use Rattle.mail_index.proofs.Words.{◌≡◌, ◌∙◌, ℕ, ◌+◌, List, [], ◌∷◌, ◌++◌, length, map, refl, ap, arith, length-append, Key, Entry, postings, entry_of, texts_of, postings_of}
 use Rattle.mail_index.specs.declared.build.key_sections.KeyPart.{KeyPart}
 use Rattle.mail_index.specs.declared.build.key_sections.KeyPart.TheVariants.{Entry as InEntry, Text as InText, Postings as InPostings}

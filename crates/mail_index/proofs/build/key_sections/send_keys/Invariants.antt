@@ -1,3 +1,4 @@
+-- The parts of the keys so far were written, and the places are those of the next key.
 use Rattle.mail_index.proofs.Words.{◌≡◌, ◌+◌, length, map, entry_of, texts_of, postings_of}
 use Rattle.mail_index.specs.Inside.KeyParts.{keys_from}
 use Rattle.mail_index.specs.Inside.Signing.{IsSigning}

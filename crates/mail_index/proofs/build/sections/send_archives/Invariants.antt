@@ -1,3 +1,4 @@
+-- The archives so far were written, and the others are to come.
 use Rattle.mail_index.proofs.Words.{◌≡◌, map, drop, flat_map, archive_bytes}
 use Rattle.mail_index.specs.Inside.Drafts.{kept_archive}
 use Rattle.mail_index.specs.Inside.Signing.{IsSigning}

@@ -1,3 +1,4 @@
+-- `send_counts` writes the front of the file, because it has the bytes of each number in order.
 use Rattle.mail_index.proofs.Words.{◌≡◌, ◌∙◌, ap, newest, be32}
 use Rattle.mail_index.proofs.build.sections.send_counts.Goals as goal
 

@@ -1,3 +1,4 @@
+-- `send_records` writes all records as one text, record by record.
 use Rattle.mail_index.proofs.Words.{◌≡◌, get_or, [], ◌++◌, None, false, ◌∙◌, arith, common_steps, Record, record_bytes}
 use Rattle.mail_index.proofs.BuildLaws.SigningLemmas.{signing-next, signing-stop, bytes-from}
 use Rattle.mail_index.proofs.build.sections.send_records.Goals as goal

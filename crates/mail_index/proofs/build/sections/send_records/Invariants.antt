@@ -1,3 +1,4 @@
+-- The records so far were written, and the others are to come.
 use Rattle.mail_index.proofs.Words.{◌≡◌, drop, flat_map, record_bytes}
 use Rattle.mail_index.specs.Inside.Signing.{IsSigning}
 use Rattle.mail_index.proofs.build.sections.send_records.Given as goal

@@ -1,3 +1,4 @@
+-- `are_archives` decides for the section what it decides for the rest after each archive.
 use Rattle.std.proofs.Common.{◌≡◌, true, false}
 use Rattle.mail_index.proofs.ViewLaws.ArchiveReads.{spells_step, spells_stop}
 use Rattle.mail_index.proofs.view.archive.are_archives.Goals as goal

@@ -1,3 +1,4 @@
+-- The section is the right number of archives exactly if the rest is the number that is left.
 use Rattle.mail_index.proofs.Words.{◌↔◌, ◌-◌, version_number, SpellsArchives}
 use Rattle.mail_index.proofs.view.archive.are_archives.Given as goal
 

@@ -1,3 +1,4 @@
+-- `behind_archives` passes one archive in each turn, so the rest is what the definition gives.
 use Rattle.mail_index.proofs.ViewLaws.ArchiveReads.{pass_step}
 use Rattle.mail_index.proofs.view.archive.behind_archives.Goals as goal
 

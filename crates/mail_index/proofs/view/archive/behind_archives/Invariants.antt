@@ -1,3 +1,4 @@
+-- The rest is the bytes after the archives that were passed.
 use Rattle.mail_index.proofs.Words.{◌≡◌, ◌-◌, version_number, SpellsArchives, behind_archives}
 use Rattle.mail_index.proofs.view.archive.behind_archives.Given as goal
 

@@ -1,3 +1,4 @@
+-- `behind_first` passes front, path and digest, for which there is room, because the bytes begin with an archive.
 use Rattle.mail_index.proofs.Words.{arith, version_number, u32_at, behind_path}
 use Rattle.mail_index.proofs.ViewLaws.ArchiveReads.{front_of_some, behind_value, behind_some}
 use Rattle.mail_index.proofs.view.archive.behind_first.Goals as goal

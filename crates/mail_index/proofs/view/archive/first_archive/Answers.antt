@@ -1,3 +1,4 @@
+-- `first_archive` always finds an archive, because the section has at least one.
 use Rattle.mail_index.specs.Versions.{version_number}
 use Rattle.mail_index.proofs.ViewLaws.ArchiveReads.{has_first}
 use Rattle.mail_index.proofs.view.archive.first_archive.Goals as goal

@@ -1,3 +1,4 @@
+-- `split_archive` refuses only bytes that begin with no archive, by the cases of its tests.
 use Rattle.mail_index.proofs.Words.{◌≡◌, ◌∙◌, true, false, sym, Fits-lt-pow}
 use Rattle.mail_index.proofs.ViewLaws.ArchiveReads.{cut_has_none, unnamed_has_none, undigested_has_none, found}
 use Rattle.mail_index.proofs.view.archive.split_archive.Goals as goal

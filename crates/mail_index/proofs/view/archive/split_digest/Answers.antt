@@ -1,3 +1,4 @@
+-- `split_digest` refuses only bytes that are too short for a digest, and only version 2 has one.
 use Rattle.mail_index.proofs.ViewLaws.DigestReads.{cut_digest, whole_digest}
 use Rattle.mail_index.proofs.view.archive.split_digest.Goals as goal
 

@@ -1,3 +1,4 @@
+-- `are_entries` decides for the directory what it decides for the rest after each entry.
 use Rattle.mail_index.proofs.Words.{◌≡◌, true, false, arith, version_number}
 use Rattle.mail_index.proofs.ViewLaws.DirectoryWalk.{entries_step, entries_stop}
 use Rattle.mail_index.proofs.view.directory_walk.are_entries.Goals as goal

@@ -1,3 +1,4 @@
+-- The directory is valid exactly if the rest is, from the place that was reached.
 use Rattle.mail_index.proofs.Words.{◌≡◌, ◌↔◌, ◌-◌, ◌*◌, ◌≤◌, [], length, version_number, AreEntries}
 use Rattle.mail_index.proofs.view.directory_walk.are_entries.Given as goal
 

@@ -1,3 +1,4 @@
+-- `first_that_lies` halves the keys between two bounds, because sorted keys compare with a run in rising order.
 use Rattle.mail_index.proofs.Words.{◌∙◌, ◌+◌, ◌-◌, ◌/◌, ◌<◌, ◌≤◌, ℕ, Bool, true, false, List, length, sym, ap, arith, Ordering, ordering_index, nat_cmp, is_lt, Key, no_key, key_at, add_steps, lies_to_run, lies_below, bisections_within}
 use Rattle.mail_index.specs.Inside.KeyRuns.{keys_between}
 use Rattle.mail_index.proofs.ViewLaws.RunLemmas.{runs-rise, less_index, no_less_index, between-none}

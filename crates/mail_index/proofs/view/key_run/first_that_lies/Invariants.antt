@@ -1,8 +1,9 @@
+-- The keys before `low` are below `least`, those from `high` on aren't, and the comparisons of those between are still
+-- to come.
 use Rattle.mail_index.proofs.Words.{◌≡◌, ◌-◌, ◌<◌, ◌≤◌, ℕ, length, ordering_index, AreSorted, key_at, add_steps, lies_to_run, lies_below, bisections, bisections_within}
 use Rattle.mail_index.specs.Inside.KeyRuns.{keys_between}
 use Rattle.mail_index.proofs.view.key_run.first_that_lies.Given as goal
 
--- the keys before low lie further before, from high on none does, and the comparisons of those between are left
 abbrev pub invariant-loop-low : goal.invariant-loop-low
 invariant-loop-low l = record {
   sorted : AreSorted l.keys.directory;

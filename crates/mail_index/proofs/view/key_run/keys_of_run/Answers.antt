@@ -1,3 +1,4 @@
+-- `keys_of_run` returns the keys of the run, because the two searches find where it begins and where it ends.
 use Rattle.mail_index.proofs.Words.{◌∙◌, map, ap, sym, arith, text_and_numbers, no_key}
 use Rattle.mail_index.proofs.ViewLaws.RunLemmas.{keys_beginning-between}
 use Rattle.mail_index.proofs.ViewLaws.StepLemmas.{add_steps-both}

@@ -1,3 +1,4 @@
+-- `split_leb128` splits off a number in its shortest form, because each byte adds seven bits.
 use Rattle.std.proofs.Common.{◌<◌, ◌+◌, ◌*◌, arith}
 use Rattle.mail_index.proofs.FileLaws.LebLemmas.{IsShort-small, IsShort-last, IsShort-more}
 use Rattle.mail_index.proofs.view.leb128.+split_leb128.Goals as goal

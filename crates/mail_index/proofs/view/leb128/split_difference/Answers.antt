@@ -1,3 +1,4 @@
+-- `split_difference` reads one or two bytes as `split_leb128` does, by the form of such numbers.
 use Rattle.mail_index.proofs.Words.{arith}
 use Rattle.mail_index.proofs.FileLaws.LebLemmas.{leb-two}
 use Rattle.mail_index.proofs.view.leb128.split_difference.Goals as goal

@@ -1,3 +1,4 @@
+-- `are_lists` decides for the directory what it decides for the rest after each list.
 use Rattle.std.proofs.Common.{◌≡◌, arith, true, false}
 use Rattle.mail_index.proofs.ViewLaws.ListWalk.{lists_step, lists_stop, list_is}
 use Rattle.mail_index.proofs.view.posting_walk.are_lists.Goals as goal

@@ -1,3 +1,4 @@
+-- The lists of the directory are valid exactly if those of the rest are.
 use Rattle.mail_index.proofs.Words.{◌≡◌, ◌↔◌, ◌-◌, ◌*◌, length, AreLists}
 use Rattle.mail_index.proofs.view.posting_walk.are_lists.Given as goal
 

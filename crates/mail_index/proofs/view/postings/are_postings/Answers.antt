@@ -1,3 +1,4 @@
+-- `are_postings` refuses only bytes that no rising numbers have, difference by difference.
 use Rattle.mail_index.proofs.Words.{◌<◌, length, ap, arith, false≢true, nat_tests, shown_split}
 use Rattle.mail_index.proofs.ViewLaws.PostingReadLemmas.{posted-refused, posted-front, posted-back, posted-shorter}
 use Rattle.mail_index.proofs.view.postings.are_postings.Goals as goal

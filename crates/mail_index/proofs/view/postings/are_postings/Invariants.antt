@@ -1,7 +1,7 @@
+-- All bytes are postings exactly if the rest is, from the number that was reached on.
 use Rattle.mail_index.proofs.Words.{◌≤◌, length, ArePosted}
 use Rattle.mail_index.proofs.view.postings.are_postings.Given as goal
 
--- all bytes are postings exactly where the rest is, from the number that was reached on
 abbrev pub invariant-loop-rest : goal.invariant-loop-rest
 invariant-loop-rest l = record {
   forward : ArePosted l.count 0 l.bytes → ArePosted l.count l.low l.rest;

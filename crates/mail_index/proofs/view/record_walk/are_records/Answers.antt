@@ -1,3 +1,4 @@
+-- `are_records` decides for the section what it decides for the rest after each record.
 use Rattle.mail_index.proofs.Words.{◌≡◌, true, false, arith, version_number}
 use Rattle.mail_index.proofs.ViewLaws.RecordWalk.{records_step, records_stop, records_stray}
 use Rattle.mail_index.proofs.view.record_walk.are_records.Goals as goal

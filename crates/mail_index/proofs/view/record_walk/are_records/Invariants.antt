@@ -1,3 +1,4 @@
+-- The records are valid exactly if the rest is, from the place that was reached.
 use Rattle.mail_index.proofs.Words.{◌≡◌, ◌↔◌, ◌-◌, ◌*◌, ◌≤◌, length, version_number, SpellsArchives, AreRecords}
 use Rattle.mail_index.proofs.view.record_walk.are_records.Given as goal
 

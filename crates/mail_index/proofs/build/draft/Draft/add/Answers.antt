@@ -1,3 +1,4 @@
+-- `Draft::add` keeps a draft valid, because its keys stay in order and well-formed.
 use Rattle.std.proofs.Common.{arith}
 use Rattle.mail_index.proofs.BuildLaws.DraftLemmas.{listed-after}
 use Rattle.mail_index.proofs.BuildLaws.KeyPlaces.{sorted-after}

@@ -1,3 +1,5 @@
+-- `Draft::begin_archive` keeps a draft valid, and the new archive has no message, because all belong to earlier
+-- archives.
 use Rattle.mail_index.proofs.Words.{string_bytes, ap, sym, subst, rules, ◌∙◌, arith, common_steps, IsPath, Draft}
 use Rattle.mail_index.specs.Inside.Drafts.{draft_of}
 use Rattle.mail_index.proofs.BuildLaws.Placing.{archive-opened, none-of-next}

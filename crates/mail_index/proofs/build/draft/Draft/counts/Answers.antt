@@ -1,3 +1,4 @@
+-- `Draft::counts` never overflows, because the limits keep each section small.
 use Rattle.mail_index.proofs.Words.{◌≡◌, length, map, refl, rules, arith, common_steps, Draft}
 use Rattle.mail_index.specs.Inside.Drafts.{draft_of, kept_archive, message_count}
 use Rattle.mail_index.proofs.BuildLaws.DraftLemmas.{message_count-within}

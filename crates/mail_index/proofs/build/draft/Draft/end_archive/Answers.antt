@@ -1,3 +1,4 @@
+-- `Draft::end_archive` keeps a draft valid, because all messages of the archive end within its length.
 use Rattle.mail_index.proofs.Words.{◌≡◌, ◌≤◌, [], ◌∷◌, ◌++◌, map, Some, string_bytes, ap, sym, subst, ◌∙◌, option_map, map-append, Draft, end_of, archive_count}
 use Rattle.mail_index.specs.Inside.Drafts.{draft_of, kept_archive}
 use Rattle.mail_index.proofs.BuildLaws.Placing.{archive-ended_draft}

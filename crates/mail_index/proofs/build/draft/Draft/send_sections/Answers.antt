@@ -1,3 +1,4 @@
+-- `Draft::send_sections` writes its sections as one text, section by section.
 use Rattle.std.proofs.Common.{get_or, ◌∙◌}
 use Rattle.mail_index.specs.declared.build.sections.FileSection.TheVariants.{Counts}
 use Rattle.mail_index.specs.Inside.SectionCounts.{section_of}

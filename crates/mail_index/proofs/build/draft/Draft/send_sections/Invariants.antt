@@ -1,3 +1,4 @@
+-- The sections so far were written, and the others are to come.
 use Rattle.std.proofs.Common.{◌≡◌, drop, flat_map}
 use Rattle.mail_index.specs.Inside.SectionCounts.{section_of}
 use Rattle.mail_index.specs.Inside.Signing.{IsSigning}

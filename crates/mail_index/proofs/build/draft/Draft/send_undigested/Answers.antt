@@ -1,3 +1,4 @@
+-- `Draft::send_undigested` sends all bytes before the digest, because it sends the last gathered bytes at the end.
 use Rattle.mail_index.proofs.Words.{◌≡◌, ℕ, List, ◌++◌, Ok, Err, IfOk, OnOk, OnErr, Appends, body}
 use Rattle.sha2.specs.Hashers.{Holds256}
 use Rattle.sha2.specs.Sha256.{sha256}

@@ -1,3 +1,4 @@
+-- `Draft::write` sends the file of the table: its body, and then the digest of the body.
 use Rattle.mail_index.proofs.Words.{◌≡◌, ℕ, List, [], ◌++◌, ap, sym, subst, ◌∙◌, append-nil, Appends, body, index_file}
 use Rattle.sha2.specs.Sha256.{sha256}
 use Rattle.contract_words.specs.Devices.{Sends}

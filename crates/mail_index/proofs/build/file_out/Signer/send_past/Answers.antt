@@ -1,3 +1,4 @@
+-- `Signer::send_past` sends the gathered bytes first, so the new bytes come after them.
 use Rattle.std.proofs.Common.{◌≡◌, ℕ, List, [], ◌++◌, ap, sym, append-nil, arith}
 use Rattle.contract_words.proofs.Sending.{sends_more}
 use Rattle.mail_index.proofs.BuildLaws.SigningLemmas.{writes-failed, sends-longer, signs-flushed, signs-at-once, signs-join}

@@ -1,3 +1,4 @@
+-- `KeyEntry::has` finds a number only if adding it would change nothing, because it is below the end.
 use Rattle.std.proofs.Common.{arith}
 use Rattle.mail_index.proofs.Words.{ranked}
 use Rattle.mail_index.proofs.BuildLaws.EntryLemmas.{key-same}

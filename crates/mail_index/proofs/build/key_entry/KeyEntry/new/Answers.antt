@@ -1,3 +1,4 @@
+-- `KeyEntry::new` makes the entry of a key with one number, because the first posting follows the front.
 use Rattle.std.proofs.Common.{arith}
 use Rattle.mail_index.proofs.BuildLaws.EntryLemmas.{entry-new, key-new}
 use Rattle.mail_index.proofs.build.key_entry.KeyEntry.new.Goals as goal

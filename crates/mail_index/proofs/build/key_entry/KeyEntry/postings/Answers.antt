@@ -1,3 +1,4 @@
+-- `KeyEntry::postings` returns the bytes after the front, wherever the front is kept.
 use Rattle.mail_index.proofs.Words.{◌≡◌, ◌∙◌, ℕ, List, ◌+◌, ◌++◌, length, drop, ap, sym, arith, length-append, Key, postings}
 use Rattle.mail_index.specs.Inside.KeyMaps.{key_bytes}
 use Rattle.mail_index.proofs.BuildLaws.EntryLemmas.{behind-short, behind-long}

@@ -1,3 +1,4 @@
+-- `KeyEntry::push` adds a number by the bytes of its difference; a number below the end changes nothing.
 use Rattle.mail_index.proofs.Words.{◌≡◌, ◌∙◌, ℕ, List, ◌+◌, ◌-◌, ◌++◌, take, drop, ap, sym, subst, arith, Key, leb128}
 use Rattle.mail_index.specs.Inside.KeyMaps.{with_one, key_in, key_bytes, AreEntryBytes}
 use Rattle.mail_index.proofs.BuildLaws.EntryLemmas.{entry-more, key-more, key-same, key_bytes-more, within-more}

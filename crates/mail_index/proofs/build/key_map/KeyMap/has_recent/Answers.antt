@@ -1,3 +1,4 @@
+-- `KeyMap::has_recent` finds a pair only if adding it would change nothing, because the entry is that of the key.
 use Rattle.std.proofs.Common.{arith}
 use Rattle.mail_index.proofs.Words.{◌≡◌, ◌<◌, ◌∙◌, ℕ, List, length, ap, set, Equal, Key, lies_to, key_at, no_key}
 use Rattle.std.proofs.lemmas.List.{set-get_or}

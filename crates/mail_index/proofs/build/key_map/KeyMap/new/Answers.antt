@@ -1,3 +1,4 @@
+-- `KeyMap::new` returns a map in order, because it has no entry.
 use Rattle.std.proofs.Common.{arith}
 use Rattle.mail_index.proofs.BuildLaws.KeyMapLemmas.{order-empty}
 use Rattle.mail_index.proofs.build.key_map.KeyMap.new.Goals as goal

@@ -1,3 +1,4 @@
+-- `KeyOrder::find` searches the heads and then one page, and its gap there is the gap of the whole order.
 use Rattle.mail_index.proofs.Words.{◌≡◌, ◌∙◌, ◌<◌, ◌≤◌, [], List, length, get_or, ap, subst, arith}
 use Rattle.mail_index.specs.declared.build.key_front.Fronted.{Fronted}
 use Rattle.mail_index.specs.Inside.KeyMaps.{slot_keys, rows, IsGap}

@@ -1,3 +1,4 @@
+-- `KeyOrder::insert` puts a slot at its place in the whole order, because its page is a part of this.
 use Rattle.std.proofs.Common.{arith}
 use Rattle.mail_index.proofs.Words.{set, insert, map-set, set-get_or, get_or-map}
 use Rattle.mail_index.proofs.BuildLaws.PageLemmas.{inserted}

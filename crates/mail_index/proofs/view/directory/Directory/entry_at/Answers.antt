@@ -1,3 +1,4 @@
+-- `Directory::entry_at` returns the entry of the number, because each entry before it has 24 bytes.
 use Rattle.std.proofs.Common.{sym, arith}
 use Rattle.mail_index.proofs.ViewLaws.DirectoryKeys.{number-below, rest-at}
 use Rattle.mail_index.proofs.view.directory.Directory.entry_at.Goals as goal

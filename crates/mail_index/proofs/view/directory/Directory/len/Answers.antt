@@ -1,3 +1,4 @@
+-- `Directory::len` returns the number of keys, which are sorted, because each entry comes after the one before it.
 use Rattle.std.proofs.Common.{arith}
 use Rattle.mail_index.proofs.Words.{◌∙◌, length, sym, ap}
 use Rattle.mail_index.proofs.ViewLaws.DirectoryKeys.{length-keys_read, directory-sorted}

@@ -1,3 +1,4 @@
+-- `IndexView::archive` returns the archive of the number, because it passes those before it.
 use Rattle.mail_index.proofs.Words.{slice_get, arith, version_number, read_archive}
 use Rattle.mail_index.proofs.ViewLaws.ArchiveReads.{read_count, archive_at}
 use Rattle.mail_index.proofs.view.index_view.IndexView.archive.Goals as goal

@@ -1,3 +1,4 @@
+-- `IndexView::look_up` takes the steps of a search among the keys of the file.
 use Rattle.mail_index.proofs.Words.{◌∙◌, List, ap, rules, arith, common_steps, Key, comparisons, add_steps}
 use Rattle.mail_index.proofs.view.index_view.IndexView.look_up.Goals as goal
 

@@ -1,3 +1,4 @@
+-- `IndexView::of_file` always finds version and sections, because the bytes are the file of a table.
 use Rattle.mail_index.proofs.Words.{sym, ◌∙◌, subst, arith, Fits-lt-pow, IsVersion, table_of}
 use Rattle.mail_index.proofs.FileLaws.KnownFile.{has_counts, known_file}
 use Rattle.mail_index.proofs.FileLaws.SameTable.{same-table}

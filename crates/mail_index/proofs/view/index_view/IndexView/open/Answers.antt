@@ -1,3 +1,4 @@
+-- `IndexView::open` accepts exactly the files of tables, because each walk refuses only what no table has.
 use Rattle.std.proofs.Common.{arith}
 use Rattle.mail_index.proofs.Words.{◌≡◌, true, false, sym, ◌∙◌, Fits-lt-pow, table_of}
 use Rattle.mail_index.proofs.FileLaws.SameTable.{same-table}

@@ -1,7 +1,7 @@
+-- Numbers below n were dropped, each with a step.
 use Rattle.mail_index.proofs.Words.{◌≡◌, ◌<◌, ◌-◌, ◌++◌, ℕ, List, length, AllByRecursion, add_steps}
 use Rattle.mail_index.proofs.view.postings.Postings.next_at_least.Given as goal
 
--- numbers below n were dropped, each with a step
 abbrev pub invariant-loop-number : goal.invariant-loop-number
 invariant-loop-number l = record {
   split : (dropped : List ℕ) × AllByRecursion (λ m. m < l.n) dropped × (l.fn.self ≡ dropped ++ l.self);

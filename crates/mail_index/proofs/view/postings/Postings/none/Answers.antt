@@ -1,3 +1,4 @@
+-- `Postings::none` has no number, because it has no byte.
 use Rattle.mail_index.proofs.Words.{refl, numbers_read}
 use Rattle.mail_index.proofs.view.postings.Postings.none.Goals as goal
 

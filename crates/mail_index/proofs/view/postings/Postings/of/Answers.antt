@@ -1,3 +1,4 @@
+-- `Postings::of` has the numbers of these bytes, because only one list of numbers has them.
 use Rattle.std.proofs.Common.{arith}
 use Rattle.mail_index.proofs.ViewLaws.PostingReadLemmas.{read-posted}
 use Rattle.mail_index.proofs.view.postings.Postings.of.Goals as goal

@@ -1,3 +1,4 @@
+-- `Records::look_at` returns the record of the number, because each record before it has 40 bytes.
 use Rattle.mail_index.proofs.Words.{slice_get, arith, read_record}
 use Rattle.mail_index.proofs.ViewLaws.Opening.{count_records, message_at}
 use Rattle.mail_index.proofs.view.records.Records.look_at.Goals as goal

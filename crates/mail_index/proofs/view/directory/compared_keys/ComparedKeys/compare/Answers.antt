@@ -1,3 +1,4 @@
+-- `ComparedKeys::compare` returns the order of the keys, because the entry's bytes give its kind and its text.
 use Rattle.mail_index.proofs.Words.{rules, ◌≡◌, ◌∙◌, ℕ, List, sym, ap, ap₂, Key, key_at, kind_number, byte_at, key_cmp, read_entry}
 use Rattle.mail_index.proofs.view.directory.compared_keys.ComparedKeys.compare.Goals as goal
 

@@ -1,3 +1,5 @@
+-- `ComparedKeys::compare_to_run` returns the order of a key and a run, because it compares only the front of the key's
+-- text.
 use Rattle.mail_index.proofs.Words.{rules, ◌≡◌, ◌∙◌, ℕ, List, length, take, min, sym, ap, ap₂, arith, common_steps, Key, key_at, kind_number, byte_at, key_cmp, read_entry}
 use Rattle.mail_index.proofs.view.directory.compared_keys.ComparedKeys.compare_to_run.Goals as goal
 

@@ -1,3 +1,4 @@
+-- `Entry::text` returns the text of the entry, because the entry has its place and its length.
 use Rattle.mail_index.proofs.Words.{rules, ◌≡◌, ◌∙◌, ap, Key, text_at, read_entry}
 use Rattle.mail_index.proofs.view.directory.entry.Entry.text.Goals as goal
 
