@@ -1,4 +1,4 @@
--- Laws of archives that are read at places.
+-- The laws of archives that are read at offsets.
 pub mod AskedLemmas
 pub mod CallLemmas
 pub mod DigestLemmas

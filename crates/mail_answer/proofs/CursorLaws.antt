@@ -1,4 +1,4 @@
--- Laws of cursors, which give the numbers that satisfy a query.
+-- The laws of cursors, which give the numbers of the messages that satisfy a query.
 pub mod Begins
 pub mod Containing
 pub mod Groups

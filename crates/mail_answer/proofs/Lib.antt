@@ -1,3 +1,4 @@
+-- The proofs of mail_answer: words, rows and lemmas. Proofs of single functions are in folders named after these.
 pub mod Words
 mod RowsTableFacts
 mod RowsThreads

@@ -1,4 +1,4 @@
--- Laws of what an answer writes.
+-- The laws of what an answer writes.
 pub mod ChosenBelow
 pub mod ClosedLemmas
 pub mod ClosedMessages

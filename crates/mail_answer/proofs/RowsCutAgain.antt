@@ -1,11 +1,11 @@
--- Worked rows: messages that are closed and joined, and their cut.
+-- Rows: messages that are closed and joined, and how they are cut again.
 use Rattle.mail_answer.proofs.Words.{◌≡◌, ℕ, List, [], ◌∷◌, Some, map, refl, codes, concat, cut, messages, lines, first_length, is_empty, is_separator, without_break, has_form, places_from, closed}
 
--- no LF, one LF, and an empty line at the end
+-- texts that end without LF, in one LF, and in an empty line
 abbrev three : List (List ℕ)
 three = map closed (codes "From a 10:00 2003" ∷ codes "From b 10:00 2004\nx\n" ∷ codes "From c 10:00 2005\ny\r\n\r\n" ∷ [])
 
--- CR LF is a line's break, so the LF that is added makes the last line a separator
+-- CR LF is a line break, so the added LF makes the last line a separator
 abbrev ends_in_cr : List ℕ
 ends_in_cr = codes "From a 10:00 2003\n\nFrom b 10:00 2004\r"
 

@@ -1,4 +1,4 @@
--- Rows: how the last line stands.
+-- Rows: how the last line ends.
 use Rattle.mail_answer.proofs.Words.{◌≡◌, [], ◌∷◌, map, refl, codes, lines, first_length, is_empty, ending_of, Empty, Ended, Return, Open}
 
 rows : map ending_of (codes "hi\n\r\n" ∷ codes "hi\r\n" ∷ codes "hi\n\r" ∷ codes "hi\nyou" ∷ []) ≡ Empty ∷ Ended ∷ Return ∷ Open 3 ∷ []

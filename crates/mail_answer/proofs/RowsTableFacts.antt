@@ -1,11 +1,11 @@
--- Rows: what a table of two messages says of them, and which of them some queries choose.
+-- Rows: what a table of two messages says about them, and which of them each query chooses.
 use Rattle.mail_answer.proofs.Words.{◌≡◌, ℕ, true, false, List, [], ◌∷◌, map, replicate, None, Some, codes, refl, pos, Subject, Body, Name, Text, OwnId, LinkId, newest, Table, Kinds, no_kinds, Query, Any, Word, Part, Prefix, Date, Size, HasFlag, Not, All, Either, End, texts_with, facts_at, truths, chosen_numbers}
 use Rattle.mail_words.specs.declared.flags.Flag.TheVariants.{Seen}
 use Rattle.mail_query.specs.Query.{More}
 
--- the first, without a date and of 19 bytes, has the own id 1@x, the subject hello and the text hi; the second, seen, is of 30 bytes
--- and of second 1000, has the own id 2@x and the link id 1@x, the subjects hello and re, the text high,
--- and a part named re.pdf
+-- The first message has 19 bytes and no date; its own id is 1@x, its subject hello, and its text hi. The second has 30
+-- bytes, is dated second 1000 and is seen; its own id is 2@x, its link id 1@x, its subjects are hello and re, its text
+-- is high, and it has an attachment named re.pdf.
 abbrev two : Table
 two = record {
   version = newest;
@@ -43,11 +43,11 @@ facts : (texts_with (Text Subject) 1 two.keys ≡ codes "hello" ∷ codes "re" �
     × (texts_with (Text Subject) 2 two.keys ≡ [])
 facts = (refl, refl, refl)
 
--- each of these queries chooses just these messages
+-- each of these queries chooses exactly these messages
 abbrev Choose : List ℕ → List Query → Type 0
 Choose numbers queries = map (chosen_numbers two) queries ≡ map (λ _. numbers) queries
 
--- a link id is no own id, and no date is in no range
+-- a link id isn't an own id, and a message without a date is in no range
 chosen : Choose (0 ∷ []) (Word body (codes "hi") ∷ Word own (codes "1@x") ∷ HasFlag Seen false ∷ [])
     × Choose (1 ∷ []) (Word subject_body (codes "re") ∷ Part body (codes "gh") ∷ Word name (codes "re.pdf") ∷ Date (record { from = None; until = None }) ∷ [])
     × Choose (0 ∷ 1 ∷ []) (Word subject (codes "hello") ∷ Prefix body (codes "hi") ∷ Prefix subject_name (codes "h") ∷ Size 19 (Some 30)

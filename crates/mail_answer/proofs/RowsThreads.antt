@@ -1,8 +1,8 @@
 -- Rows: threads of a table of six messages, whose keys are link ids alone.
 use Rattle.mail_answer.proofs.Words.{◌≡◌, true, false, [], ◌∷◌, replicate, Some, codes, refl, OwnId, LinkId, newest, Table, no_record, are_linked, IsInThread, IsInThreadOfSome}
 
--- the second refers to the first, and the third answers the second; the fourth has no id; the fifth and the sixth refer to 0@x, which
--- no message has
+-- The second message refers to the first, and the third answers the second. The fourth has no id. The fifth and the
+-- sixth refer to 0@x, which no message has.
 abbrev six : Table
 six = record {
   version = newest;
@@ -14,10 +14,11 @@ six = record {
       ∷ record { kind = LinkId; text = codes "6@x"; numbers = 5 ∷ [] } ∷ [];
 }
 
--- a message and what it answers are linked, the first and the third share no id, an id that no message has links, and an own id doesn't
+-- A message and the one that it answers are linked; the first and the third share no id; an id that no message has
+-- links messages; an own id doesn't.
 links : (are_linked six 2 1 ≡ true) × (are_linked six 0 2 ≡ false) × (are_linked six 4 5 ≡ true) × (are_linked six 2 3 ≡ false)
 links = (refl, refl, refl, refl)
 
--- the first and the third are in one thread all the same; without ids a message is in its own thread
+-- the first and the third are in one thread nevertheless; a message without ids is in its own thread
 threads : IsInThread six 0 2 × IsInThreadOfSome six (3 ∷ []) 3
 threads = ((1 ∷ 2 ∷ [], (refl, (refl, refl))), (3, refl, ([], refl)))

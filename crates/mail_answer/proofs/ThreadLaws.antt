@@ -1,4 +1,4 @@
--- Laws of threads.
+-- The laws of threads.
 pub mod ChosenThreads
 pub mod EveryThread
 pub mod ForestLemmas

@@ -1,4 +1,4 @@
--- The words of std and of the definitions that proofs take, from one place.
+-- The words of std and of the definitions that proofs use, from one place.
 pub use Rattle.contract_words.proofs.Sending.{appends-nil, appends_join}
 pub use Rattle.header_text.specs.Headers.{HeaderField, fields_in, lines_before_empty, lines_within, most_in_header}
 unfoldable pub use Rattle.header_text.specs.Headers.{fields_of}

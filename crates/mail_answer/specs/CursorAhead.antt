@@ -1,89 +1,93 @@
--- What a walk through the messages of an index still gives, one truth a message.
+-- What a walk through the messages of an index still gives, with one truth for each message.
 use Rattle.std.specs.Prelude.{◌≡◌, ℕ, ◌+◌, ◌-◌, ◌<◌, ◌≤◌, nat_le, Bool, true, false, not, ◌&&◌, ◌||◌, max, List, [], ◌∷◌, MatchOption, Option, Some, None, min}
 use Rattle.mail_index.specs.Steps.{add_steps}
 use Rattle.mail_answer.specs.Marks.{truth_at, each_number}
 
--- whether each message is still to come, how many steps are left at most, how many of these are postings, and how many levels lie below
+-- whether each message still comes, how many steps are left at most, how many of these are postings, and how many
+-- levels are below
 pub record Ahead : Type 0 where
   pub truths : List Bool
   pub left : ℕ
   pub postings : ℕ
   pub below : ℕ
 
--- the messages still to come in both lists
+-- the messages that still come in both lists
 abbrev pub both : List Bool → List Bool → List Bool
 both [] ys = []
 both (x ∷ xs) [] = []
 both (x ∷ xs) (y ∷ ys) = (x && y) ∷ both xs ys
 
--- those still to come in one list or the other
+-- the messages that still come in one list or the other
 abbrev pub one_or_other : List Bool → List Bool → List Bool
 one_or_other [] ys = ys
 one_or_other (x ∷ xs) [] = x ∷ xs
 one_or_other (x ∷ xs) (y ∷ ys) = (x || y) ∷ one_or_other xs ys
 
--- those still to come in each of one or more walks
+-- the messages that still come in each of one or more walks; none if there is no walk
 abbrev pub common : List Ahead → List Bool
 common [] = []
 common (w ∷ []) = w.truths
 common (w ∷ v ∷ ws) = both w.truths (common (v ∷ ws))
 
--- those still to come in some walk
+-- the messages that still come in at least one walk
 abbrev pub united : List Ahead → List Bool
 united [] = []
 united (w ∷ ws) = one_or_other w.truths (united ws)
 
--- of so many messages those from a number on that don't come in the walk
+-- of `count` messages, those from `low` on that don't come in the walk
 abbrev pub others : ℕ → ℕ → List Bool → List Bool
 others count low truths = each_number count (λ n. nat_le low n && not (truth_at truths n))
 
+-- how many steps are left at most in all walks
 abbrev pub left_in : List Ahead → ℕ
 left_in [] = 0
 left_in (w ∷ ws) = w.left + left_in ws
 
+-- how many postings are left in all walks
 abbrev pub postings_in : List Ahead → ℕ
 postings_in [] = 0
 postings_in (w ∷ ws) = w.postings + postings_in ws
 
--- one level more than the most below some walk
+-- one more than the most levels below a walk; 0 if there is no walk
 abbrev pub levels : List Ahead → ℕ
 levels [] = 0
 levels (w ∷ ws) = max (w.below + 1) (levels ws)
 
--- those from n on stay, and those below are dropped
+-- the messages from n on stay, and those below n are dropped
 pub record Drops (n : ℕ) (old new : List Bool) : Type 0 where
   pub rest : (m : ℕ) → n ≤ m → truth_at new m ≡ truth_at old m
   pub below : (m : ℕ) → m < n → truth_at new m ≡ false
 
--- the number of the first that is still to come, if there is one
+-- the number is the first that still comes, or None if none comes
 abbrev pub IsFirst : List Bool → Option ℕ → Type 0
 IsFirst truths number =
     MatchOption number ((m : ℕ) → truth_at truths m ≡ false)
     (λ n. (truth_at truths n ≡ true) × ((m : ℕ) → m < n → truth_at truths m ≡ false))
 
--- the number of none that comes before the first from n on, which is n only where n itself is still to come
+-- The number is at least n, no number below it still comes, and it is n only if n itself still comes; None if no number
+-- comes.
 abbrev pub Reaches : ℕ → List Bool → Option ℕ → Type 0
 Reaches n truths number =
     MatchOption number ((m : ℕ) → truth_at truths m ≡ false)
     (λ k. (n ≤ k) × ((m : ℕ) → m < k → truth_at truths m ≡ false) × (k ≡ n → truth_at truths n ≡ true))
 
--- the lesser of two numbers, as far as there are any
+-- the lesser of two numbers; if only one is there, this one
 abbrev pub lesser_of : Option ℕ → Option ℕ → Option ℕ
 lesser_of None other = other
 lesser_of (Some m) None = Some m
 lesser_of (Some m) (Some n) = Some (min m n)
 
--- the steps rose by at most what is left fewer
+-- the steps rise by at most what `left` falls by
 pub record Spends (old_left new_left old_steps new_steps : ℕ) : Type 0 where
   pub rises : old_steps ≤ new_steps
   pub most : new_steps + new_left ≤ old_steps + old_left
 
--- the steps rose by just what is left fewer, up to the greatest value of their count
+-- the steps rise by exactly what `left` falls by, up to the greatest value of their count
 pub record Counts (old_left new_left old_steps new_steps : ℕ) : Type 0 where
   pub fewer : new_left ≤ old_left
   pub counted : new_steps ≡ add_steps old_steps (old_left - new_left)
 
--- the steps rose by no less than the postings that are left fewer, up to the greatest value of their count
+-- the steps rise by at least what `postings` falls by, up to the greatest value of their count
 pub record CountsPostings (old_postings new_postings old_steps new_steps : ℕ) : Type 0 where
   pub fewer : new_postings ≤ old_postings
   pub counted : add_steps old_steps (old_postings - new_postings) ≤ new_steps

@@ -1,21 +1,21 @@
--- The numbers that a cursor still gives.
+-- The numbers that a cursor still gives, and what a call takes from them.
 use Rattle.std.specs.Prelude.{◌≡◌, ℕ, ◌<◌, ◌≤◌, Bool, true, nat_le, ◌&&◌, List, [], ◌∷◌, ◌++◌, filter, Option, MatchOption}
 use Rattle.std.specs.List.{range_with_len, AllByRecursion}
 use Rattle.mail_answer.specs.Marks.{truth_at}
 
--- of so many messages those from a number on that are still to come
+-- of `count` messages, the numbers from `low` on that still come
 abbrev pub numbers_from : ℕ → ℕ → List Bool → List ℕ
 numbers_from low count truths = filter (λ n. nat_le low n && truth_at truths n) (range_with_len 0 count)
 
--- each message still to come is one of so many
+-- each message that still comes is one of `count`
 abbrev pub AreWithin : ℕ → List Bool → Type 0
 AreWithin count truths = (m : ℕ) → truth_at truths m ≡ true → m < count
 
--- the first number is gone, or there was none
+-- the first number is returned and dropped, or there was none
 abbrev pub TakesFirst : List ℕ → List ℕ → Option ℕ → Type 0
 TakesFirst old new number = MatchOption number ((old ≡ []) × (new ≡ [])) (λ n. old ≡ n ∷ new)
 
--- the least number that is at least n is gone, and all before it, or all where there is none
+-- the least number that is at least n is returned and dropped, with all before it; if there is none, all are dropped
 abbrev pub TakesFrom : ℕ → List ℕ → List ℕ → Option ℕ → Type 0
 TakesFrom n old new number =
     MatchOption number (AllByRecursion (λ m. m < n) old × (new ≡ []))

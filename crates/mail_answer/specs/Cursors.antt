@@ -9,12 +9,14 @@ use Rattle.mail_query.specs.Kinds.{has_kind}
 use Rattle.mail_query.specs.Query.{Query, Word, Part, Prefix, Not, All, Either, Queries, End, More}
 use Rattle.mail_query.specs.Truth.{text_kinds, contains_text, begins_with}
 
--- the rising numbers of the messages still to come, how many steps are left at most, and how many of these are postings
+-- the rising numbers of the messages that still come, how many steps are left at most, and how many of these are
+-- postings
 pub record ToCome : Type 0 where
   pub numbers : List ℕ
   pub left : ℕ
   pub postings : ℕ
 
+-- whether the kind is in the set; a link id never is
 abbrev pub is_in : Kinds → Kind → Bool
 is_in kinds (Text kind) = has_kind kinds kind
 is_in kinds OwnId = kinds.own_id
@@ -24,19 +26,19 @@ is_in kinds LinkId = false
 abbrev pub kinds_in : Kinds → List Kind
 kinds_in kinds = filter (is_in kinds) (map Text text_kinds ++ OwnId ∷ [])
 
--- how long the lists of some keys are together
+-- how many numbers these keys have together
 abbrev pub numbers_of_keys : List Key → ℕ
 numbers_of_keys [] = 0
 numbers_of_keys (k ∷ ks) = length k.numbers + numbers_of_keys ks
 
--- those of the keys of one of these kinds whose texts pass
+-- how many numbers the keys of these kinds have together whose texts pass
 abbrev pub numbers_named : (List ℕ → Bool) → List Key → List Kind → ℕ
 numbers_named passes keys [] = 0
 numbers_named passes keys (kind ∷ kinds) =
     numbers_of_keys (filter (λ k. passes k.text) (keys_of kind keys)) + numbers_named passes keys kinds
 
--- the most steps of a walk through the messages that satisfy a query: for each leaf that names texts the numbers of all keys that
--- it names, and else one for each message
+-- The most steps of a walk through the messages that satisfy a query: for each leaf that names texts, the numbers of
+-- all keys that it names, and for each other leaf one for each message.
 abbrev mutual
   pub most_left : Table → Query → ℕ
   most_left t (Word kinds text) = numbers_named (bytes_eq text) t.keys (kinds_in kinds)
@@ -47,6 +49,7 @@ abbrev mutual
   most_left t (Either qs) = most_left_of_all t qs
   most_left t _ = length t.messages
 
+  -- the same for the queries of a list together
   pub most_left_of_all : Table → Queries → ℕ
   most_left_of_all t End = 0
   most_left_of_all t (More q qs) = most_left t q + most_left_of_all t qs
@@ -60,6 +63,7 @@ abbrev mutual
   look_ups (Either qs) = look_ups_of_all qs
   look_ups _ = 0
 
+  -- the same for the queries of a list together
   pub look_ups_of_all : Queries → ℕ
   look_ups_of_all End = 0
   look_ups_of_all (More q qs) = look_ups q + look_ups_of_all qs
@@ -69,7 +73,7 @@ abbrev pub compared_in_all : (Kind → ℕ) → List Kind → ℕ
 compared_in_all compared [] = 0
 compared_in_all compared (kind ∷ kinds) = compared kind + compared_in_all compared kinds
 
--- how many comparisons the look-ups of a query make: those of its text in each kind of each Word
+-- how many comparisons the look-ups of a query make: those for its text in each kind of each Word
 abbrev mutual
   pub look_up_steps : List Key → Query → ℕ
   look_up_steps keys (Word kinds text) = compared_in_all (λ kind. comparisons kind text keys) (kinds_in kinds)
@@ -78,11 +82,12 @@ abbrev mutual
   look_up_steps keys (Either qs) = look_up_steps_of_all keys qs
   look_up_steps keys _ = 0
 
+  -- the same for the queries of a list together
   pub look_up_steps_of_all : List Key → Queries → ℕ
   look_up_steps_of_all keys End = 0
   look_up_steps_of_all keys (More q qs) = look_up_steps keys q + look_up_steps_of_all keys qs
 
--- each look-up takes at most so many steps as the number of keys has binary digits
+-- each of the look-ups takes at most as many steps as the number of keys has binary digits
 pub record LooksUp (keys many old new : ℕ) : Type 0 where
   pub rises : old ≤ new
   pub most : (digits : ℕ) → keys < 2 ^ digits → new ≤ old + many * digits

@@ -1,4 +1,5 @@
--- What private functions say of one another, and views of fields: it serves proofs alone, and no public clause rests on it.
+-- Definitions for private functions only: what these promise one another, and views of their fields. No public clause
+-- depends on them.
 pub mod Calls
 pub mod Copies
 pub mod CursorBegins

@@ -1,3 +1,4 @@
+-- The definitions of answers: what a table says, cursors, threads, archives, and the texts that are written.
 pub mod TableFacts
 pub mod Marks
 pub mod Mail

@@ -1,6 +1,6 @@
 //! Answers in each form.
 //!
-//! Changed archives are looked for before any memory is taken, since want of memory would hide them (decision 76 in
+//! Changed archives are looked for before any memory is taken, because lack of memory would hide them (decision 76 in
 //! docs/DECISIONS.md).
 ghost use Rattle.std.specs.Prelude.{◌≡◌, ◌≢◌, ◌<◌, ◌-◌, ◌^◌, ℕ, List, length, IfErr, IfSome};
 ghost use Rattle.std.specs.Bool.{OnTrue};
@@ -23,15 +23,15 @@ use mail_query::Query;
 use mbox_cutter::Out;
 use std::alloc::Global;
 
-/// Writes an answer of the messages that satisfy a query, or with `threads` of all in their threads, in the order of the index, and
-/// answers how many they are. A raw answer reads no archive. Without `threads` each message is written as it is found, and no list
-/// of them is kept.
+/// Writes an answer of the messages that satisfy a query, or with `threads` of all messages in their threads, in the
+/// order of the index, and returns how many there are. A raw answer reads no archive. Without `threads` each message is
+/// written as soon as it is found, and no list of them is kept.
 ///
 /// # Errors
 ///
-/// Stale, before anything is written, where the archives have another count or length than was indexed; else what a device or
-/// want of memory stopped, with the bytes that went out, a front of the whole answer. An archive that ends before its length is
-/// Stale too.
+/// Stale, before anything is written, if there are more or fewer archives than were indexed, or if one of them has
+/// another length; Stale too if an archive ends before its length. Other faults come from a device or from lack of
+/// memory. A fault has the number of bytes that were written: a front of the whole answer.
 pub fn answer<A: Archives, O: Out>(
     alloc: Global,
     index: &IndexView<'_>,
@@ -44,38 +44,42 @@ pub fn answer<A: Archives, O: Out>(
     requires archives { A.failures archives.old < 2 ^ 64 - 1 }
     requires out { O.failures out.old < 2 ^ 64 - 1 }
     ensures keeps { HoldsArchives A.Archives archives.old archives.new }
-    // What the table answers goes out, or a front of it: its number of messages whatever the archives hold, and its text
-    // where their bytes are known or aren't asked.
+    // What the table answers is written, or a front of it: with its number of messages, whatever the archives hold, and
+    // with its text if their bytes are known or aren't needed.
     ensures answered { (a : TableAnswer)
         → IsTableAnswer index.now (search_of query.now threads format) (A.held archives.old) a
         → Answers (O.taken out.old) (O.taken out.new) a result }
-    // An mbox answer is bytes for each message, as many as were indexed, and the LFs that close them, whether the archives' bytes
-    // are known or not.
+    // An mbox answer has bytes for each message, as many as were indexed, and the LFs that close them, whether the
+    // archives' bytes are known or not.
     ensures spans { format ≡ Format.Mbox → (numbers : List ℕ)
         → AreChosen (mail_told index.now) (search_of query.now threads format) numbers
         → SendsSpans (O.taken out.old) (O.taken out.new) index.now numbers result }
-    // Stale exactly where the known bytes have another count or length than was indexed, before anything is written.
+    // If the archives' bytes are known: Stale exactly if there are more or fewer archives than were indexed, or one of
+    // them has another length, and then nothing is written.
     ensures stale { IfSome (A.held archives.old) (λ bytes.
         AnswersStale (O.taken out.old) (O.taken out.new)
         (stale_archive index.now.archives bytes) result) }
-    // Of another count the smaller one is stale, and no archive is asked.
+    // If there are more or fewer archives than were indexed, the first one too many or missing is stale, and no archive
+    // is read.
     ensures other_count { A.number archives.old ≢ length index.now.archives
         → RefusesCount A.Archives index.now.archives archives.old archives.new result }
-    // Of as many archives as were indexed each is asked for its length before anything else, once and in order, up to the first
-    // that has another one, which is Stale, or that fails, which is Device. A raw answer asks nothing more of the archives.
+    // If there are as many archives as were indexed, the length of each is read before anything else, once and in
+    // order, up to the first that has another length (Stale) or that fails (Device). A raw answer reads nothing more of
+    // the archives.
     ensures asked { A.number archives.old ≡ length index.now.archives
         → SearchesArchives A.Archives index.now (search_of query.now threads format)
         archives.old archives.new result }
-    // Each device's count rises by one exactly where its failure is answered.
+    // Each device's count of failures rises by one exactly if its failure is returned.
     ensures out_count { Counted (fails_by is_of_output result)
         (O.failures out.old) (O.failures out.new) }
     ensures archives_count { Counted (fails_by is_of_archives result)
         (A.failures archives.old) (A.failures archives.new) }
-    // Where no byte went out and the output didn't fail, it is as it was; so is it where a raw answer meets an archive's fault.
+    // If no byte was written and the output didn't fail, it is unchanged; so it is if a raw answer fails because of an
+    // archive.
     ensures raw { format ≡ Format.Raw → IfErr result (λ fault. IsBeforeText fault.kind fault.sent) }
     ensures unwritten { OnTrue (is_unwritten result) (out.new ≡ out.old) }
 {
-    // Want of memory would hide changed archives if the query came first.
+    // Lack of memory would hide changed archives if the query came first.
     if let Err(kind) = check_archives(index, archives) {
         return Err(AnswerFault::unsent(kind));
     }

@@ -1,6 +1,6 @@
 //! Cursors: the messages that satisfy a query, one after another, in the order of their numbers.
 //!
-//! A cursor is a tree of walks (decision 74 in docs/DECISIONS.md), and it counts each posting and record that it looks at
+//! A cursor is a tree of walks (decision 74 in docs/DECISIONS.md), and it counts each posting and record that it reads
 //! (decision 75).
 ghost use Rattle.std.specs.Prelude.{◌≡◌, ◌≤◌, length, IfOk};
 ghost use Rattle.mail_query.specs.Meaning.{meaning};
@@ -23,11 +23,11 @@ use mail_query::Query;
 use std::alloc::{AllocError, Global};
 use std::marker::Model;
 
-/// The messages of an index that satisfy a query and are still to come, rising. No list of them is kept.
+/// The rising numbers that still come, of the messages of an index that satisfy a query. No list of them is kept.
 #[derive(Drop)]
 pub struct Cursor<'a> {
     walk: Walk<'a>,
-    // One past the last number that was given.
+    // One past the last number that was returned.
     low: u32,
     // How many messages there are.
     count: u32,
@@ -48,15 +48,16 @@ impl<'a> Cursor<'a> {
     ghost use Rattle.mail_index.specs.Steps.{add_steps};
     ghost use Rattle.mail_answer.specs.Cursors.{most_left, look_ups, look_up_steps, LooksUp};
 
-    /// The messages of an index that satisfy a query.
+    /// Begins a cursor over the messages of an index that satisfy a query.
     ///
-    /// Takes all the memory that the cursor needs. Each Word looks up its text once in each of its kinds, at most as many steps as the
-    /// number of keys has binary digits; a Part also looks at each key of its kinds, and a Prefix at each that begins with its text.
-    /// The steps of the look-ups are counted. Those that find the keys of a Part or a Prefix aren't, as they look up no key.
+    /// Takes all the memory that the cursor needs. Each Word looks up its text once in each of its kinds, and a look-up
+    /// takes at most as many steps as the number of keys has binary digits. A Part also reads each key of its kinds,
+    /// and a Prefix each key that begins with its text. The steps of the look-ups are counted. The steps that find the
+    /// keys of a Part or a Prefix aren't, because they look up no key.
     ///
     /// # Errors
     ///
-    /// `AllocError` where that memory is refused.
+    /// `AllocError` if that memory is refused.
     pub fn new(
         alloc: Global,
         index: &IndexView<'a>,
@@ -82,8 +83,8 @@ impl<'a> Cursor<'a> {
         })
     }
 
-    /// The next number. Takes no memory, at most as many steps as `left` falls by, and at least one for
-    /// each posting that is dropped.
+    /// Returns the next number and drops it, or None at the end. Takes no memory, at most as many steps as `left` falls
+    /// by, and at least one for each posting that is dropped.
     #[tactic(auto, using(crate::proofs::CursorLaws::Numbers::takes_first))]
     pub fn next(&mut self, steps: &mut Steps) -> Option<u32>
         ensures number { TakesFirst self.old.numbers self.new.numbers result }
@@ -93,9 +94,9 @@ impl<'a> Cursor<'a> {
         self.next_at_least(0, steps)
     }
 
-    /// The least number to come that is at least n. It and all before it are dropped, or all where there
-    /// is none. Takes no memory, at most as many steps as `left` falls by, and at least one for each
-    /// posting that is dropped.
+    /// Returns the least number still to come that is at least n, and drops it with all before it. If there is none,
+    /// drops all numbers. Takes no memory, at most as many steps as `left` falls by, and at least one for each posting
+    /// that is dropped.
     pub fn next_at_least(&mut self, n: u32, steps: &mut Steps) -> Option<u32>
         ensures number { TakesFrom n self.old.numbers self.new.numbers result }
         ensures steps { Spends self.old.left self.new.left steps.old steps.new }
@@ -108,7 +109,7 @@ impl<'a> Cursor<'a> {
     }
 }
 
-/// The numbers that are to come.
+/// The numbers that still come from the cursor.
 fn numbers_of(
     alloc: Global,
     cursor: &mut Cursor<'_>,
@@ -123,11 +124,11 @@ fn numbers_of(
     Ok(numbers)
 }
 
-/// The numbers of the messages that satisfy the query, from 0, rising: its cursor, walked to the end.
+/// The rising numbers, from 0, of the messages that satisfy the query: those of its cursor.
 ///
 /// # Errors
 ///
-/// `AllocError` where the memory of the cursor or of the answer is refused.
+/// `AllocError` if the memory of the cursor or of the result is refused.
 pub fn matches(alloc: Global, index: &IndexView<'_>, query: &Query) -> Result<Vec<u32>, AllocError>
     ensures { IfOk result (λ v. v.items ≡ chosen_numbers index.now (meaning query.now)) }
 {

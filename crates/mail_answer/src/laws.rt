@@ -11,21 +11,21 @@ ghost use Rattle.mail_answer.specs.Threads.{AreThreads};
 ghost use Rattle.mail_answer.specs.Verified.{unverified_archive, AreVerified};
 ghost use Rattle.mail_query.specs.Query.{Query};
 
-/// A list of numbers has no two different lists of threads.
+/// A list of numbers has only one list of threads.
 pub fn one_list_of_threads()
     ensures { (t : Table) (numbers members others : List ℕ) → AreThreads t numbers members
         → AreThreads t numbers others → members ≡ others }
 {}
 
-/// Messages that were cut out of archives, of which none has CR as its last byte, are cut again where each is closed and they
-/// are joined: into these messages in order, each with the line feeds that close it.
+/// Messages that were cut out of archives, closed and joined, are cut again into these messages in order, each with the
+/// line feeds that close it. None of them may end in CR.
 pub fn closed_messages_are_cut_again()
     ensures { (texts : List (List ℕ)) → All IsCutOut texts
         → All (λ text. ends_in_return text ≡ false) texts
         → IsCutInto (flat_map closed texts) (map closed texts) }
 {}
 
-/// What is chosen are messages of the table: by a query alone, and with their threads.
+/// Every chosen number is that of a message of the table: by a query alone, and with threads.
 pub fn chosen_numbers_are_those_of_messages()
     ensures alone { (t : Table) (q : Query) → All (λ n. n < length t.messages)
         (chosen_numbers t q) }
@@ -33,19 +33,20 @@ pub fn chosen_numbers_are_those_of_messages()
         → All (λ n. n < length t.messages) members }
 {}
 
-/// A table has an answer to each search. So a clause that speaks of each answer of a table always speaks of one.
+/// A table has an answer to each search. So a clause about each answer of a table is always about at least one.
 pub fn every_table_answers()
     ensures { (t : Table) (s : Search) (held : Option (List (List ℕ))) → (a : TableAnswer)
         × IsTableAnswer t s held a }
 {}
 
-/// A table has no two different answers to one search.
+/// A table has only one answer to a search.
 pub fn one_answer_of_a_table()
     ensures { (t : Table) (s : Search) (held : Option (List (List ℕ))) (a b : TableAnswer)
         → IsTableAnswer t s held a → IsTableAnswer t s held b → a ≡ b }
 {}
 
-/// Archives are verified exactly where they are those that were indexed: as many, and each of the same length and digest.
+/// Archives are verified exactly if they are those that were indexed: as many, and each with the same length and
+/// digest.
 pub fn verified_archives_are_those_indexed()
     ensures only { (named : List Archive) (archives : List (List ℕ))
         → unverified_archive named archives ≡ None → AreVerified named archives }

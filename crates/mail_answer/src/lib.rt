@@ -1,4 +1,5 @@
-//! Answers to queries from an index: which of its messages satisfy a query, which threads they are in, and how they are written.
+//! Answers queries from an index: which of its messages satisfy a query, which threads they are in, and how they are
+//! written.
 #![tactic(auto)]
 
 mod answers;

@@ -1,7 +1,7 @@
--- Laws of archives that are asked for their lengths in order.
+-- Archives whose lengths are read in order agree with the index, one archive after another.
 use Rattle.mail_answer.proofs.Words.{◌≡◌, ℕ, ◌+◌, ◌<◌, List, [], ◌∷◌, ◌++◌, map, length, length-take, take, take-add, drop, drop-cons, Option, IfSome, Ok, ap, sym, ◌∙◌, subst, arith, length-map, map-append, Archive, archive_at, TellLengths, indexed_lengths, Agree, Ghosts}
 
--- one archive more was asked
+-- the length of one more archive was read
 tell_more : {A : Type 0} (g : Ghosts A) (n : ℕ) (lengths : List ℕ) (l : ℕ) (old before new : A) → TellLengths g n lengths old before → g.measures before (n + length lengths) (Ok l) new → TellLengths g n (lengths ++ l ∷ []) old new
 tell_more {A} g n [] l old before new e m = grind arith
 tell_more {A} g n (k ∷ lengths) l old before new told m =

@@ -1,4 +1,4 @@
--- Laws of what calls do to archives and to an output.
+-- What two calls do to archives and to an output, one after the other, is what one call may do.
 use Rattle.mail_answer.proofs.Words.{◌∙◌, refl, HoldsArchives, KeepsArchives, Ghosts}
 
 pub keeps_self : {A : Type 0} (g : Ghosts A) (a : A) → KeepsArchives g a a

@@ -1,9 +1,9 @@
--- Laws of digests that are taken of archives piece by piece.
+-- The digest of an archive that is read piece by piece is that of all its bytes, because the pieces are its front.
 use Rattle.mail_answer.proofs.Words.{◌≡◌, ℕ, ◌+◌, List, [], ◌∷◌, ◌++◌, append-nil, length, length-append, take, take-add, take_all, Option, Some, IfSome, Ok, ap, ap₂, sym, ◌∙◌, le-leb, subst, arith, concat-append, concat, sha256, archive_at, IsRead, front_digest, AbsorbsPart, ReadsDigest, TellPieces, ReadsFront, Ghosts}
 use Rattle.sha2.specs.Hashers.{Holds256}
 use Rattle.sha2.specs.declared.Sha256.{Sha256}
 
--- So many bytes were taken into a digest: those of an archive before this place. They were read since it was these archives.
+-- The digest has this many bytes: those of an archive before this offset. They were read since `first`.
 pub record AbsorbedTo {A : Type 0} (g : Ghosts A) (archive at : ℕ) (first now : A) (h : Sha256) : Type 0 where
   pub bytes : List ℕ
   pub number : length bytes ≡ at
@@ -14,7 +14,7 @@ more_in_front : (held : Option (List (List ℕ))) (archive at count : ℕ) (byte
     → IsRead archive at more held → IfSome held (λ archives. bytes ++ more ≡ take (at + count) (archive_at archives archive))
 more_in_front held archive at count bytes more h h2 h3 = grind (arith, take-add)
 
--- one piece more was read
+-- one more piece was read
 more_pieces : {A : Type 0} (g : Ghosts A) (n offset : ℕ) (pieces : List (List ℕ)) (piece : List ℕ) (old before new : A) → TellPieces g n offset pieces old before
     → g.reads before n (offset + length (concat pieces)) (Ok piece) new → TellPieces g n offset (pieces ++ piece ∷ []) old new
 more_pieces {A} g n offset [] piece old before new e told = grind arith
@@ -22,7 +22,7 @@ more_pieces {A} g n offset (p ∷ pieces) piece old before new so_far told =
     let behind : offset + length (p ++ concat pieces) ≡ offset + length p + length (concat pieces) = omega (arith, length-append p (concat pieces)) in
     (so_far.0, so_far.1, more_pieces g n (offset + length p) pieces piece so_far.0 before new so_far.2 (subst (λ (k : ℕ). g.reads before n k (Ok piece) new) behind told))
 
--- the bytes that were read before a place
+-- the bytes that were read before an offset
 front_at : (held : Option (List (List ℕ))) (archive at : ℕ) (bytes : List ℕ) → length bytes ≡ at → IfSome held (λ archives. bytes ≡ take (length bytes) (archive_at archives archive))
     → IfSome held (λ archives. bytes ≡ take at (archive_at archives archive))
 front_at held archive at bytes number known = subst (λ (k : ℕ). IfSome held (λ archives. bytes ≡ take k (archive_at archives archive))) number known
@@ -48,7 +48,7 @@ more_absorbed {A} g archive at count first before now h k so_far next =
       };
     }
 
--- what was taken into it are as many bytes as were asked for
+-- the digest has as many bytes as were wanted
 pub all_read : {A : Type 0} (g : Ghosts A) (archive at indexed : ℕ) (first now : A) (h : Sha256) (digest : List ℕ) → AbsorbedTo g archive at first now h → at ≡ indexed
     → ((m : List ℕ) → Holds256 h m → digest ≡ sha256 m) → ReadsDigest g archive indexed first now (Some digest)
 all_read g archive at indexed first now h digest so_far end told = (so_far.bytes, so_far.read, so_far.number ∙ end, told so_far.bytes so_far.holds)

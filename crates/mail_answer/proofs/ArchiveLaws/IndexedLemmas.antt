@@ -1,7 +1,7 @@
--- The messages of an index lie inside archives that are as they were indexed.
+-- The messages of an index are within archives that are as they were indexed, because these have the indexed lengths.
 use Rattle.mail_answer.proofs.Words.{◌≡◌, ℕ, zero, suc, ◌+◌, ◌<◌, ◌≤◌, ◌^◌, List, [], ◌∷◌, length, Option, None, Some, IfSome, arith, eqb-true, AllByRecursion, Record, Archive, Table, IsArchive, IsMessage, IsWellFormed, archive_length, archive_at, IsInside, span_reading, first_changed, stale_archive, record_at}
 
--- the first archive hasn't changed, nor those behind it
+-- the first archive hasn't changed, nor those after it
 head_unchanged : (n : ℕ) (a : Archive) (named : List Archive) (bytes : List ℕ) (archives : List (List ℕ)) → first_changed n (a ∷ named) (bytes ∷ archives) ≡ None
     → (length bytes ≡ a.length) × (first_changed (n + 1) named archives ≡ None)
 head_unchanged n a named bytes archives u = grind (arith, eqb-true)
@@ -14,7 +14,7 @@ unchanged_length n (a ∷ named) [] k e h u = absurd (omega arith)
 unchanged_length n (a ∷ named) (bytes ∷ archives) zero e h u = (head_unchanged n a named bytes archives u).0
 unchanged_length n (a ∷ named) (bytes ∷ archives) (suc k) e h u = unchanged_length (n + 1) named archives k (omega arith) (omega arith) (head_unchanged n a named bytes archives u).1
 
--- as many archives as there were
+-- there are as many archives as there were
 pub same_number : (named : List Archive) (archives : List (List ℕ)) → stale_archive named archives ≡ None → (length archives ≡ length named) × (first_changed 0 named archives ≡ None)
 same_number named archives s = grind (arith, eqb-true)
 
@@ -50,6 +50,6 @@ message_inside t held number n w h e s =
         let long : length (archive_at archives (record_at t.messages n).archive) ≡ archive_length t.archives (record_at t.messages n).archive = unchanged_length 0 t.archives archives (record_at t.messages n).archive same.0 x same.1 in
         omega arith
 
--- and each has some bytes
+-- each message has at least one byte
 pub message_some : (t : Table) (n : ℕ) → IsWellFormed t → n < length t.messages → 0 < (record_at t.messages n).length
 message_some t n w h = let m : IsMessage t.archives (record_at t.messages n) = message_in t.archives t.messages n h w.messages in omega (arith, m.size)

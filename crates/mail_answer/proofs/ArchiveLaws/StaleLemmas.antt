@@ -1,4 +1,4 @@
--- Laws of archives that have changed.
+-- The first changed archive is found by going from one archive to the next.
 use Rattle.mail_answer.proofs.Words.{◌≡◌, ℕ, ◌+◌, suc, ◌<◌, ◌≤◌, ◌==◌, cond, min, List, [], ◌∷◌, length, length-drop, drop, drop-cons, get_or, Option, None, Some, IfSome, zero, refl, ap, add-one, arith, ne_eqb, Archive, archive_at, first_changed, stale_archive, length_at}
 use Rattle.std.proofs.lemmas.Bool.{eq-eqb}
 
@@ -10,7 +10,7 @@ length_in [] n h = absurd (omega arith)
 length_in (a ∷ rest) zero h = refl
 length_in (a ∷ rest) (suc n) h = length_in rest n (omega arith)
 
--- the next archive of those that were indexed
+-- the next of the indexed archives
 pub next_named : (named : List Archive) (n : ℕ) (a : Archive) (rest : List Archive) → drop n named ≡ a ∷ rest → (length_at named n ≡ a.length) × (drop (n + 1) named ≡ rest)
 next_named [] zero a rest e = absurd cc
 next_named [] (suc n) a rest e = absurd cc
@@ -26,7 +26,7 @@ named_here named n a rest e = let long : length (drop n named) ≡ suc (length r
 pub none_left : (named : List Archive) (n : ℕ) → n ≤ length named → drop n named ≡ [] → n ≡ length named
 none_left named n h e = let long : length (drop n named) ≡ 0 = ap length e in omega (arith, long, length-drop n named)
 
--- the answer at an archive, and what is left behind it
+-- the result at an archive, and at those after it
 changed_next : (named : List Archive) (bytes : List (List ℕ)) (n : ℕ) → n < length named → n < length bytes
     → first_changed n (drop n named) (drop n bytes) ≡ cond (length (archive_at bytes n) == length_at named n) (first_changed (n + 1) (drop (n + 1) named) (drop (n + 1) bytes)) (Some n)
 changed_next named bytes n h k = grind (arith, drop-cons, no_archive, length_in, add-one)

@@ -1,4 +1,5 @@
--- Laws of archives with other bytes than those that were indexed.
+-- Archives are verified exactly if they are those that were indexed, because each digest is compared with the indexed
+-- one.
 use Rattle.mail_answer.proofs.Words.{◌≡◌, ℕ, zero, suc, ◌+◌, ◌<◌, Bool, true, false, ◌==◌, cond, List, [], ◌∷◌, ◌++◌, map, length, length-take, take, take-add, take_all, drop, drop-cons, Option, None, Some, IfSome, bytes_eq, refl, ap, ap₂, sym, ◌∙◌, subst, add-one, Result, Ok, Err, OnOk, arith, eqb-true, length-map, map-append, bytes_eq-Decides, AllByRecursion, option_map_or, option_or, sha256, Archive, IsArchive, archive_length, archive_at, front_digest, ReadsDigest, ReadsFront, first_changed, stale_archive, TellsStale, has_digest, first_altered, unverified_archive, AreVerified, TellsVerified, ReadEach, AreRead, FindsDigests, Ghosts, AnswerFaultKind, Stale, Device, OutOfMemory, OutFailed}
 use Rattle.std.proofs.lemmas.Bool.{eq-eqb}
 use Rattle.std.specs.Option.{option_eq}
@@ -11,7 +12,7 @@ use Rattle.mail_index.specs.Versions.{IsDigest}
 use Rattle.mail_answer.proofs.ArchiveLaws.DigestLemmas.{whole_digest}
 use Rattle.mail_answer.proofs.ArchiveLaws.IndexedLemmas.{same_number, unchanged_length}
 
--- what a test that went well lets follow
+-- what follows from a test that succeeded
 tested : (b : Bool) (next : Option ℕ) (n : ℕ) → cond b next (Some n) ≡ None → (b ≡ true) × (next ≡ None)
 tested b next n h = grind arith
 
@@ -24,7 +25,7 @@ digest_told digest bytes h = grind (arith, bytes_eq-Decides)
 told_digest : (digest : Option (List ℕ)) (bytes : List ℕ) → digest ≡ Some (sha256 bytes) → option_map_or (λ d. bytes_eq d (sha256 bytes)) digest false ≡ true
 told_digest digest bytes e = ap (λ told. option_map_or (λ d. bytes_eq d (sha256 bytes)) told false) e ∙ (bytes_eq-Decides (sha256 bytes) (sha256 bytes)).1 refl
 
--- ---- none is unverified exactly where each is as it was indexed
+-- ---- none is unverified exactly if each is as it was indexed
 
 lengths_from : (n : ℕ) (named : List Archive) (archives : List (List ℕ)) → length archives ≡ length named → first_changed n named archives ≡ None → map (λ a. a.length) named ≡ map length archives
 lengths_from n [] [] e h = refl
@@ -63,17 +64,17 @@ from_digests n (a ∷ named) (bytes ∷ archives) h =
 pub verified_are : (named : List Archive) (archives : List (List ℕ)) → unverified_archive named archives ≡ None → AreVerified named archives
 verified_are named archives h = grind (arith, neither, same_number, lengths_from, digests_from)
 
--- and those that were indexed are verified
+-- archives that were indexed are verified
 pub are_verified : (named : List Archive) (archives : List (List ℕ)) → AreVerified named archives → unverified_archive named archives ≡ None
 are_verified named archives are = grind (arith, length-map, eq-eqb, from_lengths, from_digests)
 
 -- ---- archive after archive
 
--- nothing was told of the archives from this one on
+-- no archive before this one was found to be altered
 abbrev pub UnalteredTo : List Archive → Option (List (List ℕ)) → ℕ → List Archive → Type 0
 UnalteredTo named held n rest = IfSome held (λ archives. first_altered 0 named archives ≡ first_altered n rest (drop n archives))
 
--- the answer at an archive, and what is left behind it
+-- the result at an archive, and at those after it
 altered_next : (n : ℕ) (a : Archive) (rest : List Archive) (archives : List (List ℕ)) → n < length archives
     → first_altered n (a ∷ rest) (drop n archives) ≡ cond (has_digest a (archive_at archives n)) (first_altered (n + 1) rest (drop (n + 1) archives)) (Some n)
 altered_next n a rest archives h =
@@ -91,7 +92,7 @@ fresh_length : (named : List Archive) (archives : List (List ℕ)) (n : ℕ) (a 
     → (length archives ≡ length named) × (length (archive_at archives n) ≡ a.length)
 fresh_length named archives n a rest fresh h e = grind (arith, same_number, unchanged_length, named_length)
 
--- so that what was read of its front tells whether the digest is the one that was indexed
+-- so the bytes that were read of its front decide whether the digest is the indexed one
 pub told_next : (named : List Archive) (held : Option (List (List ℕ))) (n : ℕ) (a : Archive) (rest : List Archive) (read : Option (List ℕ)) → n < length named → drop n named ≡ a ∷ rest
     → IfSome held (λ archives. stale_archive named archives ≡ None) → UnalteredTo named held n (drop n named) → IfSome held (λ archives. read ≡ front_digest a.length (archive_at archives n))
     → IfSome held (λ archives. first_altered 0 named archives ≡ cond (option_eq bytes_eq a.digest read) (first_altered (n + 1) rest (drop (n + 1) archives)) (Some n))
@@ -106,7 +107,7 @@ told_next named (Some archives) n a rest read h e fresh so_far told =
     has_is None d = refl
     has_is (Some x) d = refl
 
--- by digests, where no archive is stale
+-- the result is decided by digests if no archive is stale
 pub told_by_digests : {T : Type 0} (named : List Archive) (held : Option (List (List ℕ))) (r : Result T AnswerFaultKind) → IfSome held (λ archives. stale_archive named archives ≡ None)
     → IfSome held (λ archives. TellsStale (first_altered 0 named archives) r) → IfSome held (λ archives. TellsVerified named archives r)
 told_by_digests {T} named None r fresh h = tt
@@ -116,9 +117,9 @@ told_by_digests {T} named (Some archives) (Err Device) fresh h = tt
 told_by_digests {T} named (Some archives) (Err OutOfMemory) fresh h = absurd h
 told_by_digests {T} named (Some archives) (Err OutFailed) fresh h = absurd h
 
--- ---- what was read of each, also where no bytes are known
+-- ---- what was read of each archive, also if no bytes are known
 
--- one archive more was read
+-- one more archive was read
 more_each : {A : Type 0} (g : Ghosts A) (n : ℕ) (archives : List (List ℕ)) (bytes : List ℕ) (old before new : A) → ReadEach g n archives old before → ReadsFront g (n + length archives) bytes before new
     → ReadEach g n (archives ++ bytes ∷ []) old new
 more_each {A} g n [] bytes old before new e front = grind arith
@@ -149,7 +150,7 @@ same_read g n count None read before new some same told = absurd (some refl)
 same_read g n count (Some d) None before new some same told = absurd cc
 same_read g n count (Some d) (Some e) before new some same told = (told.0, told.1, told.2, ap Some ((bytes_eq-Decides d e).0 same ∙ told.3))
 
--- one archive more has it
+-- one more archive has the indexed digest
 pub more_read : {A : Type 0} (g : Ghosts A) (named : List Archive) (n : ℕ) (a : Archive) (rest : List Archive) (read : Option (List ℕ)) (old before new : A) → n < length named → drop n named ≡ a ∷ rest
     → AllByRecursion (IsArchive 2) named → IfSome (g.held old) (λ archives. stale_archive named archives ≡ None) → g.held before ≡ g.held old → option_eq bytes_eq a.digest read ≡ true
     → ReadsDigest g n a.length before new read → AreRead g named n old before → AreRead g named (n + 1) old new
@@ -179,9 +180,9 @@ pub read_of_all : {A T : Type 0} (g : Ghosts A) (named : List Archive) (old new 
 read_of_all {A} {T} g named old new (Ok x) found = (found.archives, subst (λ (front : List Archive). AreVerified front found.archives) (take_all (length named) named (omega arith)) found.verified)
 read_of_all {A} {T} g named old new (Err kind) found = tt
 
--- ---- faults before any byte went out
+-- ---- faults before any byte was sent
 
--- a call's answer, told with the count of bytes that were sent
+-- the result of a call as a result with the number of bytes sent: with a fault this is 0
 abbrev pub IsUnsent : {T : Type 0} → Result T AnswerFaultKind → Result T AnswerFault → Type 0
 IsUnsent r told = MatchResult r (λ x. told ≡ Ok x) (λ kind. IsErrAnd told (λ fault. fault ≡ record { kind = kind; sent = 0 }))
 

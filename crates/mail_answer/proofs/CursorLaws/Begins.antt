@@ -1,4 +1,4 @@
--- What the walks of queries tell, node by node.
+-- The walk of a query gives exactly the messages that satisfy it, by the walks of its members.
 use Rattle.mail_answer.proofs.Words.{◌≡◌, ◌∙◌, ◌+◌, ◌*◌, ◌^◌, ◌<◌, ◌≤◌, ℕ, Bool, false, not, ◌&&◌, ◌||◌, List, [], ◌∷◌, ◌++◌, length, map, range_with_len, append_assoc, refl, sym, ap, subst, arith, Result, Ok, Err, IfOk, Vec, Global, rules, eqb, Option, add-mul, cases_order, eqb-false, get_or_past, Table, Node, the_lemmas, Query, Date, Size, Not, All, Either, query_of, queries_of, members_of, is_true, each_is_true, some_is_true, facts_at, truths, chosen_numbers, truth_at, most_left, most_left_of_all, look_ups, look_ups_of_all, LooksUp, Ahead, common, united, others, left_in, some_has, numbers_from}
 use Rattle.std.proofs.lemmas.Bool.{le-leb}
 use Rattle.std.proofs.lemmas.List.{append-nil}
@@ -43,7 +43,7 @@ tells_chosen t q count xs long tells = grind (arith, filter_alike, le-leb)
 pub some_walk : (len long : ℕ) → len ≡ long → eqb len 0 ≡ false → 0 < long
 some_walk len long same other = grind (arith, cases_order, eqb-false)
 
--- what is asked of a record asks nothing else of the table
+-- a condition on a record depends on nothing else in the table
 asked_alike : (t : Table) (asked : Asked) (n : ℕ) → satisfies t.messages asked n ≡ is_true (asked_query asked) (facts_at t n)
 asked_alike t Any n = refl
 asked_alike t (asked_of.Date range) n = refl
@@ -107,7 +107,7 @@ tells_united t qs ws tells = grind (arith, united-at, some_told, some_past)
 pub tells_either : (t : Table) (q : Query) (qs : List Query) (ws : List Ahead) (xs : List Bool) → q ≡ Either (members_of qs) → xs ≡ united ws → TellAll t qs ws → Tells t q xs
 tells_either t q qs ws xs is all tells = grind (arith, tells_united)
 
--- the same where they are joined in groups
+-- the same if the walks are joined in groups
 pub tells_grouped : {E : Type 0} (t : Table) (q : Query) (qs : List Query) (ws : List Ahead) (r : Result Ahead E) → q ≡ Either (members_of qs) → TellAll t qs ws
     → IfOk r (λ w. (m : ℕ) → truth_at w.truths m ≡ some_has m ws) → IfOk r (λ w. Tells t q w.truths)
 tells_grouped t q qs ws r h h2 h3 = grind (arith, some_told, some_past)
@@ -137,7 +137,7 @@ tells_none t q qs ws count inner (Ok w) is none long all tells given =
 
 -- ---- member after member
 
--- the walks so far, and those of the queries to come
+-- the walks so far, and those of the queries that still come
 pub record HaveWalks (t : Table) (all coming : List Query) (ws : List Ahead) (steps_old steps_new : ℕ) : Type 0 where
   pub told : (rest : List Ahead) → TellAll t coming rest → TellAll t all (ws ++ rest)
   pub left : left_in ws + most_left_of_all t (members_of coming) ≤ most_left_of_all t (members_of all)

@@ -1,4 +1,4 @@
--- A text within another.
+-- A search for a text within another finds it exactly if it begins at some place, byte by byte.
 use Rattle.mail_answer.proofs.Words.{◌≡◌, ◌∙◌, ◌+◌, ◌<◌, ◌≤◌, ℕ, zero, suc, true, false, List, [], ◌∷◌, length, take, Option, Some, None, sym, ap, arith, nat_eq, is_some, starts_with, slice_index, ext_get_or, get_or-take, false_from_ne_true, or_left, or_right, or_from, bytes_eq-Decides, contains_text}
 use Rattle.std.proofs.lemmas.List.{length-take-le, length-take}
 use Rattle.memchr.specs.Find.{OccursAt, FindsNeedle}
@@ -16,7 +16,7 @@ begins_from hay needle at =
 begins_at : (hay needle : List ℕ) → starts_with nat_eq hay needle ≡ true → OccursAt hay needle 0
 begins_at hay needle begins = grind (arith, bytes_eq-Decides, length-take, get_or-take)
 
--- one byte on
+-- the same place, one byte later
 later : (b : ℕ) (hay needle : List ℕ) (k : ℕ) → OccursAt hay needle k → OccursAt (b ∷ hay) needle (suc k)
 later b hay needle k at = grind arith
 

@@ -1,4 +1,4 @@
--- Walks made one, group by group.
+-- Walks that are joined group by group have the messages of all of them, and each round leaves fewer walks.
 use Rattle.mail_answer.proofs.Words.{◌≡◌, ◌∙◌, ◌+◌, ◌-◌, ◌*◌, ◌<◌, ◌≤◌, ℕ, Bool, ◌||◌, List, [], ◌∷◌, ◌++◌, length, take, drop, refl, sym, ap, arith, length-append, take-append-drop, or_assoc, truth_at, Ahead, united, left_in, some_has}
 use Rattle.std.proofs.lemmas.List.{length-take-le}
 use Rattle.mail_answer.proofs.CursorLaws.Members.{united-at, some-append}
@@ -15,7 +15,7 @@ left-joined : (xs ys : List Ahead) → left_in (xs ++ ys) ≡ left_in xs + left_
 left-joined [] ys = omega arith
 left-joined (x ∷ xs) ys = omega (arith, left-joined xs ys)
 
--- the groups so far, and the walks that are in none yet
+-- the groups so far, and the walks that aren't in a group yet
 pub record HaveGrouped (all groups walks : List Ahead) : Type 0 where
   pub each : (m : ℕ) → (some_has m groups || some_has m walks) ≡ some_has m all
   pub left : left_in groups + left_in walks ≡ left_in all

@@ -1,4 +1,4 @@
--- A posting list whose front is gone.
+-- A posting list whose first numbers are dropped still has all others, because its numbers rise.
 use Rattle.mail_answer.proofs.Words.{◌≡◌, ◌∙◌, ◌<◌, ◌≤◌, ℕ, suc, true, false, List, [], ◌∷◌, ◌++◌, append_assoc, Option, Some, None, refl, sym, ap, subst, arith, MatchOption, AllByRecursion, option_to_list, ltb-true, ltb-false, cases_lt, ne_eqb, RisesFrom, is_among, truth_at, Drops, IsFirst, numbers_ahead, truths_among, AreNumbers, is_before, slice_get}
 use Rattle.std.proofs.lemmas.List.{append-nil}
 use Rattle.std.proofs.lemmas.Bool.{eq-eqb}
@@ -40,7 +40,7 @@ past_all count m (n ∷ ns) past below = grind (arith, ne_eqb, past_all count m 
 pub among-at : (count m : ℕ) (ns : List ℕ) → AreNumbers count ns → truth_at (truths_among count ns) m ≡ is_among m ns
 among-at count m ns are = grind (arith, cases_lt, each-at, each-past, past_all)
 
--- ---- the front goes
+-- ---- the first numbers are dropped
 
 pub cut_none : (first : Option ℕ) (n : ℕ) (ns : List ℕ) → is_before first n ≡ false → RisesFrom 0 (numbers_ahead first ns) → AreCut n (numbers_ahead first ns) (numbers_ahead first ns)
 cut_none first n ns h h2 = grind (arith, ltb-false)
@@ -48,7 +48,7 @@ cut_none first n ns h h2 = grind (arith, ltb-false)
 before_all : (first : Option ℕ) (n : ℕ) → is_before first n ≡ true → AllByRecursion (λ m. m < n) (option_to_list first)
 before_all first n h = grind (arith, ltb-true)
 
--- what a call of a posting list gives
+-- what a call of a posting list returns
 abbrev pub Gave : ℕ → List ℕ → List ℕ → Option ℕ → Type 0
 Gave n old new number =
     MatchOption number (AllByRecursion (λ m. m < n) old × (new ≡ []))
@@ -68,7 +68,7 @@ cut_more first n old new (Some m) before rises gave =
       rises = (gave.0, behind.1);
     }
 
--- ---- what is still to come of it
+-- ---- what still comes from it
 
 pub cut_numbers : (count n : ℕ) (old new : List ℕ) → AreNumbers count old → AreCut n old new → AreNumbers count new
 cut_numbers count n old new are cut = grind (arith, rises_lower, all_behind)
@@ -85,7 +85,7 @@ pub first_among : (count : ℕ) (ns : List ℕ) → AreNumbers count ns → IsFi
 first_among count [] h = grind (arith, among-at)
 first_among count (n ∷ ns) h = grind (arith, among-at, eq-eqb, not_below)
 
--- a first number that is far enough stays
+-- a first number that isn't below n stays
 pub stays_first : (count n : ℕ) (first : Option ℕ) (ns : List ℕ) → is_before first n ≡ false → AreNumbers count (numbers_ahead first ns) → IsFirst (truths_among count (numbers_ahead first ns)) first
 stays_first count n None ns far are = absurd cc
 stays_first count n (Some m) ns far are = first_among count (m ∷ ns) are
@@ -94,7 +94,7 @@ gave_first : (count n : ℕ) (old new : List ℕ) (number : Option ℕ) → Gave
 gave_first count n old new None gave are = subst (IsFirst (truths_among count new)) (ap (λ (ns : List ℕ). slice_get ns 0) gave.1) (first_among count new are)
 gave_first count n old new (Some m) gave are = first_among count (m ∷ new) are
 
--- another one is what the list gives
+-- otherwise the list gives the first number
 pub goes_on : (count n : ℕ) (first : Option ℕ) (old new : List ℕ) (number : Option ℕ) → is_before first n ≡ true → AreNumbers count (numbers_ahead first old) → Gave n old new number
     → AreNumbers count (numbers_ahead number new) × IsFirst (truths_among count (numbers_ahead number new)) number
 goes_on count n first old new number before are gave =

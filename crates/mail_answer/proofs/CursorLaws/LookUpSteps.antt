@@ -1,4 +1,4 @@
--- The exact steps of look-ups.
+-- The steps of look-ups are exactly the comparisons of their binary searches, kind by kind and member by member.
 use Rattle.mail_answer.proofs.Words.{◌≡◌, ◌∙◌, ◌+◌, ◌<◌, ◌≤◌, ℕ, true, false, List, [], ◌∷◌, ◌++◌, length, map, drop, get_or, sym, ap, arith, Result, Ok, Err, IfOk, filter, Kind, Text, OwnId, text_kinds, Key, Query, members_of, Kinds, is_in, compared_in_all, look_up_steps, look_up_steps_of_all, add_steps}
 use Rattle.mail_index.proofs.ViewLaws.StepLemmas.{add_steps-none, add_steps-both}
 use Rattle.mail_answer.proofs.CursorLaws.Texts.{coming_at}
@@ -10,7 +10,7 @@ if_always (Ok a) p = p
 pub none_taken : (old new : ℕ) → new ≡ old → new ≡ add_steps old 0
 none_taken old new same = same ∙ add_steps-none old
 
--- where no key is looked up
+-- if no key is looked up, no comparison is made
 pub none_compared : (kinds : List Kind) → compared_in_all (λ kind. 0) kinds ≡ 0
 none_compared [] = omega arith
 none_compared (kind ∷ kinds) = omega (arith, none_compared kinds)
@@ -36,7 +36,7 @@ module _ (compared : Kind → ℕ) (kinds : Kinds) (items : List Kind) (i : ℕ)
       → add_steps old (compared_in_all compared (filter (is_in kinds) (drop (i + 1) items))) ≡ add_steps start total
   compared_skip lt e before = ap (λ (ks : List Kind). add_steps old (compared_in_all compared ks)) (sym (coming_at kinds items i d false lt e)) ∙ before
 
--- behind the last kind
+-- after the last kind
 pub all_compared : (compared : Kind → ℕ) (i : ℕ) (kinds : Kinds) (start old total : ℕ) → 8 ≤ i → i ≤ 8
     → add_steps old (compared_in_all compared (filter (is_in kinds) (drop i (map Text text_kinds ++ OwnId ∷ [])))) ≡ add_steps start total → old ≡ add_steps start total
 all_compared compared i kinds start old total from to before =

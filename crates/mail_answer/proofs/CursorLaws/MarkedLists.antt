@@ -1,4 +1,4 @@
--- Lists whose messages are marked, window by window.
+-- The marks of a window and the rest of the lists have the same messages as the lists had, list by list.
 use Rattle.mail_answer.proofs.Words.{◌≡◌, ◌∙◌, ◌+◌, ◌-◌, ◌^◌, ◌<◌, ◌≤◌, ℕ, zero, suc, Bool, true, false, ◌||◌, max, List, [], ◌∷◌, ◌++◌, length, take, replicate, get_or, Option, Some, None, Result, IfOk, refl, sym, ap, subst, arith, inl, inr, list_any, sum_by, swap_remove, set, length-set, length-replicate, get_or-set_same, get_or-replicate, get_or_past, get_or_append_left, get_or-append-add, take-set, take-take, take_more_set, cases_lt, both_ways, or_left, or_right, or_from, lt-leb, or_assoc, or_comm, add_steps, truth_at, Adds, Ahead, Counts, Drops, IsFirst, left_in, united, lesser_of, AreFew, HaveMarks, IsFirstMark, marked_or_listed, those_from, truths_marked, some_has}
 use Rattle.std.proofs.lemmas.List.{take_all}
 use Rattle.std.proofs.lemmas.List.Sorted.{IsPermutation-swap_remove, list_any-IsPermutation}
@@ -20,14 +20,14 @@ or_with_false false b lacks = lacks
 lacks : (b : Bool) → (b ≡ true → ⊥) → b ≡ false
 lacks b h = grind arith
 
--- ---- one list of many changes, or is taken out
+-- ---- one of many lists changes, or is taken out
 
 some-set_same : (m : ℕ) (ws : List Ahead) (i : ℕ) (w v : Ahead) → i < length ws → w ≡ get_or ws i w → truth_at v.truths m ≡ truth_at w.truths m → some_has m (set ws i v) ≡ some_has m ws
 some-set_same m [] i w v lt is same = refl
 some-set_same m (x ∷ ws) zero w v lt is same = ap (λ (b : Bool). b || some_has m ws) (same ∙ ap (λ (a : Ahead). truth_at a.truths m) is)
 some-set_same m (x ∷ ws) (suc i) w v lt is same = ap (λ (b : Bool). truth_at x.truths m || b) (some-set_same m ws i w v (omega (arith, lt)) is same)
 
--- one that has the message no more
+-- the list doesn't have the message any more
 some-set_gone : (m : ℕ) (ws : List Ahead) (i : ℕ) (w v : Ahead) → i < length ws → w ≡ get_or ws i w → truth_at v.truths m ≡ false → (some_has m (set ws i v) || truth_at w.truths m) ≡ some_has m ws
 some-set_gone m [] i w v lt is gone = absurd (omega (arith, lt))
 some-set_gone m (x ∷ ws) zero w v lt is gone = grind (arith, or_comm)
@@ -69,7 +69,7 @@ turn_counts ws i left0 steps0 steps steps1 w v lt is earlier here = grind (arith
 
 -- ---- the messages of one list
 
--- those of the list in the window are marked or still to come, and those before it are gone
+-- messages of the list in the window are marked or still come, and those before it are dropped
 pub record HasMarked (start : ℕ) (list marks rest now : List Bool) : Type 0 where
   pub long : length now ≡ length marks
   pub moved : (k : ℕ) → k < length marks → (truth_at now k || truth_at rest (start + k)) ≡ (truth_at marks k || truth_at list (start + k))
@@ -82,7 +82,7 @@ abbrev pub room_behind : Option ℕ → ℕ
 room_behind None = 0
 room_behind (Some n) = 2 ^ 32 - n
 
--- what dropping leaves came before
+-- what dropping leaves was there before
 kept : (n : ℕ) (xs ys : List Bool) → Drops n xs ys → (m : ℕ) → truth_at ys m ≡ true → truth_at xs m ≡ true
 kept n xs ys drops m here = grind (arith, cases_lt, both_ways)
 
@@ -95,7 +95,7 @@ module _ (start : ℕ) (list marks rest now : List Bool) (has : HasMarked start 
 
 -- ---- the messages of all lists
 
--- those of the lists in the window are marked or still to come; those of the first lists up to its end are gone
+-- messages of the lists in the window are marked or still come; those of the first lists up to its end are dropped
 pub record HaveMarked (start : ℕ) (lists : List Ahead) (marks : List Bool) (place : ℕ) (now_lists : List Ahead) (now : List Bool) (least : Option ℕ) : Type 0 where
   pub long : length now ≡ length marks
   pub moved : (k : ℕ) → k < length marks → (truth_at now k || some_has (start + k) now_lists) ≡ (truth_at marks k || some_has (start + k) lists)
@@ -123,7 +123,7 @@ module _ (start : ℕ) (lists : List Ahead) (marks : List Bool) (place : ℕ) (w
     some_behind : (m : ℕ) → start + length marks ≤ m → some_has m (set ws place v) ≡ some_has m ws
     some_behind m le = some-set_same m ws place w v lt is (drops.rest m le)
 
-    -- as of a list that stays, or of one that has come to its end
+    -- for a list that stays, or for one that has come to its end
     after : (vs : List Ahead) (place' : ℕ) (least' : Option ℕ) → ((m : ℕ) → some_has m vs ≡ some_has m (set ws place v))
         → ((m : ℕ) → m < start + length marks → some_has m (take place' vs) ≡ false) → Firsts (λ m. some_has m (take place' vs)) least' → HaveMarked start lists marks place' vs now' least'
     after vs place' least' same gone first = record {
@@ -222,7 +222,7 @@ padded-from start marks m le = grind (arith, padded-at)
 both-at : (start : ℕ) (marks : List Bool) (lists : List Ahead) (m : ℕ) → truth_at (marked_or_listed start marks lists) m ≡ (truth_at (replicate start false ++ marks) m || some_has m lists)
 both-at start marks lists m = grind (arith, one_or_other-at, united-at)
 
--- where the marks from a number on are false, those of the lists are left
+-- if the marks from a number on are false, the messages of the lists are left
 unmarked-at : (start low : ℕ) (marks : List Bool) (lists : List Ahead) → ((k : ℕ) → low ≤ start + k → truth_at marks k ≡ false) → (m : ℕ) → low ≤ m → truth_at (marked_or_listed start marks lists) m ≡ truth_at (united lists) m
 unmarked-at start low marks lists none m le = grind (arith, both-at, cases_lt, padded-before, padded-from, united-at)
 
@@ -234,7 +234,7 @@ none_at marks none k = ap (λ (xs : List Bool). truth_at xs k) none ∙ elim (ca
   | inr past ↦ get_or_past (replicate 4096 false) k false (omega (arith, past, length-replicate 4096 false))
 ]
 
--- a window of no messages
+-- a window without messages
 pub drops_at_once : (n : ℕ) (old new : List Bool) → Drops (n + 0) old new → Drops n old new
 drops_at_once n old new drops = let same : n + 0 ≡ n = omega arith in subst (λ (k : ℕ). Drops k old new) same drops
 
@@ -298,7 +298,7 @@ module _ (n start : ℕ) (cleared : List Bool) (lists cut : List Ahead) (few : A
     pub begun_first : IsFirst (marked_or_listed first now left) (Some first)
     begun_first = firsts_same (truth_at (united cut)) (truth_at (marked_or_listed first now left)) (Some first) same_as_moved is
 
--- ---- those from a number on
+-- ---- the messages from a number on
 
 those-from : (low : ℕ) (xs : List Bool) (m : ℕ) → low ≤ m → truth_at (those_from low xs) m ≡ truth_at xs m
 those-from low xs m le = grind (arith, cases_lt, each-at, le-leb, each-past, get_or_past)
@@ -306,7 +306,7 @@ those-from low xs m le = grind (arith, cases_lt, each-at, le-leb, each-past, get
 those-before : (low : ℕ) (xs : List Bool) (m : ℕ) → m < low → truth_at (those_from low xs) m ≡ false
 those-before low xs m before = grind (arith, cases_lt, each-at, lt-leb, each-past)
 
--- of which those below n are dropped
+-- of these, the ones below n are dropped
 drops_from : (n low low' : ℕ) (xs ys : List Bool) → low' ≡ max n low → ((m : ℕ) → low' ≤ m → truth_at ys m ≡ truth_at xs m) → Drops n (those_from low xs) (those_from low' ys)
 drops_from n low low' xs ys is same = grind (arith, cases_lt, those-before, those-from)
 

@@ -1,4 +1,4 @@
--- What the members of a node have done, member by member.
+-- The members of a node go on one after another, and together they drop exactly what the node drops.
 use Rattle.mail_answer.proofs.Words.{◌≡◌, ◌∙◌, ◌+◌, ◌<◌, ◌≤◌, ℕ, zero, suc, Bool, true, false, ◌&&◌, ◌||◌, max, List, [], ◌∷◌, ◌++◌, length, take, get_or, Option, Some, None, refl, sym, ap, arith, inl, inr, MatchOption, set, cases_lt, or_left, or_right, or_from, and_left, and_right, and_from, take_more, take_more_set, length-set, get_or-set_same, get_or-set_other, and-true, and_assoc, or-false, or_assoc, truth_at, Ahead, common, united, left_in, postings_in, levels, CountsPostings, Drops, IsFirst, Reaches, Spends, lesser_of, some_has}
 use Rattle.std.proofs.lemmas.List.{take_all}
 use Rattle.mail_answer.proofs.CursorLaws.TruthReads.{both-at, one_or_other-at}
@@ -37,7 +37,7 @@ pub turn_postings : (ws : List Ahead) (i postings0 steps0 steps steps1 : ℕ) (w
     → CountsPostings postings0 (postings_in ws) steps0 steps → CountsPostings w.postings v.postings steps steps1 → CountsPostings postings0 (postings_in (set ws i v)) steps0 steps1
 turn_postings ws i postings0 steps0 steps steps1 w v lt is before now = grind (arith, set, postings-set)
 
--- ---- each and some
+-- ---- in each walk, and in at least one
 
 unfoldable pub each_has : ℕ → List Ahead → Bool
 each_has m [] = true
@@ -65,7 +65,7 @@ each-append m (v ∷ ws) w = ap (λ (b : Bool). truth_at v.truths m && b) (each-
 front_lacks : (b front whole : Bool) → (front ≡ false → whole ≡ false) → (b && front) ≡ false → (b && whole) ≡ false
 front_lacks b front whole h h2 = grind arith
 
--- one that lacks it, or some front that does
+-- if one walk doesn't have the message, not each has it
 each-lacks : (m : ℕ) (ws : List Ahead) (i : ℕ) (w : Ahead) → i < length ws → w ≡ get_or ws i w → truth_at w.truths m ≡ false → each_has m ws ≡ false
 unfolding each_has
 each-lacks m [] i w lt is lacks = absurd (omega (arith, lt))
@@ -79,9 +79,9 @@ each-front m [] (suc i) lacks = lacks
 each-front m (x ∷ ws) zero lacks = absurd cc
 each-front m (x ∷ ws) (suc i) lacks = front_lacks (truth_at x.truths m) (each_has m (take i ws)) (each_has m ws) (each-front m ws i) lacks
 
--- ---- some member
+-- ---- at least one member
 
--- the first number that passes, if some does
+-- the first number that passes, if one passes
 abbrev pub Firsts : (ℕ → Bool) → Option ℕ → Type 0
 Firsts test number =
     MatchOption number ((m : ℕ) → test m ≡ false) (λ n. (test n ≡ true) × ((m : ℕ) → m < n → test m ≡ false))
@@ -92,7 +92,7 @@ firsts_same f g r h h2 = grind arith
 pub firsts_lesser : (f g : ℕ → Bool) (r s : Option ℕ) → Firsts f r → Firsts g s → Firsts (λ m. f m || g m) (lesser_of r s)
 firsts_lesser f g r s h h2 = grind (arith, or_from, or_right, or_left, cases_lt)
 
--- members that dropped what lies below n, and the first number that is still to come in some of them
+-- members that dropped all numbers below n, and the first number that still comes in one of them
 pub record HaveDropped (n : ℕ) (old new : List Ahead) (least : Option ℕ) : Type 0 where
   pub rest : (m : ℕ) → n ≤ m → some_has m new ≡ some_has m old
   pub below : (m : ℕ) → m < n → some_has m new ≡ false
@@ -118,7 +118,7 @@ dropped_first n old new least have = firsts_same (λ m. some_has m new) (truth_a
 
 -- ---- each member
 
--- members that went from one to the next: the first number that each may still have is at least this one
+-- the members went on, each from the number that the one before it reached; no number below this one is in each of them
 pub record HaveReached (n : ℕ) (old new : List Ahead) (number : ℕ) : Type 0 where
   pub from : n ≤ number
   pub rest : (m : ℕ) → number ≤ m → each_has m new ≡ each_has m old
@@ -176,7 +176,7 @@ pub reached_number : (n : ℕ) (old new : List Ahead) (number : ℕ) → 0 < len
 reached_number n old new number some have =
     (have.from, λ m lt. common-at m new some ∙ have.passed m some lt, λ same. common-at n new some ∙ have.reached same)
 
--- a member that has none ends them all
+-- a member without numbers ends them all
 pub ended_none : (new : List Ahead) (i : ℕ) (v : Ahead) → i < length new → IsFirst v.truths None → (m : ℕ) → truth_at (common (set new i v)) m ≡ false
 ended_none new i v lt none m =
     let long : length (set new i v) ≡ length new = length-set new i v in
@@ -197,7 +197,7 @@ ended_drops n old new i number w v lt long is have drops none =
 
 -- ---- round after round
 
--- what came before has nothing from n on, and what lies from the number on is as it was
+-- no number from n up to this one was in the list, and from this one on it is unchanged
 pub record HasRisen (n : ℕ) (old : List Bool) (number : ℕ) (xs : List Bool) : Type 0 where
   pub from : n ≤ number
   pub rest : (m : ℕ) → number ≤ m → truth_at xs m ≡ truth_at old m
@@ -205,7 +205,7 @@ pub record HasRisen (n : ℕ) (old : List Bool) (number : ℕ) (xs : List Bool) 
 
 -- ---- the loop over members
 
--- those from a number on are as they were
+-- the members from this place on are unchanged
 abbrev pub Unvisited : List Ahead → List Ahead → ℕ → Type 0
 Unvisited old new i = (length new ≡ length old) × ((k : ℕ) (d : Ahead) → i ≤ k → get_or new k d ≡ get_or old k d)
 

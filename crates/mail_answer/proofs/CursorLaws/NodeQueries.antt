@@ -1,4 +1,4 @@
--- What a node asks, by its kind.
+-- The query of a node, by its kind.
 use Rattle.mail_answer.proofs.Words.{◌≡◌, ℕ, List, Vec, Global, rules, Kinds, Node, the_lemmas, Any, Word, Part, Prefix, Either, query_of, queries_of, members_of}
 use Rattle.mail_query.specs.declared.node.Node as node
 

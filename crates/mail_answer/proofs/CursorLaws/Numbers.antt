@@ -1,4 +1,4 @@
--- The numbers that a cursor gives.
+-- A cursor returns the numbers of its walk in order, because it goes on past each number that it returned.
 use Rattle.mail_answer.proofs.Words.{◌≡◌, ◌∙◌, ◌+◌, ◌<◌, ◌≤◌, ℕ, zero, suc, Bool, true, false, cond, ◌&&◌, max, List, [], ◌∷◌, ◌++◌, Option, Some, None, refl, sym, ap, subst, arith, inl, inr, nat_le, filter, range_with_len, AllByRecursion, cases_lt, lt-leb, both_ways, truth_at, Drops, IsFirst, numbers_from, AreWithin, TakesFirst, TakesFrom}
 use Rattle.std.proofs.lemmas.List.{append-nil}
 use Rattle.std.proofs.lemmas.Bool.{le-leb}
@@ -22,7 +22,7 @@ skips f a n fails = ap (λ (b : Bool). cond b (a ∷ filter f (range_with_len (a
 takes : (f : ℕ → Bool) (a n : ℕ) → f a ≡ true → filter f (range_with_len a (suc n)) ≡ a ∷ filter f (range_with_len (a + 1) n)
 takes f a n holds = ap (λ (b : Bool). cond b (a ∷ filter f (range_with_len (a + 1) n)) (filter f (range_with_len (a + 1) n))) holds
 
--- from a number on
+-- whether a number passes and isn't below `low`
 abbrev from : ℕ → (ℕ → Bool) → ℕ → Bool
 from low f n = nat_le low n && f n
 
@@ -47,14 +47,14 @@ first_of_range f k a (suc n) le lt holds none =
           ∙ ap (λ (ns : List ℕ). k ∷ ns) (filter_alike f (from (suc k) f) (a + 1) n (λ m above below. sym (from-behind (suc k) f m (omega (arith, above, same)))) ∙ sym skip)
     ]
 
--- the numbers of a list of truths from a number on are those of what is left of it
+-- dropping the numbers below n leaves exactly the numbers from n on
 same_from : (n count : ℕ) (old new : List Bool) → Drops n old new → numbers_from n count old ≡ filter (truth_at new) (range_with_len 0 count)
 same_from n count old new drops = grind (arith, filter_alike, cases_lt, from-before, from-behind)
 
 pub within_still : (n count : ℕ) (old new : List Bool) → Drops n old new → AreWithin count old → AreWithin count new
 within_still n count old new drops within m holds = grind (arith, cases_lt, both_ways)
 
--- ---- those below n go first
+-- ---- the numbers below n come first
 
 pub record Split (n low : ℕ) (f : ℕ → Bool) (ns : List ℕ) : Type 0 where
   pub dropped : List ℕ
@@ -91,7 +91,7 @@ split_range n low f a (suc k) = elim (cases_lt a n) [
       split = skips (from low f) a k fails ∙ rest.split ∙ ap (λ (ns : List ℕ). rest.dropped ++ ns) (sym gone);
     }
 
--- none is below 0: the least from 0 on is the first
+-- no number is below 0, so the least number from 0 on is the first
 none_below : (ns : List ℕ) → AllByRecursion (λ m. m < 0) ns → ns ≡ []
 none_below [] all = refl
 none_below (n ∷ ns) all = absurd (omega (arith, all.0))
@@ -100,7 +100,7 @@ pub takes_first : (old new : List ℕ) (number : Option ℕ) → TakesFrom 0 old
 takes_first old new None h = (none_below old h.0, h.1)
 takes_first old new (Some m) h = h.1.2 ∙ ap (λ (ns : List ℕ). ns ++ m ∷ new) (none_below h.1.0 h.1.1)
 
--- a walk from the greater of n and low on takes the least from n on
+-- a walk from the greater of n and low gives the least number from n on
 pub takes_none : (n low start count : ℕ) (old new : List Bool) → start ≡ max n low → Drops start old new → IsFirst new None → TakesFrom n (numbers_from low count old) (numbers_from low count new) None
 takes_none n low start count old new is drops none =
     let s : Split n low (truth_at old) (range_with_len 0 count) = split_range n low (truth_at old) 0 count in

@@ -1,10 +1,11 @@
--- A walk along records.
+-- A walk along records gives exactly those that pass the test, because it reads each record once, in order.
 use Rattle.mail_answer.proofs.Words.{◌≡◌, ◌≢◌, ◌∙◌, ◌<◌, ◌≤◌, ℕ, Bool, true, false, ◌&&◌, max, Option, Some, None, sym, ap, arith, ltb-true, ltb-false, cases_lt, cases_order, ne_eqb, lt-leb, truth_at, Drops, IsFirst, is_before, is_ahead, truths_scanned, IsFound, Scans}
 use Rattle.std.proofs.lemmas.Bool.{eq-eqb, le-leb}
 use Rattle.mail_answer.proofs.CursorLaws.TruthReads.{each-at, each-past}
 
 module _ (count : ℕ) (test : ℕ → Bool) where
-  -- what is told of a number that was found, of another below the next, of one behind it and of one past the last
+  -- the truth of the number that was found, of others before the next record, of those after it, and past the last
+  -- record
   told_found : (next n : ℕ) → n < count → truth_at (truths_scanned count test next (Some n)) n ≡ true
   told_found next n lt = grind (arith, each-at, eq-eqb)
 
@@ -20,21 +21,21 @@ module _ (count : ℕ) (test : ℕ → Bool) where
   told_other : (next n m : ℕ) → m ≢ n → truth_at (truths_scanned count test next (Some n)) m ≡ truth_at (truths_scanned count test next None) m
   told_other next n m other = grind (arith, cases_lt, each-at, ne_eqb, told_past)
 
-  -- one that is far enough stays
+  -- a first number that isn't below n stays
   pub stays_drops : (next n : ℕ) (first : Option ℕ) → IsFound count next first → is_before first n ≡ false → Drops n (truths_scanned count test next first) (truths_scanned count test next first)
   stays_drops next n first h h2 = grind (arith, ltb-false, told_other, told_none)
 
   pub stays_first : (next n : ℕ) (first : Option ℕ) → IsFound count next first → is_before first n ≡ false → IsFirst (truths_scanned count test next first) first
   stays_first next n first h h2 = grind (arith, told_found, told_other, told_none)
 
-  -- one below n is none from n on
+  -- a first number below n makes no difference from n on
   told_from : (next n m : ℕ) (first : Option ℕ) → is_before first n ≡ true → n ≤ m → truth_at (truths_scanned count test next first) m ≡ truth_at (truths_scanned count test next None) m
   told_from next n m first h h2 = grind (arith, ltb-true, told_other)
 
   pub scan_first : (start next : ℕ) (found : Option ℕ) → Scans count test start next found → IsFirst (truths_scanned count test next found) found
   scan_first start next found h = grind (arith, cases_lt, told_none, told_past, told_found, told_other)
 
-  -- from n on nothing is lost
+  -- no number from n on is lost
   scan_rest : (n old start next : ℕ) (found : Option ℕ) → start ≡ max n old → Scans count test start next found → (m : ℕ) → n ≤ m
       → truth_at (truths_scanned count test next found) m ≡ truth_at (truths_scanned count test old None) m
   scan_rest n old start next found is scans m le = grind (arith, cases_lt, told_past, told_none, told_behind, scan_first, told_other, cases_order, told_found)

@@ -1,4 +1,4 @@
--- The messages that have keys of a kind.
+-- The numbers of a look-up are those of the messages that have the text, because sorted keys have it only once.
 use Rattle.mail_answer.proofs.Words.{◌≡◌, ◌∙◌, ℕ, Bool, true, false, ◌&&◌, List, [], ◌∷◌, map, refl, sym, ap, arith, bytes_eq, list_any, filter, AllByRecursion, and_left, and_right, and_from, and-false, and-true, Kind, Key, KeyBefore, AllNext, is_key, lies_to, numbers_at, AreSorted, text_and_numbers, bytes_turned, is_among, texts_with, some_key, any_text}
 use Rattle.std.specs.declared.cmp.Ordering.{Ordering}
 use Rattle.std.specs.declared.cmp.Ordering.TheVariants.{Less, Equal, Greater}
@@ -12,20 +12,20 @@ use Rattle.mail_index.proofs.ViewLaws.LookUpLemmas.{key_bytes, is_key-greater}
 
 -- ---- keys one after another
 
--- some key passes and has the number: some text of those with the number passes
+-- a key passes and has the number exactly if one of the texts of this number passes
 pub fitting_keys : (passes : List ℕ → Bool) (n : ℕ) (ks : List Key)
     → list_any passes (map (λ (k : Key). k.text) (filter (λ k. is_among n k.numbers) ks)) ≡ list_any (λ k. passes k.0 && is_among n k.1) (map text_and_numbers ks)
 fitting_keys passes n [] = refl
 fitting_keys passes n (k ∷ ks) = grind (arith, and-true, and-false, fitting_keys passes n ks)
 
--- of the keys that pass each has a text that does
+-- each of the keys that pass has a text that passes
 pub kept_keys : (passes : List ℕ → Bool) (n : ℕ) (ks : List Key) → some_key passes n (map text_and_numbers ks) ≡ some_key any_text n (map text_and_numbers (filter (λ k. passes k.text) ks))
 kept_keys passes n [] = refl
 kept_keys passes n (k ∷ ks) = grind (arith, kept_keys passes n ks)
 
 -- ---- one key looked up
 
--- keys in the order of a table stand strictly sorted
+-- keys in the order of a table are strictly sorted
 behind : (a b : Key) (ks : List Key) → slice_cmp nat_cmp (key_bytes a) (key_bytes b) ≡ Less → AllByRecursion (λ y. slice_cmp nat_cmp (key_bytes b) y ≡ Less) (map key_bytes ks)
     → AllByRecursion (λ y. slice_cmp nat_cmp (key_bytes a) y ≡ Less) (map key_bytes ks)
 behind a b [] first rest = tt
@@ -43,7 +43,7 @@ sorted_keys (a ∷ b ∷ ks) h =
 equal_from : (o : Ordering) → is_eq o ≡ true → o ≡ Equal
 equal_from o h = grind arith
 
--- behind the key there is no second one
+-- no key after this one is the same
 no_second : (kind : Kind) (text : List ℕ) (k : Key) (ks : List Key) → is_key kind text k ≡ true → AllByRecursion (λ y. slice_cmp nat_cmp (key_bytes k) y ≡ Less) (map key_bytes ks) → numbers_at kind text ks ≡ []
 no_second kind text k [] this later = refl
 no_second kind text k (other ∷ ks) this later =
@@ -53,7 +53,7 @@ no_second kind text k (other ∷ ks) this later =
     let greater : lies_to kind text other ≡ Greater = nat_list_cmp_total.antisymm (key_bytes other) wanted ∙ ap ordering_reverse here in
     rw (is_key-greater kind text other greater, numbers_at) (no_second kind text k ks this later.1)
 
--- a key more: of another kind, of this kind without the number, or with it
+-- one more key: of another kind, of this kind without the number, or with it
 numbers_here : (kind : Kind) (text : List ℕ) (k : Key) (ks : List Key) (here : Bool) → is_key kind text k ≡ here → numbers_at kind text (k ∷ ks) ≡ (elim here [ true ↦ k.numbers | false ↦ numbers_at kind text ks ])
 numbers_here kind text k ks here e = ap (λ (b : Bool). elim b as (λ _. List ℕ) [ true ↦ k.numbers | false ↦ numbers_at kind text ks ]) e
 

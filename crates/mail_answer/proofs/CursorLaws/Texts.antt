@@ -1,4 +1,4 @@
--- Walks along posting lists, list by list.
+-- The walks along the posting lists of a text have the messages with this text, kind by kind and list by list.
 use Rattle.mail_answer.proofs.Words.{◌≡◌, ◌∙◌, ◌+◌, ◌*◌, ◌^◌, ◌<◌, ◌≤◌, ℕ, suc, Bool, true, false, cond, ◌&&◌, ◌||◌, List, [], ◌∷◌, ◌++◌, length, map, drop, get_or, refl, sym, ap, subst, arith, Result, IfOk, bytes_eq, list_any, filter, AllByRecursion, add-mul, suc-mul, drop_more, or-false, or_assoc, Kind, Text, OwnId, Key, Table, IsKey, IsWellFormed, numbers_at, keys_of, keys_beginning, text_and_numbers, TakesDigits, bytes_turned, Kinds, has_kind, some_word, begins_with, text_kinds, is_among, texts_with, facts_at, is_in, kinds_in, numbers_of_keys, numbers_named, LooksUp, Ahead, left_in, AreNumbers, truths_among, some_has, HaveNumbers, numbers_passing, numbers_fitting, some_of_kinds, any_text}
 use Rattle.mail_words.specs.declared.kind.TextKind.{TextKind}
 use Rattle.mail_answer.specs.Inside.CursorTexts.{Joins}
@@ -49,7 +49,7 @@ pub all_left : (ks : List Key) → numbers_passing any_text (map text_and_number
 all_left [] = refl
 all_left (k ∷ ks) = ap (λ (n : ℕ). length k.numbers + n) (all_left ks)
 
--- the list of a look-up is one of those that are named
+-- the list of a look-up counts among those of the keys that fit
 pub found_left : (kind : Kind) (text : List ℕ) (ks : List Key) → length (numbers_at kind text ks) ≤ numbers_fitting (bytes_eq text) ks kind
 found_left kind text [] = omega arith
 found_left kind text (k ∷ ks) = grind (arith, bytes_turned, found_left kind text ks)
@@ -78,7 +78,7 @@ looks_up_digits keys old new few takes =
 pub looks_up_none : (keys old new : ℕ) → new ≡ old → LooksUp keys 0 old new
 looks_up_none keys old new same = record { rises = omega (arith, same); most = λ digits lt. omega (arith, same) }
 
--- the walks so far, and those of the kinds to come
+-- the walks so far, and those of the kinds that still come
 pub record HaveKinds (passes : List ℕ → Bool) (keys : List Key) (each_kind : ℕ) (all coming : List Kind) (old new : List Ahead) (steps_old steps_new : ℕ) : Type 0 where
   pub each : (m : ℕ) → (some_has m new || some_of_kinds coming passes keys m) ≡ (some_has m old || some_of_kinds all passes keys m)
   pub left : left_in new + numbers_named passes keys coming ≤ left_in old + numbers_named passes keys all
@@ -100,7 +100,7 @@ module _ (passes : List ℕ → Bool) (keys : List Key) (a : ℕ) (all : List Ki
       → LooksUp (length keys) a steps1 steps2 → LooksUp (length keys) (length all * a) steps0 steps2
   kinds_steps kind coming ws steps1 steps2 have looks = grind (arith, more_times)
 
--- behind the last kind
+-- after the last kind
 pub all_kinds : (passes : List ℕ → Bool) (keys : List Key) (a i : ℕ) (kinds : Kinds) (new : List Ahead) (steps0 steps : ℕ) → 8 ≤ i → i ≤ 8
     → HaveKinds passes keys a (kinds_in kinds) (filter (is_in kinds) (drop i (map Text text_kinds ++ OwnId ∷ []))) [] new steps0 steps
     → ((m : ℕ) → some_has m new ≡ some_of_kinds (kinds_in kinds) passes keys m) × (left_in new ≤ numbers_named passes keys (kinds_in kinds)) × LooksUp (length keys) (length (kinds_in kinds) * a) steps0 steps

@@ -1,4 +1,4 @@
--- What lists of truths say at a number.
+-- The truth of a number in lists that were made from others.
 use Rattle.mail_answer.proofs.Words.{◌≡◌, ◌<◌, ◌≤◌, ℕ, zero, suc, Bool, false, ◌&&◌, ◌||◌, List, [], ◌∷◌, refl, sym, arith, get_or_past, length-map-range_with_len, get_or-map-range_with_len, and-false, or-false, truth_at, each_number, both, one_or_other}
 
 pub each-at : (count : ℕ) (test : ℕ → Bool) (n : ℕ) → n < count → truth_at (each_number count test) n ≡ test n

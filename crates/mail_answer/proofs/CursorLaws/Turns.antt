@@ -1,9 +1,9 @@
--- What the walks of a tree have done, turn by turn.
+-- The walk through all other messages passes each number that the inner walk has, one after another.
 use Rattle.mail_answer.proofs.Words.{◌≡◌, ◌≢◌, ◌∙◌, ◌+◌, ◌<◌, ◌≤◌, ℕ, Bool, true, false, not, ◌&&◌, List, Option, Some, None, ap, arith, nat_le, cases_lt, both_ways, lt-leb, truth_at, others, Drops, IsFirst}
 use Rattle.std.proofs.lemmas.Bool.{le-leb}
 use Rattle.mail_answer.proofs.CursorLaws.TruthReads.{each-at, each-past}
 
--- ---- all others
+-- ---- all other messages
 
 pub others-from : (count low : ℕ) (xs : List Bool) (m : ℕ) → m < count → low ≤ m → truth_at (others count low xs) m ≡ not (truth_at xs m)
 others-from count low xs m lt le = each-at count (λ n. nat_le low n && not (truth_at xs n)) m lt ∙ ap (λ (b : Bool). b && not (truth_at xs m)) (le-leb low m le)
@@ -14,14 +14,14 @@ others-before count low xs m lt = grind (arith, cases_lt, each-at, each-past, lt
 pub others-past : (count low : ℕ) (xs : List Bool) (m : ℕ) → count ≤ m → truth_at (others count low xs) m ≡ false
 others-past count low xs m past = each-past count (λ n. nat_le low n && not (truth_at xs n)) m past
 
--- from n and low on, each number below this one has come in the walk, which is as it was from here on
+-- each number from n and low up to this one was in the walk, which is unchanged from this one on
 pub record HasPassed (n low : ℕ) (old : List Bool) (number : ℕ) (xs : List Bool) : Type 0 where
   pub from : n ≤ number
   pub above : low ≤ number
   pub passed : (m : ℕ) → n ≤ m → low ≤ m → m < number → truth_at old m ≡ true
   pub rest : (m : ℕ) → number ≤ m → truth_at xs m ≡ truth_at old m
 
--- a number is first only where it isn't dropped
+-- a number that isn't dropped is at least n
 pub first_from : (n : ℕ) (xs ys : List Bool) (k : ℕ) → Drops n xs ys → IsFirst ys (Some k) → n ≤ k
 first_from n xs ys k drops first = grind (arith, cases_lt, both_ways)
 

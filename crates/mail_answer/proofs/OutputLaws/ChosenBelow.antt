@@ -1,9 +1,10 @@
--- What is chosen are numbers of messages.
+-- Chosen numbers are numbers of messages: by a query because it is tested for each message, and with threads because of
+-- their definition.
 use Rattle.mail_answer.proofs.Words.{◌≡◌, ℕ, zero, suc, ◌<◌, true, nat_eq, List, [], ◌∷◌, length, refl, arith, eq-eqb, slice_index_or, or_left, or_right, Table, Query, is_true, chosen_numbers, facts_at, is_among, AreThreads, ◌++◌}
 use Rattle.std.specs.List.{All}
 use Rattle.mail_answer.proofs.ThreadLaws.ChosenThreads.{from_passed}
 
--- each element is among the list
+-- each element is in the list
 each-among : (ns : List ℕ) (k d : ℕ) → k < length ns → is_among (slice_index_or ns k d) ns ≡ true
 each-among [] k d below = absurd (omega arith)
 each-among (n ∷ ns) zero d below = or_left (nat_eq n n) (is_among n ns) (eq-eqb n n refl)

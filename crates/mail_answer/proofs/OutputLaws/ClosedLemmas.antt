@@ -1,4 +1,4 @@
--- A span is closed by what closes its last line.
+-- A span is closed by what closes its last line, because the lines before it stay the same.
 use Rattle.mail_answer.proofs.Words.{◌≡◌, ℕ, ◌+◌, ◌<◌, ◌≤◌, Bool, true, false, cond, ◌||◌, ◌&&◌, ◌==◌, nat_lt, nat_eq, List, [], ◌∷◌, ◌++◌, Some, length, take, drop, refl, ap, sym, ◌∙◌, append_assoc, append-nil, arith, nat_tests, drop-append-le, drop_all, take-append-drop, is_empty, lines, first_length, line_end_of, length_before_feed, line_end-more, first_length-le, length_before_feed-le, length_before_feed-append_out, lines-cons, lines-nil, feed, has_feed, feeds_behind, next_text, behind_next, closed, is_closed, last_of}
 use Rattle.std.specs.Str.{bytes_eq}
 use Rattle.std.proofs.lemmas.List.{length-append, length-drop, take_all}
@@ -10,7 +10,7 @@ ended b h = let k : length_before_feed b ≤ length b = length_before_feed-le b 
 pub last-cons : (l : List ℕ) (b : List ℕ) → 0 < length b → last_of (l ∷ lines b) ≡ last_of (lines b)
 last-cons l b h = let e = lines-cons b h in rw (e) refl
 
--- what follows the first line decides
+-- the last line is decided by what follows the first line
 pub last_behind : (b x : List ℕ) → first_length b < length b → last_of (lines (b ++ x)) ≡ last_of (lines (behind_next b ++ x))
 last_behind b x h =
     let n : ℕ = first_length b in

@@ -1,5 +1,5 @@
--- A message that is closed, without CR as its last byte, is one yet: its last line gets an LF where it has none, and an empty
--- line stands behind it.
+-- A closed message, without CR as its last byte, is still a message: its last line gets an LF if it has none, and an
+-- empty line follows it.
 use Rattle.mail_answer.proofs.Words.{◌≡◌, ◌∙◌, ℕ, ◌+◌, ◌<◌, Bool, true, false, cond, ◌&&◌, ◌||◌, nat_eq, List, [], ◌∷◌, ◌++◌, length, take, drop, refl, ap, sym, subst, arith, append_assoc, append-nil, length-append, concat, take-append_seam, drop-append_seam, nat_tests, lines, is_empty, first_length, length_before_feed, IsLine, AreCut, is_separator, length_before_feed-append_out, length_before_feed-le, first_length-le, lines-cons, feed, has_feed, next_text, behind_next, ends_in_return, closed}
 use Rattle.std.specs.Str.{bytes_eq}
 use Rattle.std.proofs.lemmas.List.{length-take-le}
@@ -7,7 +7,7 @@ use Rattle.mail_answer.proofs.OutputLaws.ClosedLemmas.{closed_more, cr_line, has
 use Rattle.mail_answer.proofs.OutputLaws.MessageLines.{StartsNowhere, may_behind, lines-concat}
 use Rattle.mail_answer.proofs.OutputLaws.Separated.{separator-feed, return-alone, return-behind, feed_is_empty}
 
--- the first line, and the lines behind it, once they are closed
+-- the first line, and the lines after it, once they are closed
 abbrev pub closed_first : List ℕ → List (List ℕ) → List ℕ
 closed_first l [] = cond (is_empty l) l (cond (has_feed l) l (l ++ feed))
 closed_first l (m ∷ ls) = l
@@ -88,7 +88,7 @@ module _ (l : List ℕ) (some : 0 < length l) (other : ends_in_return l ≡ fals
   last-empty : (v w : Bool) → is_empty l ≡ v → is_empty (cond v l (cond w l (l ++ feed))) ≡ is_empty l
   last-empty v w h = grind (arith, cr_line, return-alone)
 
--- the premises on the last line, from those on all
+-- what is assumed of all bytes is true of the last line
 last-no : (l : List ℕ) → ends_in_return (l ++ []) ≡ false → ends_in_return l ≡ false
 last-no l other = ap ends_in_return (sym (append-nil l)) ∙ other
 
@@ -101,7 +101,7 @@ separator-same l ls h h2 = grind (arith, last-separates, last-no)
 pub empty-same : (l : List ℕ) (ls : List (List ℕ)) → AreCut (l ∷ ls) → ends_in_return (concat (l ∷ ls)) ≡ false → is_empty (closed_first l ls) ≡ is_empty l
 empty-same l ls h h2 = grind (arith, last-empty, last-no)
 
--- no message starts behind the first line
+-- no message starts after the first line
 pub inside-closed : (l : List ℕ) (ls : List (List ℕ)) → AreCut (l ∷ ls) → ends_in_return (concat (l ∷ ls)) ≡ false
     → StartsNowhere (is_empty l) ls → StartsNowhere (is_empty (closed_first l ls)) (closed_rest l ls)
 inside-closed l [] c other h = rw (empty-same l [] c other) (go (is_empty l) refl)

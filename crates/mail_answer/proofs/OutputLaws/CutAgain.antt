@@ -1,4 +1,5 @@
--- Messages that were cut out of archives are cut again, where each is closed and they are joined.
+-- Messages that were cut out of archives, closed and joined, are cut again into these, because no other line starts a
+-- message.
 use Rattle.mail_answer.proofs.Words.{◌≡◌, ℕ, suc, false, List, [], ◌∷◌, map, refl, arith, flat_map, concat_is, flat_map-map, AreCut, IsCutOut, IsCutInto, ends_in_return, closed}
 use Rattle.std.specs.List.{All}
 use Rattle.mail_answer.proofs.OutputLaws.ClosedMessages.{closed_first, closed_rest, text-closed, cut-closed, separator-same, inside-closed, is-closed}

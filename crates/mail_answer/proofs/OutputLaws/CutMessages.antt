@@ -1,15 +1,15 @@
--- What is cut out of an archive is a message.
+-- Each text that is cut out of an archive is a message: its first line starts a message, and no other line does.
 use Rattle.mail_answer.proofs.Words.{◌≡◌, ◌∙◌, ℕ, ◌+◌, Bool, true, cond, ◌&&◌, List, [], ◌∷◌, ◌++◌, Option, None, Some, length, take, drop, map, refl, ap, sym, subst, arith, concat, option_map, take-append_seam, drop-append_seam, drop-drop, concat-append, Message, messages, messages_from, marked, grouped, is_refused, total, span_length, lines, is_empty, AreCut, AreLines, IsCutOut}
 use Rattle.mbox_cutter.proofs.LinesAreCut.{lines-AreLines}
 use Rattle.mail_answer.proofs.OutputLaws.MessageLines.{Each, StartsNowhere, Group, IsMessage, lines_of, all_lines, text_of, span_of, total-length}
 
--- a text is a message's
+-- the text is that of a message
 pub record IsText (g : Group) (text : List ℕ) : Type 0 where
   pub message : IsMessage g
   pub each_line : AreCut (lines_of g)
   pub is_text : text ≡ text_of g
 
--- these groups are those of the lines
+-- the lines before the first message, and those of the groups, are all lines; each group is a message
 record IsGrouped (may : Bool) (ls : List (List ℕ)) (r : List (List ℕ) × List Group) : Type 0 where
   pub joined : r.0 ++ all_lines r.1 ≡ ls
   pub front : StartsNowhere may r.0
@@ -81,7 +81,7 @@ found archive [] (b ∷ before) here behind each e = absurd (cc e)
 found archive (m ∷ ms) [] here behind each e = grind (arith, span_of)
 found archive (m ∷ ms) (b ∷ before) here behind each e = found archive ms before here behind each.1 (cc e)
 
--- what is cut out is a message
+-- a text that is cut out is a message
 pub cut-out : (text : List ℕ) → IsCutOut text → (g : Group) × IsText g text
 cut-out text h = go (messages h.archive) refl h.is_cut
   where

@@ -1,4 +1,4 @@
--- How the last line stands once a byte more is there.
+-- The ending of bytes after one more byte is known from the ending before it, by the cases of the last line.
 use Rattle.mail_answer.proofs.Words.{◌≡◌, ◌∙◌, ℕ, zero, suc, ◌+◌, ◌<◌, ◌≤◌, Bool, true, false, cond, ◌||◌, ◌&&◌, ◌==◌, nat_lt, List, [], ◌∷◌, ◌++◌, length, refl, ap, sym, append_assoc, append-nil, arith, inl, inr, cases_lt, eqb-true, nat_tests, drop-append-le, drop_all, is_empty, lines, first_length, length_before_feed, line_end-more, first_length-le, first_length-positive, length_before_feed-le, length_before_feed-append_out, lines-cons, lines-nil, feed, has_feed, feeds_behind, behind_next, ending_of_line, ending_of, line_of, with_byte, feeds_of, last_of, Ending, Empty, Ended, Return, Open}
 use Rattle.std.specs.Str.{bytes_eq}
 use Rattle.std.proofs.lemmas.List.{length-append, length-drop, take_all}
@@ -30,7 +30,7 @@ one_length b = elim (b == 10) as (λ v. cond (nat_lt 65536 (cond v 0 1)) 65536 (
 one_line_of : (b : ℕ) → ending_of (b ∷ []) ≡ line_of b
 one_line_of b = single_ending (b ∷ []) (omega arith) (one_length b) ∙ one_byte b
 
--- a line that the next byte doesn't join
+-- a line that the next byte isn't part of
 cut_behind : (b x : List ℕ) → 0 < length b → 0 < length x → length b ≡ first_length (b ++ x) → last_of (lines (b ++ x)) ≡ last_of (lines x)
 cut_behind b x h some same = grind (arith, length-append, lines-cons, drop-append-le, drop_all, last-cons)
 
@@ -77,7 +77,7 @@ has_feed-append (x ∷ xs) b = go (x == 10) (has_feed-append xs b)
     go true rest = refl
     go false rest = rest
 
--- ---- one byte more
+-- ---- one more byte
 
 -- a line without LF
 open_ending : (b : List ℕ) → has_feed b ≡ false → ending_of_line b ≡ cond (bytes_eq b (13 ∷ [])) Return (Open (length b))
@@ -174,7 +174,7 @@ ending_more-from (suc most) (b ∷ bs) x le =
 pub ending_more : (b : List ℕ) (x : ℕ) → ending_of (b ++ x ∷ []) ≡ with_byte (ending_of b) x
 ending_more b x = ending_more-from (length b) b x (omega arith)
 
--- ---- many bytes more
+-- ---- more bytes
 
 with_bytes : Ending → List ℕ → Ending
 with_bytes e [] = e
@@ -186,7 +186,7 @@ endings_more b [] = ap ending_of (append-nil b)
 endings_more b (x ∷ xs) =
     ap ending_of (sym (append_assoc b (x ∷ []) xs)) ∙ endings_more (b ++ x ∷ []) xs ∙ ap (λ (e : Ending). with_bytes e xs) (ending_more b x)
 
--- What stands before an LF doesn't matter to what stands behind it.
+-- what comes before an LF makes no difference to the ending of the bytes after it
 pub ending_behind : (b rest : List ℕ) → 0 < length rest → ending_of (b ++ 10 ∷ rest) ≡ ending_of rest
 unfolding with_bytes
 ending_behind b [] some = absurd (omega arith)

@@ -1,4 +1,4 @@
--- Every table answers every search.
+-- Every table has exactly one answer to each search, because its threads and its texts are determined.
 use Rattle.mail_answer.proofs.Words.{◌≡◌, ◌∙◌, ℕ, Bool, true, false, List, length, Option, refl, sym, ap, LinkId, Table, keys_of, Query, Search, AreChosenBy, satisfying, mail_told, TableAnswer, IsTableAnswer, answer_of_numbers}
 use Rattle.mail_answer.proofs.ThreadLaws.EveryThread.{threads_by_keys}
 use Rattle.mail_answer.proofs.ThreadLaws.OneThreadList.{one_thread_list}

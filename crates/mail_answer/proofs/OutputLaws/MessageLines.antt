@@ -1,18 +1,18 @@
--- The lines of messages, and what is cut of messages that stand one behind another.
+-- Messages with a closing line that follow one another are cut into these messages, line by line.
 use Rattle.mail_answer.proofs.Words.{◌≡◌, ◌∙◌, ℕ, ◌+◌, Bool, true, false, cond, ◌&&◌, ◌||◌, ◌==◌, suc, List, [], ◌∷◌, ◌++◌, Some, length, map, refl, ap, sym, arith, append-nil, length-append, concat, eqb-true, concat-append, Message, cut, messages, messages_from, marked, grouped, is_refused, total, span_length, lines, is_empty, length_before_feed, AreCut, is_separator, places_from}
 use Rattle.mbox_cutter.proofs.OnlyLines.{only_lines}
 
--- each element
+-- each element has the property
 abbrev pub Each : {A : Type 0} → (A → Type 0) → List A → Type 0
 Each P [] = Unit {0}
 Each P (x ∷ xs) = P x × Each P xs
 
--- at none of these lines a message starts; the flag says whether one may start at the first
+-- none of these lines starts a message; the flag says whether a message may start at the first
 abbrev pub StartsNowhere : Bool → List (List ℕ) → Type 0
 StartsNowhere may [] = Unit {0}
 StartsNowhere may (l ∷ ls) = ((may && is_separator l) ≡ false) × StartsNowhere (is_empty l) ls
 
--- whether a message may start behind these lines
+-- whether a message may start after these lines
 abbrev pub may_behind : Bool → List (List ℕ) → Bool
 may_behind may [] = may
 may_behind may (l ∷ ls) = may_behind (is_empty l) ls
@@ -21,7 +21,7 @@ may_behind may (l ∷ ls) = may_behind (is_empty l) ls
 abbrev pub Group : Type 0
 Group = List ℕ × List (List ℕ)
 
--- a message starts at the first line, and none behind it
+-- a message starts at the first line, and none after it
 pub record IsMessage (g : Group) : Type 0 where
   pub starts : is_separator g.0 ≡ true
   pub inside : StartsNowhere (is_empty g.0) g.1
@@ -45,12 +45,12 @@ grouped-behind : (may : Bool) (ls rest : List (List ℕ)) → StartsNowhere may 
 grouped-behind may [] rest h = refl
 grouped-behind may (l ∷ ls) rest h = grind (arith, grouped-behind (is_empty l) ls rest h.1)
 
--- messages with a closing line are grouped as they are
+-- messages with a closing line are grouped again as they are
 grouped-messages : (gs : List Group) → Each IsMessage gs → Each IsClosed gs → grouped (marked true (all_lines gs)) ≡ ([], gs)
 grouped-messages [] is closed = refl
 grouped-messages (g ∷ gs) is closed = grind (arith, grouped-behind, append-nil, grouped-messages gs is.1 closed.1)
 
--- a separator is no empty line
+-- a separator isn't an empty line
 pub separator-some : (l : List ℕ) → is_separator l ≡ true → is_empty l ≡ false
 unfolding is_separator is_empty
 separator-some [] h = absurd (cc h)
@@ -67,7 +67,7 @@ pub total-length : (ls : List (List ℕ)) → total ls ≡ length (concat ls)
 total-length [] = refl
 total-length (l ∷ ls) = ap (λ (n : ℕ). length l + n) (total-length ls) ∙ sym (length-append l (concat ls))
 
--- what a message's span is
+-- the span of a message
 abbrev pub span_of : Message → ℕ × ℕ
 span_of m = (m.offset, span_length m)
 
@@ -101,7 +101,7 @@ empty-feed (x ∷ y ∷ z ∷ xs) e n = tests (x == 10) (x == 13) (y == 10) e
     tests : (a b c : Bool) → ((a && false) || (b && (c && false))) ≡ true → ⊥
     tests a b c h = grind arith
 
--- lines behind an empty one
+-- the lines after an empty one
 behind-closed : (l : List ℕ) (ls ms : List (List ℕ)) → AreCut (l ∷ ls) → may_behind (is_empty l) ls ≡ true → AreCut ms → AreCut (l ∷ (ls ++ ms))
 behind-closed l [] [] c closed d = c
 behind-closed l [] (m ∷ ms) c closed d = (c, λ e. absurd (empty-feed l closed e), d)
@@ -111,7 +111,7 @@ all-cut : (gs : List Group) → Each IsClosed gs → Each (λ g. AreCut (lines_o
 all-cut [] closed each = tt
 all-cut (g ∷ gs) closed each = behind-closed g.0 g.1 (all_lines gs) each.0 closed.0 (all-cut gs closed.1 each.1)
 
--- messages with a closing line, joined, are cut into these
+-- messages with a closing line, joined, are cut into these messages
 pub messages-cut : (gs : List Group) → Each IsMessage gs → Each IsClosed gs → Each (λ g. AreCut (lines_of g)) gs
     → cut (concat (map text_of gs)) ≡ Some (places_from 0 (map text_of gs))
 unfolding messages

@@ -1,4 +1,4 @@
--- Laws of what is read of an archive.
+-- A read of an archive moves bytes from those that come to those that were read, and changes nothing else.
 use Rattle.mail_answer.proofs.Words.{◌≡◌, ℕ, ◌+◌, ◌-◌, ◌<◌, ◌≤◌, List, ◌++◌, Option, None, Some, IfSome, Result, IfOk, length, take, drop, refl, ap, sym, ◌∙◌, append_assoc, append-nil, arith, take-append-add, take-append-le, drop-drop, DeviceFault, line_end_of, first_length, line_end-more, line_end-whole, archive_at, IsRead, Reading, coming, ReadsBehind, ReadsTail, coming_count, IsInside}
 use Rattle.std.proofs.Math.Seq.{take-add}
 use Rattle.std.proofs.lemmas.List.{length-take-le, length-append, length-drop}
@@ -15,7 +15,7 @@ pub tail_result : (archive offset from k : ℕ) (held : Option (List (List ℕ))
     → IfOk r (λ n. IsRead archive offset (take n into) held) → IfOk r (λ n. ReadsTail archive offset from n held old (put_mid from k old into))
 tail_result archive offset from k held old into r h h2 h3 = grind (arith, tail_read)
 
--- what comes is the same before and after a read
+-- the bytes that come are the same before and after a read
 pub coming_read : (archive next left n : ℕ) (held : Option (List (List ℕ))) (unread new : List ℕ) → ReadsBehind archive next n held unread new → n ≤ left
     → coming held (record { archive = archive; unread = drop 0 new; next = next + n; left = left - n }) ≡ coming held (record { archive = archive; unread = unread; next = next; left = left })
 coming_read archive next left n None unread new r h = refl
@@ -34,7 +34,7 @@ coming_read archive next left n (Some archives) unread new r h =
 pub line_found : (n : ℕ) (held : Option (List (List ℕ))) (r : Reading) → Some n ≡ line_end_of r.unread → IfSome (coming held r) (λ bytes. n ≡ first_length bytes)
 line_found n held r h = grind (arith, line_end-more)
 
--- nothing is left, so that what was read is the line
+-- no byte is left, so the bytes that were read are the line
 pub line_left : (held : Option (List (List ℕ))) (r : Reading) → None ≡ line_end_of r.unread → r.left ≡ 0 → IfSome (coming held r) (λ bytes. length r.unread ≡ first_length bytes)
 line_left held r h h2 = grind (arith, line_end-whole, append-nil)
 

@@ -1,4 +1,4 @@
--- A line without LF and without CR as its last byte is a separator with LF behind it just where it is one without it.
+-- A line without LF, whose last byte isn't CR, is a separator with an LF exactly if it is one without: byte by byte.
 use Rattle.mail_answer.proofs.Words.{◌≡◌, ◌∙◌, ℕ, zero, suc, ◌+◌, ◌-◌, ◌<◌, Bool, true, false, ◌&&◌, ◌==◌, List, [], ◌∷◌, ◌++◌, length, take, drop, refl, ap, sym, arith, length-append, codes, take-append_seam, drop-append_seam, and_right, or_parts, false_from_ne_true, drop-append-le, bytes_eq-Decides, is_empty, is_separator, without_break, tokens, has_time_then_year, feed, has_feed, ends_in_return}
 use Rattle.std.specs.Str.{bytes_eq}
 
@@ -14,7 +14,7 @@ return-alone [] other = refl
 return-alone (x ∷ []) other = rw other refl
 return-alone (x ∷ y ∷ l) other = and_right (x == 13) false refl
 
--- what stands before bytes doesn't change their last one
+-- bytes before others don't change the last byte
 pub return-behind : (a b : List ℕ) → 0 < length b → ends_in_return (a ++ b) ≡ ends_in_return b
 return-behind [] b some = refl
 return-behind (x ∷ []) [] some = absurd (omega arith)
@@ -35,7 +35,7 @@ last-of (x ∷ y ∷ l) some other =
     let less : length (x ∷ y ∷ l) - 1 ≡ suc (length (y ∷ l) - 1) = omega arith in
     record { byte = rest.byte; is = ap (λ (n : ℕ). drop n (x ∷ y ∷ l)) less ∙ rest.is; other = rest.other }
 
--- ---- without its break
+-- ---- the line without its break
 
 feed-dropped : (k : ℕ) (l : List ℕ) → has_feed l ≡ false → has_feed (drop k l) ≡ false
 feed-dropped zero l none = none

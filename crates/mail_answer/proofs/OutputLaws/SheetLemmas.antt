@@ -1,4 +1,4 @@
--- Laws of texts that join an answer.
+-- Texts that are added to an answer one after another are added as one text, whether they are gathered or sent.
 use Rattle.mail_answer.proofs.Words.{◌≡◌, ℕ, ◌+◌, ◌-◌, ◌^◌, min, List, [], ◌++◌, length, Option, None, Some, Result, Ok, Err, IsErr, refl, ap, sym, ◌∙◌, append_assoc, append-nil, length-append, take, drop, ◌≤◌, arith, take-append-drop, take_rest, Appends, Keeps, appends_join, appends-nil, Sheet, counted, Joins, JoinsFront, joined, Tells, Writes}
 use Rattle.std.proofs.lemmas.List.{length-take}
 use Rattle.std.proofs.Math.Seq.{take-add}
@@ -14,7 +14,7 @@ joins_more {t} {u} {v} {a} {b} {c} {x} {y} h k = grind (arith, append_assoc, app
 pub joins_front : {t u v : Option (List ℕ)} {a b c : Sheet} {x y : List ℕ} → Joins t u a b x → JoinsFront u v b c y → JoinsFront t v a c (x ++ y)
 joins_front {t} {u} {v} {a} {b} {c} {x} {y} h k = grind (arith, append_assoc, appends_join, counted-append)
 
--- more would have followed
+-- a front of a text is a front of a longer text
 pub front_more : {t u : Option (List ℕ)} {a b : Sheet} {x : List ℕ} (y : List ℕ) → JoinsFront t u a b x → JoinsFront t u a b (x ++ y)
 front_more {t} {u} {a} {b} {x} y h = record {
   went = h.went;
@@ -24,7 +24,7 @@ front_more {t} {u} {a} {b} {x} y h = record {
   count = h.count;
 }
 
--- ---- while a sheet is sent, `at` bytes of it so far
+-- ---- while a sheet is sent, with `at` bytes sent so far
 
 take_step : (items : List ℕ) (at n : ℕ) → at + n ≤ length items → take at items ++ take n (take (length items - at) (drop at items)) ≡ take (at + n) items
 take_step items at n h = grind (arith, take_rest, take-add)
@@ -55,15 +55,15 @@ front_went t u v old new at p q e = record {
 
 -- ---- while bytes are pushed
 
--- they are gathered, and nothing goes out
+-- the bytes are gathered, and nothing is sent
 pub joins_gathered : (t : Option (List ℕ)) (old new : Sheet) (bytes : List ℕ) → new.text ≡ old.text ++ bytes → new.sent ≡ old.sent → Joins t t old new bytes
 joins_gathered t old new bytes e s = grind (arith, appends-nil)
 
--- nothing happens
+-- nothing changes
 pub nothing_went : (t : Option (List ℕ)) (old new : Sheet) (bytes : List ℕ) → new.sent ≡ old.sent → JoinsFront t t old new bytes
 nothing_went t old new bytes s = grind (arith, appends-nil)
 
--- what was gathered is sent
+-- the gathered bytes are sent
 pub gathered_went : {T E : Type 0} (t u : Option (List ℕ)) (old mid new : Sheet) (bytes : List ℕ) (r : Result T E) → mid.text ≡ old.text ++ bytes → mid.sent ≡ old.sent
     → Writes t u mid new (Some []) r → Writes t u old new (Some bytes) r
 gathered_went t u old mid new bytes r h h2 h3 = grind (arith, append-nil)
@@ -73,38 +73,38 @@ gathered_went t u old mid new bytes r h h2 h3 = grind (arith, append-nil)
 pub tells-joined : (j k : Option (List ℕ)) (x y : List ℕ) → Tells j x → Tells k y → Tells (joined j k) (x ++ y)
 tells-joined j k x y h h2 = grind arith
 
--- a text that may be unknown is some text
+-- there is a text, even if it isn't known
 pub some_text : (k : Option (List ℕ)) → (y : List ℕ) × Tells k y
 some_text None = ([], tt)
 some_text (Some y) = (y, refl)
 
--- a call after one that went well
+-- a call after one that succeeded
 pub writes_next : {T E : Type 0} (t u v : Option (List ℕ)) (a b c : Sheet) (j k : Option (List ℕ)) (r : Result T E)
     → ((x : List ℕ) × Tells j x × Joins t u a b x) → Writes u v b c k r → Writes t v a c (joined j k) r
 writes_next t u v a b c j k (Ok y) h w = (h.0 ++ w.0, tells-joined j k h.0 w.0 h.1 w.1, joins_more h.2 w.2)
 writes_next t u v a b c j k (Err e) h w = (h.0 ++ w.0, tells-joined j k h.0 w.0 h.1 w.1, joins_front h.2 w.2)
 
--- a call that went wrong, before another
+-- a call that failed, before another
 pub writes_stop : {T E : Type 0} (t u : Option (List ℕ)) (a b : Sheet) (j k : Option (List ℕ)) (r : Result T E)
     → IsErr r → ((x : List ℕ) × Tells j x × JoinsFront t u a b x) → Writes t u a b (joined j k) r
 writes_stop t u a b j k (Ok y) err w = absurd (cc err)
 writes_stop t u a b j k (Err f) err w = let y = some_text k in (w.0 ++ y.0, tells-joined j k w.0 y.0 w.1 y.1, front_more y.0 w.2)
 
--- a call that went wrong, and wrote nothing
+-- a call that failed and wrote nothing
 pub writes_nothing : {T F : Type 0} (t : Option (List ℕ)) (a b : Sheet) (k : Option (List ℕ)) (r : Result T F) → IsErr r → b.sent ≡ a.sent → Writes t t a b k r
 writes_nothing t a b k (Ok y) err s = absurd (cc err)
 writes_nothing t a b k (Err f) err s = let y = some_text k in (y.0, y.1, nothing_went t a b y.0 s)
 
--- a call that went wrong
+-- a call that failed
 pub writes_err : {T E : Type 0} (t u : Option (List ℕ)) (a b : Sheet) (k : Option (List ℕ)) (r : Result T E) → IsErr r
     → ((x : List ℕ) × Tells k x × JoinsFront t u a b x) → Writes t u a b k r
 writes_err t u a b k r h h2 = grind arith
 
--- what is known of a text is less
+-- less is known of the text
 pub writes_less : {T E : Type 0} (t u : Option (List ℕ)) (a b : Sheet) (k : Option (List ℕ)) (text : List ℕ) (r : Result T E) → Tells k text → Writes t u a b (Some text) r → Writes t u a b k r
 writes_less t u a b k text r h h2 = grind arith
 
--- ---- where no byte has gone out, none had before
+-- ---- if no byte was sent, none had been sent before
 
 pub unsent_before : {t u : Option (List ℕ)} {a b : Sheet} {x : List ℕ} → Joins t u a b x → b.sent ≡ 0 → a.sent ≡ 0
 unsent_before {t} {u} {a} {b} {x} h unsent = omega (arith, h.count, unsent)

@@ -1,10 +1,10 @@
--- Laws of closed spans that join an answer, message by message.
+-- Closed spans are added to an answer message by message, and together they are the spans of the numbers.
 use Rattle.mail_answer.proofs.Words.{◌≡◌, ◌∙◌, ℕ, List, [], ◌∷◌, ◌++◌, length, Option, Some, Result, IsErr, refl, ap, ap₂, sym, subst, append-nil, arith, map-append, flat_map-append, flat_map, Table, closed, AreSpansOf, Joins, JoinsFront, Writes, record_at, Sheet}
 use Rattle.mail_answer.specs.Inside.Spans.{WritesSpans}
 use Rattle.mail_answer.proofs.OutputLaws.CopiedPieces.{some_bytes}
 use Rattle.mail_answer.proofs.OutputLaws.SheetLemmas.{joins_more, writes_next, writes_stop}
 
--- some bytes for each message
+-- there are bytes for each message
 pub some_spans : (t : Table) (numbers : List ℕ) → (spans : List (List ℕ)) × AreSpansOf t numbers spans
 some_spans t [] = ([], refl)
 some_spans t (n ∷ numbers) =
@@ -15,7 +15,7 @@ some_spans t (n ∷ numbers) =
 are_spans : (t : Table) (done numbers : List ℕ) (spans more : List (List ℕ)) → AreSpansOf t done spans → AreSpansOf t numbers more → AreSpansOf t (done ++ numbers) (spans ++ more)
 are_spans t done numbers spans more are then = grind (arith, map-append)
 
--- one span more
+-- one more span
 pub spans_more : {t u v : Option (List ℕ)} {a b c : Sheet} (table : Table) (done : List ℕ) (n : ℕ)
     → ((spans : List (List ℕ)) × AreSpansOf table done spans × Joins t u a b (flat_map closed spans))
     → ((bytes : List ℕ) × (length bytes ≡ (record_at table.messages n).length) × ((text : List ℕ) × (closed bytes ≡ text) × Joins u v b c text))
@@ -30,7 +30,7 @@ spans_more {t} {u} {v} {a} {b} {c} table done n so_far next =
       subst (Joins t v a c) text (joins_more so_far.2 next.2.2),
     )
 
--- a span that didn't go well, before others
+-- a span that wasn't written whole, before others
 pub spans_stop : {T E : Type 0} (t u v : Option (List ℕ)) (a b c : Sheet) (table : Table) (done : List ℕ) (n : ℕ) (behind : List ℕ) (r : Result T E) → IsErr r
     → ((spans : List (List ℕ)) × AreSpansOf table done spans × Joins t u a b (flat_map closed spans))
     → ((bytes : List ℕ) × (length bytes ≡ (record_at table.messages n).length) × ((text : List ℕ) × (closed bytes ≡ text) × JoinsFront u v b c text))

@@ -1,4 +1,4 @@
--- The messages that are chosen by the roots of their trees are all of some threads.
+-- The messages whose tree has a chosen message are exactly those of the threads, because the trees are the threads.
 use Rattle.mail_answer.proofs.Words.{◌≡◌, ◌∙◌, ◌+◌, ◌<◌, ◌≤◌, ℕ, zero, suc, Bool, true, false, cond, nat_eq, ◌⊎◌, List, [], ◌∷◌, length, get_or, inl, inr, refl, sym, ap, subst, arith, eq-eqb, add-one, Result, IfOk, AllByRecursion, filter, list_any, range_with_len, get_or-map-range_with_len, eqb-true, or_cases, or_left, or_right, eqb_tells, LinkId, Table, Key, RisesFrom, keys_of, is_among, truth_at, each_number, IsPath, IsInThreadOfSome, AreThreads, TellsThreads}
 use Rattle.mail_answer.proofs.ThreadLaws.ThreadLemmas.{itself}
 
@@ -12,7 +12,7 @@ below P (m ∷ ns) n all among =
       | inr behind ↦ below P ns n all.1 behind
     ]
 
--- some number has the value
+-- one of the numbers has the value
 some_from_any : (value : ℕ → ℕ) (r : ℕ) (ns : List ℕ) → list_any (λ n. nat_eq r (value n)) ns ≡ true → (m : ℕ) × (is_among m ns ≡ true) × (r ≡ value m)
 some_from_any value r [] any = absurd (cc any)
 some_from_any value r (n ∷ ns) any =
@@ -73,7 +73,7 @@ to_passed test a (suc count) n low high passes = go (test a) refl (λ behind. to
           | inr other ↦ omega (arith, other.1, le)
         ]
 
--- ---- those whose root is the root of one of these are their threads
+-- ---- the messages whose root is that of one of these are their threads
 
 pub chosen_threads : (t : Table) (numbers roots members : List ℕ) (test : ℕ → Bool) → TellsThreads t roots → AllByRecursion (λ n. n < length t.messages) numbers
     → ((r : ℕ) → r < length t.messages → test r ≡ list_any (λ n. nat_eq r (get_or roots n 0)) numbers)
@@ -104,7 +104,7 @@ chosen_threads t numbers roots members test tells within marked are =
         let m_within : given.1.0 < length t.messages = below (λ k. k < length t.messages) numbers given.1.0 within given.1.1 in
         marked (root n) (root_within n given.0) ∙ any_from_some root (root n) given.1.0 numbers given.1.1 (sym ((tells.same given.1.0 n m_within given.0).1 given.1.2))
 
--- ---- without links, or without numbers, they are themselves
+-- ---- without links, or without numbers, the threads are the numbers themselves
 
 path_without : (t : Table) (m n : ℕ) (path : List ℕ) → keys_of LinkId t.keys ≡ [] → IsPath t m path n → m ≡ n
 path_without t m n [] none here = here
@@ -113,7 +113,7 @@ path_without t m n (l ∷ path) none given = grind arith
 pub threads_without : (t : Table) (numbers : List ℕ) → (keys_of LinkId t.keys ≡ []) ⊎ (numbers ≡ []) → RisesFrom 0 numbers → AllByRecursion (λ n. n < length t.messages) numbers → AreThreads t numbers numbers
 threads_without t numbers none rises within = grind (arith, below, itself, path_without)
 
--- ---- what the calls answered
+-- ---- what the calls returned
 
 pub ok_then : {A E : Type 0} (r : Result A E) (P Q : A → Type 0) → IfOk r P → ((v : A) → P v → Q v) → IfOk r Q
 ok_then r P Q h h2 = grind arith
@@ -135,7 +135,7 @@ chosen_by_marks t numbers roots members marks tells within marked are =
     ap (λ (xs : List Bool). truth_at xs r) marked ∙ get_or-map-range_with_len (λ k. list_any (λ n. nat_eq k (get_or roots n 0)) numbers) 0 (length t.messages) r r false lt (omega arith))
     are
 
--- ---- lists of numbers that are asked for
+-- ---- lists of numbers to choose from
 
 all_from_members : (P : ℕ → Type 0) (ns : List ℕ) → ((n : ℕ) → is_among n ns ≡ true → P n) → AllByRecursion P ns
 all_from_members P [] each = tt

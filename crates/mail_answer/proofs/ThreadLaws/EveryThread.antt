@@ -1,8 +1,8 @@
--- Whatever links messages by the keys that they share, there are the threads of any of them.
+-- There are threads of any messages, however keys link them: the messages that the keys join, key by key.
 use Rattle.mail_answer.proofs.Words.{◌≡◌, ◌∙◌, ◌+◌, ◌<◌, ℕ, Bool, true, nat_eq, ◌&&◌, ◌||◌, List, [], ◌∷◌, ◌++◌, inl, inr, refl, sym, ap, subst, arith, eq-eqb, list_any, filter, range_with_len, eqb-true, or_cases, or_left, or_right, and_parts, and_from, Key, is_among, IsChain, IsLedTo, IsLedToBySome, AreThreadsOf}
 use Rattle.mail_answer.proofs.ThreadLaws.ChosenThreads.{passed_rise, from_passed, to_passed}
 
--- ---- some element of a list
+-- ---- an element of a list
 
 some_of : (p : ℕ → Bool) (xs : List ℕ) → list_any p xs ≡ true → (x : ℕ) × (is_among x xs ≡ true) × (p x ≡ true)
 some_of p [] any = absurd (cc any)
@@ -25,11 +25,11 @@ any_more p q each xs any = let some = some_of p xs any in any_of q some.0 xs som
 
 -- ---- messages that keys join, found key by key
 
--- a key has both
+-- a key has both numbers
 abbrev pub share_key : List Key → ℕ → ℕ → Bool
 share_key ks m n = list_any (λ k. is_among m k.numbers && is_among n k.numbers) ks
 
--- they are the same, or the keys join them: the first key joins all that its numbers are joined to by the others
+-- The numbers are the same, or the keys join them: the first key joins all numbers that the others join to its own.
 abbrev pub are_joined : List Key → ℕ → ℕ → Bool
 are_joined [] m n = nat_eq m n
 are_joined (k ∷ ks) m n = are_joined ks m n || (list_any (are_joined ks m) k.numbers && list_any (are_joined ks n) k.numbers)
@@ -74,7 +74,7 @@ joined_through (k ∷ ks) l m n one two =
     by_first : meets l ≡ true → meets n ≡ true → (are_joined ks l n || (meets l && meets n)) ≡ true
     by_first a b = or_right (are_joined ks l n) (meets l && meets n) (and_from (meets l) (meets n) a b)
 
--- ---- they are joined exactly where a path leads from one to the other
+-- ---- keys join two numbers exactly if a path leads from one to the other
 
 chain_joined : (linked : ℕ → ℕ → Bool) (l m n : ℕ) (front back : List ℕ) → IsChain linked l front m → IsChain linked m back n → IsChain linked l (front ++ back) n
 chain_joined linked l m n [] back here rest = subst (λ (k : ℕ). IsChain linked k back n) (sym here) rest

@@ -1,10 +1,10 @@
--- Trees of messages that become one.
+-- Trees are joined by hanging a root at an earlier root, message by message and key by key.
 use Rattle.mail_answer.proofs.Words.{◌≡◌, ◌∙◌, ◌<◌, ◌≤◌, ℕ, true, nat_eq, ◌&&◌, List, [], ◌∷◌, length, get_or, inl, inr, refl, sym, ap, eq-eqb, arith, list_any, set, eqb-true, or_cases, or_left, or_right, and_parts, and_from, Table, is_among, IsInThread, StaysInThreads, LabelsTrees, Shortens, Unites, AreBothAmong, ShareKey}
 use Rattle.std.proofs.Math.ListN.{length-set}
 use Rattle.mail_answer.proofs.ThreadLaws.ThreadLemmas.{through, back_again}
 use Rattle.mail_answer.proofs.ThreadLaws.ForestLemmas.{still_back, still_threads, still_labels, label_there}
 
--- a root is hung at a root before it
+-- a root becomes a child of an earlier root
 pub hung : (p q : List ℕ) (number other high low : ℕ) → Shortens p q → high < length q → low ≤ high → get_or q high 0 ≡ high
     → ((label : ℕ → ℕ) → LabelsTrees label q → label high ≡ label low → label number ≡ label other)
     → ((t : Table) → StaysInThreads t p → IsInThread t number other → IsInThread t high low)
@@ -33,7 +33,7 @@ behind_first first n ns among = or_right (nat_eq n first) (is_among n ns) among
 between : (first n x : ℕ) (ns : List ℕ) → is_among x (first ∷ ns) ≡ true → is_among x (first ∷ n ∷ ns) ≡ true
 between first n x ns among = grind (arith, or_cases, one_of, eqb-true, behind_first)
 
--- what the second of them has too, all have
+-- if one more number has the label of the first, all have it
 as_first : (label : ℕ → ℕ) (first n : ℕ) (ns : List ℕ) → label n ≡ label first → ((x : ℕ) → is_among x (first ∷ ns) ≡ true → label x ≡ label first)
     → (x : ℕ) → is_among x (first ∷ n ∷ ns) ≡ true → label x ≡ label first
 as_first label first n ns second rest x among = grind (arith, or_cases, eqb-true, behind_first)

@@ -1,4 +1,4 @@
--- The list of the threads of messages is one: what is asked of it leaves no choice.
+-- Messages have only one list of threads, because rising lists with the same members are the same.
 use Rattle.mail_answer.proofs.Words.{◌≡◌, ◌∙◌, ◌≤◌, ℕ, suc, true, nat_eq, List, [], ◌∷◌, inl, inr, refl, ap, subst, arith, eq-eqb, eqb-true, or_cases, or_left, or_right, Table, RisesFrom, is_among, AreThreads}
 
 not_before : (low : ℕ) (ns : List ℕ) (n : ℕ) → RisesFrom low ns → is_among n ns ≡ true → low ≤ n
@@ -16,7 +16,7 @@ behind m n ns later among = grind (arith, or_cases, eqb-true)
 first_of : (m : ℕ) (ns : List ℕ) → is_among m (m ∷ ns) ≡ true
 first_of m ns = or_left (nat_eq m m) (is_among m ns) (eq-eqb m m refl)
 
--- rising lists with the same members are one
+-- rising lists with the same members are the same
 one_list : (low : ℕ) (xs ys : List ℕ) → RisesFrom low xs → RisesFrom low ys → ((n : ℕ) → is_among n xs ≡ true → is_among n ys ≡ true) → ((n : ℕ) → is_among n ys ≡ true → is_among n xs ≡ true) → xs ≡ ys
 one_list low [] [] xs_rise ys_rise forth back = refl
 one_list low [] (y ∷ ys) xs_rise ys_rise forth back = absurd (cc (back y (first_of y ys)))

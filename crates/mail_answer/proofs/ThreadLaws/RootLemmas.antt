@@ -1,4 +1,4 @@
--- Trees that are threads once they are joined by all link ids.
+-- Trees that are joined by all link ids are threads, because a path of links never leaves a tree.
 use Rattle.mail_answer.proofs.Words.{◌≡◌, ◌∙◌, ◌<◌, ℕ, Bool, true, ◌&&◌, ◌||◌, List, [], ◌∷◌, ◌++◌, length, map, take, take_all, take-append-le, get_or, refl, sym, ap, subst, arith, AllByRecursion, list_any, range_with_len, get_or-range_with_len, length-range_with_len, LinkId, Table, Key, IsKey, IsWellFormed, keys_of, text_and_numbers, is_among, are_linked, IsPath, IsInThread, LeadsBack, StaysInThreads, LabelsTrees, Shortens, Unites, ShareKey, TellsThreads}
 use Rattle.mail_answer.proofs.ThreadLaws.ThreadLemmas.{itself, by_link, through, back_again}
 
@@ -60,6 +60,6 @@ threads_told t p q r single joins short flat = record {
     linked : (m n : ℕ) → are_linked t m n ≡ true → root m ≡ root n
     linked m n link = joins.united m n (share_is_link m n (keys_of LinkId t.keys) ∙ link) root (short.labels root labels)
 
--- as many elements that were written over the first ones
+-- new elements that were written over as many first ones
 pub written_over : (count : ℕ) (new rest : List ℕ) → length new ≡ count → take count (new ++ rest) ≡ new
 written_over count new rest long = take-append-le count new rest (omega (arith, long)) ∙ take_all count new (omega (arith, long))

@@ -1,7 +1,7 @@
--- Paths of links, one after another and back.
+-- Paths of links can be joined and turned around, so a thread is the same from each of its messages.
 use Rattle.mail_answer.proofs.Words.{◌≡◌, ◌∙◌, ℕ, true, ◌&&◌, List, [], ◌∷◌, ◌++◌, refl, sym, subst, arith, list_any, and_comm, LinkId, Key, Table, keys_of, is_among, are_linked, IsPath, IsInThread}
 
--- a key has both, whichever is named first
+-- a key has both numbers, whichever is named first
 both_turned : (m n : ℕ) (ks : List Key) → list_any (λ (k : Key). is_among m k.numbers && is_among n k.numbers) ks ≡ list_any (λ (k : Key). is_among n k.numbers && is_among m k.numbers) ks
 both_turned m n [] = refl
 both_turned m n (k ∷ ks) = grind (arith, and_comm, both_turned m n ks)

@@ -7,12 +7,12 @@ use Rattle.mail_answer.specs.TableFacts.{facts_at}
 use Rattle.mail_answer.specs.Marks.{truth_at}
 use Rattle.mail_answer.specs.CursorAhead.{Ahead}
 
--- exactly the messages that satisfy the query are to come
+-- exactly the messages that satisfy the query still come
 pub record Tells (t : Table) (q : Query) (truths : List Bool) : Type 0 where
   pub each : (m : ℕ) → m < length t.messages → truth_at truths m ≡ is_true q (facts_at t m)
   pub past : (m : ℕ) → length t.messages ≤ m → truth_at truths m ≡ false
 
--- of each walk those that satisfy its query
+-- for each walk, exactly the messages that satisfy its query still come
 abbrev pub TellAll : Table → List Query → List Ahead → Type 0
 TellAll t [] [] = Unit {0}
 TellAll t [] (w ∷ ws) = ⊥

@@ -1,4 +1,4 @@
--- A posting list along which some walk has begun.
+-- The numbers of a posting list on which a walk has begun.
 use Rattle.std.specs.Prelude.{◌≡◌, ℕ, ◌<◌, Bool, true, nat_lt, List, ◌++◌, Option, Some, None}
 use Rattle.std.specs.List.{AllByRecursion}
 use Rattle.std.specs.Option.{option_to_list}
@@ -6,24 +6,25 @@ use Rattle.mail_index.specs.Tables.{RisesFrom}
 use Rattle.mail_answer.specs.TableFacts.{is_among}
 use Rattle.mail_answer.specs.Marks.{each_number}
 
--- the first may have been taken from its list already
+-- the first number, if it was taken from its list already, and the others
 abbrev pub numbers_ahead : Option ℕ → List ℕ → List ℕ
 numbers_ahead first behind = option_to_list first ++ behind
 
+-- for each of `count` messages, whether it is among the numbers
 abbrev pub truths_among : ℕ → List ℕ → List Bool
 truths_among count numbers = each_number count (λ n. is_among n numbers)
 
--- rising numbers of so many messages
+-- rising numbers below `count`
 pub record AreNumbers (count : ℕ) (numbers : List ℕ) : Type 0 where
   pub rises : RisesFrom 0 numbers
   pub below : AllByRecursion (λ n. n < count) numbers
 
--- there is none yet, or one below n
+-- whether there is no number yet, or one below n
 abbrev pub is_before : Option ℕ → ℕ → Bool
 is_before None n = true
 is_before (Some m) n = nat_lt m n
 
--- the numbers below n are gone from the front of the list
+-- the numbers below n are dropped from the front of the list
 pub record AreCut (n : ℕ) (old new : List ℕ) : Type 0 where
   pub dropped : List ℕ
   pub split : old ≡ dropped ++ new

@@ -1,4 +1,4 @@
--- A window over the messages of some lists: those that lie in it are marked, and the others are left in the lists.
+-- A window over the messages of some lists: the messages in it are marked, and the others are left in the lists.
 use Rattle.std.specs.Prelude.{◌≡◌, ℕ, ◌+◌, ◌^◌, ◌<◌, ◌≤◌, nat_le, Bool, true, false, ◌&&◌, List, ◌++◌, length, replicate, Option, MatchOption}
 use Rattle.mail_answer.specs.Marks.{truth_at, each_number}
 use Rattle.mail_answer.specs.CursorAhead.{Ahead, IsFirst, one_or_other, united}
@@ -6,27 +6,29 @@ use Rattle.mail_answer.specs.declared.cursor.head.Head.{Head}
 use Rattle.mail_answer.specs.declared.cursor.head.Head.TheVariants.{Unasked, Asked}
 use Rattle.mail_answer.specs.Inside.CursorTexts.{some_has}
 
--- the messages that are marked, from the window's first one on, or come in a list
+-- the messages that are marked, from the window's first message on, or are in a list
 abbrev pub marked_or_listed : ℕ → List Bool → List Ahead → List Bool
 marked_or_listed start marks lists = one_or_other (replicate start false ++ marks) (united lists)
 
--- those that are true, from a number on
+-- the messages that are true, from `low` on
 abbrev pub those_from : ℕ → List Bool → List Bool
 those_from low truths = each_number (length truths) (λ n. nat_le low n && truth_at truths n)
 
+-- the messages from `low` on that are marked or are in a list
 abbrev pub truths_marked : ℕ → ℕ → List Bool → List Ahead → List Bool
 truths_marked low start marks lists = those_from low (marked_or_listed start marks lists)
 
--- what is remembered of the first number is so
+-- what is remembered of the first number is true
 abbrev pub IsHead : List Bool → Head → Type 0
 IsHead truths Unasked = Unit {0}
 IsHead truths (Asked first) = IsFirst truths first
 
--- each number of the lists has one behind it that fits
+-- for each number in a list, the next number fits in 32 bits
 abbrev pub AreFew : List Ahead → Type 0
 AreFew lists = (m : ℕ) → some_has m lists ≡ true → m + 1 < 2 ^ 32
 
--- there are no more marks than a window covers, and each comes before all that is left of the lists, of which the first is known
+-- The marks are those of a window, each comes before all that is left in the lists, and what is remembered of the first
+-- of these is true.
 pub record HaveMarks (start : ℕ) (marks : List Bool) (lists : List Ahead) (ahead : Head) : Type 0 where
   pub window : length marks ≡ 4096
   pub listed : AreFew lists
@@ -34,7 +36,7 @@ pub record HaveMarks (start : ℕ) (marks : List Bool) (lists : List Ahead) (ahe
   pub marked : (k : ℕ) → truth_at marks k ≡ true → start + k < 2 ^ 32
   pub before : (k m : ℕ) → truth_at marks k ≡ true → some_has m lists ≡ true → start + k < m
 
--- the first from a number on that is marked, if there is one
+-- the number is the first from `low` on that is marked, or None if none is
 abbrev pub IsFirstMark : ℕ → ℕ → List Bool → Option ℕ → Type 0
 IsFirstMark start low marks number =
     MatchOption number ((k : ℕ) → low ≤ start + k → truth_at marks k ≡ false)

@@ -10,32 +10,34 @@ use Rattle.mail_answer.specs.declared.cursor.scanned.Asked.TheVariants.{Any, Dat
 use Rattle.mail_answer.specs.TableFacts.{is_among, facts_of_record, record_at}
 use Rattle.mail_answer.specs.Marks.{each_number}
 
--- what is asked of a record, as a query
+-- a condition on a record, as a query
 abbrev pub asked_query : Asked → Query
 asked_query Any = query.Any
 asked_query (Date range) = query.Date range
 asked_query (Size low high) = query.Size low high
 asked_query (Flag flag wanted) = query.HasFlag flag wanted
 
--- whether the record is as asked. What is asked of a record asks nothing else of its table, nor of its number
+-- Whether the record meets the condition. A condition depends on the record alone, not on its table or number.
 abbrev pub is_as_asked : Asked → Record → Bool
 is_as_asked asked m = is_true (asked_query asked) (facts_of_record (record { version = 0; archives = []; messages = []; keys = [] }) 0 m)
 
+-- whether the record of the message of this number meets the condition
 abbrev pub satisfies : List Record → Asked → ℕ → Bool
 satisfies records asked n = is_as_asked asked (record_at records n)
 
--- the first may have been found already; from the next record on those that pass the test
+-- whether the message is the first one, if this was found already, or comes from the next record on and passes the test
 abbrev pub is_ahead : (ℕ → Bool) → ℕ → Option ℕ → ℕ → Bool
 is_ahead test next first n = is_among n (option_to_list first) || (nat_le next n && test n)
 
+-- for each of `count` messages, whether it still comes
 abbrev pub truths_scanned : ℕ → (ℕ → Bool) → ℕ → Option ℕ → List Bool
 truths_scanned count test next first = each_number count (is_ahead test next first)
 
--- what was found lies before the next record
+-- the message that was found is before the next record
 abbrev pub IsFound : ℕ → ℕ → Option ℕ → Type 0
 IsFound count next first = IfSome first (λ n. (n < next) × (n < count))
 
--- the records from one on were looked at, up to the first that passes the test
+-- the records from `old` on were read, up to the first that passes the test, or to the end if none passes
 abbrev pub Scans : ℕ → (ℕ → Bool) → ℕ → ℕ → Option ℕ → Type 0
 Scans count test old new found =
     MatchOption found ((count ≤ new) × ((m : ℕ) → old ≤ m → m < count → test m ≡ false))

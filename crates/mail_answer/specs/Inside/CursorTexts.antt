@@ -1,4 +1,4 @@
--- Walks along posting lists while they are gathered.
+-- Walks along posting lists, while the lists are gathered.
 use Rattle.std.specs.Prelude.{◌≡◌, ℕ, ◌+◌, ◌≤◌, Bool, true, false, ◌||◌, cond, List, [], ◌∷◌, length, filter}
 use Rattle.std.specs.List.{list_any, AllByRecursion}
 use Rattle.mail_index.specs.declared.kind.Kind.{Kind}
@@ -12,12 +12,12 @@ use Rattle.mail_answer.specs.Cursors.{numbers_of_keys}
 use Rattle.mail_answer.specs.CursorAhead.{Ahead, left_in}
 use Rattle.mail_answer.specs.Inside.CursorLists.{AreNumbers}
 
--- the message comes in some walk
+-- whether the message is in at least one walk
 abbrev pub some_has : ℕ → List Ahead → Bool
 some_has m [] = false
 some_has m (w ∷ ws) = truth_at w.truths m || some_has m ws
 
--- the messages whose numbers pass the test joined, and not more than so many steps
+-- the messages whose numbers pass the test were added, with at most `most` more steps
 pub record Joins (test : ℕ → Bool) (most : ℕ) (old new : List Ahead) : Type 0 where
   pub each : (m : ℕ) → some_has m new ≡ (some_has m old || test m)
   pub left : left_in new ≤ left_in old + most
@@ -26,21 +26,21 @@ pub record Joins (test : ℕ → Bool) (most : ℕ) (old new : List Ahead) : Typ
 abbrev pub any_text : List ℕ → Bool
 any_text text = true
 
--- how long the lists of those keys are together whose texts pass
+-- how many numbers the keys have together whose texts pass
 abbrev pub numbers_passing : (List ℕ → Bool) → List (List ℕ × List ℕ) → ℕ
 numbers_passing passes [] = 0
 numbers_passing passes (k ∷ ks) = cond (passes k.0) (length k.1) 0 + numbers_passing passes ks
 
--- rising numbers of so many messages each
+-- each key has rising numbers below `count`
 abbrev pub HaveNumbers : ℕ → List (List ℕ × List ℕ) → Type 0
 HaveNumbers count keys = AllByRecursion (λ k. AreNumbers count k.1) keys
 
--- some text of one of these kinds passes
+-- whether a text of one of these kinds passes for the message
 abbrev pub some_of_kinds : List Kind → (List ℕ → Bool) → List Key → ℕ → Bool
 some_of_kinds [] passes keys m = false
 some_of_kinds (kind ∷ kinds) passes keys m = list_any passes (texts_with kind m keys) || some_of_kinds kinds passes keys m
 
--- how long the lists of the keys of a kind are together whose texts pass
+-- how many numbers the keys of a kind have together whose texts pass
 abbrev pub numbers_fitting : (List ℕ → Bool) → List Key → Kind → ℕ
 numbers_fitting passes keys kind = numbers_of_keys (filter (λ k. passes k.text) (keys_of kind keys))
 

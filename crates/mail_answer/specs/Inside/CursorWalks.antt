@@ -1,9 +1,10 @@
--- How the nodes of a walk are seen.
+-- What each node of a walk still gives.
 use Rattle.std.specs.Prelude.{◌+◌}
 use Rattle.mail_answer.specs.CursorAhead.{Ahead, common, united, others, left_in, postings_in, levels}
 use Rattle.mail_answer.specs.declared.cursor.walk.Node.{Node}
 use Rattle.mail_answer.specs.declared.cursor.walk.Node.TheVariants.{Listed, Marked, Scanned, Others, Common, United}
 
+-- the truths, steps, postings and levels of a node, from those of its parts
 abbrev pub ahead : Node → Ahead
 ahead (Listed list) = record { truths = list.truths; left = list.left; postings = list.left; below = 0 }
 ahead (Marked marked) = record { truths = marked.value.truths; left = marked.value.left; postings = marked.value.left; below = 0 }

@@ -1,4 +1,4 @@
-//! The walk of a query, before its first step.
+//! Makes the walk of a query, before its first step.
 ghost use Rattle.std.specs.Prelude.{◌≡◌, ◌≤◌, length, IfOk};
 ghost use Rattle.mail_index.specs.Steps.{add_steps};
 ghost use Rattle.mail_index.specs.Tables.{IsWellFormed};
@@ -14,7 +14,7 @@ use mail_index::CountedIndex;
 use mail_query::Node;
 use std::alloc::{AllocError, Global};
 
-/// The walk through the messages that satisfy the node. Takes all the memory that the walk needs.
+/// Makes the walk through the messages that satisfy the node. Takes all the memory that the walk needs.
 #[cycle(begin)]
 pub(crate) fn walk_of<'a>(
     alloc: Global,
@@ -58,8 +58,8 @@ pub(crate) fn walk_of<'a>(
         Node::All(members) => {
             let walks = walks_of(alloc, index, members.as_slice())?;
             if walks.is_empty() {
-                // Where there are no members, every message satisfies each of them. No message comes in a union of no walks, so
-                // all messages are those that don't come in it.
+                // If there are no members, every message satisfies each of them. A union of no walks has no message, so
+                // the messages that aren't in it are all messages.
                 return Walk::others(alloc, count, Walk::united(walks));
             }
             Ok(Walk::common(walks))
@@ -71,7 +71,7 @@ pub(crate) fn walk_of<'a>(
     }
 }
 
-/// The walks of some nodes.
+/// Makes the walk of each node.
 #[cycle(begin)]
 fn walks_of<'a>(
     alloc: Global,

@@ -3,10 +3,10 @@ ghost use Rattle.std.specs.Prelude.{◌≡◌, nat_le, true};
 ghost use Rattle.std.specs.Option.{option_map_or};
 ghost use Rattle.mail_answer.specs.CursorAhead.{lesser_of};
 
-/// What a walk remembers of the first number that is still to come.
+/// What a walk remembers of the first number that still comes.
 #[derive(Clone, Copy, Drop)]
 pub(crate) enum Head {
-    /// Nothing: it was not asked yet.
+    /// Nothing: it wasn't looked for yet.
     Unasked,
     /// That number, or that there is none.
     Asked(Option<u32>),
@@ -22,7 +22,7 @@ pub(crate) fn is_none_below(first: Option<u32>, n: u32) -> bool
     }
 }
 
-/// The lesser of two numbers, as far as there are any.
+/// The lesser of two numbers; if only one is there, this one.
 pub(crate) fn lesser_of(one: Option<u32>, other: Option<u32>) -> Option<u32>
     ensures { result ≡ lesser_of one other }
 {

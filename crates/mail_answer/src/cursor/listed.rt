@@ -6,7 +6,7 @@ ghost use Rattle.mail_answer.specs.Inside.CursorLists.{truths_among, AreNumbers,
 use mail_index::{Postings, Steps};
 use std::marker::Model;
 
-/// The messages of a posting list still to come: the first of them may have been taken from it already.
+/// The messages of a posting list that still come. The first of them may have been taken from the list already.
 #[derive(Drop)]
 pub(crate) struct Listed<'a> {
     count: u32,
@@ -37,7 +37,7 @@ pub(crate) fn is_before(first: Option<u32>, n: u32) -> bool
 }
 
 impl<'a> Listed<'a> {
-    /// The messages with these numbers, of so many in all.
+    /// The walk along these postings, whose numbers are below `count`.
     pub(crate) fn new(count: u32, postings: Postings<'a>) -> Self
         requires { AreNumbers count postings }
         ensures truths { result.truths ≡ truths_among count postings.entry }
@@ -50,7 +50,7 @@ impl<'a> Listed<'a> {
         }
     }
 
-    /// The least number still to come that is at least n; all before it are dropped.
+    /// Returns the least number still to come that is at least n, and drops all before it.
     pub(crate) fn least_from(&mut self, n: u32, steps: &mut Steps) -> Option<u32>
         ensures rest { Drops n self.old.truths self.new.truths }
         ensures number { IsFirst self.new.truths result }

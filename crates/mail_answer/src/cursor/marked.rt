@@ -1,7 +1,7 @@
 //! The walk along many posting lists.
 //!
-//! A union of many lists marks the messages of a window, and walks along the marks. Going from list to list at each number would
-//! wait for memory at nearly every step (decision 74 in docs/DECISIONS.md).
+//! A union of many lists marks the messages of a window, and walks along the marks. Going from list to list at each
+//! number would be slowed down by memory at nearly every step (decision 74 in docs/DECISIONS.md).
 ghost use Rattle.std.specs.Prelude.{◌≡◌, ◌<◌, ◌^◌, ◌+◌, ℕ, true, length, IfNone};
 ghost use Rattle.mail_answer.specs.CursorAhead.{Counts, Drops, IsFirst, left_in, united};
 ghost use Rattle.mail_answer.specs.Inside.CursorMarks.{AreFew, HaveMarks, IsFirstMark, IsHead, marked_or_listed, truths_marked};
@@ -16,20 +16,19 @@ use std::marker::Model;
 /// How many messages a window covers.
 const WINDOW: usize = 4096;
 
-/// The messages that come in some of many posting lists. Those that lie in a window are marked: going
-/// from list to list at each number would wait for memory at each step. Where no mark is left, the
-/// window begins anew at the least number of the lists.
+/// The messages that are in at least one of many posting lists. Those in the window are marked. Once no mark is left,
+/// the window begins anew at the least number of the lists.
 #[derive(Drop)]
 pub(crate) struct Marked<'a> {
-    // The lists, each from the first number behind the window on. Those at their end are taken out.
+    // The lists, each from its first number after the window on. Those at their end are taken out.
     lists: Vec<Listed<'a>>,
     // The least number of the lists.
     ahead: Head,
-    // Whether each message of the window comes in a list.
+    // Whether each message of the window is in a list.
     marks: [bool; WINDOW],
     // The first message of the window.
     start: u32,
-    // All messages below are dropped.
+    // All messages below this number are dropped.
     low: u32,
 }
 
@@ -44,8 +43,8 @@ impl<'a> Model for Marked<'a> {
     ghost invariant = { λ s. HaveMarks s.start s.marks s.lists.items s.ahead };
 }
 
-/// Marks the messages of a list that lie in the window from `start` on, drops them and all before
-/// them, and answers the first of the others.
+/// Marks the messages of a list that are in the window from `start` on. Drops them and all before them, and returns the
+/// first of the others.
 fn mark(list: &mut Listed<'_>, start: u32, marks: &mut [bool], steps: &mut Steps) -> Option<u32>
     requires { (m : ℕ) → truth_at list.old.truths m ≡ true → m + 1 < 2 ^ 32 }
     ensures rest { Drops (start + length marks.old) list.old.truths list.new.truths }
@@ -66,8 +65,8 @@ fn mark(list: &mut Listed<'_>, start: u32, marks: &mut [bool], steps: &mut Steps
     None
 }
 
-/// Marks the messages of all lists that lie in the window from `start` on, drops them and all before
-/// them, and answers the first of the others. A list that comes to its end is taken out.
+/// Marks the messages of all lists that are in the window from `start` on. Drops them and all before them, and returns
+/// the first of the others. Takes out each list that comes to its end.
 fn mark_all(
     lists: &mut Vec<Listed<'_>>,
     start: u32,
@@ -97,7 +96,7 @@ fn mark_all(
     least
 }
 
-/// The first message from n on that comes in a list; all before it are dropped.
+/// Returns the first message from n on that is in a list, and drops all before it.
 #[tactic(auto, using(crate::proofs::CursorLaws::MarkedLists::drops_at_once))]
 fn least_ahead(lists: &mut Vec<Listed<'_>>, ahead: Head, n: u32, steps: &mut Steps) -> Option<u32>
     requires few { AreFew lists.old.items }
@@ -114,8 +113,8 @@ fn least_ahead(lists: &mut Vec<Listed<'_>>, ahead: Head, n: u32, steps: &mut Ste
     mark_all(lists, n, &mut [], steps)
 }
 
-/// Begins the window anew at the first message from n on that comes in a list, and answers it. Where
-/// there is none, no message is left.
+/// Begins the window anew at the first message from n on that is in a list, and returns this message. If there is none,
+/// no message is left.
 fn begin_window(
     lists: &mut Vec<Listed<'_>>,
     ahead: &mut Head,
@@ -141,7 +140,7 @@ fn begin_window(
     number
 }
 
-/// The number of the first mark from one on.
+/// The number of the first mark that isn't below `low`.
 fn first_mark(marks: &[bool], start: u32, low: u32) -> Option<u32>
     requires { (k : ℕ) → truth_at marks.now k ≡ true → start + k < 2 ^ 32 }
     ensures { IsFirstMark start low marks.now result }
@@ -157,7 +156,7 @@ fn first_mark(marks: &[bool], start: u32, low: u32) -> Option<u32>
 }
 
 impl<'a> Marked<'a> {
-    /// The walk through the messages that come in some of these lists.
+    /// The walk through the messages that are in at least one of these lists.
     pub(crate) fn new(lists: Vec<Listed<'a>>) -> Self
         requires { AreFew lists.items }
         ensures truths { (m : ℕ) → truth_at result.truths m ≡ some_has m lists.entry.items }
@@ -172,7 +171,7 @@ impl<'a> Marked<'a> {
         }
     }
 
-    /// The least number still to come that is at least n; all before it are dropped.
+    /// Returns the least number still to come that is at least n, and drops all before it.
     pub(crate) fn least_from(&mut self, n: u32, steps: &mut Steps) -> Option<u32>
         ensures rest { Drops n self.old.truths self.new.truths }
         ensures number { IsFirst self.new.truths result }

@@ -10,20 +10,20 @@ use mail_index::{Record, Records, Steps};
 use mail_words::Flag;
 use std::marker::Model;
 
-/// What is asked of a message's record.
+/// A condition on a message's record.
 #[derive(Clone, Copy, Drop)]
 pub(crate) enum Asked {
-    /// Nothing.
+    /// No condition.
     Any,
-    /// That its date lies in the range.
+    /// The date is in the range.
     Date(Range),
-    /// That its size lies between these, both included; a `high` of None is no bound.
+    /// The size is between these, both included; a `high` of None is no bound.
     Size { low: u64, high: Option<u64> },
-    /// That it has the flag, or where `wanted` is false, has it not.
+    /// The message has the flag; if `wanted` is false, it doesn't have it.
     Flag { flag: Flag, wanted: bool },
 }
 
-/// Whether the record is as asked.
+/// Whether the record meets the condition.
 fn is_as_asked(asked: Asked, message: Record) -> bool
     ensures { result ≡ is_as_asked_of asked message }
 {
@@ -44,7 +44,8 @@ fn is_as_asked(asked: Asked, message: Record) -> bool
     }
 }
 
-/// Looks at the records from the next one on, a step each, up to the first that is as asked.
+/// Reads the records from the next one on, a step each, up to the first that meets the condition. Returns the number of
+/// this one.
 fn next_asked(records: &Records<'_>, asked: Asked, next: &mut u32, steps: &mut Steps) -> Option<u32>
     ensures found { Scans (length records.now) (satisfies records.now asked) next.old next.new
         result }
@@ -62,9 +63,9 @@ fn next_asked(records: &Records<'_>, asked: Asked, next: &mut u32, steps: &mut S
     None
 }
 
-/// The messages still to come of those whose records are as asked: the first of them may have been found already.
+/// The messages still to come whose records meet the condition. The first of them may have been found already.
 ///
-/// It has the records alone, of which each look is a step, and no index in which it could look up a key.
+/// It has only the records, of which each look is a step, and no index in which it could look up a key.
 #[derive(Drop)]
 pub(crate) struct Scanned<'a> {
     records: Records<'a>,
@@ -88,7 +89,7 @@ impl<'a> Model for Scanned<'a> {
 impl<'a> Scanned<'a> {
     ghost use Rattle.mail_answer.specs.Marks.{each_number};
 
-    /// All messages whose records are as asked.
+    /// The walk through all messages whose records meet the condition.
     pub(crate) fn new(records: Records<'a>, asked: Asked) -> Self
         ensures truths { result.truths
             ≡ each_number (length records.entry) (satisfies records.entry asked) }
@@ -102,7 +103,7 @@ impl<'a> Scanned<'a> {
         }
     }
 
-    /// The least number still to come that is at least n; all before it are dropped.
+    /// Returns the least number still to come that is at least n, and drops all before it.
     pub(crate) fn least_from(&mut self, n: u32, steps: &mut Steps) -> Option<u32>
         ensures rest { Drops n self.old.truths self.new.truths }
         ensures number { IsFirst self.new.truths result }

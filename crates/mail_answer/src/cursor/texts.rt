@@ -18,14 +18,14 @@ use mail_words::TextKind;
 use memchr::memmem;
 use std::alloc::{AllocError, Global};
 
-/// How the sought text has to lie in a word or an id.
+/// How a word or an id must contain the text of a query.
 #[derive(Clone, Copy)]
 pub(crate) enum Fit {
-    /// It is all of it.
+    /// It is the text.
     Whole,
-    /// It stands somewhere in it.
+    /// It has the text somewhere.
     Within,
-    /// It begins with it.
+    /// It begins with the text.
     Front,
 }
 
@@ -82,7 +82,7 @@ fn push_all<'a>(
     Ok(())
 }
 
-/// Adds the lists of those keys in which the text stands somewhere.
+/// Adds the lists of the keys that have the text somewhere.
 #[tactic(auto, using(crate::proofs::CursorLaws::Containing::found))]
 fn push_containing<'a>(
     members: &mut Vec<Listed<'a>>,
@@ -102,7 +102,7 @@ fn push_containing<'a>(
     Ok(())
 }
 
-/// Adds the lists of the keys of this kind in which the text lies so.
+/// Adds the lists of the keys of this kind that fit the text.
 fn push_kind<'a>(
     members: &mut Vec<Listed<'a>>,
     index: &mut CountedIndex<'a>,
@@ -128,7 +128,8 @@ fn push_kind<'a>(
     }
 }
 
-/// The walk through the messages that have a word of a kind of the set, or the own id if it is in it, in which the text lies so.
+/// The walk through the messages that have a word of a kind of the set, or the own id if it is in the set, that fits
+/// the text.
 pub(crate) fn with_text<'a>(
     alloc: Global,
     index: &mut CountedIndex<'a>,

@@ -14,11 +14,11 @@ use mail_index::{Records, Steps};
 use std::alloc::{AllocError, Global};
 use std::marker::Model;
 
-/// The most members of a walk through what comes in some of many.
+/// The most members that a union may have.
 const MOST: usize = 4;
 
-/// A walk through the messages that satisfy a query. It remembers its first number, so it goes on in its members only where it
-/// has to.
+/// A walk through the messages that satisfy a query. It remembers its first number, so it goes on in its members only
+/// if it must.
 #[cycle(walk)]
 #[derive(Drop)]
 pub(crate) struct Walk<'a> {
@@ -26,25 +26,25 @@ pub(crate) struct Walk<'a> {
     head: Head,
 }
 
-/// What a walk goes along.
+/// What a walk consists of.
 #[cycle(walk)]
 #[derive(Drop)]
 enum Node<'a> {
     /// A posting list.
     Listed(Listed<'a>),
-    /// Many posting lists. They are boxed, since most walks are single lists.
+    /// Many posting lists. They are boxed, because most walks are single lists.
     Marked(Box<Marked<'a>>),
-    /// The records that are as asked. It is boxed, since it is large and most walks are lists.
+    /// The records that meet a condition. It is boxed, because it is large and most walks are lists.
     Scanned(Box<Scanned<'a>>),
-    /// All messages that don't come in a walk.
+    /// All messages that aren't in a walk.
     Others(Others<'a>),
-    /// The messages that come in each of some walks.
+    /// The messages that are in each of these walks.
     Common(Vec<Walk<'a>>),
-    /// The messages that come in some walk.
+    /// The messages that are in at least one of these walks.
     United(Vec<Walk<'a>>),
 }
 
-/// The messages from `low` on, of `count` in all, that don't come in the inner walk.
+/// The messages from `low` on, of `count` in all, that aren't in the inner walk.
 #[cycle(walk)]
 #[derive(Drop)]
 struct Others<'a> {
@@ -76,7 +76,7 @@ impl<'a> Model for Walk<'a> {
 impl<'a> Walk<'a> {
     ghost use Rattle.mail_answer.specs.Inside.CursorWalks.{ahead};
 
-    /// A walk along this, before its first step.
+    /// A walk along this node, before its first step.
     fn of(node: Node<'a>) -> Self
         ensures { result ≡ ahead node.entry }
     {
@@ -86,7 +86,8 @@ impl<'a> Walk<'a> {
         }
     }
 
-    /// The walk through the messages that come in some of these posting lists: by marks, if there are many of them.
+    /// The walk through the messages that are in at least one of these posting lists: by marks, if there are more than
+    /// four.
     #[tactic(auto, using(crate::proofs::CursorLaws::MarkedLists::if_marked))]
     pub(crate) fn along_some(alloc: Global, mut lists: Vec<Listed<'a>>) -> Result<Self, AllocError>
         requires { AreFew lists.items }
@@ -105,7 +106,7 @@ impl<'a> Walk<'a> {
         Ok(Walk::united(walks))
     }
 
-    /// The walk along the records that are as asked.
+    /// The walk along the records that meet the condition.
     pub(crate) fn scanned(
         alloc: Global,
         records: Records<'a>,
@@ -119,7 +120,7 @@ impl<'a> Walk<'a> {
         Ok(Walk::of(Node::Scanned(scan)))
     }
 
-    /// The walk through those of so many messages that don't come in another walk.
+    /// The walk through the messages, of `count` in all, that aren't in another walk.
     pub(crate) fn others(alloc: Global, count: u32, inner: Walk<'a>) -> Result<Self, AllocError>
         ensures truths { IfOk result (λ w. w.truths ≡ others count 0 inner.entry.truths) }
         ensures left { IfOk result (λ w. w.left ≡ inner.entry.left) }
@@ -132,7 +133,7 @@ impl<'a> Walk<'a> {
         })))
     }
 
-    /// The walk through the messages that come in each of one or more walks.
+    /// The walk through the messages that are in each of one or more walks.
     pub(crate) fn common(members: Vec<Walk<'a>>) -> Self
         ensures truths { result.truths ≡ common members.entry.items }
         ensures left { result.left ≡ left_in members.entry.items }
@@ -140,7 +141,7 @@ impl<'a> Walk<'a> {
         Walk::of(Node::Common(members))
     }
 
-    /// The walk through the messages that come in some walk.
+    /// The walk through the messages that are in at least one of these walks.
     pub(crate) fn united(members: Vec<Walk<'a>>) -> Self
         ensures truths { result.truths ≡ united members.entry.items }
         ensures left { result.left ≡ left_in members.entry.items }
@@ -148,7 +149,8 @@ impl<'a> Walk<'a> {
         Walk::of(Node::United(members))
     }
 
-    /// The walk through the messages that come in some of any number of walks: a tree, so that a step goes on in few of them.
+    /// The walk through the messages that are in at least one of any number of walks: a tree, so that a step goes on in
+    /// few of them.
     pub(crate) fn united_in_groups(
         alloc: Global,
         members: Vec<Walk<'a>>,
@@ -170,7 +172,7 @@ impl<'a> Walk<'a> {
         Ok(Walk::united(walks))
     }
 
-    /// The least number still to come that is at least n; all before it are dropped.
+    /// Returns the least number still to come that is at least n, and drops all before it.
     #[cycle(least)]
     pub(crate) fn least_from(&mut self, n: u32, steps: &mut Steps) -> Option<u32>
         ensures rest { Drops n self.old.truths self.new.truths }
@@ -193,7 +195,7 @@ impl<'a> Walk<'a> {
 impl<'a> Node<'a> {
     ghost use Rattle.mail_answer.specs.Inside.CursorWalks.{ahead};
 
-    /// The least number still to come that is at least n; all before it are dropped.
+    /// Returns the least number still to come that is at least n, and drops all before it.
     #[cycle(least)]
     fn least_from(&mut self, n: u32, steps: &mut Steps) -> Option<u32>
         ensures rest { Drops n (ahead self.old).truths (ahead self.new).truths }
@@ -214,7 +216,7 @@ impl<'a> Node<'a> {
     }
 }
 
-/// The least number from n on that doesn't come in the inner walk.
+/// Returns the least number from n on that isn't in the inner walk.
 #[cycle(least)]
 fn least_other(walk: &mut Others<'_>, n: u32, steps: &mut Steps) -> Option<u32>
     ensures rest { Drops n (others walk.old.count walk.old.low walk.old.inner.value.truths)
@@ -239,8 +241,8 @@ fn least_other(walk: &mut Others<'_>, n: u32, steps: &mut Steps) -> Option<u32>
     None
 }
 
-/// The least number from n on that comes in each member: each in turn goes on to where the one before it stands, until a round
-/// moves none.
+/// Returns the least number from n on that is in each member. Each member in turn goes on to the number that the one
+/// before it reached, until a round moves none.
 #[cycle(least)]
 fn least_common(members: &mut [Walk<'_>], n: u32, steps: &mut Steps) -> Option<u32>
     ensures rest { Drops n (common members.old) (common members.new) }
@@ -263,7 +265,7 @@ fn least_common(members: &mut [Walk<'_>], n: u32, steps: &mut Steps) -> Option<u
     }
 }
 
-/// One round: the number that the last member reached, which is n only where each has it.
+/// Makes one round: returns the number that the last member reached, which is n only if each member has n.
 #[cycle(least)]
 fn reach_common(members: &mut [Walk<'_>], n: u32, steps: &mut Steps) -> Option<u32>
     requires { 0 < length members.old }
@@ -281,7 +283,7 @@ fn reach_common(members: &mut [Walk<'_>], n: u32, steps: &mut Steps) -> Option<u
     Some(number)
 }
 
-/// The least number from n on that comes in some member.
+/// Returns the least number from n on that is in at least one member.
 #[cycle(least)]
 fn least_united(members: &mut [Walk<'_>], n: u32, steps: &mut Steps) -> Option<u32>
     ensures rest { Drops n (united members.old) (united members.new) }

@@ -1,3 +1,4 @@
+-- `answer` sends what the table answers, or a front of it, because each of its steps does.
 use Rattle.mail_answer.proofs.Words.{◌∙◌, Err, arith, search_of}
 use Rattle.mail_answer.proofs.OutputLaws.SentLemmas.{nothing_sent, answered_sent, no_spans_sent, spans_sent}
 use Rattle.mail_answer.proofs.answers.answer.Goals as goal

@@ -1,7 +1,7 @@
+-- The numbers so far, and those that still come.
 use Rattle.mail_answer.proofs.Words.{◌≡◌, ◌++◌, length}
 use Rattle.mail_answer.proofs.cursor.numbers_of.Given as goal
 
--- the numbers so far, and those to come
 abbrev pub invariant-loop-number : goal.invariant-loop-number
 invariant-loop-number l = l.numbers.items ++ l.cursor.numbers ≡ l.fn.cursor.numbers
 

@@ -1,3 +1,4 @@
+-- Chosen numbers are those of messages, because a query is tested for these alone, and threads consist of them.
 use Rattle.mail_answer.proofs.OutputLaws.ChosenBelow.{chosen-below, threads-below}
 use Rattle.mail_answer.proofs.laws.chosen_numbers_are_those_of_messages.Goals as goal
 

@@ -1,3 +1,4 @@
+-- `thread_roots` gives a root for each message, and messages in one thread have the same one.
 use Rattle.mail_answer.proofs.Words.{◌≡◌, ◌∙◌, ◌+◌, ◌<◌, ℕ, List, [], ◌∷◌, ◌++◌, length, sym, ap, subst, arith, range_with_len, map-id, map-range_with_len_more, AllByRecursion, LeadsBack}
 use Rattle.mail_answer.proofs.ThreadLaws.RootLemmas.{single_back, link_keys_below, threads_told, written_over}
 use Rattle.mail_answer.proofs.threads.thread_roots.Goals as goal

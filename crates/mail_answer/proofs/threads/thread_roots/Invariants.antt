@@ -1,3 +1,4 @@
+-- The roots so far are the messages themselves.
 use Rattle.mail_answer.proofs.Words.{◌≡◌, range_with_len}
 use Rattle.mail_answer.proofs.threads.thread_roots.Given as goal
 

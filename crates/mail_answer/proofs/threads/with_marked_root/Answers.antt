@@ -1,3 +1,4 @@
+-- `with_marked_root` returns the messages whose root is marked, message by message.
 use Rattle.mail_answer.proofs.Words.{arith}
 use Rattle.mail_answer.proofs.CursorLaws.TruthLists.{filter_true, filter_false}
 use Rattle.mail_answer.proofs.threads.with_marked_root.Goals as goal

@@ -1,3 +1,4 @@
+-- The numbers so far are those of the messages so far whose root is marked.
 use Rattle.mail_answer.proofs.Words.{◌≡◌, get_or, filter, range_with_len, truth_at}
 use Rattle.mail_answer.proofs.threads.with_marked_root.Given as goal
 

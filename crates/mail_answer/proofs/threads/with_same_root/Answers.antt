@@ -1,3 +1,4 @@
+-- `with_same_root` returns the messages that have a root of these, because it marks the roots first.
 use Rattle.mail_answer.proofs.Words.{◌∙◌, length, refl, arith, take_all, length-replicate}
 use Rattle.mail_answer.proofs.CursorLaws.TruthLists.{adds_to_none}
 use Rattle.mail_answer.proofs.threads.with_same_root.Goals as goal

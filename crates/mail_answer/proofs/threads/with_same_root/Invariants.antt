@@ -1,3 +1,4 @@
+-- The roots of the numbers so far are marked, and no others.
 use Rattle.mail_answer.proofs.Words.{false, nat_eq, get_or, length, replicate, take, list_any, Adds}
 use Rattle.mail_answer.proofs.threads.with_same_root.Given as goal
 

@@ -1,3 +1,5 @@
+-- `with_threads` returns the list of threads: without links or numbers the numbers themselves, otherwise those with the
+-- same roots.
 use Rattle.mail_answer.proofs.Words.{◌≡◌, ◌∙◌, ◌⊎◌, ℕ, nat_eq, [], length, get_or, inl, inr, sym, ap, subst, arith, length-map, list_any, eqb-true, LinkId, keys_of, each_number, AreThreads, TellsThreads}
 use Rattle.mail_answer.proofs.ThreadLaws.ChosenThreads.{ok_then, empty_is, no_keys, threads_without, chosen_by_marks}
 use Rattle.mail_answer.proofs.threads.with_threads.Goals as goal

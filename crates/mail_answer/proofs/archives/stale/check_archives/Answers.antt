@@ -1,3 +1,4 @@
+-- `check_archives` finds the first changed archive, because it compares one length after another.
 use Rattle.mail_answer.proofs.Words.{◌≡◌, ◌∙◌, Ok, IfSome, length, subst, sym, arith, Agree, Archive, archive_of, archive_at}
 use Rattle.mail_answer.proofs.ArchiveLaws.AskedLemmas.{agree_more}
 use Rattle.mail_answer.proofs.ArchiveLaws.StaleLemmas.{goes_on, named_here, next_named, none_left}

@@ -1,7 +1,7 @@
+-- The archives before this one are as they were indexed.
 use Rattle.mail_answer.proofs.Words.{◌≡◌, ◌≤◌, drop, length, IfSome, Agree, first_changed, HoldsArchives}
 use Rattle.mail_answer.proofs.archives.stale.check_archives.Given as goal
 
--- the archives before this one are as they were
 abbrev pub invariant-loop-archive : goal.invariant-loop-archive
 invariant-loop-archive g l = record {
   within : l.n ≤ length l.fn.index.archives;

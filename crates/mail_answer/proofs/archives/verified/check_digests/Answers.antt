@@ -1,3 +1,4 @@
+-- `check_digests` finds the first altered archive, because it compares one digest after another.
 use Rattle.mail_answer.proofs.Words.{◌≡◌, ◌∙◌, ◌<◌, true, false, subst, bytes_eq, sym, arith, AreRead, Archive, archive_of}
 use Rattle.mail_answer.proofs.ArchiveLaws.StaleLemmas.{named_here, next_named, none_left}
 use Rattle.mail_answer.proofs.ArchiveLaws.VerifiedLemmas.{told_next, more_read}

@@ -1,8 +1,8 @@
+-- The archives before this one are those that were indexed.
 use Rattle.mail_answer.proofs.Words.{◌≡◌, ◌≤◌, drop, length, AreRead, KeepsArchives}
 use Rattle.mail_answer.proofs.ArchiveLaws.VerifiedLemmas.{UnalteredTo}
 use Rattle.mail_answer.proofs.archives.verified.check_digests.Given as goal
 
--- the archives before this one are those that were indexed
 abbrev pub invariant-loop-archive : goal.invariant-loop-archive
 invariant-loop-archive g l = record {
   within : l.n ≤ length l.fn.index.archives;

@@ -1,3 +1,4 @@
+-- `read_digest` returns the digest of the archive's front, because it takes in one piece after another.
 use Rattle.mail_answer.proofs.Words.{◌∙◌, take, length-take-le, arith}
 use Rattle.mail_answer.proofs.ArchiveLaws.DigestLemmas.{more_absorbed}
 use Rattle.mail_answer.proofs.ArchiveLaws.CallLemmas.{keeps_join}

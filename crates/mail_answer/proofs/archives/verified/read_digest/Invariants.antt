@@ -1,8 +1,8 @@
+-- The digest has the bytes before this offset.
 use Rattle.mail_answer.proofs.Words.{◌≡◌, ◌≤◌, ◌-◌, KeepsArchives}
 use Rattle.mail_answer.proofs.ArchiveLaws.DigestLemmas.{AbsorbedTo}
 use Rattle.mail_answer.proofs.archives.verified.read_digest.Given as goal
 
--- the bytes before this place were taken into the digest
 abbrev pub invariant-pieces : goal.invariant-pieces
 invariant-pieces g l = record {
   keeps : KeepsArchives g.A.Archives l.fn.archives l.archives;

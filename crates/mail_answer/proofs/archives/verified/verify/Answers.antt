@@ -1,3 +1,4 @@
+-- `verify` finds the first altered archive, because it compares digests only if no length has changed.
 use Rattle.mail_answer.proofs.Words.{◌∙◌, ◌<◌, ℕ, List, Ok, length, ap, subst, arith, AreVerified}
 use Rattle.mail_answer.specs.Faults.{has_fault, is_of_archives, IfStale}
 use Rattle.mail_answer.specs.Verified.{LooksThrough}

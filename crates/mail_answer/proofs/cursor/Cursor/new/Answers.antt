@@ -1,3 +1,4 @@
+-- `Cursor::new` begins with the chosen numbers, because its walk gives exactly the messages that satisfy the query.
 use Rattle.mail_answer.proofs.Words.{sym, subst, arith, IsWellFormed}
 use Rattle.mail_answer.proofs.CursorLaws.Begins.{tells_chosen}
 use Rattle.mail_answer.proofs.cursor.Cursor.new.Goals as goal

@@ -1,3 +1,4 @@
+-- `Cursor::next_at_least` returns the least number from n on, because its walk gives this one first.
 use Rattle.mail_answer.proofs.Words.{arith}
 use Rattle.mail_answer.proofs.CursorLaws.Numbers.{within_still, takes_none, takes_one}
 use Rattle.mail_answer.proofs.cursor.Cursor.next_at_least.Goals as goal

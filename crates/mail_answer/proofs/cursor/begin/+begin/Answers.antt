@@ -1,3 +1,4 @@
+-- `walk_of` makes the walk of a node, by the kind of the node and from the walks of its members.
 use Rattle.mail_answer.proofs.Words.{◌≡◌, ◌∙◌, ◌+◌, ◌≤◌, ℕ, add_steps, kinds_in, look_up_steps, List, length, drop, refl, sym, ap, subst, arith, IfOk, eqb-true, Node, Query, query_of, queries_of, members_of, fits, Whole, Within, Front, most_left, look_ups, LooksUp, Table, IsWellFormed}
 use Rattle.std.specs.Vec.{vec_len}
 use Rattle.mail_answer.specs.declared.cursor.scanned.Asked.TheVariants as asked

@@ -1,3 +1,4 @@
+-- The walks so far are those of the nodes so far, and the steps so far are those of their look-ups.
 use Rattle.mail_answer.proofs.Words.{◌≡◌, add_steps, IsWellFormed, drop, look_up_steps_of_all, members_of, queries_of}
 use Rattle.mail_answer.proofs.CursorLaws.Begins.{HaveWalks}
 use Rattle.mail_answer.proofs.cursor.begin.+begin.Given as goal

@@ -1,3 +1,4 @@
+-- `begin_window` keeps all messages from n on, because each is marked or still in its list.
 use Rattle.mail_answer.proofs.Words.{subst, refl, IsFirst, united}
 use Rattle.mail_answer.proofs.CursorLaws.MarkedLists.{few_cut, none_marks, none_drops, none_first, begun_marks, begun_drops, begun_first}
 use Rattle.mail_answer.proofs.cursor.marked.begin_window.Goals as goal

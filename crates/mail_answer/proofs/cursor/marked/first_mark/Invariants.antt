@@ -1,3 +1,4 @@
+-- The places so far, from the wanted number on, have no mark.
 use Rattle.mail_answer.proofs.Words.{◌≡◌, ◌-◌, ◌+◌, ◌<◌, ◌≤◌, ℕ, false, length, truth_at}
 use Rattle.mail_answer.proofs.cursor.marked.first_mark.Given as goal
 

@@ -1,3 +1,4 @@
+-- The messages of the list in the window are marked or still come.
 use Rattle.mail_answer.proofs.Words.{◌≡◌, IfNone, IsFirst, Counts}
 use Rattle.mail_answer.proofs.CursorLaws.MarkedLists.{HasMarked, room_behind}
 use Rattle.mail_answer.proofs.cursor.marked.mark.Given as goal

@@ -1,3 +1,4 @@
+-- `mark_all` marks the messages of all lists, list by list, and takes out those at their end.
 use Rattle.mail_answer.proofs.Words.{◌≡◌, ◌<◌, ℕ, Option, Some, length, subst, arith, IfNone, Ahead, IsFirst, left_in}
 use Rattle.mail_answer.proofs.CursorLaws.MarkedLists.{list_few, marked_on, goes_out, goes_out_steps, turn_counts, all_drops, all_first, all_marks}
 use Rattle.mail_answer.proofs.cursor.marked.mark_all.Goals as goal

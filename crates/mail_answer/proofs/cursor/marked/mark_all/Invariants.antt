@@ -1,3 +1,4 @@
+-- The messages of the lists in the window are marked or still come, and none of the first lists has one there.
 use Rattle.mail_answer.proofs.Words.{◌-◌, length, Counts, left_in}
 use Rattle.mail_answer.proofs.CursorLaws.MarkedLists.{HaveMarked}
 use Rattle.mail_answer.proofs.cursor.marked.mark_all.Given as goal

@@ -1,3 +1,4 @@
+-- No record so far meets the condition, and each took a step.
 use Rattle.mail_answer.proofs.Words.{◌≡◌, ◌-◌, ◌<◌, ◌≤◌, ℕ, false, length, add_steps, Spends, satisfies}
 use Rattle.mail_answer.proofs.cursor.scanned.next_asked.Given as goal
 

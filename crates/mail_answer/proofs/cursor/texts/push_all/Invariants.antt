@@ -1,7 +1,7 @@
+-- The walks so far, and those of the keys that still come.
 use Rattle.mail_answer.proofs.Words.{◌≡◌, ◌≤◌, ◌+◌, ◌||◌, ℕ, length, some_key, left_in, some_has, HaveNumbers, numbers_passing, any_text}
 use Rattle.mail_answer.proofs.cursor.texts.push_all.Given as goal
 
--- the walks so far, and those of the keys to come
 abbrev pub invariant-loop-key : goal.invariant-loop-key
 invariant-loop-key l = record {
   numbers : HaveNumbers l.count l.keys;

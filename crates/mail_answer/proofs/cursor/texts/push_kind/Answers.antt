@@ -1,3 +1,4 @@
+-- `push_kind` adds the lists of the keys that fit, because their numbers are those of messages.
 use Rattle.mail_answer.proofs.Words.{◌≡◌, ◌∙◌, ℕ, Bool, List, length, sym, ap, subst, arith, list_any, keys_of, keys_beginning, begins_with, texts_with, some_key, AreNumbers, any_text, numbers_passing, numbers_fitting}
 use Rattle.mail_answer.proofs.CursorLaws.TextLemmas.{looked_up, sorted_keys, fitting_keys, kept_keys}
 use Rattle.mail_answer.proofs.CursorLaws.Texts.{keys_numbers, beginning_numbers, list_numbers, found_left, fitting_left, all_left, looks_up_digits, looks_up_none, if_joins}

@@ -1,3 +1,4 @@
+-- `push_list` adds the messages of one list.
 use Rattle.mail_answer.proofs.CursorLaws.Texts.{joins_list}
 use Rattle.mail_answer.proofs.cursor.texts.push_list.Goals as goal
 

@@ -1,3 +1,4 @@
+-- `with_text` gives the messages that have a fitting text, kind by kind.
 use Rattle.mail_answer.proofs.Words.{◌≡◌, ◌∙◌, ℕ, Bool, add_steps, compared_by, List, [], ◌∷◌, ◌++◌, length, map, get_or, sym, subst, arith, list_any, texts_with, numbers_fitting, LooksUp, Table, Key, IsWellFormed, cases_lt, both_ways, To, Kind, Text, OwnId, text_kinds, fits, kinds_in, looked_up_by}
 use Rattle.mail_answer.specs.Inside.CursorTexts.{Joins}
 use Rattle.mail_answer.proofs.CursorLaws.Texts.{some_of_all, word_past, kinds_more, kinds_steps, kinds_skip, kinds_next, all_kinds}

@@ -1,3 +1,4 @@
+-- The walks so far, with those of the kinds that still come, are those of all kinds.
 use Rattle.mail_answer.proofs.Words.{◌≡◌, [], add_steps, compared_by, compared_in_all, drop, filter, fits, is_in, kinds_in, looked_up_by}
 use Rattle.mail_answer.proofs.CursorLaws.Texts.{HaveKinds}
 use Rattle.mail_answer.proofs.cursor.texts.with_text.Given as goal

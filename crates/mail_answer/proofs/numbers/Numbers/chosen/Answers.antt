@@ -1,3 +1,4 @@
+-- `Numbers::chosen` gives the chosen numbers, by a cursor or as a list of threads.
 use Rattle.mail_answer.proofs.Words.{arith}
 use Rattle.mail_query.specs.Meaning.{meaning}
 use Rattle.mail_answer.proofs.ThreadLaws.ChosenThreads.{threads_below}

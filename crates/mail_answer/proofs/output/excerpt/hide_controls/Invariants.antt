@@ -1,3 +1,4 @@
+-- The bytes so far are as they are written, and the others are unchanged.
 use Rattle.mail_answer.proofs.Words.{◌≡◌, ◌<◌, ◌≤◌, ℕ, get_or, length, shown_byte}
 use Rattle.mail_answer.proofs.output.excerpt.hide_controls.Given as goal
 

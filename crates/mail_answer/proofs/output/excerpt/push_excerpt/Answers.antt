@@ -1,3 +1,4 @@
+-- `push_excerpt` adds the excerpt of a message, because the header that it read has the message's fields.
 use Rattle.mail_answer.proofs.Words.{◌≡◌, ◌<◌, ℕ, List, Option, length, arith, known_message, Tells, record_at, Excerpt}
 use Rattle.mail_answer.proofs.OutputLaws.HeaderReading.{excerpt_told}
 use Rattle.mail_answer.proofs.ArchiveLaws.IndexedLemmas.{message_inside}

@@ -1,3 +1,4 @@
+-- `read_header` reads the fields of a message, line by line.
 use Rattle.mail_answer.proofs.Words.{ℕ, List, Option, IfSome, drop, ap, ◌∙◌, subst, lines, fields_of, WillHaveFields, Reading, coming, IsInside}
 use Rattle.mail_answer.proofs.OutputLaws.HeaderReading.{first_passed}
 use Rattle.mail_answer.proofs.output.header_reads.read_header.Goals as goal

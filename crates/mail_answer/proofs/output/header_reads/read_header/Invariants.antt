@@ -1,7 +1,7 @@
+-- With the lines that are left, the header will have the fields of the message.
 use Rattle.mail_answer.proofs.Words.{◌≡◌, IfSome, drop, lines, fields_of, WillHaveFields, coming, coming_count, span_reading, IsInside, KeepsArchives}
 use Rattle.mail_answer.proofs.output.header_reads.read_header.Given as goal
 
--- with the lines that are left the header has the fields of the message
 abbrev pub invariant-lines : goal.invariant-lines
 invariant-lines g l = record {
   keeps : KeepsArchives g.A.Archives l.fn.archives l.archives;

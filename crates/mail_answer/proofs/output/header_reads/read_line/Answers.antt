@@ -1,3 +1,4 @@
+-- `read_line` passes one line to the header, which will still have the fields of the message.
 use Rattle.mail_answer.proofs.Words.{◌<◌, ap, arith, take}
 use Rattle.mail_answer.proofs.OutputLaws.HeaderReading.{none_comes, line_given}
 use Rattle.mail_answer.proofs.output.header_reads.read_line.Goals as goal

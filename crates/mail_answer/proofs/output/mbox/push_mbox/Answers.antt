@@ -1,3 +1,4 @@
+-- `push_mbox` adds a closed span, piece by piece, because the ending decides what closes it.
 use Rattle.mail_answer.proofs.Words.{◌≡◌, ◌∙◌, ℕ, record_at, List, ◌++◌, length, length-append, Option, Some, ap, sym, refl, append-nil, arith, nat_tests, err_from_is_err_and, option_map, ending_of, feeds_of, Reading, coming, coming_count, span_reading, closed, Tells}
 use Rattle.mail_answer.proofs.OutputLaws.CopiedPieces.{known_closed, pieces_more, front_told, closed_told, closed_begins, closed_by_last}
 use Rattle.mail_answer.proofs.OutputLaws.SheetLemmas.{joins_gathered, joins_more, joins_front, front_more, writes_next, writes_less, writes_err, unsent_before, unsent_before_front, unsent_before_writes}

@@ -1,7 +1,7 @@
+-- Some pieces were added to the answer; they and the rest are the span.
 use Rattle.mail_answer.proofs.Words.{◌≡◌, ◌+◌, ℕ, List, ◌++◌, length, option_map, record_at, ending_of, coming, coming_count, span_reading, IsInside, Joins, KeepsArchives}
 use Rattle.mail_answer.proofs.output.mbox.push_mbox.Given as goal
 
--- some pieces joined the answer; they and what is left are the span
 abbrev pub invariant-pieces : goal.invariant-pieces
 invariant-pieces g l = record {
   keeps : KeepsArchives g.A.Archives l.fn.archives l.archives;

@@ -1,3 +1,4 @@
+-- `flatten` makes each message a child of its root, in order, because roots come before the others.
 use Rattle.mail_answer.proofs.Words.{◌<◌, ℕ, List, length, arith, LeadsBack}
 use Rattle.mail_answer.proofs.ThreadLaws.ForestLemmas.{shorter_still, lifted_to, flat_more}
 use Rattle.mail_answer.proofs.threads.forest.flatten.Goals as goal

@@ -1,3 +1,4 @@
+-- The trees are the same, and each message so far is a child of its root.
 use Rattle.mail_answer.proofs.Words.{◌≡◌, ◌<◌, ℕ, get_or, Shortens}
 use Rattle.mail_answer.proofs.threads.forest.flatten.Given as goal
 

@@ -1,3 +1,4 @@
+-- The message that was reached is in the same tree and not after the first one, so the loop ends.
 use Rattle.mail_answer.proofs.Words.{◌≤◌, Table, IsInThread, StaysInThreads, AreInOneTree, Shortens}
 use Rattle.mail_answer.proofs.threads.forest.root_of.Given as goal
 

@@ -1,3 +1,4 @@
+-- `unite` joins two trees, because it hangs the later root at the earlier one.
 use Rattle.mail_answer.proofs.Words.{◌∙◌, sym, arith}
 use Rattle.mail_answer.proofs.ThreadLaws.ThreadLemmas.{back_again}
 use Rattle.mail_answer.proofs.ThreadLaws.ForestLemmas.{shorter_still}

@@ -1,3 +1,4 @@
+-- `unite_all` joins the trees of all these messages, message by message.
 use Rattle.mail_answer.proofs.Words.{◌≡◌, ◌<◌, ℕ, List, [], ◌∷◌, length, sym, subst, AllByRecursion, Unites, AreBothAmong}
 use Rattle.mail_answer.proofs.ThreadLaws.JoinLemmas.{united_one, united_more}
 use Rattle.mail_answer.proofs.threads.forest.unite_all.Goals as goal

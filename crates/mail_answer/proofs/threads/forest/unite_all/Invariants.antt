@@ -1,7 +1,7 @@
+-- Joining these trees by the numbers that still come joins the first trees by all numbers.
 use Rattle.mail_answer.proofs.Words.{◌<◌, ℕ, List, ◌∷◌, length, AllByRecursion, LeadsBack, Unites, AreBothAmong}
 use Rattle.mail_answer.proofs.threads.forest.unite_all.Given as goal
 
--- what will be made of these trees with the numbers to come is made of those at first with all numbers
 abbrev pub invariant-loop-number : goal.invariant-loop-number
 invariant-loop-number l = record {
   back : LeadsBack l.parents;

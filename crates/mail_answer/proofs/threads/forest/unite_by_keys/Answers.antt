@@ -1,3 +1,4 @@
+-- `unite_by_keys` joins the trees of messages that share a key, key by key.
 use Rattle.mail_answer.proofs.Words.{◌≡◌, ◌<◌, ℕ, List, ◌∷◌, length, sym, subst, AllByRecursion, Unites, ShareKey}
 use Rattle.mail_answer.proofs.ThreadLaws.JoinLemmas.{keys_more}
 use Rattle.mail_answer.proofs.threads.forest.unite_by_keys.Goals as goal

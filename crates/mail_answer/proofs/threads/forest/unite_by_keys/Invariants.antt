@@ -1,7 +1,7 @@
+-- Joining these trees by the keys that still come joins the first trees by all keys.
 use Rattle.mail_answer.proofs.Words.{◌<◌, ℕ, List, length, AllByRecursion, LeadsBack, Unites, ShareKey}
 use Rattle.mail_answer.proofs.threads.forest.unite_by_keys.Given as goal
 
--- what will be made of these trees with the keys to come is made of those at first with all keys
 abbrev pub invariant-loop-key : goal.invariant-loop-key
 invariant-loop-key l = record {
   back : LeadsBack l.parents;

@@ -1,3 +1,4 @@
+-- `Listed::least_from` returns the least number from n on: its first number, or the next one of the list.
 use Rattle.mail_answer.proofs.Words.{◌∙◌, sym, arith}
 use Rattle.mail_answer.proofs.CursorLaws.Lists.{cut_none, cut_more, cut_drops, stays_first, goes_on}
 use Rattle.mail_answer.proofs.cursor.listed.Listed.least_from.Goals as goal

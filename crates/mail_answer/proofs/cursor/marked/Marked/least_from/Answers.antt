@@ -1,3 +1,4 @@
+-- `Marked::least_from` returns the least number from n on: the first mark, or the first number of a new window.
 use Rattle.mail_answer.proofs.Words.{List, Bool, Some, None, subst, arith, IsFirstMark}
 use Rattle.mail_answer.proofs.CursorLaws.MarkedLists.{found_drops, found_first, windowed_drops, windowed_first}
 use Rattle.mail_answer.proofs.cursor.marked.Marked.least_from.Goals as goal

@@ -1,3 +1,4 @@
+-- `Marked::new` has the messages of its lists, because it has no marks yet.
 use Rattle.mail_answer.proofs.Words.{refl}
 use Rattle.mail_answer.proofs.CursorLaws.MarkedLists.{begins_marked, begins_window}
 use Rattle.mail_answer.proofs.cursor.marked.Marked.new.Goals as goal

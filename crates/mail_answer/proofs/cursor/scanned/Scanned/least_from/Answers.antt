@@ -1,3 +1,4 @@
+-- `Scanned::least_from` returns the least number from n on: its first number, or the next record that passes.
 use Rattle.mail_answer.proofs.Words.{arith}
 use Rattle.mail_answer.proofs.CursorLaws.Scans.{stays_drops, stays_first, scan_drops, scan_first}
 use Rattle.mail_answer.proofs.cursor.scanned.Scanned.least_from.Goals as goal

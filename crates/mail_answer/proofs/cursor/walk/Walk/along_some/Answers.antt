@@ -1,3 +1,4 @@
+-- `Walk::along_some` has the messages of its lists, list by list.
 use Rattle.mail_answer.proofs.Words.{◌∙◌, Bool, List, ap, arith, truth_at, Ahead}
 use Rattle.mail_answer.proofs.CursorLaws.Groups.{alone_each, alone_left}
 use Rattle.mail_answer.proofs.CursorLaws.Members.{united-at}

@@ -1,7 +1,7 @@
+-- The walks so far, and the lists that have no walk yet.
 use Rattle.mail_answer.proofs.Words.{◌≡◌, ◌||◌, ◌+◌, ℕ, length, left_in, some_has}
 use Rattle.mail_answer.proofs.cursor.walk.Walk.along_some.Given as goal
 
--- the walks so far, and the lists that have none yet
 abbrev pub invariant-loop-list : goal.invariant-loop-list
 invariant-loop-list l = record {
   each : (m : ℕ) → (some_has m l.walks.items || some_has m l.lists.items) ≡ some_has m l.initial.lists.items;

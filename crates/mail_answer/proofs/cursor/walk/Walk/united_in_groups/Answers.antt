@@ -1,3 +1,4 @@
+-- `Walk::united_in_groups` has the messages of all walks, group by group, and each round leaves fewer walks.
 use Rattle.mail_answer.proofs.Words.{◌≡◌, ◌∙◌, Bool, ℕ, List, length, drop, sym, ap, arith, truth_at, Ahead, united, left_in}
 use Rattle.std.specs.Vec.{vec_len}
 use Rattle.mail_answer.proofs.CursorLaws.Groups.{grouped_more}

@@ -1,3 +1,4 @@
+-- The walks of this round have the messages of all walks, and so have its groups with the walks in none.
 use Rattle.mail_answer.proofs.Words.{◌≡◌, ℕ, vec_len, left_in, some_has}
 use Rattle.mail_answer.proofs.CursorLaws.Groups.{HaveGrouped}
 use Rattle.mail_answer.proofs.cursor.walk.Walk.united_in_groups.Given as goal

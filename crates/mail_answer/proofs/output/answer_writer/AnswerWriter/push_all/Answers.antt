@@ -1,3 +1,4 @@
+-- `AnswerWriter::push_all` adds the messages to the answer, message by message.
 use Rattle.mail_answer.proofs.Words.{◌≡◌, ℕ, List, [], ◌∷◌, ◌++◌, length, Option, Some, Result, Ok, refl, ap, subst, sym, ◌∙◌, append_assoc, append-nil, arith, err_from_is_err_and, AreNumbers, known_answer, known_message, joined, Tells, Writes}
 use Rattle.mail_answer.proofs.ThreadLaws.NumberLists.{numbers_next, few_numbers, known_first, known_none}
 use Rattle.mail_answer.proofs.OutputLaws.SheetLemmas.{joins_gathered, writes_next, writes_stop, writes_less, writes_err, tells-joined, joins_more, unsent_before, joined-nothing, joined-assoc}

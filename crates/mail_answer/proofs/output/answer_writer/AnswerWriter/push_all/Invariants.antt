@@ -1,7 +1,7 @@
+-- The messages so far were added to the answer and counted.
 use Rattle.mail_answer.proofs.Words.{◌≡◌, ◌+◌, ◌++◌, ℕ, List, length, Option, flat_map, AreNumbers, known_answer, closed, AreSpansOf, joined, Tells, Joins, Raw, Mbox, KeepsArchives, IsSameAnswer}
 use Rattle.mail_answer.proofs.output.answer_writer.AnswerWriter.push_all.Given as goal
 
--- the messages so far joined the answer, and were counted
 abbrev pub invariant-loop-n : goal.invariant-loop-n
 invariant-loop-n g l = record {
   same : IsSameAnswer l.fn.self l.self;

@@ -1,3 +1,4 @@
+-- `AnswerWriter::write` sends the whole answer, because it sends the rest of the sheet at the end.
 use Rattle.mail_answer.proofs.Words.{arith}
 use Rattle.mail_answer.proofs.output.answer_writer.AnswerWriter.write.Goals as goal
 

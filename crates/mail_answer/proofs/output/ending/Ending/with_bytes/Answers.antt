@@ -1,9 +1,11 @@
+-- `Ending::with_bytes` reads only the bytes after the last LF that isn't the last byte, because those before make no
+-- difference.
 use Rattle.mail_answer.proofs.Words.{◌≡◌, ◌∙◌, ◌+◌, ◌-◌, ◌<◌, ◌≤◌, ◌==◌, true, ℕ, List, [], ◌∷◌, ◌++◌, length, get_or, take, drop, drop-cons, add-one, append_assoc, ap, sym, arith, eqb-true, take-append-drop, take_rest, get_or-take, ending_of}
 use Rattle.std.proofs.lemmas.List.{length-take, length-drop}
 use Rattle.mail_answer.proofs.OutputLaws.Endings.{ending_behind}
 use Rattle.mail_answer.proofs.output.ending.Ending.with_bytes.Goals as goal
 
--- an LF stands there, and these bytes behind it
+-- an LF at this place, and the bytes after it
 split_at : (bytes : List ℕ) (at most : ℕ) → at < most → most ≤ length bytes → (get_or (take most bytes) at 0 == 10) ≡ true → bytes ≡ take at bytes ++ 10 ∷ drop (at + 1) bytes
 split_at bytes at most lt le is = grind (arith, get_or-take, eqb-true, take-append-drop, drop-cons, add-one)
 

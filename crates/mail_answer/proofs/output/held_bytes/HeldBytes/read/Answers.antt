@@ -1,3 +1,4 @@
+-- `HeldBytes::read` moves bytes to those that were read, by the result of the archive's read.
 use Rattle.mail_answer.proofs.Words.{arith}
 use Rattle.mail_answer.proofs.output.held_bytes.HeldBytes.read.Goals as goal
 

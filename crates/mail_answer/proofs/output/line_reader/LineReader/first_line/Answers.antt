@@ -1,3 +1,4 @@
+-- `LineReader::first_line` returns the length of the first line, because it reads up to the end of this line.
 use Rattle.mail_answer.proofs.Words.{◌<◌, arith, ap, ◌∙◌, line_end_of, line_end-within, line_end-positive}
 use Rattle.mail_answer.proofs.OutputLaws.ReadingLemmas.{line_found, line_left}
 use Rattle.mail_answer.proofs.output.line_reader.LineReader.first_line.Goals as goal

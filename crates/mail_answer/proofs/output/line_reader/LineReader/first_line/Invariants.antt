@@ -1,7 +1,7 @@
+-- Nothing was passed, and the archives are as they were.
 use Rattle.mail_answer.proofs.Words.{◌≡◌, coming, coming_count, IsInside, KeepsArchives}
 use Rattle.mail_answer.proofs.output.line_reader.LineReader.first_line.Given as goal
 
--- nothing was passed, and the archives are as they were
 abbrev pub invariant-more : goal.invariant-more
 invariant-more g l = record {
   keeps : KeepsArchives g.A.Archives l.fn.archives l.archives;

@@ -1,3 +1,4 @@
+-- `Part::copy_piece` adds one piece of a span and keeps its ending, by the result of each call.
 use Rattle.mail_answer.proofs.Words.{◌≡◌, ◌∙◌, ℕ, List, [], ◌++◌, ◌+◌, ◌-◌, ◌≤◌, length-append, Option, Result, Ok, Err, refl, ap, sym, subst, arith, option_map, ending_of, Reading, coming, coming_count, IsInside, Joins, JoinsFront, AnswerFaultKind}
 use Rattle.mail_answer.proofs.OutputLaws.CopiedPieces.{copies_err, piece_read, behind_gathered, tells_behind, some_coming, inside_behind}
 use Rattle.mail_answer.proofs.OutputLaws.SheetLemmas.{nothing_went, gathered_went, front_more}

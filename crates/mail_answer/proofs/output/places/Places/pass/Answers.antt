@@ -1,3 +1,4 @@
+-- `Places::pass` passes one more archive, and there is one, because a message is in it.
 use Rattle.mail_answer.proofs.Words.{arith, archive_of}
 use Rattle.mail_answer.proofs.ArchiveLaws.PassedArchives.{passed_more}
 use Rattle.mail_answer.proofs.ArchiveLaws.StaleLemmas.{still_named}

@@ -1,3 +1,4 @@
+-- `Sheet::push` adds bytes to the answer, because they are gathered and sent once there are enough.
 use Rattle.mail_answer.proofs.Words.{refl, Some, arith}
 use Rattle.mail_answer.proofs.OutputLaws.SheetLemmas.{gathered_went, writes_nothing}
 use Rattle.mail_answer.proofs.output.sheet.Sheet.push.Goals as goal

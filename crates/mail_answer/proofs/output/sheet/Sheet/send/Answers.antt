@@ -1,3 +1,4 @@
+-- `Sheet::send` sends the gathered bytes, piece by piece, and counts them.
 use Rattle.mail_answer.proofs.Words.{arith}
 use Rattle.mail_answer.proofs.OutputLaws.SheetLemmas.{appends_step, counted_step, front_went}
 use Rattle.mail_answer.proofs.output.sheet.Sheet.send.Goals as goal

@@ -1,7 +1,7 @@
+-- The first `at` bytes were sent.
 use Rattle.mail_answer.proofs.Words.{◌≡◌, ◌≤◌, ◌-◌, length, take, Appends, counted}
 use Rattle.mail_answer.proofs.output.sheet.Sheet.send.Given as goal
 
--- the first `at` bytes went out
 abbrev pub invariant-loop-at : goal.invariant-loop-at
 invariant-loop-at g l = record {
   within : l.at ≤ length l.self.text;
