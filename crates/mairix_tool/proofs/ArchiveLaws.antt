@@ -1,4 +1,4 @@
--- Laws of the archives of a run.
+-- The laws of the archives of a run.
 pub mod AskedPaths
 pub mod FirstFaults
 pub mod Renamed

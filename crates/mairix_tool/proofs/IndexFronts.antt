@@ -1,4 +1,4 @@
--- What is wrong with the first bytes of an index is wrong with the whole of it.
+-- A fault in the first bytes of an index is a fault of the whole index, because these bytes are its front.
 use Rattle.mairix_tool.proofs.Words.{◌≡◌, ℕ, ◌≤◌, List, ◌++◌, length, arith, length-append, length-drop, take-append-le, drop-append-le, BadMagic, BadVersion, IsFirstFault, version_told}
 
 longer : (front rest : List ℕ) → 80 ≤ length front → 80 ≤ length (front ++ rest)

@@ -1,4 +1,4 @@
--- Laws of what runs reply.
+-- The laws of what runs reply.
 pub mod Answers
 pub mod CutAgain
 pub mod Once

@@ -1,4 +1,4 @@
--- Rows: whole runs that were worked out by hand, by computation.
+-- Rows: whole runs that were worked out by hand, checked by computation.
 use Rattle.mairix_tool.proofs.Words.{◌≡◌, ◌<◌, ℕ, zero, suc, Bool, true, false, nat_le, All, List, [], ◌∷◌, ◌++◌, map, length, None, Ok, Err, refl, sym, subst, arith, inl, inr, All-cons, All-nil, AreSound, table, mboxes, AreThreadsOf, AreChosen, IsLedToBySome, Fault, Wanted, mail_in, shape, answered, refused, IsReply, Query as Asked, Word, Size, Not, End, More, Format, Raw, Excerpt, is_among}
 use Rattle.std.specs.Char.{encode_utf8}
 use Rattle.std.specs.Fmt.{digits}
@@ -49,17 +49,17 @@ use Rattle.run_faults.specs.declared.fault.Fault.TheVariants.{Archive, Query, Rc
 use Rattle.mairix_tool.specs.WorkedReplies as row
 use Rattle.mairix_tool.specs.WorkedReplies.{IsWorked, Row, asked_by}
 
--- what a proof unfolds to compute what words and rcfile ask for
+-- what a proof unfolds to compute what words and rcfile mean
 unfoldable asking : Unit {0}
 unfolding parse plan clap_on_literals computing trimmed size_of sizes_of tokens is_one_word is_part_of_word is_word is_joiner is_word_character ucd_derived ucd_category chars encode_utf8 caseless
 asking = tt
 
--- and what archives say
+-- what a proof unfolds to compute what archives say
 unfoldable saying : Unit {0}
 unfolding messages refusal_of lines first_length is_empty is_separator without_break has_form fields_of before_blanks unfolded ids_of charset_of text_of decoded word_and_later word_at q_bytes unescaped facts_of leaf_texts piece_of parameter is_delimiter texts_of_message shape_of_value charset_of_value transfer_named words is_word is_joiner is_word_character ucd_derived ucd_category chars encode_utf8 caseless computing closed excerpt digits
 saying = tt
 
--- ---- what is shown of each
+-- ---- how each row is proved
 
 of-refusal : (row : Row) (fault : Fault) → asked_by row ≡ Err fault → row.answer ≡ refused fault → IsWorked row
 unfolding IsWorked
@@ -77,7 +77,7 @@ each-sound : (archives : List Archived)
 each-sound [] h = All-nil NotRefused
 each-sound (a ∷ archives) h = All-cons NotRefused a archives (cc) (each-sound archives (cc))
 
--- what is computed of archives that are sound
+-- each of these archives is sound, by computation
 abbrev Pass : List Archived → Type 0
 Pass archives =
     (map (λ (a : Archived). refusal_of most_in_archive a.bytes) archives ≡ map (λ _. None) archives)
@@ -102,7 +102,7 @@ module _ (row : Row) (w : Wanted) (numbers : List ℕ) where
 few : (n : ℕ) → is_among n (0 ∷ 1 ∷ []) ≡ true → n < 2
 few n among = grind (arith, or_cases, eqb-true)
 
--- two messages that are linked are one thread
+-- two messages that are linked are in one thread
 two-linked : (linked : ℕ → ℕ → Bool) → linked 0 1 ≡ true → AreThreadsOf 2 linked (0 ∷ []) (0 ∷ 1 ∷ [])
 two-linked linked h = record {
   rises = (omega arith, (omega arith, tt));

@@ -1,4 +1,4 @@
--- Laws of the table of archives, which says of messages what these say themselves.
+-- The laws of the table of archives, which says about messages what these say themselves.
 pub mod Formed
 pub mod MailSame
 pub mod Messages

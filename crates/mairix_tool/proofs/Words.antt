@@ -1,4 +1,4 @@
--- The words of std and of the definitions that proofs take, from one place.
+-- The words of std and of the definitions that proofs use, from one place.
 pub use Rattle.contract_words.specs.Devices.{Sends}
 unfoldable pub use Rattle.header_text.specs.Headers.{fields_of}
 pub use Rattle.index_job.specs.ArchiveRefusals.{AreSound}

@@ -1,4 +1,4 @@
-//! Runs of mairix: what the words of a command line and an rcfile ask for.
+//! Runs of mairix: does what the words of a command line and an rcfile ask for.
 #![tactic(auto)]
 
 mod laws;

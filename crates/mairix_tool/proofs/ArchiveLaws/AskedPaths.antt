@@ -1,4 +1,4 @@
--- The paths of archives that are asked for are paths, and as many as the rcfile has.
+-- The paths that a run reads are valid paths, as many as the rcfile has, because the rcfile's reader checks them.
 use Rattle.mairix_tool.proofs.Words.{◌≡◌, ◌++◌, ℕ, List, [], ◌∷◌, length, map, append-nil, All, IfOk, Result, Ok, refl, sym, ap, subst, arith, join_by, join_with_byte, IsPath, Query, Fault, Wanted, asked, asked_by, asked_rc, query_asked, wanted_by}
 use Rattle.contract_words.specs.Answers.{◌>>=◌, fault_as}
 use Rattle.mail_query.specs.declared.fault.QueryFault.{QueryFault}
@@ -11,7 +11,7 @@ use Rattle.mairix_options.specs.CommandLine.{plan}
 use Rattle.mairix_options.specs.Rcfile.{rc_of}
 use Rattle.mairix_options.proofs.RcPaths.{paths-are-paths}
 
--- what is asked, step by step
+-- what words, rcfile and query mean, step by step
 abbrev asked-by : Result Plan UsageFault → Result Rc RcFault → (Plan → Result Query QueryFault) → Result Wanted Fault
 asked-by planned read queried = fault_as of.Usage planned >>= λ p. fault_as of.Rc read >>= λ r. fault_as of.Query (queried p) >>= λ q. Ok (wanted_by p r q)
 
@@ -23,7 +23,7 @@ asked-paths words rc now w is =
     let found = paths-by (plan words) (rc_of rc) (λ p. query_asked p.boolean p.patterns now) w is in
     subst (All IsPath) (sym found.2) (paths-are-paths rc found.0 found.1)
 
--- where words, rcfile and query are accepted, the rcfile has so many paths
+-- if words, rcfile and query are accepted, the rcfile has this many paths
 many-by : (planned : Result Plan UsageFault) (read : Result Rc RcFault) (queried : Plan → Result Query QueryFault) (n : ℕ) (more : Rc → Type 0)
     → IfOk (fault_as of.Usage planned >>= λ p. fault_as of.Rc read) (λ r. (length r.paths ≡ n) × more r) → IfOk (asked-by planned read queried) (λ w. length w.paths ≡ n)
 many-by planned read queried n more h = grind arith
@@ -31,7 +31,7 @@ many-by planned read queried n more h = grind arith
 pub asked-many : (words : List (List ℕ)) (rc : List ℕ) (now n : ℕ) (more : Rc → Type 0) → IfOk (asked_rc words rc) (λ r. (length r.paths ≡ n) × more r) → IfOk (asked words rc now) (λ w. length w.paths ≡ n)
 asked-many words rc now n more given = many-by (plan words) (rc_of rc) (λ p. query_asked p.boolean p.patterns now) n more given
 
--- where rcfile and query are accepted, that is what is asked
+-- if rcfile and query are accepted, the run does what these say
 answered-by : (read : Result Rc RcFault) (queried : Result Query QueryFault) (p : Plan) (r : Rc) (q : Query) → read ≡ Ok r → queried ≡ Ok q
     → (fault_as of.Rc read >>= λ r. fault_as of.Query queried >>= λ q. Ok (wanted_by p r q)) ≡ Ok (wanted_by p r q)
 answered-by read queried p r q of_rc of_query = grind arith

@@ -1,4 +1,4 @@
--- Some bytes have one first fault: each comes where all before it are past, and isn't past itself.
+-- Bytes have only one first fault, because all rules before a first fault are kept and its own is broken.
 use Rattle.mairix_tool.proofs.Words.{◌≡◌, ◌∙◌, ℕ, zero, suc, ◌<◌, ◌≤◌, ◌^◌, ◌+◌, List, length, take, flat_map, sym, ap, subst, arith, inl, inr, ◌⊎◌, ⊤, leb_tells, eqb_tells, IndexFault, TooShort, BadMagic, BadVersion, BadDigest, BadLayout, Record, IsFirstFault, HasDigest, IsSigned, HasCounts, HasArchives, HasRecords, HasDirectory, digest_start, version_told, IsVersion, magic, record_bytes, Entry, Archive, AreBytes}
 use Rattle.mail_index.specs.declared.view.fault.Section.TheVariants.{Counts, Archives, Records, Directory, Postings}
 use Rattle.mail_index.specs.Records.{read_records}
@@ -34,7 +34,7 @@ at-its-rank : (f : IndexFault) → at-rank (rank f) ≡ f
 at-its-rank f = grind arith
 
 module _ (bytes : List ℕ) (are : AreBytes bytes) where
-  -- ---- what the sections hold is determined
+  -- ---- the contents of the sections are determined
 
   same-archives : (as' bs : List Archive) → HasArchives bytes as' → HasArchives bytes bs → as' ≡ bs
   same-archives as' bs a b = grind (arith, flat_map, archives_back)
@@ -46,7 +46,7 @@ module _ (bytes : List ℕ) (are : AreBytes bytes) where
       let l : length ms ≡ length ns = omega (arith, ap length e, length_records ms, length_records ns) in
       sym (records_back (version_told bytes) archives ms few a.before.each a.each) ∙ (λ i. read_records (l i) (e i)) ∙ records_back (version_told bytes) archives ns few b.before.each b.each
 
-  -- ---- the rules, each as kept
+  -- ---- each rule, as kept
 
   abbrev IsKept : ℕ → Type 0
   IsKept zero = 80 ≤ length bytes
@@ -59,7 +59,7 @@ module _ (bytes : List ℕ) (are : AreBytes bytes) where
   IsKept (suc (suc (suc (suc (suc (suc (suc zero))))))) = (archives : List Archive) × (ms : List Record) × (es : List Entry) × HasDirectory bytes archives ms es
   IsKept _ = ⊤
 
-  -- those before this number
+  -- all rules before this number are kept
   abbrev AreKept : ℕ → Type 0
   AreKept zero = ⊤
   AreKept (suc n) = AreKept n × IsKept n
@@ -93,7 +93,7 @@ module _ (bytes : List ℕ) (are : AreBytes bytes) where
   kept-before : (f : IndexFault) → IsFirstFault bytes f → AreKept (rank f)
   kept-before f h = grind (arith, signed, counted, listed, recorded, filed)
 
-  -- and its own isn't, unless it is the last
+  -- the rule of a first fault isn't kept, unless it is the last
   not-kept : (f : IndexFault) → rank f < 8 → IsFirstFault bytes f → IsKept (rank f) → ⊥
   not-kept TooShort last h k = omega (arith, h, k)
   not-kept BadMagic last h k = h.1 k

@@ -1,4 +1,5 @@
--- Archives that aren't altered hold what was indexed, where SHA-256 tells them apart.
+-- Archives that aren't altered hold what was indexed, by their paths and by digests, if no two of these are the same
+-- for different bytes.
 use Rattle.mairix_tool.proofs.Words.{◌≡◌, ◌∙◌, ◌+◌, ◌++◌, ℕ, suc, Bool, true, cond, List, [], ◌∷◌, map, length, bytes_eq, Option, None, Some, refl, sym, ap, ap₂, arith, Contains, option_or, eqb-true, length-map, Contains-append_left, Contains-append_right, bytes_eq-Decides, Mbox, table, entry_of, unverified_archive, Archive, AreToldApart, altered_archive, mboxes, first_renamed, renamed_archive}
 use Rattle.sha2.specs.Sha256.{sha256}
 use Rattle.mail_answer.proofs.ArchiveLaws.VerifiedLemmas.{verified_are, are_verified}
@@ -38,7 +39,7 @@ paths-from n (a ∷ before) (p ∷ paths) many none =
 same-paths : (before : List Mbox) (paths : List (List ℕ)) → renamed_archive (table before).archives paths ≡ None → map (λ (a : Mbox). a.path) before ≡ paths
 same-paths before paths none = grind (arith, tested, paths-from, eqb-true)
 
--- ---- no archive holds other bytes
+-- ---- no archive has other bytes
 
 first-of : {X : Type 0} (x : X) (xs : List X) → Contains (x ∷ xs) x
 first-of x xs = (0, omega arith, refl)
@@ -46,7 +47,7 @@ first-of x xs = (0, omega arith, refl)
 later : {X : Type 0} (x y : X) (xs : List X) → Contains xs y → Contains (x ∷ xs) y
 later x y xs h = let below = h.1 in (suc h.0, omega arith, h.2)
 
--- by digests that tell all of these apart
+-- by digests, if these are different for all these bytes
 module _ (all : List (List ℕ)) (apart : AreToldApart all) where
   bytes-from : (before : List Mbox) (bytes : List (List ℕ)) → ((x : List ℕ) → Contains (map (λ (a : Mbox). a.bytes) before) x → Contains all x) → ((x : List ℕ) → Contains bytes x → Contains all x)
       → map (λ (a : Archive). a.digest) (map entry_of before) ≡ map (λ (bs : List ℕ). Some (sha256 bs)) bytes → map (λ (a : Mbox). a.bytes) before ≡ bytes

@@ -1,4 +1,4 @@
--- What a run replies of what a table answered.
+-- What a run replies is what its table says, by the result of the search.
 use Rattle.mairix_tool.proofs.Words.{◌≡◌, ◌∙◌, ℕ, List, [], length, Option, None, Some, Result, Ok, Err, refl, sym, ap, subst, append-nil, arith, Appends, Keeps, Sends, Table, Format, Raw, Excerpt, AnswersStale, Search, answer_text, known_answer, stale_archive, TableAnswer, IsTableAnswer, Answers, answer_of_numbers, some-chosen, Fault, Answer, status_of_count, answered, IsStaleOr, IsFoundIn, IsTold, RepliesBy, reply_of, fault_of_answer_kind, IsCountedWhere}
 use Rattle.std.specs.Result.{IsErrAnd, MatchResult}
 use Rattle.mail_answer.specs.declared.format.Format.TheVariants.{Mbox}
@@ -8,7 +8,7 @@ use Rattle.mail_answer.specs.declared.fault.AnswerFaultKind.TheVariants as kind
 use Rattle.mail_answer.specs.Sheets.{Tells}
 use Rattle.mairix_tool.specs.Searching.{run_of_answer}
 
--- the text that is known is the answer's
+-- the known text is that of the answer
 known-text : (format : Format) (t : Table) (h : List (List ℕ)) (ns : List ℕ) (text : List ℕ) → Tells (known_answer format t (Some h) ns) text → answer_text format t h ns ≡ text
 known-text Raw t h ns text tells = tells
 known-text Excerpt t h ns text tells = tells
@@ -39,7 +39,7 @@ module _ (t : Table) (s : Search) (h : List (List ℕ)) (old new : Option (List 
         subst (Appends old new) (sym same) went.2.1,
       )
 
-  -- of a fault a front of what the table answers went out
+  -- with a fault, a front of what the table answers was sent
   front-sent : (fault : AnswerFault) → ((a : TableAnswer) → IsTableAnswer t s (Some h) a → Answers old new a (Err fault)) → (answer : Answer) → IsFoundIn t s h answer → Sends old new answer.text
   front-sent fault given answer (numbers, chosen, is) =
       let went = given (answer_of_numbers t s (Some h) numbers) (numbers, chosen, refl) in

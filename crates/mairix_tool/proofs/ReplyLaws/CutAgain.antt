@@ -1,4 +1,4 @@
--- An mbox answer over the table of archives that hold them is cut again into its messages.
+-- An mbox answer over the table of its archives is cut again into its messages, because each was cut out of an archive.
 use Rattle.mairix_tool.proofs.Words.{◌≡◌, ◌∙◌, ℕ, zero, suc, ◌<◌, false, List, [], ◌∷◌, ◌++◌, Option, Some, None, length, map, take, drop, unwrap_or, refl, sym, ap, subst, arith, append_assoc, slice_index_or, option_map, map-append, length-map, length_push, get_or_at, All-map, flat_map-map, Record, Message, cut, messages, span_length, closed, span, answer_text, record_at, no_record, Mbox, messages_in, record_of, records_from, table}
 use Rattle.std.specs.List.{All}
 use Rattle.mail_answer.specs.declared.format.Format.TheVariants as format
@@ -21,7 +21,7 @@ each-at P (x ∷ xs) (suc i) d below h = each-at P xs i d (omega arith) h.1
 abbrev IsOf : List Mbox → Record → Type 0
 IsOf archives r = IsCutOut (span (bytes_held archives) r)
 
--- those of an archive's messages, of which some went before
+-- the spans of an archive's messages, after those before them
 each-cut : (all : List Mbox) (n : ℕ) (bytes : List ℕ) (before ms : List Message) → archive_at (bytes_held all) n ≡ bytes → messages bytes ≡ Some (before ++ ms) → Each (IsOf all) (map (record_of n) ms)
 each-cut all n bytes before [] is cuts = tt
 each-cut all n bytes before (m ∷ ms) is cuts =

@@ -1,15 +1,16 @@
--- A run that searches the archives that it indexed replies what their own messages say.
+-- A run that searches the archives that it indexed replies what their own messages say, because its table says the
+-- same.
 use Rattle.mairix_tool.proofs.Words.{◌≡◌, ℕ, false, append-nil, List, [], ◌∷◌, map, length, None, Some, Option, Result, Ok, Err, IfOk, IfSome, refl, ap, subst, arith, inl, inr, Appends, Sends, Table, Search, answer_text, stale_archive, some-chosen, Fault, Reply, Mbox, table, AreSound, mboxes, Refuses, IsArchivesFault, Wanted, is_failure, refusal_of, Answer, refused, IsAnswer, IsTold, IsStaleOr, IsFoundIn, IsReply, IsOnceReply, IsThisOrMemory, IsUnindexed, RepliesBy, reply_of, answered, sound-not-refused}
 use Rattle.run_faults.specs.Faults.{IsEarly}
 use Rattle.run_faults.specs.declared.fault.Fault.TheVariants.{Stale}
 use Rattle.mairix_tool.proofs.TableLaws.MailSame.{chosen-same, chosen-back, shape-same, not-stale}
 use Rattle.index_run.proofs.ArchivesDecided.{decided, none-sound}
 
--- what the table of archives tells over their own bytes is their messages' answer
+-- the table's answer over the archives' own bytes is that of their messages
 pub told-answer : (archives : List Mbox) (s : Search) (answer : Answer) → IsTold (table archives) s (map (λ (a : Mbox). a.bytes) archives) answer → IsAnswer archives s answer
 told-answer archives s answer told = grind (arith, not-stale, chosen-same, shape-same)
 
--- and the other way round
+-- and the reverse
 pub answer-told : (archives : List Mbox) (s : Search) (answer : Answer) → IsAnswer archives s answer → IsTold (table archives) s (map (λ (a : Mbox). a.bytes) archives) answer
 answer-told archives s answer found = grind (arith, not-stale, chosen-back, shape-same)
 
@@ -46,7 +47,7 @@ some-once-reply (Ok w) bytes held =
       | inr bad ↦ (refused bad.0, inr (bad.0, bad.1, refl))
     ]
 
--- ---- what a run answered
+-- ---- what a run returned
 
 module _ (Is Other : Answer → Type 0) (forth : (answer : Answer) → Is answer → Other answer) (back : (answer : Answer) → Other answer → Is answer) where
   pub replies-as : (reply : Reply) (old new : Option (List ℕ)) → RepliesBy Is reply old new → RepliesBy Other reply old new
@@ -58,7 +59,7 @@ nothing-more o = grind (arith, append-nil)
 pub nothing-sent : (o : Option (List ℕ)) (text : List ℕ) → Sends o o text
 nothing-sent o text = ([], text, refl, nothing-more o)
 
--- a fault that the definition gives as an answer, or a device's or memory's; and nothing has gone out
+-- a fault that the definition gives as an answer, or one of a device or of memory; nothing was sent
 pub unanswered : (Is : Answer → Type 0) (f : Fault) (old : Option (List ℕ)) → (is_failure (Some f) ≡ false → Is (refused f)) → RepliesBy Is (reply_of (Err f)) old old
 unanswered Is f old is = grind (arith, nothing-sent, nothing-more)
 
@@ -79,7 +80,7 @@ pub refused-once : (asked : Result Wanted Fault) (bytes held : List (List ℕ)) 
     → RepliesBy (IsOnceReply asked bytes held) (reply_of (Err f)) old old
 refused-once asked bytes held f old is = unanswered (IsOnceReply asked bytes held) f old (unindexed-reply asked bytes held f is)
 
--- the refusal of words, rcfile or query, or want of memory before it was found
+-- the refusal of words, rcfile or query, or lack of memory before it was found
 early-reply : (asked : Result Wanted Fault) (bytes held : List (List ℕ)) (f : Fault) → IfSome (refusal_of f) (λ r. asked ≡ Err r) → IsEarly f
     → is_failure (Some f) ≡ false → IsOnceReply asked bytes held (refused f)
 early-reply asked bytes held f h early h2 = grind arith
@@ -90,7 +91,7 @@ early-once asked bytes held f old h early = unanswered (IsOnceReply asked bytes 
 
 -- ---- the archives are indexed
 
--- sound archives: what their table tells
+-- if the archives are sound, what their table says
 pub sound-once : (w : Wanted) (bytes held : List (List ℕ)) (t : Table) (reply : Reply) (old new : Option (List ℕ)) → AreSound (mboxes w.paths bytes)
     → t ≡ table (mboxes w.paths bytes) → RepliesBy (IsTold t w.search held) reply old new → RepliesBy (IsOnceReply (Ok w) bytes held) reply old new
 sound-once w bytes held t reply old new sound same given = grind (arith, replies-as, sound-not-refused)

@@ -1,4 +1,5 @@
--- Two replies of one run are one, unless an archive is refused twice.
+-- Two replies of one run are the same, unless an archive is refused twice, because the first faulty archive is
+-- determined.
 use Rattle.mairix_tool.proofs.Words.{◌≡◌, ◌∙◌, ◌^◌, ◌<◌, ◌++◌, ◌&&◌, ◌⊎◌, ℕ, Bool, true, false, cond, nat_le, List, [], ◌∷◌, map, length, Some, None, Option, Result, Ok, Err, unwrap_or, refl, sym, ap, ap₂, subst, arith, inl, inr, append-nil, length-append, length-map, IndexFault, AreBytes, Table, Search, answer_text, AreSound, Mbox, table, all_messages, messages_in, with_messages, Refuses, mboxes, Fault, Wanted, Answer, refused, answered, IsAnswer, IsFoundIn, IsTold, IsToldOf, IsProvedAndTold, IsStaleOr, IsOldOr, IsReply, IsOnceReply, IsStoredReply, stale_archive, renamed_archive, unproved_archive, is_too_old, sound-not-refused}
 use Rattle.std.proofs.lemmas.Grind.{flat_map-append}
 use Rattle.std.specs.Prelude.{nat_lt}
@@ -20,7 +21,7 @@ use Rattle.mairix_tool.specs.Runs.{IsRefusedBy}
 use Rattle.mairix_tool.proofs.ArchiveLaws.FirstFaults.{one-first-fault}
 use Rattle.mairix_tool.proofs.ReplyLaws.Once.{answer-told}
 
--- ---- what is answered is determined
+-- ---- the answer is determined
 
 one-stale : (o : Option ℕ) (IsFound : Answer → Type 0) (a b : Answer) → (IsFound a → IsFound b → a ≡ b)
     → IsStaleOr o IsFound a → IsStaleOr o IsFound b → a ≡ b
@@ -41,9 +42,9 @@ one-answer : (archives : List Mbox) (s : Search) (a b : Answer) → IsAnswer arc
 one-answer archives s a b is other =
     one-told (table archives) s (map (λ (m : Mbox). m.bytes) archives) a b (answer-told archives s a is) (answer-told archives s b other)
 
--- ---- the first archive at fault
+-- ---- the first faulty archive
 
--- two partings of a list are one, or one of them comes first
+-- if a list is divided at two items, they are at the same place, or one is before the other
 abbrev AreOrdered : List Mbox → Mbox → List Mbox → Mbox → Type 0
 AreOrdered xs a ys b =
     ((xs ≡ ys) × (a ≡ b)) ⊎ ((m : List Mbox) × (ys ≡ xs ++ a ∷ m)) ⊎ ((m : List Mbox) × (xs ≡ ys ++ b ∷ m))
@@ -59,7 +60,7 @@ ordered (x ∷ xs) (y ∷ ys) r s a b same = go (ordered xs ys r s a b cc)
     go (inr (inl h)) = inr (inl (h.0, cc))
     go (inr (inr h)) = inr (inr (h.0, cc))
 
--- these archives are sound, and this one after them is refused so
+-- these archives are sound, and the next one is refused with this fault
 abbrev IsRefusedAfter : List Mbox → Mbox → Fault → Type 0
 IsRefusedAfter before a (of.Archive number fault) = (number ≡ length before) × IsCutOff before a fault
 IsRefusedAfter before a of.TooMany = IsOneTooMany before a
@@ -78,13 +79,13 @@ refused-so archives before a f parted h = grind arith
 sound-before : (before : List Mbox) (a : Mbox) (f : Fault) → IsRefusedAfter before a f → AreSound before
 sound-before before a f h = grind arith
 
--- no sound archives have a refused one
+-- sound archives have no refused one among them
 never-later : (before more ys : List Mbox) (a b : Mbox) (f g : Fault) → ys ≡ before ++ a ∷ more
     → IsRefusedAfter before a f → IsRefusedAfter ys b g → ⊥
 never-later before more ys a b f g whole h k =
     sound-not-refused ys f (sound-before ys b g k) (refused-so ys before a f (record { behind = more; whole = whole }) h)
 
--- ---- an archive that is no mbox has no messages, and so isn't too much
+-- ---- an archive that isn't an mbox has no messages, so it doesn't have too many
 
 abbrev by-bytes : Bool → Bool → Option CutFault
 by-bytes no_mbox long = cond no_mbox (Some NotAnMbox) (cond long (Some ArchiveTooLong) None)
@@ -114,7 +115,7 @@ module _ (bytes : List ℕ) where
       ap (λ (b : Bool). unwrap_or (cond b None (Some (messages_from (total groups.0) groups.1))) [])
       (by-no-mbox starts-late ends-early is-long h)
 
-  -- an archive is refused by its bytes in two ways
+  -- if an archive is refused by its bytes, there are two possible faults
   cut-so : (f : CutFault) → refusal_of most_in_archive bytes ≡ Some f → (f ≡ NotAnMbox) ⊎ (f ≡ ArchiveTooLong)
   unfolding refusal_of
   cut-so f h = cut-by (starts-late && ends-early) is-long f h
@@ -178,7 +179,7 @@ module _ (archives : List Mbox) (a b : Answer) where
       go (inl same) = inl (is ∙ ap refused same ∙ sym other)
       go (inr (n, t, x, y)) = grind arith
 
-  -- the archives are sound and answered, or refused
+  -- the archives are sound and there is an answer, or they are refused
   one-of : (IsFound : Answer → Type 0) → (IsFound a → IsFound b → a ≡ b) → (AreSound archives × IsFound a) ⊎ IsRefusedBy archives a
       → (AreSound archives × IsFound b) ⊎ IsRefusedBy archives b → (a ≡ b) ⊎ AreOfOneArchive archives a b
   one-of IsFound same (inl h) (inl k) = inl (same h.1 k.1)
@@ -200,7 +201,7 @@ one-once (Ok w) bytes held a b h k =
     let archives = mboxes w.paths bytes in
     one-of archives a b (IsTold (table archives) w.search held) (one-told (table archives) w.search held a b) h k
 
--- of an archive that is refused twice either refusal is one
+-- if an archive is refused twice, each of the two refusals is allowed
 either-refuses : (archives : List Mbox) (number : ℕ) (answer : Answer) → IsRefusedTwice archives number → IsEither number answer
     → IsRefusedBy archives answer
 either-refuses archives number answer t (inl is) =

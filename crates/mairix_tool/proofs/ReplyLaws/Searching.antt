@@ -1,4 +1,4 @@
--- What a run does to archives and output, from what its steps do: verification, then a search.
+-- A run verifies and then searches, so what it does to archives and output is what these two steps do.
 use Rattle.mairix_tool.proofs.Words.{◌≡◌, ◌^◌, ◌<◌, ℕ, Bool, true, false, List, Option, None, Some, Result, Ok, Err, IfSome, refl, sym, ap, subst, arith, inr, length, map, IsFileOf, Table, table, mboxes, Fault, Reply, Wanted, IsIndexRefusal, is_too_old, renamed_archive, refusal_of, reply_of, Search, false≢true, IsWellFormed}
 use Rattle.mail_answer.specs.declared.archives.Archives.{Ghosts}
 use Rattle.mbox_cutter.specs.declared.device.Out.{Ghosts as OutGhosts}
@@ -9,7 +9,7 @@ use Rattle.run_faults.specs.declared.fault.Fault.TheVariants as of
 use Rattle.mairix_tool.specs.Searching.{AsksNothing, IsIndexed, Searches, SearchesFor, SearchesStored, VerifiesAndSearches, VerifiesWhere}
 use Rattle.std.specs.Bool.{MatchBool}
 
--- the reply to a fault of archives that were verified
+-- the reply to a fault of the verification
 abbrev verified-reply : Result (Unit {0}) Fault → Reply
 verified-reply (Ok x) = reply_of (Ok 0)
 verified-reply (Err fault) = reply_of (Err fault)
@@ -28,7 +28,7 @@ module _ {A O : Type 0} (g : Ghosts A) (h : OutGhosts O) (t : Table) (s : Search
   verified-searched true x new before after reply (Ok y, verifies, same) searched = (read, Ok y, verifies, searched)
   verified-searched false x new before after reply asked searched = subst (λ (a : A). Searches g h t s a new before after reply) asked.0 searched
 
--- an index that is refused isn't one that can be searched
+-- an index that is refused can't be searched
 refused-index : (w : Wanted) (index : List ℕ) (few : length index < 2 ^ 64) (t : Table) (file : IsFileOf index t) (fault : Fault) → IsIndexRefusal w index fault
     → is_too_old t w ≡ false → renamed_archive t.archives w.paths ≡ None → ⊥
 refused-index w index few t file fault is fresh named = grind (arith, no_fault, same-table, false≢true)
@@ -40,18 +40,18 @@ module _ {A O : Type 0} (g : Ghosts A) (h : OutGhosts O) (w : Wanted) (index : L
   pub opened-searched : (u : Table) → IsFileOf index u → SearchesFor g h w u old new before after reply → SearchesStored g h w t old new before after reply
   opened-searched u f searched fresh named = inr (subst (λ (v : Table). SearchesFor g h w v old new before after reply) (same-table index t u few file f) searched)
 
--- words, rcfile and query that are accepted leave want of memory alone
+-- if words, rcfile and query are accepted, only lack of memory is left
 pub wants-memory : (asked : Result Wanted Fault) (w : Wanted) (fault : Fault) → asked ≡ Ok w → IfSome (refusal_of fault) (λ r. asked ≡ Err r) → IsEarly fault → fault ≡ of.Memory
 wants-memory asked w fault is given early = grind arith
 
 pub asks-nothing : {A O : Type 0} (IsCause : Fault → Type 0) (fault : Fault) (archives : A) (out : O) → IsCause fault → AsksNothing IsCause archives archives out out (reply_of (Err fault))
 asks-nothing IsCause fault archives out cause = record { fault = fault; cause = cause; replied = refl; archives = refl; out = refl }
 
--- words, rcfile and query ask for one thing
+-- words, rcfile and query have one meaning
 pub same-asked : (asked : Result Wanted Fault) (v w : Wanted) → asked ≡ Ok v → asked ≡ Ok w → v ≡ w
 same-asked asked v w h h2 = grind arith
 
--- the table of a file in memory, of which it is known that it is that of the sources' archives
+-- the table of a file in memory that is known to be the index of the sources' archives
 pub indexed-table : (paths : List (List ℕ)) (rests : List (Option (List ℕ))) (file : List ℕ) (view : Table) → ((t : Table) → IsFileOf file t → view ≡ t) → ((t : Table) × IsFileOf file t)
     → ((bytes : List (List ℕ)) → rests ≡ map Some bytes → IsFileOf file (table (mboxes paths bytes))) → IsIndexed paths rests view
 indexed-table paths rests file view same (t, formed) known = record {

@@ -1,4 +1,4 @@
--- A run over a stored index replies what its table tells; over the archives that were indexed, what their own messages say.
+-- A run over a stored index replies what its table says; over the indexed archives this is what their own messages say.
 use Rattle.mairix_tool.proofs.Words.{◌≡◌, ◌∙◌, ◌<◌, ◌^◌, ◌+◌, ◌++◌, ℕ, Bool, true, false, cond, All, IfSome, IfOk, IfErr, List, [], ◌∷◌, map, length, None, Some, Option, Result, Ok, Err, refl, sym, ap, subst, arith, inl, inr, eq-eqb, ◌||◌, false≢true, length-map, bytes_eq-Decides, option_map, option_or, stale_archive, unverified_archive, IndexFault, IsFileOf, IsFirstFault, AreBytes, Archive, IsPath, Table, IsVersion, uses_names, AreSound, Mbox, table, entry_of, Fault, Reply, mboxes, Wanted, refusal_of, is_failure, IsOfAnswer, AreToldApart, altered_archive, ServesFor, but_digests, old_table, Answer, refused, IsTold, IsToldOf, IsProvedAndTold, unproved_archive, TellsProved, IsStaleOr, IsOldOr, is_too_old, IsReply, IsStoredReply, IsForNoOtherCause, IsIndexRefusal, IsRefusedAs, RepliesBy, reply_of, renamed_archive, first_renamed, IsCountedWhere, WereVerified, sound-not-refused}
 use Rattle.mail_index.proofs.FileLaws.Accepts.{no_fault}
 use Rattle.mail_index.proofs.FileLaws.SameTable.{same-table}
@@ -24,15 +24,15 @@ first-named n (p ∷ paths) (b ∷ bytes) same =
 named-as : (paths bytes : List (List ℕ)) → length paths ≡ length bytes → renamed_archive (table (mboxes paths bytes)).archives paths ≡ None
 named-as paths bytes same = grind (arith, length-map, mboxes-length, eq-eqb, first-named)
 
--- and the bytes that they hold have its digests
+-- and their bytes have its digests
 proved-as : (verify : Bool) (paths bytes : List (List ℕ)) → length paths ≡ length bytes → unproved_archive verify (table (mboxes paths bytes)).archives bytes ≡ None
 proved-as false paths bytes same = refl
 proved-as true paths bytes same =
     subst (λ (held : List (List ℕ)). unverified_archive (table (mboxes paths bytes)).archives held ≡ None) (bytes-of-mboxes paths bytes same) (own-verified (mboxes paths bytes))
 
--- ---- what the table tells
+-- ---- what the table says
 
--- of two archives that aren't as they were indexed the first is told
+-- of two archives that aren't as they were indexed, the first is reported
 join : (o p : Option ℕ) (IsFound : Answer → Type 0) (answer : Answer) → IsStaleOr o (IsStaleOr p IsFound) answer → IsStaleOr (option_or o p) IsFound answer
 join o p IsFound answer h = grind arith
 
@@ -46,7 +46,7 @@ neither {o} {p} first second = ap (λ q. option_or q p) first ∙ second
 pub none-altered : (paths bytes : List (List ℕ)) → length paths ≡ length bytes → altered_archive (mboxes paths bytes) paths bytes ≡ None
 none-altered paths bytes same = neither (named-as paths bytes same) (proved-as true paths bytes same)
 
--- an index that isn't too old has the digests that are asked for
+-- an index that isn't too old has the digests that a run needs
 pub has-digests : (w : Wanted) (t : Table) → IsVersion t.version → is_too_old t w ≡ false → w.verify ≡ true → t.version ≡ 2
 has-digests w t h h2 h3 = grind (arith, false≢true)
 
@@ -56,7 +56,7 @@ module _ (w : Wanted) (index : List ℕ) (few : length index < 2 ^ 64) (t : Tabl
 
   -- an index that isn't too old
   module _ (held : List (List ℕ)) (fresh : is_too_old t w ≡ false) where
-    -- the archive that isn't as it was indexed
+    -- the first archive that isn't as it was indexed
     abbrev altered : Option ℕ
     altered = option_or (renamed_archive t.archives w.paths) (unproved_archive w.verify t.archives held)
 
@@ -70,7 +70,7 @@ module _ (w : Wanted) (index : List ℕ) (few : length index < 2 ^ 64) (t : Tabl
         let both = subst (λ (b : Bool). IsOldOr b (IsStaleOr (renamed_archive t.archives w.paths) (IsProvedAndTold w t held)) answer) fresh here in
         join (renamed_archive t.archives w.paths) (unproved_archive w.verify t.archives held) (IsTold t w.search held) answer both
 
-    -- of these paths
+    -- the index has these paths
     pub stored-told : renamed_archive t.archives w.paths ≡ None → (reply : Reply) (old new : Option (List ℕ)) → RepliesBy (IsProvedAndTold w t held) reply old new
         → RepliesBy (IsStoredReply (Ok w) index held) reply old new
     stored-told none reply old new given =
@@ -86,7 +86,7 @@ module _ (w : Wanted) (index : List ℕ) (few : length index < 2 ^ 64) (t : Tabl
   pub stored-read : (u : Table) (fault : Option Fault) → IsFileOf index u → WereVerified t.archives w.verify fault → WereVerified u.archives w.verify fault
   stored-read u fault f given = subst (λ (v : Table). WereVerified v.archives w.verify fault) (one-table u f) given
 
--- archives that were verified before an answer were so whatever comes of it
+-- archives that were verified before an answer were verified, whatever its result
 pub still-verified : (named : List Archive) (verify : Bool) (fault : Option Fault) → WereVerified named verify None → WereVerified named verify fault
 still-verified named verify fault given = elim fault as (λ o. WereVerified named verify o) [ None ↦ given | Some _ ↦ tt ]
 
@@ -105,7 +105,7 @@ module _ (w : Wanted) (index : List ℕ) (few : length index < 2 ^ 64) (bytes : 
         | inr bad ↦ absurd (sound-not-refused (mboxes w.paths bytes) bad.0 sound bad.1)
       ]
 
-  -- into a table that tells the same
+  -- through a table that says the same
   stored-alike : (t : Table) → IsFileOf index t → is_too_old t w ≡ false → renamed_archive t.archives w.paths ≡ None → unproved_archive w.verify t.archives bytes ≡ None
       → ((answer : Answer) → IsTold t w.search bytes answer → IsTold whole w.search bytes answer) → ((answer : Answer) → IsTold whole w.search bytes answer → IsTold t w.search bytes answer)
       → (reply : Reply) (old new : Option (List ℕ)) → RepliesBy (IsStoredReply (Ok w) index bytes) reply old new → RepliesBy (IsReply (Ok w) bytes) reply old new
@@ -116,12 +116,12 @@ module _ (w : Wanted) (index : List ℕ) (few : length index < 2 ^ 64) (bytes : 
       (λ answer is. stored-by w index few t file bytes fresh answer (subst (λ (o : Option ℕ). IsStaleOr o (IsTold t w.search bytes) answer) (sym none) (back answer (told-once answer is))))
       reply old new given
 
-  -- by the version that is written now
+  -- with an index of the newest version
   stored-indexed : IsFileOf index whole → (reply : Reply) (old new : Option (List ℕ)) → RepliesBy (IsStoredReply (Ok w) index bytes) reply old new → RepliesBy (IsReply (Ok w) bytes) reply old new
   stored-indexed file =
       stored-alike whole file refl (named-as w.paths bytes many) (proved-as w.verify w.paths bytes many) (λ answer told. told) (λ answer told. told)
 
-  -- with other digests
+  -- with an index that has other digests
   stored-otherwise : (t : Table) → w.verify ≡ false → but_digests t ≡ but_digests whole → IsFileOf index t → (reply : Reply) (old new : Option (List ℕ)) → RepliesBy (IsStoredReply (Ok w) index bytes) reply old new
       → RepliesBy (IsReply (Ok w) bytes) reply old new
   stored-otherwise t off same file =
@@ -130,7 +130,7 @@ module _ (w : Wanted) (index : List ℕ) (few : length index < 2 ^ 64) (bytes : 
       sym (renamed-old t.archives w.paths) ∙ ap (λ (u : Table). renamed_archive u.archives w.paths) same ∙ renamed-old whole.archives w.paths ∙ named-as w.paths bytes many in
       stored-alike t file fresh named (ap (λ (b : Bool). unproved_archive b t.archives bytes) off) (λ answer. told-same t whole same w.search bytes answer) (λ answer. same-told t whole same w.search bytes answer)
 
-  -- by version 1
+  -- with an index of version 1
   stored-before : w.verify ≡ false → IsFileOf index (old_table whole) → uses_names w.search.query ≡ false → (reply : Reply) (old new : Option (List ℕ)) → RepliesBy (IsStoredReply (Ok w) index bytes) reply old new
       → RepliesBy (IsReply (Ok w) bytes) reply old new
   stored-before off file none =
@@ -139,12 +139,12 @@ module _ (w : Wanted) (index : List ℕ) (few : length index < 2 ^ 64) (bytes : 
       (ap (λ (b : Bool). unproved_archive b (old_table whole).archives bytes) off)
       (λ answer told. told-old whole w.search bytes answer none told) (λ answer told. old-told whole w.search bytes answer none told)
 
-  -- by an index that serves for them
+  -- with an index that serves for these archives
   pub stored-serving : All IsPath w.paths → ServesFor w whole index → (reply : Reply) (old new : Option (List ℕ)) → RepliesBy (IsStoredReply (Ok w) index bytes) reply old new
       → RepliesBy (IsReply (Ok w) bytes) reply old new
   stored-serving h h2 = grind (arith, stored-indexed, indexed-file, stored-otherwise, otherwise-file, stored-before, before-file)
 
--- where they are verified, by the index of whatever archives
+-- if they are verified, with the index of any archives
 module _ (w : Wanted) (index : List ℕ) (few : length index < 2 ^ 64) (before : List Mbox) (bytes : List (List ℕ)) (verify : w.verify ≡ true) (sound : AreSound before) (file : IsFileOf index (table before))
     (apart : AreToldApart (map (λ a. a.bytes) before ++ bytes)) where
   stale-or : (o : Option ℕ) (IsFound IsOther : Answer → Type 0) → (o ≡ None → (answer : Answer) → IsFound answer → IsOther answer) → (answer : Answer) → IsStaleOr o IsFound answer → IsStaleOr o IsOther answer
@@ -182,12 +182,12 @@ some-stale : (o : Option ℕ) (IsFound : Answer → Type 0) → (answer : Answer
 some-stale (Some n) IsFound found = (refused (of.Stale n), refl)
 some-stale None IsFound found = found
 
--- an index that is too old refuses, and another one answers
+-- an index that is too old is refused, and any other one answers
 some-old : (old : Bool) (IsFound : Answer → Type 0) → (answer : Answer) × IsFound answer → (answer : Answer) × IsOldOr old IsFound answer
 some-old true IsFound found = (refused of.OldIndex, refl)
 some-old false IsFound found = found
 
--- by what reading the index tells
+-- by the result of reading the index
 pub some-stored-reply : (index : List ℕ) (read : Result Table IndexFault) → IfOk read (IsFileOf index) → IfErr read (IsFirstFault index)
     → (asked : Result Wanted Fault) (held : List (List ℕ)) → (answer : Answer) × IsStoredReply asked index held answer
 some-stored-reply index read file bad (Err fault) held = (refused fault, refl)
@@ -201,7 +201,7 @@ some-stored-reply index (Err f) file bad (Ok w) held = (refused (of.Index f), in
 
 -- ---- refusals
 
--- a fault that is no device's or memory's is a refusal
+-- a fault that isn't of a device or of memory is a refusal
 refusal-known : (f : Fault) → is_failure (Some f) ≡ false → refusal_of f ≡ Some f
 refusal-known f h = grind arith
 
@@ -212,17 +212,17 @@ pub refused-stored : (asked : Result Wanted Fault) (index : List ℕ) (held : Li
     → RepliesBy (IsStoredReply asked index held) (reply_of (Err f)) old old
 refused-stored asked index held f old is = grind (arith, unanswered, stored-refusal, refusal-known)
 
--- what is replied where an archive isn't the one that was indexed, or couldn't be read for that
+-- the reply if an archive isn't the indexed one, or couldn't be read to find out
 pub unproved-replied : (unproved : Option ℕ) (IsFound : Answer → Type 0) (f : Fault) (old : Option (List ℕ)) → TellsProved {T = Unit {0}} unproved (Err f)
     → RepliesBy (IsStaleOr unproved IsFound) (reply_of (Err f)) old old
 unproved-replied unproved IsFound f old tells = grind (arith, unanswered)
 
--- ---- a refusal is told for no other cause
+-- ---- a refusal has no other cause
 
 pub refused-for : (asked : Result Wanted Fault) (index : List ℕ) (f : Fault) → IfSome (refusal_of f) (IsRefusedAs asked index) → IsForNoOtherCause asked index f
 refused-for asked index f h = grind arith
 
--- an answer's fault is none of these
+-- a fault of an answer isn't one of these
 pub answered-for : (asked : Result Wanted Fault) (index : List ℕ) (r : Result ℕ Fault) → IfErr r IsOfAnswer → IfSome (reply_of r).fault (IsForNoOtherCause asked index)
 answered-for asked index r h = grind arith
 
@@ -236,7 +236,7 @@ module _ (w : Wanted) (index : List ℕ) (few : length index < 2 ^ 64) where
   one-bad-index (Err e) (Err f) same h h2 fault h3 = grind (arith, one-first-fault, no_fault)
 
   module _ (t : Table) (file : IsFileOf index t) where
-    -- of two tables of one file both are too old, or neither
+    -- if one file is that of two tables, both are too old or neither is
     one-age : (u : Table) → IsFileOf index u → is_too_old t w ≡ is_too_old u w
     one-age u f = ap (λ (v : Table). is_too_old v w) (same-table index u t few f file)
 

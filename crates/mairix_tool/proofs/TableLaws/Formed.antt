@@ -1,4 +1,5 @@
--- The tables that an index of sound archives may have are well-formed: theirs, one with other digests, and that of version 1.
+-- The tables that an index of sound archives may have are well-formed: theirs, one with other digests, and that of
+-- version 1.
 use Rattle.mairix_tool.proofs.Words.{◌≡◌, ◌∙◌, ℕ, zero, suc, ◌+◌, ◌<◌, ◌≤◌, Bool, true, false, not, cond, All, List, [], ◌∷◌, length, map, refl, sym, ap, subst, arith, inl, inr, AllByRecursion, nat_tests, length-map, All-nil, All-cons, All-head, All-tail, recursion_from_All, Name, Text, Record, IsFileOf, index_file, is_of_kind, Archive, Key, Table, archive_length, IsPath, IsArchive, IsMessage, IsKey, IsWellFormed, Follows, KeyBefore, AllNext, newest, IsDigest, AreSound, Mbox, table, mboxes, without_digest, keys_but_names, but_digests, old_table, HasDigests}
 use Rattle.mail_index.specs.Limits.{most_in_archive}
 use Rattle.mail_index.proofs.BuildLaws.DraftLemmas.{all-weaker}
@@ -16,7 +17,7 @@ length-old [] n = refl
 length-old (a ∷ archives) zero = refl
 length-old (a ∷ archives) (suc n) = length-old archives n
 
--- messages of archives are those of any others that differ in digests alone
+-- messages of archives are also messages of archives that differ only in their digests
 placed-same : (xs ys : List Archive) → map without_digest xs ≡ map without_digest ys → (m : Record) → IsMessage xs m → IsMessage ys m
 placed-same xs ys same m is =
     let many : length xs ≡ length ys = sym (length-map xs without_digest) ∙ ap length same ∙ length-map ys without_digest in
@@ -33,7 +34,7 @@ without-twice : (archives : List Archive) → map without_digest archives ≡ ma
 without-twice [] = refl
 without-twice (a ∷ archives) = ap (λ (l : List Archive). without_digest a ∷ l) (without-twice archives)
 
--- archives that differ in digests alone from others that a table may have, and have digests, may be had too
+-- archives with digests that differ from valid ones only in these are valid too
 named-otherwise : (xs ys : List Archive) → map without_digest xs ≡ map without_digest ys → AllByRecursion (IsArchive newest) xs → AllByRecursion (λ (a : Archive). IsDigest newest a.digest) ys
     → AllByRecursion (IsArchive newest) ys
 named-otherwise [] [] same all digests = tt
@@ -103,7 +104,7 @@ module _ (archives : List Mbox) (paths : All (λ (a : Mbox). IsPath a.path) arch
     sorted = sorted-old whole.keys formed.sorted;
   }
 
-  -- one that differs in digests alone
+  -- a table that differs only in its digests
   pub otherwise-formed : (t : Table) → but_digests t ≡ but_digests whole → HasDigests t → IsWellFormed t
   otherwise-formed t same digests =
       let back : but_digests whole ≡ but_digests t = sym same in
@@ -130,7 +131,7 @@ module _ (archives : List Mbox) (paths : All (λ (a : Mbox). IsPath a.path) arch
 
 -- ---- the files
 
--- archives that were indexed under paths have them
+-- archives that were indexed by paths have these paths
 named-paths : (paths bytes : List (List ℕ)) → All IsPath paths → All (λ (a : Mbox). IsPath a.path) (mboxes paths bytes)
 named-paths [] bytes all = All-nil (λ (a : Mbox). IsPath a.path)
 named-paths (p ∷ paths) [] all = All-nil (λ (a : Mbox). IsPath a.path)

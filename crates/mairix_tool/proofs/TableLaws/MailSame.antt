@@ -1,4 +1,4 @@
--- What the table of archives says of their messages, their threads and their texts is what these say themselves.
+-- The table of archives says about their messages, threads and texts what these say themselves, number by number.
 use Rattle.mairix_tool.proofs.Words.{◌≡◌, ◌∙◌, ℕ, zero, suc, ◌+◌, ◌<◌, Bool, true, false, cond, nat_eq, ◌&&◌, ◌||◌, List, [], ◌∷◌, ◌++◌, map, flat_map, length, Option, None, Some, refl, sym, ap, subst, arith, eq-eqb, append_assoc, min, list_any, range_with_len, length-map, length_push, get_or_at, fields_of, Message, text, facts_of, texts_of_message, Pair, Facts, TextKind, words, folding, Text, LinkId, Record, kind_number, keys_of, Archive, Key, Table, Query, is_true, Format, Raw, Excerpt, Search, IsChain, IsLedToBySome, AreThreadsOf, AreChosen, AreChosenBy, satisfying, message_text, answer_text, first_changed, stale_archive, mail_told, facts_at, record_at, texts_with, is_among, are_linked, table, entry_of, with_messages, Term, text_terms, own_id_terms, link_terms, Numbered, numbered_messages, numbered_at, nobody, link_ids, share_id, mail_in, shape, shape_of}
 use Rattle.std.specs.List.{filter}
 use Rattle.std.specs.Str.{bytes_eq}
@@ -41,7 +41,7 @@ terms-say-links passes texts facts =
     ∙ ap (λ (b : Bool). b || list_any (term_says LinkId passes) (link_terms facts.ids)) (own-no-link passes facts.own_id)
     ∙ links-themselves passes facts.ids
 
--- ---- what the keys say of the message of a number
+-- ---- what the keys say about the message of a number
 
 no-ids : link_ids nobody.1 ≡ []
 unfolding facts_of fields_of
@@ -61,7 +61,7 @@ share-same : (xs ys us vs : List (List ℕ)) → ((p : List ℕ → Bool) → li
 share-same xs ys us vs first second =
     any-same (λ id. list_any (bytes_eq id) ys) (λ id. list_any (bytes_eq id) vs) (λ id. second (bytes_eq id)) xs ∙ first (λ id. list_any (bytes_eq id) vs)
 
--- two messages are linked by the table of archives exactly where they share a link id of their own
+-- the table of archives links two messages exactly if they share a link id
 pub links-same : (archives : List Archived) (m n : ℕ) → are_linked (table archives) m n ≡ (mail_in archives).linked m n
 links-same archives m n =
     let xs : List Numbered = numbered_messages 0 archives in
@@ -132,7 +132,7 @@ chosen-back archives s numbers are = chosen-back-by s.threads s.query archives n
 pub chosen-same : (archives : List Archived) (s : Search) (numbers : List ℕ) → AreChosen (mail_told (table archives)) s numbers → AreChosen (mail_in archives) s numbers
 chosen-same archives s numbers are = chosen-by s.threads s.query archives numbers are
 
--- ---- how they are told
+-- ---- how the messages are written
 
 shown-at : (format : Format) (named : List Archive) (held : List (List ℕ)) (xs : List Numbered) (n : ℕ)
     → message_text format named held (record_at (map record_in xs) n) ≡ message_text format named held (record_in (numbered_at xs n))

@@ -1,4 +1,4 @@
--- What the keys of a table of messages say of one of them is what its own terms say.
+-- The keys of a table say about a message what its own terms say, because each term was added with its number.
 use Rattle.mairix_tool.proofs.Words.{◌≡◌, ◌∙◌, ℕ, zero, suc, ◌+◌, ◌<◌, Bool, true, false, cond, List, [], ◌∷◌, ◌++◌, length, map, filter, refl, ap, arith, ◌&&◌, ◌||◌, list_any, bytes_eq, bytes_eq-Decides, nat_tests, Kind, Key, KeyBefore, AllNext, is_of_kind, keys_of, is_among, texts_with, Message, text, Term, message_terms, with_messages}
 use Rattle.std.specs.Cmp.{both_ways}
 use Rattle.mail_index.specs.LookUps.{is_key, numbers_at}
@@ -10,7 +10,7 @@ use Rattle.mairix_tool.proofs.TableLaws.ThreadLinks.{rest-sorted}
 
 -- ---- the numbers of a term
 
--- the terms of the message of this number, none past the last
+-- the terms of the message with this number; none after the last
 abbrev pub terms_at : ℕ → List Message → List Term
 terms_at n [] = []
 terms_at zero (m ∷ ms) = message_terms (text m)
@@ -35,13 +35,13 @@ module _ (kind : Kind) (term : List ℕ) where
   numbers-tell n low (suc i) (m ∷ ms) h =
       grind (arith, nat_tests, numbers-cons kind term low m ms, numbers-tell n (suc low) i ms (omega (arith, h)))
 
--- ---- some text of the keys passes where some term does
+-- ---- a text of the keys passes exactly if a term does
 
 -- the key is of this kind and has this number, and its text passes
 abbrev says : Kind → ℕ → (List ℕ → Bool) → Key → Bool
 says kind n passes k = is_of_kind kind k && (is_among n k.numbers && passes k.text)
 
--- some text of those with the number passes: some key says so
+-- a text with this number passes exactly if a key says so
 texts-say : (kind : Kind) (n : ℕ) (passes : List ℕ → Bool) (ks : List Key)
     → list_any passes (texts_with kind n ks) ≡ list_any (says kind n passes) ks
 texts-say kind n passes [] = refl
@@ -57,12 +57,12 @@ texts-say kind n passes (k ∷ ks) = go (is_of_kind kind k) (texts-say kind n pa
         ≡ ((of && (is_among n k.numbers && passes k.text)) || list_any (says kind n passes) ks)
     go of h = grind (arith, with_number_too)
 
--- a text passes both tests
+-- there is a text that passes both tests
 abbrev SomePasses : (List ℕ → Bool) → (List ℕ → Bool) → Type 0
 SomePasses passes has = (term : List ℕ) × (passes term ≡ true) × (has term ≡ true)
 
 module _ (kind : Kind) (n : ℕ) (passes : List ℕ → Bool) where
-  -- of the keys, by their numbers
+  -- from the keys, by their numbers
   key-found : (ks : List Key) → AllNext KeyBefore ks → list_any (says kind n passes) ks ≡ true
       → SomePasses passes (λ term. is_among n (numbers_at kind term ks))
   key-found [] sorted e = absurd cc
@@ -94,7 +94,7 @@ module _ (kind : Kind) (n : ℕ) (passes : List ℕ → Bool) where
       go true is rest = grind (arith, key-same kind term k is)
       go false is rest = grind (arith, rest)
 
-  -- of the terms
+  -- from the terms
   term-found : (ts : List Term) → list_any (term_says kind passes) ts ≡ true → SomePasses passes (λ term. has_term kind term ts)
   term-found [] e = absurd cc
   term-found (t ∷ ts) e = go (term_says kind passes t) refl e (term-found ts)
@@ -113,7 +113,7 @@ module _ (kind : Kind) (n : ℕ) (passes : List ℕ → Bool) where
   term-says term h [] e = absurd cc
   term-says term h (t ∷ ts) e = grind (arith, bytes_eq-Decides term t.1, term-says term h ts)
 
-  -- some text of the kind that the keys have for a message passes: so does some term of the message
+  -- a text that the keys have for a message passes exactly if a term of the message passes
   pub keys-at : (ms : List Message)
       → list_any passes (texts_with kind n (with_messages 0 ms [])) ≡ list_any (term_says kind passes) (terms_at n ms)
   keys-at ms =
@@ -133,7 +133,7 @@ module _ (kind : Kind) (n : ℕ) (passes : List ℕ → Bool) where
       back : list_any (term_says kind passes) (terms_at n ms) ≡ true → list_any (says kind n passes) ks ≡ true
       back e = let found = term-found (terms_at n ms) e in key-says found.0 found.1 ks (same found.0 ∙ found.2)
 
-  -- one message among the others
+  -- one message between the others
   pub keys-say : (before : List Message) (m : Message) (after : List Message) → length before ≡ n
       → list_any passes (texts_with kind n (with_messages 0 (before ++ m ∷ after) [])) ≡ list_any (term_says kind passes) (message_terms (text m))
   keys-say before m after h = keys-at (before ++ m ∷ after) ∙ ap (list_any (term_says kind passes)) (terms-here n before m after h)

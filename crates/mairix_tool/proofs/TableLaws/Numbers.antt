@@ -1,10 +1,10 @@
--- Which numbers satisfy a query is the same by the table of archives and by the messages of these numbers themselves.
+-- The table of archives and the messages themselves give the same numbers for a query, message by message.
 use Rattle.mairix_tool.proofs.Words.{◌≡◌, ◌∙◌, ℕ, suc, ◌+◌, Bool, List, [], ◌∷◌, ◌++◌, length, map, refl, sym, ap, append_assoc, list_any, map-append, length-map, length_push, get_or_at, fields_of, Message, text, Text, OwnId, Record, Key, Table, texts_with, facts_at, record_at, no_record, Query, is_true, facts_of, texts_of_message, Mbox, messages_in, all_messages, record_of, records_from, with_messages, Numbered, numbered_messages, facts_of_message}
 use Rattle.mairix_tool.proofs.TableLaws.Truth.{SaysTheSame, truth-same}
 use Rattle.mairix_tool.proofs.TableLaws.Terms.{terms-say-words, terms-say-own}
 use Rattle.mairix_tool.proofs.TableLaws.Messages.{keys-say}
 
--- its message, its record, and whether it satisfies the query
+-- the message, its record, and whether it satisfies the query
 abbrev pub message_in : Numbered → Message
 message_in x = x.1
 
@@ -14,9 +14,9 @@ record_in x = record_of x.0 x.1
 abbrev pub passes_in : Query → Numbered → Bool
 passes_in q x = is_true q (facts_of_message x.1)
 
--- ---- what is told of the archives, by their numbered messages
+-- ---- the archives as their numbered messages
 
--- all messages are those that are numbered
+-- all messages are the numbered ones
 pub messages-numbered : (n : ℕ) (archives : List Mbox) → all_messages archives ≡ map message_in (numbered_messages n archives)
 messages-numbered n [] = refl
 messages-numbered n (a ∷ archives) =
@@ -28,7 +28,7 @@ messages-numbered n (a ∷ archives) =
     alone [] = refl
     alone (m ∷ ms) = ap (λ (rest : List Message). m ∷ rest) (alone ms)
 
--- the records are theirs
+-- the records are those of the numbered messages
 pub records-numbered : (n : ℕ) (archives : List Mbox) → records_from n archives ≡ map record_in (numbered_messages n archives)
 records-numbered n [] = refl
 records-numbered n (a ∷ archives) =
@@ -42,14 +42,14 @@ records-numbered n (a ∷ archives) =
 
 -- ---- numbers one after another
 
--- from this number on, each passes where its message satisfies the query
+-- each number from this one on passes exactly if its message satisfies the query
 abbrev pub AllTell : (ℕ → Bool) → Query → ℕ → List Numbered → Type 0
 AllTell test q n [] = Unit {0}
 AllTell test q n (x ∷ xs) = (test n ≡ passes_in q x) × AllTell test q (n + 1) xs
 
 -- ---- the table
 
--- a table with the keys of these messages says of one of them what it says itself, where its record stands at its number
+-- a table with the keys of these messages says about one of them what it says itself, if its record is at its number
 facts-told : (t : Table) (n archive : ℕ) (before : List Message) (x : Message) (after : List Message) → length before ≡ n
     → t.keys ≡ with_messages 0 (before ++ x ∷ after) [] → record_at t.messages n ≡ record_of archive x → SaysTheSame (facts_at t n) (facts_of_message x)
 facts-told t n archive before x after h keys known = record {
@@ -64,7 +64,7 @@ facts-told t n archive before x after h keys known = record {
   flags = ap (λ (r : Record). r.flags) known;
 }
 
--- the numbers of a table from here on tell of the messages from here on
+-- from here on, the numbers of a table pass exactly if the messages satisfy the query
 pub tells-from : (q : Query) (t : Table) (n : ℕ) (before rest : List Numbered) → length before ≡ n
     → t.messages ≡ map record_in (before ++ rest) → t.keys ≡ with_messages 0 (map message_in (before ++ rest)) []
     → AllTell (λ i. is_true q (facts_at t i)) q n rest

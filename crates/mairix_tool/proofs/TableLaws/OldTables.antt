@@ -1,4 +1,5 @@
--- A table without digests answers as the whole table does, and so does that of version 1 where a query doesn't use names of parts.
+-- A table without digests answers as the whole table; so does that of version 1 if the query uses no names of
+-- attachments.
 use Rattle.mairix_tool.proofs.Words.{◌≡◌, ◌∙◌, ℕ, ◌+◌, Bool, false, not, cond, List, [], ◌∷◌, map, flat_map, length, Option, Some, refl, sym, ap, inl, inr, min, unwrap_or, arith, ◌&&◌, ◌==◌, nat_eq, filter, list_any, range_with_len, slice_get, option_map, eqb_tells, length-map, TextKind, Name, Kind, Text, OwnId, LinkId, kind_number, is_of_kind, keys_of, Archive, Key, Table, Query, uses_names, is_true, words_but_names, without_names, Format, Raw, Excerpt, Search, AreChosen, AreChosenBy, satisfying, path_at, answer_text, first_changed, stale_archive, mail_told, is_among, texts_with, facts_at, record_at, are_linked, without_digest, keys_but_names, but_digests, old_table, Answer, IsTold, IsStaleOr, answered, first_renamed, renamed_archive}
 use Rattle.std.specs.Str.{bytes_eq}
 use Rattle.mail_answer.specs.declared.format.Format.TheVariants.{Mbox}
@@ -8,7 +9,7 @@ use Rattle.mail_query.proofs.NameLemmas.{true-without}
 
 -- ---- keys
 
--- the keys of any other kind stay
+-- keys of any other kind stay
 others-stay : (kind : Kind) → nat_eq 9 (kind_number kind) ≡ false → (ks : List Key) → keys_of kind (keys_but_names ks) ≡ keys_of kind ks
 others-stay kind other [] = refl
 others-stay kind other (k ∷ ks) =
@@ -22,7 +23,7 @@ others-stay kind other (k ∷ ks) =
           ∙ ap (λ (rest : List Key). cond (is_of_kind kind k) (k ∷ rest) rest) (others-stay kind other ks)
     ]
 
--- and none of names
+-- no key of a name stays
 no-names : (ks : List Key) → keys_of (Text Name) (keys_but_names ks) ≡ []
 no-names [] = refl
 no-names (k ∷ ks) = go (is_of_kind (Text Name) k) refl (no-names ks)
@@ -61,7 +62,7 @@ satisfying-old t q none = λ i. filter (λ n. truth-old t q none n i) (range_wit
 chosen-by-old : (t : Table) (threads : Bool) (q : Query) (numbers : List ℕ) → uses_names q ≡ false → AreChosenBy threads (mail_told (old_table t)) q numbers ≡ AreChosenBy threads (mail_told t) q numbers
 chosen-by-old t threads q numbers h = grind (arith, satisfying-old, linked-old)
 
--- ---- how they are told
+-- ---- how the messages are written
 
 path-old : (named : List Archive) (n : ℕ) → path_at (map without_digest named) n ≡ path_at named n
 path-old named n = ap (λ (o : Option Archive). unwrap_or (option_map (λ a. a.path) o) []) (slice_get-map without_digest named n) ∙ go (slice_get named n)
@@ -72,7 +73,7 @@ path-old named n = ap (λ (o : Option Archive). unwrap_or (option_map (λ a. a.p
 text-undigested : (t : Table) (format : Format) (held : List (List ℕ)) (numbers : List ℕ) → answer_text format (but_digests t) held numbers ≡ answer_text format t held numbers
 text-undigested t format held numbers = grind (arith, flat_map, path-old)
 
--- names don't show in it
+-- the text has no names
 text-old : (t : Table) (format : Format) (held : List (List ℕ)) (numbers : List ℕ) → answer_text format (old_table t) held numbers ≡ answer_text format t held numbers
 text-old t Raw held numbers = text-undigested t Raw held numbers
 text-old t Excerpt held numbers = text-undigested t Excerpt held numbers
@@ -100,14 +101,14 @@ renamed-old named paths =
     ap (λ (o : Option ℕ). cond (length paths == length (map without_digest named)) o (Some (min (length paths) (length (map without_digest named))))) (first-renamed-old 0 named paths)
     ∙ ap (λ (n : ℕ). cond (length paths == n) (first_renamed 0 named paths) (Some (min (length paths) n))) (length-map named without_digest)
 
--- ---- what is answered
+-- ---- the answers
 
 told-undigested : (t : Table) (s : Search) (held : List (List ℕ)) (answer : Answer) → IsTold (but_digests t) s held answer ≡ IsTold t s held answer
 told-undigested t s held answer = λ i.
     IsStaleOr (stale-old t.archives held i)
     (λ (a : Answer). (numbers : List ℕ) × AreChosen (mail_told t) s numbers × (a ≡ answered (text-undigested t s.format held numbers i) (length numbers))) answer
 
--- of two tables that differ in digests alone both tell the same
+-- two tables that differ only in their digests give the same answers
 module _ (t u : Table) (same : but_digests t ≡ but_digests u) (s : Search) (held : List (List ℕ)) (answer : Answer) where
   alike : IsTold t s held answer ≡ IsTold u s held answer
   alike = sym (told-undigested t s held answer) ∙ ap (λ (v : Table). IsTold v s held answer) same ∙ told-undigested u s held answer

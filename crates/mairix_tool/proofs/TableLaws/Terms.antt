@@ -1,4 +1,4 @@
--- What the terms of a message say is what its texts and its own id say.
+-- The terms of a message say what its texts and its own id say, kind by kind.
 use Rattle.mairix_tool.proofs.Words.{◌≡◌, ◌∙◌, ℕ, Bool, true, false, if◌then◌else◌, List, [], ◌∷◌, ◌++◌, map, flat_map, Option, refl, sym, ap, arith, ◌&&◌, ◌||◌, nat_eq, list_any, or-false, list_any-append, TextKind, words, folding, Kind, Text, OwnId, LinkId, kind_number, Facts, Pair, Term, text_terms, own_id_terms, link_terms, id_terms, is_kind, words_of, ids_in}
 
 -- the term is of this kind, and its text passes
@@ -7,25 +7,25 @@ term_says kind passes t = nat_eq (kind_number t.0) (kind_number kind) && passes 
 
 -- ---- kinds by their numbers
 
--- kinds of text with one number are one kind
+-- kinds of text with the same number are the same
 text-kinds : (j kind : TextKind) → nat_eq (kind_number (Text j)) (kind_number (Text kind)) ≡ is_kind j kind
 text-kinds j kind = grind arith
 
--- an own id is no text
+-- an own id isn't a text
 own-no-text : (kind : TextKind) → nat_eq (kind_number OwnId) (kind_number (Text kind)) ≡ false
 own-no-text kind = grind arith
 
--- nor is a link
+-- a link isn't a text
 link-no-text : (kind : TextKind) → nat_eq (kind_number LinkId) (kind_number (Text kind)) ≡ false
 link-no-text kind = grind arith
 
--- and a text is no own id
+-- a text isn't an own id
 text-no-own : (kind : TextKind) → nat_eq (kind_number (Text kind)) (kind_number OwnId) ≡ false
 text-no-own kind = grind arith
 
 -- ---- terms of a kind
 
--- the words of a text, where it is of the kind or not
+-- the words of a text, if it is of the kind and if it isn't
 words-say : (kind j : TextKind) (passes : List ℕ → Bool) (same : Bool) → nat_eq (kind_number (Text j)) (kind_number (Text kind)) ≡ same → (ws : List (List ℕ))
     → list_any (term_says (Text kind) passes) (map (λ w. (Text j, folding w)) ws) ≡ list_any passes (if same then map folding ws else [])
 words-say kind j passes true e [] = refl
@@ -33,7 +33,7 @@ words-say kind j passes true e (w ∷ ws) = grind (arith, words-say kind j passe
 words-say kind j passes false e [] = refl
 words-say kind j passes false e (w ∷ ws) = grind (arith, words-say kind j passes false e ws)
 
--- some term of the texts is of the kind and passes: some word of the texts of the kind passes
+-- a term of the texts is of the kind and passes exactly if a word of the texts of this kind passes
 texts-say : (kind : TextKind) (passes : List ℕ → Bool) (texts : List Pair) → list_any (term_says (Text kind) passes) (flat_map text_terms texts) ≡ list_any passes (words_of kind texts)
 texts-say kind passes [] = refl
 texts-say kind passes (p ∷ ps) =
@@ -47,7 +47,7 @@ words-no-own : (j : TextKind) (passes : List ℕ → Bool) (ws : List (List ℕ)
 words-no-own j passes [] = refl
 words-no-own j passes (w ∷ ws) = grind (arith, text-no-own, words-no-own j passes ws)
 
--- nor is a term of several texts
+-- no term of several texts is an own id
 texts-no-own : (passes : List ℕ → Bool) (texts : List Pair) → list_any (term_says OwnId passes) (flat_map text_terms texts) ≡ false
 texts-no-own passes [] = refl
 texts-no-own passes (p ∷ ps) =
@@ -59,28 +59,28 @@ pub links-say : (kind : Kind) (passes : List ℕ → Bool) → nat_eq (kind_numb
 links-say kind passes e [] = refl
 links-say kind passes e (id ∷ ids) = grind (arith, links-say kind passes e ids)
 
--- an own id says nothing of a kind of text
+-- an own id says nothing about a kind of text
 own-says-text : (kind : TextKind) (passes : List ℕ → Bool) (own : Option (List ℕ)) → list_any (term_says (Text kind) passes) (own_id_terms own) ≡ false
 own-says-text kind passes own = grind (arith, own-no-text)
 
--- of own ids it says what it is
+-- about own ids it says what it is
 own-says : (passes : List ℕ → Bool) (own : Option (List ℕ)) → list_any (term_says OwnId passes) (own_id_terms own) ≡ list_any passes (ids_in own)
 own-says passes own = grind arith
 
 -- ---- all terms of a message
 
--- some term passes: one of the texts, the own id, or a link
+-- a term passes exactly if one of the texts, the own id or a link does
 pub parts-say : (kind : Kind) (passes : List ℕ → Bool) (texts : List Pair) (facts : Facts)
     → list_any (term_says kind passes) (flat_map text_terms texts ++ id_terms facts)
     ≡ (list_any (term_says kind passes) (flat_map text_terms texts) || (list_any (term_says kind passes) (own_id_terms facts.own_id) || list_any (term_says kind passes) (link_terms facts.ids)))
 parts-say kind passes texts facts = grind (arith, list_any-append, flat_map)
 
--- by the terms of a kind of text: by the words of the texts of this kind
+-- for a kind of text, the terms say what the words of the texts of this kind say
 pub terms-say-words : (kind : TextKind) (passes : List ℕ → Bool) (texts : List Pair) (facts : Facts)
     → list_any (term_says (Text kind) passes) (flat_map text_terms texts ++ id_terms facts) ≡ list_any passes (words_of kind texts)
 terms-say-words kind passes texts facts = grind (arith, parts-say, texts-say, own-says-text, links-say, link-no-text, or-false)
 
--- by the own ids among the terms: by the message's own id
+-- for own ids, the terms say what the message's own id says
 pub terms-say-own : (passes : List ℕ → Bool) (texts : List Pair) (facts : Facts)
     → list_any (term_says OwnId passes) (flat_map text_terms texts ++ id_terms facts) ≡ list_any passes (ids_in facts.own_id)
 terms-say-own passes texts facts = grind (arith, parts-say, texts-no-own, own-says, links-say, or-false)

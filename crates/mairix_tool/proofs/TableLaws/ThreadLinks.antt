@@ -1,10 +1,10 @@
--- The table of archives links two messages exactly where they share a link id of their own.
+-- The table of archives links two messages exactly if they share a link id, because no two keys have the same id.
 use Rattle.mairix_tool.proofs.Words.{◌≡◌, ◌∙◌, ℕ, Bool, true, false, cond, ◌&&◌, ◌||◌, List, [], ◌∷◌, map, filter, refl, sym, ap, subst, arith, list_any, Less, Equal, eqb-true, bytes_eq-Decides, Kind, LinkId, kind_number, Key, KeyBefore, AllNext, is_of_kind, keys_of, is_among, texts_with, share_id}
 use Rattle.std.specs.Str.{bytes_eq}
 use Rattle.std.proofs.lemmas.Cmp.{nat_list_cmp_total, tied_itself}
 use Rattle.mail_index.specs.OrderOfKeys.{key_cmp}
 
--- ---- a text of no other key
+-- ---- a text that no other key has
 
 -- no key of these has the text
 abbrev pub IsNew : List ℕ → List Key → Type 0
@@ -31,7 +31,7 @@ bytes-turned xs ys e = go (bytes_eq ys xs) refl
 or-none : (a b : Bool) → (a || b) ≡ false → (a ≡ false) × (b ≡ false)
 or-none a b h = grind arith
 
--- a new text is none of the texts of these keys
+-- a new text isn't among the texts of these keys
 new-of : (n : ℕ) (text : List ℕ) (ks : List Key) → IsNew text ks → list_any (bytes_eq text) (texts_of n ks) ≡ false
 new-of n text [] new = refl
 new-of n text (k ∷ ks) new = go (is_among n k.numbers) (λ later. new-of n text ks later)
@@ -44,7 +44,7 @@ new-of n text (k ∷ ks) new = go (is_among n k.numbers) (λ later. new-of n tex
     go true rest = ap (λ (b : Bool). b || list_any (bytes_eq text) (texts_of n ks)) both.0 ∙ rest both.1
     go false rest = rest both.1
 
--- nor is any of them among texts to which it is added
+-- the texts of these keys share a new text with no others
 without-new : (m : ℕ) (text : List ℕ) (others : List (List ℕ)) (ks : List Key) → IsNew text ks → share_id (texts_of m ks) (text ∷ others) ≡ share_id (texts_of m ks) others
 without-new m text others [] new = refl
 without-new m text others (k ∷ ks) new = go (is_among m k.numbers) (λ later. without-new m text others ks later)
@@ -62,7 +62,7 @@ without-new m text others (k ∷ ks) new = go (is_among m k.numbers) (λ later. 
         ∙ ap (λ (b : Bool). list_any (bytes_eq k.text) others || b) (later both.1)
     go false later = later both.1
 
--- ---- a key has both, or some text is of both
+-- ---- a key has both numbers exactly if both have a common text
 
 both-keys : (m n : ℕ) (ks : List Key) → AreApart ks → list_any (λ (k : Key). is_among m k.numbers && is_among n k.numbers) ks ≡ share_id (texts_of m ks) (texts_of n ks)
 both-keys m n [] apart = refl
@@ -82,12 +82,12 @@ both-keys m n (k ∷ ks) apart = go (is_among m k.numbers) (is_among n k.numbers
     go false true e = e ∙ sym (without-new m k.text (texts_of n ks) ks apart.0)
     go false false e = e
 
--- ---- sorted keys of a kind are apart
+-- ---- sorted keys of a kind have different texts
 
 before-through : (a b c : Key) → KeyBefore a b → KeyBefore b c → KeyBefore a c
 before-through a b c one two = nat_list_cmp_total.trans (kind_number a.kind ∷ a.text) (kind_number b.kind ∷ b.text) (kind_number c.kind ∷ c.text) one two
 
--- the key lies before each of these
+-- the key comes before each of these
 abbrev pub BeforeAll : Key → List Key → Type 0
 BeforeAll a [] = Unit {0}
 BeforeAll a (k ∷ ks) = KeyBefore a k × BeforeAll a ks
@@ -134,7 +134,7 @@ sorted-apart kind (k ∷ ks) sorted = go (is_of_kind kind k) refl (λ rest. sort
     go true is later = (new-among kind k ks is (below-all k ks sorted), later (rest-sorted k ks sorted))
     go false is later = later (rest-sorted k ks sorted)
 
--- of sorted keys some link id has both numbers exactly where both have some text of one link id
+-- a link id of sorted keys has both numbers exactly if both have a common link id
 pub linked-by-texts : (m n : ℕ) (ks : List Key) → AllNext KeyBefore ks
     → list_any (λ (k : Key). is_among m k.numbers && is_among n k.numbers) (keys_of LinkId ks) ≡ share_id (texts_with LinkId m ks) (texts_with LinkId n ks)
 linked-by-texts m n ks sorted = both-keys m n (keys_of LinkId ks) (sorted-apart LinkId ks sorted)

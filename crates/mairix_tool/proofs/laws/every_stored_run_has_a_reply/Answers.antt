@@ -1,3 +1,4 @@
+-- Every run over a stored index has a reply, by the result of opening the index.
 use Rattle.mairix_tool.proofs.ReplyLaws.Stored.{some-stored-reply}
 use Rattle.mairix_tool.proofs.laws.every_stored_run_has_a_reply.Goals as goal
 

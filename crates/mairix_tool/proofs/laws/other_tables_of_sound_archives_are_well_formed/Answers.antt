@@ -1,3 +1,4 @@
+-- The other tables of sound archives are well-formed, because they differ only in digests and in keys of names.
 use Rattle.mairix_tool.proofs.TableLaws.Formed.{old-formed, otherwise-formed}
 use Rattle.mairix_tool.proofs.laws.other_tables_of_sound_archives_are_well_formed.Goals as goal
 

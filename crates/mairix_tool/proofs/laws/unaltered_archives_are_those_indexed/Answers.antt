@@ -1,3 +1,4 @@
+-- Unaltered archives are those that were indexed, because paths and digests are compared.
 use Rattle.mairix_tool.proofs.ReplyLaws.Stored.{none-altered}
 use Rattle.mairix_tool.proofs.ArchiveLaws.Unaltered.{the-same}
 use Rattle.mairix_tool.proofs.laws.unaltered_archives_are_those_indexed.Goals as goal

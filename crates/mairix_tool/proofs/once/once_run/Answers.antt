@@ -1,3 +1,4 @@
+-- `once_run` replies as the definition says, by the cases of its first fault.
 use Rattle.mairix_tool.proofs.Words.{◌≡◌, ℕ, map, length, IfOk, sym, subst, string_bytes, arith, Result, Fault, Wanted, wanted, asked, inl}
 use Rattle.contract_words.proofs.DeviceLists.{known_length}
 use Rattle.mairix_tool.proofs.ArchiveLaws.AskedPaths.{asked-many, asked-paths}

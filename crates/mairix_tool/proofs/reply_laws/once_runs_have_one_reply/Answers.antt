@@ -1,3 +1,4 @@
+-- A run that indexes its archives has one reply, because the first faulty archive and the answer are determined.
 use Rattle.mairix_tool.proofs.ReplyLaws.OneReply.{one-reply, one-once, either-replied}
 use Rattle.mairix_tool.proofs.reply_laws.once_runs_have_one_reply.Goals as goal
 

@@ -1,3 +1,4 @@
+-- A run over a stored index has one reply, because the index is refused in one way or has one table.
 use Rattle.mairix_tool.proofs.Words.{arith}
 use Rattle.std.proofs.Math.Facts.{Fits-lt-pow}
 use Rattle.mairix_tool.proofs.ReplyLaws.OneReply.{one-stored}

@@ -1,3 +1,4 @@
+-- `answer_stored` replies what the index says, by the results of opening and of searching it.
 use Rattle.mairix_tool.proofs.Words.{◌^◌, ◌<◌, length, arith, Wanted, wanted, reply_of}
 use Rattle.mairix_tool.proofs.ReplyLaws.Stored.{answered-for, refused-for, refused-stored, has-digests, stored-told, stored-counted, stored-read}
 use Rattle.mairix_tool.proofs.ReplyLaws.Searching.{opened-searched, refused-searched}

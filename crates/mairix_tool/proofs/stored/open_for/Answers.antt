@@ -1,3 +1,4 @@
+-- `open_for` refuses an index only as the definition does, by the cases of its tests.
 use Rattle.mairix_tool.proofs.Words.{◌∙◌, Some, None, sym, ap, arith, wanted, renamed_archive}
 use Rattle.std.proofs.Math.Facts.{Fits-lt-pow}
 use Rattle.mairix_tool.proofs.ReplyLaws.Stored.{one-bad-index, one-too-old, one-renamed}

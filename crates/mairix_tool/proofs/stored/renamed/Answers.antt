@@ -1,3 +1,4 @@
+-- `renamed` finds the first archive with another path, path by path.
 use Rattle.mairix_tool.proofs.Words.{◌≡◌, Bool, true, false, not, arith, string_bytes, get_or-map, length-map}
 use Rattle.mairix_tool.proofs.ArchiveLaws.Renamed.{at-archive, behind, still-named}
 use Rattle.mairix_tool.proofs.stored.renamed.Goals as goal

@@ -1,7 +1,7 @@
+-- The archives before this one have the paths that were indexed.
 use Rattle.mairix_tool.proofs.Words.{◌≡◌, map, drop, string_bytes, first_renamed, renamed_archive}
 use Rattle.mairix_tool.proofs.stored.renamed.Given as goal
 
--- the archives before this one have the paths that were indexed
 abbrev pub invariant-loop-number : goal.invariant-loop-number
 invariant-loop-number l = record {
   coming : l.named ≡ drop l.number l.fn.index.archives;

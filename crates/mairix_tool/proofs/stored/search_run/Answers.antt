@@ -1,3 +1,4 @@
+-- `search_run` replies as the definition says: words, rcfile and query first, then the stored index.
 use Rattle.mairix_tool.proofs.Words.{◌≡◌, ◌^◌, ◌<◌, map, length, string_bytes, arith, inl, asked, wanted}
 use Rattle.mairix_tool.proofs.ArchiveLaws.AskedPaths.{asked-paths}
 use Rattle.mairix_tool.proofs.TableLaws.Formed.{whole-file}

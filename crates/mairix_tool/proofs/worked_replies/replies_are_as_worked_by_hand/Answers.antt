@@ -1,3 +1,4 @@
+-- Each run replies as worked out by hand, from the rows.
 use Rattle.mairix_tool.proofs.RowsReplies as shown
 use Rattle.mairix_tool.proofs.worked_replies.replies_are_as_worked_by_hand.Goals as goal
 

@@ -1,3 +1,4 @@
+-- `Wanted::of_plan` returns what the definition gives, because it reads rcfile and query as this does.
 use Rattle.mairix_tool.proofs.Words.{arith}
 use Rattle.mairix_tool.proofs.ArchiveLaws.AskedPaths.{asked-in-full}
 use Rattle.mairix_tool.proofs.wanted.Wanted.of_plan.Goals as goal
