@@ -1,20 +1,20 @@
-//! What it means that bytes agree with what a source told.
+//! What follows if bytes agree with what a source gave.
 ghost use Rattle.std.specs.Prelude.{◌≡◌, ◌<◌, ◌++◌, ◌⊎◌, ◌∷◌, [], ℕ, List, Some, length, take, drop};
 ghost use Rattle.call_record.specs.Calls.{Call, given_after, left_after, read_next};
 
-/// Bytes that agree with all that was told are those that were given, and then those that are left.
+/// Bytes that agree with all results are the bytes that the calls gave, and then those that are left.
 pub fn agreeing_bytes_were_given()
     ensures { (bytes left : List ℕ) (calls : List Call) → left_after bytes calls ≡ Some left
         → bytes ≡ given_after calls ++ left }
 {}
 
-/// A source that was read to its end leaves no choice: one list of bytes agrees.
+/// Only one list of bytes agrees with a source that was read to its end.
 pub fn one_list_agrees()
     ensures { (a b : List ℕ) (calls : List Call) → left_after a calls ≡ Some []
         → left_after b calls ≡ Some [] → a ≡ b }
 {}
 
-/// A read that gives the first bytes that are left, or reports the end where none are left, agrees too.
+/// Bytes still agree after a read that gives the first bytes that are left, or reports the end if none are left.
 pub fn honest_reads_agree()
     ensures { (bytes left got : List ℕ) (calls : List Call) → left_after bytes calls ≡ Some left
         → take (length got) left ≡ got → (0 < length got) ⊎ (left ≡ [])

@@ -1,4 +1,4 @@
-//! What the calls of a run told: a record that takes no memory, and the calls that are noted in it.
+//! A record of the calls of a run with their results. It takes no memory.
 #![tactic(auto)]
 
 mod laws;

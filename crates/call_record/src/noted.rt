@@ -1,4 +1,4 @@
-//! Calls that are noted with what they told. Each is made once, and nothing else is noted.
+//! Calls that are noted with their results. Each is made once, and nothing else is noted.
 ghost use Rattle.std.specs.Prelude.{◌≡◌, ◌<◌, ◌≤◌, length, IfOk, OnOk};
 ghost use Rattle.std.specs.Io.KnownBytes.{WriteAppends};
 ghost use Rattle.call_record.specs.Noted.{Notes, write_told};
@@ -9,8 +9,8 @@ use std::io::{self, ErrorKind, Write};
 // The kind of a call, as `call_of` reads it.
 const WRITTEN: u64 = 3;
 
-/// Writes bytes from the front of a slice that isn't empty, at least one, and notes those that the writer took. A write
-/// that takes none is a failure.
+/// Writes one or more bytes from the front of a slice that isn't empty, and notes those that the writer accepted.
+/// Returns how many these are. Fails if the write fails or accepts no byte; then the failure is noted.
 pub fn write_noted<W: Write>(writer: &mut W, record: &mut Record, bytes: &[u8]) -> io::Result<usize>
     requires { 0 < length bytes.now }
     ensures bound { IfOk result (λ n. (0 < n) × (n ≤ length bytes.now)) }

@@ -7,8 +7,8 @@ ghost use Rattle.call_record.specs.Note.{call_code, call_of};
 
 use std::marker::{Model, PhantomData};
 
-/// What is supposed of the bytes of some archives, and each call so far with what it told, the newest first. Neither is
-/// in memory: a value has no size, and a program that drops every record does the same.
+/// What is supposed of the bytes of archives, and each call so far with its result, the newest first. Neither is in
+/// memory: a value has no size, and a program without its records does the same.
 #[derive(Drop)]
 pub struct Record {
     marker: PhantomData<u8>,
@@ -21,7 +21,7 @@ impl Model for Record {
 }
 
 impl Record {
-    /// Makes a record of no call. Whatever is supposed, a run goes the same way.
+    /// Makes a record without calls. Whatever is supposed, a run does the same.
     pub fn new() -> Record
         ghost bytes: { List (List ℕ) }
         ensures { (result.supposed ≡ bytes) × (result.calls ≡ []) }
@@ -31,7 +31,7 @@ impl Record {
         }
     }
 
-    /// Makes a record of no call, which supposes the same.
+    /// Makes a record without calls that supposes the same.
     pub fn like(&self) -> Record
         ensures { (result.supposed ≡ self.now.supposed) × (result.calls ≡ []) }
     {
@@ -40,7 +40,7 @@ impl Record {
         }
     }
 
-    /// Adds a call: the numbers are its kind, an archive's number, an offset or a length, and 1 for success. Other
+    /// Adds a call. The numbers are its kind, an archive's number, an offset or a length, and 1 for success. Other
     /// crates can add a call only by making it.
     pub(crate) fn note(&mut self, _numbers: &[u64], _bytes: &[u8])
         ensures { (self.new.supposed ≡ self.old.supposed)

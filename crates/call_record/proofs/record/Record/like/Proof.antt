@@ -1,4 +1,4 @@
--- `like` makes a value of no bytes, at what the other supposes and the empty list.
+-- `like` makes a value without bytes, whose ghost fields are what the other supposes and the empty list.
 use Rattle.std.proofs.Common.{List, [], ◌∷◌, ◌++◌, refl}
 use seplogic.Ra.Ura.{Ura}
 use mir.Val.{Val, vptr, vstruct, vcons, vnil}
