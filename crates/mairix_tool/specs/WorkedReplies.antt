@@ -19,7 +19,7 @@ pub record Row : Type 0 where
   pub archives : List (List ℕ)
   pub answer : Answer
 
--- what is asked at noon of 18 May 2003
+-- what its words and rcfile ask for at noon of 18 May 2003
 abbrev pub asked_by : Row → Result Wanted Fault
 asked_by row = asked (slice_split (λ b. b == 32) row.words) row.rcfile 1053259200
 
@@ -29,7 +29,7 @@ IsWorked row = IsReply (asked_by row) row.archives row.answer
 
 -- ---- what is replied
 
--- so many messages, and this text
+-- this many messages, and this text
 abbrev pub found : ℕ → List ℕ → Answer
 found messages text = record { text = text; reply = record { status = 0; messages = messages; fault = None } }
 
@@ -39,7 +39,7 @@ nothing = record { text = []; reply = record { status = 1; messages = 0; fault =
 abbrev pub refused : ℕ → Fault → Answer
 refused status fault = record { text = []; reply = record { status = status; messages = 0; fault = Some fault } }
 
--- ---- what is asked of which archives
+-- ---- rcfiles and archives
 
 abbrev pub one_archive : List ℕ
 one_archive = codes "mbox=m.mbox\ndatabase=m.idx\nmfolder=hits\n"

@@ -20,7 +20,7 @@ pub fn once_runs_have_one_reply()
         → IsReply (Ok w) bytes answer × IsOnceReply (Ok w) bytes held answer }
 {}
 
-/// A run over a stored index has one reply, whatever is asked and whatever the index and the archives hold.
+/// A run over a stored index has one reply, whatever its words, and whatever the index and the archives hold.
 pub fn stored_runs_have_one_reply(index: &[u8])
     ensures { (asked : Result Wanted Fault) (held : List (List ℕ)) (a b : Answer)
         → IsStoredReply asked index.now held a → IsStoredReply asked index.now held b → a ≡ b }

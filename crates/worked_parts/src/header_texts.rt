@@ -89,7 +89,7 @@ fn is_decoded(alloc: Global, charset: Option<&[u8]>, bytes: &[u8], text: &str) -
     }
 }
 
-/// Whether a value has two ids, of which one has a space in it, and that of another value comes behind them.
+/// Whether a value has two ids, one of them with a space in it, and the id of another value comes after them.
 fn has_ids(alloc: Global) -> Option<bool> {
     let mut ids = message_ids(alloc, b"<a@x> <b @y>").ok()?;
     push_ids(alloc, b"c <d@z>", &mut ids).ok()?;

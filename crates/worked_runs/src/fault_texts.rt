@@ -124,7 +124,7 @@ const OF_ITEMS: [(usize, Kind); 15] = [
 ];
 
 /// Whether a fault, its status and the program's text for it are those of a line, and its own text is the same. It is
-/// None where memory is wanting.
+/// None if memory runs out.
 fn is_shown(alloc: Global, fault: Fault, line: &str) -> Option<bool> {
     let text = fault_text(alloc, &fault).ok()?;
     let told = format!(in alloc; "{fault:?} => {}: {text}", fault.status()).ok()?;

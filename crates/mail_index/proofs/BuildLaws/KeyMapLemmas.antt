@@ -251,9 +251,6 @@ unfolding IsStrictlySortedBy
 with_pair-found kind text n entries i [] lt equal s a = absurd a
 with_pair-found kind text n entries i (j ∷ order) lt equal s a = go (λ rest. with_pair-found kind text n entries i order lt equal s.1 rest) (nat_eq j i) refl
   where
-    wanted : List ℕ
-    wanted = bytes_of kind text
-
     new : Key
     new = with_one (key_at entries i) n
 
