@@ -1,6 +1,7 @@
 # `make try` searches small archives before anything is proved; `make run` proves and builds the program, and searches them with it; `make check
 # CRATE=name` proves one crate and what stands on it; `make test` is the whole gate; `make install` puts the program, its pages and
-# completions below PREFIX, and `make uninstall` takes them away; `make dist` makes a release of the last commit.
+# completions below PREFIX, and `make uninstall` takes them away; `make package` packs them for people without the kit; `make dist` makes a
+# release of the last commit.
 RT ?= rt
 PREFIX ?= /usr/local
 JOBS ?= $(shell python3 tools/machine.py)
@@ -15,7 +16,7 @@ PAGES = man/mairix.1:man/man1/mairix.1 man/mairixrc.5:man/man5/mairixrc.5 man/ma
 # The files of demo/, as `rt try` takes them.
 DEMO = $(foreach file,mairixrc m.mbox lists.mbox work.mbox,--data $(file)=../../demo/$(file))
 
-.PHONY: try build run check test install uninstall dist
+.PHONY: try build run check test install uninstall package dist
 
 # The kit's interpreter runs the program's text as it stands: nothing is proved by it.
 try:
@@ -46,6 +47,10 @@ install: build
 uninstall:
 	rm -f "$(DESTDIR)$(PREFIX)/bin/mairix"
 	for file in $(PAGES); do rm -f "$(DESTDIR)$(PREFIX)/share/$${file#*:}" || exit; done
+
+# What people without the kit can install: an archive, where dpkg-deb is there a package for Debian, and their SHA-256 sums.
+package: build
+	tools/package.py $(PROGRAM) "$(DISTDIR)"
 
 # A release: all that git tracks.
 dist:

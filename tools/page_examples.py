@@ -31,11 +31,11 @@ FONTS = r"\\f[BIRP]"
 class Sandbox:
     """A home of its own with demo/ and an mbox Mail/inbox in it, an index and an rcfile for demo/, and the program on the path."""
 
-    def __init__(self, program):
+    def __init__(self, program, demo=TOP / "demo"):
         self.room = tempfile.TemporaryDirectory(prefix="pages-")
         self.home = Path(self.room.name) / "home"
         self.demo = self.home / "demo"
-        shutil.copytree(TOP / "demo", self.demo)
+        shutil.copytree(demo, self.demo)
         (self.home / "Mail").mkdir()
         shutil.copy(self.demo / "lists.mbox", self.home / "Mail" / "inbox")
         self.tools = Path(self.room.name) / "bin"
