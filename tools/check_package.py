@@ -180,7 +180,9 @@ def parts(package):
 
 
 def dpkg(root, *words):
-    return run(["dpkg", "--root", root, f"--log={root}/log", *map(str, words)])
+    # dpkg looks for programs of root's, and writes its log outside of the root, unless it is told.
+    path = os.environ["PATH"] + ":/usr/local/sbin:/usr/sbin:/sbin"
+    return run(["dpkg", "--root", root, f"--log={root}/log", *map(str, words)], env=os.environ | {"PATH": path, "LC_ALL": "C"})
 
 
 def new_root(root, **packages):
@@ -196,11 +198,11 @@ def new_root(root, **packages):
 def refusals(package, folder, glibc):
     """Neither an older glibc than the program asks for nor another mairix goes with it."""
     older = re.sub(r"\d+$", lambda it: str(int(it[0]) - 1), glibc)
-    for name, packages, reason in (("older", {"libc6": f"{older}-9"}, "libc6"), ("other", {"libc6": glibc, "mairix": "0.24-2"}, "mairix")):
+    cases = ("older", {"libc6": f"{older}-9"}, "depends on libc6 "), ("another", {"libc6": glibc, "mairix": "0.24-2"}, "conflicts with mairix")
+    for name, packages, reason in cases:
         new_root(folder / name, **packages)
         status, printed = dpkg(folder / name, "--install", package)
-        told = re.search(rf"depends on {reason} |conflicts with {reason}\b", printed)
-        yield f"package beside an {name} {reason}", "" if status == 1 and told else f"status {status}, printed {printed!r}"
+        yield f"package where it {reason}", "" if status == 1 and reason in printed else f"status {status}, printed {printed!r}"
 
 
 def debian_checks(program, folder, version, glibc):

@@ -5,7 +5,7 @@ and a file of their SHA-256 sums.
     package.py PROGRAM FOLDER
 
 One commit and one program give the same bytes each time: all times are the commit's, and order, owners and modes are fixed. An unpacked release gives
-the same bytes as its commit.
+the same bytes as its commit. Only another zlib may pack them otherwise.
 """
 import gzip
 import hashlib
@@ -174,6 +174,7 @@ def make_debian(file, files, control, time):
             path.parent.mkdir(parents=True, exist_ok=True)
             path.write_bytes(data)
             path.chmod(mode_of(name))
+            # dpkg-deb replaces only later times.
             os.utime(path, (time, time))
         # A folder comes after those in it, because they change its time.
         for folder in [*reversed(folders_of(files)), "."]:
