@@ -94,12 +94,14 @@ def time_of_files():
 
 
 def asked_glibc(program):
-    """The newest version of glibc whose symbols readelf finds in the program; where it isn't there, one that README names."""
+    """The newest version of glibc whose symbols readelf finds in the program, if it asks for no other library. Without readelf, what README says."""
     if not shutil.which("readelf"):
-        print("package: readelf isn't here: the versions that the program asks for aren't looked at")
+        print("package: readelf isn't here: what the program asks for isn't looked at")
         return re.search(r"glibc ([\d.]+\d)", README.read_text(encoding="utf-8"))[1]
-    found = re.findall(r"\bGLIBC_([\d.]+\d)", run(["readelf", "-V", program])[1])
-    return max(found, key=lambda it: [int(part) for part in it.split(".")])
+    told = run(["readelf", "-W", "-d", "-V", program], env=os.environ | {"LC_ALL": "C"})[1]
+    if re.findall(r"\(NEEDED\).*\[(.*)\]", told) != ["libc.so.6"]:
+        return "and another library"
+    return max(re.findall(r"\bGLIBC_([\d.]+\d)", told), key=lambda it: [int(part) for part in it.split(".")])
 
 
 # ---- what is installed
@@ -238,7 +240,7 @@ def all_checks(program, room):
     version, glibc = archives[0].name.split("-")[1], asked_glibc(program)
     yield "packages of an unpacked release", of_release(program, room)
     yield "sums", sum_faults(folder)
-    yield "glibc in README.md", "" if f"glibc {glibc} " in README.read_text(encoding="utf-8").replace("\n", " ") else f"it isn't {glibc}"
+    yield "glibc in README.md", "" if f"glibc {glibc} " in README.read_text(encoding="utf-8").replace("\n", " ") else f"the program asks for {glibc}"
     yield from archive_checks(program, folder, version, glibc)
     if shutil.which("dpkg-deb"):
         yield from debian_checks(program, folder, version, glibc)

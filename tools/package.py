@@ -106,6 +106,8 @@ def needed_glibc(data):
         if not told:
             sys.exit(f"package: the program asks for {name}, which is no version of glibc")
         found.append([int(it) for it in told[1].split(".")])
+    if not found:
+        sys.exit("package: the program asks for no glibc")
     return ".".join(map(str, max(found)))
 
 
