@@ -148,9 +148,9 @@ def main():
     for rule, rows in other:
         for text, want in rows:
             assert outside(text) != want, (rule, text, want)
-    print("//! Header dates and their seconds, as tools/header_dates.py writes them.")
+    print("//! Dates of headers and their seconds, as tools/header_dates.py writes them.")
     print()
-    print("/// In each line a second or `none`, a space, and the field; a line that begins with `#` is a comment.")
+    print("/// In each line: a second or `none`, a space, and the field. A line that begins with `#` is a comment.")
     print('pub const HEADER_DATES: &str = "\\')
     print("# email.utils and datetime agree")
     for text, want in same:

@@ -62,8 +62,8 @@ fn gives_last(alloc: Global, index: &IndexView<'_>, query: &Query, last: u32) ->
     Some(given == [Some(last), None])
 }
 
-/// Returns how many steps a cursor takes to begin, for its first number, and for all numbers, if a query chooses exactly
-/// the first messages, this many of them.
+/// Returns how many steps a cursor takes to begin, for its first number, and for all numbers, if a query chooses
+/// exactly the first messages, this many of them.
 fn steps_of(
     alloc: Global,
     index: &IndexView<'_>,
