@@ -1,8 +1,9 @@
 #!/usr/bin/env python3
 """Compares the pages, the completions and the program's help with the built program and its source. The examples of the manual pages, README.md
 and docs/RECIPES.md are run (page_examples.py says how they are written). Each option, text of a fault and prefix stands where readers look for it, and
-no others do. Code that a page quotes stands in the file that it names. Decisions are in the order of their numbers. No page is too wide, and some
-aren't too long.
+no others do. Code that a page quotes stands in the file that it names.
+A crate's page has the signature of each public call, as its source has it, and what crates.txt says of the crate.
+Decisions are in the order of their numbers. No page is too wide, and some aren't too long.
 
     check_pages.py PROGRAM
 
@@ -12,6 +13,7 @@ import itertools, os, re, shutil, subprocess, sys, tarfile, tempfile
 from pathlib import Path
 
 sys.dont_write_bytecode = True
+from crates import Crates
 from page_examples import TOP, Sandbox, checks_of, roff_text
 
 # Texts of faults that no run prints: the parser answers the first two itself, and a job that has failed isn't asked again.
@@ -31,8 +33,10 @@ PAGES = (*sorted((TOP / "docs").glob("*.md")), README, *CRATE_PAGES)
 # How wide a line of a page is at most, except in tables and checks (NARROW_EXCEPT), and how many words some pages have.
 PAGE_WIDTH, MOST_WORDS = 120, {README: 900, PROGRESS: 900}
 NARROW_EXCEPT = ("|", r'.\" run: ')
-# How many lines a crate's page has at most.
-MOST_LINES = 80
+# How many lines a crate's page has at most without its signatures, and how many lines these have.
+MOST_LINES, MOST_OF_SIGNATURES = 85, 95
+# Traits whose implementations no caller needs to know of.
+MINOR_TRAITS = {"Model", "Drop", "From", "fmt::Display", "Error"}
 BASH, ZSH, FISH = (TOP / "completions" / name for name in ("mairix.bash", "_mairix", "mairix.fish"))
 COMPLETIONS = {BASH: "bash-completion/completions/mairix", ZSH: "zsh/site-functions/_mairix", FISH: "fish/vendor_completions.d/mairix.fish"}
 
@@ -286,9 +290,16 @@ def plain(text):
     return " ".join(text.split())
 
 
+def part_of_page(page, title):
+    """The text under a title of a page, up to the next title."""
+    found = re.search(rf"(?ms)^## {title}\n(.*?)(?=^## |\Z)", page.read_text(encoding="utf-8"))
+    return found[1] if found else ""
+
+
 def caller_faults(page):
-    """What is wrong with the code on a crate's page: each block stands behind `From FILE:`, and each of its pieces stands in that file."""
-    text = page.read_text(encoding="utf-8")
+    """What is wrong with the code on a crate's page: each block stands behind `From FILE:`, and each of its pieces
+    stands in that file. Signatures are left out: they come from many files."""
+    text = page.read_text(encoding="utf-8").replace(part_of_page(page, "Signatures"), "")
     shown = re.findall(r"From `([^`]+)`:\n\n```\w+\n(.*?)\n```", text, re.S)
     if not shown or len(shown) != len(re.findall(r"(?m)^```\w+$", text)):
         yield f"{len(shown)} blocks of code name their file"
@@ -300,8 +311,11 @@ def caller_faults(page):
 def caller_checks():
     for page in CRATE_PAGES:
         yield f"callers of {page.parent.name}", ", ".join(caller_faults(page))
-        lines = page.read_text(encoding="utf-8").count("\n")
-        yield f"length of the page of {page.parent.name}", "" if lines <= MOST_LINES else f"{lines} lines"
+        signatures = part_of_page(page, "Signatures").count("\n")
+        lines = page.read_text(encoding="utf-8").count("\n") - signatures
+        is_short = lines <= MOST_LINES and signatures <= MOST_OF_SIGNATURES
+        wrong = "" if is_short else f"{lines} lines, and {signatures} of signatures"
+        yield f"length of the page of {page.parent.name}", wrong
 
 
 def quotes_in(page):
@@ -332,6 +346,121 @@ def claim_checks():
     cells = re.findall(r"(?m)^\|.*\| ([^|]*) \|$", PROVED.read_text(encoding="utf-8"))
     named = {part for cell in cells for it in re.findall(r"`([\w:]+)`", cell) for part in it.split("::")}
     yield "names in PROVED.md", ", ".join(f"nothing is called {it}" for it in sorted(named - declared))
+
+
+# ---- signatures
+
+
+def joined(signature):
+    """A signature on one line, wherever its lines are broken."""
+    return re.sub(r",? \)", ")", plain(signature).replace("( ", "("))
+
+
+def end_of_bracket(text, start):
+    """Where the bracket that opens here is closed."""
+    depth = 0
+    for place in range(start, len(text)):
+        depth += (text[place] in "({") - (text[place] in ")}")
+        if depth == 0:
+            return place + 1
+    return len(text)
+
+
+def signature_at(text, start):
+    """The signature that begins here, with each `requires` of it, and without its other clauses."""
+    end = end_of_bracket(text, text.index("(", start))
+    end += re.match(r"[^\n{]*", text[end:]).end()
+    found = [text[start:end].rstrip(" ;")]
+    while clause := re.compile(r"\s*(requires|ensures\*?)(?: \w+)? (?=\{)").match(text, end):
+        end = end_of_bracket(text, clause.end())
+        if clause[1] == "requires":
+            found.append(text[clause.start() : end])
+    return joined("".join(found))
+
+
+def name_of_head(head):
+    """The name after `trait`, after `impl`, or after `impl TRAIT for`; and in this last case the trait."""
+    while "<" in head:
+        head = re.sub(r"<[^<>]*>", "", head)
+    words = head.split()
+    if words[0] == "impl":
+        return words[-1], words[1] if "for" in words else ""
+    return words[words.index("trait") + 1].rstrip(":"), ""
+
+
+def signatures_in(text):
+    """What a text declares for others: each call as the head above it, or none, and its signature. An implementation
+    of a trait is a head without a signature."""
+    for call in re.finditer(r"(?m)^pub fn ", text):
+        yield "", signature_at(text, call.start())
+    for head in re.finditer(r"(?m)^(?:(?:pub )?trait|impl)\b[^{\n]*", text):
+        if name_of_head(head[0])[1]:
+            yield joined(head[0]), ""
+            continue
+        body = text[head.end() : text.find("\n}", head.end())]
+        for call in re.finditer(r"(?m)^    (?:pub )?fn " if "trait " in head[0] else r"(?m)^    pub fn ", body):
+            yield joined(head[0]), signature_at(body, call.start() + 4)
+
+
+def exported_names(crate):
+    """The names that a crate's lib.rt declares, or exports from its own modules, each with the file that has it."""
+    text = source(f"{crate}/src/lib.rt")
+    yield from ((name, f"{crate}/src/lib.rt") for name in re.findall(r"(?m)^pub (?:fn|struct|enum|trait) (\w+)", text))
+    for path, names in re.findall(r"(?m)^pub use ([\w:]+)::(\w+|\{[^}]*\});", text):
+        if re.search(rf"(?m)^mod {path.partition('::')[0]};", text):
+            yield from ((name, f"{crate}/src/{path.replace('::', '/')}.rt") for name in re.findall(r"\w+", names))
+
+
+def public_signatures(crate):
+    """The calls that a crate exports: functions, calls of types and traits, and the traits that its types have."""
+    exported = dict(exported_names(crate))
+    for name, path in exported.items():
+        yield from (it for it in signatures_in(source(path)) if not it[0] and re.match(rf"pub fn {name}\b", it[1]))
+    for path in sorted((TOP / "crates" / crate / "src").rglob("*.rt")):
+        for head, signature in signatures_in(path.read_text(encoding="utf-8")):
+            name, trait = name_of_head(head) if head else ("", "")
+            if name in exported and trait not in MINOR_TRAITS:
+                yield head, signature
+
+
+def signature_faults(crate):
+    """How the signatures on a crate's page differ from those of its source."""
+    wanted = set(public_signatures(crate))
+    page = TOP / "crates" / crate / "README.md"
+    if not wanted and not page.exists():
+        return
+    blocks = re.findall(r"(?ms)^```rust\n(.*?)^```$", part_of_page(page, "Signatures")) if page.exists() else []
+    shown = [it for block in blocks for it in signatures_in(block)]
+    yield from (f"the source has no {' '.join(it).strip()!r}" for it in sorted(set(shown) - wanted))
+    yield from (f"the page has no {' '.join(it).strip()!r}" for it in sorted(wanted - set(shown)))
+    yield from (f"twice {' '.join(it).strip()!r}" for it in sorted(set(shown)) if shown.count(it) > 1)
+    rest = joined(re.sub(r"(?m)^ *//.*", "", "".join(blocks)))
+    for piece in sorted({it for pair in shown for it in pair if it}, key=len, reverse=True):
+        rest = rest.replace(piece, "")
+    if rest := re.sub(r"[{}\s]", "", rest):
+        yield f"{rest!r} is no signature"
+
+
+def rows_of_crate(crates, name):
+    """What to take along with a crate, as its page has it."""
+    own = [*crates.below(name), name]
+    kit = sorted({it for crate in own for it in crates.libraries[crate]} - set(crates.libraries))
+    line = next(it for it in (TOP / "crates.txt").read_text(encoding="utf-8").splitlines() if it.startswith(f"{name}:"))
+    yield f"| folders | {', '.join(f'`crates/{it}`' for it in own)} |"
+    yield f"| its line of crates.txt | `{line}` |"
+    yield f"| libraries of the kit | {', '.join(kit) or 'none'} |"
+
+
+def signature_checks():
+    crates = Crates(TOP)
+    for name in sorted(crates.libraries):
+        if (crates.folder(name) / "src/lib.rt").exists():
+            yield f"signatures on the page of {name}", "; ".join(signature_faults(name))
+    for page in CRATE_PAGES:
+        shown = [it for it in part_of_page(page, "In another repository").splitlines() if it.startswith("| ")][1:]
+        wanted = list(rows_of_crate(crates, page.parent.name))
+        wrong = "" if shown == wanted else "the rows should be " + " ".join(wanted)
+        yield f"what to take along with {page.parent.name}", wrong
 
 
 # ---- tools
@@ -455,6 +584,7 @@ def all_checks(program):
     yield from help_checks(program)
     yield from format_checks(program)
     yield from caller_checks()
+    yield from signature_checks()
     yield from quote_checks()
     yield from claim_checks()
     yield from tool_checks()
