@@ -1,4 +1,5 @@
 -- The relations that the contracts of all crates use.
 pub mod Answers
 pub mod Devices
+pub mod Knowledge
 pub mod Ranges
