@@ -1,5 +1,5 @@
 -- The steps of a cutter, stated for bytes that may be known or not.
-use Rattle.mbox_cutter.proofs.Words.{◌≡◌, ℕ, ◌+◌, ◌<◌, List, Option, Some, IfSome, take, arith, option_map, CutFault, ArchiveTooLong, Phase, Between, first_length, ArchiveEvent, coming_of, Takes, TakesKnown, Refuses, CutterPlace, FailsFirst, coming_at, resume}
+use Rattle.mbox_cutter.proofs.Words.{still_known, IsSome, ◌≡◌, ℕ, ◌+◌, ◌<◌, List, Option, Some, IfSome, take, arith, option_map, CutFault, ArchiveTooLong, Phase, Between, first_length, ArchiveEvent, coming_of, Takes, TakesKnown, Refuses, CutterPlace, FailsFirst, coming_at, resume}
 use Rattle.mbox_cutter.proofs.Steps.{resume-beginning}
 
 -- ---- facts of known values
@@ -14,6 +14,11 @@ at_same o o' P h h2 = grind arith
 pub both : {A : Type 0} (o : Option A) (P Q : A → Type 0) → IfSome o P → IfSome o Q → IfSome o (λ x. P x × Q x)
 both o P Q h h2 = grind arith
 
+-- what was known up to a call is known no longer than up to an earlier one
+pub still-on : {A B C : Type 0} (o : Option A) (mid : Option B) (new : Option C) (P : A → Type 0) →
+    (IsSome new → IsSome mid) → IfSome (still_known o mid) P → IfSome (still_known o new) P
+still-on o mid new P h p = grind arith
+
 -- ---- what comes, if P holds of the bytes to come
 
 -- the line is the first one of the bytes, and has n bytes
@@ -21,15 +26,20 @@ abbrev pub IsFirst : ℕ → List ℕ → List ℕ → Type 0
 IsFirst n line b = (n ≡ first_length b) × (line ≡ take n b)
 
 -- a step that takes the event and leaves these bytes
-pub known-step : (bytes after : Option (List ℕ)) (old new : CutterPlace) (was : Phase) (event : ArchiveEvent) (P : List ℕ → Type 0) (left : List ℕ → List ℕ) → old.phase ≡ was →
-    IfSome bytes P → IfSome bytes (λ b. after ≡ Some (left b)) → ((b : List ℕ) → P b → Takes event (resume was old.offset old.most b) (resume new.phase new.offset new.most (left b))) →
-    TakesKnown event (coming_at old bytes) (coming_at new after)
-known-step bytes after old new was event P left is h leaves each = grind (arith, both)
+pub known-step : (bytes after last : Option (List ℕ)) (old new : CutterPlace) (was : Phase) (event : ArchiveEvent)
+    (P : List ℕ → Type 0) (left : List ℕ → List ℕ) → old.phase ≡ was →
+    IfSome (still_known bytes last) P → IfSome (still_known bytes last) (λ b. after ≡ Some (left b)) →
+    ((b : List ℕ) → P b → Takes event (resume was old.offset old.most b)
+    (resume new.phase new.offset new.most (left b))) →
+    TakesKnown event (still_known (coming_at old bytes) last) (coming_at new after)
+known-step bytes after last old new was event P left is h leaves each = grind (arith, both)
 
 -- the first line isn't found
-pub known-fault : (bytes : Option (List ℕ)) (p : CutterPlace) (was : Phase) (fault : CutFault) → p.phase ≡ was → FailsFirst p.offset p.most bytes fault →
-    ((b : List ℕ) → p.most < p.offset + first_length b → Refuses ArchiveTooLong (resume was p.offset p.most b)) → IfSome (coming_at p bytes) (Refuses fault)
-known-fault bytes p was fault h h2 h3 = grind (arith, each_some)
+pub known-fault : (bytes last : Option (List ℕ)) (p : CutterPlace) (was : Phase) (fault : CutFault) →
+    p.phase ≡ was → FailsFirst p.offset p.most (still_known bytes last) fault →
+    ((b : List ℕ) → p.most < p.offset + first_length b → Refuses ArchiveTooLong (resume was p.offset p.most b)) →
+    IfSome (still_known (coming_at p bytes) last) (Refuses fault)
+known-fault bytes last p was fault h h2 h3 = grind (arith, each_some)
 
 -- what comes at the beginning
 pub known-beginning : (bytes window : Option (List ℕ)) (most : ℕ) → window ≡ bytes → option_map (resume Between 0 most) window ≡ option_map (coming_of most) bytes

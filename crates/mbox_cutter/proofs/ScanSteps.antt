@@ -1,10 +1,10 @@
 -- How the calls in a step change a scan, and each way in which a step can end.
-use Rattle.mbox_cutter.proofs.Words.{◌≡◌, ℕ, ◌+◌, ◌-◌, ◌<◌, ◌≤◌, Bool, true, false, List, Option, Some, Result, Ok, Err, IfSome, IfOk, length, take, drop, ap, sym, ◌∙◌, subst, arith, IsAtEnd, length-take-le, Ghosts, CutFault, Device, NotAnMbox, ArchiveTooLong, Phase, Between, Inside, Ended, first_length, is_empty, IsLine, is_separator, Line, Refuses, Takes, is_device, CutterPlace, Moves, HasLine, known, ReadsOn, resume, closes_at, coming, place_of, told_at, IsPlace, IsWithin, IsScan, IsFresh, FindsLine, Passes, Steps}
+use Rattle.mbox_cutter.proofs.Words.{still_known, IsSome, MutBor, known_until, ◌≡◌, ℕ, ◌+◌, ◌-◌, ◌<◌, ◌≤◌, Bool, true, false, List, Option, Some, Result, Ok, Err, IfSome, IfOk, length, take, drop, ap, sym, ◌∙◌, subst, arith, IsAtEnd, length-take-le, Ghosts, CutFault, Device, NotAnMbox, ArchiveTooLong, Phase, Between, Inside, Ended, first_length, is_empty, IsLine, is_separator, Line, Refuses, Takes, is_device, CutterPlace, Moves, HasLine, known, ReadsOn, resume, closes_at, coming, place_of, told_at, IsPlace, IsWithin, IsScan, IsFresh, FindsLine, Passes, Steps}
 use Rattle.mbox_cutter.specs.declared.scan.Scan.{Scan}
 use Rattle.mbox_cutter.specs.declared.scan.Step.{Step}
 use Rattle.mbox_cutter.specs.declared.scan.Step.TheVariants as step
 use Rattle.mbox_cutter.specs.Progress.{Progress, Advances}
-use Rattle.mbox_cutter.proofs.KnownSteps.{each_some, at_same, both, IsFirst, known-step, known-fault}
+use Rattle.mbox_cutter.proofs.KnownSteps.{each_some, at_same, both, still-on, IsFirst, known-step, known-fault}
 use Rattle.mbox_cutter.proofs.Sources.{Serves, Serves-none, Serves-join, served}
 use Rattle.mbox_cutter.proofs.Steps.{step-done, step-start, step-empty, step-refused, step-long, step-end, step-line, step-open, step-closed, step-long_inside, ended-stays}
 use Rattle.mbox_cutter.proofs.Windows.{known_taken, line_taken, length-Extends, take-Extends, ReadsOn-join}
@@ -20,7 +20,7 @@ pub record Found {S : Type 0} (g : Ghosts S) (old now : Scan S) (n : ℕ) (line 
   pub some : 0 < n
   pub place : place_of now ≡ place_of old
   pub reads : ReadsOn g false old.window now.window
-  pub first : IfSome (known g.rest old.window) (IsFirst n line)
+  pub first : IfSome (known_until g.rest old.window now.window) (IsFirst n line)
   pub fits : old.offset + n ≤ old.most
   pub within : n ≤ length now.window.unread
   pub is : take n now.window.unread ≡ line
@@ -31,8 +31,8 @@ pub record Taken {S : Type 0} (g : Ghosts S) (old new : Scan S) (n : ℕ) (phase
   pub some : 0 < n
   pub place : place_of new ≡ further phase n (place_of old)
   pub reads : Serves g false old.window.source new.window.source
-  pub moved : IfSome (known g.rest old.window) (λ b. known g.rest new.window ≡ Some (drop n b))
-  pub first : IfSome (known g.rest old.window) (IsFirst n line)
+  pub moved : IfSome (known_until g.rest old.window new.window) (λ b. known g.rest new.window ≡ Some (drop n b))
+  pub first : IfSome (known_until g.rest old.window new.window) (IsFirst n line)
   pub fits : old.offset + n ≤ old.most
   pub is : new.window.line ≡ line
   pub is_line : IsLine line
@@ -46,8 +46,8 @@ module _ {S : Type 0} (g : Ghosts S) (old mid : Scan S) (n : ℕ) (line : List �
         some = some;
         place = f.place;
         reads = f.reads;
-        first = both (known g.rest old.window) (λ b. n ≡ first_length b) (λ b. line ≡ take n b) f.first.first
-            (at_same (known g.rest old.window) (known g.rest mid.window) (λ b. line ≡ take n b) f.reads.bytes
+        first = both (known_until g.rest old.window mid.window) (λ b. n ≡ first_length b) (λ b. line ≡ take n b) f.first.first
+            (at_same (known_until g.rest old.window mid.window) (known g.rest mid.window) (λ b. line ≡ take n b) f.reads.bytes
             (subst (λ (l : List ℕ). IfSome (known g.rest mid.window) (λ b. l ≡ take n b)) (sym is) (line_taken n mid.window.unread (g.rest mid.window.source.now) within)));
         fits = f.fits;
         within = within;
@@ -61,7 +61,7 @@ module _ {S : Type 0} (g : Ghosts S) (old mid : Scan S) (n : ℕ) (line : List �
     some = h.some;
     place = same ∙ h.place;
     reads = ReadsOn-join g false old.window mid.window far.window h.reads r;
-    first = h.first;
+    first = still-on (known g.rest old.window) (g.rest mid.window.source.now) (g.rest far.window.source.now) (IsFirst n line) r.stays.known h.first;
     fits = h.fits;
     within = let more : length mid.window.unread ≤ length far.window.unread = length-Extends mid.window.unread far.window.unread r.keeps in omega (arith, h.within);
     is = take-Extends n mid.window.unread far.window.unread h.within r.keeps ∙ h.is;
@@ -69,16 +69,28 @@ module _ {S : Type 0} (g : Ghosts S) (old mid : Scan S) (n : ℕ) (line : List �
   }
 
   -- what `closes` returns, in terms of the bytes at the call
-  pub closes-known : (is wanted : Bool) → IfSome (known g.rest old.window) (λ b. known g.rest mid.window ≡ Some b) → IfSome (known g.rest mid.window) (λ b. is ≡ closes_at n b) →
-      is ≡ wanted → IfSome (known g.rest old.window) (λ b. wanted ≡ closes_at n b)
-  closes-known is wanted same h e = grind (arith, at_same)
+  closes-far : (far : Scan S) (is wanted : Bool) →
+      IfSome (known_until g.rest old.window mid.window) (λ b. known g.rest mid.window ≡ Some b) →
+      (IsSome (g.rest far.window.source.now) → IsSome (g.rest mid.window.source.now)) →
+      IfSome (known_until g.rest mid.window far.window) (λ b. is ≡ closes_at n b) → is ≡ wanted →
+      IfSome (known_until g.rest old.window far.window) (λ b. wanted ≡ closes_at n b)
+  closes-far far is wanted same still h e = grind (arith, at_same)
+
+  pub closes-known : (far new : Scan S) (is wanted : Bool) → new.window.source ≡ far.window.source →
+      IfSome (known_until g.rest old.window mid.window) (λ b. known g.rest mid.window ≡ Some b) →
+      (IsSome (g.rest far.window.source.now) → IsSome (g.rest mid.window.source.now)) →
+      IfSome (known_until g.rest mid.window far.window) (λ b. is ≡ closes_at n b) → is ≡ wanted →
+      IfSome (known_until g.rest old.window new.window) (λ b. wanted ≡ closes_at n b)
+  closes-known far new is wanted source same still h e =
+      subst (λ (m : MutBor S). IfSome (still_known (known g.rest old.window) (g.rest m.now)) (λ b. wanted ≡ closes_at n b))
+      (sym source) (closes-far far is wanted same still h e)
 
   pub taken : (new : Scan S) (phase : Phase) → Found g old mid n line → Passes n phase mid new → Taken g old new n phase line
   taken new phase h p = grind (arith, served, at_same, known_taken, length-take-le)
 
 -- an option has its own value
-itself : {A : Type 0} (o : Option A) → IfSome o (λ x. o ≡ Some x)
-itself o = each_some o (λ x. o ≡ Some x) (λ x e. e)
+itself : {A B : Type 0} (o : Option A) (last : Option B) → IfSome (still_known o last) (λ x. o ≡ Some x)
+itself o last = grind arith
 
 -- ---- steps that report an event
 
@@ -86,7 +98,7 @@ itself o = each_some o (λ x. o ≡ Some x) (λ x e. e)
 told-steps : {S : Type 0} (g : Ghosts S) (old new : Scan S) (was : Phase) (p : CutterPlace) (s : Step) (line : List ℕ) (P : List ℕ → Type 0) (left : List ℕ → List ℕ) →
     Serves g false old.window.source new.window.source → place_of new ≡ p → new.window.line ≡ line → old.phase ≡ was → p.most ≡ old.most → IsPlace p →
     (p.phase ≡ Ended → IsAtEnd (g.rest new.window.source.now)) →
-    IfSome (known g.rest old.window) P → IfSome (known g.rest old.window) (λ b. known g.rest new.window ≡ Some (left b)) →
+    IfSome (known_until g.rest old.window new.window) P → IfSome (known_until g.rest old.window new.window) (λ b. known g.rest new.window ≡ Some (left b)) →
     ((b : List ℕ) → P b → Takes (told_at s line) (resume was old.offset old.most b) (resume p.phase p.offset p.most (left b))) →
     Moves (told_at s line) (place_of old) p → HasLine (told_at s line) → Steps g old (Ok s) new
 told-steps g old new was p s line P left reads at is before most place end h leaves takes moves lends = grind (arith, known-step)
@@ -94,7 +106,7 @@ told-steps g old new was p s line P left reads at is before most place end h lea
 -- steps that take a line
 module _ {S : Type 0} (g : Ghosts S) (old new : Scan S) (n : ℕ) (line : List ℕ) where
   taken-steps : (was phase : Phase) (s : Step) (P : List ℕ → Type 0) → old.phase ≡ was → Taken g old new n phase line → IsWithin phase (old.offset + n) → (phase ≡ Ended → ⊥) →
-      IfSome (known g.rest old.window) P → ((b : List ℕ) → P b → Takes (told_at s line) (resume was old.offset old.most b) (resume phase (old.offset + n) old.most (drop n b))) →
+      IfSome (known_until g.rest old.window new.window) P → ((b : List ℕ) → P b → Takes (told_at s line) (resume was old.offset old.most b) (resume phase (old.offset + n) old.most (drop n b))) →
       Moves (told_at s line) (place_of old) (further phase n (place_of old)) → HasLine (told_at s line) → Steps g old (Ok s) new
   taken-steps was phase s P before t within not_ended h takes moves lends = grind (arith, told-steps)
 
@@ -107,7 +119,7 @@ module _ {S : Type 0} (g : Ghosts S) (old new : Scan S) (n : ℕ) (line : List �
     begun = subst (λ (p : Phase). IsWithin p old.offset) inside was.place.phase
 
     -- a line of the open message's text
-    text-steps : (P : List ℕ → Type 0) → Taken g old new n (Inside start (size + n)) line → IfSome (known g.rest old.window) P →
+    text-steps : (P : List ℕ → Type 0) → Taken g old new n (Inside start (size + n)) line → IfSome (known_until g.rest old.window new.window) P →
         ((b : List ℕ) → P b → Takes (Line line) (resume (Inside start size) old.offset old.most b) (resume (Inside start (size + n)) (old.offset + n) old.most (drop n b))) →
         Steps g old (Ok step.Line) new
     text-steps P t h takes = grind (arith, taken-steps, begun)
@@ -116,11 +128,13 @@ module _ {S : Type 0} (g : Ghosts S) (old new : Scan S) (n : ℕ) (line : List �
     line-steps full t = text-steps (IsFirst n line) t t.first (λ b f. rw f.1 (step-line old.offset old.most n b f.0 t.some start size (sym (ap is_empty f.1) ∙ full)))
 
     -- an empty line that doesn't end the message
-    pub open-steps : is_empty line ≡ true → IfSome (known g.rest old.window) (λ b. false ≡ closes_at n b) → Taken g old new n (Inside start (size + n)) line → Steps g old (Ok step.Line) new
+    pub open-steps : is_empty line ≡ true → IfSome (known_until g.rest old.window new.window) (λ b. false ≡ closes_at n b) →
+        Taken g old new n (Inside start (size + n)) line → Steps g old (Ok step.Line) new
     open-steps empty opens t = grind (arith, text-steps, both, step-open)
 
     -- the empty line that ends the message
-    pub closed-steps : is_empty line ≡ true → IfSome (known g.rest old.window) (λ b. true ≡ closes_at n b) → Taken g old new n Between line → Steps g old (Ok (step.End (new.offset - start) size)) new
+    pub closed-steps : is_empty line ≡ true → IfSome (known_until g.rest old.window new.window) (λ b. true ≡ closes_at n b) →
+        Taken g old new n Between line → Steps g old (Ok (step.End (new.offset - start) size)) new
     closed-steps empty closes t = grind (arith, begun, taken-steps, both, step-closed)
 
 -- steps at the end of the archive
@@ -149,7 +163,7 @@ ended-steps g old ended was = grind (arith, told-steps, Serves-none, itself, end
 module _ {S : Type 0} (g : Ghosts S) (old mid : Scan S) (fault : CutFault) (was : IsScan g.rest old) where
   -- a step that fails leaves the scan in its place
   fails-steps : (old.phase ≡ Ended → ⊥) → Serves g (is_device fault) old.window.source mid.window.source → place_of mid ≡ place_of old →
-      IfSome (coming g.rest old) (Refuses fault) → IsFresh fault → Steps g old (Err fault) mid
+      IfSome (still_known (coming g.rest old) (g.rest mid.window.source.now)) (Refuses fault) → IsFresh fault → Steps g old (Err fault) mid
   fails-steps not_ended reads same refuses fresh = grind arith
 
   -- no line was found
@@ -183,7 +197,7 @@ pub record Skipped {S : Type 0} (g : Ghosts S) (old now : Scan S) : Type 0 where
   pub scan : IsScan g.rest now
   pub later : old.offset ≤ now.offset
   pub most : now.most ≡ old.most
-  pub still : IfSome (coming g.rest old) (λ k. coming g.rest now ≡ Some k)
+  pub still : IfSome (still_known (coming g.rest old) (g.rest now.window.source.now)) (λ k. coming g.rest now ≡ Some k)
 
 pub skipped-none : {S : Type 0} (g : Ghosts S) (old : Scan S) → old.phase ≡ Between → IsScan g.rest old → Skipped g old old
 skipped-none g old between was = grind (arith, Serves-none, itself)

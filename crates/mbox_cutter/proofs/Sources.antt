@@ -4,10 +4,10 @@ use Rattle.std.specs.Borrow.{MutBor}
 use Rattle.mbox_cutter.specs.Sources.{Stays}
 
 pub Stays-self : {S : Type 0} (g : Ghosts S) (s : S) → Stays g s s
-Stays-self g s = record { whole = λ bytes h. h; through = refl }
+Stays-self g s = record { whole = λ bytes h. h; through = refl; known = λ h. h }
 
 pub Stays-join : {S : Type 0} (g : Ghosts S) (a b c : S) → Stays g a b → Stays g b c → Stays g a c
-Stays-join g a b c h k = record { whole = λ bytes w. k.whole bytes (h.whole bytes w); through = k.through ∙ h.through }
+Stays-join g a b c h k = record { whole = λ bytes w. k.whole bytes (h.whole bytes w); through = k.through ∙ h.through; known = λ s. h.known (k.known s) }
 
 -- reads of the same source: its count of failures rises by one if they failed, and what no read changes stays
 pub record Serves {S : Type 0} (g : Ghosts S) (failed : Bool) (old new : MutBor S) : Type 0 where

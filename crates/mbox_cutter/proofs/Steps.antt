@@ -1,5 +1,5 @@
 -- Each step of a cutter takes the first of what still comes, line by line.
-use Rattle.mbox_cutter.proofs.Words.{◌≡◌, ℕ, zero, suc, ◌+◌, ◌-◌, ◌<◌, ◌≤◌, Bool, true, false, cond, ◌&&◌, ◌||◌, nat_eq, nat_lt, nat_le, List, [], ◌∷◌, Option, Some, None, length, take, drop, refl, ap, sym, ◌∙◌, arith, add_assoc, add-zero, zero-add, nat_tests, length-drop, length-take-le, option_map_or, CutFault, NotAnMbox, ArchiveTooLong, Between, Inside, Ended, lines, first_length, is_empty, is_separator, Message, messages, marked, grouped, is_refused, total, messages_from, ArchiveEvent, Start, Line, End, Done, told, events, first_full_end, refusal_of, Coming, coming_of, Takes, Refuses, closes_at, told_between, told_inside, refusal_between, too_long, resume}
+use Rattle.mbox_cutter.proofs.Words.{◌≡◌, ℕ, zero, suc, ◌+◌, ◌-◌, ◌<◌, ◌≤◌, Bool, true, false, cond, ◌||◌, nat_eq, nat_lt, nat_le, List, [], ◌∷◌, Option, Some, None, length, take, drop, refl, ap, sym, ◌∙◌, arith, add_assoc, add-zero, zero-add, nat_tests, length-drop, length-take-le, option_map_or, CutFault, NotAnMbox, ArchiveTooLong, Between, Inside, Ended, lines, first_length, is_empty, is_separator, Message, messages, marked, grouped, is_refused, total, messages_from, ArchiveEvent, Start, Line, End, Done, told, events, first_full_end, refusal_of, Coming, coming_of, Takes, Refuses, closes_at, told_between, told_inside, refusal_between, too_long, resume}
 use Rattle.mbox_cutter.proofs.FirstLines.{first_length-le, first_length-positive}
 use Rattle.mbox_cutter.proofs.LineLists.{lines-cons, lines-nil}
 use Rattle.mbox_cutter.proofs.Machine.{between-empty, between-start, inside-line, inside-closing_last, inside-closing, inside-empty, inside-nil, separator-full}

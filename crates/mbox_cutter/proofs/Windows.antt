@@ -1,5 +1,5 @@
 -- How the calls of a window change the bytes to come.
-use Rattle.mbox_cutter.proofs.Words.{◌≡◌, ℕ, ◌+◌, ◌-◌, ◌<◌, ◌≤◌, Bool, true, false, Result, List, ◌++◌, Option, Some, None, IfSome, IfOk, length, take, drop, append-nil, ap, ◌∙◌, arith, append_assoc, subst, ReadConsumes, IsAtEnd, prepend_known, take-append-add, take-append-le, length-take-le, drop-append-le, Counted, Ghosts, line_end_of, first_length, Ahead, known, ReadsBehind, ReadsOn, Extends}
+use Rattle.mbox_cutter.proofs.Words.{still_known, IsSome, ◌≡◌, ℕ, ◌+◌, ◌-◌, ◌<◌, ◌≤◌, Bool, true, false, Result, List, ◌++◌, Option, Some, None, IfSome, IfOk, length, take, drop, append-nil, ap, ◌∙◌, arith, append_assoc, subst, ReadConsumes, IsAtEnd, prepend_known, take-append-add, take-append-le, length-take-le, drop-append-le, Counted, Ghosts, line_end_of, first_length, Ahead, known, ReadsBehind, ReadsOn, Extends}
 use Rattle.std.specs.Result.{IsErr, is_err}
 use Rattle.std.proofs.lemmas.List.{length-append}
 use borrow.Rule.Slice.PartMut.{put_mid}
@@ -42,8 +42,8 @@ length-Extends a b h = omega (arith, ap length h.1, length-append a h.0)
 pub take-Extends : (n : ℕ) (a b : List ℕ) → n ≤ length a → Extends a b → take n b ≡ take n a
 take-Extends n a b fits h = ap (take n) h.1 ∙ take-append-le n a h.0 fits
 
-join_known : (a b c : Option (List ℕ)) → IfSome a (λ x. b ≡ Some x) → IfSome b (λ x. c ≡ Some x) → IfSome a (λ x. c ≡ Some x)
-join_known a b c h h2 = grind arith
+join_known : {B C : Type 0} (a b c : Option (List ℕ)) (mid : Option B) (new : Option C) → (IsSome new → IsSome mid) → IfSome (still_known a mid) (λ x. b ≡ Some x) → IfSome (still_known b new) (λ x. c ≡ Some x) → IfSome (still_known a new) (λ x. c ≡ Some x)
+join_known a b c mid new h h2 h3 = grind arith
 
 pub ReadsOn-failed : {S T E : Type 0} (g : Ghosts S) (r : Result T E) (old new : Ahead S) → IsErr r → ReadsOn g true old new → ReadsOn g (is_err r) old new
 ReadsOn-failed g r old new h h2 = grind arith
@@ -54,6 +54,6 @@ ReadsOn-join g failed a b c h k = record {
   source = k.source ∙ h.source;
   count = subst (λ (n : ℕ). Counted failed n (g.failures c.source.now)) h.count k.count;
   stays = Stays-join g a.source.now b.source.now c.source.now h.stays k.stays;
-  bytes = join_known (known g.rest a) (known g.rest b) (known g.rest c) h.bytes k.bytes;
+  bytes = join_known (known g.rest a) (known g.rest b) (known g.rest c) (g.rest b.source.now) (g.rest c.source.now) k.stays.known h.bytes k.bytes;
   keeps = Extends-join a.unread b.unread c.unread h.keeps k.keeps;
 }

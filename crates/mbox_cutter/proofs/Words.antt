@@ -1,11 +1,12 @@
 -- The names of std and of the definitions that proofs use, all from one place.
 pub use Rattle.contract_words.specs.Devices.{Counted}
+pub use Rattle.contract_words.specs.Knowledge.{still_known}
 pub use Rattle.mbox_cutter.specs.Archives.{Message, cut, grouped, is_refused, marked, messages_from, size, span_length, total, without_closing}
 unfoldable pub use Rattle.mbox_cutter.specs.Archives.{messages}
 pub use Rattle.mbox_cutter.specs.Coming.{Refuses, Takes, TakesKnown, is_device}
 pub use Rattle.mbox_cutter.specs.Events.{ArchiveEvent, Coming, Done, End, Line, Start, coming_of, first_full_end, told}
 unfoldable pub use Rattle.mbox_cutter.specs.Events.{events, refusal_of}
-pub use Rattle.mbox_cutter.specs.Inside.Ahead.{Ahead, Extends, ReadsBehind, ReadsOn, known}
+pub use Rattle.mbox_cutter.specs.Inside.Ahead.{Ahead, Extends, ReadsBehind, ReadsOn, known, known_until}
 pub use Rattle.mbox_cutter.specs.Inside.Resume.{coming_at, refusal_between, told_between, told_inside, too_long}
 unfoldable pub use Rattle.mbox_cutter.specs.Inside.Resume.{resume}
 pub use Rattle.mbox_cutter.specs.Inside.Scan.{FailsFirst, FindsLine, IsFresh, IsPlace, IsScan, IsWithin, Passes, Steps, closes_at, coming, place_of, told_at}
@@ -27,4 +28,5 @@ pub use Rattle.std.proofs.lemmas.List.{drop-append-le, drop-drop, drop_all, get_
 pub use Rattle.std.specs.Io.KnownBytes.{Appends, IsAtEnd, ReadConsumes, prepend_known}
 pub use Rattle.std.specs.List.{concat, list_all, list_any, slice_range, zip}
 pub use Rattle.std.specs.Option.{option_map, option_map_or}
-pub use Rattle.std.specs.Prelude.{codes}
+pub use Rattle.std.specs.Borrow.{MutBor}
+pub use Rattle.std.specs.Prelude.{IsSome, codes}

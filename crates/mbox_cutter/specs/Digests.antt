@@ -1,5 +1,5 @@
 -- The state of a source that computes the digest of what it gives.
-use Rattle.std.specs.Prelude.{◌≡◌, ℕ, List, ◌++◌, take, Option, Some, Result, MatchResult}
+use Rattle.std.specs.Prelude.{◌≡◌, ℕ, List, ◌++◌, take, Option, IfSome, Result, MatchResult}
 use Rattle.std.specs.Borrow.{MutBor}
 use Rattle.sha2.specs.Hashers.{Holds256}
 use Rattle.mbox_cutter.specs.declared.device.DeviceFault.{DeviceFault}
@@ -14,9 +14,9 @@ module _ {S : Type 0} where
   abbrev pub HasGiven : Digested S → List ℕ → Type 0
   HasGiven d given = Holds256 d.hasher given
 
-  -- these are all its bytes: those given so far, and then those that the other source still gives
+  -- these are all its bytes: those given so far, and then those that the other source still gives, if these are known
   abbrev pub AreWhole : (S → Option (List ℕ)) → Digested S → List ℕ → Type 0
-  AreWhole rest d bytes = (given : List ℕ) × (left : List ℕ) × HasGiven d given × (rest (inner d).now ≡ Some left) × (bytes ≡ given ++ left)
+  AreWhole rest d bytes = (given : List ℕ) × HasGiven d given × IfSome (rest (inner d).now) (λ left. bytes ≡ given ++ left)
 
   -- a read gave the first n bytes of the slice, and none if it failed
   abbrev pub Gives : Digested S → Result ℕ DeviceFault → List ℕ → Digested S → Type 0

@@ -11,6 +11,7 @@ use Rattle.mbox_cutter.specs.declared.scan.Phase.TheVariants.{Failed}
 use Rattle.mbox_cutter.specs.Events.{ArchiveEvent, Start, Line, End, Done, Coming}
 use Rattle.mbox_cutter.specs.Coming.{Answers, is_device_fault}
 use Rattle.mbox_cutter.specs.Places.{CutterPlace, HasLine, Moves, Nears, ReadsAll}
+use Rattle.contract_words.specs.Knowledge.{still_known}
 use Rattle.mbox_cutter.specs.Sources.{Stays}
 
 -- the state: what still comes, if the source's bytes are known; the place in the archive; the line that was taken last;
@@ -42,7 +43,7 @@ pub record Advances {S : Type 0} (g : Ghosts S) (old : Progress S) (answer : Res
   -- what no read changes stays as it was
   pub stays : Stays g old.source.now new.source.now
   -- if it is known what comes, an event is the first that comes, and a refusal is the archive's
-  pub answers : Answers old.coming answer new.coming
+  pub answers : Answers (still_known old.coming (g.rest new.source.now)) answer new.coming
   -- events come in order, and their offsets, lengths and sizes fit what was taken, whether bytes are known or not
   pub moves : IfOk answer (λ e. Moves e old.place new.place)
   -- fewer events are left, so they end

@@ -1,5 +1,5 @@
 -- What reads of a source don't change.
-use Rattle.std.specs.Prelude.{◌≡◌, ℕ, List}
+use Rattle.std.specs.Prelude.{◌≡◌, ℕ, List, IsSome}
 use Rattle.mbox_cutter.specs.declared.device.Source.{Ghosts}
 
 -- after any number of reads, whether they failed or not
@@ -8,3 +8,5 @@ pub record Stays {S : Type 0} (g : Ghosts S) (old new : S) : Type 0 where
   pub whole : (bytes : List ℕ) → g.whole old bytes → g.whole new bytes
   -- it still reads through the same reference
   pub through : g.through new ≡ g.through old
+  -- what is known of what it still gives was known before
+  pub known : IsSome (g.rest new) → IsSome (g.rest old)

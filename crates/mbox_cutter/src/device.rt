@@ -1,7 +1,8 @@
 //! Devices: sources, from which bytes are read, and outputs, to which bytes are written. Each counts its failures.
-ghost use Rattle.std.specs.Prelude.{◌≡◌, ◌<◌, ◌≤◌, ◌-◌, ◌^◌, ⊤, ℕ, List, Option, length, IfOk, OnOk, OnErr};
+ghost use Rattle.std.specs.Prelude.{◌≡◌, ◌<◌, ◌≤◌, ◌-◌, ◌^◌, ⊤, ℕ, List, Option, IsSome, length, IfOk, OnOk, OnErr};
 ghost use Rattle.std.specs.Io.KnownBytes.{ReadConsumes, WriteAppends, Appends};
 ghost use Rattle.contract_words.specs.Devices.{Counts, Sends};
+ghost use Rattle.contract_words.specs.Knowledge.{still_known};
 
 use thiserror::Error;
 
@@ -12,7 +13,7 @@ pub struct DeviceFault;
 
 /// A source of bytes, which is read from its front to its end.
 pub trait Source {
-    /// The bytes that it will still give, if they are known.
+    /// The bytes that it will still give, if they are known, and if no read has shown that it has others.
     ghost rest: { Self → Option (List ℕ) };
 
     /// The number of its calls that have failed.
@@ -30,7 +31,9 @@ pub trait Source {
         requires room { 0 < length into.old }
         requires count { failures self.old < 2 ^ 64 - 1 }
         ensures bound { IfOk result (λ n. n ≤ length into.new) }
-        ensures bytes { ReadConsumes (rest self.old) (rest self.new) result into.new }
+        ensures bytes { ReadConsumes (still_known (rest self.old) (rest self.new)) (rest self.new)
+            result into.new }
+        ensures known { IsSome (rest self.new) → IsSome (rest self.old) }
         ensures count { Counts result (failures self.old) (failures self.new) }
         ensures whole { (bytes : List ℕ) → whole self.old bytes → whole self.new bytes }
         ensures through { through self.new ≡ through self.old };

@@ -1,9 +1,10 @@
 //! A source that computes the digest of what it gives. So an archive is cut and digested in one read (decision 18 in
 //! docs/DECISIONS.md).
-ghost use Rattle.std.specs.Prelude.{◌≡◌, ◌<◌, ◌≤◌, ◌-◌, ◌^◌, ℕ, List, [], length, IfOk, IfSome};
-ghost use Rattle.std.specs.Io.KnownBytes.{IsAtEnd, ReadConsumes};
+ghost use Rattle.std.specs.Prelude.{◌≡◌, ◌<◌, ◌≤◌, ◌-◌, ◌^◌, ℕ, List, [], Some, IsSome, length, IfOk, IfSome};
+ghost use Rattle.std.specs.Io.KnownBytes.{ReadConsumes};
 ghost use Rattle.sha2.specs.Sha256.{sha256};
 ghost use Rattle.contract_words.specs.Devices.{Counts};
+ghost use Rattle.contract_words.specs.Knowledge.{still_known};
 
 use crate::device::{DeviceFault, Source};
 use sha2::{Digest, Sha256};
@@ -41,7 +42,7 @@ impl<'a, S: Source> Digested<'a, S> {
     pub fn finish(self) -> [u8; 32]
         ensures given { (given : List ℕ) → HasGiven self.entry given → result ≡ sha256 given }
         ensures whole { (bytes : List ℕ) → AreWhole S.rest self.entry bytes →
-            IsAtEnd (S.rest (inner self.entry).now) → result ≡ sha256 bytes }
+            S.rest (inner self.entry).now ≡ Some [] → result ≡ sha256 bytes }
         ensures same { self.exit.0.now ≡ (inner self.entry).now }
     {
         self.hasher.finalize()
@@ -63,8 +64,9 @@ impl<'a, S: Source> Source for Digested<'a, S> {
         requires room { 0 < length into.old }
         requires count { S.failures (inner self.old).now < 2 ^ 64 - 1 }
         ensures bound { IfOk result (λ n. n ≤ length into.new) }
-        ensures bytes { ReadConsumes (S.rest (inner self.old).now) (S.rest (inner self.new).now)
-            result into.new }
+        ensures bytes { ReadConsumes (still_known (S.rest (inner self.old).now)
+            (S.rest (inner self.new).now)) (S.rest (inner self.new).now) result into.new }
+        ensures known { IsSome (S.rest (inner self.new).now) → IsSome (S.rest (inner self.old).now) }
         ensures count { Counts result
             (S.failures (inner self.old).now) (S.failures (inner self.new).now) }
         ensures whole { (bytes : List ℕ) →

@@ -48,7 +48,7 @@ pub(crate) struct Scan<'a, S: Source> {
 impl<'a, S: Source> Scan<'a, S> {
     ghost use Rattle.mbox_cutter.specs.Coming.{is_device_fault};
     ghost use Rattle.mbox_cutter.specs.Places.{is_failed};
-    ghost use Rattle.mbox_cutter.specs.Inside.Ahead.{known, ReadsOn};
+    ghost use Rattle.mbox_cutter.specs.Inside.Ahead.{known, known_until, ReadsOn};
     ghost use Rattle.mbox_cutter.specs.Inside.Scan.{closes_at, place_of, FindsLine, IsScan, Passes, Steps};
 
     /// Returns the length of the next line, or 0 at the end. Fails if the source does, or if the line goes over the
@@ -137,7 +137,8 @@ impl<'a, S: Source> Scan<'a, S> {
         ensures place { place_of self.new ≡ place_of self.old }
         ensures reads { ReadsOn S.Source (is_device_fault result) self.old.window self.new.window }
         ensures closes { IfOk result (λ is.
-            IfSome (known S.rest self.old.window) (λ bytes. is ≡ closes_at n bytes)) }
+            IfSome (known_until S.rest self.old.window self.new.window)
+            (λ bytes. is ≡ closes_at n bytes)) }
         ensures err { IfErr result (λ fault. fault ≡ CutFault.Device) }
     {
         let m = self.window.line_length_after(n)?;

@@ -2,6 +2,7 @@
 ghost use Rattle.std.specs.Prelude.{◌≡◌, ◌⊎◌, ℕ, List, true, false, ◌+◌, ◌-◌, ◌^◌, ◌<◌, ◌≤◌, is_err, length, take, drop, slice_range, IfOk, OnOk, IfSome};
 ghost use Rattle.contract_words.specs.Devices.{Counts};
 ghost use Rattle.mbox_cutter.specs.Inside.Ahead.{known, IsLineLength, ReadsBehind, ReadsOn, TakesLine};
+ghost use Rattle.contract_words.specs.Knowledge.{still_known};
 ghost use Rattle.mbox_cutter.specs.Sources.{Stays};
 
 use crate::buffer::{Buffer, ROOM};
@@ -156,8 +157,8 @@ fn read_behind<S: Source>(
     requires count { S.failures source.old < 2 ^ 64 - 1 }
     ensures count { Counts result (S.failures source.old) (S.failures source.new) }
     ensures stays { Stays S.Source source.old source.new }
-    ensures bytes { ReadsBehind held (S.rest source.old) (S.rest source.new)
-        result buffer.old buffer.new }
+    ensures bytes { ReadsBehind held (still_known (S.rest source.old) (S.rest source.new))
+        (S.rest source.new) result buffer.old buffer.new }
 {
     source.read_next(&mut buffer[held..])
 }

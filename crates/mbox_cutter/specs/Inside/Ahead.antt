@@ -6,6 +6,7 @@ use Rattle.contract_words.specs.Devices.{Counted}
 use Rattle.mbox_cutter.specs.declared.device.DeviceFault.{DeviceFault}
 use Rattle.mbox_cutter.specs.declared.device.Source.{Ghosts}
 use Rattle.mbox_cutter.specs.Lines.{first_length, IsLine}
+use Rattle.contract_words.specs.Knowledge.{still_known}
 use Rattle.mbox_cutter.specs.Sources.{Stays}
 
 -- the state: the line that was taken last; the bytes that were read and not taken; whether the source has reported its
@@ -19,6 +20,10 @@ pub record Ahead (S : Type 0) : Type 0 where
 -- all bytes to come, if they are known
 abbrev pub known : {S : Type 0} → (S → Option (List ℕ)) → Ahead S → Option (List ℕ)
 known rest w = prepend_known w.unread (rest w.source.now)
+
+-- all bytes to come at a window, if they are known, and if something is still known at a later one
+abbrev pub known_until : {S : Type 0} → (S → Option (List ℕ)) → Ahead S → Ahead S → Option (List ℕ)
+known_until rest old new = still_known (known rest old) (rest new.source.now)
 
 -- the new bytes are the old ones, with perhaps more after them
 abbrev pub Extends : List ℕ → List ℕ → Type 0
@@ -40,7 +45,7 @@ pub record ReadsOn {S : Type 0} (g : Ghosts S) (failed : Bool) (old new : Ahead 
   -- what no read changes stays as it was
   pub stays : Stays g old.source.now new.source.now
   -- the bytes to come are the same, if they are known
-  pub bytes : IfSome (known g.rest old) (λ bytes. known g.rest new ≡ Some bytes)
+  pub bytes : IfSome (known_until g.rest old new) (λ bytes. known g.rest new ≡ Some bytes)
   -- what was read before still comes first
   pub keeps : Extends old.unread new.unread
 
@@ -51,7 +56,7 @@ pub record IsLineLength {S : Type 0} (g : Ghosts S) (skip : ℕ) (old new : Ahea
   -- they are a line
   pub line : 0 < n → IsLine (take n (drop skip new.unread))
   -- it is the first line of the bytes to come, if they are known
-  pub first : IfSome (known g.rest old) (λ bytes. n ≡ first_length (drop skip bytes))
+  pub first : IfSome (known_until g.rest old new) (λ bytes. n ≡ first_length (drop skip bytes))
   -- it has no bytes only if the source is at its end
   pub end : n ≡ 0 → IsAtEnd (g.rest new.source.now)
 

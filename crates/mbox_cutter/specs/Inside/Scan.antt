@@ -15,8 +15,9 @@ use Rattle.mbox_cutter.specs.Separators.{is_separator}
 use Rattle.mbox_cutter.specs.Events.{ArchiveEvent, Start, Line, End, Done, Coming}
 use Rattle.mbox_cutter.specs.Coming.{Answers, is_device_fault}
 use Rattle.mbox_cutter.specs.Places.{CutterPlace, HasLine, Moves}
+use Rattle.contract_words.specs.Knowledge.{still_known}
 use Rattle.mbox_cutter.specs.Sources.{Stays}
-use Rattle.mbox_cutter.specs.Inside.Ahead.{known, IsLineLength, ReadsOn, TakesLine}
+use Rattle.mbox_cutter.specs.Inside.Ahead.{known, known_until, IsLineLength, ReadsOn, TakesLine}
 use Rattle.mbox_cutter.specs.Inside.Resume.{coming_at}
 
 -- inside a message, its separator and the bytes of its text so far have been taken
@@ -91,7 +92,7 @@ module _ {S : Type 0} (g : Ghosts S) where
     -- the line ends within the limit
     pub fits : IfOk result (λ n. old.offset + n ≤ old.most)
     -- a fault is that of the source, or the line goes over the limit
-    pub fails : IfErr result (λ fault. FailsFirst old.offset old.most (known g.rest old.window) fault)
+    pub fails : IfErr result (λ fault. FailsFirst old.offset old.most (known_until g.rest old.window new.window) fault)
 
   -- how a step with this result changes a scan
   pub record Steps (old : Scan S) (result : Result Step CutFault) (new : Scan S) : Type 0 where
@@ -106,7 +107,7 @@ module _ {S : Type 0} (g : Ghosts S) where
     -- the limit stays
     pub most : new.most ≡ old.most
     -- if it is known what comes, the event is the first that comes, and a refusal is the archive's
-    pub answers : Answers (coming g.rest old) (told_result new.window.line result) (coming g.rest new)
+    pub answers : Answers (still_known (coming g.rest old) (g.rest new.window.source.now)) (told_result new.window.line result) (coming g.rest new)
     -- the place moves as the event says
     pub moves : IfOk result (λ step. Moves (told_at step new.window.line) (place_of old) (place_of new))
     -- the line of an event, if it has one, is a line

@@ -27,7 +27,7 @@ returns-then-branch g c =
     let old = c.args.self.now in
     let line = c.part-line.result.now in
     closed-steps g.S.Source old _ c.in_ok-n.n line c.args.start c.args.size c.requires.phase c.requires.scan empty
-    (closes-known g.S.Source old c.line_length.new.self c.in_ok-n.n line c.in_ok-closes.field-0 true c.in_ok-n.ensures.reads.bytes c.in_ok-closes.ensures.closes c.if-branch.true)
+    (closes-known g.S.Source old c.line_length.new.self c.in_ok-n.n line c.closes.new.self c.pass-then-branch.new.self c.in_ok-closes.field-0 true c.pass-then-branch.ensures.taken.source c.in_ok-n.ensures.reads.bytes c.in_ok-closes.ensures.reads.stays.known c.in_ok-closes.ensures.closes c.if-branch.true)
     (taken g.S.Source old c.closes.new.self c.in_ok-n.n line _ _ (found-on g.S.Source old _ c.in_ok-n.n line c.closes.new.self (found g.S.Source old _ c.in_ok-n.n line c.in_ok-n.ensures some c.part-line.ensures.unread) c.in_ok-closes.ensures.place c.in_ok-closes.ensures.reads) c.pass-then-branch.ensures)
 
 pub returns-else-branch : goal.returns-else-branch
@@ -37,7 +37,7 @@ returns-else-branch g c =
     let old = c.args.self.now in
     let line = c.part-line.result.now in
     open-steps g.S.Source old _ c.in_ok-n.n line c.args.start c.args.size c.requires.phase c.requires.scan empty
-    (closes-known g.S.Source old c.line_length.new.self c.in_ok-n.n line c.in_ok-closes.field-0 false c.in_ok-n.ensures.reads.bytes c.in_ok-closes.ensures.closes c.if-branch.false)
+    (closes-known g.S.Source old c.line_length.new.self c.in_ok-n.n line c.closes.new.self c.pass-else-branch.new.self c.in_ok-closes.field-0 false c.pass-else-branch.ensures.taken.source c.in_ok-n.ensures.reads.bytes c.in_ok-closes.ensures.reads.stays.known c.in_ok-closes.ensures.closes c.if-branch.false)
     (taken g.S.Source old c.closes.new.self c.in_ok-n.n line _ _ (found-on g.S.Source old _ c.in_ok-n.n line c.closes.new.self (found g.S.Source old _ c.in_ok-n.n line c.in_ok-n.ensures some c.part-line.ensures.unread) c.in_ok-closes.ensures.place c.in_ok-closes.ensures.reads) c.pass-else-branch.ensures)
 
 pub returns-in_err-closes : goal.returns-in_err-closes
