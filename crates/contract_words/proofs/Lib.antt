@@ -3,3 +3,4 @@ pub mod Sending
 pub mod DeviceLists
 pub mod RangeOrder
 pub mod RangePlaces
+pub mod StillKnown

@@ -1,6 +1,7 @@
 -- The lines of a message, as its archive gives them and as they are gathered.
-use Rattle.index_job.proofs.Words.{◌≡◌, ◌∙◌, ◌++◌, ℕ, List, [], ◌∷◌, Option, Some, sym, ap, subst, append_assoc, append-nil, arith, Draft, text, size, span_length, CutFault, Line, End, Coming, TakesKnown, MessageText, texts_of_message, Ended, JobFault, Awaited, coming_inside, coming_between, IsReading, HasReadAll, IsMessageFault, HasGathered, IsGatherFault, with_texts, RefusesTerms, IsJobFault, IsArchiveFault}
+use Rattle.index_job.proofs.Words.{still_known, ◌≡◌, ◌∙◌, ◌++◌, ℕ, List, [], ◌∷◌, Option, Some, sym, ap, subst, append_assoc, append-nil, arith, Draft, text, size, span_length, CutFault, Line, End, Coming, TakesKnown, MessageText, texts_of_message, Ended, JobFault, Awaited, coming_inside, coming_between, IsReading, HasReadAll, IsMessageFault, HasGathered, IsGatherFault, with_texts, RefusesTerms, IsJobFault, IsArchiveFault}
 use Rattle.index_job.proofs.Gatherings.{texts-fail}
+use Rattle.contract_words.proofs.StillKnown.{still-other}
 
 -- what is known to come agrees with the text that is left
 behind-line : (w : Awaited) (rest : List (List ℕ)) (l : List ℕ) (now' : Option Coming) → TakesKnown (Line l) (Some (coming_inside w rest)) now'
@@ -55,3 +56,11 @@ reads-end d w ls rest gathered builder now now' ended r takes =
       told_size = b.2;
       comes = b.3;
     }
+
+-- what is read of a message's text, if it is still known what is to come
+pub still-reading : {T C : Type 0} (d : Option Draft) (w : Awaited) (ls rest : List (List ℕ)) (gathered : MessageText)
+    (builder : Option Draft) (first : Option T) (now : Option Coming) (last : Option C) (x : T)
+    → still_known first last ≡ Some x → IsReading d w ls rest gathered builder now
+    → IsReading d w ls rest gathered builder (still_known now last)
+still-reading d w ls rest gathered builder first now last x known r =
+    subst (λ (o : Option Coming). IsReading d w ls rest gathered builder o) (sym (still-other first now last x known)) r

@@ -1,5 +1,6 @@
 -- The names of std and of the definitions that proofs use, all from one place.
 pub use Rattle.contract_words.specs.Answers.{◌>>=◌}
+pub use Rattle.contract_words.specs.Knowledge.{still_known}
 pub use Rattle.header_text.specs.Headers.{HeaderField, continued_and_fields, field_of_line, header, lines_before_empty, lines_within, most_in_header, with_continuations}
 unfoldable pub use Rattle.header_text.specs.Headers.{fields_of}
 pub use Rattle.index_job.specs.ArchiveRefusals.{AreSound, IsTooMuch}

@@ -1,8 +1,9 @@
 //! Reads one archive, and adds its messages to a builder.
-ghost use Rattle.std.specs.Prelude.{◌≡◌, ◌<◌, ◌+◌, ◌-◌, ◌^◌, ℕ, List, Option, Some, None, Err, IfOk, IfErr, IfSome, OnOk, length};
+ghost use Rattle.std.specs.Prelude.{◌≡◌, ◌<◌, ◌+◌, ◌-◌, ◌^◌, ℕ, List, Option, Some, None, Err, IfOk, IfErr, IfSome, IsSome, OnOk, length};
 ghost use Rattle.std.specs.Io.KnownBytes.{IsAtEnd};
 ghost use Rattle.std.specs.Option.{MatchOption};
 ghost use Rattle.contract_words.specs.Devices.{Counted};
+ghost use Rattle.contract_words.specs.Knowledge.{still_known};
 ghost use Rattle.mail_index.specs.Builders.{Draft, IsInMessage};
 ghost use Rattle.mail_index.specs.Tables.{IsPath};
 ghost use Rattle.mbox_cutter.specs.Archives.{Message, messages as messages_of, text as text_of};
@@ -62,11 +63,12 @@ fn next_heading<'a, S: Source>(cutter: &mut Cutter<'a, S>) -> Result<Heading, Jo
     ensures place { IfOk result (λ heading. IsHeading heading cutter.old.place cutter.new.place) }
     ensures end { IfOk result (λ heading. ReadsToEnd heading (S.rest cutter.new.source.now)) }
     ensures known { IfOk result (λ heading. (all : ℕ) (ms : Option (List Message))
-        (refusal : Option CutFault) → cutter.old.coming ≡ Some (coming_ahead all ms refusal)
-        → Heads heading all ms refusal cutter.new.coming) }
+        (refusal : Option CutFault) → still_known cutter.old.coming (S.rest cutter.new.source.now)
+        ≡ Some (coming_ahead all ms refusal) → Heads heading all ms refusal cutter.new.coming) }
     ensures fault { IfErr result (λ fault. (all : ℕ) (ms : Option (List Message))
-        (refusal : Option CutFault) → cutter.old.coming ≡ Some (coming_ahead all ms refusal)
-        → IsJobFault refusal ⊥ fault) }
+        (refusal : Option CutFault)
+        → still_known cutter.old.coming (S.rest cutter.new.source.now)
+        ≡ Some (coming_ahead all ms refusal) → IsJobFault refusal ⊥ fault) }
     ensures own { IfErr result IsArchiveFault }
 {
     match cutter.next_event()? {
@@ -98,12 +100,14 @@ fn next_line<'a, S: Source>(
         → HasGathered text.old builder.old d ls
         → (ms : List (List ℕ)) × HasGathered text.new builder.new d ms) }
     ensures known { IfOk result (λ end. (d : Option Draft) (w : Awaited) (ls rest : List (List ℕ))
-        → IsReading d w ls rest text.old builder.old cutter.old.coming
+        → IsReading d w ls rest text.old builder.old
+        (still_known cutter.old.coming (S.rest cutter.new.source.now))
         → MatchOption end ((more left : List (List ℕ))
         × IsReading d w more left text.new builder.new cutter.new.coming)
         (λ e. HasReadAll d w e text.new builder.new cutter.new.coming)) }
     ensures fault { IfErr result (λ fault. (d : Option Draft) (w : Awaited)
-        (ls rest : List (List ℕ)) → IsReading d w ls rest text.old builder.old cutter.old.coming
+        (ls rest : List (List ℕ)) → IsReading d w ls rest text.old builder.old
+        (still_known cutter.old.coming (S.rest cutter.new.source.now))
         → IsMessageFault d w fault) }
     ensures own { IfErr result (λ fault. (d : Option Draft) (ls : List (List ℕ))
         → HasGathered text.old builder.old d ls → IsArchiveFault fault) }
@@ -139,7 +143,8 @@ fn add_message<'a, S: Source>(
     ensures between { OnOk result (cutter.new.place.phase ≡ Phase.Between) }
     ensures ready { OnOk result (IsBuilderReady archive cutter.new.place.offset builder.new) }
     ensures known { (d : Draft) (w : Awaited) → builder.old ≡ Some d → w.message.offset ≡ offset
-        → cutter.old.coming ≡ Some (coming_inside w (text_of w.message))
+        → still_known cutter.old.coming (S.rest cutter.new.source.now)
+        ≡ Some (coming_inside w (text_of w.message))
         → AddsMessage archive d w result builder.new cutter.new.coming }
     ensures own { IfErr result IsArchiveFault }
 {
@@ -176,7 +181,8 @@ fn add_messages<'a, S: Source>(
         read.length builder.new) }
     ensures known { (d : Draft) (all : ℕ) (ms : Option (List Message)) (refusal : Option CutFault)
         → builder.old ≡ Some d
-        → cutter.old.coming ≡ Some (coming_ahead all ms refusal)
+        → still_known cutter.old.coming (S.rest cutter.new.source.now)
+        ≡ Some (coming_ahead all ms refusal)
         → AddsMessages archive d all ms refusal result builder.new }
     ensures own { IfErr result IsArchiveFault }
 {
@@ -212,7 +218,7 @@ fn read_archive<S: Source>(
     ensures ended { IfOk result (λ read. AwaitsEnd archive (S.rest source.new) read.length
         builder.new) }
     ensures known { (d : Draft) (bytes : List ℕ) → builder.old ≡ Some d
-        → S.rest source.old ≡ Some bytes
+        → still_known (S.rest source.old) (S.rest source.new) ≡ Some bytes
         → AddsMessages archive d (length bytes) (messages_of bytes)
         (refusal_of most_in_archive bytes) result builder.new }
     ensures own { IfErr result IsArchiveFault }
@@ -243,13 +249,16 @@ pub(crate) fn add_archive<S: Source>(
     requires idle { IfSome builder.old (IsIdle archive) }
     requires path { IsPath path.now }
     ensures ok { IfOk result (λ n. (before : List Mbox) (bytes : List ℕ)
-        → IsIndexOf builder.old before → S.rest source.old ≡ Some bytes
+        → IsIndexOf builder.old before
+        → still_known (S.rest source.old) (S.rest source.new) ≡ Some bytes
         → IsAdded before (record { path = path.now; bytes = bytes }) n builder.new) }
     ensures err { IfErr result (λ fault. (before : List Mbox) (bytes : List ℕ)
-        → IsIndexOf builder.old before → S.rest source.old ≡ Some bytes
+        → IsIndexOf builder.old before
+        → still_known (S.rest source.old) (S.rest source.new) ≡ Some bytes
         → IsAddFault before (record { path = path.now; bytes = bytes }) fault) }
     ensures idle { OnOk result (IsBuilderIdle (archive + 1) builder.new) }
     ensures end { OnOk result (IsAtEnd (S.rest source.new)) }
+    ensures still { IsSome (S.rest source.new) → IsSome (S.rest source.old) }
     ensures count { Counted (is_source_failure result) (S.failures source.old)
         (S.failures source.new) }
     ensures own { IfErr result (λ fault. IfSome builder.old (λ _. IsArchiveFault fault)) }

@@ -2,6 +2,7 @@
 ghost use Rattle.std.specs.Prelude.{◌≡◌, ◌<◌, ◌^◌, ◌-◌, ℕ, List, [], Some, None, Err, IfOk, IfErr, IfSome, OnOk, OnErr, IsSome, length};
 ghost use Rattle.std.specs.Io.KnownBytes.{Appends, IsAtEnd};
 ghost use Rattle.contract_words.specs.Devices.{Counted, Sends};
+ghost use Rattle.contract_words.specs.Knowledge.{still_known};
 ghost use Rattle.mail_index.specs.Files.{index_file, HasSmallSections};
 ghost use Rattle.mail_index.specs.Tables.{IsPath, IsWellFormed};
 ghost use Rattle.index_job.specs.ArchiveTables.{Mbox};
@@ -75,12 +76,15 @@ impl IndexJob {
         requires path { IsPath path.now }
         requires count { S.failures source.old < 2 ^ 64 - 1 }
         ensures ok { IfOk result (λ n. (before : List Mbox) (bytes : List ℕ)
-            → IsIndexOf self.old before → S.rest source.old ≡ Some bytes
+            → IsIndexOf self.old before
+            → still_known (S.rest source.old) (S.rest source.new) ≡ Some bytes
             → IsAdded before (record { path = path.now; bytes = bytes }) n self.new) }
         ensures err { IfErr result (λ fault. (before : List Mbox) (bytes : List ℕ)
-            → IsIndexOf self.old before → S.rest source.old ≡ Some bytes
+            → IsIndexOf self.old before
+            → still_known (S.rest source.old) (S.rest source.new) ≡ Some bytes
             → IsAddFault before (record { path = path.now; bytes = bytes }) fault) }
         ensures end { OnOk result (IsAtEnd (S.rest source.new)) }
+        ensures still { IsSome (S.rest source.new) → IsSome (S.rest source.old) }
         ensures count { Counted (is_source_failure result) (S.failures source.old)
             (S.failures source.new) }
         ensures own { IfErr result (λ fault. (IfSome self.old (λ _. IsArchiveFault fault))) }

@@ -1,4 +1,5 @@
 -- The names of std and of the definitions that proofs use, all from one place.
+pub use Rattle.contract_words.specs.Knowledge.{AreStillKnown}
 pub use Rattle.index_job.specs.ArchiveRefusals.{AreSound, IsTooMuch, IsWithinLimit}
 pub use Rattle.index_job.specs.ArchiveTables.{Mbox, all_messages, entry_of, messages_in, table, with_messages}
 pub use Rattle.index_job.specs.IndexJobs.{IsAddFault, IsAdded, IsIndexOf}

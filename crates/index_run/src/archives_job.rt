@@ -2,6 +2,7 @@
 ghost use Rattle.std.specs.Prelude.{◌≡◌, ◌<◌, ◌^◌, ◌-◌, ℕ, List, Some, IsSome, false, map, length, All, IfOk, IfErr};
 ghost use Rattle.std.specs.Result.{MatchResult};
 ghost use Rattle.std.specs.String.{string_bytes};
+ghost use Rattle.contract_words.specs.Knowledge.{AreStillKnown};
 ghost use Rattle.mail_index.specs.Tables.{IsPath};
 ghost use Rattle.index_job.specs.ArchiveRefusals.{AreSound};
 ghost use Rattle.index_run.specs.ArchivesIndexed.{mboxes, fault_of_job, IsArchivesFault};
@@ -42,7 +43,8 @@ pub(crate) fn job_of_archives<S: Source>(
     requires paths { All IsPath (map string_bytes paths.now) }
     requires count { All (λ s. S.failures s < 2 ^ 64 - 1) sources.old }
     ensures some { IfOk result IsSome }
-    ensures known { (archives : List (List ℕ)) → map S.rest sources.old ≡ map Some archives
+    ensures known { (archives : List (List ℕ))
+        → AreStillKnown (map S.rest sources.old) (map S.rest sources.new) archives
         → MatchResult result (λ job. AreSound (mboxes (map string_bytes paths.now) archives)
         × IsIndexOf job (mboxes (map string_bytes paths.now) archives))
         (IsArchivesFault (mboxes (map string_bytes paths.now) archives)) }

@@ -2,6 +2,7 @@
 ghost use Rattle.std.specs.Prelude.{◌≡◌, ◌<◌, ◌^◌, ◌-◌, ℕ, List, Some, false, map, length, All, IfOk, IfErr};
 ghost use Rattle.std.specs.Result.{MatchResult};
 ghost use Rattle.std.specs.String.{string_bytes};
+ghost use Rattle.contract_words.specs.Knowledge.{AreStillKnown};
 ghost use Rattle.mail_index.specs.Faults.{IsFileOf};
 ghost use Rattle.mail_index.specs.Tables.{Table, IsPath};
 ghost use Rattle.index_job.specs.ArchiveRefusals.{AreSound};
@@ -26,7 +27,8 @@ pub fn file_of_archives<S: Source>(
     requires paths { All IsPath (map string_bytes paths.now) }
     requires count { All (λ s. S.failures s < 2 ^ 64 - 1) sources.old }
     ensures formed { IfOk result (λ file. (t : Table) × IsFileOf file.taken t) }
-    ensures known { (archives : List (List ℕ)) → map S.rest sources.old ≡ map Some archives
+    ensures known { (archives : List (List ℕ))
+        → AreStillKnown (map S.rest sources.old) (map S.rest sources.new) archives
         → MatchResult result (λ file. AreSound (mboxes (map string_bytes paths.now) archives)
         × IsFileOf file.taken (table (mboxes (map string_bytes paths.now) archives)))
         (IsArchivesFault (mboxes (map string_bytes paths.now) archives)) }

@@ -5,6 +5,7 @@ ghost use Rattle.std.specs.Io.KnownBytes.{Appends};
 ghost use Rattle.std.specs.Result.{MatchResult};
 ghost use Rattle.std.specs.String.{string_bytes};
 ghost use Rattle.contract_words.specs.Devices.{Counted, Sends};
+ghost use Rattle.contract_words.specs.Knowledge.{AreStillKnown};
 ghost use Rattle.mail_index.specs.Files.{index_file};
 ghost use Rattle.mail_index.specs.Tables.{IsPath, IsWellFormed, Table};
 ghost use Rattle.index_job.specs.ArchiveRefusals.{AreSound};
@@ -35,7 +36,8 @@ pub fn send_index<S: Source, O: Out>(
     requires paths { All IsPath (map string_bytes paths.now) }
     requires count { All (λ s. S.failures s < 2 ^ 64 - 1) sources.old }
     requires out { O.failures out.old < 2 ^ 64 - 1 }
-    ensures known { (archives : List (List ℕ)) → map S.rest sources.old ≡ map Some archives
+    ensures known { (archives : List (List ℕ))
+        → AreStillKnown (map S.rest sources.old) (map S.rest sources.new) archives
         → MatchResult result (λ _. AreSound (mboxes (map string_bytes paths.now) archives)
         × IsWellFormed (table (mboxes (map string_bytes paths.now) archives))
         × Appends (O.taken out.old) (O.taken out.new) (index_file

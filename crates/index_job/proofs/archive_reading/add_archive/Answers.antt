@@ -1,4 +1,5 @@
-use Rattle.index_job.proofs.Words.{◌≡◌, ◌∙◌, ℕ, List, Option, Some, Ok, IfSome, ap, subst, err_from_is_err_and, sha256, Draft, begun_archive, stepped, Mbox, draft_of}
+use Rattle.index_job.proofs.Words.{still_known, arith, [], ◌≡◌, ℕ, List, Option, Some, Ok, IfSome, subst, err_from_is_err_and, sha256, Draft, begun_archive, stepped, Mbox, draft_of}
+use Rattle.contract_words.proofs.StillKnown.{still-known, still-end}
 use Rattle.mbox_cutter.specs.Digests.{inner, AreWhole}
 use Rattle.index_job.proofs.TableSteps.{number-is, one-added, add-fault}
 use Rattle.index_job.proofs.archive_reading.add_archive.Goals as goal
@@ -10,7 +11,7 @@ returns-in_err-messages-clause-err g c =
     let a : Mbox = record { path = c.args.path.now; bytes = bytes } in
     let begun : stepped (begun_archive c.args.path.now) (Some (draft_of before)) ≡ Ok c.begin_archive.new.self =
     subst (λ (o : Option Draft). stepped (begun_archive c.args.path.now) o ≡ Ok c.begin_archive.new.self) is c.in_ok-begin_archive.ensures.gives in
-    let comes : g.S.Source.rest (inner c.new-digested.result).now ≡ Some bytes = ap g.S.Source.rest c.new-digested.ensures.same ∙ rest in
+    let comes : still_known (g.S.Source.rest (inner c.new-digested.result).now) (g.S.Source.rest (inner c.read_archive.new.source).now) ≡ Some bytes = grind (arith, rest) in
     add-fault before a c.args.archive c.begin_archive.new.self (number-is c.args.archive before c.args.builder.now is c.requires.idle) begun c.read_archive.new.builder c.in_err-messages.field-0.0
     (λ d opened. c.in_err-messages.ensures.known d bytes opened comes))
 
@@ -19,9 +20,12 @@ returns-clause-ok g c = λ before bytes is rest.
     let a : Mbox = record { path = c.args.path.now; bytes = bytes } in
     let begun : stepped (begun_archive c.args.path.now) (Some (draft_of before)) ≡ Ok c.begin_archive.new.self =
     subst (λ (o : Option Draft). stepped (begun_archive c.args.path.now) o ≡ Ok c.begin_archive.new.self) is c.in_ok-begin_archive.ensures.gives in
-    let comes : g.S.Source.rest (inner c.new-digested.result).now ≡ Some bytes = ap g.S.Source.rest c.new-digested.ensures.same ∙ rest in
+    let comes : still_known (g.S.Source.rest (inner c.new-digested.result).now) (g.S.Source.rest (inner c.read_archive.new.source).now) ≡ Some bytes = grind (arith, rest) in
+    let known : g.S.Source.rest c.args.source.now ≡ Some bytes = still-known _ _ _ rest in
     let at_first : AreWhole g.S.Source.rest c.new-digested.result bytes =
-    subst (λ (o : Option (List ℕ)). IfSome o (λ b. AreWhole g.S.Source.rest c.new-digested.result b)) rest c.new-digested.ensures.whole in
-    let digest : c.finish.result ≡ sha256 bytes = c.finish.ensures.whole bytes (c.in_ok-messages.ensures.stays.whole bytes at_first) c.in_ok-messages.ensures.ended.end in
+    subst (λ (o : Option (List ℕ)). IfSome o (λ b. AreWhole g.S.Source.rest c.new-digested.result b)) known c.new-digested.ensures.whole in
+    let at_end : g.S.Source.rest (inner c.read_archive.new.source).now ≡ Some [] =
+    still-end _ _ _ comes c.in_ok-messages.ensures.ended.end in
+    let digest : c.finish.result ≡ sha256 bytes = c.finish.ensures.whole bytes (c.in_ok-messages.ensures.stays.whole bytes at_first) at_end in
     one-added before a c.args.archive c.begin_archive.new.self (number-is c.args.archive before c.args.builder.now is c.requires.idle) begun c.in_ok-messages.field-0 c.read_archive.new.builder c.finish.result c.end_archive.new.self
     (λ d opened. c.in_ok-messages.ensures.known d bytes opened comes) digest c.in_ok-end_archive.ensures.gives c.in_ok-end_archive.ensures.within

@@ -1,14 +1,17 @@
 use Rattle.index_job.proofs.Words.{◌≡◌, ◌∙◌, ℕ, List, Option, Some, false, IfSome, sym, subst, arith, MatchOption, Draft, IsInArchive, Ended, IsInside, HasEnded, IsReading, HasReadAll, err_from_is_err_and, with_open_message}
 use Rattle.index_job.proofs.MessageSteps.{message-fault, opens, ready-behind, adds-message, own-fault}
 use Rattle.index_job.proofs.SourceReads.{reads-join}
+use Rattle.index_job.proofs.ReadingLines.{still-reading}
+use Rattle.contract_words.proofs.StillKnown.{still-earlier}
 use Rattle.index_job.proofs.archive_reading.add_message.Goals as goal
 
 pub returns-in_err-length-clause-known : goal.returns-in_err-length-clause-known
 returns-in_err-length-clause-known g c =
     let p = err_from_is_err_and c.from_residual-in_err-length.result c.from_residual-in_err-length.ensures.1 in
     λ d w is at comes.
-    let r = c.lines.invariant.comes d w is comes in
-    rw (p.1, p.2) (message-fault c.args.archive d w c.in_err-length.field-0.0 (c.in_err-length.ensures.fault (Some (with_open_message d)) w r.0 r.1 r.2))
+    let r = c.lines.invariant.comes d w is (still-earlier _ _ _ _ c.in_err-length.ensures.reads.stays.known comes) in
+    rw (p.1, p.2) (message-fault c.args.archive d w c.in_err-length.field-0.0
+    (c.in_err-length.ensures.fault (Some (with_open_message d)) w r.0 r.1 (still-reading _ w _ _ _ _ _ _ _ _ comes r.2)))
 
 pub returns-in_err-length-clause-own : goal.returns-in_err-length-clause-own
 returns-in_err-length-clause-own g c =
@@ -45,10 +48,10 @@ returns-in-Some-clause-known g c = λ d w is at comes.
     let open_draft = Some (with_open_message d) in
     let same : Some d ≡ Some c.requires.ready.0 = sym is ∙ c.requires.ready.1 in
     let phase : IsInArchive d = subst (λ (o : Option Draft). IfSome o IsInArchive) (sym same) c.requires.ready.2.phase in
-    let r = c.lines.invariant.comes d w is comes in
+    let r = c.lines.invariant.comes d w is (still-earlier _ _ _ _ c.in_ok-length.ensures.reads.stays.known comes) in
     let all : HasReadAll open_draft w ended text builder coming =
     subst (λ (o : Option Ended). MatchOption o ((more left : List (List ℕ)) × IsReading open_draft w more left text builder coming) (λ e. HasReadAll open_draft w e text builder coming)) c.in-Some.is
-    (c.in_ok-length.ensures.known open_draft w r.0 r.1 r.2) in
+    (c.in_ok-length.ensures.known open_draft w r.0 r.1 (still-reading _ w _ _ _ _ _ _ _ _ comes r.2)) in
     adds-message (record { archive = c.args.archive; offset = c.args.offset; length = ended.length; size = ended.size }) d w coming c.finish_message.result
     text builder c.finish_message.new.builder phase at all c.finish_message.ensures.ok c.finish_message.ensures.err
 
@@ -77,7 +80,7 @@ lines-preserved g c =
       gathers = λ d is. let gathered = i.gathers d is in e.gathers (Some (with_open_message d)) gathered.0 gathered.1;
       comes = λ d w is comes.
           let open_draft = Some (with_open_message d) in
-          let r = i.comes d w is comes in
+          let r = i.comes d w is (still-earlier _ _ _ _ e.reads.stays.known comes) in
           subst (λ (o : Option Ended). MatchOption o ((more left : List (List ℕ)) × IsReading open_draft w more left text builder next.coming) (λ e. HasReadAll open_draft w e text builder next.coming)) c.in_default.is
-          (e.known open_draft w r.0 r.1 r.2);
+          (e.known open_draft w r.0 r.1 (still-reading _ w _ _ _ _ _ _ _ _ comes r.2));
     }

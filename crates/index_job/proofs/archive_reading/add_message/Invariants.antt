@@ -1,4 +1,4 @@
-use Rattle.index_job.proofs.Words.{false, ◌≡◌, ◌≤◌, ℕ, List, Some, Draft, text, left, Awaited, coming_inside, IsInside, IsReadingSome, ReadsSource, HasGathered, with_open_message}
+use Rattle.index_job.proofs.Words.{still_known, false, ◌≡◌, ◌≤◌, ℕ, List, Some, Draft, text, left, Awaited, coming_inside, IsInside, IsReadingSome, ReadsSource, HasGathered, with_open_message}
 use Rattle.index_job.proofs.archive_reading.add_message.Given as goal
 
 -- the message is still open, and its first lines are gathered; if it is known what is to come, they are a beginning of
@@ -11,7 +11,8 @@ invariant-lines g l = record {
   later : l.initial.cutter.place.offset ≤ l.cutter.place.offset;
   nearer : left l.cutter.place ≤ left l.initial.cutter.place;
   gathers : (d : Draft) → l.fn.builder ≡ Some d → (ls : List (List ℕ)) × HasGathered l.text l.builder (Some (with_open_message d)) ls;
-  comes : (d : Draft) (w : Awaited) → l.fn.builder ≡ Some d → l.initial.cutter.coming ≡ Some (coming_inside w (text w.message))
+  comes : (d : Draft) (w : Awaited) → l.fn.builder ≡ Some d
+      → still_known l.initial.cutter.coming (g.S.Source.rest l.cutter.source.now) ≡ Some (coming_inside w (text w.message))
       → IsReadingSome (Some (with_open_message d)) w l.text l.builder l.cutter.coming;
 }
 

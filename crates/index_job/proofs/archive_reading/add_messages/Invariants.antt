@@ -1,4 +1,4 @@
-use Rattle.index_job.proofs.Words.{false, ◌≡◌, ◌≤◌, ℕ, List, Option, Some, Draft, Message, CutFault, left, coming_ahead, HasDone, ReadsSource, IsBuilderReady}
+use Rattle.index_job.proofs.Words.{still_known, false, ◌≡◌, ◌≤◌, ℕ, List, Option, Some, Draft, Message, CutFault, left, coming_ahead, HasDone, ReadsSource, IsBuilderReady}
 use Rattle.mbox_cutter.specs.declared.scan.Phase.TheVariants.{Between}
 use Rattle.index_job.proofs.archive_reading.add_messages.Given as goal
 
@@ -10,7 +10,8 @@ invariant-messages g l = record {
   most : l.cutter.place.most ≡ l.initial.cutter.place.most;
   ready : IsBuilderReady l.archive l.cutter.place.offset l.builder;
   few : l.messages ≤ l.cutter.place.offset;
-  done : (d : Draft) (all : ℕ) (ms : Option (List Message)) (refusal : Option CutFault) → l.fn.builder ≡ Some d → l.initial.cutter.coming ≡ Some (coming_ahead all ms refusal)
+  done : (d : Draft) (all : ℕ) (ms : Option (List Message)) (refusal : Option CutFault) → l.fn.builder ≡ Some d
+      → still_known l.initial.cutter.coming (g.S.Source.rest l.cutter.source.now) ≡ Some (coming_ahead all ms refusal)
       → HasDone l.archive d all ms refusal l.messages l.builder l.cutter.coming;
 }
 

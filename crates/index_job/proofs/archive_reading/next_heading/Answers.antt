@@ -1,11 +1,12 @@
-use Rattle.index_job.proofs.Words.{◌∙◌, Option, ap, subst, Result, Ok, Event, CutFault, Answers, TakesKnown, Start, Done, Coming, shown_result}
+use Rattle.index_job.proofs.Words.{still_known, ◌∙◌, Option, ap, subst, Result, Ok, Event, CutFault, Answers, TakesKnown, Start, Done, Coming, shown_result}
 use Rattle.index_job.proofs.Headings.{heads-message, heads-end}
 use Rattle.index_job.proofs.archive_reading.next_heading.Goals as goal
 
 pub returns-in-Start-clause-known : goal.returns-in-Start-clause-known
 returns-in-Start-clause-known g c =
-    let now = c.args.cutter.now.coming in
-    let next = c.next_event.follows.lender-at-none.coming in
+    let after = c.next_event.follows.lender-at-none in
+    let now = still_known c.args.cutter.now.coming (g.S.Source.rest after.source.now) in
+    let next = after.coming in
     let answers : Answers now (shown_result c.next_event.result) next = c.next_event.follows.holds-at-none.answers in
     let takes : TakesKnown (Start c.in-Start.offset c.in-Start.line.now) now next =
     subst (λ (r : Result Event CutFault). Answers now (shown_result r) next) (c.in_ok-offset.was ∙ ap Ok c.in-Start.is) answers in
@@ -13,8 +14,9 @@ returns-in-Start-clause-known g c =
 
 pub returns-in-Done-clause-known : goal.returns-in-Done-clause-known
 returns-in-Done-clause-known g c =
-    let now = c.args.cutter.now.coming in
-    let next = c.next_event.follows.lender-at-none.coming in
+    let after = c.next_event.follows.lender-at-none in
+    let now = still_known c.args.cutter.now.coming (g.S.Source.rest after.source.now) in
+    let next = after.coming in
     let answers : Answers now (shown_result c.next_event.result) next = c.next_event.follows.holds-at-none.answers in
     let takes : TakesKnown (Done c.in-Done.length) now next =
     subst (λ (r : Result Event CutFault). Answers now (shown_result r) next) (c.in_ok-offset.was ∙ ap Ok c.in-Done.is) answers in

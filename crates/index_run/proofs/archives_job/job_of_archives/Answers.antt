@@ -1,4 +1,5 @@
 use Rattle.index_run.proofs.Words.{arith, ◌≡◌, ◌∙◌, ◌<◌, ◌≤◌, ℕ, List, [], length, map, take, get_or, Some, Ok, sym, ap, subst, string_bytes, get_or-map, length-map, take_all, All-get_or, map-set_same, IsPath, Mbox, AreSound, mboxes, fault_of_job, is_failed_source, IsIndexOf, IsAdded, IsAddFault}
+use Rattle.contract_words.proofs.StillKnown.{all-before, known-called, known-still}
 use Rattle.contract_words.proofs.DeviceLists.{same_at, same_behind, known_at, known_length, counted_at}
 use Rattle.index_run.proofs.ArchiveLists.{mboxes-length, next-taken, parted-here, taken-so-far, sound-more, archive-fault, others-run, here-counts}
 use Rattle.index_run.proofs.archives_job.job_of_archives.Goals as goal
@@ -25,14 +26,15 @@ returns-in-Err-clause-known g c = λ archives known.
     let text : c.as_str.result.now ≡ get_or paths i [] =
     c.as_str.ensures.value ∙ ap string_bytes c.index-paths-number.is ∙ sym (get_or-map string_bytes c.args.paths.now i c.index-paths-number.result [] below) in
     let within : i < length paths = omega (arith, length-map c.args.paths.now string_bytes) in
-    let many : length paths ≡ length archives = omega (arith, length-map c.args.paths.now string_bytes, c.requires.many, known_length g.S.Source.rest c.args.sources.now archives known) in
+    let many : length paths ≡ length archives = omega (arith, length-map c.args.paths.now string_bytes, c.requires.many, known_length g.S.Source.rest c.args.sources.now archives known.0) in
     let rest : g.S.Source.rest (get_or c.loop-number.sources i c.index-sources-number.result) ≡ Some (get_or archives i []) =
-    ap g.S.Source.rest (same_at c.loop-number.sources c.args.sources.now i c.index-sources-number.result c.loop-number.invariant.unread) ∙ known_at g.S.Source.rest c.args.sources.now archives i c.index-sources-number.result known (omega arith) in
-    let found = c.loop-number.invariant.found archives known in
+    ap g.S.Source.rest (same_at c.loop-number.sources c.args.sources.now i c.index-sources-number.result c.loop-number.invariant.unread) ∙ known_at g.S.Source.rest c.args.sources.now archives i c.index-sources-number.result known.0 (omega arith) in
+    let all = all-before g.S.Source.rest c.archive.new.source c.index-sources-number.result c.loop-number.sources i c.archive.ensures.still known.1 in
+    let found = c.loop-number.invariant.found archives (known.0, all) in
     let fault = c.in-Err.fault in
     let fails : IsAddFault (take i (mboxes paths archives)) (record { path = get_or paths i []; bytes = get_or archives i [] }) fault =
     subst (λ (t : List ℕ). IsAddFault (take i (mboxes paths archives)) (record { path = t; bytes = get_or archives i [] }) fault) text
-    ((rw c.in-Err.is at c.archive.ensures.err) (take i (mboxes paths archives)) (get_or archives i []) found.0 rest) in
+    ((rw c.in-Err.is at c.archive.ensures.err) (take i (mboxes paths archives)) (get_or archives i []) found.0 (known-still _ _ _ rest (known-called g.S.Source.rest c.archive.new.source c.index-sources-number.result c.loop-number.sources i (omega arith) known.1))) in
     rw c.fault_of_job.ensures (archive-fault (mboxes paths archives) (take i (mboxes paths archives)) (record { path = get_or paths i []; bytes = get_or archives i [] }) i fault
     (parted-here paths archives i many within) (sym (taken-so-far paths archives i many within)) found.1 fails)
 
@@ -57,14 +59,15 @@ loop-number-preserved g c =
           let text : c.as_str.result.now ≡ get_or paths i [] =
           c.as_str.ensures.value ∙ ap string_bytes c.index-paths-number.is ∙ sym (get_or-map string_bytes c.args.paths.now i c.index-paths-number.result [] below) in
           let within : i < length paths = omega (arith, length-map c.args.paths.now string_bytes) in
-          let many : length paths ≡ length archives = omega (arith, length-map c.args.paths.now string_bytes, c.requires.many, known_length g.S.Source.rest c.args.sources.now archives known) in
+          let many : length paths ≡ length archives = omega (arith, length-map c.args.paths.now string_bytes, c.requires.many, known_length g.S.Source.rest c.args.sources.now archives known.0) in
           let rest : g.S.Source.rest (get_or c.loop-number.sources i c.index-sources-number.result) ≡ Some (get_or archives i []) =
-          ap g.S.Source.rest (same_at c.loop-number.sources c.args.sources.now i c.index-sources-number.result c.loop-number.invariant.unread) ∙ known_at g.S.Source.rest c.args.sources.now archives i c.index-sources-number.result known (omega arith) in
-          let before = c.loop-number.invariant.found archives known in
+          ap g.S.Source.rest (same_at c.loop-number.sources c.args.sources.now i c.index-sources-number.result c.loop-number.invariant.unread) ∙ known_at g.S.Source.rest c.args.sources.now archives i c.index-sources-number.result known.0 (omega arith) in
+          let all = all-before g.S.Source.rest c.archive.new.source c.index-sources-number.result c.loop-number.sources i c.archive.ensures.still known.1 in
+          let before = c.loop-number.invariant.found archives (known.0, all) in
           let a : Mbox = record { path = get_or paths i []; bytes = get_or archives i [] } in
           let added : IsAdded (take i (mboxes paths archives)) a c.in_default-archive.field-0 c.archive.new.self =
           subst (λ (t : List ℕ). IsAdded (take i (mboxes paths archives)) (record { path = t; bytes = get_or archives i [] }) c.in_default-archive.field-0 c.archive.new.self) text
-          ((rw is at c.archive.ensures.ok) (take i (mboxes paths archives)) (get_or archives i []) before.0 rest) in
+          ((rw is at c.archive.ensures.ok) (take i (mboxes paths archives)) (get_or archives i []) before.0 (known-still _ _ _ rest (known-called g.S.Source.rest c.archive.new.source c.index-sources-number.result c.loop-number.sources i (omega arith) known.1))) in
           let next = sym (next-taken paths archives i many within) in (
             subst (λ l. IsIndexOf c.archive.new.self l) next added.whole,
             subst AreSound next (sound-more (take i (mboxes paths archives)) a c.in_default-archive.field-0 c.archive.new.self before.1 added),
@@ -74,7 +77,7 @@ loop-number-preserved g c =
 pub returns-clause-known : goal.returns-clause-known
 returns-clause-known g c = λ archives known.
     let paths = map string_bytes c.args.paths.now in
-    let many : length paths ≡ length archives = omega (arith, length-map c.args.paths.now string_bytes, c.requires.many, known_length g.S.Source.rest c.args.sources.now archives known) in
+    let many : length paths ≡ length archives = omega (arith, length-map c.args.paths.now string_bytes, c.requires.many, known_length g.S.Source.rest c.args.sources.now archives known.0) in
     let whole : length (mboxes paths archives) ≤ c.loop-number.number = omega (arith, mboxes-length paths archives many, length-map c.args.paths.now string_bytes, c.requires.many) in
     let all : take c.loop-number.number (mboxes paths archives) ≡ mboxes paths archives = take_all c.loop-number.number (mboxes paths archives) whole in
     let found = c.loop-number.invariant.found archives known in

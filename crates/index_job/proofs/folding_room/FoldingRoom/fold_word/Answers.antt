@@ -1,4 +1,4 @@
-use Rattle.index_job.proofs.Words.{◌≡◌, ◌∙◌, ◌-◌, ◌≤◌, [], ◌∷◌, ◌++◌, ap, arith, folding}
+use Rattle.index_job.proofs.Words.{◌∙◌, [], ◌∷◌, ◌++◌, ap, arith, folding}
 use Rattle.index_job.proofs.FoldedWords.{holds-push, grown, sized}
 use Rattle.index_job.proofs.folding_room.FoldingRoom.fold_word.Goals as goal
 
