@@ -46,40 +46,40 @@ impl<'a> Model for Cursor<'a> {
 
 impl<'a> Cursor<'a> {
     ghost use Rattle.mail_index.specs.Steps.{add_steps};
-    ghost use Rattle.mail_answer.specs.Cursors.{most_left, look_ups, look_up_steps, LooksUp};
+    ghost use Rattle.mail_answer.specs.Cursors.{most_left, look_ups, look_up_steps, run_finding_steps, LooksUp};
 
     /// Begins a cursor over the messages of an index that satisfy a query.
     ///
     /// Takes all the memory that the cursor needs. Each Word looks up its text once in each of its kinds, and a look-up
     /// takes at most as many steps as the number of keys has binary digits. A Part also reads each key of its kinds,
-    /// and a Prefix each key that begins with its text. The steps of the look-ups are counted. The steps that find the
-    /// keys of a Part or a Prefix aren't, because they look up no key.
+    /// and a Prefix each key that begins with its text. The steps that find the keys of a Part or a Prefix have a count
+    /// of their own, because they look up no key.
     ///
     /// # Errors
     ///
     /// `AllocError` if that memory is refused.
     pub fn new(
         alloc: Global,
-        index: &IndexView<'a>,
+        index: &mut CountedIndex<'a>,
         query: &Query,
-        steps: &mut Steps,
     ) -> Result<Cursor<'a>, AllocError>
-        ensures numbers { IfOk result (λ c. c.numbers ≡ chosen_numbers index.now
+        ensures numbers { IfOk result (λ c. c.numbers ≡ chosen_numbers index.old.table
             (meaning query.now)) }
-        ensures left { IfOk result (λ c. c.left ≤ most_left index.now (meaning query.now)) }
-        ensures exact { IfOk result (λ _. steps.new
-            ≡ add_steps steps.old (look_up_steps index.now.keys (meaning query.now))) }
-        ensures steps { LooksUp (length index.now.keys) (look_ups (meaning query.now))
-            steps.old steps.new }
+        ensures left { IfOk result (λ c. c.left ≤ most_left index.old.table (meaning query.now)) }
+        ensures exact { IfOk result (λ _. index.new.steps ≡ add_steps index.old.steps
+            (look_up_steps index.old.table.keys (meaning query.now))) }
+        ensures steps { LooksUp (length index.old.table.keys) (look_ups (meaning query.now))
+            index.old.steps index.new.steps }
+        ensures runs { IfOk result (λ _. index.new.run_steps ≡ add_steps index.old.run_steps
+            (run_finding_steps index.old.table.keys (meaning query.now))) }
+        ensures table { index.new.table ≡ index.old.table }
     {
-        let mut counted = CountedIndex::of(alloc, index, steps);
-        let begun = walk_of(alloc, &mut counted, query.root());
-        *steps = counted.into_steps();
-        let walk = begun?;
+        let count = index.message_count();
+        let walk = walk_of(alloc, index, query.root())?;
         Ok(Cursor {
             walk,
             low: 0,
-            count: index.message_count(),
+            count,
         })
     }
 
@@ -132,7 +132,8 @@ fn numbers_of(
 pub fn matches(alloc: Global, index: &IndexView<'_>, query: &Query) -> Result<Vec<u32>, AllocError>
     ensures { IfOk result (λ v. v.items ≡ chosen_numbers index.now (meaning query.now)) }
 {
-    let mut steps = Steps::new(alloc, index);
-    let mut cursor = Cursor::new(alloc, index, query, &mut steps)?;
+    let mut counted = CountedIndex::of(index, Steps::new(alloc, index), Steps::new(alloc, index));
+    let mut cursor = Cursor::new(alloc, &mut counted, query)?;
+    let (mut steps, _run_steps) = counted.into_steps();
     numbers_of(alloc, &mut cursor, &mut steps)
 }

@@ -2,7 +2,7 @@
 
 use crate::answered::{INDEX, TWO_MESSAGES, asked, indexed, query_of};
 use mail_answer::{Cursor, matches};
-use mail_index::{IndexView, Steps};
+use mail_index::{CountedIndex, IndexView, Steps};
 use mail_query::Query;
 use std::alloc::Global;
 
@@ -51,10 +51,16 @@ fn patterns_choose_messages(rt: HostRuntime) {
     assert!(rt; chooses_second(rt.alloc()) == Some(true));
 }
 
+/// The index, with no steps taken in it yet.
+fn counted<'a>(alloc: Global, index: &IndexView<'a>) -> CountedIndex<'a> {
+    CountedIndex::of(index, Steps::new(alloc, index), Steps::new(alloc, index))
+}
+
 /// Whether a cursor gives the last message that a query chooses, if it starts there, and none after it.
 fn gives_last(alloc: Global, index: &IndexView<'_>, query: &Query, last: u32) -> Option<bool> {
-    let mut steps = Steps::new(alloc, index);
-    let mut cursor = Cursor::new(alloc, index, query, &mut steps).ok()?;
+    let mut counted = counted(alloc, index);
+    let mut cursor = Cursor::new(alloc, &mut counted, query).ok()?;
+    let (mut steps, _run_steps) = counted.into_steps();
     let given = [
         cursor.next_at_least(last, &mut steps),
         cursor.next_at_least(last, &mut steps),
@@ -70,8 +76,9 @@ fn steps_of(
     query: &Query,
     count: u32,
 ) -> Option<(u64, u64, u64)> {
-    let mut steps = Steps::new(alloc, index);
-    let mut cursor = Cursor::new(alloc, index, query, &mut steps).ok()?;
+    let mut counted = counted(alloc, index);
+    let mut cursor = Cursor::new(alloc, &mut counted, query).ok()?;
+    let (mut steps, _run_steps) = counted.into_steps();
     let begun = steps.count();
     let mut all = cursor.next(&mut steps) == Some(0);
     let first = steps.count().saturating_sub(begun);
