@@ -61,13 +61,18 @@ def numbers_of_the_page(write=False):
     return all(told in page for told in counts.values()) and (write or page == kept)
 
 
-# The functions that begin a count of steps: `matches`, `with_threads` and `answer` have no caller's count.
-COUNTING = {"mail_answer::cursor::matches", "mail_answer::threads::with_threads", "mail_answer::numbers::Numbers::chosen"}
+# The functions that begin counts of steps: `matches`, `with_threads` and `answer` have no caller's counts, and `Cursor::new` one of two.
+COUNTING = {
+    "mail_answer::cursor::Cursor::new",
+    "mail_answer::cursor::matches",
+    "mail_answer::threads::with_threads",
+    "mail_answer::numbers::Numbers::chosen",
+}
 
 
 def only_whole_searches_begin_counts():
-    """`Cursor::new` has the index and the allocator that begin a count, and what it looks up is to be on its caller's. What it calls, and
-    the other calls of a cursor, can't begin one."""
+    """What a cursor looks at is to be on its caller's counts. Its calls have no view of their index, but what has an allocator could open an
+    index of bytes in the program's text, and begin a count with that."""
     crate, found = Path(TOOLS, "..", "crates", "mail_answer"), set()
     for file in sorted(crate.glob("src/**/*.rt")):
         text, path = blanked(file.read_text(encoding="utf-8")), file.relative_to(crate).as_posix()

@@ -8,7 +8,7 @@ pub use Rattle.mail_answer.specs.Asked.{Agree, HoldsArchives, TellLengths, index
 pub use Rattle.mail_answer.specs.Closing.{behind_next, feed, feeds_behind, has_feed, next_text}
 pub use Rattle.mail_answer.specs.CursorAhead.{Ahead, Counts, CountsPostings, Drops, IsFirst, Reaches, Spends, both, common, left_in, lesser_of, levels, one_or_other, others, postings_in, united}
 pub use Rattle.mail_answer.specs.CursorNumbers.{AreWithin, TakesFirst, TakesFrom, numbers_from}
-pub use Rattle.mail_answer.specs.Cursors.{LooksUp, compared_in_all, is_in, kinds_in, look_up_steps, look_up_steps_of_all, look_ups, look_ups_of_all, most_left, most_left_of_all, numbers_named, numbers_of_keys}
+pub use Rattle.mail_answer.specs.Cursors.{LooksUp, compared_in_all, is_in, kinds_in, look_up_steps, look_up_steps_of_all, look_ups, look_ups_of_all, most_left, most_left_of_all, numbers_named, numbers_of_keys, run_finding_steps, run_finding_steps_of_all}
 pub use Rattle.mail_answer.specs.CutAgain.{IsCutInto, IsCutOut, ends_in_return, places_from}
 pub use Rattle.mail_answer.specs.Excerpts.{excerpt_lines, shown_byte}
 unfoldable pub use Rattle.mail_answer.specs.Excerpts.{excerpt}
@@ -16,7 +16,7 @@ pub use Rattle.mail_answer.specs.Inside.Calls.{KeepsArchives}
 pub use Rattle.mail_answer.specs.Inside.CursorLists.{AreNumbers, is_before, numbers_ahead, truths_among}
 pub use Rattle.mail_answer.specs.Inside.CursorMarks.{AreFew, HaveMarks, IsFirstMark, marked_or_listed, those_from, truths_marked}
 pub use Rattle.mail_answer.specs.Inside.CursorScans.{IsFound, Scans, is_ahead, satisfies, truths_scanned}
-pub use Rattle.mail_answer.specs.Inside.CursorTexts.{HaveNumbers, any_text, compared_by, looked_up_by, numbers_fitting, numbers_passing, some_has, some_of_kinds}
+pub use Rattle.mail_answer.specs.Inside.CursorTexts.{HaveNumbers, any_text, compared_by, looked_up_by, numbers_fitting, numbers_passing, run_compared_by, some_has, some_of_kinds}
 pub use Rattle.mail_answer.specs.Inside.Digests.{AbsorbsPart, ReadsDigest, front_digest}
 pub use Rattle.mail_answer.specs.Inside.Endings.{ending_of, ending_of_line, feeds_of, line_of, with_byte}
 pub use Rattle.mail_answer.specs.Inside.Forests.{AreBothAmong, AreInOneTree, LabelsTrees, LeadsBack, ShareKey, Shortens, StaysInThreads, TellsThreads, Unites}

@@ -3,7 +3,7 @@ use Rattle.std.specs.Prelude.{ℕ, ◌+◌, ◌*◌, ◌^◌, ◌<◌, ◌≤◌
 use Rattle.mail_index.specs.declared.kind.Kind.{Kind}
 use Rattle.mail_index.specs.declared.kind.Kind.TheVariants.{Text, OwnId, LinkId}
 use Rattle.mail_index.specs.Tables.{Key, Table}
-use Rattle.mail_index.specs.LookUps.{keys_of, comparisons}
+use Rattle.mail_index.specs.LookUps.{keys_of, comparisons, comparisons_of_run}
 use Rattle.mail_query.specs.declared.kinds.Kinds.{Kinds}
 use Rattle.mail_query.specs.Kinds.{has_kind}
 use Rattle.mail_query.specs.Query.{Query, Word, Part, Prefix, Not, All, Either, Queries, End, More}
@@ -86,6 +86,24 @@ abbrev mutual
   pub look_up_steps_of_all : List Key → Queries → ℕ
   look_up_steps_of_all keys End = 0
   look_up_steps_of_all keys (More q qs) = look_up_steps keys q + look_up_steps_of_all keys qs
+
+-- how many comparisons find the runs of keys of a query: those for its text in each kind of each Prefix, and for all
+-- keys in each kind of each Part
+abbrev mutual
+  pub run_finding_steps : List Key → Query → ℕ
+  run_finding_steps keys (Part kinds text) =
+      compared_in_all (λ kind. comparisons_of_run kind [] keys) (kinds_in kinds)
+  run_finding_steps keys (Prefix kinds text) =
+      compared_in_all (λ kind. comparisons_of_run kind text keys) (kinds_in kinds)
+  run_finding_steps keys (Not q) = run_finding_steps keys q
+  run_finding_steps keys (All qs) = run_finding_steps_of_all keys qs
+  run_finding_steps keys (Either qs) = run_finding_steps_of_all keys qs
+  run_finding_steps keys _ = 0
+
+  -- the same for the queries of a list together
+  pub run_finding_steps_of_all : List Key → Queries → ℕ
+  run_finding_steps_of_all keys End = 0
+  run_finding_steps_of_all keys (More q qs) = run_finding_steps keys q + run_finding_steps_of_all keys qs
 
 -- each of the look-ups takes at most as many steps as the number of keys has binary digits
 pub record LooksUp (keys many old new : ℕ) : Type 0 where

@@ -22,6 +22,7 @@ use mail_index::{CountedIndex, IndexView, Steps};
 use mail_query::Query;
 use std::alloc::{AllocError, Global};
 use std::marker::Model;
+use std::mem;
 
 /// The rising numbers that still come, of the messages of an index that satisfy a query. No list of them is kept.
 #[derive(Drop)]
@@ -46,18 +47,16 @@ impl<'a> Model for Cursor<'a> {
 
 impl<'a> Cursor<'a> {
     ghost use Rattle.mail_index.specs.Steps.{add_steps};
-    ghost use Rattle.mail_answer.specs.Cursors.{most_left, look_ups, look_up_steps, LooksUp};
+    ghost use Rattle.mail_answer.specs.Cursors.{most_left, look_ups, look_up_steps, run_finding_steps, LooksUp};
 
-    /// Begins a cursor over the messages of an index that satisfy a query.
+    /// Begins a cursor over the messages of an index that satisfy a query, and counts the steps of its look-ups.
     ///
-    /// Takes all the memory that the cursor needs. Each Word looks up its text once in each of its kinds, and a look-up
-    /// takes at most as many steps as the number of keys has binary digits. A Part also reads each key of its kinds,
-    /// and a Prefix each key that begins with its text. The steps of the look-ups are counted. The steps that find the
-    /// keys of a Part or a Prefix aren't, because they look up no key.
+    /// It does what `over` does. The steps that find the keys of a Part or a Prefix aren't counted, because they look
+    /// up no key.
     ///
     /// # Errors
     ///
-    /// `AllocError` if that memory is refused.
+    /// `AllocError` if the memory of the cursor is refused.
     pub fn new(
         alloc: Global,
         index: &IndexView<'a>,
@@ -72,14 +71,46 @@ impl<'a> Cursor<'a> {
         ensures steps { LooksUp (length index.now.keys) (look_ups (meaning query.now))
             steps.old steps.new }
     {
-        let mut counted = CountedIndex::of(alloc, index, steps);
-        let begun = walk_of(alloc, &mut counted, query.root());
-        *steps = counted.into_steps();
-        let walk = begun?;
+        let so_far = mem::replace(steps, Steps::new(alloc, index));
+        let mut counted = CountedIndex::of(index, so_far, Steps::new(alloc, index));
+        let begun = Cursor::over(alloc, &mut counted, query);
+        let (taken, _run_steps) = counted.into_steps();
+        *steps = taken;
+        begun
+    }
+
+    /// Begins a cursor over the messages of an index that satisfy a query, with the counts of its caller.
+    ///
+    /// Takes all the memory that the cursor needs. Each Word looks up its text once in each of its kinds, and a look-up
+    /// takes at most as many steps as the number of keys has binary digits. A Part also reads each key of its kinds,
+    /// and a Prefix each key that begins with its text. The steps that find the keys of a Part or a Prefix have a count
+    /// of their own, because they look up no key.
+    ///
+    /// # Errors
+    ///
+    /// `AllocError` if that memory is refused.
+    pub fn over(
+        alloc: Global,
+        index: &mut CountedIndex<'a>,
+        query: &Query,
+    ) -> Result<Cursor<'a>, AllocError>
+        ensures numbers { IfOk result (λ c. c.numbers ≡ chosen_numbers index.old.table
+            (meaning query.now)) }
+        ensures left { IfOk result (λ c. c.left ≤ most_left index.old.table (meaning query.now)) }
+        ensures exact { IfOk result (λ _. index.new.steps ≡ add_steps index.old.steps
+            (look_up_steps index.old.table.keys (meaning query.now))) }
+        ensures steps { LooksUp (length index.old.table.keys) (look_ups (meaning query.now))
+            index.old.steps index.new.steps }
+        ensures runs { IfOk result (λ _. index.new.run_steps ≡ add_steps index.old.run_steps
+            (run_finding_steps index.old.table.keys (meaning query.now))) }
+        ensures table { index.new.table ≡ index.old.table }
+    {
+        let count = index.message_count();
+        let walk = walk_of(alloc, index, query.root())?;
         Ok(Cursor {
             walk,
             low: 0,
-            count: index.message_count(),
+            count,
         })
     }
 
@@ -132,7 +163,8 @@ fn numbers_of(
 pub fn matches(alloc: Global, index: &IndexView<'_>, query: &Query) -> Result<Vec<u32>, AllocError>
     ensures { IfOk result (λ v. v.items ≡ chosen_numbers index.now (meaning query.now)) }
 {
-    let mut steps = Steps::new(alloc, index);
-    let mut cursor = Cursor::new(alloc, index, query, &mut steps)?;
+    let mut counted = CountedIndex::of(index, Steps::new(alloc, index), Steps::new(alloc, index));
+    let mut cursor = Cursor::over(alloc, &mut counted, query)?;
+    let (mut steps, _run_steps) = counted.into_steps();
     numbers_of(alloc, &mut cursor, &mut steps)
 }

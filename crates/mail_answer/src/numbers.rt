@@ -8,7 +8,7 @@ ghost use Rattle.mail_answer.specs.TableAnswers.{mail_told};
 
 use crate::cursor::{Cursor, matches};
 use crate::threads::with_threads;
-use mail_index::{IndexView, Steps};
+use mail_index::{CountedIndex, IndexView, Steps};
 use mail_query::Query;
 use std::alloc::{AllocError, Global};
 use std::marker::Model;
@@ -53,15 +53,20 @@ impl<'a> Numbers<'a> {
             (meaning query.now) numbers) }
         ensures numbers { IfOk result (λ numbers. AreNumbers (length index.now.messages) numbers) }
     {
-        let mut steps = Steps::new(alloc, index);
+        let mut counted = CountedIndex::of(
+            index,
+            Steps::new(alloc, index),
+            Steps::new(alloc, index),
+        );
         let source = if threads {
             let satisfying = matches(alloc, index, query)?;
             let numbers = with_threads(alloc, index, satisfying.as_slice())?;
             Source::Listed(numbers.into_iter())
         } else {
-            let cursor = Cursor::new(alloc, index, query, &mut steps)?;
+            let cursor = Cursor::over(alloc, &mut counted, query)?;
             Source::Walked(cursor)
         };
+        let (steps, _run_steps) = counted.into_steps();
         Ok(Numbers { source, steps })
     }
 

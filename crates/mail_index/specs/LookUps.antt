@@ -96,9 +96,10 @@ bisections passes ks = bisections_within (length ks) passes ks
 abbrev pub comparisons_of_run : Kind → List ℕ → List Key → ℕ
 comparisons_of_run kind text ks = bisections (lies_below Equal kind text) ks + bisections (lies_below Greater kind text) ks
 
--- ---- look-ups on one count
+-- ---- a table with counts
 
--- a table, and the count of the steps that look-ups in it take
+-- a table, the count of the steps that look-ups in it take, and the count of those that finding runs of its keys takes
 pub record CountedTable : Type 0 where
   pub table : Table
   pub steps : ℕ
+  pub run_steps : ℕ

@@ -1,5 +1,6 @@
 -- The steps of look-ups are exactly the comparisons of their binary searches, kind by kind and member by member.
-use Rattle.mail_answer.proofs.Words.{◌≡◌, ◌∙◌, ◌+◌, ◌<◌, ◌≤◌, ℕ, true, false, List, [], ◌∷◌, ◌++◌, length, map, drop, get_or, sym, ap, arith, Result, Ok, Err, IfOk, filter, Kind, Text, OwnId, text_kinds, Key, Query, members_of, Kinds, is_in, compared_in_all, look_up_steps, look_up_steps_of_all, add_steps}
+use Rattle.mail_answer.proofs.Words.{◌≡◌, ◌∙◌, ◌+◌, ◌<◌, ◌≤◌, ℕ, true, false, List, [], ◌∷◌, ◌++◌, length, map, drop, get_or, sym, ap, arith, Result, Ok, Err, IfOk, filter, Kind, Text, OwnId, text_kinds, Query, members_of, Kinds, is_in, compared_in_all, add_steps}
+use Rattle.mail_query.specs.Query.{Queries, End, More}
 use Rattle.mail_index.proofs.ViewLaws.StepLemmas.{add_steps-none, add_steps-both}
 use Rattle.mail_answer.proofs.CursorLaws.Texts.{coming_at}
 
@@ -15,10 +16,12 @@ pub none_compared : (kinds : List Kind) → compared_in_all (λ kind. 0) kinds �
 none_compared [] = omega arith
 none_compared (kind ∷ kinds) = omega (arith, none_compared kinds)
 
-pub steps_of : {A E : Type 0} (r : Result A E) (keys : List Key) (q p : Query) (old new n : ℕ) → q ≡ p → n ≡ look_up_steps keys p → IfOk r (λ _. new ≡ add_steps old n)
-    → IfOk r (λ _. new ≡ add_steps old (look_up_steps keys q))
-steps_of (Err e) keys q p old new n is counts taken = tt
-steps_of (Ok a) keys q p old new n is counts taken = taken ∙ ap (add_steps old) counts ∙ ap (λ (x : Query). add_steps old (look_up_steps keys x)) (sym is)
+-- `counts` says how many comparisons a query takes
+pub steps_of : {A E : Type 0} (r : Result A E) (counts : Query → ℕ) (q p : Query) (old new n : ℕ) → q ≡ p
+    → n ≡ counts p → IfOk r (λ _. new ≡ add_steps old n) → IfOk r (λ _. new ≡ add_steps old (counts q))
+steps_of (Err e) counts q p old new n is same taken = tt
+steps_of (Ok a) counts q p old new n is same taken =
+    taken ∙ ap (add_steps old) same ∙ ap (λ (x : Query). add_steps old (counts x)) (sym is)
 
 -- ---- kind by kind
 
@@ -46,14 +49,20 @@ all_compared compared i kinds start old total from to before =
 
 -- ---- member by member
 
-pub member_more : (keys : List Key) (q : Query) (last coming : List Query) (start old new total : ℕ) → last ≡ q ∷ coming → new ≡ add_steps old (look_up_steps keys q)
-    → add_steps old (look_up_steps_of_all keys (members_of last)) ≡ add_steps start total → add_steps new (look_up_steps_of_all keys (members_of coming)) ≡ add_steps start total
-member_more keys q last coming start old new total split taken before =
-    let rest : ℕ = look_up_steps_of_all keys (members_of coming) in
-    ap (λ (n : ℕ). add_steps n rest) taken ∙ add_steps-both old (look_up_steps keys q) rest
-    ∙ ap (λ (qs : List Query). add_steps old (look_up_steps_of_all keys (members_of qs))) (sym split) ∙ before
+-- `counts_all` is the sum of `counts` over the queries of a list
+module _ (counts : Query → ℕ) (counts_all : Queries → ℕ) (start old total : ℕ) where
+  pub member_more : ((q : Query) (qs : Queries) → counts_all (More q qs) ≡ counts q + counts_all qs)
+      → (q : Query) (last coming : List Query) (new : ℕ) → last ≡ q ∷ coming → new ≡ add_steps old (counts q)
+      → add_steps old (counts_all (members_of last)) ≡ add_steps start total
+      → add_steps new (counts_all (members_of coming)) ≡ add_steps start total
+  member_more more q last coming new split taken before =
+      let rest : ℕ = counts_all (members_of coming) in
+      ap (λ (n : ℕ). add_steps n rest) taken ∙ add_steps-both old (counts q) rest
+      ∙ ap (add_steps old) (sym (more q (members_of coming)))
+      ∙ ap (λ (qs : List Query). add_steps old (counts_all (members_of qs))) (sym split) ∙ before
 
-pub no_member_more : (keys : List Key) (last : List Query) (start old total : ℕ) → last ≡ []
-    → add_steps old (look_up_steps_of_all keys (members_of last)) ≡ add_steps start total → old ≡ add_steps start total
-no_member_more keys last start old total none before =
-    add_steps-none old ∙ ap (λ (qs : List Query). add_steps old (look_up_steps_of_all keys (members_of qs))) (sym none) ∙ before
+  pub no_member_more : counts_all End ≡ 0 → (last : List Query) → last ≡ []
+      → add_steps old (counts_all (members_of last)) ≡ add_steps start total → old ≡ add_steps start total
+  no_member_more none last is before =
+      add_steps-none old ∙ ap (add_steps old) (sym none)
+      ∙ ap (λ (qs : List Query). add_steps old (counts_all (members_of qs))) (sym is) ∙ before

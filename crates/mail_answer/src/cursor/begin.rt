@@ -3,7 +3,7 @@ ghost use Rattle.std.specs.Prelude.{◌≡◌, ◌≤◌, length, IfOk};
 ghost use Rattle.mail_index.specs.Steps.{add_steps};
 ghost use Rattle.mail_index.specs.Tables.{IsWellFormed};
 ghost use Rattle.mail_query.specs.Query.{query_of, queries_of, members_of};
-ghost use Rattle.mail_answer.specs.Cursors.{most_left, most_left_of_all, look_ups, look_ups_of_all, look_up_steps, look_up_steps_of_all, LooksUp};
+ghost use Rattle.mail_answer.specs.Cursors.{most_left, most_left_of_all, look_ups, look_ups_of_all, look_up_steps, look_up_steps_of_all, run_finding_steps, run_finding_steps_of_all, LooksUp};
 ghost use Rattle.mail_answer.specs.CursorAhead.{left_in};
 ghost use Rattle.mail_answer.specs.Inside.CursorBegins.{Tells, TellAll};
 
@@ -28,6 +28,8 @@ pub(crate) fn walk_of<'a>(
         (look_up_steps index.old.table.keys (query_of node.now))) }
     ensures steps { LooksUp (length index.old.table.keys) (look_ups (query_of node.now))
         index.old.steps index.new.steps }
+    ensures runs { IfOk result (λ _. index.new.run_steps ≡ add_steps index.old.run_steps
+        (run_finding_steps index.old.table.keys (query_of node.now))) }
     ensures table { index.new.table ≡ index.old.table }
 {
     let count = index.message_count();
@@ -86,6 +88,8 @@ fn walks_of<'a>(
         (look_up_steps_of_all index.old.table.keys (members_of (queries_of nodes.now)))) }
     ensures steps { LooksUp (length index.old.table.keys)
         (look_ups_of_all (members_of (queries_of nodes.now))) index.old.steps index.new.steps }
+    ensures runs { IfOk result (λ _. index.new.run_steps ≡ add_steps index.old.run_steps
+        (run_finding_steps_of_all index.old.table.keys (members_of (queries_of nodes.now)))) }
     ensures table { index.new.table ≡ index.old.table }
 {
     let mut walks = Vec::new(alloc);

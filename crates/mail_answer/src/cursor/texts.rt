@@ -8,7 +8,7 @@ ghost use Rattle.mail_answer.specs.TableFacts.{texts_with, is_among, facts_at};
 ghost use Rattle.mail_answer.specs.Marks.{fits, some_key, truth_at};
 ghost use Rattle.mail_answer.specs.Cursors.{numbers_named, kinds_in, is_in, compared_in_all, LooksUp};
 ghost use Rattle.mail_answer.specs.Inside.CursorLists.{AreNumbers};
-ghost use Rattle.mail_answer.specs.Inside.CursorTexts.{any_text, Joins, HaveNumbers, numbers_passing, numbers_fitting, looked_up_by, compared_by};
+ghost use Rattle.mail_answer.specs.Inside.CursorTexts.{any_text, Joins, HaveNumbers, numbers_passing, numbers_fitting, looked_up_by, compared_by, run_compared_by};
 
 use crate::cursor::listed::Listed;
 use crate::cursor::walk::Walk;
@@ -118,6 +118,8 @@ fn push_kind<'a>(
         (compared_by fit text.now index.old.table.keys kind) }
     ensures steps { LooksUp (length index.old.table.keys) (looked_up_by fit)
         index.old.steps index.new.steps }
+    ensures runs { index.new.run_steps ≡ add_steps index.old.run_steps
+        (run_compared_by fit text.now index.old.table.keys kind) }
     ensures table { index.new.table ≡ index.old.table }
 {
     let count = index.message_count();
@@ -146,6 +148,8 @@ pub(crate) fn with_text<'a>(
         (compared_in_all (compared_by fit text.now index.old.table.keys) (kinds_in kinds))) }
     ensures steps { LooksUp (length index.old.table.keys)
         (length (kinds_in kinds) * looked_up_by fit) index.old.steps index.new.steps }
+    ensures runs { IfOk result (λ _. index.new.run_steps ≡ add_steps index.old.run_steps
+        (compared_in_all (run_compared_by fit text.now index.old.table.keys) (kinds_in kinds))) }
     ensures table { index.new.table ≡ index.old.table }
 {
     let mut members = Vec::new(alloc);

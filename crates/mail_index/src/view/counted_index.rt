@@ -1,8 +1,8 @@
-//! An index whose look-ups all count on one counter.
-ghost use Rattle.std.specs.Prelude.{◌≡◌, length, map};
+//! An index with the counts of the steps that are taken in it.
+ghost use Rattle.std.specs.Prelude.{◌≡◌, [], length, map};
 ghost use Rattle.mail_index.specs.Steps.{add_steps};
 ghost use Rattle.mail_index.specs.Tables.{IsWellFormed};
-ghost use Rattle.mail_index.specs.LookUps.{numbers_at, comparisons, TakesDigits, keys_of, keys_beginning, text_and_numbers};
+ghost use Rattle.mail_index.specs.LookUps.{numbers_at, comparisons, TakesDigits, comparisons_of_run, keys_of, keys_beginning, text_and_numbers};
 
 use crate::kind::Kind;
 use crate::view::directory::keys::Keys;
@@ -10,17 +10,17 @@ use crate::view::index_view::IndexView;
 use crate::view::postings::Postings;
 use crate::view::records::Records;
 use crate::view::steps::Steps;
-use std::alloc::Global;
 use std::marker::Model;
-use std::mem;
 
-/// An index, and the count of the steps that its look-ups take. Code that has the index only in this form can't look up
-/// a key on another count.
+/// An index, the count of the steps that look-ups of single keys take, and the count of the steps that finding runs of
+/// keys takes. (A run is the keys of one kind that begin with one text.)
+///
+/// Code that has the index only in this form can't look at a key on another count. Each call says by how much both
+/// counts grow.
 #[derive(Drop)]
 pub struct CountedIndex<'a> {
     index: IndexView<'a>,
     steps: Steps,
-    // Counts the steps that finding the keys of a run takes, because a cursor counts its look-ups alone.
     run_steps: Steps,
 }
 
@@ -29,36 +29,38 @@ impl<'a> Model for CountedIndex<'a> {
 
     ghost Value = { CountedTable };
 
-    ghost view = { λ s. record { table = s.index; steps = s.steps } };
+    ghost view = { λ s. record { table = s.index; steps = s.steps; run_steps = s.run_steps } };
 }
 
 impl<'a> CountedIndex<'a> {
-    /// The index with the count that its caller has so far; the caller's own count is left at 0. Takes no memory.
-    pub fn of(alloc: Global, index: &IndexView<'a>, steps: &mut Steps) -> Self
+    /// The index with the counts that its caller has so far: of look-ups, and of runs. Begins no count, and takes no
+    /// memory.
+    pub fn of(index: &IndexView<'a>, steps: Steps, run_steps: Steps) -> Self
         ensures table { result.table ≡ index.now }
-        ensures steps { result.steps ≡ steps.old }
-        ensures left { steps.new ≡ 0 }
-        ensures formed { IsWellFormed index.now }
+        ensures steps { result.steps ≡ steps }
+        ensures runs { result.run_steps ≡ run_steps }
     {
         CountedIndex {
             index: index.again(),
-            steps: mem::replace(steps, Steps::new(alloc, index)),
-            run_steps: Steps::new(alloc, index),
+            steps,
+            run_steps,
         }
     }
 
-    /// Returns the count.
-    pub fn into_steps(self) -> Steps
-        ensures { result ≡ self.entry.steps }
+    /// Returns both counts: of look-ups, and of runs.
+    pub fn into_steps(self) -> (Steps, Steps)
+        ensures steps { result.0 ≡ self.entry.steps }
+        ensures runs { result.1 ≡ self.entry.run_steps }
     {
-        self.steps
+        (self.steps, self.run_steps)
     }
 
-    /// How many messages there are.
+    /// How many messages there are. The table is well-formed, as that of each view.
     pub fn message_count(&self) -> u32
-        ensures { result ≡ length self.now.table.messages }
+        ensures count { result ≡ length self.now.table.messages }
+        ensures formed { IsWellFormed self.now.table }
     {
-        self.index.message_count()
+        self.index.again().message_count()
     }
 
     /// The records of all messages.
@@ -68,32 +70,38 @@ impl<'a> CountedIndex<'a> {
         self.index.records()
     }
 
-    /// The numbers of the messages that have the key, as `IndexView::look_up` returns them.
+    /// The numbers of the messages that have the key, as `IndexView::look_up` returns them. Its steps are those of a
+    /// look-up.
     pub fn look_up(&mut self, kind: Kind, text: &[u8]) -> Postings<'a>
         ensures numbers { result ≡ numbers_at kind text.now self.old.table.keys }
         ensures exact { self.new.steps
             ≡ add_steps self.old.steps (comparisons kind text.now self.old.table.keys) }
         ensures steps { TakesDigits (length self.old.table.keys) self.old.steps self.new.steps }
+        ensures runs { self.new.run_steps ≡ self.old.run_steps }
         ensures table { self.new.table ≡ self.old.table }
     {
         self.index.look_up(kind, text, &mut self.steps)
     }
 
-    /// The keys of a kind, as `IndexView::keys` returns them. Looks up no key, and adds nothing to the count.
+    /// The keys of a kind, as `IndexView::keys` returns them. Its steps are those of a run.
     pub fn keys(&mut self, kind: Kind) -> Keys<'a>
         ensures keys { result ≡ map text_and_numbers (keys_of kind self.old.table.keys) }
         ensures steps { self.new.steps ≡ self.old.steps }
+        ensures runs { self.new.run_steps
+            ≡ add_steps self.old.run_steps (comparisons_of_run kind [] self.old.table.keys) }
         ensures table { self.new.table ≡ self.old.table }
     {
         self.index.keys(kind, &mut self.run_steps)
     }
 
-    /// The keys of a kind whose texts begin with this one, as `IndexView::keys_beginning` returns them. Looks up no
-    /// key, and adds nothing to the count.
+    /// The keys of a kind whose texts begin with this one, as `IndexView::keys_beginning` returns them. Its steps are
+    /// those of a run.
     pub fn keys_beginning(&mut self, kind: Kind, text: &[u8]) -> Keys<'a>
         ensures keys { result
             ≡ map text_and_numbers (keys_beginning kind text.now self.old.table.keys) }
         ensures steps { self.new.steps ≡ self.old.steps }
+        ensures runs { self.new.run_steps
+            ≡ add_steps self.old.run_steps (comparisons_of_run kind text.now self.old.table.keys) }
         ensures table { self.new.table ≡ self.old.table }
     {
         self.index.keys_beginning(kind, text, &mut self.run_steps)

@@ -10,9 +10,9 @@ use std::marker::Model;
 /// One step is the comparison of one entry of the directory, the reading of one number of a key's messages, or the look
 /// at one record. The count stops at the greatest value of a `u64`.
 ///
-/// A new count needs an index and an allocator, though it uses neither. A look-up has no allocator, and code that goes
-/// through postings, keys or records has no index: so they can't begin a count that goes unread (decision 75 in
-/// docs/DECISIONS.md).
+/// A new count needs a view of an index and an allocator, though it uses neither. A look-up has no allocator. Code that
+/// goes through postings, keys, records or a `CountedIndex` has no view. So neither has what a count begins with
+/// (decision 75 in docs/DECISIONS.md).
 #[derive(Drop)]
 pub struct Steps {
     count: u64,

@@ -1,5 +1,5 @@
 -- `walk_of` makes the walk of a node, by the kind of the node and from the walks of its members.
-use Rattle.mail_answer.proofs.Words.{◌≡◌, ◌∙◌, ◌+◌, ◌≤◌, ℕ, add_steps, kinds_in, look_up_steps, List, length, drop, refl, sym, ap, subst, arith, IfOk, eqb-true, Node, Query, query_of, queries_of, members_of, fits, Whole, Within, Front, most_left, look_ups, LooksUp, Table, IsWellFormed}
+use Rattle.mail_answer.proofs.Words.{◌≡◌, ◌∙◌, ◌+◌, ◌≤◌, ℕ, add_steps, kinds_in, look_up_steps, look_up_steps_of_all, run_finding_steps, run_finding_steps_of_all, List, length, drop, refl, sym, ap, subst, arith, IfOk, eqb-true, Node, Query, query_of, queries_of, members_of, fits, Whole, Within, Front, most_left, look_ups, LooksUp, Table, IsWellFormed}
 use Rattle.std.specs.Vec.{vec_len}
 use Rattle.mail_answer.specs.declared.cursor.scanned.Asked.TheVariants as asked
 use Rattle.mail_query.specs.Query as query
@@ -73,13 +73,21 @@ walk_of-returns-in-Prefix-clause-truths t c =
 pub walk_of-returns-in_ok-inner-in-Not-clause-truths : goal.walk_of-returns-in_ok-inner-in-Not-clause-truths
 walk_of-returns-in_ok-inner-in-Not-clause-truths t c =
     tells_not c.args.index.now.table (query_of c.args.node.now) (query_of c.deref.result.now) c.message_count-count.result c.in_ok-inner-in-Not.inner.truths c.others.result
-    (ap query_of c.in-Not.is ∙ query_of-Not c.in-Not.inner ∙ ap (λ (n : Node). query.Not (query_of n)) (sym c.deref.ensures)) c.message_count-count.ensures c.in_ok-inner-in-Not.ensures.truths c.others.ensures.truths
+    (ap query_of c.in-Not.is ∙ query_of-Not c.in-Not.inner ∙ ap (λ (n : Node). query.Not (query_of n))
+    (sym c.deref.ensures)) c.message_count-count.ensures.count c.in_ok-inner-in-Not.ensures.truths
+    c.others.ensures.truths
 
 pub walk_of-returns-then-is_empty-clause-truths : goal.walk_of-returns-then-is_empty-clause-truths
 walk_of-returns-then-is_empty-clause-truths t c =
     tells_none c.args.index.now.table (query_of c.args.node.now) (queries_of c.as_slice.result.now) c.in_ok-walks-in-All.walks.items c.message_count-count.result c.united.result.truths c.others-then-is_empty.result
     (ap query_of c.in-All.is ∙ query_of-All c.in-All.members ∙ ap (λ (ns : List Node). query.All (members_of (queries_of ns))) (sym c.as_slice.ensures.value))
-    (omega (arith, c.in_ok-walks-in-All.walks.ok.0, eqb-true (vec_len c.in_ok-walks-in-All.walks) 0 (sym c.is_empty.ensures ∙ c.if-is_empty.true))) c.message_count-count.ensures c.united.ensures.truths c.in_ok-walks-in-All.ensures.truths c.others-then-is_empty.ensures.truths
+    (omega (
+      arith,
+      c.in_ok-walks-in-All.walks.ok.0,
+      eqb-true (vec_len c.in_ok-walks-in-All.walks) 0
+          (sym c.is_empty.ensures ∙ c.if-is_empty.true),
+    )) c.message_count-count.ensures.count c.united.ensures.truths
+    c.in_ok-walks-in-All.ensures.truths c.others-then-is_empty.ensures.truths
 
 pub walk_of-returns-else-is_empty-clause-truths : goal.walk_of-returns-else-is_empty-clause-truths
 walk_of-returns-else-is_empty-clause-truths t c =
@@ -95,40 +103,65 @@ walk_of-returns-in_ok-walks-in-Either-clause-truths t c =
 
 pub walk_of-returns-in-Any-clause-exact : goal.walk_of-returns-in-Any-clause-exact
 walk_of-returns-in-Any-clause-exact t c =
-    steps_of c.scanned.result c.args.index.now.table.keys (query_of c.args.node.now) query.Any c.args.index.now.steps c.args.index.now.steps 0 (ap query_of c.in-Any.is ∙ query_of-Any) refl (if_always c.scanned.result (none_taken c.args.index.now.steps c.args.index.now.steps refl))
+    steps_of c.scanned.result (look_up_steps c.args.index.now.table.keys) (query_of c.args.node.now) query.Any
+    c.args.index.now.steps c.args.index.now.steps 0 (ap query_of c.in-Any.is ∙ query_of-Any) refl
+    (if_always c.scanned.result (none_taken c.args.index.now.steps c.args.index.now.steps refl))
 
 pub walk_of-returns-in-Date-clause-exact : goal.walk_of-returns-in-Date-clause-exact
 walk_of-returns-in-Date-clause-exact t c =
-    steps_of c.scanned-in-Date.result c.args.index.now.table.keys (query_of c.args.node.now) (query.Date c.in-Date.range) c.args.index.now.steps c.args.index.now.steps 0 (ap query_of c.in-Date.is ∙ query_of-Date c.in-Date.range) refl (if_always c.scanned-in-Date.result (none_taken c.args.index.now.steps c.args.index.now.steps refl))
+    steps_of c.scanned-in-Date.result (look_up_steps c.args.index.now.table.keys) (query_of c.args.node.now)
+    (query.Date c.in-Date.range) c.args.index.now.steps c.args.index.now.steps 0
+    (ap query_of c.in-Date.is ∙ query_of-Date c.in-Date.range) refl
+    (if_always c.scanned-in-Date.result (none_taken c.args.index.now.steps c.args.index.now.steps refl))
 
 pub walk_of-returns-in-Size-clause-exact : goal.walk_of-returns-in-Size-clause-exact
 walk_of-returns-in-Size-clause-exact t c =
-    steps_of c.scanned-in-Size.result c.args.index.now.table.keys (query_of c.args.node.now) (query.Size c.in-Size.low c.in-Size.high) c.args.index.now.steps c.args.index.now.steps 0 (ap query_of c.in-Size.is ∙ query_of-Size c.in-Size.low c.in-Size.high) refl (if_always c.scanned-in-Size.result (none_taken c.args.index.now.steps c.args.index.now.steps refl))
+    steps_of c.scanned-in-Size.result (look_up_steps c.args.index.now.table.keys) (query_of c.args.node.now)
+    (query.Size c.in-Size.low c.in-Size.high) c.args.index.now.steps c.args.index.now.steps 0
+    (ap query_of c.in-Size.is ∙ query_of-Size c.in-Size.low c.in-Size.high) refl
+    (if_always c.scanned-in-Size.result (none_taken c.args.index.now.steps c.args.index.now.steps refl))
 
 pub walk_of-returns-in-Flag-clause-exact : goal.walk_of-returns-in-Flag-clause-exact
 walk_of-returns-in-Flag-clause-exact t c =
-    steps_of c.scanned-in-Flag.result c.args.index.now.table.keys (query_of c.args.node.now) (query.HasFlag c.in-Flag.flag c.in-Flag.wanted) c.args.index.now.steps c.args.index.now.steps 0 (ap query_of c.in-Flag.is ∙ query_of-Flag c.in-Flag.flag c.in-Flag.wanted) refl (if_always c.scanned-in-Flag.result (none_taken c.args.index.now.steps c.args.index.now.steps refl))
+    steps_of c.scanned-in-Flag.result (look_up_steps c.args.index.now.table.keys) (query_of c.args.node.now)
+    (query.HasFlag c.in-Flag.flag c.in-Flag.wanted) c.args.index.now.steps c.args.index.now.steps 0
+    (ap query_of c.in-Flag.is ∙ query_of-Flag c.in-Flag.flag c.in-Flag.wanted) refl
+    (if_always c.scanned-in-Flag.result (none_taken c.args.index.now.steps c.args.index.now.steps refl))
 
 pub walk_of-returns-in-Word-clause-exact : goal.walk_of-returns-in-Word-clause-exact
 walk_of-returns-in-Word-clause-exact t c =
-    steps_of c.with_text.result c.args.index.now.table.keys (query_of c.args.node.now) (query.Word c.in-Word.kinds c.in-Word.text) c.args.index.now.steps _ _ (ap query_of c.in-Word.is ∙ query_of-Word c.in-Word.kinds c.in-Word.text) refl c.with_text.ensures.exact
+    steps_of c.with_text.result (look_up_steps c.args.index.now.table.keys) (query_of c.args.node.now)
+    (query.Word c.in-Word.kinds c.in-Word.text) c.args.index.now.steps _ _
+    (ap query_of c.in-Word.is ∙ query_of-Word c.in-Word.kinds c.in-Word.text) refl c.with_text.ensures.exact
 
 pub walk_of-returns-in-Part-clause-exact : goal.walk_of-returns-in-Part-clause-exact
 walk_of-returns-in-Part-clause-exact t c =
-    steps_of c.with_text-in-Part.result c.args.index.now.table.keys (query_of c.args.node.now) (query.Part c.in-Part.kinds c.in-Part.text) c.args.index.now.steps _ _ (ap query_of c.in-Part.is ∙ query_of-Part c.in-Part.kinds c.in-Part.text) (none_compared (kinds_in c.in-Part.kinds)) c.with_text-in-Part.ensures.exact
+    steps_of c.with_text-in-Part.result (look_up_steps c.args.index.now.table.keys) (query_of c.args.node.now)
+    (query.Part c.in-Part.kinds c.in-Part.text) c.args.index.now.steps _ _
+    (ap query_of c.in-Part.is ∙ query_of-Part c.in-Part.kinds c.in-Part.text) (none_compared (kinds_in c.in-Part.kinds))
+    c.with_text-in-Part.ensures.exact
 
 pub walk_of-returns-in-Prefix-clause-exact : goal.walk_of-returns-in-Prefix-clause-exact
 walk_of-returns-in-Prefix-clause-exact t c =
-    steps_of c.with_text-in-Prefix.result c.args.index.now.table.keys (query_of c.args.node.now) (query.Prefix c.in-Prefix.kinds c.in-Prefix.text) c.args.index.now.steps _ _ (ap query_of c.in-Prefix.is ∙ query_of-Prefix c.in-Prefix.kinds c.in-Prefix.text) (none_compared (kinds_in c.in-Prefix.kinds)) c.with_text-in-Prefix.ensures.exact
+    steps_of c.with_text-in-Prefix.result (look_up_steps c.args.index.now.table.keys) (query_of c.args.node.now)
+    (query.Prefix c.in-Prefix.kinds c.in-Prefix.text) c.args.index.now.steps _ _
+    (ap query_of c.in-Prefix.is ∙ query_of-Prefix c.in-Prefix.kinds c.in-Prefix.text)
+    (none_compared (kinds_in c.in-Prefix.kinds)) c.with_text-in-Prefix.ensures.exact
 
 pub walk_of-returns-in_ok-inner-in-Not-clause-exact : goal.walk_of-returns-in_ok-inner-in-Not-clause-exact
 walk_of-returns-in_ok-inner-in-Not-clause-exact t c =
-    steps_of c.others.result c.args.index.now.table.keys (query_of c.args.node.now) (query.Not (query_of c.deref.result.now)) c.args.index.now.steps _ _ (ap query_of c.in-Not.is ∙ query_of-Not c.in-Not.inner ∙ ap (λ (n : Node). query.Not (query_of n)) (sym c.deref.ensures)) refl
+    steps_of c.others.result (look_up_steps c.args.index.now.table.keys) (query_of c.args.node.now)
+    (query.Not (query_of c.deref.result.now)) c.args.index.now.steps _ _
+    (ap query_of c.in-Not.is ∙ query_of-Not c.in-Not.inner ∙ ap (λ (n : Node). query.Not (query_of n))
+    (sym c.deref.ensures)) refl
     (if_always c.others.result c.in_ok-inner-in-Not.ensures.exact)
 
 pub walk_of-returns-then-is_empty-clause-exact : goal.walk_of-returns-then-is_empty-clause-exact
 walk_of-returns-then-is_empty-clause-exact t c =
-    steps_of c.others-then-is_empty.result c.args.index.now.table.keys (query_of c.args.node.now) (query.All (members_of (queries_of c.as_slice.result.now))) c.args.index.now.steps _ _ (ap query_of c.in-All.is ∙ query_of-All c.in-All.members ∙ ap (λ (ns : List Node). query.All (members_of (queries_of ns))) (sym c.as_slice.ensures.value)) refl
+    steps_of c.others-then-is_empty.result (look_up_steps c.args.index.now.table.keys) (query_of c.args.node.now)
+    (query.All (members_of (queries_of c.as_slice.result.now))) c.args.index.now.steps _ _
+    (ap query_of c.in-All.is ∙ query_of-All c.in-All.members ∙ ap
+    (λ (ns : List Node). query.All (members_of (queries_of ns))) (sym c.as_slice.ensures.value)) refl
     (if_always c.others-then-is_empty.result c.in_ok-walks-in-All.ensures.exact)
 
 pub walk_of-returns-else-is_empty-clause-exact : goal.walk_of-returns-else-is_empty-clause-exact
@@ -137,7 +170,8 @@ walk_of-returns-else-is_empty-clause-exact t c =
 
 pub walk_of-returns-in_ok-walks-in-Either-clause-exact : goal.walk_of-returns-in_ok-walks-in-Either-clause-exact
 walk_of-returns-in_ok-walks-in-Either-clause-exact t c =
-    steps_of c.united_in_groups.result c.args.index.now.table.keys (query_of c.args.node.now) (query.Either (members_of (queries_of c.as_slice-in-Either.result.now))) c.args.index.now.steps _ _
+    steps_of c.united_in_groups.result (look_up_steps c.args.index.now.table.keys) (query_of c.args.node.now)
+    (query.Either (members_of (queries_of c.as_slice-in-Either.result.now))) c.args.index.now.steps _ _
     (ap query_of c.in-Either.is ∙ query_of-Either c.in-Either.members ∙ ap (λ (ns : List Node). query.Either (members_of (queries_of ns))) (sym c.as_slice-in-Either.ensures.value)) refl
     (if_always c.united_in_groups.result c.in_ok-walks-in-Either.ensures.exact)
 
@@ -154,8 +188,19 @@ walks_of-loop-node-preserved t c =
           (subst (λ (u : Table). Tells u q c.in_ok-walk.walk.truths) same c.in_ok-walk.ensures.truths) (subst (λ (u : Table). c.in_ok-walk.walk.left ≤ most_left u q) same c.in_ok-walk.ensures.left)
           (subst (λ (u : Table). LooksUp (length u.keys) (look_ups q) c.loop-node.index.steps c.walk_of.new.index.steps) same c.walk_of.ensures.steps);
       exact =
-          member_more c.args.index.now.table.keys q (queries_of (drop i nodes)) (queries_of (drop (i + 1) nodes)) c.args.index.now.steps c.loop-node.index.steps c.walk_of.new.index.steps _ (next_member nodes i c.node-item.result c.loop-node-test.true c.node-item.is)
+          member_more (look_up_steps c.args.index.now.table.keys) (look_up_steps_of_all c.args.index.now.table.keys)
+          c.args.index.now.steps c.loop-node.index.steps _ (λ _ _. refl) q (queries_of (drop i nodes))
+          (queries_of (drop (i + 1) nodes)) c.walk_of.new.index.steps
+          (next_member nodes i c.node-item.result c.loop-node-test.true c.node-item.is)
           (subst (λ (u : Table). c.walk_of.new.index.steps ≡ add_steps c.loop-node.index.steps (look_up_steps u.keys q)) same c.in_ok-walk.ensures.exact) c.loop-node.invariant.exact;
+      runs =
+          member_more (run_finding_steps c.args.index.now.table.keys)
+          (run_finding_steps_of_all c.args.index.now.table.keys)
+          c.args.index.now.run_steps c.loop-node.index.run_steps _ (λ _ _. refl) q (queries_of (drop i nodes))
+          (queries_of (drop (i + 1) nodes)) c.walk_of.new.index.run_steps
+          (next_member nodes i c.node-item.result c.loop-node-test.true c.node-item.is)
+          (subst (λ (u : Table). c.walk_of.new.index.run_steps ≡ add_steps c.loop-node.index.run_steps
+          (run_finding_steps u.keys q)) same c.in_ok-walk.ensures.runs) c.loop-node.invariant.runs;
       formed = subst IsWellFormed (sym c.walk_of.ensures.table) c.loop-node.invariant.formed;
       table = c.walk_of.ensures.table ∙ same;
     }
@@ -187,4 +232,92 @@ walks_of-returns-clause-truths t c =
 pub walks_of-returns-clause-exact : goal.walks_of-returns-clause-exact
 walks_of-returns-clause-exact t c =
     let i : ℕ = c.loop-node.node-index in
-    no_member_more c.args.index.now.table.keys (queries_of (drop i c.args.nodes.now)) c.args.index.now.steps c.loop-node.index.steps _ (no_member c.args.nodes.now i (omega (arith, c.loop-node-test.false))) c.loop-node.invariant.exact
+    no_member_more (look_up_steps c.args.index.now.table.keys) (look_up_steps_of_all c.args.index.now.table.keys)
+    c.args.index.now.steps c.loop-node.index.steps _ refl (queries_of (drop i c.args.nodes.now))
+    (no_member c.args.nodes.now i (omega (arith, c.loop-node-test.false))) c.loop-node.invariant.exact
+
+pub walk_of-returns-in-Any-clause-runs : goal.walk_of-returns-in-Any-clause-runs
+walk_of-returns-in-Any-clause-runs t c =
+    steps_of c.scanned.result (run_finding_steps c.args.index.now.table.keys) (query_of c.args.node.now) query.Any
+    c.args.index.now.run_steps c.args.index.now.run_steps 0 (ap query_of c.in-Any.is ∙ query_of-Any) refl
+    (if_always c.scanned.result (none_taken c.args.index.now.run_steps c.args.index.now.run_steps refl))
+
+pub walk_of-returns-in-Date-clause-runs : goal.walk_of-returns-in-Date-clause-runs
+walk_of-returns-in-Date-clause-runs t c =
+    steps_of c.scanned-in-Date.result (run_finding_steps c.args.index.now.table.keys) (query_of c.args.node.now)
+    (query.Date c.in-Date.range) c.args.index.now.run_steps c.args.index.now.run_steps 0
+    (ap query_of c.in-Date.is ∙ query_of-Date c.in-Date.range) refl
+    (if_always c.scanned-in-Date.result (none_taken c.args.index.now.run_steps c.args.index.now.run_steps refl))
+
+pub walk_of-returns-in-Size-clause-runs : goal.walk_of-returns-in-Size-clause-runs
+walk_of-returns-in-Size-clause-runs t c =
+    steps_of c.scanned-in-Size.result (run_finding_steps c.args.index.now.table.keys) (query_of c.args.node.now)
+    (query.Size c.in-Size.low c.in-Size.high) c.args.index.now.run_steps c.args.index.now.run_steps 0
+    (ap query_of c.in-Size.is ∙ query_of-Size c.in-Size.low c.in-Size.high) refl
+    (if_always c.scanned-in-Size.result (none_taken c.args.index.now.run_steps c.args.index.now.run_steps refl))
+
+pub walk_of-returns-in-Flag-clause-runs : goal.walk_of-returns-in-Flag-clause-runs
+walk_of-returns-in-Flag-clause-runs t c =
+    steps_of c.scanned-in-Flag.result (run_finding_steps c.args.index.now.table.keys) (query_of c.args.node.now)
+    (query.HasFlag c.in-Flag.flag c.in-Flag.wanted) c.args.index.now.run_steps c.args.index.now.run_steps 0
+    (ap query_of c.in-Flag.is ∙ query_of-Flag c.in-Flag.flag c.in-Flag.wanted) refl
+    (if_always c.scanned-in-Flag.result (none_taken c.args.index.now.run_steps c.args.index.now.run_steps refl))
+
+pub walk_of-returns-in-Word-clause-runs : goal.walk_of-returns-in-Word-clause-runs
+walk_of-returns-in-Word-clause-runs t c =
+    steps_of c.with_text.result (run_finding_steps c.args.index.now.table.keys) (query_of c.args.node.now)
+    (query.Word c.in-Word.kinds c.in-Word.text) c.args.index.now.run_steps _ _
+    (ap query_of c.in-Word.is ∙ query_of-Word c.in-Word.kinds c.in-Word.text) (none_compared (kinds_in c.in-Word.kinds))
+    c.with_text.ensures.runs
+
+pub walk_of-returns-in-Part-clause-runs : goal.walk_of-returns-in-Part-clause-runs
+walk_of-returns-in-Part-clause-runs t c =
+    steps_of c.with_text-in-Part.result (run_finding_steps c.args.index.now.table.keys) (query_of c.args.node.now)
+    (query.Part c.in-Part.kinds c.in-Part.text) c.args.index.now.run_steps _ _
+    (ap query_of c.in-Part.is ∙ query_of-Part c.in-Part.kinds c.in-Part.text) refl c.with_text-in-Part.ensures.runs
+
+pub walk_of-returns-in-Prefix-clause-runs : goal.walk_of-returns-in-Prefix-clause-runs
+walk_of-returns-in-Prefix-clause-runs t c =
+    steps_of c.with_text-in-Prefix.result (run_finding_steps c.args.index.now.table.keys) (query_of c.args.node.now)
+    (query.Prefix c.in-Prefix.kinds c.in-Prefix.text) c.args.index.now.run_steps _ _
+    (ap query_of c.in-Prefix.is ∙ query_of-Prefix c.in-Prefix.kinds c.in-Prefix.text) refl
+    c.with_text-in-Prefix.ensures.runs
+
+pub walk_of-returns-in_ok-inner-in-Not-clause-runs : goal.walk_of-returns-in_ok-inner-in-Not-clause-runs
+walk_of-returns-in_ok-inner-in-Not-clause-runs t c =
+    steps_of c.others.result (run_finding_steps c.args.index.now.table.keys) (query_of c.args.node.now)
+    (query.Not (query_of c.deref.result.now)) c.args.index.now.run_steps _ _
+    (ap query_of c.in-Not.is ∙ query_of-Not c.in-Not.inner ∙ ap (λ (n : Node). query.Not (query_of n))
+    (sym c.deref.ensures)) refl
+    (if_always c.others.result c.in_ok-inner-in-Not.ensures.runs)
+
+pub walk_of-returns-then-is_empty-clause-runs : goal.walk_of-returns-then-is_empty-clause-runs
+walk_of-returns-then-is_empty-clause-runs t c =
+    steps_of c.others-then-is_empty.result (run_finding_steps c.args.index.now.table.keys) (query_of c.args.node.now)
+    (query.All (members_of (queries_of c.as_slice.result.now))) c.args.index.now.run_steps _ _
+    (ap query_of c.in-All.is ∙ query_of-All c.in-All.members ∙ ap
+    (λ (ns : List Node). query.All (members_of (queries_of ns))) (sym c.as_slice.ensures.value)) refl
+    (if_always c.others-then-is_empty.result c.in_ok-walks-in-All.ensures.runs)
+
+pub walk_of-returns-else-is_empty-clause-runs : goal.walk_of-returns-else-is_empty-clause-runs
+walk_of-returns-else-is_empty-clause-runs t c =
+    c.in_ok-walks-in-All.ensures.runs ∙ ap
+    (λ (x : Query). add_steps c.args.index.now.run_steps (run_finding_steps c.args.index.now.table.keys x))
+    (sym (ap query_of c.in-All.is ∙ query_of-All c.in-All.members ∙ ap
+    (λ (ns : List Node). query.All (members_of (queries_of ns))) (sym c.as_slice.ensures.value)))
+
+pub walk_of-returns-in_ok-walks-in-Either-clause-runs : goal.walk_of-returns-in_ok-walks-in-Either-clause-runs
+walk_of-returns-in_ok-walks-in-Either-clause-runs t c =
+    steps_of c.united_in_groups.result (run_finding_steps c.args.index.now.table.keys) (query_of c.args.node.now)
+    (query.Either (members_of (queries_of c.as_slice-in-Either.result.now))) c.args.index.now.run_steps _ _
+    (ap query_of c.in-Either.is ∙ query_of-Either c.in-Either.members ∙ ap
+    (λ (ns : List Node). query.Either (members_of (queries_of ns))) (sym c.as_slice-in-Either.ensures.value)) refl
+    (if_always c.united_in_groups.result c.in_ok-walks-in-Either.ensures.runs)
+
+pub walks_of-returns-clause-runs : goal.walks_of-returns-clause-runs
+walks_of-returns-clause-runs t c =
+    let i : ℕ = c.loop-node.node-index in
+    no_member_more (run_finding_steps c.args.index.now.table.keys)
+    (run_finding_steps_of_all c.args.index.now.table.keys)
+    c.args.index.now.run_steps c.loop-node.index.run_steps _ refl (queries_of (drop i c.args.nodes.now))
+    (no_member c.args.nodes.now i (omega (arith, c.loop-node-test.false))) c.loop-node.invariant.runs

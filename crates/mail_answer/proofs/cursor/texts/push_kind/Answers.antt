@@ -7,7 +7,7 @@ use Rattle.mail_answer.proofs.cursor.texts.push_kind.Goals as goal
 
 pub push_list-requires : goal.push_list-requires
 push_list-requires c =
-    subst (λ (n : ℕ). AreNumbers n c.look_up.result) (sym c.message_count-count.ensures)
+    subst (λ (n : ℕ). AreNumbers n c.look_up.result) (sym c.message_count-count.ensures.count)
     (list_numbers c.args.index.now.table c.args.kind c.args.text.now c.look_up.result c.requires c.look_up.ensures.numbers)
 
 pub push_containing-requires : goal.push_containing-requires
@@ -25,6 +25,9 @@ returns-in-Whole-clause-steps c = grind (arith, looks_up_digits)
 pub returns-in-Whole-clause-exact : goal.returns-in-Whole-clause-exact
 returns-in-Whole-clause-exact c = rw c.in-Whole.is c.look_up.ensures.exact
 
+pub returns-in-Whole-clause-runs : goal.returns-in-Whole-clause-runs
+returns-in-Whole-clause-runs c = rw c.in-Whole.is (none_taken c.args.index.now.run_steps _ c.look_up.ensures.runs)
+
 pub returns-in-Within : goal.returns-in-Within
 returns-in-Within c = grind (arith, if_joins, fitting_keys, fitting_left, looks_up_none, none_taken)
 
@@ -41,5 +44,6 @@ returns-in-Front c =
           ap (numbers_passing any_text) c.keys_beginning.ensures.keys ∙ all_left (keys_beginning c.args.kind c.args.text.now c.args.index.now.table.keys) in omega (arith, same));
       steps = looks_up_none (length c.args.index.now.table.keys) c.args.index.now.steps _ c.keys_beginning.ensures.steps;
       exact = none_taken c.args.index.now.steps _ c.keys_beginning.ensures.steps;
+      runs = c.keys_beginning.ensures.runs;
       table = c.keys_beginning.ensures.table;
     })

@@ -1,5 +1,5 @@
 -- `with_text` gives the messages that have a fitting text, kind by kind.
-use Rattle.mail_answer.proofs.Words.{◌≡◌, ◌∙◌, ℕ, Bool, add_steps, compared_by, List, [], ◌∷◌, ◌++◌, length, map, get_or, sym, subst, arith, list_any, texts_with, numbers_fitting, LooksUp, Table, Key, IsWellFormed, cases_lt, both_ways, To, Kind, Text, OwnId, text_kinds, fits, kinds_in, looked_up_by}
+use Rattle.mail_answer.proofs.Words.{◌≡◌, ◌∙◌, ℕ, Bool, add_steps, compared_by, run_compared_by, List, [], ◌∷◌, ◌++◌, length, map, get_or, sym, subst, arith, list_any, texts_with, numbers_fitting, LooksUp, Table, Key, IsWellFormed, cases_lt, both_ways, To, Kind, Text, OwnId, text_kinds, fits, kinds_in, looked_up_by}
 use Rattle.mail_answer.specs.Inside.CursorTexts.{Joins}
 use Rattle.mail_answer.proofs.CursorLaws.Texts.{some_of_all, word_past, kinds_more, kinds_steps, kinds_skip, kinds_next, all_kinds}
 use Rattle.mail_answer.proofs.CursorLaws.LookUpSteps.{if_always, all_compared, compared_more, compared_skip}
@@ -28,6 +28,13 @@ loop-kind-preserved c =
             exact =
                 compared_more (compared_by c.args.fit c.args.text.now keys) c.args.kinds items i (Text To) c.args.index.now.steps c.loop-kind.index.steps w.push_kind.new.index.steps _ c.loop-kind-test.true (sym c.is_in.ensures ∙ w.if-is_in.true)
                 (subst (λ (u : Table). w.push_kind.new.index.steps ≡ add_steps c.loop-kind.index.steps (compared_by c.args.fit c.args.text.now u.keys (get_or items i (Text To)))) same (rw w.as_bytes.ensures at w.push_kind.ensures.exact)) c.loop-kind.invariant.exact;
+            runs =
+                compared_more (run_compared_by c.args.fit c.args.text.now keys) c.args.kinds items i (Text To)
+                c.args.index.now.run_steps c.loop-kind.index.run_steps w.push_kind.new.index.run_steps _
+                c.loop-kind-test.true (sym c.is_in.ensures ∙ w.if-is_in.true)
+                (subst (λ (u : Table). w.push_kind.new.index.run_steps ≡ add_steps c.loop-kind.index.run_steps
+                (run_compared_by c.args.fit c.args.text.now u.keys (get_or items i (Text To)))) same
+                (rw w.as_bytes.ensures at w.push_kind.ensures.runs)) c.loop-kind.invariant.runs;
             table = w.push_kind.ensures.table ∙ same;
           })
       | else-is_in w ↦
@@ -35,6 +42,10 @@ loop-kind-preserved c =
           (record {
             kinds = kinds_skip passes keys (looked_up_by c.args.fit) (kinds_in c.args.kinds) [] c.args.index.now.steps c.args.kinds items i (Text To) c.loop-kind.members.items c.loop-kind.index.steps c.loop-kind-test.true (sym c.is_in.ensures ∙ w.if-is_in.false) c.loop-kind.invariant.kinds;
             exact = compared_skip (compared_by c.args.fit c.args.text.now keys) c.args.kinds items i (Text To) c.args.index.now.steps c.loop-kind.index.steps c.loop-kind.index.steps _ c.loop-kind-test.true (sym c.is_in.ensures ∙ w.if-is_in.false) c.loop-kind.invariant.exact;
+            runs = compared_skip (run_compared_by c.args.fit c.args.text.now keys) c.args.kinds items i (Text To)
+                c.args.index.now.run_steps c.loop-kind.index.run_steps c.loop-kind.index.run_steps _
+                c.loop-kind-test.true
+                (sym c.is_in.ensures ∙ w.if-is_in.false) c.loop-kind.invariant.runs;
             table = same;
           })
     ]
@@ -64,3 +75,10 @@ pub returns-clause-exact : goal.returns-clause-exact
 returns-clause-exact c =
     if_always c.along_some.result
     (all_compared (compared_by c.args.fit c.args.text.now c.args.index.now.table.keys) c.loop-kind.kind-index c.args.kinds c.args.index.now.steps c.loop-kind.index.steps _ c.loop-kind-test.false c.loop-kind.auto.kind-index-end c.loop-kind.invariant.exact)
+
+pub returns-clause-runs : goal.returns-clause-runs
+returns-clause-runs c =
+    if_always c.along_some.result
+    (all_compared (run_compared_by c.args.fit c.args.text.now c.args.index.now.table.keys) c.loop-kind.kind-index
+    c.args.kinds c.args.index.now.run_steps c.loop-kind.index.run_steps _ c.loop-kind-test.false
+    c.loop-kind.auto.kind-index-end c.loop-kind.invariant.runs)

@@ -18,5 +18,6 @@ returns-clause-numbers c = elim c.if-threads.branch [
   | then-threads+in_ok-satisfying+in_ok-numbers w ↦
       let are = w.in_ok-numbers.ensures in
       record { rises = rw (w.source-is, w.into_iter.ensures.rest) are.rises; below = rw (w.source-is, w.into_iter.ensures.rest) (threads_below c.args.index.now w.as_slice.result.now w.in_ok-numbers.numbers.items are) }
-  | else-threads+in_ok-cursor w ↦ rw (w.source-is, w.in_ok-cursor.ensures.numbers) (numbers_chosen c.args.index.now (meaning c.args.query.now))
+  | else-threads+in_ok-cursor w ↦ rw (w.source-is, w.in_ok-cursor.ensures.numbers, c.of-counted.ensures.table)
+      (numbers_chosen c.args.index.now (meaning c.args.query.now))
 ]
