@@ -1,5 +1,6 @@
 -- The words of std and of the definitions that proofs use, from one place.
 pub use Rattle.contract_words.proofs.Sending.{appends-nil, appends_join}
+pub use Rattle.contract_words.specs.Knowledge.{WasKnown}
 pub use Rattle.header_text.specs.Headers.{HeaderField, fields_in, lines_before_empty, lines_within, most_in_header}
 unfoldable pub use Rattle.header_text.specs.Headers.{fields_of}
 pub use Rattle.mail_answer.specs.Answers.{SendsKnown, SendsSpans}

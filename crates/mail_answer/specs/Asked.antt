@@ -1,5 +1,6 @@
 -- In which order the lengths of archives are read, and what is found.
 use Rattle.std.specs.Prelude.{◌≡◌, ◌≢◌, ℕ, ◌+◌, ◌<◌, min, false, List, [], ◌∷◌, length, map, take, IfSome, IfErr, IsTrue, Result, Ok, Err}
+use Rattle.contract_words.specs.Knowledge.{WasKnown}
 use Rattle.mbox_cutter.specs.declared.device.DeviceFault.{DeviceFault}
 use Rattle.mail_index.specs.Tables.{Archive, Table}
 use Rattle.mail_answer.specs.Answers.{fails_by}
@@ -14,10 +15,10 @@ use Rattle.mail_answer.specs.declared.fault.AnswerFaultKind.{AnswerFaultKind}
 use Rattle.mail_answer.specs.declared.fault.AnswerFaultKind.TheVariants.{Stale, Device, OutOfMemory, OutFailed}
 use Rattle.mail_answer.specs.declared.format.Format.TheVariants.{Raw}
 
--- calls of the archives, whether they failed or not, keep what is known of them
+-- After calls of the archives, whether they failed or not, nothing else is known of them than before.
 pub record HoldsArchives {A : Type 0} (g : Ghosts A) (old new : A) : Type 0 where
-  -- each archive has the bytes that it had, if they are known
-  pub held : g.held new ≡ g.held old
+  -- each archive has the bytes that it had, if they are still known
+  pub held : WasKnown (g.held old) (g.held new)
   -- their number is the same
   pub number : g.number new ≡ g.number old
 
@@ -35,10 +36,10 @@ abbrev pub indexed_lengths : List Archive → List ℕ
 indexed_lengths named = map (λ a. a.length) named
 
 -- The lengths of this many archives were read, and each was the one that was indexed. If the bytes of the archives are
--- known, they have these lengths.
+-- still known after that, they have these lengths.
 pub record Agree {A : Type 0} (g : Ghosts A) (named : List Archive) (count : ℕ) (old new : A) : Type 0 where
   pub told : TellLengths g 0 (indexed_lengths (take count named)) old new
-  pub known : IfSome (g.held old) (λ archives. map length (take count archives) ≡ indexed_lengths (take count named))
+  pub known : IfSome (g.held new) (λ archives. map length (take count archives) ≡ indexed_lengths (take count named))
 
 -- The lengths of the archives before this one were read, and agree. Then the length of this one was read, and no other
 -- after it, with this result.
@@ -47,6 +48,8 @@ pub record AsksUpTo {A : Type 0} (g : Ghosts A) (named : List Archive) (n : ℕ)
   pub before : A
   pub agree : Agree g named n old before
   pub last : g.measures before n answer new
+  -- what is known after that call was known before it
+  pub held : WasKnown (g.held before) (g.held new)
 
 -- If there are as many archives as were indexed, their lengths are read, in order, up to the first that is another or
 -- fails.
@@ -67,6 +70,8 @@ IsArchiveOfChosen t s archive = (numbers : List ℕ) × AreChosen (mail_told t) 
 
 -- after lengths that agree
 pub record GoesOnBehind {A : Type 0} (g : Ghosts A) (t : Table) (s : Search) (found new : A) (result : Result ℕ AnswerFault) : Type 0 where
+  -- what is known at the end was known after the lengths
+  pub held : WasKnown (g.held found) (g.held new)
   -- no length is read again
   pub once : g.lengths_asked new ≡ g.lengths_asked found
   -- a raw answer reads nothing more of the archives, and no fault is theirs

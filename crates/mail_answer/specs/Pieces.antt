@@ -1,6 +1,7 @@
 -- What is read of an archive, piece after piece.
 use Rattle.std.specs.Prelude.{◌≡◌, ℕ, ◌+◌, ◌<◌, List, [], ◌∷◌, length, take, IfSome, Result, Ok}
 use Rattle.std.specs.List.{concat}
+use Rattle.contract_words.specs.Knowledge.{WasKnown}
 use Rattle.mbox_cutter.specs.declared.device.DeviceFault.{DeviceFault}
 use Rattle.mail_answer.specs.Archives.{archive_at}
 use Rattle.mail_answer.specs.declared.archives.Archives.{Ghosts}
@@ -10,13 +11,13 @@ abbrev pub TellPieces : {A : Type 0} → Ghosts A → ℕ → ℕ → List (List
 TellPieces g n offset [] old new = new ≡ old
 TellPieces {A} g n offset (piece ∷ pieces) old new = (next : A) × g.reads old n offset (Ok piece) next × TellPieces g n (offset + length piece) pieces next new
 
--- These bytes of an archive were read from its beginning on, in pieces. If its bytes are known, they are its first
--- ones.
+-- These bytes of an archive were read from its beginning on, in pieces. If its bytes are still known after that, they
+-- are its first ones.
 pub record ReadsFront {A : Type 0} (g : Ghosts A) (n : ℕ) (bytes : List ℕ) (old new : A) : Type 0 where
   pub pieces : List (List ℕ)
   pub joined : concat pieces ≡ bytes
   pub told : TellPieces g n 0 pieces old new
-  pub known : IfSome (g.held old) (λ archives. bytes ≡ take (length bytes) (archive_at archives n))
+  pub known : IfSome (g.held new) (λ archives. bytes ≡ take (length bytes) (archive_at archives n))
 
 -- Fewer than `count` bytes were read of an archive, and then a read after them had this result.
 pub record StopsWithin {A : Type 0} (g : Ghosts A) (n count : ℕ) (answer : Result (List ℕ) DeviceFault) (old new : A) : Type 0 where
@@ -25,3 +26,5 @@ pub record StopsWithin {A : Type 0} (g : Ghosts A) (n count : ℕ) (answer : Res
   pub front : ReadsFront g n bytes old before
   pub few : length bytes < count
   pub last : g.reads before n (length bytes) answer new
+  -- what is known after that read was known before it
+  pub held : WasKnown (g.held before) (g.held new)

@@ -4,6 +4,7 @@ use Rattle.std.specs.Option.{option_map_or, option_or}
 use Rattle.std.specs.Str.{bytes_eq}
 use Rattle.sha2.specs.Sha256.{sha256}
 use Rattle.mail_index.specs.Tables.{Archive}
+use Rattle.contract_words.specs.Knowledge.{WasKnown}
 use Rattle.mbox_cutter.specs.declared.device.DeviceFault.{DeviceFault}
 use Rattle.mail_answer.specs.Answers.{kind_of}
 use Rattle.mail_answer.specs.Asked.{FindsLengths}
@@ -56,12 +57,12 @@ ReadEach g n [] old new = new ≡ old
 ReadEach {A} g n (bytes ∷ archives) old new = (next : A) × ReadsFront g n bytes old next × ReadEach g (n + 1) archives next new
 
 -- This many archives were read, each once, and the bytes that were read have the lengths and digests that were indexed.
--- If the bytes of the archives are known, they are the ones that were read.
+-- If the bytes of the archives are still known after that, they are the ones that were read.
 pub record AreRead {A : Type 0} (g : Ghosts A) (named : List Archive) (count : ℕ) (old new : A) : Type 0 where
   pub archives : List (List ℕ)
   pub each : ReadEach g 0 archives old new
   pub verified : AreVerified (take count named) archives
-  pub known : IfSome (g.held old) (λ held. take count held ≡ archives)
+  pub known : IfSome (g.held new) (λ held. take count held ≡ archives)
 
 -- The archives before this one were read in this way. Then this one was read, and no other after it, with this result.
 pub record ReadsUpTo {A : Type 0} (g : Ghosts A) (named : List Archive) (n : ℕ) (Finds : Archive → A → A → Type 0) (old new : A) : Type 0 where
@@ -71,6 +72,8 @@ pub record ReadsUpTo {A : Type 0} (g : Ghosts A) (named : List Archive) (n : ℕ
   pub before : A
   pub read : AreRead g named n old before
   pub last : Finds here before new
+  -- what is known after this one was known before it
+  pub held : WasKnown (g.held before) (g.held new)
 
 -- The archive ends before its length, or that many of its bytes have another digest.
 abbrev pub ReadsOther : {A : Type 0} → Ghosts A → ℕ → Archive → A → A → Type 0
@@ -89,10 +92,11 @@ FindsDigests g named old new (Err Device) = (n : ℕ) × ReadsUpTo g named n (Fa
 FindsDigests g named old new (Err OutOfMemory) = new ≡ old
 FindsDigests g named old new (Err OutFailed) = ⊥
 
--- If the lengths gave a fault, that is the result. If they agree, the digests decide.
+-- If the lengths gave a fault, that is the result. If they agree, the digests decide, and what is known at the end was
+-- known after the lengths.
 abbrev pub GoesOnToDigests : {A T : Type 0} → Ghosts A → List Archive → Result (Unit {0}) AnswerFaultKind → A → A → Result T AnswerFaultKind → Type 0
 GoesOnToDigests g named (Err kind) found new result = (new ≡ found) × (result ≡ Err kind)
-GoesOnToDigests g named (Ok _) found new result = FindsDigests g named found new result
+GoesOnToDigests g named (Ok _) found new result = WasKnown (g.held found) (g.held new) × FindsDigests g named found new result
 
 -- What a call does if there are as many archives as were indexed: it reads all lengths, and then the archives.
 abbrev pub LooksThrough : {A T : Type 0} → Ghosts A → List Archive → A → A → Result T AnswerFaultKind → Type 0

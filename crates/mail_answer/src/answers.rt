@@ -45,18 +45,18 @@ pub fn answer<A: Archives, O: Out>(
     requires out { O.failures out.old < 2 ^ 64 - 1 }
     ensures keeps { HoldsArchives A.Archives archives.old archives.new }
     // What the table answers is written, or a front of it: with its number of messages, whatever the archives hold, and
-    // with its text if their bytes are known or aren't needed.
+    // with its text if their bytes are still known at the end or aren't needed.
     ensures answered { (a : TableAnswer)
-        → IsTableAnswer index.now (search_of query.now threads format) (A.held archives.old) a
+        → IsTableAnswer index.now (search_of query.now threads format) (A.held archives.new) a
         → Answers (O.taken out.old) (O.taken out.new) a result }
     // An mbox answer has bytes for each message, as many as were indexed, and the LFs that close them, whether the
     // archives' bytes are known or not.
     ensures spans { format ≡ Format.Mbox → (numbers : List ℕ)
         → AreChosen (mail_told index.now) (search_of query.now threads format) numbers
         → SendsSpans (O.taken out.old) (O.taken out.new) index.now numbers result }
-    // If the archives' bytes are known: Stale exactly if there are more or fewer archives than were indexed, or one of
-    // them has another length, and then nothing is written.
-    ensures stale { IfSome (A.held archives.old) (λ bytes.
+    // If the archives' bytes are still known at the end: Stale exactly if there are more or fewer archives than were
+    // indexed, or one of them has another length, and then nothing is written.
+    ensures stale { IfSome (A.held archives.new) (λ bytes.
         AnswersStale (O.taken out.old) (O.taken out.new)
         (stale_archive index.now.archives bytes) result) }
     // If there are more or fewer archives than were indexed, the first one too many or missing is stale, and no archive

@@ -4,6 +4,7 @@
 //! archives are read, whether their bytes are known or not (decision 92 in docs/DECISIONS.md).
 ghost use Rattle.std.specs.Prelude.{◌≡◌, ◌<◌, ◌≤◌, ◌-◌, ◌^◌, ℕ, List, Option, Result, length, take, IfOk};
 ghost use Rattle.contract_words.specs.Devices.{Counts};
+ghost use Rattle.contract_words.specs.Knowledge.{WasKnown};
 ghost use Rattle.mbox_cutter.specs.declared.device.DeviceFault.{DeviceFault};
 ghost use Rattle.mail_answer.specs.Archives.{IsCount, IsLength, IsRead, bytes_told};
 
@@ -14,9 +15,10 @@ pub mod verified;
 
 use mbox_cutter::DeviceFault;
 
-/// Archives by their numbers, from 0. No call changes their bytes.
+/// Archives by their numbers, from 0. What is known of their bytes after a call was known before it. If a call returns
+/// something else than the bytes that were supposed, nothing is known of them from then on.
 pub trait Archives {
-    /// The bytes of each archive, if they are known.
+    /// The bytes of each archive, if they are known, and if every call so far agrees with them.
     ghost held: { Self → Option (List (List ℕ)) };
 
     /// The number of archives.
@@ -44,9 +46,9 @@ pub trait Archives {
     fn length(&mut self, n: u32) -> Result<u64, DeviceFault>
         requires below { n < number self.old }
         requires count { failures self.old < 2 ^ 64 - 1 }
-        ensures held { held self.new ≡ held self.old }
+        ensures held { WasKnown (held self.old) (held self.new) }
         ensures number { number self.new ≡ number self.old }
-        ensures bytes { IfOk result (λ bytes. IsLength n bytes (held self.old)) }
+        ensures bytes { IfOk result (λ bytes. IsLength n bytes (held self.new)) }
         ensures measured { measures self.old n result self.new }
         ensures count { Counts result (failures self.old) (failures self.new) };
 
@@ -56,11 +58,11 @@ pub trait Archives {
         requires below { n < number self.old }
         requires room { 0 < length into.old }
         requires count { failures self.old < 2 ^ 64 - 1 }
-        ensures held { held self.new ≡ held self.old }
+        ensures held { WasKnown (held self.old) (held self.new) }
         ensures number { number self.new ≡ number self.old }
         ensures bound { IfOk result (λ bytes. bytes ≤ length into.new) }
         ensures bytes { IfOk result (λ bytes. IsRead n offset (take bytes into.new)
-            (held self.old)) }
+            (held self.new)) }
         ensures asked { lengths_asked self.new ≡ lengths_asked self.old }
         ensures read { reads self.old n offset (bytes_told result into.new) self.new }
         ensures count { Counts result (failures self.old) (failures self.new) };

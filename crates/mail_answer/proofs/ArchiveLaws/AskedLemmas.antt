@@ -1,5 +1,6 @@
 -- Archives whose lengths are read in order agree with the index, one archive after another.
-use Rattle.mail_answer.proofs.Words.{◌≡◌, ℕ, ◌+◌, ◌<◌, List, [], ◌∷◌, ◌++◌, map, length, length-take, take, take-add, drop, drop-cons, Option, IfSome, Ok, ap, sym, ◌∙◌, subst, arith, length-map, map-append, Archive, archive_at, TellLengths, indexed_lengths, Agree, Ghosts}
+use Rattle.mail_answer.proofs.Words.{◌≡◌, ℕ, ◌+◌, ◌<◌, List, [], ◌∷◌, ◌++◌, map, length, length-take, take, take-add, drop, drop-cons, Option, IfSome, Ok, ap, sym, ◌∙◌, subst, arith, length-map, map-append, WasKnown, Archive, archive_at, TellLengths, indexed_lengths, Agree, Ghosts}
+use Rattle.mail_answer.proofs.ArchiveLaws.KnowledgeLemmas.{some_later}
 
 -- the length of one more archive was read
 tell_more : {A : Type 0} (g : Ghosts A) (n : ℕ) (lengths : List ℕ) (l : ℕ) (old before new : A) → TellLengths g n lengths old before → g.measures before (n + length lengths) (Ok l) new → TellLengths g n (lengths ++ l ∷ []) old new
@@ -18,12 +19,14 @@ known_more held named n number a rest h h2 h3 h4 h5 = grind (arith, map_one_more
 
 -- one archive more agrees
 pub agree_more : {A : Type 0} (g : Ghosts A) (named : List Archive) (n number : ℕ) (a : Archive) (rest : List Archive) (old before new : A) → n < number → number ≡ length named → drop n named ≡ a ∷ rest
-    → IfSome (g.held old) (λ archives. length archives ≡ number) → IfSome (g.held old) (λ archives. a.length ≡ length (archive_at archives n))
+    → WasKnown (g.held before) (g.held new) → IfSome (g.held new) (λ archives. length archives ≡ number)
+    → IfSome (g.held new) (λ archives. a.length ≡ length (archive_at archives n))
     → g.measures before n (Ok a.length) new → Agree g named n old before → Agree g named (n + 1) old new
-agree_more {A} g named n number a rest old before new h as_many e count known measured so_far =
+agree_more {A} g named n number a rest old before new h as_many e was count known measured so_far =
     let many : 0 + length (indexed_lengths (take n named)) ≡ n = omega (arith, length-map (take n named) (λ (t : Archive). t.length), length-take n named, h, as_many) in
     let next : g.measures before (0 + length (indexed_lengths (take n named))) (Ok a.length) new = subst (λ (k : ℕ). g.measures before k (Ok a.length) new) (sym many) measured in
     record {
       told = subst (λ (lengths : List ℕ). TellLengths g 0 lengths old new) (sym (map_one_more (λ (t : Archive). t.length) named n a rest e)) (tell_more g 0 (indexed_lengths (take n named)) a.length old before new so_far.told next);
-      known = known_more (g.held old) named n number a rest h e count known so_far.known;
+      known = known_more (g.held new) named n number a rest h e count known
+          (some_later (λ archives. map length (take n archives) ≡ indexed_lengths (take n named)) (g.held before) (g.held new) was so_far.known);
     }

@@ -1,7 +1,8 @@
 -- The digest of an archive that is read piece by piece is that of all its bytes, because the pieces are its front.
-use Rattle.mail_answer.proofs.Words.{◌≡◌, ℕ, ◌+◌, List, [], ◌∷◌, ◌++◌, append-nil, length, length-append, take, take-add, take_all, Option, Some, IfSome, Ok, ap, ap₂, sym, ◌∙◌, le-leb, subst, arith, concat-append, concat, sha256, archive_at, IsRead, front_digest, AbsorbsPart, ReadsDigest, TellPieces, ReadsFront, Ghosts}
+use Rattle.mail_answer.proofs.Words.{◌≡◌, ℕ, ◌+◌, List, [], ◌∷◌, ◌++◌, append-nil, length, length-append, take, take-add, take_all, Option, Some, IfSome, Ok, ap, ap₂, sym, ◌∙◌, le-leb, subst, arith, concat-append, concat, sha256, WasKnown, archive_at, IsRead, front_digest, AbsorbsPart, ReadsDigest, TellPieces, ReadsFront, Ghosts}
 use Rattle.sha2.specs.Hashers.{Holds256}
 use Rattle.sha2.specs.declared.Sha256.{Sha256}
+use Rattle.mail_answer.proofs.ArchiveLaws.KnowledgeLemmas.{some_later}
 
 -- The digest has this many bytes: those of an archive before this offset. They were read since `first`.
 pub record AbsorbedTo {A : Type 0} (g : Ghosts A) (archive at : ℕ) (first now : A) (h : Sha256) : Type 0 where
@@ -27,14 +28,15 @@ front_at : (held : Option (List (List ℕ))) (archive at : ℕ) (bytes : List �
     → IfSome held (λ archives. bytes ≡ take at (archive_at archives archive))
 front_at held archive at bytes number known = subst (λ (k : ℕ). IfSome held (λ archives. bytes ≡ take k (archive_at archives archive))) number known
 
-pub more_absorbed : {A : Type 0} (g : Ghosts A) (archive at count : ℕ) (first before now : A) (h k : Sha256) → AbsorbedTo g archive at first before h
-    → AbsorbsPart g archive at count (g.held first) before now h k → AbsorbedTo g archive (at + count) first now k
-more_absorbed {A} g archive at count first before now h k so_far next =
+pub more_absorbed : {A : Type 0} (g : Ghosts A) (archive at count : ℕ) (first before now : A) (h k : Sha256) → WasKnown (g.held before) (g.held now)
+    → AbsorbedTo g archive at first before h → AbsorbsPart g archive at count (g.held now) before now h k → AbsorbedTo g archive (at + count) first now k
+more_absorbed {A} g archive at count first before now h k was so_far next =
     let pieces : List (List ℕ) = so_far.read.pieces in
     let more : List ℕ = next.bytes in
     let bytes : List ℕ = so_far.bytes ++ more in
     let number : length bytes ≡ at + count = omega (arith, length-append so_far.bytes more, so_far.number, next.number) in
-    let front = more_in_front (g.held first) archive at count so_far.bytes more next.number (front_at (g.held first) archive at so_far.bytes so_far.number so_far.read.known) next.read in
+    let known = some_later (λ archives. so_far.bytes ≡ take (length so_far.bytes) (archive_at archives archive)) (g.held before) (g.held now) was so_far.read.known in
+    let front = more_in_front (g.held now) archive at count so_far.bytes more next.number (front_at (g.held now) archive at so_far.bytes so_far.number known) next.read in
     let place : at ≡ 0 + length (concat pieces) = omega (arith, so_far.number, ap length so_far.read.joined) in
     record {
       bytes = bytes;
@@ -44,7 +46,7 @@ more_absorbed {A} g archive at count first before now h k so_far next =
         pieces = pieces ++ more ∷ [];
         joined = concat-append pieces (more ∷ []) ∙ ap₂ (λ xs ys. xs ++ ys) so_far.read.joined (append-nil more);
         told = more_pieces g archive 0 pieces more first before now so_far.read.told (subst (λ (o : ℕ). g.reads before archive o (Ok more) now) place next.told);
-        known = subst (λ (n : ℕ). IfSome (g.held first) (λ archives. bytes ≡ take n (archive_at archives archive))) (sym number) front;
+        known = subst (λ (n : ℕ). IfSome (g.held now) (λ archives. bytes ≡ take n (archive_at archives archive))) (sym number) front;
       };
     }
 

@@ -1,16 +1,18 @@
 -- Archives are verified exactly if they are those that were indexed, because each digest is compared with the indexed
 -- one.
-use Rattle.mail_answer.proofs.Words.{◌≡◌, ℕ, zero, suc, ◌+◌, ◌<◌, Bool, true, false, ◌==◌, cond, List, [], ◌∷◌, ◌++◌, map, length, length-take, take, take-add, take_all, drop, drop-cons, Option, None, Some, IfSome, bytes_eq, refl, ap, ap₂, sym, ◌∙◌, subst, add-one, Result, Ok, Err, OnOk, arith, eqb-true, length-map, map-append, bytes_eq-Decides, AllByRecursion, option_map_or, option_or, sha256, Archive, IsArchive, archive_length, archive_at, front_digest, ReadsDigest, ReadsFront, first_changed, stale_archive, TellsStale, has_digest, first_altered, unverified_archive, AreVerified, TellsVerified, ReadEach, AreRead, FindsDigests, Ghosts, AnswerFaultKind, Stale, Device, OutOfMemory, OutFailed}
+use Rattle.mail_answer.proofs.Words.{◌≡◌, ℕ, zero, suc, ◌+◌, ◌<◌, Bool, true, false, ◌==◌, cond, List, [], ◌∷◌, ◌++◌, map, length, length-take, take, take-add, take_all, drop, drop-cons, Option, None, Some, IfSome, bytes_eq, refl, ap, ap₂, sym, ◌∙◌, subst, inl, inr, add-one, Result, Ok, Err, OnOk, arith, eqb-true, length-map, map-append, bytes_eq-Decides, AllByRecursion, option_map_or, option_or, sha256, WasKnown, Archive, IsArchive, archive_length, archive_at, front_digest, ReadsDigest, ReadsFront, first_changed, stale_archive, TellsStale, has_digest, first_altered, unverified_archive, AreVerified, TellsVerified, ReadEach, AreRead, FindsDigests, Ghosts, AnswerFaultKind, Stale, Device, OutOfMemory, OutFailed}
 use Rattle.std.proofs.lemmas.Bool.{eq-eqb}
 use Rattle.std.specs.Option.{option_eq}
 use Rattle.std.specs.Prelude.{IfErr}
 use Rattle.std.specs.Result.{MatchResult, IsErrAnd}
 use Rattle.mail_answer.specs.Answers.{fails_by, kind_of}
 use Rattle.mail_answer.specs.Faults.{has_fault, is_of_output}
+use Rattle.mail_answer.specs.Verified.{ReadsOther}
 use Rattle.mail_answer.specs.declared.fault.AnswerFault.{AnswerFault}
 use Rattle.mail_index.specs.Versions.{IsDigest}
 use Rattle.mail_answer.proofs.ArchiveLaws.DigestLemmas.{whole_digest}
 use Rattle.mail_answer.proofs.ArchiveLaws.IndexedLemmas.{same_number, unchanged_length}
+use Rattle.mail_answer.proofs.ArchiveLaws.KnowledgeLemmas.{some_later}
 
 -- what follows from a test that succeeded
 tested : (b : Bool) (next : Option ℕ) (n : ℕ) → cond b next (Some n) ≡ None → (b ≡ true) × (next ≡ None)
@@ -92,6 +94,10 @@ fresh_length : (named : List Archive) (archives : List (List ℕ)) (n : ℕ) (a 
     → (length archives ≡ length named) × (length (archive_at archives n) ≡ a.length)
 fresh_length named archives n a rest fresh h e = grind (arith, same_number, unchanged_length, named_length)
 
+has_is : (digest : Option (List ℕ)) (d : List ℕ) → option_map_or (λ x. bytes_eq x d) digest false ≡ option_eq bytes_eq digest (Some d)
+has_is None d = refl
+has_is (Some x) d = refl
+
 -- so the bytes that were read of its front decide whether the digest is the indexed one
 pub told_next : (named : List Archive) (held : Option (List (List ℕ))) (n : ℕ) (a : Archive) (rest : List Archive) (read : Option (List ℕ)) → n < length named → drop n named ≡ a ∷ rest
     → IfSome held (λ archives. stale_archive named archives ≡ None) → UnalteredTo named held n (drop n named) → IfSome held (λ archives. read ≡ front_digest a.length (archive_at archives n))
@@ -102,10 +108,13 @@ told_next named (Some archives) n a rest read h e fresh so_far told =
     so_far ∙ ap (λ t. first_altered n t (drop n archives)) e ∙ altered_next n a rest archives (omega (arith, as_long.0, h))
     ∙ ap (λ b. cond b (first_altered (n + 1) rest (drop (n + 1) archives)) (Some n))
     (has_is a.digest (sha256 (archive_at archives n)) ∙ ap (option_eq bytes_eq a.digest) (sym (told ∙ whole_digest (archive_at archives n) a.length as_long.1)))
-  where
-    has_is : (digest : Option (List ℕ)) (d : List ℕ) → option_map_or (λ x. bytes_eq x d) digest false ≡ option_eq bytes_eq digest (Some d)
-    has_is None d = refl
-    has_is (Some x) d = refl
+
+-- the archive that was read isn't the one that was indexed
+pub other_read : {A : Type 0} (g : Ghosts A) (n : ℕ) (a : Archive) (read : Option (List ℕ)) (before new : A) → option_eq bytes_eq a.digest read ≡ false
+    → ReadsDigest g n a.length before new read → ReadsOther g n a before new
+other_read g n a None before new other told = inl told
+other_read g n a (Some d) before new other told =
+    inr (told.0, told.1, told.2, has_is a.digest (sha256 told.0) ∙ ap (λ e. option_eq bytes_eq a.digest (Some e)) (sym told.3) ∙ other)
 
 -- the result is decided by digests if no archive is stale
 pub told_by_digests : {T : Type 0} (named : List Archive) (held : Option (List (List ℕ))) (r : Result T AnswerFaultKind) → IfSome held (λ archives. stale_archive named archives ≡ None)
@@ -152,9 +161,9 @@ same_read g n count (Some d) (Some e) before new some same told = (told.0, told.
 
 -- one more archive has the indexed digest
 pub more_read : {A : Type 0} (g : Ghosts A) (named : List Archive) (n : ℕ) (a : Archive) (rest : List Archive) (read : Option (List ℕ)) (old before new : A) → n < length named → drop n named ≡ a ∷ rest
-    → AllByRecursion (IsArchive 2) named → IfSome (g.held old) (λ archives. stale_archive named archives ≡ None) → g.held before ≡ g.held old → option_eq bytes_eq a.digest read ≡ true
+    → AllByRecursion (IsArchive 2) named → IfSome (g.held new) (λ archives. stale_archive named archives ≡ None) → WasKnown (g.held before) (g.held new) → option_eq bytes_eq a.digest read ≡ true
     → ReadsDigest g n a.length before new read → AreRead g named n old before → AreRead g named (n + 1) old new
-more_read {A} g named n a rest read old before new h e each fresh kept same told so_far =
+more_read {A} g named n a rest read old before new h e each fresh was same told so_far =
     let one = same_read g n a.length a.digest read before new (λ none. omega (arith, subst (IsDigest 2) none (named_archive 2 named n a rest each e).2)) same told in
     let bytes : List ℕ = one.0 in
     let archives : List (List ℕ) = so_far.archives in
@@ -169,7 +178,8 @@ more_read {A} g named n a rest read old before new h e each fresh kept same told
         digests = ap (map (λ (t : Archive). t.digest)) more ∙ map-append (λ (t : Archive). t.digest) (take n named) (a ∷ []) ∙ ap₂ (λ xs ys. xs ++ ys) so_far.verified.digests (ap (λ d. d ∷ []) one.3)
             ∙ sym (map-append (λ (bytes : List ℕ). Some (sha256 bytes)) archives (bytes ∷ []));
       };
-      known = whole_known named (g.held old) n a rest bytes archives fresh h e one.2 (subst (λ (held : Option (List (List ℕ))). IfSome held (λ archives. bytes ≡ take (length bytes) (archive_at archives n))) kept one.1.known) so_far.known;
+      known = whole_known named (g.held new) n a rest bytes archives fresh h e one.2 one.1.known
+          (some_later (λ held. take n held ≡ archives) (g.held before) (g.held new) was so_far.known);
     }
 
 pub all_read : {A : Type 0} (g : Ghosts A) (named : List Archive) (n : ℕ) (old new : A) → n ≡ length named → AreRead g named n old new → AreRead g named (length named) old new

@@ -3,6 +3,7 @@ use Rattle.mail_answer.proofs.Words.{◌≡◌, ℕ, List, [], Option, Result, O
 use Rattle.std.specs.Result.{IsErrAnd}
 use Rattle.mail_answer.specs.declared.fault.AnswerFault.{AnswerFault}
 use Rattle.mail_answer.specs.declared.output.answer_writer.AnswerWriter.{AnswerWriter}
+use Rattle.mail_answer.proofs.ArchiveLaws.KnowledgeLemmas.{some_later}
 use Rattle.mail_answer.proofs.OutputLaws.EveryAnswer.{one-choice}
 use Rattle.mail_answer.proofs.OutputLaws.SheetLemmas.{some_text}
 use Rattle.mail_answer.proofs.OutputLaws.SpanWrites.{some_spans}
@@ -35,4 +36,4 @@ spans_sent t s taken taken' r xs are sent numbers chosen = subst (λ (ns : List 
 -- after a message, the next one can be written
 pub still_ready : {A O : Type 0} (g : Ghosts A) (h : OutGhosts O) (w w' : AnswerWriter) (a a' : A) (o o' : O) → IsReady g h w a o → IsSameAnswer w w' → KeepsArchives g a a'
     → g.failures a' ≡ g.failures a → h.failures o' ≡ h.failures o → IsReady g h w' a' o'
-still_ready g h w w' a a' o o' ready same keeps archives_count out_count = grind arith
+still_ready g h w w' a a' o o' ready same keeps archives_count out_count = grind (arith, some_later)

@@ -1,6 +1,7 @@
 -- What a call does to the archives that it reads and to the output that it writes to.
 use Rattle.std.specs.Prelude.{◌≡◌, ℕ, List, length, false, None, IfSome, Result}
 use Rattle.contract_words.specs.Devices.{Counted}
+use Rattle.contract_words.specs.Knowledge.{WasKnown}
 use Rattle.mbox_cutter.specs.declared.device.Out.{Ghosts as OutGhosts}
 use Rattle.mail_index.specs.Tables.{Archive}
 use Rattle.mail_answer.specs.Faults.{has_fault, is_of_archives, is_of_output, is_stale}
@@ -13,9 +14,9 @@ pub record AreAsIndexed {A : Type 0} (g : Ghosts A) (indexed : List Archive) (a 
   pub number : g.number a ≡ length indexed
   pub fresh : IfSome (g.held a) (λ bytes. stale_archive indexed bytes ≡ None)
 
--- reads alone keep what is known of the archives
+-- After reads alone, nothing else is known of the archives than before.
 pub record KeepsArchives {A : Type 0} (g : Ghosts A) (old new : A) : Type 0 where
-  pub held : g.held new ≡ g.held old
+  pub held : WasKnown (g.held old) (g.held new)
   pub number : g.number new ≡ g.number old
   -- no length was read
   pub asked : g.lengths_asked new ≡ g.lengths_asked old
@@ -25,8 +26,8 @@ pub record ReadsArchives {A T : Type 0} (g : Ghosts A) (old new : A) (result : R
   pub keeps : KeepsArchives g old new
   -- their count of failures rises by one if their failure is the fault, and stays otherwise
   pub count : Counted (has_fault is_of_archives result) (g.failures old) (g.failures new)
-  -- none is stale, if their bytes are known
-  pub fresh : IfSome (g.held old) (λ _. has_fault is_stale result ≡ false)
+  -- none is stale, if their bytes are still known
+  pub fresh : IfSome (g.held new) (λ _. has_fault is_stale result ≡ false)
 
 -- an output was written to, and this many bytes have been sent since the answer began
 pub record WritesOut {O T : Type 0} (g : OutGhosts O) (sent : ℕ) (old new : O) (result : Result T AnswerFaultKind) : Type 0 where

@@ -58,8 +58,8 @@ LeavesArchives format old new result = format ≡ Raw → (has_fault is_of_archi
 -- what writing an answer does to archives that have the lengths that were indexed
 pub record AnswersOver {A : Type 0} (g : Ghosts A) (format : Format) (old new : A) (result : Result ℕ AnswerFault) : Type 0 where
   pub keeps : KeepsArchives g old new
-  -- none is stale, if their bytes are known
-  pub fresh : IfSome (g.held old) (λ _. fails_by is_stale result ≡ false)
+  -- none is stale, if their bytes are still known
+  pub fresh : IfSome (g.held new) (λ _. fails_by is_stale result ≡ false)
   -- their count of failures rises by one if their failure is the fault, and stays otherwise
   pub count : Counted (fails_by is_of_archives result) (g.failures old) (g.failures new)
   -- a raw answer reads nothing of them, and no fault is theirs

@@ -1,6 +1,7 @@
 //! Archives that fail once, for tests.
 ghost use Rattle.std.specs.Prelude.{◌≡◌, ◌≢◌, ◌<◌, ◌≤◌, ◌-◌, ◌+◌, ◌^◌, length, take, nat_eq, IfOk, IsErr};
 ghost use Rattle.contract_words.specs.Devices.{Counted, Counts};
+ghost use Rattle.contract_words.specs.Knowledge.{WasKnown};
 ghost use Rattle.mail_answer.specs.Archives.{IsLength, IsRead, bytes_told};
 
 use crate::archives::Archives;
@@ -66,9 +67,9 @@ impl<A: Archives + Drop> Archives for FailAt<A> {
     fn length(&mut self, n: u32) -> Result<u64, DeviceFault>
         requires below { n < A.number self.old.inner }
         requires count { A.failures self.old.inner + self.old.failures < 2 ^ 64 - 1 }
-        ensures held { A.held self.new.inner ≡ A.held self.old.inner }
+        ensures held { WasKnown (A.held self.old.inner) (A.held self.new.inner) }
         ensures number { A.number self.new.inner ≡ A.number self.old.inner }
-        ensures bytes { IfOk result (λ bytes. IsLength n bytes (A.held self.old.inner)) }
+        ensures bytes { IfOk result (λ bytes. IsLength n bytes (A.held self.new.inner)) }
         ensures count { Counts result (A.failures self.old.inner + self.old.failures)
             (A.failures self.new.inner + self.new.failures) }
         ensures fails { self.old.fail_at ≡ 1 → IsErr result × (self.new.inner ≡ self.old.inner) }
@@ -88,11 +89,11 @@ impl<A: Archives + Drop> Archives for FailAt<A> {
         requires below { n < A.number self.old.inner }
         requires room { 0 < length into.old }
         requires count { A.failures self.old.inner + self.old.failures < 2 ^ 64 - 1 }
-        ensures held { A.held self.new.inner ≡ A.held self.old.inner }
+        ensures held { WasKnown (A.held self.old.inner) (A.held self.new.inner) }
         ensures number { A.number self.new.inner ≡ A.number self.old.inner }
         ensures bound { IfOk result (λ bytes. bytes ≤ length into.new) }
         ensures bytes { IfOk result (λ bytes. IsRead n offset (take bytes into.new)
-            (A.held self.old.inner)) }
+            (A.held self.new.inner)) }
         ensures count { Counts result (A.failures self.old.inner + self.old.failures)
             (A.failures self.new.inner + self.new.failures) }
         ensures fails { self.old.fail_at ≡ 1 → IsErr result × (self.new.inner ≡ self.old.inner) }

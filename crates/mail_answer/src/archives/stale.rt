@@ -17,7 +17,7 @@ pub(crate) fn check_archives<A: Archives>(
 ) -> Result<(), AnswerFaultKind>
     requires { A.failures archives.old < 2 ^ 64 - 1 }
     ensures keeps { HoldsArchives A.Archives archives.old archives.new }
-    ensures stale { IfSome (A.held archives.old) (λ bytes. TellsStale
+    ensures stale { IfSome (A.held archives.new) (λ bytes. TellsStale
         (stale_archive index.now.archives bytes) result) }
     ensures same_count { OnOk result (A.number archives.old ≡ length index.now.archives) }
     ensures other_count { A.number archives.old ≢ length index.now.archives

@@ -36,7 +36,7 @@ fn read_digest<A: Archives>(
     requires count { A.failures archives.old < 2 ^ 64 - 1 }
     ensures keeps { KeepsArchives A.Archives archives.old archives.new }
     ensures digest { IfOk result
-        (λ digest. IfSome (A.held archives.old)
+        (λ digest. IfSome (A.held archives.new)
         (λ bytes. digest ≡ front_digest indexed_length (archive_at bytes archive))) }
     ensures read { IfOk result
         (λ digest. ReadsDigest A.Archives archive indexed_length archives.old archives.new digest) }
@@ -77,7 +77,7 @@ fn check_digests<A: Archives>(
     requires room { 0 < length buffer.old }
     requires count { A.failures archives.old < 2 ^ 64 - 1 }
     ensures keeps { KeepsArchives A.Archives archives.old archives.new }
-    ensures altered { IfSome (A.held archives.old)
+    ensures altered { IfSome (A.held archives.new)
         (λ bytes. TellsStale (first_altered 0 index.now.archives bytes) result) }
     ensures found { FindsDigests A.Archives index.now.archives archives.old archives.new result }
     ensures below { IfErr result (λ kind. IfStale kind (λ n. n < length index.now.archives)) }
@@ -114,7 +114,7 @@ pub fn verify<A: Archives>(
     requires version { index.now.version ≡ 2 }
     requires archives { A.failures archives.old < 2 ^ 64 - 1 }
     ensures keeps { HoldsArchives A.Archives archives.old archives.new }
-    ensures verified { IfSome (A.held archives.old)
+    ensures verified { IfSome (A.held archives.new)
         (λ bytes. TellsVerified index.now.archives bytes (kind_of result)) }
     // Whether the bytes are known or not: the bytes that were read of each archive have the length and the digest that
     // were indexed.

@@ -66,7 +66,7 @@ impl<'a> AnswerWriter<'a> {
         requires ready { IsReady A.Archives O.Out self.old archives.old out.old }
         requires below { n < length self.old.places.table.messages }
         ensures same { IsSameAnswer self.old self.new }
-        ensures message { WritesMessage (O.taken out.old) (O.taken out.new) (A.held archives.old) n
+        ensures message { WritesMessage (O.taken out.old) (O.taken out.new) (A.held archives.new) n
             self.old self.new result }
         ensures archives { ReadsArchives A.Archives archives.old archives.new result }
         ensures raw { LeavesArchives self.old.format archives.old archives.new result }
@@ -98,7 +98,7 @@ impl<'a> AnswerWriter<'a> {
     ) -> Result<u64, AnswerFaultKind>
         requires ready { IsReady A.Archives O.Out self.old archives.old out.old }
         requires numbers { AreNumbers (length self.old.places.table.messages) numbers.old }
-        ensures messages { WritesMessages (O.taken out.old) (O.taken out.new) (A.held archives.old)
+        ensures messages { WritesMessages (O.taken out.old) (O.taken out.new) (A.held archives.new)
             numbers.old self.old self.new result }
         ensures count { IfOk result
             (λ count. (count ≡ length numbers.old) × (self.new.sheet.text ≡ [])) }
@@ -130,7 +130,7 @@ impl<'a> AnswerWriter<'a> {
         requires ready { IsReady A.Archives O.Out self.old archives.old out.old }
         requires begun { IsBegun self.old }
         requires numbers { AreNumbers (length self.old.places.table.messages) numbers.old }
-        ensures messages { SendsMessages (O.taken out.old) (O.taken out.new) (A.held archives.old)
+        ensures messages { SendsMessages (O.taken out.old) (O.taken out.new) (A.held archives.new)
             numbers.old self.old result }
         ensures archives { AnswersOver A.Archives self.old.format
             archives.old archives.new result }

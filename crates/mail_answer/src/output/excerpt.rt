@@ -100,7 +100,7 @@ pub(crate) fn push_excerpt<A: Archives, O: Out>(
     ensures archives { ReadsArchives A.Archives archives.old archives.new result }
     ensures same { places.new.table ≡ places.old.table }
     ensures writes { Writes (O.taken out.old) (O.taken out.new) sheet.old sheet.new
-        (known_message Excerpt places.old.table (A.held archives.old) n) result }
+        (known_message Excerpt places.old.table (A.held archives.new) n) result }
     ensures out { WritesOut O.Out sheet.new.sent out.old out.new result }
     ensures stale { IfErr result (λ kind. IfStale kind
         (λ archive. archive ≡ (record_at places.old.table.messages n).archive)) }

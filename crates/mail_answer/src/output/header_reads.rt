@@ -24,11 +24,11 @@ fn read_line<A: Archives>(
     requires inside { IsInside (A.number archives.old) (A.held archives.old) reader.old }
     requires count { A.failures archives.old < 2 ^ 64 - 1 }
     ensures archives { ReadsArchives A.Archives archives.old archives.new result }
-    ensures inside { OnOk result (IsInside (A.number archives.old) (A.held archives.old)
+    ensures inside { OnOk result (IsInside (A.number archives.new) (A.held archives.new)
         reader.new) }
     ensures fields { IfOk result (λ taken. (fields : List HeaderField)
-        → WillHaveFields (coming (A.held archives.old) reader.old) header.old fields
-        → HasFieldsAfter taken (coming (A.held archives.old) reader.new) header.new fields) }
+        → WillHaveFields (coming (A.held archives.new) reader.old) header.old fields
+        → HasFieldsAfter taken (coming (A.held archives.new) reader.new) header.new fields) }
     ensures archive { OnOk result (reader.new.archive ≡ reader.old.archive) }
     ensures less { IfOk result (λ taken. taken ≡ Taken.More
         → coming_count reader.new < coming_count reader.old) }
@@ -55,7 +55,7 @@ pub(crate) fn read_header<A: Archives>(
         (span_reading message) }
     requires count { A.failures archives.old < 2 ^ 64 - 1 }
     ensures archives { ReadsArchives A.Archives archives.old archives.new result }
-    ensures fields { IfOk result (λ header. IfSome (A.held archives.old)
+    ensures fields { IfOk result (λ header. IfSome (A.held archives.new)
         (λ bytes. HasFields header (fields_of (drop 1 (lines (span bytes message)))))) }
     ensures own { has_fault is_of_output result ≡ false }
     ensures stale { IfErr result (λ kind. IfStale kind (λ n. n ≡ message.archive)) }

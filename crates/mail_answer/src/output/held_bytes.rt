@@ -98,7 +98,7 @@ impl HeldBytes {
         requires count { A.failures archives.old < 2 ^ 64 - 1 }
         ensures keeps { KeepsArchives A.Archives archives.old archives.new }
         ensures bound { IfOk result (λ n. n ≤ most) }
-        ensures bytes { IfOk result (λ n. ReadsBehind archive offset n (A.held archives.old)
+        ensures bytes { IfOk result (λ n. ReadsBehind archive offset n (A.held archives.new)
             self.old self.new) }
         ensures refused { OnErr result (self.new ≡ self.old) }
         ensures count { Counted (has_fault is_of_archives result) (A.failures archives.old)
@@ -107,7 +107,7 @@ impl HeldBytes {
         ensures stale { IfErr result (λ kind. IfStale kind (λ n. n ≡ archive)) }
         ensures unread { IfErr result (λ kind. kind ≡ AnswerFaultKind.OutOfMemory
             → archives.new ≡ archives.old) }
-        ensures fresh { IfSome (A.held archives.old) (λ bytes. offset < length
+        ensures fresh { IfSome (A.held archives.new) (λ bytes. offset < length
             (archive_at bytes archive) → has_fault is_stale result ≡ false) }
     {
         make_room(&mut self.room, self.count, most)?;
@@ -155,7 +155,7 @@ fn read_behind<A: Archives>(
     ensures bound { IfOk result (λ n. n ≤ most) }
     ensures room { length room.new ≡ length room.old }
     ensures same { take held room.new ≡ take held room.old }
-    ensures bytes { IfOk result (λ n. ReadsTail archive offset held n (A.held archives.old)
+    ensures bytes { IfOk result (λ n. ReadsTail archive offset held n (A.held archives.new)
         room.old room.new) }
     ensures count { Counts result (A.failures archives.old) (A.failures archives.new) }
 {

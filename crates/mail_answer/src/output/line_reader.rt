@@ -76,11 +76,11 @@ impl LineReader {
         requires more { 0 < self.old.left }
         requires count { A.failures archives.old < 2 ^ 64 - 1 }
         ensures archives { ReadsArchives A.Archives archives.old archives.new result }
-        ensures inside { OnOk result (IsInside (A.number archives.old) (A.held archives.old)
+        ensures inside { OnOk result (IsInside (A.number archives.new) (A.held archives.new)
             self.new) }
         ensures archive { OnOk result (self.new.archive ≡ self.old.archive) }
-        ensures coming { OnOk result (coming (A.held archives.old) self.new
-            ≡ coming (A.held archives.old) self.old) }
+        ensures coming { OnOk result (coming (A.held archives.new) self.new
+            ≡ coming (A.held archives.new) self.old) }
         ensures as_many { OnOk result (coming_count self.new ≡ coming_count self.old) }
         ensures less { OnOk result (self.new.left < self.old.left) }
         ensures own { has_fault is_of_output result ≡ false }
@@ -103,14 +103,14 @@ impl LineReader {
         requires inside { IsInside (A.number archives.old) (A.held archives.old) self.old }
         requires count { A.failures archives.old < 2 ^ 64 - 1 }
         ensures archives { ReadsArchives A.Archives archives.old archives.new result }
-        ensures inside { OnOk result (IsInside (A.number archives.old) (A.held archives.old)
+        ensures inside { OnOk result (IsInside (A.number archives.new) (A.held archives.new)
             self.new) }
         ensures archive { OnOk result (self.new.archive ≡ self.old.archive) }
-        ensures coming { OnOk result (coming (A.held archives.old) self.new
-            ≡ coming (A.held archives.old) self.old) }
+        ensures coming { OnOk result (coming (A.held archives.new) self.new
+            ≡ coming (A.held archives.new) self.old) }
         ensures as_many { OnOk result (coming_count self.new ≡ coming_count self.old) }
         ensures within { IfOk result (λ n. n ≤ length self.new.unread) }
-        ensures line { IfOk result (λ n. IfSome (coming (A.held archives.old) self.old)
+        ensures line { IfOk result (λ n. IfSome (coming (A.held archives.new) self.old)
             (λ bytes. n ≡ first_length bytes)) }
         ensures some { IfOk result (λ n. n ≡ 0 → coming_count self.old ≡ 0) }
         ensures own { has_fault is_of_output result ≡ false }

@@ -65,11 +65,11 @@ impl Part {
         requires archives { A.failures archives.old < 2 ^ 64 - 1 }
         requires out { O.failures out.old < 2 ^ 64 - 1 }
         ensures archives { ReadsArchives A.Archives archives.old archives.new result }
-        ensures inside { OnOk result (IsInside (A.number archives.old) (A.held archives.old)
+        ensures inside { OnOk result (IsInside (A.number archives.new) (A.held archives.new)
             self.new) }
         ensures archive { OnOk result (self.new.archive ≡ self.old.archive) }
         ensures copies { Copies (O.taken out.old) (O.taken out.new) sheet.old sheet.new
-            (coming (A.held archives.old) self.old) (coming (A.held archives.old) self.new)
+            (coming (A.held archives.new) self.old) (coming (A.held archives.new) self.new)
             (coming_count self.old) (coming_count self.new) before result }
         ensures less { OnOk result (coming_count self.new < coming_count self.old) }
         ensures out { WritesOut O.Out sheet.new.sent out.old out.new result }
@@ -103,7 +103,7 @@ pub(crate) fn push_mbox<A: Archives, O: Out>(
     requires out { O.failures out.old < 2 ^ 64 - 1 }
     ensures archives { ReadsArchives A.Archives archives.old archives.new result }
     ensures writes { Writes (O.taken out.old) (O.taken out.new) sheet.old sheet.new
-        (known_message Mbox index.now (A.held archives.old) n) result }
+        (known_message Mbox index.now (A.held archives.new) n) result }
     ensures span { WritesSpan (O.taken out.old) (O.taken out.new) sheet.old sheet.new
         (record_at index.now.messages n).length result }
     ensures out { WritesOut O.Out sheet.new.sent out.old out.new result }

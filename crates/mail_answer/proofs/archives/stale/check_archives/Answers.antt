@@ -1,6 +1,7 @@
 -- `check_archives` finds the first changed archive, because it compares one length after another.
-use Rattle.mail_answer.proofs.Words.{◌≡◌, ◌∙◌, Ok, IfSome, length, subst, sym, arith, Agree, Archive, archive_of, archive_at}
+use Rattle.mail_answer.proofs.Words.{◌≡◌, ◌∙◌, Ok, IfSome, length, drop, subst, sym, arith, Agree, Archive, archive_of, archive_at, first_changed}
 use Rattle.mail_answer.proofs.ArchiveLaws.AskedLemmas.{agree_more}
+use Rattle.mail_answer.proofs.ArchiveLaws.KnowledgeLemmas.{some_later, was_known_join}
 use Rattle.mail_answer.proofs.ArchiveLaws.StaleLemmas.{goes_on, named_here, next_named, none_left}
 use Rattle.mail_answer.proofs.ArchiveLaws.CallLemmas.{holds_join}
 use Rattle.mail_answer.proofs.archives.stale.check_archives.Goals as goal
@@ -14,15 +15,21 @@ loop-archive-preserved g c =
     let lt = named_here named c.loop-archive.n a c.next.new.self coming in
     let step = next_named named c.loop-archive.n a c.next.new.self coming in
     let told : c.length.result ≡ Ok a.length = grind arith in
-    let known : IfSome (g.A.Archives.held c.args.archives.now) (λ bytes. a.length ≡ length (archive_at bytes c.loop-archive.n)) = rw i.keeps.held at (rw told at c.length.ensures.bytes) in
+    let held = g.A.Archives.held c.length.new.self in
+    let was = c.length.ensures.held in
+    let known : IfSome held (λ bytes. a.length ≡ length (archive_at bytes c.loop-archive.n)) = rw told at c.length.ensures.bytes in
+    let count = some_later (λ archives. length archives ≡ g.A.Archives.number c.args.archives.now) (g.A.Archives.held c.args.archives.now) held
+    (was_known_join _ _ held i.keeps.held was) c.count-count.ensures.1 in
+    let so_far = some_later (λ bytes. first_changed 0 named bytes ≡ first_changed c.loop-archive.n (drop c.loop-archive.n named) (drop c.loop-archive.n bytes))
+    (g.A.Archives.held c.loop-archive.archives) held was i.so_far in
     record {
       within = omega (arith, lt);
       coming = sym step.1;
-      keeps = holds_join g.A.Archives _ _ _ i.keeps (record { held = c.length.ensures.held; number = c.length.ensures.number });
+      keeps = holds_join g.A.Archives _ _ _ i.keeps (record { held = was; number = c.length.ensures.number });
       count = (rw told at c.length.ensures.count) ∙ i.count;
       agree = agree_more g.A.Archives named c.loop-archive.n (g.A.Archives.number c.args.archives.now) a c.next.new.self c.args.archives.now c.loop-archive.archives c.length.new.self
-          (omega (arith, lt)) (omega arith) coming c.count-count.ensures.1 known (rw told at c.length.ensures.measured) i.agree;
-      so_far = goes_on named (g.A.Archives.held c.args.archives.now) c.loop-archive.n (g.A.Archives.number c.args.archives.now) lt (omega arith) c.count-count.ensures.1 i.so_far (rw step.0 known);
+          (omega (arith, lt)) (omega arith) coming was count known (rw told at c.length.ensures.measured) i.agree;
+      so_far = goes_on named held c.loop-archive.n (g.A.Archives.number c.args.archives.now) lt (omega arith) count so_far (rw step.0 known);
     }
 
 pub returns-then-length-archive-clause-asked : goal.returns-then-length-archive-clause-asked

@@ -10,7 +10,7 @@ invariant-loop-archive g l = record {
   keeps : KeepsArchives g.A.Archives l.fn.archives l.archives;
   count : g.A.Archives.failures l.archives ≡ g.A.Archives.failures l.fn.archives;
   read : AreRead g.A.Archives l.fn.index.archives l.n l.fn.archives l.archives;
-  so_far : UnalteredTo l.fn.index.archives (g.A.Archives.held l.fn.archives) l.n (drop l.n l.fn.index.archives);
+  so_far : UnalteredTo l.fn.index.archives (g.A.Archives.held l.archives) l.n (drop l.n l.fn.index.archives);
 }
 
 abbrev pub decreases-loop-archive : goal.decreases-loop-archive

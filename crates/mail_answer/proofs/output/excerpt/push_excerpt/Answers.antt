@@ -30,7 +30,7 @@ returns-in_err-push_lines-clause-writes g c = grind (arith, writes_nothing)
 pub returns-clause-writes : goal.returns-clause-writes
 returns-clause-writes g c =
     let t = c.args.places.now.table in
-    let held : Option (List (List ℕ)) = g.A.Archives.held c.args.archives.now in
+    let held : Option (List (List ℕ)) = g.A.Archives.held c.read_header.new.archives in
     let is : c.message-message.result ≡ record_at t.messages c.args.n = cc (c.message-message.ensures, c.index.ensures, record_known t.messages c.args.n c.requires.below) in
     let told : Tells (known_message Excerpt t held c.args.n) c.as_slice.result.now =
     rw c.as_slice.ensures.value (excerpt_told t held c.args.n c.message-message.result c.path_of-path.result.now c.push_lines.new.text.items c.in_ok-header.header is c.path_of-path.ensures.path c.in_ok-header.ensures.fields (rw c.new-text.ensures.items at c.in_ok-push_lines.ensures)) in

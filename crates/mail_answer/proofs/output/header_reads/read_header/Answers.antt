@@ -1,14 +1,16 @@
 -- `read_header` reads the fields of a message, line by line.
 use Rattle.mail_answer.proofs.Words.{ℕ, List, Option, IfSome, drop, ap, ◌∙◌, subst, lines, fields_of, WillHaveFields, Reading, coming, IsInside}
+use Rattle.mail_answer.proofs.ArchiveLaws.KnowledgeLemmas.{inside_later}
 use Rattle.mail_answer.proofs.OutputLaws.HeaderReading.{first_passed}
 use Rattle.mail_answer.proofs.output.header_reads.read_header.Goals as goal
 
 pub lines-init : goal.lines-init
 lines-init g c =
-    let held : Option (List (List ℕ)) = g.A.Archives.held c.args.archives.now in
+    let held : Option (List (List ℕ)) = g.A.Archives.held c.first_line.new.archives in
     let number : ℕ = g.A.Archives.number c.args.archives.now in
-    let old : IsInside number held c.over-reader.result = rw c.over-reader.ensures c.requires.inside in
-    let inside : IsInside number held c.first_line.new.self = c.in_ok-first.ensures.inside in
+    let old : IsInside number held c.over-reader.result = rw c.over-reader.ensures
+    (inside_later (g.A.Archives.held c.args.archives.now) held number _ c.in_ok-first.ensures.archives.keeps.held c.requires.inside) in
+    let inside = c.in_ok-first.ensures.inside in
     record {
       keeps = c.in_ok-first.ensures.archives.keeps;
       inside = rw c.pass.ensures (record { exists = inside.exists; fits = inside.fits; within = inside.within });

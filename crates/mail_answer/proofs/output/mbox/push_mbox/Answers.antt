@@ -1,9 +1,10 @@
 -- `push_mbox` adds a closed span, piece by piece, because the ending decides what closes it.
-use Rattle.mail_answer.proofs.Words.{◌≡◌, ◌∙◌, ℕ, record_at, List, ◌++◌, length, length-append, Option, Some, ap, sym, refl, append-nil, arith, nat_tests, err_from_is_err_and, option_map, ending_of, feeds_of, Reading, coming, coming_count, span_reading, closed, Tells}
+use Rattle.mail_answer.proofs.Words.{◌≡◌, ◌∙◌, ℕ, record_at, List, ◌++◌, length, length-append, Option, None, Some, ap, sym, refl, append-nil, arith, nat_tests, err_from_is_err_and, option_map, ending_of, feeds_of, Reading, coming, coming_count, span_reading, closed, stale_archive, Tells}
 use Rattle.mail_answer.proofs.OutputLaws.CopiedPieces.{known_closed, pieces_more, front_told, closed_told, closed_begins, closed_by_last}
 use Rattle.mail_answer.proofs.OutputLaws.SheetLemmas.{joins_gathered, joins_more, joins_front, front_more, writes_next, writes_less, writes_err, unsent_before, unsent_before_front, unsent_before_writes}
 use Rattle.mail_answer.proofs.ArchiveLaws.CallLemmas.{keeps_self, keeps_join}
 use Rattle.mail_answer.proofs.ArchiveLaws.IndexedLemmas.{message_inside, message_some}
+use Rattle.mail_answer.proofs.ArchiveLaws.KnowledgeLemmas.{copied_later, some_later}
 use Rattle.mail_answer.proofs.CursorLaws.TruthLists.{record_known}
 use Rattle.mail_answer.proofs.output.mbox.push_mbox.Goals as goal
 
@@ -21,17 +22,19 @@ copy_piece-requires-clause-some g c = grind (arith, nat_tests)
 
 pub pieces-preserved : goal.pieces-preserved
 pieces-preserved g c =
-    let held : Option (List ℕ) = coming (g.A.Archives.held c.args.archives.now) c.copy_piece.new.self in
+    let held : Option (List (List ℕ)) = g.A.Archives.held c.copy_piece.new.archives in
+    let span : Reading = span_reading (record_at c.args.index.now.messages c.args.n) in
     let i = c.pieces.invariant in
     let j = i.joins in
-    let w = rw i.keeps.held at c.in_ok-ending.ensures.copies in
+    let w = c.in_ok-ending.ensures.copies in
+    let so_far = copied_later (g.A.Archives.held c.pieces.archives) held span c.pieces.part j.0 c.in_ok-ending.ensures.archives.keeps.held j.1 in
     record {
       keeps = keeps_join g.A.Archives _ _ _ i.keeps c.in_ok-ending.ensures.archives.keeps;
-      inside = rw (i.keeps.held, i.keeps.number) at c.in_ok-ending.ensures.inside;
+      inside = c.in_ok-ending.ensures.inside;
       archive = c.in_ok-ending.ensures.archive ∙ i.archive;
       joins = (
         j.0 ++ w.0,
-        j.1 ∙ ap (option_map (λ bytes. j.0 ++ bytes)) w.1 ∙ pieces_more held j.0 w.0,
+        so_far ∙ ap (option_map (λ bytes. j.0 ++ bytes)) w.1 ∙ pieces_more (coming held c.copy_piece.new.self) j.0 w.0,
         w.3 j.0 j.2,
         joins_more j.3 w.2,
         omega (arith, j.4, w.4, length-append j.0 w.0),
@@ -43,14 +46,15 @@ pieces-preserved g c =
 
 pub returns-in_err-ending-clause-writes : goal.returns-in_err-ending-clause-writes
 returns-in_err-ending-clause-writes g c =
-    let held : Option (List (List ℕ)) = g.A.Archives.held c.args.archives.now in
-    let span : Option (List ℕ) = coming held (span_reading (record_at c.args.index.now.messages c.args.n)) in
+    let held : Option (List (List ℕ)) = g.A.Archives.held c.copy_piece.new.archives in
+    let span : Reading = span_reading (record_at c.args.index.now.messages c.args.n) in
     let i = c.pieces.invariant in
     let j = i.joins in
-    let w = rw i.keeps.held at c.in_err-ending.ensures.copies in
-    let told = front_told span (coming held c.pieces.part) j.0 w.0 j.1 w.1 in
+    let w = c.in_err-ending.ensures.copies in
+    let so_far = copied_later (g.A.Archives.held c.pieces.archives) held span c.pieces.part j.0 c.in_err-ending.ensures.archives.keeps.held j.1 in
+    let told = front_told (coming held span) (coming held c.pieces.part) j.0 w.0 so_far w.1 in
     rw (← known_closed c.args.index.now held c.args.n)
-    (writes_err (g.O.Out.taken c.args.out.now) (g.O.Out.taken c.copy_piece.new.out) c.args.sheet.now c.copy_piece.new.sheet (option_map closed span) c.from_residual.result c.from_residual.ensures.0
+    (writes_err (g.O.Out.taken c.args.out.now) (g.O.Out.taken c.copy_piece.new.out) c.args.sheet.now c.copy_piece.new.sheet (option_map closed (coming held span)) c.from_residual.result c.from_residual.ensures.0
     ((j.0 ++ w.0) ++ told.0, told.1, front_more told.0 (joins_front j.3 w.2)))
 
 pub returns-in_err-ending-clause-out : goal.returns-in_err-ending-clause-out
@@ -58,13 +62,20 @@ returns-in_err-ending-clause-out g c = grind (arith, err_from_is_err_and, unsent
 
 pub returns-clause-writes : goal.returns-clause-writes
 returns-clause-writes g c =
-    let held : Option (List (List ℕ)) = g.A.Archives.held c.args.archives.now in
-    let span : Reading = span_reading (record_at c.args.index.now.messages c.args.n) in
+    let held : Option (List (List ℕ)) = g.A.Archives.held c.pieces.archives in
+    let number : ℕ = g.A.Archives.number c.args.archives.now in
+    let t = c.args.index.now in
+    let span : Reading = span_reading (record_at t.messages c.args.n) in
     let i = c.pieces.invariant in
     let j = i.joins in
     let feeds : List ℕ = c.feeds.result.now in
     let none : coming_count c.pieces.part ≡ 0 = grind (arith, nat_tests) in
-    let told : Tells (option_map closed (coming held span)) (j.0 ++ feeds_of (ending_of j.0)) = closed_told held (g.A.Archives.number c.args.archives.now) span c.pieces.part j.0 (message_inside c.args.index.now held (g.A.Archives.number c.args.archives.now) c.args.n c.requires.table c.requires.below c.requires.indexed.number c.requires.indexed.fresh) (omega (arith, message_some c.args.index.now c.args.n c.requires.table c.requires.below)) j.1 none i.inside in
+    let fresh = some_later (λ archives. stale_archive t.archives archives ≡ None) (g.A.Archives.held c.args.archives.now) held i.keeps.held
+    c.requires.indexed.fresh in
+    let inside = message_inside t held number c.args.n c.requires.table c.requires.below c.requires.indexed.number fresh in
+    let told : Tells (option_map closed (coming held span)) (j.0 ++ feeds_of (ending_of j.0)) =
+    closed_told held number span c.pieces.part j.0 inside (omega (arith, message_some t c.args.n c.requires.table c.requires.below)) j.1 none
+    (rw i.keeps.number at i.inside) in
     let same : feeds_of (ending_of j.0) ≡ feeds = ap feeds_of (sym j.2) ∙ sym c.feeds.ensures in
     rw (← known_closed c.args.index.now held c.args.n)
     (writes_less (g.O.Out.taken c.args.out.now) (g.O.Out.taken c.push.new.out) c.args.sheet.now c.push.new.self (option_map closed (coming held span)) (j.0 ++ feeds) c.push.result (rw same at told)
@@ -74,7 +85,7 @@ pub returns-in_err-ending-clause-span : goal.returns-in_err-ending-clause-span
 returns-in_err-ending-clause-span g c =
     let i = c.pieces.invariant in
     let j = i.joins in
-    let w = rw i.keeps.held at c.in_err-ending.ensures.copies in
+    let w = c.in_err-ending.ensures.copies in
     let bytes : List ℕ = j.0 ++ w.0 in
     let begins = closed_begins bytes in (
       bytes,

@@ -5,10 +5,10 @@ use Rattle.mail_answer.proofs.output.mbox.push_mbox.Given as goal
 abbrev pub invariant-pieces : goal.invariant-pieces
 invariant-pieces g l = record {
   keeps : KeepsArchives g.A.Archives l.fn.archives l.archives;
-  inside : IsInside (g.A.Archives.number l.fn.archives) (g.A.Archives.held l.fn.archives) l.part;
+  inside : IsInside (g.A.Archives.number l.archives) (g.A.Archives.held l.archives) l.part;
   archive : l.part.archive ≡ (record_at l.fn.index.messages l.fn.n).archive;
   joins : (text : List ℕ)
-      × (coming (g.A.Archives.held l.fn.archives) (span_reading (record_at l.fn.index.messages l.fn.n)) ≡ option_map (λ bytes. text ++ bytes) (coming (g.A.Archives.held l.fn.archives) l.part))
+      × (coming (g.A.Archives.held l.archives) (span_reading (record_at l.fn.index.messages l.fn.n)) ≡ option_map (λ bytes. text ++ bytes) (coming (g.A.Archives.held l.archives) l.part))
       × (l.ending ≡ ending_of text) × Joins (g.O.Out.taken l.fn.out) (g.O.Out.taken l.out) l.fn.sheet l.sheet text
       × (coming_count (span_reading (record_at l.fn.index.messages l.fn.n)) ≡ length text + coming_count l.part);
   kept : l.sheet.sent ≡ 0 → l.out ≡ l.fn.out;

@@ -6,6 +6,7 @@ use Rattle.mail_answer.proofs.OutputLaws.ChosenBelow.{is_among_behind}
 use Rattle.mail_answer.proofs.OutputLaws.SpanWrites.{spans_more, spans_stop, spans_end}
 use Rattle.mail_answer.proofs.OutputLaws.SentLemmas.{still_ready}
 use Rattle.mail_answer.proofs.ArchiveLaws.CallLemmas.{keeps_self, keeps_join}
+use Rattle.mail_answer.proofs.ArchiveLaws.KnowledgeLemmas.{answer_later}
 use Rattle.mail_answer.proofs.output.answer_writer.AnswerWriter.push_all.Goals as goal
 
 pub loop-n-init : goal.loop-n-init
@@ -37,16 +38,17 @@ returns-in_err-push-clause-messages g c =
     let t = c.args.self.now.places.table in
     let i = c.loop-n.invariant in
     let j = i.joins in
-    let held : Option (List (List ℕ)) = g.A.Archives.held c.args.archives.now in
+    let held : Option (List (List ℕ)) = g.A.Archives.held c.push.new.archives in
+    let so_far = answer_later f t (g.A.Archives.held c.loop-n.archives) held c.args.numbers.now c.loop-n.numbers j.0 c.in_err-push.ensures.archives.keeps.held j.2 in
     let next : Option (List ℕ) = known_message f t held c.in-Some.n in
     let rest : Option (List ℕ) = known_answer f t held c.next.new.self in
     let took : c.loop-n.numbers ≡ c.in-Some.n ∷ c.next.new.self = c.in-Some.ensures in
     let all : c.args.numbers.now ≡ i.passed.0 ++ c.in-Some.n ∷ c.next.new.self = i.passed.1 ∙ ap (λ (ns : List ℕ). i.passed.0 ++ ns) took in
     record {
-      text = rw (j.2, ap (known_answer f t held) took ∙ known_first f t held c.in-Some.n c.next.new.self)
+      text = rw (so_far, ap (known_answer f t held) took ∙ known_first f t held c.in-Some.n c.next.new.self)
           (writes_next (g.O.Out.taken c.args.out.now) (g.O.Out.taken c.loop-n.out) (g.O.Out.taken c.push.new.out) c.args.self.now.sheet c.loop-n.self.sheet c.push.new.self.sheet j.0 (joined next rest) c.from_residual.result (j.1, j.3, j.4)
           (writes_stop (g.O.Out.taken c.loop-n.out) (g.O.Out.taken c.push.new.out) c.loop-n.self.sheet c.push.new.self.sheet next rest c.from_residual.result c.from_residual.ensures.0
-          (rw (i.keeps.held, i.same.table, i.same.format) at c.in_err-push.ensures.message.text)));
+          (rw (i.same.table, i.same.format) at c.in_err-push.ensures.message.text)));
       spans = λ mbox. rw all
           (spans_stop (g.O.Out.taken c.args.out.now) (g.O.Out.taken c.loop-n.out) (g.O.Out.taken c.push.new.out) c.args.self.now.sheet c.loop-n.self.sheet c.push.new.self.sheet t i.passed.0 c.in-Some.n c.next.new.self c.from_residual.result
           c.from_residual.ensures.0 (i.passed.2 mbox) (rw i.same.table at (c.in_err-push.ensures.message.span (i.same.format ∙ mbox))));
@@ -63,11 +65,14 @@ loop-n-preserved g c =
     let t = c.args.self.now.places.table in
     let i = c.loop-n.invariant in
     let j = i.joins in
-    let held : Option (List (List ℕ)) = g.A.Archives.held c.args.archives.now in
+    let held : Option (List (List ℕ)) = g.A.Archives.held c.push.new.archives in
+    let so_far =
+    answer_later c.args.self.now.format t (g.A.Archives.held c.loop-n.archives) held c.args.numbers.now c.loop-n.numbers j.0
+    c.in_ok-push.ensures.archives.keeps.held j.2 in
     let next : Option (List ℕ) = known_message c.args.self.now.format t held c.in-Some.n in
     let rest : Option (List ℕ) = known_answer c.args.self.now.format t held c.next.new.self in
     let took : c.loop-n.numbers ≡ c.in-Some.n ∷ c.next.new.self = c.in-Some.ensures in
-    let w = rw (i.keeps.held, i.same.table, i.same.format) at c.in_ok-push.ensures.message.text in
+    let w = rw (i.same.table, i.same.format) at c.in_ok-push.ensures.message.text in
     record {
       same = record {
         table = c.in_ok-push.ensures.same.table ∙ i.same.table;
@@ -79,7 +84,7 @@ loop-n-preserved g c =
       joins = (
         joined j.0 next,
         j.1 ++ w.0,
-        j.2 ∙ ap (λ (k : Option (List ℕ)). joined j.0 k) (ap (known_answer c.args.self.now.format t held) took ∙ known_first c.args.self.now.format t held c.in-Some.n c.next.new.self) ∙ joined-assoc j.0 next rest,
+        so_far ∙ ap (λ (k : Option (List ℕ)). joined j.0 k) (ap (known_answer c.args.self.now.format t held) took ∙ known_first c.args.self.now.format t held c.in-Some.n c.next.new.self) ∙ joined-assoc j.0 next rest,
         tells-joined j.0 next j.1 w.0 j.3 w.1,
         joins_more j.4 w.2,
       );
@@ -100,7 +105,7 @@ returns-in_err-send-clause-messages g c =
     let t = c.args.self.now.places.table in
     let i = c.loop-n.invariant in
     let j = i.joins in
-    let held : Option (List (List ℕ)) = g.A.Archives.held c.args.archives.now in
+    let held : Option (List (List ℕ)) = g.A.Archives.held c.loop-n.archives in
     let rest : Option (List ℕ) = known_answer f t held c.loop-n.numbers in
     let ended : c.loop-n.numbers ≡ [] = c.in_default.ensures.0 in
     let nothing : Tells rest [] = rw ended (known_none f t held) in
@@ -122,7 +127,7 @@ returns-clause-messages g c =
     let t = c.args.self.now.places.table in
     let i = c.loop-n.invariant in
     let j = i.joins in
-    let held : Option (List (List ℕ)) = g.A.Archives.held c.args.archives.now in
+    let held : Option (List (List ℕ)) = g.A.Archives.held c.loop-n.archives in
     let rest : Option (List ℕ) = known_answer f t held c.loop-n.numbers in
     let ended : c.loop-n.numbers ≡ [] = c.in_default.ensures.0 in
     let nothing : Tells rest [] = rw ended (known_none f t held) in

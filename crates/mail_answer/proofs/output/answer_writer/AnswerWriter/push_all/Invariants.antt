@@ -9,7 +9,7 @@ invariant-loop-n g l = record {
   numbers : AreNumbers (length l.fn.self.places.table.messages) l.numbers;
   counted : l.count + length l.numbers ≡ length l.fn.numbers;
   joins : (known : Option (List ℕ)) × (text : List ℕ)
-      × (known_answer l.fn.self.format l.fn.self.places.table (g.A.Archives.held l.fn.archives) l.fn.numbers ≡ joined known (known_answer l.fn.self.format l.fn.self.places.table (g.A.Archives.held l.fn.archives) l.numbers))
+      × (known_answer l.fn.self.format l.fn.self.places.table (g.A.Archives.held l.archives) l.fn.numbers ≡ joined known (known_answer l.fn.self.format l.fn.self.places.table (g.A.Archives.held l.archives) l.numbers))
       × Tells known text × Joins (g.O.Out.taken l.fn.out) (g.O.Out.taken l.out) l.fn.self.sheet l.self.sheet text;
   kept : l.self.sheet.sent ≡ 0 → l.out ≡ l.fn.out;
   out_count : g.O.Out.failures l.out ≡ g.O.Out.failures l.fn.out;

@@ -5,9 +5,9 @@ use Rattle.mail_answer.proofs.output.line_reader.LineReader.first_line.Given as 
 abbrev pub invariant-more : goal.invariant-more
 invariant-more g l = record {
   keeps : KeepsArchives g.A.Archives l.fn.archives l.archives;
-  inside : IsInside (g.A.Archives.number l.fn.archives) (g.A.Archives.held l.fn.archives) l.self;
+  inside : IsInside (g.A.Archives.number l.archives) (g.A.Archives.held l.archives) l.self;
   archive : l.self.archive ≡ l.fn.self.archive;
-  coming : coming (g.A.Archives.held l.fn.archives) l.self ≡ coming (g.A.Archives.held l.fn.archives) l.fn.self;
+  coming : coming (g.A.Archives.held l.archives) l.self ≡ coming (g.A.Archives.held l.archives) l.fn.self;
   as_many : coming_count l.self ≡ coming_count l.fn.self;
   count : g.A.Archives.failures l.archives ≡ g.A.Archives.failures l.fn.archives;
 }

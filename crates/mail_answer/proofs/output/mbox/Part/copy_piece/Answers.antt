@@ -1,5 +1,6 @@
 -- `Part::copy_piece` adds one piece of a span and keeps its ending, by the result of each call.
 use Rattle.mail_answer.proofs.Words.{◌≡◌, ◌∙◌, ℕ, List, [], ◌++◌, ◌+◌, ◌-◌, ◌≤◌, length-append, Option, Result, Ok, Err, refl, ap, sym, subst, arith, option_map, ending_of, Reading, coming, coming_count, IsInside, Joins, JoinsFront, AnswerFaultKind}
+use Rattle.mail_answer.proofs.ArchiveLaws.KnowledgeLemmas.{inside_later}
 use Rattle.mail_answer.proofs.OutputLaws.CopiedPieces.{copies_err, piece_read, behind_gathered, tells_behind, some_coming, inside_behind}
 use Rattle.mail_answer.proofs.OutputLaws.SheetLemmas.{nothing_went, gathered_went, front_more}
 use Rattle.mail_answer.proofs.output.mbox.Part.copy_piece.Goals as goal
@@ -7,14 +8,17 @@ use Rattle.mail_answer.proofs.output.mbox.Part.copy_piece.Goals as goal
 pub returns-in_err-n-clause-copies : goal.returns-in_err-n-clause-copies
 returns-in_err-n-clause-copies g c =
     let taken : Option (List ℕ) = g.O.Out.taken c.args.out.now in
-    let known : Option (List ℕ) = coming (g.A.Archives.held c.args.archives.now) c.args.self.now in
-    let some = some_coming (g.A.Archives.held c.args.archives.now) (g.A.Archives.number c.args.archives.now) c.args.self.now c.requires.inside in
+    let held : Option (List (List ℕ)) = g.A.Archives.held c.read.new.archives in
+    let number : ℕ = g.A.Archives.number c.args.archives.now in
+    let known : Option (List ℕ) = coming held c.args.self.now in
+    let inside = inside_later (g.A.Archives.held c.args.archives.now) held number c.args.self.now c.in_err-n.ensures.keeps.held c.requires.inside in
+    let some = some_coming held number c.args.self.now inside in
     copies_err taken taken c.args.sheet.now _ known _ _ _ c.args.before c.from_residual.result c.from_residual.ensures.0 (some.0, some.1, nothing_went taken c.args.sheet.now _ some.0 refl, some.2)
 
 pub returns-in_err-send_full-clause-copies : goal.returns-in_err-send_full-clause-copies
 returns-in_err-send_full-clause-copies g c =
     let s = c.self.inside in
-    let held : Option (List (List ℕ)) = g.A.Archives.held c.args.archives.now in
+    let held : Option (List (List ℕ)) = g.A.Archives.held c.read.new.archives in
     let taken : Option (List ℕ) = g.O.Out.taken c.args.out.now in
     let taken' : Option (List ℕ) = g.O.Out.taken c.send_full.new.out in
     let reads = c.in_ok-n.ensures.bytes in
@@ -24,8 +28,10 @@ returns-in_err-send_full-clause-copies g c =
     let is : coming held c.args.self.now ≡ option_map (λ bytes. reads.bytes ++ bytes) behind =
     sym (ap (λ (r : Reading). coming held r) c.self.view_is) ∙ piece_read s.archive s.next s.left c.in_ok-n.n held c.args.sheet.now.text c.read.new.self reads (omega (arith, c.in_ok-n.ensures.bound)) in
     let few : c.in_ok-n.n ≤ s.left = omega (arith, c.in_ok-n.ensures.bound) in
-    let inside = inside_behind (g.A.Archives.number c.args.archives.now) held s.archive s.next s.left c.in_ok-n.n few (subst (IsInside (g.A.Archives.number c.args.archives.now) held) (sym c.self.view_is) c.requires.inside) in
-    let rest = some_coming held (g.A.Archives.number c.args.archives.now) _ inside in
+    let number : ℕ = g.A.Archives.number c.args.archives.now in
+    let was = inside_later (g.A.Archives.held c.args.archives.now) held number c.args.self.now c.in_ok-n.ensures.keeps.held c.requires.inside in
+    let inside = inside_behind number held s.archive s.next s.left c.in_ok-n.n few (subst (IsInside number held) (sym c.self.view_is) was) in
+    let rest = some_coming held number _ inside in
     let whole : coming_count c.args.self.now ≡ s.left = omega (arith, ap coming_count c.self.view_is) in
     copies_err taken taken' c.args.sheet.now c.send_full.new.self (coming held c.args.self.now) behind _ _ c.args.before c.from_residual-in_err-send_full.result c.from_residual-in_err-send_full.ensures.0 (
       reads.bytes ++ rest.0,
@@ -37,7 +43,7 @@ returns-in_err-send_full-clause-copies g c =
 pub returns-clause-copies : goal.returns-clause-copies
 returns-clause-copies g c =
     let s = c.self.inside in
-    let held : Option (List (List ℕ)) = g.A.Archives.held c.args.archives.now in
+    let held : Option (List (List ℕ)) = g.A.Archives.held c.read.new.archives in
     let taken : Option (List ℕ) = g.O.Out.taken c.args.out.now in
     let taken' : Option (List ℕ) = g.O.Out.taken c.send_full.new.out in
     let reads = c.in_ok-n.ensures.bytes in
