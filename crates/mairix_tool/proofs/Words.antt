@@ -1,6 +1,7 @@
 -- The words of std and of the definitions that proofs use, from one place.
 pub use Rattle.contract_words.specs.Devices.{Sends}
 unfoldable pub use Rattle.header_text.specs.Headers.{fields_of}
+pub use Rattle.contract_words.specs.Knowledge.{AreStillKnown}
 pub use Rattle.index_job.specs.ArchiveRefusals.{AreSound}
 pub use Rattle.index_job.specs.ArchiveTables.{Mbox, all_messages, entry_of, messages_in, record_of, records_from, table, with_messages}
 pub use Rattle.index_job.specs.MessageTerms.{Term, id_terms, link_terms, message_terms, own_id_terms, text_terms}

@@ -3,6 +3,7 @@
 use Rattle.std.specs.Prelude.{◌≡◌, ◌≢◌, ◌⊎◌, ℕ, Bool, List, length, map, Option, None, Some, IfSome, Result, Ok, Err, is_err, false}
 use Rattle.std.specs.Bool.{MatchBool, OnTrue}
 use Rattle.contract_words.specs.Answers.{fault_as}
+use Rattle.contract_words.specs.Knowledge.{AreStillKnown}
 use Rattle.index_job.specs.ArchiveTables.{table}
 use Rattle.index_run.specs.ArchivesIndexed.{mboxes}
 use Rattle.mail_answer.specs.Answers.{AnswersStale, SendsSpans, kind_of}
@@ -39,11 +40,11 @@ pub record Searches {A O : Type 0} (g : Ghosts A) (h : OutGhosts O) (t : Table) 
   -- length, which is stale, or that fails. A raw answer reads nothing more.
   pub asked : g.number old ≡ length t.archives → SearchesArchives g t s old new found
   -- the number of the messages that the table chooses, and their text; with a fault, a front of that text
-  pub answered : (a : TableAnswer) → IsTableAnswer t s (g.held old) a → Answers (h.taken before) (h.taken after) a found
+  pub answered : (a : TableAnswer) → IsTableAnswer t s (g.held new) a → Answers (h.taken before) (h.taken after) a found
   -- an mbox answer has, for each message, as many bytes as were indexed, closed; with a fault, a front of that
   pub spans : s.format ≡ Mbox → (numbers : List ℕ) → AreChosen (mail_told t) s numbers → SendsSpans (h.taken before) (h.taken after) t numbers found
   -- archives whose known bytes have another number or length are stale, before anything is written
-  pub stale : IfSome (g.held old) (λ bytes. AnswersStale (h.taken before) (h.taken after) (stale_archive t.archives bytes) found)
+  pub stale : IfSome (g.held new) (λ bytes. AnswersStale (h.taken before) (h.taken after) (stale_archive t.archives bytes) found)
   -- if an archive is faulty or memory ran out, and no byte was sent, the output is as it was
   pub unwritten : OnTrue (is_unwritten found) (after ≡ before)
 
@@ -58,7 +59,7 @@ pub record Verifies {A : Type 0} (g : Ghosts A) (named : List Archive) (old new 
   -- the first that isn't the one that was indexed.
   pub read : g.number old ≡ length named → VerifiesArchives g named old new found
   -- what is known of their bytes decides, unless a device or memory fails
-  pub known : IfSome (g.held old) (λ bytes. TellsVerified named bytes (kind_of found))
+  pub known : IfSome (g.held new) (λ bytes. TellsVerified named bytes (kind_of found))
 
 -- If that is wanted, archives are verified. If not, none is read.
 abbrev pub VerifiesWhere : {A : Type 0} → Ghosts A → Bool → List Archive → A → A → Result (Unit {0}) Fault → Type 0
@@ -99,14 +100,14 @@ SearchesStored g h w t old new before after reply =
 
 -- ---- by an index that the run makes itself
 
--- What was indexed has this table, which is well-formed. If the bytes of the sources are known, it is the table of
--- their archives.
-pub record IsIndexed (paths : List (List ℕ)) (sources : List (Option (List ℕ))) (t : Table) : Type 0 where
+-- What was indexed has this table, which is well-formed. If the bytes of the sources are known, and still after they
+-- were read, it is the table of their archives.
+pub record IsIndexed (paths : List (List ℕ)) (before after : List (Option (List ℕ))) (t : Table) : Type 0 where
   pub formed : IsWellFormed t
-  pub known : (bytes : List (List ℕ)) → sources ≡ map Some bytes → t ≡ table (mboxes paths bytes)
+  pub known : (bytes : List (List ℕ)) → AreStillKnown before after bytes → t ≡ table (mboxes paths bytes)
 
 -- The archives are indexed, and their table is searched; or they aren't indexed.
-abbrev pub IndexesAndSearches : {A O : Type 0} → Ghosts A → OutGhosts O → Wanted → List (Option (List ℕ)) → A → A → O → O → Reply → Type 0
-IndexesAndSearches g h w sources old new before after reply =
+abbrev pub IndexesAndSearches : {A O : Type 0} → Ghosts A → OutGhosts O → Wanted → List (Option (List ℕ)) → List (Option (List ℕ)) → A → A → O → O → Reply → Type 0
+IndexesAndSearches g h w unread read old new before after reply =
     AsksNothing IsOfIndexing old new before after reply
-    ⊎ ((t : Table) × IsIndexed w.paths sources t × Searches g h t w.search old new before after reply)
+    ⊎ ((t : Table) × IsIndexed w.paths unread read t × Searches g h t w.search old new before after reply)

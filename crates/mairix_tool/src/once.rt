@@ -3,6 +3,7 @@ ghost use Rattle.std.specs.Prelude.{◌≡◌, ◌<◌, ◌^◌, ◌-◌, ◌||�
 ghost use Rattle.std.specs.Bool.{OnTrue};
 ghost use Rattle.std.specs.String.{string_bytes};
 ghost use Rattle.contract_words.specs.Devices.{Counted};
+ghost use Rattle.contract_words.specs.Knowledge.{AreStillKnown};
 ghost use Rattle.mail_index.specs.Tables.{IsPath};
 ghost use Rattle.mairix_tool.specs.Asked.{asked_rc, asks, Wanted as Asked, wanted as wanted_of};
 ghost use Rattle.index_job.specs.ArchiveTables.{table};
@@ -52,28 +53,31 @@ pub fn once_run<S: Source, A: Archives, O: Out>(
     requires archives { A.failures archives.old < 2 ^ 64 - 1 }
     requires out { O.failures out.old < 2 ^ 64 - 1 }
 
-    // If sources and archives have the same known bytes: the whole reply and its text, by the messages themselves; or a
-    // fault of a device or of memory, and a front of the text.
-    ensures reply { (bytes : List (List ℕ)) → map S.rest sources.old ≡ map Some bytes
-        → A.held archives.old ≡ Some bytes
+    // If sources and archives have the same known bytes, and no call shows others: the whole reply and its text, by the
+    // messages themselves; or a fault of a device or of memory, and a front of the text.
+    ensures reply { (bytes : List (List ℕ))
+        → AreStillKnown (map S.rest sources.old) (map S.rest sources.new) bytes
+        → A.held archives.new ≡ Some bytes
         → RepliesBy (IsReply (asks words.now rc.now now) bytes) result
         (O.taken out.old) (O.taken out.new) }
 
     // If the archives have other bytes than were indexed: the answer of the table of the indexed bytes, over these.
-    ensures changed { (bytes held : List (List ℕ)) → map S.rest sources.old ≡ map Some bytes
-        → A.held archives.old ≡ Some held
+    ensures changed { (bytes held : List (List ℕ))
+        → AreStillKnown (map S.rest sources.old) (map S.rest sources.new) bytes
+        → A.held archives.new ≡ Some held
         → RepliesBy (IsOnceReply (asks words.now rc.now now) bytes held) result
         (O.taken out.old) (O.taken out.new) }
 
     // If the fault is one of an archive, no archive before it has one.
-    ensures first { (bytes : List (List ℕ)) → map S.rest sources.old ≡ map Some bytes
+    ensures first { (bytes : List (List ℕ))
+        → AreStillKnown (map S.rest sources.old) (map S.rest sources.new) bytes
         → AreSoundBefore (asks words.now rc.now now) bytes result.fault }
 
     // Whatever bytes the archives have: the number of messages is that of the messages that the table of the indexed
     // bytes chooses.
     ensures counted { (w : Asked) (bytes : List (List ℕ)) → asks words.now rc.now now ≡ Ok w
-        → map S.rest sources.old ≡ map Some bytes
-        → IsCountedWhere (table (mboxes w.paths bytes)) w.search (A.held archives.old)
+        → AreStillKnown (map S.rest sources.old) (map S.rest sources.new) bytes
+        → IsCountedWhere (table (mboxes w.paths bytes)) w.search (A.held archives.new)
         result.fault result (O.taken out.old) (O.taken out.new) }
 
     // Whatever bytes sources and archives have: after the sources are indexed, the archives' lengths are read, before
@@ -81,7 +85,7 @@ pub fn once_run<S: Source, A: Archives, O: Out>(
     // each message, each closed.
     ensures searched { (w : Asked) → asks words.now rc.now now ≡ Ok w
         → IndexesAndSearches A.Archives O.Out w (map S.rest sources.old)
-        archives.old archives.new out.old out.new result }
+        (map S.rest sources.new) archives.old archives.new out.old out.new result }
 
     // No device is used if words, rcfile or query are refused, or if memory ran out before that was found.
     ensures refused { OnTrue (is_early result.fault || is_err (asks words.now rc.now now))
@@ -127,17 +131,21 @@ fn answer_indexed<S: Source, A: Archives, O: Out>(
     requires sources { All (λ s. S.failures s < 2 ^ 64 - 1) sources.old }
     requires archives { A.failures archives.old < 2 ^ 64 - 1 }
     requires out { O.failures out.old < 2 ^ 64 - 1 }
-    ensures told { (bytes held : List (List ℕ)) → map S.rest sources.old ≡ map Some bytes
-        → A.held archives.old ≡ Some held
+    ensures told { (bytes held : List (List ℕ))
+        → AreStillKnown (map S.rest sources.old) (map S.rest sources.new) bytes
+        → A.held archives.new ≡ Some held
         → RepliesBy (IsOnceReply (Ok (wanted_of wanted.now)) bytes held) (reply_of result)
         (O.taken out.old) (O.taken out.new) }
-    ensures counted { (bytes : List (List ℕ)) → map S.rest sources.old ≡ map Some bytes
+    ensures counted { (bytes : List (List ℕ))
+        → AreStillKnown (map S.rest sources.old) (map S.rest sources.new) bytes
         → IsCountedWhere (table (mboxes (wanted_of wanted.now).paths bytes))
-        (wanted_of wanted.now).search (A.held archives.old) (reply_of result).fault
+        (wanted_of wanted.now).search (A.held archives.new) (reply_of result).fault
         (reply_of result) (O.taken out.old) (O.taken out.new) }
     ensures searched { IndexesAndSearches A.Archives O.Out (wanted_of wanted.now)
-        (map S.rest sources.old) archives.old archives.new out.old out.new (reply_of result) }
-    ensures first { (bytes : List (List ℕ)) → map S.rest sources.old ≡ map Some bytes
+        (map S.rest sources.old) (map S.rest sources.new)
+        archives.old archives.new out.old out.new (reply_of result) }
+    ensures first { (bytes : List (List ℕ))
+        → AreStillKnown (map S.rest sources.old) (map S.rest sources.new) bytes
         → AreSoundBefore (Ok (wanted_of wanted.now)) bytes (fault_in result) }
     ensures early { is_early (fault_in result) ≡ false }
     ensures silent { OnTrue (is_of_indexing (fault_in result))

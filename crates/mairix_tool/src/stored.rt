@@ -2,6 +2,7 @@
 ghost use Rattle.std.specs.Prelude.{◌≡◌, ◌<◌, ◌^◌, ◌-◌, ◌++◌, ℕ, List, true, false, Some, None, Ok, All, length, map, IfOk, IfErr, IfSome};
 ghost use Rattle.std.specs.String.{string_bytes};
 ghost use Rattle.contract_words.specs.Devices.{Counted};
+ghost use Rattle.contract_words.specs.Knowledge.{WasKnown};
 ghost use Rattle.mail_index.specs.Faults.{IsFileOf};
 ghost use Rattle.mail_index.specs.Files.{index_file};
 ghost use Rattle.mail_index.specs.Tables.{IsPath, Table};
@@ -57,9 +58,9 @@ pub fn search_run<A: Archives, O: Out>(
     requires archives { A.failures archives.old < 2 ^ 64 - 1 }
     requires out { O.failures out.old < 2 ^ 64 - 1 }
 
-    // If the archives' bytes are known: the whole reply and its text, by the index's table; or a fault of a device or
-    // of memory, and a front of the text.
-    ensures reply { (held : List (List ℕ)) → A.held archives.old ≡ Some held
+    // If the archives' bytes are known, and no call shows others: the whole reply and its text, by the index's table; or
+    // a fault of a device or of memory, and a front of the text.
+    ensures reply { (held : List (List ℕ)) → A.held archives.new ≡ Some held
         → RepliesBy (IsStoredReply (asks words.now rc.now now) index.now held) result
         (O.taken out.old) (O.taken out.new) }
 
@@ -67,7 +68,7 @@ pub fn search_run<A: Archives, O: Out>(
     // is that of their own messages.
     ensures indexed { (w : Asked) (bytes : List (List ℕ)) → asks words.now rc.now now ≡ Ok w
         → length w.paths ≡ length bytes → AreSound (mboxes w.paths bytes)
-        → ServesFor w (table (mboxes w.paths bytes)) index.now → A.held archives.old ≡ Some bytes
+        → ServesFor w (table (mboxes w.paths bytes)) index.now → A.held archives.new ≡ Some bytes
         → RepliesBy (IsReply (Ok w) bytes) result (O.taken out.old) (O.taken out.new) }
 
     // With `--verify`, if the index is that of any sound archives, and SHA-256 distinguishes these from those that
@@ -75,7 +76,7 @@ pub fn search_run<A: Archives, O: Out>(
     ensures verified { (w : Asked) (before : List Mbox) (bytes : List (List ℕ))
         → asks words.now rc.now now ≡ Ok w → w.verify ≡ true
         → All (λ a. IsPath a.path) before → AreSound before → index.now ≡ index_file (table before)
-        → A.held archives.old ≡ Some bytes → AreToldApart (map (λ a. a.bytes) before ++ bytes)
+        → A.held archives.new ≡ Some bytes → AreToldApart (map (λ a. a.bytes) before ++ bytes)
         → RepliesBy (IsStaleOr (altered_archive before w.paths bytes) (IsReply (Ok w) bytes)) result
         (O.taken out.old) (O.taken out.new) }
 
@@ -83,7 +84,7 @@ pub fn search_run<A: Archives, O: Out>(
     // there is one only if the bytes that were read had the lengths and the SHA-256 that were indexed.
     ensures counted { (w : Asked) (t : Table) → asks words.now rc.now now ≡ Ok w
         → IsFileOf index.now t
-        → IsCountedWhere t w.search (A.held archives.old) result.fault result
+        → IsCountedWhere t w.search (A.held archives.new) result.fault result
         (O.taken out.old) (O.taken out.new) }
     ensures read { (w : Asked) (t : Table) → asks words.now rc.now now ≡ Ok w
         → IsFileOf index.now t → WereVerified t.archives w.verify result.fault }
@@ -132,11 +133,11 @@ fn answer_stored<A: Archives, O: Out>(
 ) -> Result<u64, Fault>
     requires archives { A.failures archives.old < 2 ^ 64 - 1 }
     requires out { O.failures out.old < 2 ^ 64 - 1 }
-    ensures told { (held : List (List ℕ)) → A.held archives.old ≡ Some held
+    ensures told { (held : List (List ℕ)) → A.held archives.new ≡ Some held
         → RepliesBy (IsStoredReply (Ok (wanted_of wanted.now)) index.now held) (reply_of result)
         (O.taken out.old) (O.taken out.new) }
     ensures counted { (t : Table) → IsFileOf index.now t
-        → IsCountedWhere t (wanted_of wanted.now).search (A.held archives.old)
+        → IsCountedWhere t (wanted_of wanted.now).search (A.held archives.new)
         (reply_of result).fault (reply_of result) (O.taken out.old) (O.taken out.new) }
     ensures read { (t : Table) → IsFileOf index.now t
         → WereVerified t.archives wanted.now.verify (reply_of result).fault }
@@ -169,11 +170,11 @@ fn answer_opened<A: Archives, O: Out>(
     requires digests { wanted.now.verify ≡ true → view.now.version ≡ newest }
     requires archives { A.failures archives.old < 2 ^ 64 - 1 }
     requires out { O.failures out.old < 2 ^ 64 - 1 }
-    ensures told { (held : List (List ℕ)) → A.held archives.old ≡ Some held
+    ensures told { (held : List (List ℕ)) → A.held archives.new ≡ Some held
         → RepliesBy (IsProvedAndTold (wanted_of wanted.now) view.now held)
         (reply_of result) (O.taken out.old) (O.taken out.new) }
     ensures counted { IsCountedWhere view.now (wanted_of wanted.now).search
-        (A.held archives.old) (reply_of result).fault (reply_of result)
+        (A.held archives.new) (reply_of result).fault (reply_of result)
         (O.taken out.old) (O.taken out.new) }
     ensures read { WereVerified view.now.archives wanted.now.verify (reply_of result).fault }
     ensures asks { AsksIndex A.Archives O.Out (wanted_of wanted.now).search
@@ -194,8 +195,8 @@ fn prove_archives<A: Archives>(
 ) -> Result<(), Fault>
     requires digests { wanted.now.verify ≡ true → view.now.version ≡ newest }
     requires archives { A.failures archives.old < 2 ^ 64 - 1 }
-    ensures held { A.held archives.new ≡ A.held archives.old }
-    ensures proved { IfSome (A.held archives.old) (λ held. TellsProved
+    ensures held { WasKnown (A.held archives.old) (A.held archives.new) }
+    ensures proved { IfSome (A.held archives.new) (λ held. TellsProved
         (unproved_archive wanted.now.verify view.now.archives held) result) }
     ensures read { WereVerified view.now.archives wanted.now.verify (fault_in result) }
     ensures asked { VerifiesWhere A.Archives wanted.now.verify view.now.archives

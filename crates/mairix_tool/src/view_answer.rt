@@ -22,11 +22,11 @@ pub(crate) fn answer_view<A: Archives, O: Out>(
 ) -> Result<u64, Fault>
     requires archives { A.failures archives.old < 2 ^ 64 - 1 }
     requires out { O.failures out.old < 2 ^ 64 - 1 }
-    ensures told { (held : List (List ℕ)) → A.held archives.old ≡ Some held
+    ensures told { (held : List (List ℕ)) → A.held archives.new ≡ Some held
         → RepliesBy (IsTold index.now (wanted_of wanted.now).search held)
         (reply_of result) (O.taken out.old) (O.taken out.new) }
     ensures counted { IsCountedWhere index.now (wanted_of wanted.now).search
-        (A.held archives.old) (reply_of result).fault (reply_of result)
+        (A.held archives.new) (reply_of result).fault (reply_of result)
         (O.taken out.old) (O.taken out.new) }
     ensures asks { AsksIndex A.Archives O.Out (wanted_of wanted.now).search
         archives.old archives.new out.old out.new result }

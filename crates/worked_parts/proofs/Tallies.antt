@@ -9,6 +9,8 @@ use Rattle.mbox_cutter.specs.Archives.{Message, messages, text, size, span_lengt
 use Rattle.mbox_cutter.specs.Events.{ArchiveEvent, Start, Line, End, Done, told, events, Coming, coming_of}
 use Rattle.mbox_cutter.specs.Coming.{TakesKnown}
 use Rattle.mbox_cutter.proofs.KnownSteps.{each_some}
+use Rattle.contract_words.specs.Knowledge.{still_known}
+use Rattle.std.specs.Prelude.{IsSome}
 
 abbrev pub starts : List ArchiveEvent → ℕ
 starts [] = 0
@@ -28,6 +30,14 @@ sizes (Done all ∷ es) = sizes es
 abbrev pub Tallied : Option Coming → ℕ → ℕ → Option Coming → Type 0
 Tallied before count bytes after =
     IfSome before (λ k. (m : Coming) × (after ≡ Some m) × (starts k.events ≡ count + starts m.events) × (sizes k.events ≡ bytes + sizes m.events))
+
+-- what has been counted, if something is known after one more call
+pub tallied_on : {M N : Type 0} (before now : Option Coming) (mid : Option M) (new : Option N) (count bytes : ℕ)
+    → (IsSome new → IsSome mid) → Tallied (still_known before mid) count bytes now
+    → Tallied (still_known before new) count bytes (still_known now new)
+tallied_on before now mid None count bytes h t = tt
+tallied_on before now None (Some x) count bytes h t = absurd (cc (h refl))
+tallied_on before now (Some y) (Some x) count bytes h t = t
 
 -- the texts that have ended come before the bytes taken, and before an open message
 abbrev pub IsBehind : ℕ → Phase → ℕ → Type 0
@@ -75,3 +85,10 @@ pub counted : (most : ℕ) (known : Option (List ℕ)) (before now after : Optio
     Tallied before count bytes now → TakesKnown (Done all) now after → IfSome known (λ b. IfSome (messages b) (λ ms. (count ≡ length ms) × (bytes ≡ sum_by size ms)))
 counted most known before now after count bytes all e t d =
     each_some known _ (λ b is. each_some (messages b) _ (λ ms m. counted-at most b ms before now after count bytes all m (e ∙ ap (option_map (coming_of most)) is) t d))
+
+-- the same, if something is still known at the end
+pub still-counted : {N : Type 0} (most : ℕ) (known : Option (List ℕ)) (begun : Option Coming) (last : Option N) (now after : Option Coming) (count bytes all : ℕ)
+    → begun ≡ option_map (coming_of most) known → Tallied (still_known begun last) count bytes now → TakesKnown (Done all) now after
+    → IfSome (still_known known last) (λ b. IfSome (messages b) (λ ms. (count ≡ length ms) × (bytes ≡ sum_by size ms)))
+still-counted most known begun None now after count bytes all e t d = tt
+still-counted most known begun (Some x) now after count bytes all e t d = counted most known begun now after count bytes all e t d

@@ -1,6 +1,7 @@
 //! Whole archives through devices that give their bytes in pieces, fail, or never end; and callers for any source.
 ghost use Rattle.std.specs.Prelude.{◌≡◌, ◌-◌, ◌^◌, ◌<◌, None, length, IfOk, IfSome};
 ghost use Rattle.std.specs.List.{sum_by};
+ghost use Rattle.contract_words.specs.Knowledge.{still_known};
 ghost use Rattle.mbox_cutter.specs.Archives.{messages, size};
 
 use crate::rows::{bytes_of, has_text};
@@ -22,11 +23,13 @@ struct Tally {
     bytes: u64,
 }
 
-/// A caller that knows what it has seen where the bytes are known, and is safe where they aren't.
+/// A caller that knows what it has seen if the bytes are known, and no read shows others, and is safe if they aren't.
+#[tactic(auto, using(crate::proofs::Tallies::tallied_on))]
 fn tally_of<S: Source>(buffer: Buffer, source: &mut S, most: u64) -> Result<Tally, CutFault>
     requires most { most < 2 ^ 62 }
     requires count { S.failures source.old < 2 ^ 64 - 1 }
-    ensures { IfOk result (λ t. IfSome (S.rest source.old) (λ bytes. IfSome (messages bytes)
+    ensures { IfOk result (λ t. IfSome (still_known (S.rest source.old) (S.rest source.new))
+        (λ bytes. IfSome (messages bytes)
         (λ ms. (t.count ≡ length ms) × (t.bytes ≡ sum_by size ms)))) }
 {
     let mut cutter = Cutter::over(buffer, source, most);

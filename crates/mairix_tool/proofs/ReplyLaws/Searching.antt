@@ -1,5 +1,5 @@
 -- A run verifies and then searches, so what it does to archives and output is what these two steps do.
-use Rattle.mairix_tool.proofs.Words.{◌≡◌, ◌^◌, ◌<◌, ℕ, Bool, true, false, List, Option, None, Some, Result, Ok, Err, IfSome, refl, sym, ap, subst, arith, inr, length, map, IsFileOf, Table, table, mboxes, Fault, Reply, Wanted, IsIndexRefusal, is_too_old, renamed_archive, refusal_of, reply_of, Search, false≢true, IsWellFormed}
+use Rattle.mairix_tool.proofs.Words.{AreStillKnown, ◌≡◌, ◌^◌, ◌<◌, ℕ, Bool, true, false, List, Option, None, Some, Result, Ok, Err, IfSome, refl, sym, ap, subst, arith, inr, length, map, IsFileOf, Table, table, mboxes, Fault, Reply, Wanted, IsIndexRefusal, is_too_old, renamed_archive, refusal_of, reply_of, Search, false≢true, IsWellFormed}
 use Rattle.mail_answer.specs.declared.archives.Archives.{Ghosts}
 use Rattle.mbox_cutter.specs.declared.device.Out.{Ghosts as OutGhosts}
 use Rattle.mail_index.proofs.FileLaws.Accepts.{no_fault}
@@ -52,9 +52,11 @@ pub same-asked : (asked : Result Wanted Fault) (v w : Wanted) → asked ≡ Ok v
 same-asked asked v w h h2 = grind arith
 
 -- the table of a file in memory that is known to be the index of the sources' archives
-pub indexed-table : (paths : List (List ℕ)) (rests : List (Option (List ℕ))) (file : List ℕ) (view : Table) → ((t : Table) → IsFileOf file t → view ≡ t) → ((t : Table) × IsFileOf file t)
-    → ((bytes : List (List ℕ)) → rests ≡ map Some bytes → IsFileOf file (table (mboxes paths bytes))) → IsIndexed paths rests view
-indexed-table paths rests file view same (t, formed) known = record {
+pub indexed-table : (paths : List (List ℕ)) (unread read : List (Option (List ℕ))) (file : List ℕ) (view : Table)
+    → ((t : Table) → IsFileOf file t → view ≡ t) → ((t : Table) × IsFileOf file t)
+    → ((bytes : List (List ℕ)) → AreStillKnown unread read bytes → IsFileOf file (table (mboxes paths bytes)))
+    → IsIndexed paths unread read view
+indexed-table paths unread read file view same (t, formed) known = record {
   formed = subst (λ (u : Table). IsWellFormed u) (sym (same t formed)) formed.0;
   known = λ bytes are. same (table (mboxes paths bytes)) (known bytes are);
 }

@@ -27,7 +27,7 @@ returns-clause-searched g c =
     let file = rw c.bytes.ensures at c.of_file-index.ensures in
     inr (
       c.of_file-index.result,
-      indexed-table w.paths (map g.S.Source.rest c.args.sources.now) c.in_ok-file.file.taken c.of_file-index.result file c.in_ok-file.ensures.formed
+      indexed-table w.paths (map g.S.Source.rest c.args.sources.now) (map g.S.Source.rest c.file_of_archives.new.sources) c.in_ok-file.file.taken c.of_file-index.result file c.in_ok-file.ensures.formed
           (λ bytes known. (rw c.as_slice.ensures at (c.in_ok-file.ensures.known bytes known)).1),
       c.answer_view.ensures.searched,
     )

@@ -19,7 +19,7 @@ returns-in-Err-clause-changed g c = grind (arith, early-once, string_bytes)
 
 pub returns-in-Err-clause-reply : goal.returns-in-Err-clause-reply
 returns-in-Err-clause-reply g c = λ bytes known holds.
-    let long = known_length g.S.Source.rest c.args.sources.now bytes known in
+    let long = known_length g.S.Source.rest c.args.sources.now bytes known.0 in
     same-bytes (asked (map string_bytes c.args.words.now) c.args.rc.now c.args.now) bytes c.of-in-Err.result (g.O.Out.taken c.args.out.now) (g.O.Out.taken c.args.out.now)
     (subst (λ (n : ℕ). IfOk (asked (map string_bytes c.args.words.now) c.args.rc.now c.args.now) (λ w. length w.paths ≡ n)) (sym long)
     (asked-many (map string_bytes c.args.words.now) c.args.rc.now c.args.now (length c.args.sources.now) (λ r. g.A.Archives.number c.args.archives.now ≡ length c.args.sources.now) c.requires.many))

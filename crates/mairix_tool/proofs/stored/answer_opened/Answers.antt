@@ -1,5 +1,5 @@
 -- `answer_opened` replies what the table says, by the results of verification and search.
-use Rattle.mairix_tool.proofs.Words.{◌≡◌, ◌∙◌, ℕ, List, Option, None, Err, IfSome, sym, subst, wanted, IsStaleOr, IsTold, RepliesBy, TellsProved, unproved_archive, reply_of}
+use Rattle.mairix_tool.proofs.Words.{◌≡◌, ◌∙◌, ℕ, List, Option, None, Some, Err, IfSome, sym, subst, wanted, IsStaleOr, IsTold, RepliesBy, TellsProved, unproved_archive, reply_of}
 use Rattle.std.proofs.lemmas.Result.{err_from_is_err_and}
 use Rattle.mairix_tool.proofs.ReplyLaws.Searching.{unverified-searched, verified-searched}
 use Rattle.mairix_tool.proofs.ReplyLaws.Stored.{unproved-replied, still-verified}
@@ -18,8 +18,9 @@ pub returns-clause-told : goal.returns-clause-told
 returns-clause-told g c = λ held holds.
     let w = wanted c.args.wanted.now in
     let t = c.args.view.now in
-    let none = subst (λ (o : Option (List (List ℕ))). IfSome o (λ bytes. unproved_archive w.verify t.archives bytes ≡ None)) holds c.in_ok-prove_archives.ensures.proved in
-    let told = c.answer_view.ensures.told held (c.in_ok-prove_archives.ensures.held ∙ holds) in
+    let held-before : g.A.Archives.held c.prove_archives.new.archives ≡ Some held = rw holds at c.answer_view.ensures.searched.keeps.held in
+    let none = subst (λ (o : Option (List (List ℕ))). IfSome o (λ bytes. unproved_archive w.verify t.archives bytes ≡ None)) held-before c.in_ok-prove_archives.ensures.proved in
+    let told = c.answer_view.ensures.told held holds in
     subst (λ (o : Option ℕ). RepliesBy (IsStaleOr o (IsTold t w.search held)) (reply_of c.answer_view.result) (g.O.Out.taken c.args.out.now) (g.O.Out.taken c.answer_view.new.out)) (sym none) told
 
 pub returns-clause-read : goal.returns-clause-read

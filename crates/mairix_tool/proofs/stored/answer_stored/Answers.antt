@@ -24,7 +24,7 @@ pub returns-clause-counted : goal.returns-clause-counted
 returns-clause-counted g c = λ t file.
     let few : length c.args.index.now < 2 ^ 64 = omega (arith, c.well_formed) in
     let reply = reply_of c.answer_opened.result in
-    stored-counted (wanted c.args.wanted.now) c.args.index.now few c.in_ok-view.view c.in_ok-view.ensures.table t (g.A.Archives.held c.args.archives.now) reply.fault reply (g.O.Out.taken c.args.out.now) (g.O.Out.taken c.answer_opened.new.out) file c.answer_opened.ensures.counted
+    stored-counted (wanted c.args.wanted.now) c.args.index.now few c.in_ok-view.view c.in_ok-view.ensures.table t (g.A.Archives.held c.answer_opened.new.archives) reply.fault reply (g.O.Out.taken c.args.out.now) (g.O.Out.taken c.answer_opened.new.out) file c.answer_opened.ensures.counted
 
 pub returns-clause-read : goal.returns-clause-read
 returns-clause-read g c = λ t file.

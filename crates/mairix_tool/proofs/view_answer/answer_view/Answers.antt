@@ -17,7 +17,7 @@ returns-clause-told g c = λ held known.
 pub returns-clause-counted : goal.returns-clause-counted
 returns-clause-counted g c =
     rw (told-so c.answer-found.result c.map_err.result (grind arith))
-    (counted-by c.args.index.now (wanted c.args.wanted.now).search (g.A.Archives.held c.args.archives.now) (g.O.Out.taken c.args.out.now) (g.O.Out.taken c.answer-found.new.out) c.answer-found.result c.answer-found.ensures.answered)
+    (counted-by c.args.index.now (wanted c.args.wanted.now).search (g.A.Archives.held c.answer-found.new.archives) (g.O.Out.taken c.args.out.now) (g.O.Out.taken c.answer-found.new.out) c.answer-found.result c.answer-found.ensures.answered)
 
 pub returns-clause-searched : goal.returns-clause-searched
 returns-clause-searched g c = record {

@@ -1,4 +1,5 @@
 use Rattle.std.proofs.Common.{◌≡◌, ◌+◌, ◌≤◌}
+use Rattle.contract_words.specs.Knowledge.{still_known}
 use Rattle.mbox_cutter.specs.Places.{left}
 use Rattle.worked_parts.proofs.Tallies.{Tallied, IsBehind}
 use Rattle.worked_parts.proofs.cut_archives.tally_of.Given as goal
@@ -6,7 +7,7 @@ use Rattle.worked_parts.proofs.cut_archives.tally_of.Given as goal
 abbrev pub invariant-events : goal.invariant-events
 invariant-events g l = record {
   failures : g.S.Source.failures l.cutter.source.now ≡ g.S.Source.failures l.initial.cutter.source.now;
-  tallied : Tallied l.initial.cutter.coming l.count l.bytes l.cutter.coming;
+  tallied : Tallied (still_known l.initial.cutter.coming (g.S.Source.rest l.cutter.source.now)) l.count l.bytes l.cutter.coming;
   events : l.count + left l.cutter.place ≤ left l.initial.cutter.place;
   behind : IsBehind l.bytes l.cutter.place.phase l.cutter.place.offset;
   most : l.cutter.place.most ≡ l.initial.cutter.place.most;
