@@ -96,7 +96,8 @@ FindsDigests g named old new (Err OutFailed) = ⊥
 -- known after the lengths.
 abbrev pub GoesOnToDigests : {A T : Type 0} → Ghosts A → List Archive → Result (Unit {0}) AnswerFaultKind → A → A → Result T AnswerFaultKind → Type 0
 GoesOnToDigests g named (Err kind) found new result = (new ≡ found) × (result ≡ Err kind)
-GoesOnToDigests g named (Ok _) found new result = WasKnown (g.held found) (g.held new) × FindsDigests g named found new result
+GoesOnToDigests g named (Ok _) found new result =
+    WasKnown (g.held found) (g.held new) × FindsDigests g named found new result
 
 -- What a call does if there are as many archives as were indexed: it reads all lengths, and then the archives.
 abbrev pub LooksThrough : {A T : Type 0} → Ghosts A → List Archive → A → A → Result T AnswerFaultKind → Type 0

@@ -28,5 +28,6 @@ agree_more {A} g named n number a rest old before new h as_many e was count know
     record {
       told = subst (λ (lengths : List ℕ). TellLengths g 0 lengths old new) (sym (map_one_more (λ (t : Archive). t.length) named n a rest e)) (tell_more g 0 (indexed_lengths (take n named)) a.length old before new so_far.told next);
       known = known_more (g.held new) named n number a rest h e count known
-          (some_later (λ archives. map length (take n archives) ≡ indexed_lengths (take n named)) (g.held before) (g.held new) was so_far.known);
+          (some_later (λ archives. map length (take n archives) ≡ indexed_lengths (take n named)) (g.held before) (g.held new)
+          was so_far.known);
     }

@@ -28,15 +28,18 @@ front_at : (held : Option (List (List ℕ))) (archive at : ℕ) (bytes : List �
     → IfSome held (λ archives. bytes ≡ take at (archive_at archives archive))
 front_at held archive at bytes number known = subst (λ (k : ℕ). IfSome held (λ archives. bytes ≡ take k (archive_at archives archive))) number known
 
-pub more_absorbed : {A : Type 0} (g : Ghosts A) (archive at count : ℕ) (first before now : A) (h k : Sha256) → WasKnown (g.held before) (g.held now)
-    → AbsorbedTo g archive at first before h → AbsorbsPart g archive at count (g.held now) before now h k → AbsorbedTo g archive (at + count) first now k
+pub more_absorbed : {A : Type 0} (g : Ghosts A) (archive at count : ℕ) (first before now : A) (h k : Sha256)
+    → WasKnown (g.held before) (g.held now) → AbsorbedTo g archive at first before h
+    → AbsorbsPart g archive at count (g.held now) before now h k → AbsorbedTo g archive (at + count) first now k
 more_absorbed {A} g archive at count first before now h k was so_far next =
     let pieces : List (List ℕ) = so_far.read.pieces in
     let more : List ℕ = next.bytes in
     let bytes : List ℕ = so_far.bytes ++ more in
     let number : length bytes ≡ at + count = omega (arith, length-append so_far.bytes more, so_far.number, next.number) in
-    let known = some_later (λ archives. so_far.bytes ≡ take (length so_far.bytes) (archive_at archives archive)) (g.held before) (g.held now) was so_far.read.known in
-    let front = more_in_front (g.held now) archive at count so_far.bytes more next.number (front_at (g.held now) archive at so_far.bytes so_far.number known) next.read in
+    let known = some_later (λ archives. so_far.bytes ≡ take (length so_far.bytes) (archive_at archives archive))
+    (g.held before) (g.held now) was so_far.read.known in
+    let front_before = front_at (g.held now) archive at so_far.bytes so_far.number known in
+    let front = more_in_front (g.held now) archive at count so_far.bytes more next.number front_before next.read in
     let place : at ≡ 0 + length (concat pieces) = omega (arith, so_far.number, ap length so_far.read.joined) in
     record {
       bytes = bytes;

@@ -18,26 +18,34 @@ pub was_known_join : {X : Type 0} (a b c : Option X) → WasKnown a b → WasKno
 was_known_join {X} a b c first second = known_later (λ known. WasKnown a known) b c second tt first
 
 -- a part is still within its archive
-pub inside_later : (old new : Option (List (List ℕ))) (number : ℕ) (r : Reading) → WasKnown old new → IsInside number old r
-    → IsInside number new r
+pub inside_later : (old new : Option (List (List ℕ))) (number : ℕ) (r : Reading) → WasKnown old new
+    → IsInside number old r → IsInside number new r
 inside_later old new number r was inside =
-    known_later (λ held. IsInside number held r) old new was (record { exists = inside.exists; fits = inside.fits; within = tt }) inside
+    let unknown : IsInside number None r = record { exists = inside.exists; fits = inside.fits; within = tt } in
+    known_later (λ held. IsInside number held r) old new was unknown inside
 
 -- what was copied of a part and what comes are still the whole part
 pub copied_later : (old new : Option (List (List ℕ))) (whole part : Reading) (text : List ℕ) → WasKnown old new
-    → coming old whole ≡ option_map (λ bytes. text ++ bytes) (coming old part) → coming new whole ≡ option_map (λ bytes. text ++ bytes) (coming new part)
+    → coming old whole ≡ option_map (λ bytes. text ++ bytes) (coming old part)
+    → coming new whole ≡ option_map (λ bytes. text ++ bytes) (coming new part)
 copied_later old new whole part text was is =
     known_later (λ held. coming held whole ≡ option_map (λ bytes. text ++ bytes) (coming held part)) old new was refl is
 
 -- what was added to an answer and what comes are still all of it
-pub answer_later : (format : Format) (t : Table) (old new : Option (List (List ℕ))) (all rest : List ℕ) (known : Option (List ℕ)) → WasKnown old new
-    → known_answer format t old all ≡ joined known (known_answer format t old rest) → known_answer format t new all ≡ joined known (known_answer format t new rest)
+pub answer_later : (format : Format) (t : Table) (old new : Option (List (List ℕ))) (all rest : List ℕ)
+    (known : Option (List ℕ)) → WasKnown old new
+    → known_answer format t old all ≡ joined known (known_answer format t old rest)
+    → known_answer format t new all ≡ joined known (known_answer format t new rest)
 answer_later Raw t old new all rest known was is = is
 answer_later Excerpt t old new all rest None was is =
-    known_later (λ held. known_answer Excerpt t held all ≡ joined None (known_answer Excerpt t held rest)) old new was refl is
+    known_later (λ held. known_answer Excerpt t held all ≡ joined None (known_answer Excerpt t held rest))
+    old new was refl is
 answer_later Excerpt t old new all rest (Some text) was is =
-    known_later (λ held. known_answer Excerpt t held all ≡ joined (Some text) (known_answer Excerpt t held rest)) old new was refl is
+    known_later (λ held. known_answer Excerpt t held all ≡ joined (Some text) (known_answer Excerpt t held rest))
+    old new was refl is
 answer_later Mbox t old new all rest None was is =
-    known_later (λ held. known_answer Mbox t held all ≡ joined None (known_answer Mbox t held rest)) old new was refl is
+    known_later (λ held. known_answer Mbox t held all ≡ joined None (known_answer Mbox t held rest))
+    old new was refl is
 answer_later Mbox t old new all rest (Some text) was is =
-    known_later (λ held. known_answer Mbox t held all ≡ joined (Some text) (known_answer Mbox t held rest)) old new was refl is
+    known_later (λ held. known_answer Mbox t held all ≡ joined (Some text) (known_answer Mbox t held rest))
+    old new was refl is

@@ -94,7 +94,8 @@ fresh_length : (named : List Archive) (archives : List (List ℕ)) (n : ℕ) (a 
     → (length archives ≡ length named) × (length (archive_at archives n) ≡ a.length)
 fresh_length named archives n a rest fresh h e = grind (arith, same_number, unchanged_length, named_length)
 
-has_is : (digest : Option (List ℕ)) (d : List ℕ) → option_map_or (λ x. bytes_eq x d) digest false ≡ option_eq bytes_eq digest (Some d)
+has_is : (digest : Option (List ℕ)) (d : List ℕ)
+    → option_map_or (λ x. bytes_eq x d) digest false ≡ option_eq bytes_eq digest (Some d)
 has_is None d = refl
 has_is (Some x) d = refl
 
@@ -110,11 +111,13 @@ told_next named (Some archives) n a rest read h e fresh so_far told =
     (has_is a.digest (sha256 (archive_at archives n)) ∙ ap (option_eq bytes_eq a.digest) (sym (told ∙ whole_digest (archive_at archives n) a.length as_long.1)))
 
 -- the archive that was read isn't the one that was indexed
-pub other_read : {A : Type 0} (g : Ghosts A) (n : ℕ) (a : Archive) (read : Option (List ℕ)) (before new : A) → option_eq bytes_eq a.digest read ≡ false
-    → ReadsDigest g n a.length before new read → ReadsOther g n a before new
+pub other_read : {A : Type 0} (g : Ghosts A) (n : ℕ) (a : Archive) (read : Option (List ℕ)) (before new : A)
+    → option_eq bytes_eq a.digest read ≡ false → ReadsDigest g n a.length before new read → ReadsOther g n a before new
 other_read g n a None before new other told = inl told
 other_read g n a (Some d) before new other told =
-    inr (told.0, told.1, told.2, has_is a.digest (sha256 told.0) ∙ ap (λ e. option_eq bytes_eq a.digest (Some e)) (sym told.3) ∙ other)
+    let same : option_eq bytes_eq a.digest (Some (sha256 told.0)) ≡ option_eq bytes_eq a.digest (Some d) =
+    ap (λ e. option_eq bytes_eq a.digest (Some e)) (sym told.3) in
+    inr (told.0, told.1, told.2, has_is a.digest (sha256 told.0) ∙ same ∙ other)
 
 -- the result is decided by digests if no archive is stale
 pub told_by_digests : {T : Type 0} (named : List Archive) (held : Option (List (List ℕ))) (r : Result T AnswerFaultKind) → IfSome held (λ archives. stale_archive named archives ≡ None)
@@ -161,7 +164,8 @@ same_read g n count (Some d) (Some e) before new some same told = (told.0, told.
 
 -- one more archive has the indexed digest
 pub more_read : {A : Type 0} (g : Ghosts A) (named : List Archive) (n : ℕ) (a : Archive) (rest : List Archive) (read : Option (List ℕ)) (old before new : A) → n < length named → drop n named ≡ a ∷ rest
-    → AllByRecursion (IsArchive 2) named → IfSome (g.held new) (λ archives. stale_archive named archives ≡ None) → WasKnown (g.held before) (g.held new) → option_eq bytes_eq a.digest read ≡ true
+    → AllByRecursion (IsArchive 2) named → IfSome (g.held new) (λ archives. stale_archive named archives ≡ None)
+    → WasKnown (g.held before) (g.held new) → option_eq bytes_eq a.digest read ≡ true
     → ReadsDigest g n a.length before new read → AreRead g named n old before → AreRead g named (n + 1) old new
 more_read {A} g named n a rest read old before new h e each fresh was same told so_far =
     let one = same_read g n a.length a.digest read before new (λ none. omega (arith, subst (IsDigest 2) none (named_archive 2 named n a rest each e).2)) same told in

@@ -17,10 +17,12 @@ loop-archive-preserved g c =
     let told : c.length.result ≡ Ok a.length = grind arith in
     let held = g.A.Archives.held c.length.new.self in
     let was = c.length.ensures.held in
-    let known : IfSome held (λ bytes. a.length ≡ length (archive_at bytes c.loop-archive.n)) = rw told at c.length.ensures.bytes in
-    let count = some_later (λ archives. length archives ≡ g.A.Archives.number c.args.archives.now) (g.A.Archives.held c.args.archives.now) held
+    let n = c.loop-archive.n in
+    let number = g.A.Archives.number c.args.archives.now in
+    let known : IfSome held (λ bytes. a.length ≡ length (archive_at bytes n)) = rw told at c.length.ensures.bytes in
+    let count = some_later (λ archives. length archives ≡ number) (g.A.Archives.held c.args.archives.now) held
     (was_known_join _ _ held i.keeps.held was) c.count-count.ensures.1 in
-    let so_far = some_later (λ bytes. first_changed 0 named bytes ≡ first_changed c.loop-archive.n (drop c.loop-archive.n named) (drop c.loop-archive.n bytes))
+    let so_far = some_later (λ bytes. first_changed 0 named bytes ≡ first_changed n (drop n named) (drop n bytes))
     (g.A.Archives.held c.loop-archive.archives) held was i.so_far in
     record {
       within = omega (arith, lt);
@@ -29,7 +31,7 @@ loop-archive-preserved g c =
       count = (rw told at c.length.ensures.count) ∙ i.count;
       agree = agree_more g.A.Archives named c.loop-archive.n (g.A.Archives.number c.args.archives.now) a c.next.new.self c.args.archives.now c.loop-archive.archives c.length.new.self
           (omega (arith, lt)) (omega arith) coming was count known (rw told at c.length.ensures.measured) i.agree;
-      so_far = goes_on named held c.loop-archive.n (g.A.Archives.number c.args.archives.now) lt (omega arith) count so_far (rw step.0 known);
+      so_far = goes_on named held n number lt (omega arith) count so_far (rw step.0 known);
     }
 
 pub returns-then-length-archive-clause-asked : goal.returns-then-length-archive-clause-asked

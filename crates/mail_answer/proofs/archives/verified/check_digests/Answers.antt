@@ -15,8 +15,8 @@ returns-then-ne-clause-altered g c =
     let named = c.args.index.now.archives in
     let held = g.A.Archives.held c.read_digest.new.archives in
     let was = c.in_ok-digest.ensures.keeps.held in
-    let fresh = some_later (λ archives. stale_archive named archives ≡ None) (g.A.Archives.held c.args.archives.now) held
-    (was_known_join _ _ held i.keeps.held was) c.requires.indexed.fresh in
+    let fresh = some_later (λ archives. stale_archive named archives ≡ None)
+    (g.A.Archives.held c.args.archives.now) held (was_known_join _ _ held i.keeps.held was) c.requires.indexed.fresh in
     let so_far = known_later (λ known. UnalteredTo named known c.loop-archive.n (drop c.loop-archive.n named))
     (g.A.Archives.held c.loop-archive.archives) held was tt i.so_far in
     rw other at
@@ -35,7 +35,8 @@ returns-then-ne-clause-found g c =
       place = sym i.coming ∙ c.in-Some.ensures;
       before = c.loop-archive.archives;
       read = i.read;
-      last = other_read g.A.Archives c.loop-archive.n a read.digest c.loop-archive.archives c.read_digest.new.archives other read.ensures.read;
+      last = other_read g.A.Archives c.loop-archive.n a read.digest c.loop-archive.archives c.read_digest.new.archives
+          other read.ensures.read;
       held = read.ensures.keeps.held;
     }
 
@@ -51,8 +52,8 @@ loop-archive-preserved g c =
     let same : option_eq bytes_eq a.digest read ≡ true = grind arith in
     let held = g.A.Archives.held c.read_digest.new.archives in
     let was = c.in_ok-digest.ensures.keeps.held in
-    let fresh = some_later (λ archives. stale_archive named archives ≡ None) (g.A.Archives.held c.args.archives.now) held
-    (was_known_join _ _ held i.keeps.held was) c.requires.indexed.fresh in
+    let fresh = some_later (λ archives. stale_archive named archives ≡ None)
+    (g.A.Archives.held c.args.archives.now) held (was_known_join _ _ held i.keeps.held was) c.requires.indexed.fresh in
     let so_far = known_later (λ known. UnalteredTo named known c.loop-archive.n (drop c.loop-archive.n named))
     (g.A.Archives.held c.loop-archive.archives) held was tt i.so_far in
     record {
@@ -63,7 +64,8 @@ loop-archive-preserved g c =
       read = more_read g.A.Archives named c.loop-archive.n a c.next.new.self read c.args.archives.now c.loop-archive.archives c.read_digest.new.archives
           lt coming (rw c.requires.version at c.requires.table.archives) fresh was same c.in_ok-digest.ensures.read i.read;
       so_far = rw step.1
-          (rw same at (told_next named held c.loop-archive.n a c.next.new.self read lt coming fresh so_far c.in_ok-digest.ensures.digest));
+          (rw same at
+          (told_next named held c.loop-archive.n a c.next.new.self read lt coming fresh so_far c.in_ok-digest.ensures.digest));
     }
 
 pub returns-clause-found : goal.returns-clause-found

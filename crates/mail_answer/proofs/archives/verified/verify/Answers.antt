@@ -21,15 +21,15 @@ check_digests-requires-clause-count g c =
 pub returns-clause-keeps : goal.returns-clause-keeps
 returns-clause-keeps g c =
     let reads = c.check_digests.ensures.keeps in
-    holds_join g.A.Archives c.args.archives.now c.check_archives.new.archives c.check_digests.new.archives c.check_archives.ensures.keeps
-    (record { held = reads.held; number = reads.number })
+    holds_join g.A.Archives c.args.archives.now c.check_archives.new.archives c.check_digests.new.archives
+    c.check_archives.ensures.keeps (record { held = reads.held; number = reads.number })
 
 pub returns-clause-verified : goal.returns-clause-verified
 returns-clause-verified g c =
     rw (unsent_kind c.check_digests.result c.map_err.result c.map_err.ensures.cases) at
     (told_by_digests c.args.index.now.archives (g.A.Archives.held c.check_digests.new.archives) c.check_digests.result
-    (some_later (λ archives. stale_archive c.args.index.now.archives archives ≡ None) (g.A.Archives.held c.check_archives.new.archives)
-    (g.A.Archives.held c.check_digests.new.archives) c.check_digests.ensures.keeps.held
+    (some_later (λ archives. stale_archive c.args.index.now.archives archives ≡ None)
+    (g.A.Archives.held c.check_archives.new.archives) (g.A.Archives.held c.check_digests.new.archives) c.check_digests.ensures.keeps.held
     (rw c.again-index.ensures.same at (rw c.in_default.is at c.check_archives.ensures.stale)))
     (rw c.again-index.ensures.same at c.check_digests.ensures.altered))
 

@@ -8,8 +8,11 @@ pub returns-then-n-eq0-clause-fields : goal.returns-then-n-eq0-clause-fields
 returns-then-n-eq0-clause-fields g c =
     let held = g.A.Archives.held c.first_line.new.archives in
     let number = g.A.Archives.number c.args.archives.now in
-    let inside = inside_later (g.A.Archives.held c.args.archives.now) held number c.args.reader.now c.in_ok-n.ensures.archives.keeps.held c.requires.inside in
-    none_comes held number c.args.reader.now c.first_line.new.self c.args.header.now inside c.in_ok-n.ensures.coming (c.in_ok-n.ensures.some c.if-n-eq0.true)
+    let inside =
+    inside_later (g.A.Archives.held c.args.archives.now) held number c.args.reader.now
+    c.in_ok-n.ensures.archives.keeps.held c.requires.inside in
+    none_comes held number c.args.reader.now c.first_line.new.self c.args.header.now inside c.in_ok-n.ensures.coming
+    (c.in_ok-n.ensures.some c.if-n-eq0.true)
 
 pub returns-clause-fields : goal.returns-clause-fields
 returns-clause-fields g c =

@@ -27,7 +27,9 @@ pieces-preserved g c =
     let i = c.pieces.invariant in
     let j = i.joins in
     let w = c.in_ok-ending.ensures.copies in
-    let so_far = copied_later (g.A.Archives.held c.pieces.archives) held span c.pieces.part j.0 c.in_ok-ending.ensures.archives.keeps.held j.1 in
+    let so_far =
+    copied_later (g.A.Archives.held c.pieces.archives) held span c.pieces.part j.0
+    c.in_ok-ending.ensures.archives.keeps.held j.1 in
     record {
       keeps = keeps_join g.A.Archives _ _ _ i.keeps c.in_ok-ending.ensures.archives.keeps;
       inside = c.in_ok-ending.ensures.inside;
@@ -51,7 +53,9 @@ returns-in_err-ending-clause-writes g c =
     let i = c.pieces.invariant in
     let j = i.joins in
     let w = c.in_err-ending.ensures.copies in
-    let so_far = copied_later (g.A.Archives.held c.pieces.archives) held span c.pieces.part j.0 c.in_err-ending.ensures.archives.keeps.held j.1 in
+    let so_far =
+    copied_later (g.A.Archives.held c.pieces.archives) held span c.pieces.part j.0
+    c.in_err-ending.ensures.archives.keeps.held j.1 in
     let told = front_told (coming held span) (coming held c.pieces.part) j.0 w.0 so_far w.1 in
     rw (← known_closed c.args.index.now held c.args.n)
     (writes_err (g.O.Out.taken c.args.out.now) (g.O.Out.taken c.copy_piece.new.out) c.args.sheet.now c.copy_piece.new.sheet (option_map closed (coming held span)) c.from_residual.result c.from_residual.ensures.0
@@ -70,7 +74,8 @@ returns-clause-writes g c =
     let j = i.joins in
     let feeds : List ℕ = c.feeds.result.now in
     let none : coming_count c.pieces.part ≡ 0 = grind (arith, nat_tests) in
-    let fresh = some_later (λ archives. stale_archive t.archives archives ≡ None) (g.A.Archives.held c.args.archives.now) held i.keeps.held
+    let fresh = some_later (λ archives. stale_archive t.archives archives ≡ None)
+    (g.A.Archives.held c.args.archives.now) held i.keeps.held
     c.requires.indexed.fresh in
     let inside = message_inside t held number c.args.n c.requires.table c.requires.below c.requires.indexed.number fresh in
     let told : Tells (option_map closed (coming held span)) (j.0 ++ feeds_of (ending_of j.0)) =

@@ -39,7 +39,9 @@ returns-in_err-push-clause-messages g c =
     let i = c.loop-n.invariant in
     let j = i.joins in
     let held : Option (List (List ℕ)) = g.A.Archives.held c.push.new.archives in
-    let so_far = answer_later f t (g.A.Archives.held c.loop-n.archives) held c.args.numbers.now c.loop-n.numbers j.0 c.in_err-push.ensures.archives.keeps.held j.2 in
+    let so_far =
+    answer_later f t (g.A.Archives.held c.loop-n.archives) held c.args.numbers.now c.loop-n.numbers j.0
+    c.in_err-push.ensures.archives.keeps.held j.2 in
     let next : Option (List ℕ) = known_message f t held c.in-Some.n in
     let rest : Option (List ℕ) = known_answer f t held c.next.new.self in
     let took : c.loop-n.numbers ≡ c.in-Some.n ∷ c.next.new.self = c.in-Some.ensures in
@@ -67,8 +69,8 @@ loop-n-preserved g c =
     let j = i.joins in
     let held : Option (List (List ℕ)) = g.A.Archives.held c.push.new.archives in
     let so_far =
-    answer_later c.args.self.now.format t (g.A.Archives.held c.loop-n.archives) held c.args.numbers.now c.loop-n.numbers j.0
-    c.in_ok-push.ensures.archives.keeps.held j.2 in
+    answer_later c.args.self.now.format t (g.A.Archives.held c.loop-n.archives) held c.args.numbers.now
+    c.loop-n.numbers j.0 c.in_ok-push.ensures.archives.keeps.held j.2 in
     let next : Option (List ℕ) = known_message c.args.self.now.format t held c.in-Some.n in
     let rest : Option (List ℕ) = known_answer c.args.self.now.format t held c.next.new.self in
     let took : c.loop-n.numbers ≡ c.in-Some.n ∷ c.next.new.self = c.in-Some.ensures in

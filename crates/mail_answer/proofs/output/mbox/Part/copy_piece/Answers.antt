@@ -11,7 +11,9 @@ returns-in_err-n-clause-copies g c =
     let held : Option (List (List ℕ)) = g.A.Archives.held c.read.new.archives in
     let number : ℕ = g.A.Archives.number c.args.archives.now in
     let known : Option (List ℕ) = coming held c.args.self.now in
-    let inside = inside_later (g.A.Archives.held c.args.archives.now) held number c.args.self.now c.in_err-n.ensures.keeps.held c.requires.inside in
+    let inside =
+    inside_later (g.A.Archives.held c.args.archives.now) held number c.args.self.now c.in_err-n.ensures.keeps.held
+    c.requires.inside in
     let some = some_coming held number c.args.self.now inside in
     copies_err taken taken c.args.sheet.now _ known _ _ _ c.args.before c.from_residual.result c.from_residual.ensures.0 (some.0, some.1, nothing_went taken c.args.sheet.now _ some.0 refl, some.2)
 
@@ -29,8 +31,11 @@ returns-in_err-send_full-clause-copies g c =
     sym (ap (λ (r : Reading). coming held r) c.self.view_is) ∙ piece_read s.archive s.next s.left c.in_ok-n.n held c.args.sheet.now.text c.read.new.self reads (omega (arith, c.in_ok-n.ensures.bound)) in
     let few : c.in_ok-n.n ≤ s.left = omega (arith, c.in_ok-n.ensures.bound) in
     let number : ℕ = g.A.Archives.number c.args.archives.now in
-    let was = inside_later (g.A.Archives.held c.args.archives.now) held number c.args.self.now c.in_ok-n.ensures.keeps.held c.requires.inside in
-    let inside = inside_behind number held s.archive s.next s.left c.in_ok-n.n few (subst (IsInside number held) (sym c.self.view_is) was) in
+    let was =
+    inside_later (g.A.Archives.held c.args.archives.now) held number c.args.self.now c.in_ok-n.ensures.keeps.held
+    c.requires.inside in
+    let inside = inside_behind number held s.archive s.next s.left c.in_ok-n.n few
+    (subst (IsInside number held) (sym c.self.view_is) was) in
     let rest = some_coming held number _ inside in
     let whole : coming_count c.args.self.now ≡ s.left = omega (arith, ap coming_count c.self.view_is) in
     copies_err taken taken' c.args.sheet.now c.send_full.new.self (coming held c.args.self.now) behind _ _ c.args.before c.from_residual-in_err-send_full.result c.from_residual-in_err-send_full.ensures.0 (
