@@ -40,7 +40,10 @@ fn tally_of<S: Source>(buffer: Buffer, source: &mut S, most: u64) -> Result<Tall
             Ok(Event::Start { .. }) => count += 1,
             Ok(Event::Line(_)) => {}
             Ok(Event::End { size, .. }) => bytes += size,
-            Ok(Event::Done { .. }) => return Ok(Tally { count, bytes }),
+            Ok(Event::Done { .. }) => {
+                let _source = cutter.into_source();
+                return Ok(Tally { count, bytes });
+            }
             Err(fault) => return Err(fault),
         }
     }

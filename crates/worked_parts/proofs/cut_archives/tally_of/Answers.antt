@@ -1,4 +1,5 @@
 -- What was counted up to the end of the archive is all of it.
+use Rattle.std.proofs.Common.{arith}
 use Rattle.contract_words.specs.Knowledge.{still_known}
 use Rattle.worked_parts.proofs.Tallies.{still-counted, tallied_on}
 use Rattle.worked_parts.proofs.cut_archives.tally_of.Goals as goal
@@ -11,6 +12,7 @@ returns-in-Ok-Done g c =
     let begun = c.over-cutter.result.coming in
     let tallied = tallied_on begun c.events.cutter.coming (g.S.Source.rest c.events.cutter.source.now) last c.events.count c.events.bytes
     a.stays.known c.events.invariant.tallied in
-    still-counted c.args.most (g.S.Source.rest c.args.source.now) begun last (still_known c.events.cutter.coming last) after.coming
+    let counted = still-counted c.args.most (g.S.Source.rest c.args.source.now) begun last (still_known c.events.cutter.coming last) after.coming
     c.events.count c.events.bytes c.in-Ok-Done.field-0-0 c.over-cutter.ensures.coming tallied
-    (rw (c.in-Ok-Done.is, c.in-Ok-Done.field-0-is) at a.answers)
+    (rw (c.in-Ok-Done.is, c.in-Ok-Done.field-0-is) at a.answers) in
+    grind (arith, counted)

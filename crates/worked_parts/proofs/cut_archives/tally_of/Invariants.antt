@@ -6,6 +6,7 @@ use Rattle.worked_parts.proofs.cut_archives.tally_of.Given as goal
 
 abbrev pub invariant-events : goal.invariant-events
 invariant-events g l = record {
+  name : l.cutter.source.ghost_name ≡ l.initial.cutter.source.ghost_name;
   failures : g.S.Source.failures l.cutter.source.now ≡ g.S.Source.failures l.initial.cutter.source.now;
   tallied : Tallied (still_known l.initial.cutter.coming (g.S.Source.rest l.cutter.source.now)) l.count l.bytes l.cutter.coming;
   events : l.count + left l.cutter.place ≤ left l.initial.cutter.place;
