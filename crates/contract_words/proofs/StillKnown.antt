@@ -16,10 +16,6 @@ pub still-other : {A B C : Type 0} (o : Option A) (p : Option B) (new : Option C
     → still_known o new ≡ Some x → still_known p new ≡ p
 still-other o p new x is = grind arith
 
--- something is still known only if anything is
-pub still-some : {A C : Type 0} (o : Option A) (new : Option C) (x : A) → still_known o new ≡ Some x → IsSome new
-still-some o new x is = grind arith
-
 -- what is still known was known
 pub still-known : {A C : Type 0} (o : Option A) (new : Option C) (x : A) → still_known o new ≡ Some x → o ≡ Some x
 still-known o new x is = grind arith

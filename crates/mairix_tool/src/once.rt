@@ -53,8 +53,8 @@ pub fn once_run<S: Source, A: Archives, O: Out>(
     requires archives { A.failures archives.old < 2 ^ 64 - 1 }
     requires out { O.failures out.old < 2 ^ 64 - 1 }
 
-    // If sources and archives have the same known bytes, and no call shows others: the whole reply and its text, by the
-    // messages themselves; or a fault of a device or of memory, and a front of the text.
+    // If sources and archives have the same known bytes, and every call agrees with them: the whole reply and its text,
+    // by the messages themselves; or a fault of a device or of memory, and a front of the text.
     ensures reply { (bytes : List (List ℕ))
         → AreStillKnown (map S.rest sources.old) (map S.rest sources.new) bytes
         → A.held archives.new ≡ Some bytes

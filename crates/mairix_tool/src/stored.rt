@@ -58,8 +58,8 @@ pub fn search_run<A: Archives, O: Out>(
     requires archives { A.failures archives.old < 2 ^ 64 - 1 }
     requires out { O.failures out.old < 2 ^ 64 - 1 }
 
-    // If the archives' bytes are known, and no call shows others: the whole reply and its text, by the index's table; or
-    // a fault of a device or of memory, and a front of the text.
+    // If the archives' bytes are known, and every call agrees with them: the whole reply and its text, by the index's
+    // table; or a fault of a device or of memory, and a front of the text.
     ensures reply { (held : List (List ℕ)) → A.held archives.new ≡ Some held
         → RepliesBy (IsStoredReply (asks words.now rc.now now) index.now held) result
         (O.taken out.old) (O.taken out.new) }

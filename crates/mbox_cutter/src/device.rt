@@ -13,7 +13,7 @@ pub struct DeviceFault;
 
 /// A source of bytes, which is read from its front to its end.
 pub trait Source {
-    /// The bytes that it will still give, if they are known, and if no read has shown that it has others.
+    /// The bytes that it will still give, if they are known, and if every read so far agrees with them.
     ghost rest: { Self → Option (List ℕ) };
 
     /// The number of its calls that have failed.

@@ -23,7 +23,7 @@ struct Tally {
     bytes: u64,
 }
 
-/// A caller that knows what it has seen if the bytes are known, and no read shows others, and is safe if they aren't.
+/// A caller that knows what it has seen if the bytes are known and agree with every read, and is safe if not.
 #[tactic(auto, using(crate::proofs::Tallies::tallied_on))]
 fn tally_of<S: Source>(buffer: Buffer, source: &mut S, most: u64) -> Result<Tally, CutFault>
     requires most { most < 2 ^ 62 }

@@ -1,5 +1,5 @@
 -- A run verifies and then searches, so what it does to archives and output is what these two steps do.
-use Rattle.mairix_tool.proofs.Words.{AreStillKnown, ◌≡◌, ◌^◌, ◌<◌, ℕ, Bool, true, false, List, Option, None, Some, Result, Ok, Err, IfSome, refl, sym, ap, subst, arith, inr, length, map, IsFileOf, Table, table, mboxes, Fault, Reply, Wanted, IsIndexRefusal, is_too_old, renamed_archive, refusal_of, reply_of, Search, false≢true, IsWellFormed}
+use Rattle.mairix_tool.proofs.Words.{AreStillKnown, ◌≡◌, ◌^◌, ◌<◌, ℕ, Bool, true, false, List, Option, None, Result, Ok, Err, IfSome, refl, sym, ap, subst, arith, inr, length, IsFileOf, Table, table, mboxes, Fault, Reply, Wanted, IsIndexRefusal, is_too_old, renamed_archive, refusal_of, reply_of, Search, false≢true, IsWellFormed}
 use Rattle.mail_answer.specs.declared.archives.Archives.{Ghosts}
 use Rattle.mbox_cutter.specs.declared.device.Out.{Ghosts as OutGhosts}
 use Rattle.mail_index.proofs.FileLaws.Accepts.{no_fault}
