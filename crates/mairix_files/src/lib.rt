@@ -2,17 +2,22 @@
 //! where names lead.
 #![tactic(auto)]
 
+mod archive_files;
+mod file_in_state;
 mod file_source;
 mod file_state;
 mod leftover;
 mod names;
 mod new_file;
+mod read_ahead;
 mod retried;
 mod whole_file;
 
-pub use file_source::{FileSource, sources_in, sources_of};
+pub use archive_files::ArchiveFiles;
+pub use file_source::{FileSource, sources_of};
 pub use file_state::FileState;
 pub use names::{Place, is_special_file};
 pub use new_file::NewFile;
+pub use read_ahead::ReadAhead;
 pub use retried::Retried;
 pub use whole_file::{read_rest, read_whole};

@@ -5,3 +5,4 @@ pub mod TableLaws
 pub mod ReplyLaws
 pub mod RowsReplies
 pub mod IndexFronts
+pub mod KnownFiles

@@ -3,7 +3,7 @@ ghost use Rattle.std.specs.Prelude.{◌≡◌, ◌<◌, ◌^◌, ◌-◌, ◌||�
 ghost use Rattle.std.specs.Bool.{OnTrue};
 ghost use Rattle.std.specs.String.{string_bytes};
 ghost use Rattle.contract_words.specs.Devices.{Counted};
-ghost use Rattle.contract_words.specs.Knowledge.{AreStillKnown};
+ghost use Rattle.contract_words.specs.Knowledge.{AreStillKnown, WasKnown};
 ghost use Rattle.mail_index.specs.Tables.{IsPath};
 ghost use Rattle.mairix_tool.specs.Asked.{asked_rc, asks, Wanted as Asked, wanted as wanted_of};
 ghost use Rattle.index_job.specs.ArchiveTables.{table};
@@ -87,6 +87,9 @@ pub fn once_run<S: Source, A: Archives, O: Out>(
         → IndexesAndSearches A.Archives O.Out w (map S.rest sources.old)
         (map S.rest sources.new) archives.old archives.new out.old out.new result }
 
+    // What is known of the archives' bytes at the end was known before.
+    ensures held { WasKnown (A.held archives.old) (A.held archives.new) }
+
     // No device is used if words, rcfile or query are refused, or if memory ran out before that was found.
     ensures refused { OnTrue (is_early result.fault || is_err (asks words.now rc.now now))
         ((sources.new ≡ sources.old) × (archives.new ≡ archives.old) × (out.new ≡ out.old)) }
@@ -147,6 +150,7 @@ fn answer_indexed<S: Source, A: Archives, O: Out>(
     ensures first { (bytes : List (List ℕ))
         → AreStillKnown (map S.rest sources.old) (map S.rest sources.new) bytes
         → AreSoundBefore (Ok (wanted_of wanted.now)) bytes (fault_in result) }
+    ensures held { WasKnown (A.held archives.old) (A.held archives.new) }
     ensures early { is_early (fault_in result) ≡ false }
     ensures silent { OnTrue (is_of_indexing (fault_in result))
         ((archives.new ≡ archives.old) × (out.new ≡ out.old)) }

@@ -8,7 +8,6 @@ mod index_file;
 mod kept_mail;
 mod new_index;
 mod output_file;
-mod read_ahead;
 mod read_files;
 mod search;
 mod stopped;

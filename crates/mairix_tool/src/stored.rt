@@ -96,6 +96,9 @@ pub fn search_run<A: Archives, O: Out>(
         → IsFileOf index.now t
         → SearchesStored A.Archives O.Out w t archives.old archives.new out.old out.new result }
 
+    // What is known of the archives' bytes at the end was known before.
+    ensures held { WasKnown (A.held archives.old) (A.held archives.new) }
+
     // Whatever bytes the archives have: if words, rcfile, query, index, its version or its paths are refused, the fault
     // is that refusal, unless memory runs out; and no archive is read. Nor was anything sent if a raw answer finds the
     // archives changed or can't read them.
@@ -133,6 +136,7 @@ fn answer_stored<A: Archives, O: Out>(
 ) -> Result<u64, Fault>
     requires archives { A.failures archives.old < 2 ^ 64 - 1 }
     requires out { O.failures out.old < 2 ^ 64 - 1 }
+    ensures held { WasKnown (A.held archives.old) (A.held archives.new) }
     ensures told { (held : List (List ℕ)) → A.held archives.new ≡ Some held
         → RepliesBy (IsStoredReply (Ok (wanted_of wanted.now)) index.now held) (reply_of result)
         (O.taken out.old) (O.taken out.new) }
@@ -170,6 +174,7 @@ fn answer_opened<A: Archives, O: Out>(
     requires digests { wanted.now.verify ≡ true → view.now.version ≡ newest }
     requires archives { A.failures archives.old < 2 ^ 64 - 1 }
     requires out { O.failures out.old < 2 ^ 64 - 1 }
+    ensures held { WasKnown (A.held archives.old) (A.held archives.new) }
     ensures told { (held : List (List ℕ)) → A.held archives.new ≡ Some held
         → RepliesBy (IsProvedAndTold (wanted_of wanted.now) view.now held)
         (reply_of result) (O.taken out.old) (O.taken out.new) }

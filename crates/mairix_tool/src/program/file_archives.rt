@@ -1,35 +1,28 @@
 //! The archives' files, read at any offset.
-ghost use Rattle.std.specs.Prelude.{None, ◌≡◌, ◌≤◌, ◌<◌, ◌-◌, ◌^◌, ◌↔◌, IsSome, IfSome, IfOk, length};
+ghost use Rattle.std.specs.Prelude.{⊤, ◌≡◌, ◌≤◌, ◌<◌, ◌-◌, ◌^◌, ◌↔◌, [], List, ℕ, Some, IsSome, IfSome, IfOk, length, take};
+ghost use Rattle.contract_words.specs.Devices.{Counts};
+ghost use Rattle.contract_words.specs.Knowledge.{WasKnown};
+ghost use Rattle.call_record.specs.Noted.{Notes, length_told};
+ghost use Rattle.mail_answer.specs.Archives.{IsCount, IsLength, IsRead};
+ghost use Rattle.mairix_files.specs.Ahead.{Serves};
+ghost use Rattle.mairix_tool.specs.Inside.KnownFiles.{held_of};
 
-use crate::program::read_ahead::ReadAhead;
+use call_record::Record;
 use mail_answer::Archives;
-use mairix_files::FileState;
+use mairix_files::{ArchiveFiles, FileState, ReadAhead};
 use mbox_cutter::DeviceFault;
 use std::alloc::Global;
 use std::fs::File;
-use std::io::ErrorKind;
 use std::rt::Files;
-use std::{fs, io};
 
-/// The files of some paths, of which at most one is open at a time: the one that was read last. A length is found
-/// without reading. A path that leads to no file, but to a folder or nowhere, has no length.
+/// The files of some paths, of which at most one is open at a time: the one that was read last.
 ///
-/// Each file has to be in the state in which it was when the run first looked at it; otherwise it has failed.
+/// Each file has to be in the state in which it was when the run first looked at it; otherwise it has failed. What the
+/// record supposes of the files' bytes is known as long as it agrees with each call.
 #[derive(Drop)]
 pub(crate) struct FileArchives<'p, R: Files<File = File>> {
-    rt: &'p R,
-    paths: &'p [String],
-    /// The state of each file.
-    states: &'p [FileState],
-    /// The number of the file that was opened last.
-    number: u32,
-    /// That file, while it is open.
-    open: Option<File>,
-    /// What was read of the open file.
-    ahead: ReadAhead,
+    ahead: ReadAhead<ArchiveFiles<'p, R>>,
     failures: u64,
-    ghost few: { length paths.now < 2 ^ 32 },
-    ghost each: { length states.now ≡ length paths.now },
 }
 
 impl<'p, R: Files<File = File>> FileArchives<'p, R> {
@@ -39,89 +32,89 @@ impl<'p, R: Files<File = File>> FileArchives<'p, R> {
         alloc: Global,
         paths: &'p [String],
         states: &'p [FileState],
+        record: Record,
     ) -> Option<FileArchives<'p, R>>
-        requires { length states.now ≡ length paths.now }
+        requires states { length states.now ≡ length paths.now }
+        requires calls { «record».calls ≡ [] }
         ensures few { IsSome result ↔ length paths.now < 2 ^ 32 }
         ensures number { IfSome result (λ archives. ⟦<FileArchives<'p, R> as Archives>⟧.number
             archives ≡ length paths.now) }
+        ensures held { IfSome result (λ archives. ⟦<FileArchives<'p, R> as Archives>⟧.held archives
+            ≡ held_of (length paths.now) «record») }
         ensures fresh { IfSome result (λ archives. ⟦<FileArchives<'p, R> as Archives>⟧.failures
             archives ≡ 0) }
     {
-        if paths.len() > u32::MAX as usize {
-            return None;
-        }
+        let files = ArchiveFiles::new(rt, paths, states)?;
         Some(FileArchives {
-            rt,
-            paths,
-            states,
-            number: 0,
-            open: None,
-            ahead: ReadAhead::new(alloc),
+            ahead: ReadAhead::new(alloc, files, record),
             failures: 0,
         })
-    }
-
-    /// Returns the length of the file with this number.
-    fn known_length(&self, n: u32) -> io::Result<u64>
-        requires { n < length self.now.paths.now }
-    {
-        let found = fs::metadata(self.rt, self.paths[n as usize].as_str())?;
-        if !found.is_file() {
-            return Err(ErrorKind::InvalidInput.into());
-        }
-        self.states[n as usize]
-            .check_told(&found)
-            .and(Ok(found.len()))
-    }
-
-    /// Reads from the file with this number. If another file is open, that is closed first.
-    fn read_file(&mut self, n: u32, offset: u64, into: &mut [u8]) -> io::Result<usize>
-        requires { n < length self.old.paths.now }
-        ensures paths { self.new.paths ≡ self.old.paths }
-        ensures failures { self.new.failures ≡ self.old.failures }
-        ensures bound { IfOk result (λ bytes. bytes ≤ length into.new) }
-    {
-        let state = self.states[n as usize];
-        if let Some(file) = &self.open
-            && self.number == n
-        {
-            return self.ahead.read(file, state, offset, into);
-        }
-        self.open = None;
-        self.ahead.forget();
-        self.number = n;
-        let file = fs::open(self.rt, self.paths[n as usize].as_str())?;
-        let file = self.open.insert(file);
-        self.ahead.read(file, state, offset, into)
     }
 }
 
 impl<'p, R: Files<File = File>> Archives for FileArchives<'p, R> {
-    ghost held = { λ _. None };
+    ghost held = { λ archives. held_of (length archives.ahead.files.paths.now) archives.ahead.record };
 
-    ghost number = { λ archives. length archives.paths.now };
+    ghost number = { λ archives. length archives.ahead.files.paths.now };
 
     ghost failures = { λ archives. archives.failures };
 
     ghost lengths_asked = { λ _. 0 };
 
-    ghost measures = { λ _ _ _ _. Unit {0} };
+    ghost measures = { λ old _ _ new. new.ahead.record.supposed ≡ old.ahead.record.supposed };
 
-    ghost reads = { λ _ _ _ _ _. Unit {0} };
+    ghost reads = { λ old _ _ _ new. new.ahead.record.supposed ≡ old.ahead.record.supposed };
 
     fn count(&self) -> u32 {
-        self.paths.len() as u32
+        self.ahead.files().count()
     }
 
-    fn length(&mut self, n: u32) -> Result<u64, DeviceFault> {
-        let length = self.known_length(n);
-        self.failures += u64::from(length.is_err());
-        length.or(Err(DeviceFault))
+    fn length(&mut self, n: u32) -> Result<u64, DeviceFault>
+        requires below { n < length self.old.ahead.files.paths.now }
+        requires count { self.old.failures < 2 ^ 64 - 1 }
+        ensures held { WasKnown (held_of (length self.old.ahead.files.paths.now) self.old.ahead.record)
+            (held_of (length self.new.ahead.files.paths.now) self.new.ahead.record) }
+        ensures number { length self.new.ahead.files.paths.now
+            ≡ length self.old.ahead.files.paths.now }
+        ensures bytes { IfOk result (λ bytes. IsLength n bytes
+            (held_of (length self.new.ahead.files.paths.now) self.new.ahead.record)) }
+        ensures measured { self.new.ahead.record.supposed ≡ self.old.ahead.record.supposed }
+        ensures count { Counts result self.old.failures self.new.failures }
+        // The result is noted, and nothing else.
+        ensures noted { Notes (length_told n result) self.old.ahead.record self.new.ahead.record }
+    {
+        match self.ahead.length(n) {
+            Ok(bytes) => Ok(bytes),
+            Err(_) => {
+                self.failures += 1;
+                Err(DeviceFault)
+            }
+        }
     }
 
-    fn read_at(&mut self, n: u32, offset: u64, into: &mut [u8]) -> Result<usize, DeviceFault> {
-        let read = self.read_file(n, offset, into);
-        self.failures += u64::from(read.is_err());
-        read.or(Err(DeviceFault))
+    fn read_at(&mut self, n: u32, offset: u64, into: &mut [u8]) -> Result<usize, DeviceFault>
+        requires below { n < length self.old.ahead.files.paths.now }
+        requires room { 0 < length into.old }
+        requires count { self.old.failures < 2 ^ 64 - 1 }
+        ensures held { WasKnown (held_of (length self.old.ahead.files.paths.now) self.old.ahead.record)
+            (held_of (length self.new.ahead.files.paths.now) self.new.ahead.record) }
+        ensures number { length self.new.ahead.files.paths.now
+            ≡ length self.old.ahead.files.paths.now }
+        ensures bound { IfOk result (λ bytes. bytes ≤ length into.new) }
+        ensures bytes { IfOk result (λ bytes. IsRead n offset (take bytes into.new)
+            (held_of (length self.new.ahead.files.paths.now) self.new.ahead.record)) }
+        ensures read { self.new.ahead.record.supposed ≡ self.old.ahead.record.supposed }
+        ensures count { Counts result self.old.failures self.new.failures }
+        // The result of at most one read is noted, and nothing else.
+        ensures noted { Serves (λ _ _ _. ⊤) n offset result into.new self.old.ahead.files
+            self.old.ahead.record self.new.ahead.files self.new.ahead.record }
+    {
+        match self.ahead.read(n, offset, into) {
+            Ok(count) => Ok(count),
+            Err(_) => {
+                self.failures += 1;
+                Err(DeviceFault)
+            }
+        }
     }
 }

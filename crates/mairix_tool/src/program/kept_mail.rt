@@ -3,6 +3,7 @@
 //! A file that begins with a separator is somebody's mail (decision 94 in docs/DECISIONS.md).
 
 use crate::program::stopped::Stopped;
+use call_record::Record;
 use mairix_files::FileSource;
 use mbox_cutter::{CutFault, Cutter, Event};
 use std::alloc::Global;
@@ -26,7 +27,7 @@ pub(crate) fn check_no_mail<R: Files>(rt: &R, alloc: Global, path: &str) -> Resu
     if !is_file {
         return Ok(());
     }
-    let mut source = FileSource::new(rt, path, None);
+    let mut source = FileSource::new(rt, path, None, 0, Record::new());
     let mut cutter = Cutter::new(alloc, &mut source, LOOKED_AT)?;
     match cutter.next_event() {
         Ok(Event::Start { .. }) | Err(CutFault::Device) => Err(Stopped::at(alloc, path)),

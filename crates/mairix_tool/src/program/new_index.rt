@@ -7,14 +7,15 @@ use crate::program::kept_mail::check_no_mail;
 use crate::program::output_file::{create_file, flushed, passing_name, settle_file};
 use crate::program::read_files::ReadFiles;
 use crate::program::stopped::Stopped;
+use call_record::Record;
 use index_run::send_index;
-use mairix_files::sources_of;
+use mairix_files::{FileSource, sources_of};
 use mairix_options::Rc;
 use mbox_cutter::ToWrite;
 use run_faults::{DONE, Fault};
 use std::alloc::Global;
 use std::fs::File;
-use std::io::BufWriter;
+use std::io::{BufWriter, Write};
 use std::rt::Files;
 
 /// How many bytes of an index are gathered before they are written.
@@ -64,13 +65,40 @@ fn fill_index_file<R: Files>(
 ) -> Result<u8, Fault>
     requires { All IsPath (map string_bytes paths.now) }
 {
-    let mut sources = sources_of(rt, alloc, paths)?;
     let mut writer = BufWriter::with_capacity(alloc, GATHERED, file).or(Err(Fault::Memory))?;
-    let sent = send_index(
-        alloc,
-        paths,
-        sources.as_mut_slice(),
-        &mut ToWrite::new(&mut writer),
-    );
+    let supposed = Record::new();
+    let Indexed { sent, .. } = index_files(rt, alloc, paths, &mut writer, &supposed)?;
     flushed(sent.and(Ok(DONE)), &mut writer)
+}
+
+/// Files that were indexed: what was sent, or the fault; and the devices, with the records of their calls.
+#[derive(Drop)]
+struct Indexed<'p, R: Files> {
+    sent: Result<(), Fault>,
+    sources: Vec<FileSource<'p, R>>,
+    /// What the output took.
+    taken: Record,
+}
+
+/// Indexes the archives from their files into an output. The record supposes their bytes; whatever it supposes, the run
+/// does the same. Fails for lack of memory before any file is read.
+fn index_files<'p, R: Files, W: Write>(
+    rt: &'p R,
+    alloc: Global,
+    paths: &'p [String],
+    writer: &mut W,
+    supposed: &Record,
+) -> Result<Indexed<'p, R>, Fault>
+    requires { All IsPath (map string_bytes paths.now) }
+{
+    let Ok(mut sources) = sources_of(rt, alloc, paths, &[], supposed) else {
+        return Err(Fault::Memory);
+    };
+    let mut output = ToWrite::new(&mut *writer);
+    let sent = send_index(alloc, paths, sources.as_mut_slice(), &mut output);
+    Ok(Indexed {
+        sent,
+        sources,
+        taken: output.into_record(),
+    })
 }

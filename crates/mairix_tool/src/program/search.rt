@@ -9,12 +9,13 @@ use crate::program::read_files::ReadFiles;
 use crate::program::stopped::Stopped;
 use crate::reply::Reply;
 use crate::stored::search_run;
+use call_record::Record;
 use mail_dates::Moment;
-use mairix_files::{FileState, Retried, sources_in};
+use mairix_files::{FileSource, FileState, Retried, sources_of};
 use mairix_options::{Plan, Rc, answer_file};
 use mbox_cutter::ToWrite;
 use run_faults::Fault;
-use std::alloc::{AllocError, Global};
+use std::alloc::Global;
 use std::fs::File;
 use std::io::Write;
 use std::rt::Files;
@@ -85,6 +86,17 @@ fn make_answer_file<R: Files<File = File>>(
     settle_file(new, answered).map_err(Stopped::Fault)
 }
 
+/// A search of files that has ended: its reply, and its devices, with the records of their calls.
+#[derive(Drop)]
+struct Answered<'p, R: Files<File = File>> {
+    reply: Reply,
+    /// The sources that were indexed; none without `--once`.
+    sources: Vec<FileSource<'p, R>>,
+    archives: FileArchives<'p, R>,
+    /// What the output took.
+    taken: Record,
+}
+
 /// Writes the answer of the run over the archives' files, and returns its status.
 fn answer_to<R: Files<File = File>, W: Write>(
     rt: &R,
@@ -92,6 +104,86 @@ fn answer_to<R: Files<File = File>, W: Write>(
     search: &Search<'_>,
     out: &mut W,
 ) -> Result<u8, Fault> {
+    let supposed = Record::new();
+    let Answered { reply, .. } = answer_files(rt, alloc, search, out, &supposed, &supposed)?;
+    let written = match reply.fault {
+        Some(fault) => Err(fault),
+        None => Ok(reply.status),
+    };
+    flushed(written, out)
+}
+
+/// Writes the answer of the run over the archives' files. One record supposes their bytes while they are indexed, the
+/// other while they are searched; whatever they suppose, the run does the same.
+///
+/// # Errors
+///
+/// `TooMany` if there are more archives than numbers, or lack of memory: then no file was read.
+fn answer_files<'p, R: Files<File = File>, W: Write>(
+    rt: &'p R,
+    alloc: Global,
+    search: &Search<'p>,
+    out: &mut W,
+    indexed: &Record,
+    searched: &Record,
+) -> Result<Answered<'p, R>, Fault> {
+    if search.asked.plan.once {
+        answer_once(rt, alloc, search, out, indexed, searched)
+    } else {
+        answer_stored(rt, alloc, search, out, searched)
+    }
+}
+
+/// Indexes the archives' files, and answers from that index.
+fn answer_once<'p, R: Files<File = File>, W: Write>(
+    rt: &'p R,
+    alloc: Global,
+    search: &Search<'p>,
+    out: &mut W,
+    indexed: &Record,
+    searched: &Record,
+) -> Result<Answered<'p, R>, Fault> {
+    let Search { asked, states, .. } = *search;
+    let Asked {
+        words,
+        text,
+        rc,
+        now,
+        ..
+    } = *asked;
+    let paths = rc.paths.as_slice();
+    let mut archives = FileArchives::new(rt, alloc, paths, states, searched.like()).ok_or(
+        Fault::TooMany,
+    )?;
+    let Ok(mut sources) = sources_of(rt, alloc, paths, states, indexed) else {
+        return Err(Fault::Memory);
+    };
+    let mut sink = ToWrite::new(Retried::new(&mut *out));
+    let reply = once_run(
+        alloc,
+        words,
+        text,
+        sources.as_mut_slice(),
+        &mut archives,
+        now,
+        &mut sink,
+    );
+    Ok(Answered {
+        reply,
+        sources,
+        archives,
+        taken: sink.into_record(),
+    })
+}
+
+/// Answers from the stored index, over the archives' files.
+fn answer_stored<'p, R: Files<File = File>, W: Write>(
+    rt: &'p R,
+    alloc: Global,
+    search: &Search<'p>,
+    out: &mut W,
+    searched: &Record,
+) -> Result<Answered<'p, R>, Fault> {
     let Search {
         asked,
         states,
@@ -99,35 +191,21 @@ fn answer_to<R: Files<File = File>, W: Write>(
     } = *search;
     let Asked {
         words,
-        plan,
         text,
         rc,
         now,
+        ..
     } = *asked;
     let paths = rc.paths.as_slice();
-    let mut archives = FileArchives::new(rt, alloc, paths, states).ok_or(Fault::TooMany)?;
-    let sink = &mut ToWrite::new(Retried::new(&mut *out));
-    let reply = if plan.once {
-        match sources_in(rt, alloc, paths, states) {
-            Ok(mut sources) => {
-                once_run(
-                    alloc,
-                    words,
-                    text,
-                    sources.as_mut_slice(),
-                    &mut archives,
-                    now,
-                    sink,
-                )
-            }
-            Err(AllocError) => Reply::of(Err(Fault::Memory)),
-        }
-    } else {
-        search_run(alloc, words, text, index, &mut archives, now, sink)
-    };
-    let written = match reply.fault {
-        Some(fault) => Err(fault),
-        None => Ok(reply.status),
-    };
-    flushed(written, out)
+    let mut archives = FileArchives::new(rt, alloc, paths, states, searched.like()).ok_or(
+        Fault::TooMany,
+    )?;
+    let mut sink = ToWrite::new(Retried::new(&mut *out));
+    let reply = search_run(alloc, words, text, index, &mut archives, now, &mut sink);
+    Ok(Answered {
+        reply,
+        sources: Vec::new(alloc),
+        archives,
+        taken: sink.into_record(),
+    })
 }

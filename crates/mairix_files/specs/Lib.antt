@@ -1,0 +1,3 @@
+-- What the reads of files note, and what they say of the files' bytes.
+pub mod Ahead
+pub mod Reads
