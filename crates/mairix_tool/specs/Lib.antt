@@ -13,3 +13,4 @@ pub mod OldTables
 pub mod Altered
 pub mod Inside
 pub mod CutAgain
+pub mod FilesAnswered

@@ -1,6 +1,6 @@
 -- What a run does to archives and output, whether the archives' bytes are known or not: in which order it reads them,
 -- and what is sent.
-use Rattle.std.specs.Prelude.{◌≡◌, ◌≢◌, ◌⊎◌, ℕ, Bool, List, length, map, Option, None, Some, IfSome, Result, Ok, Err, is_err, false}
+use Rattle.std.specs.Prelude.{◌≡◌, ◌≢◌, ◌⊎◌, ℕ, Bool, List, length, Option, None, IfSome, Result, Ok, Err, is_err, false}
 use Rattle.std.specs.Bool.{MatchBool, OnTrue}
 use Rattle.contract_words.specs.Answers.{fault_as}
 use Rattle.contract_words.specs.Knowledge.{AreStillKnown}

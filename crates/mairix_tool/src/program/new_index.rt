@@ -1,6 +1,13 @@
 //! The new index that replaces an old one: archives in, an index file out.
-ghost use Rattle.std.specs.Prelude.{map, All};
+ghost use Rattle.std.specs.Prelude.{◌≡◌, [], Some, length, map, All, IsSome, IfOk};
+ghost use Rattle.std.specs.Result.{MatchResult};
 ghost use Rattle.std.specs.String.{string_bytes};
+ghost use Rattle.call_record.specs.Calls.{taken_after};
+ghost use Rattle.index_job.specs.ArchiveRefusals.{AreSound};
+ghost use Rattle.index_job.specs.ArchiveTables.{table};
+ghost use Rattle.index_run.specs.ArchivesIndexed.{mboxes};
+ghost use Rattle.index_run.specs.IndexRuns.{IsIndexRunFault};
+ghost use Rattle.mail_index.specs.Files.{index_file};
 ghost use Rattle.mail_index.specs.Tables.{IsPath};
 
 use crate::program::kept_mail::check_no_mail;
@@ -11,7 +18,7 @@ use call_record::Record;
 use index_run::send_index;
 use mairix_files::{FileSource, sources_of};
 use mairix_options::Rc;
-use mbox_cutter::ToWrite;
+use mbox_cutter::{Source, ToWrite};
 use run_faults::{DONE, Fault};
 use std::alloc::Global;
 use std::fs::File;
@@ -90,6 +97,16 @@ fn index_files<'p, R: Files, W: Write>(
     supposed: &Record,
 ) -> Result<Indexed<'p, R>, Fault>
     requires { All IsPath (map string_bytes paths.now) }
+    // For all bytes that agree with all that the system reported: the output took the index file of these bytes; or the
+    // fault is theirs, or that of a device or of memory.
+    ensures known { IfOk result (λ run. length supposed.now.supposed ≡ length paths.now
+        → All IsSome (map (λ s. ⟦<FileSource<'p, R> as Source>⟧.rest s) run.sources.items)
+        → MatchResult run.sent
+        (λ _. AreSound (mboxes (map string_bytes paths.now) supposed.now.supposed)
+        × (taken_after run.taken.calls
+        ≡ index_file (table (mboxes (map string_bytes paths.now) supposed.now.supposed))))
+        (IsIndexRunFault (mboxes (map string_bytes paths.now) supposed.now.supposed)
+        (Some []) (Some (taken_after run.taken.calls)))) }
 {
     let Ok(mut sources) = sources_of(rt, alloc, paths, &[], supposed) else {
         return Err(Fault::Memory);

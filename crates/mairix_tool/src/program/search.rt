@@ -1,6 +1,9 @@
 //! A search of the archives' files.
-ghost use Rattle.std.specs.Prelude.{◌≡◌, Ok, length};
+ghost use Rattle.std.specs.Prelude.{◌≡◌, ◌∷◌, [], true, false, Ok, length, map, All, IsSome, IfOk};
 ghost use Rattle.mairix_options.specs.Rcfile.{rc_of};
+ghost use Rattle.mairix_tool.specs.Asked.{asks};
+ghost use Rattle.mairix_tool.specs.FilesAnswered.{AreThisMany, Replied};
+ghost use Rattle.mairix_tool.specs.Runs.{IsOnceReply, IsReply, IsStoredReply};
 
 use crate::once::once_run;
 use crate::program::file_archives::FileArchives;
@@ -10,10 +13,11 @@ use crate::program::stopped::Stopped;
 use crate::reply::Reply;
 use crate::stored::search_run;
 use call_record::Record;
+use mail_answer::Archives;
 use mail_dates::Moment;
 use mairix_files::{FileSource, FileState, Retried, sources_of};
 use mairix_options::{Plan, Rc, answer_file};
-use mbox_cutter::ToWrite;
+use mbox_cutter::{Source, ToWrite};
 use run_faults::Fault;
 use std::alloc::Global;
 use std::fs::File;
@@ -126,7 +130,30 @@ fn answer_files<'p, R: Files<File = File>, W: Write>(
     out: &mut W,
     indexed: &Record,
     searched: &Record,
-) -> Result<Answered<'p, R>, Fault> {
+) -> Result<Answered<'p, R>, Fault>
+    // For all bytes that agree with all that the system reported, with `--once`: what the output took is the answer of
+    // the table of the indexed bytes, over the bytes that were searched; or the fault, and a front of that answer.
+    ensures once { search.now.asked.now.plan.now.once ≡ true → IfOk result (λ run.
+        AreThisMany search.now.asked.now.rc.now.paths (indexed.now.supposed ∷ searched.now.supposed ∷ [])
+        → All IsSome (map (λ s. ⟦<FileSource<'p, R> as Source>⟧.rest s) run.sources.items)
+        → IsSome (⟦<FileArchives<'p, R> as Archives>⟧.held run.archives)
+        → Replied (IsOnceReply (asks search.now.asked.now.words.now search.now.asked.now.text.now
+        search.now.asked.now.now) indexed.now.supposed searched.now.supposed) run.reply run.taken) }
+    // If these are the same bytes: what the output took is the reply of the messages in them.
+    ensures reply { search.now.asked.now.plan.now.once ≡ true → IfOk result (λ run.
+        AreThisMany search.now.asked.now.rc.now.paths (indexed.now.supposed ∷ [])
+        → searched.now.supposed ≡ indexed.now.supposed
+        → All IsSome (map (λ s. ⟦<FileSource<'p, R> as Source>⟧.rest s) run.sources.items)
+        → IsSome (⟦<FileArchives<'p, R> as Archives>⟧.held run.archives)
+        → Replied (IsReply (asks search.now.asked.now.words.now search.now.asked.now.text.now
+        search.now.asked.now.now) indexed.now.supposed) run.reply run.taken) }
+    // Without `--once`: it is the reply of the stored index, over the bytes that were searched.
+    ensures stored { search.now.asked.now.plan.now.once ≡ false → IfOk result (λ run.
+        AreThisMany search.now.asked.now.rc.now.paths (searched.now.supposed ∷ [])
+        → IsSome (⟦<FileArchives<'p, R> as Archives>⟧.held run.archives)
+        → Replied (IsStoredReply (asks search.now.asked.now.words.now search.now.asked.now.text.now
+        search.now.asked.now.now) search.now.index.now searched.now.supposed) run.reply run.taken) }
+{
     if search.asked.plan.once {
         answer_once(rt, alloc, search, out, indexed, searched)
     } else {
@@ -142,7 +169,21 @@ fn answer_once<'p, R: Files<File = File>, W: Write>(
     out: &mut W,
     indexed: &Record,
     searched: &Record,
-) -> Result<Answered<'p, R>, Fault> {
+) -> Result<Answered<'p, R>, Fault>
+    ensures once { IfOk result (λ run.
+        AreThisMany search.now.asked.now.rc.now.paths (indexed.now.supposed ∷ searched.now.supposed ∷ [])
+        → All IsSome (map (λ s. ⟦<FileSource<'p, R> as Source>⟧.rest s) run.sources.items)
+        → IsSome (⟦<FileArchives<'p, R> as Archives>⟧.held run.archives)
+        → Replied (IsOnceReply (asks search.now.asked.now.words.now search.now.asked.now.text.now
+        search.now.asked.now.now) indexed.now.supposed searched.now.supposed) run.reply run.taken) }
+    ensures reply { IfOk result (λ run.
+        AreThisMany search.now.asked.now.rc.now.paths (indexed.now.supposed ∷ [])
+        → searched.now.supposed ≡ indexed.now.supposed
+        → All IsSome (map (λ s. ⟦<FileSource<'p, R> as Source>⟧.rest s) run.sources.items)
+        → IsSome (⟦<FileArchives<'p, R> as Archives>⟧.held run.archives)
+        → Replied (IsReply (asks search.now.asked.now.words.now search.now.asked.now.text.now
+        search.now.asked.now.now) indexed.now.supposed) run.reply run.taken) }
+{
     let Search { asked, states, .. } = *search;
     let Asked {
         words,
@@ -183,7 +224,13 @@ fn answer_stored<'p, R: Files<File = File>, W: Write>(
     search: &Search<'p>,
     out: &mut W,
     searched: &Record,
-) -> Result<Answered<'p, R>, Fault> {
+) -> Result<Answered<'p, R>, Fault>
+    ensures stored { IfOk result (λ run.
+        AreThisMany search.now.asked.now.rc.now.paths (searched.now.supposed ∷ [])
+        → IsSome (⟦<FileArchives<'p, R> as Archives>⟧.held run.archives)
+        → Replied (IsStoredReply (asks search.now.asked.now.words.now search.now.asked.now.text.now
+        search.now.asked.now.now) search.now.index.now searched.now.supposed) run.reply run.taken) }
+{
     let Search {
         asked,
         states,

@@ -1,5 +1,5 @@
 -- `answer_indexed` replies as the definition says, because its index is the table of the archives.
-use Rattle.mairix_tool.proofs.Words.{◌≡◌, ℕ, List, sym, subst, arith, IsFileOf, table, mboxes, Wanted, wanted, reply_of, map, inl, inr}
+use Rattle.mairix_tool.proofs.Words.{ℕ, List, sym, subst, arith, IsFileOf, table, mboxes, Wanted, wanted, reply_of, map, inl, inr}
 use Rattle.mairix_tool.proofs.ReplyLaws.Once.{refused-once, sound-once}
 use Rattle.mairix_tool.proofs.ReplyLaws.Searching.{asks-nothing, indexed-table}
 use Rattle.run_faults.specs.Faults.{IsOfIndexing}

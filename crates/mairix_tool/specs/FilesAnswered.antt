@@ -1,0 +1,15 @@
+-- What a run over files replied, by the records of its calls.
+use Rattle.std.specs.Prelude.{◌≡◌, ℕ, List, [], Some, All, length}
+use Rattle.call_record.specs.declared.record.Record.{Record}
+use Rattle.call_record.specs.Calls.{taken_after}
+use Rattle.mairix_tool.specs.Replies.{Answer}
+use Rattle.mairix_tool.specs.Runs.{RepliesBy}
+use Rattle.mairix_tool.specs.declared.reply.Reply.{Reply}
+
+-- each of these lists of archives has one for each path
+abbrev pub AreThisMany : List (List ℕ) → List (List (List ℕ)) → Type 0
+AreThisMany paths lists = All (λ archives. length archives ≡ length paths) lists
+
+-- this reply, with what the system took of the output, is right
+abbrev pub Replied : (Answer → Type 0) → Reply → Record → Type 0
+Replied IsRight reply taken = RepliesBy IsRight reply (Some []) (Some (taken_after taken.calls))
