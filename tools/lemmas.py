@@ -29,7 +29,8 @@ class Lemma:
     def goes_on(self, line, indent):
         """Whether a line behind the head is still the lemma's."""
         deeper = line.startswith(indent + " ")
-        return deeper or line.startswith((f"{indent}unfolding ", f"{indent}}}")) or begins_with(line, indent, self.name)
+        closes = line[len(indent) :][:1] in (")", "]", "}") and line.startswith(indent)
+        return deeper or closes or line.startswith(f"{indent}unfolding ") or begins_with(line, indent, self.name)
 
     def has_body(self):
         return self.is_record or self.own > 1

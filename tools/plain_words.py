@@ -1,6 +1,6 @@
 #!/usr/bin/env python3
 """Looks for private words in the comments of crates and on pages. tools/plain_words.txt lists the words, each with the
-usual one, and the crates and pages.
+usual one, and the crates and pages. Also finds files of proofs that don't begin with a comment: it says what they show.
 
     tools/plain_words.py [CRATE ..]
 
@@ -62,6 +62,12 @@ def files_of(crate):
     return [*sorted(folder.glob("src/**/*.rt")), *sorted(folder.glob("specs/**/*.antt"))]
 
 
+def uncommented(crate):
+    """The files of proofs of a crate that don't begin with a comment. A page has none."""
+    proofs = sorted((TOP / "crates" / crate / "proofs").glob("**/*.antt"))
+    return [it for it in proofs if not it.read_text("utf-8").startswith("-- ")]
+
+
 def main(crates):
     words = Words(WORDS.read_text("utf-8"))
     looked_at = {it: [(file, comments_of(file)) for file in files_of(it)] for it in crates or words.crates}
@@ -72,7 +78,10 @@ def main(crates):
         wrong = [(file, *fault) for file, text in texts for fault in words.faults(text)]
         for file, line, word, usual in wrong:
             print(f"{file.relative_to(TOP)}:{line}: {word}: {usual}")
-        failed += bool(wrong) or not texts
+        silent = uncommented(name)
+        for file in silent:
+            print(f"{file.relative_to(TOP)}: doesn't begin with a comment")
+        failed += bool(wrong or silent) or not texts
     print(f"{len(looked_at) - failed} passed, {failed} failed")
     return 1 if failed else 0
 

@@ -402,7 +402,9 @@ def rows(name):
     """The rows of a file: a text, or the list of patterns, and what it asks, or the fault that it shows."""
     row = r'^(?:rows :|    ×) (Asks|Shows) (\[\]|\((?:codes "(?:[^"\\]|\\.)*"|\[\]| ∷ )+\)) (.*)$'
     with open(os.path.join(PROOFS, name), encoding="utf-8") as f:
-        return [(text, "%s %s" % (word, answer)) for word, text, answer in re.findall(row, f.read(), re.M)]
+        # A row may have several lines.
+        lines = re.sub(r"\n +(?![ ×])", " ", f.read())
+    return [(text, "%s %s" % (word, answer)) for word, text, answer in re.findall(row, lines, re.M)]
 
 
 def table(name):

@@ -1,15 +1,18 @@
 -- What is known of a source after one more read: the bytes that it gave were the first of those that were left, or
 -- nothing is known any more.
-use Rattle.std.proofs.Common.{◌≡◌, ◌≤◌, ◌<◌, ◌∙◌, ℕ, ◌++◌, Bool, true, false, List, [], Option, None, Some, Result, Ok, Err, IfOk, length, take, drop, refl, sym, ap, arith, take-append-drop, length-take-le, if◌then◌else◌, ◌⊎◌}
+use Rattle.std.proofs.Common.{◌≡◌, ◌≤◌, ◌<◌, ◌∙◌, ℕ, ◌++◌, Bool, true, false, List, [], Option, None, Some, Result, Ok}
+use Rattle.std.proofs.Common.{Err, IfOk, length, take, drop, refl, sym, ap, arith, take-append-drop, length-take-le}
+use Rattle.std.proofs.Common.{if◌then◌else◌, ◌⊎◌}
 use Rattle.std.proofs.lemmas.Bool.Decides.{nat_tests}
 use Rattle.std.proofs.lemmas.Slice.Eq.{bytes_eq-Decides}
 use Rattle.std.proofs.Math.Seq.{drop-nil}
 use Rattle.std.proofs.lemmas.Grind.{common_steps}
 use Rattle.std.specs.Prelude.{IsSome}
 use Rattle.std.specs.Io.KnownBytes.{Consumes, IsAtEnd, ReadConsumes}
+use Rattle.contract_words.specs.Archives.{archive_at}
 use Rattle.contract_words.specs.Knowledge.{still_known}
 use Rattle.call_record.specs.declared.record.Record.{Record}
-use Rattle.call_record.specs.Calls.{read_next, left_by, is_front, archive_at}
+use Rattle.call_record.specs.Calls.{read_next, left_by, is_front}
 use Rattle.call_record.specs.Noted.{Notes, left_of, read_told}
 use Rattle.call_record.proofs.Agreeing.{honest}
 
@@ -51,7 +54,8 @@ noted-read archive old new (Ok n) into bound notes =
     let g = given (left_of archive old) (take n into) in
     let short : length (take n into) ≡ n = length-take-le n into bound in
     rw (notes.0, notes.1) ((g.0, λ none room. g.1 (short ∙ none)), g.2)
-noted-read archive old new (Err e) into bound notes = rw (notes.0, notes.1, failed (left_of archive old)) (grind arith, λ s. s)
+noted-read archive old new (Err e) into bound notes =
+    rw (notes.0, notes.1, failed (left_of archive old)) (grind arith, λ s. s)
 
 -- ---- a reader that gives what was supposed
 

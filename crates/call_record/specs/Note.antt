@@ -47,5 +47,6 @@ from_parts-to_parts (written bytes) = refl
 abbrev pub call_code : Coded Call
 call_code =
     code_by Parts
-    (coded× coded_ℕ (coded× coded_ℕ (coded× coded_ℕ (coded× (coded_option coded_ℕ) (coded_option (coded_list coded_ℕ))))))
+    (coded× coded_ℕ (coded× coded_ℕ (coded× coded_ℕ
+    (coded× (coded_option coded_ℕ) (coded_option (coded_list coded_ℕ))))))
     to_parts from_parts from_parts-to_parts

@@ -1,7 +1,8 @@
 -- What a record says after one more call.
 use Rattle.std.specs.Prelude.{◌≡◌, ℕ, List, ◌∷◌, take, Option, None, Some, Result, Ok, Err}
+use Rattle.contract_words.specs.Archives.{archive_at}
 use Rattle.call_record.specs.declared.record.Record.{Record}
-use Rattle.call_record.specs.Calls.{Call, read_next, read_at, measured, written, archive_at, left_after, held_after}
+use Rattle.call_record.specs.Calls.{Call, read_next, read_at, measured, written, left_after, held_after}
 
 -- what is left of the supposed archive with this number, if it agrees with all reads of a source
 abbrev pub left_of : ℕ → Record → Option (List ℕ)

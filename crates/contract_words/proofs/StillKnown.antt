@@ -1,5 +1,6 @@
 -- Laws of what is still known: up to earlier calls it was known too, and with it all else that was known.
-use Rattle.std.proofs.Common.{◌≡◌, ◌<◌, ℕ, zero, suc, List, [], ◌∷◌, length, get_or, map, Option, None, Some, IsSome, All, ap, arith}
+use Rattle.std.proofs.Common.{◌≡◌, ◌<◌, ℕ, zero, suc, List, [], ◌∷◌, length, get_or, map, Option, None, Some, IsSome}
+use Rattle.std.proofs.Common.{All, ap, arith}
 use Rattle.std.specs.Io.KnownBytes.{IsAtEnd}
 use Rattle.std.proofs.lemmas.List.Elements.{All-from_recursion, recursion_from_All}
 use Rattle.std.proofs.Math.ListN.{set}
@@ -34,7 +35,8 @@ known-still o new x is some = grind arith
 -- ---- devices of which one has been called
 
 module _ {X C : Type 0} (f : X → Option C) (v d : X) where
-  before : (xs : List X) (i : ℕ) → (IsSome (f v) → IsSome (f (get_or xs i d))) → AllByRecursion IsSome (map f (set xs i v))
+  before : (xs : List X) (i : ℕ) → (IsSome (f v) → IsSome (f (get_or xs i d)))
+      → AllByRecursion IsSome (map f (set xs i v))
       → AllByRecursion IsSome (map f xs)
   before [] i h all = all
   before (x ∷ xs) zero h all = (h all.0, all.1)

@@ -1,5 +1,6 @@
 -- The ranges of a list, each from a place to an end after it.
-use Rattle.std.specs.Prelude.{◌≡◌, ℕ, zero, suc, ◌<◌, ◌⊎◌, Bool, List, [], ◌∷◌, ◌++◌, length, take, drop, map, reverse, slice_range}
+use Rattle.std.specs.Prelude.{◌≡◌, ℕ, zero, suc, ◌<◌, ◌⊎◌, Bool, List, [], ◌∷◌, ◌++◌, length, take, drop, map, reverse}
+use Rattle.std.specs.Prelude.{slice_range}
 
 -- this many numbers, one after another, from the first on
 abbrev pub numbers_from : ℕ → ℕ → List ℕ

@@ -1,5 +1,8 @@
 -- Cutting bytes at a byte, and when the byte isn't there.
-use Rattle.header_text.proofs.Words.{◌≡◌, ◌∙◌, ◌<◌, ◌≤◌, ◌-◌, ◌++◌, ◌==◌, ℕ, zero, suc, Bool, true, false, List, [], ◌∷◌, Option, Some, None, length, take, drop, get_or, slice_index, refl, sym, ap, arith, option_map, unwrap_or, not, split_while, eq-eqb, eqb-true, take_rest, cut_at}
+use Rattle.header_text.proofs.Words.{◌≡◌, ◌∙◌, ◌<◌, ◌≤◌, ◌-◌, ◌++◌, ◌==◌, ℕ, zero, suc, Bool, true, false, List, []}
+use Rattle.header_text.proofs.Words.{◌∷◌, Option, Some, None, length, take, drop, get_or, slice_index, refl, sym, ap}
+use Rattle.header_text.proofs.Words.{arith, option_map, unwrap_or, not, split_while, eq-eqb, eqb-true, take_rest}
+use Rattle.header_text.proofs.Words.{cut_at}
 
 -- the byte isn't among the bytes
 abbrev pub Lacks : ℕ → List ℕ → Type 0
@@ -21,38 +24,48 @@ cut_at-no : (c b : ℕ) (bs : List ℕ) → (b == c) ≡ false → cut_at c (b �
 cut_at-no c b bs e = rw (e, cut_at) refl
 
 -- bytes that begin with it are cut at the front
-pub cut_at-begins : (c : ℕ) (bs : List ℕ) → 1 ≤ length bs → get_or bs 0 0 ≡ c → Some ([], take (length bs - 1) (drop 1 bs)) ≡ cut_at c bs
+pub cut_at-begins : (c : ℕ) (bs : List ℕ) → 1 ≤ length bs → get_or bs 0 0 ≡ c
+    → Some ([], take (length bs - 1) (drop 1 bs)) ≡ cut_at c bs
 cut_at-begins c [] some is = absurd (omega arith)
-cut_at-begins c (b ∷ bs) some is = ap (λ (rest : List ℕ). Some ([], rest)) (take_rest (b ∷ bs) 1) ∙ sym (cut_at-yes c b bs (eq-eqb b c is))
+cut_at-begins c (b ∷ bs) some is = ap (λ (rest : List ℕ). Some ([], rest)) (take_rest (b ∷ bs) 1)
+    ∙ sym (cut_at-yes c b bs (eq-eqb b c is))
 
 -- cut at a place: the first with this byte
-pub cut_at-first : (c : ℕ) (bs : List ℕ) (at : ℕ) → at < length bs → (slice_index bs at == c) ≡ true → ((k : ℕ) → k < at → (slice_index bs k == c) ≡ false)
+pub cut_at-first : (c : ℕ) (bs : List ℕ) (at : ℕ) → at < length bs → (slice_index bs at == c) ≡ true
+    → ((k : ℕ) → k < at → (slice_index bs k == c) ≡ false)
     → cut_at c bs ≡ Some (take at bs, drop (suc at) bs)
 cut_at-first c [] at lt is before = absurd (omega arith)
 cut_at-first c (b ∷ bs) zero lt is before = cut_at-yes c b bs is
 cut_at-first c (b ∷ bs) (suc at) lt is before =
-    cut_at-no c b bs (before 0 (omega arith)) ∙ ap (put b) (cut_at-first c bs at (omega arith) is (λ k l. before (suc k) (omega arith)))
+    cut_at-no c b bs (before 0 (omega arith))
+    ∙ ap (put b) (cut_at-first c bs at (omega arith) is (λ k l. before (suc k) (omega arith)))
 
-pub cut_at-none : (c : ℕ) (bs : List ℕ) → ((k : ℕ) → k < length bs → (slice_index bs k == c) ≡ false) → cut_at c bs ≡ None
+pub cut_at-none : (c : ℕ) (bs : List ℕ) → ((k : ℕ) → k < length bs → (slice_index bs k == c) ≡ false) → cut_at c bs
+    ≡ None
 cut_at-none c [] before = refl
-cut_at-none c (b ∷ bs) before = cut_at-no c b bs (before 0 (omega arith)) ∙ ap (put b) (cut_at-none c bs (λ k l. before (suc k) (omega arith)))
+cut_at-none c (b ∷ bs) before = cut_at-no c b bs (before 0 (omega arith))
+    ∙ ap (put b) (cut_at-none c bs (λ k l. before (suc k) (omega arith)))
 
 -- cut into given parts: the first of them doesn't have the byte
-pub cut_at-is : (c : ℕ) (before behind : List ℕ) → Lacks c before → cut_at c (before ++ c ∷ behind) ≡ Some (before, behind)
+pub cut_at-is : (c : ℕ) (before behind : List ℕ) → Lacks c before → cut_at c (before ++ c ∷ behind)
+    ≡ Some (before, behind)
 cut_at-is c [] behind free = cut_at-yes c c behind (grind arith)
-cut_at-is c (b ∷ before) behind free = cut_at-no c b (before ++ c ∷ behind) free.0 ∙ ap (put b) (cut_at-is c before behind free.1)
+cut_at-is c (b ∷ before) behind free = cut_at-no c b (before ++ c ∷ behind) free.0
+    ∙ ap (put b) (cut_at-is c before behind free.1)
 
 same_parts : (p q : List ℕ × List ℕ) → Some p ≡ Some q → p ≡ q
 same_parts p q h = ap (λ (o : Option (List ℕ × List ℕ)). unwrap_or o p) h
 
-pub IsCut-from : (c : ℕ) (bytes before behind : List ℕ) → cut_at c bytes ≡ Some (before, behind) → IsCut c bytes before behind
+pub IsCut-from : (c : ℕ) (bytes before behind : List ℕ) → cut_at c bytes ≡ Some (before, behind)
+    → IsCut c bytes before behind
 IsCut-from c [] before behind e = absurd (cc)
 IsCut-from c (b ∷ bs) before behind e = go (b == c) refl (cut_at c bs) refl (IsCut-from c bs)
   where
     parts : List ℕ × List ℕ
     parts = (before, behind)
 
-    go : (t : Bool) → (b == c) ≡ t → (o : Option (List ℕ × List ℕ)) → cut_at c bs ≡ o → ((x y : List ℕ) → cut_at c bs ≡ Some (x, y) → IsCut c bs x y) → IsCut c (b ∷ bs) before behind
+    go : (t : Bool) → (b == c) ≡ t → (o : Option (List ℕ × List ℕ)) → cut_at c bs ≡ o
+        → ((x y : List ℕ) → cut_at c bs ≡ Some (x, y) → IsCut c bs x y) → IsCut c (b ∷ bs) before behind
     go true t o f later = grind (arith, parts, eqb-true)
     go false t None f later = absurd (cc (sym (cut_at-no c b bs t ∙ ap (put b) f) ∙ e))
     go false t (Some (x, y)) f later =
@@ -61,25 +74,33 @@ IsCut-from c (b ∷ bs) before behind e = go (b == c) refl (cut_at c bs) refl (I
         let same : here ≡ parts = same_parts here parts (sym (cut_at-no c b bs t ∙ ap (put b) f) ∙ e) in
         let front : b ∷ x ≡ before = ap (λ (p : List ℕ × List ℕ). p.0) same in
         let back : y ≡ behind = ap (λ (p : List ℕ × List ℕ). p.1) same in
-        record { joined = rw (← front, ← back) (ap (λ (l : List ℕ). b ∷ l) inner.joined); free = rw (← front) (t, inner.free) }
+        record {
+          joined = rw (← front, ← back) (ap (λ (l : List ℕ). b ∷ l) inner.joined);
+          free =
+              rw (← front) (t, inner.free);
+        }
 
 pub Lacks-from : (c : ℕ) (bytes : List ℕ) → cut_at c bytes ≡ None → Lacks c bytes
 Lacks-from c [] e = tt
 Lacks-from c (b ∷ bs) e = grind (arith, Lacks-from c bs)
 
 -- the front up to a byte is what is before it
-pub split_while-lacks : (c : ℕ) (before behind : List ℕ) → Lacks c before → split_while (λ b. not (b == c)) (before ++ c ∷ behind) ≡ (before, c ∷ behind)
+pub split_while-lacks : (c : ℕ) (before behind : List ℕ) → Lacks c before
+    → split_while (λ b. not (b == c)) (before ++ c ∷ behind) ≡ (before, c ∷ behind)
 split_while-lacks c [] behind free = let is : (c == c) ≡ true = grind arith in rw (is, split_while) refl
 split_while-lacks c (b ∷ before) behind free = grind (arith, split_while-lacks c before behind free.1)
 
-pub split_while-cut : (c : ℕ) (bytes before behind : List ℕ) → cut_at c bytes ≡ Some (before, behind) → (split_while (λ b. not (b == c)) bytes).0 ≡ before
+pub split_while-cut : (c : ℕ) (bytes before behind : List ℕ) → cut_at c bytes ≡ Some (before, behind)
+    → (split_while (λ b. not (b == c)) bytes).0 ≡ before
 split_while-cut c bytes before behind e =
     let cut = IsCut-from c bytes before behind e in
     rw cut.joined (ap (λ (p : List ℕ × List ℕ). p.0) (split_while-lacks c before behind cut.free))
 
 split_while-whole : (c : ℕ) (bytes : List ℕ) → Lacks c bytes → split_while (λ b. not (b == c)) bytes ≡ (bytes, [])
 split_while-whole c [] free = refl
-split_while-whole c (b ∷ bytes) free = rw (free.0, split_while) (ap (λ (p : List ℕ × List ℕ). (b ∷ p.0, p.1)) (split_while-whole c bytes free.1))
+split_while-whole c (b ∷ bytes) free = rw (free.0, split_while)
+    (ap (λ (p : List ℕ × List ℕ). (b ∷ p.0, p.1)) (split_while-whole c bytes free.1))
 
-pub split_while-free : (c : ℕ) (bytes : List ℕ) → cut_at c bytes ≡ None → (split_while (λ b. not (b == c)) bytes).0 ≡ bytes
+pub split_while-free : (c : ℕ) (bytes : List ℕ) → cut_at c bytes ≡ None → (split_while (λ b. not (b == c)) bytes).0
+    ≡ bytes
 split_while-free c bytes e = ap (λ (p : List ℕ × List ℕ). p.0) (split_while-whole c bytes (Lacks-from c bytes e))

@@ -1,3 +1,4 @@
+-- The proofs of header_text: words, lemmas, rows and laws. Proofs of single functions are in folders named after these.
 pub mod Words
 pub mod Fronts
 pub mod CutLemmas

@@ -1,5 +1,6 @@
 -- The text of some bytes is the bytes themselves.
-use Rattle.header_text.proofs.Words.{◌≡◌, ◌∙◌, ℕ, List, sym, IsAscii, IsUtf8, IsUtf8-from_ascii, lossy_chars-utf8, text_of, Charset, Utf8, Latin1, Latin9, Windows1252, Unknown}
+use Rattle.header_text.proofs.Words.{◌≡◌, ◌∙◌, ℕ, List, sym, IsAscii, IsUtf8, IsUtf8-from_ascii, lossy_chars-utf8}
+use Rattle.header_text.proofs.Words.{text_of, Charset, Utf8, Latin1, Latin9, Windows1252, Unknown}
 use Rattle.header_text.proofs.WordLaws.CharacterLemmas.{lossy-ascii}
 
 -- valid UTF-8
@@ -13,5 +14,6 @@ unfolding text_of
 text_of-ascii Utf8 bytes h = lossy_chars-utf8 bytes (IsUtf8-from_ascii bytes h)
 text_of-ascii Latin1 bytes h = sym (lossy-ascii Latin1 bytes h) ∙ lossy_chars-utf8 bytes (IsUtf8-from_ascii bytes h)
 text_of-ascii Latin9 bytes h = sym (lossy-ascii Latin9 bytes h) ∙ lossy_chars-utf8 bytes (IsUtf8-from_ascii bytes h)
-text_of-ascii Windows1252 bytes h = sym (lossy-ascii Windows1252 bytes h) ∙ lossy_chars-utf8 bytes (IsUtf8-from_ascii bytes h)
+text_of-ascii Windows1252 bytes h = sym (lossy-ascii Windows1252 bytes h)
+    ∙ lossy_chars-utf8 bytes (IsUtf8-from_ascii bytes h)
 text_of-ascii Unknown bytes h = sym (lossy-ascii Unknown bytes h) ∙ lossy_chars-utf8 bytes (IsUtf8-from_ascii bytes h)

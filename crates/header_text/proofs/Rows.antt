@@ -1,6 +1,8 @@
 -- Worked examples of fields, unfolding, ids, escapes and base64. The values on the right come from a separate reading
 -- of the rules.
-use Rattle.header_text.proofs.Words.{◌≡◌, ℕ, List, [], ◌∷◌, map, refl, codes, is_empty, before_blanks, HeaderField, fields_of, lines_within, most_in_header, unfolded, ids_of, q_bytes, sextet, bytes_of_sextets, base64_bytes}
+use Rattle.header_text.proofs.Words.{◌≡◌, ℕ, List, [], ◌∷◌, map, refl, codes, is_empty, before_blanks, HeaderField}
+use Rattle.header_text.proofs.Words.{fields_of, lines_within, most_in_header, unfolded, ids_of, q_bytes, sextet}
+use Rattle.header_text.proofs.Words.{bytes_of_sextets, base64_bytes}
 
 abbrev field : List ℕ → List ℕ → HeaderField
 field name body = record { name = name; body = body }
@@ -10,7 +12,10 @@ abbrev pub Each : {A B : Type 0} → (A → B) → List (A × B) → Type 0
 Each read rows = map (λ row. read row.0) rows ≡ map (λ row. row.1) rows
 
 rows : Each fields_of ((codes "A: b\n" ∷ codes " c\n" ∷ codes "\n" ∷ [], field (codes "A") (codes " b\n c\n") ∷ [])
-    ∷ (codes "A: b\n" ∷ codes "no colon\n" ∷ codes " c\n" ∷ codes "D:e\n" ∷ [], field (codes "A") (codes " b\n") ∷ field (codes "D") (codes "e\n") ∷ [])
+    ∷ (
+      codes "A: b\n" ∷ codes "no colon\n" ∷ codes " c\n" ∷ codes "D:e\n" ∷ [],
+      field (codes "A") (codes " b\n") ∷ field (codes "D") (codes "e\n") ∷ [],
+    )
     ∷ (codes " x\n" ∷ codes "A:b\n" ∷ [], field (codes "A") (codes "b\n") ∷ [])
     ∷ (codes "A \t : b\n" ∷ [], field (codes "A") (codes " b\n") ∷ [])
     ∷ (codes ": b\n" ∷ codes "A:\n" ∷ [], field (codes "A") (codes "\n") ∷ [])

@@ -8,7 +8,11 @@ is_blank b = (b == 0x20) || (b == 0x09)
 -- the bytes at the front that pass, and what follows them
 abbrev pub split_while : (ℕ → Bool) → List ℕ → List ℕ × List ℕ
 split_while p [] = ([], [])
-split_while p (b ∷ bs) = elim (p b) [ true ↦ let rest = split_while p bs in (b ∷ rest.0, rest.1) | false ↦ ([], b ∷ bs) ]
+split_while p (b ∷ bs) = elim (p b) [
+  | true ↦ let rest = split_while p bs
+      in (b ∷ rest.0, rest.1)
+  | false ↦ ([], b ∷ bs)
+]
 
 -- the bytes after the spaces and tabs at the front
 abbrev pub after_blanks : List ℕ → List ℕ

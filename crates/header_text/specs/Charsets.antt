@@ -1,5 +1,6 @@
 -- Charsets: their labels, and the characters of their bytes.
-use Rattle.std.specs.Prelude.{ℕ, ◌-◌, Bool, not, ◌&&◌, ◌==◌, nat_lt, nat_le, List, [], ◌∷◌, map, if◌then◌else◌, slice_index, codes, encode_utf8_all}
+use Rattle.std.specs.Prelude.{ℕ, ◌-◌, Bool, not, ◌&&◌, ◌==◌, nat_lt, nat_le, List, [], ◌∷◌, map, if◌then◌else◌}
+use Rattle.std.specs.Prelude.{slice_index, codes, encode_utf8_all}
 use Rattle.std.specs.List.{list_any}
 use Rattle.bstr.specs.Utf8.{lossy_chars}
 use Rattle.header_text.specs.Blanks.{split_while}

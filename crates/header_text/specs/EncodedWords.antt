@@ -1,5 +1,7 @@
 -- Encoded words (RFC 2047) in an unfolded value: their form, where they are, and the text that they and the rest give.
-use Rattle.std.specs.Prelude.{◌≡◌, ℕ, zero, suc, ◌-◌, Bool, true, false, not, ◌&&◌, ◌||◌, ◌==◌, nat_le, nat_lt, IsTrue, List, [], ◌∷◌, ◌++◌, length, Option, Some, None, if◌then◌else◌, option_map, encode_utf8_all}
+use Rattle.std.specs.Prelude.{◌≡◌, ℕ, zero, suc, ◌-◌, Bool, true, false, not, ◌&&◌, ◌||◌, ◌==◌, nat_le, nat_lt, IsTrue}
+use Rattle.std.specs.Prelude.{List, [], ◌∷◌, ◌++◌, length, Option, Some, None, if◌then◌else◌, option_map}
+use Rattle.std.specs.Prelude.{encode_utf8_all}
 use Rattle.std.specs.List.{list_all}
 use Rattle.bstr.specs.Utf8.{lossy_chars}
 use Rattle.header_text.specs.Blanks.{is_blank}
@@ -24,7 +26,8 @@ equals_sign = 0x3D
 
 -- the bytes of an encoded word as written
 abbrev pub spelled : EncodedWord → List ℕ
-spelled w = equals_sign ∷ question ∷ (w.charset ++ question ∷ w.encoding ∷ question ∷ (w.text ++ question ∷ equals_sign ∷ []))
+spelled w = equals_sign ∷ question ∷ (w.charset ++ question ∷ w.encoding ∷ question ∷
+    (w.text ++ question ∷ equals_sign ∷ []))
 
 -- whether a byte is allowed in the name of a charset: 33 to 126, but no `?`
 abbrev pub is_charset_byte : ℕ → Bool
@@ -45,7 +48,8 @@ is_b encoding = (encoding == 0x42) || (encoding == 0x62)
 -- whether the parts are allowed: a charset of one or more bytes, the encoding Q or B, and a text, which may be empty
 abbrev pub is_well_formed : EncodedWord → Bool
 is_well_formed w =
-    nat_lt 0 (length w.charset) && list_all is_charset_byte w.charset && (is_q w.encoding || is_b w.encoding) && list_all is_text_byte w.text
+    nat_lt 0 (length w.charset) && list_all is_charset_byte w.charset && (is_q w.encoding || is_b w.encoding) &&
+    list_all is_text_byte w.text
 
 -- the bytes begin with this encoded word
 abbrev pub BeginsWord : List ℕ → EncodedWord → Type 0
@@ -62,7 +66,8 @@ after (c ∷ front) (b ∷ bytes) = elim (b == c) [ true ↦ after front bytes |
 -- the word of these three parts, if they make one
 abbrev pub word_of : List ℕ → List ℕ → List ℕ → Option EncodedWord
 word_of charset (encoding ∷ []) text =
-    let w : EncodedWord = record { charset = charset; encoding = encoding; text = text } in if is_well_formed w then Some w else None
+    let w : EncodedWord = record { charset = charset; encoding = encoding; text = text } in if is_well_formed w
+    then Some w else None
 word_of charset encoding text = None
 
 -- what f makes of the value, if there is one
@@ -107,7 +112,8 @@ abbrev pub pieces_behind : ℕ → List ℕ → Pieces
 pieces_behind skipped [] = record { words = []; rest = [] }
 pieces_behind (suc skipped) (b ∷ bs) = pieces_behind skipped bs
 pieces_behind zero (b ∷ bs) = elim (word_at (b ∷ bs)) [
-  | Some w ↦ let later : Pieces = pieces_behind (length (spelled w) - 1) bs in record { words = record { between = []; word = w } ∷ later.words; rest = later.rest }
+  | Some w ↦ let later : Pieces = pieces_behind (length (spelled w) - 1) bs
+      in record { words = record { between = []; word = w } ∷ later.words; rest = later.rest }
   | None ↦ let later : Pieces = pieces_behind zero bs in onto_front b later.words later.rest
 ]
 
@@ -123,7 +129,8 @@ NoneBegins (b ∷ bs) later = ((w : EncodedWord) → ¬ BeginsWord (b ∷ (bs ++
 -- these are the value's encoded words, each the leftmost at or after the end of the one before
 abbrev pub AreLeftmost : List ℕ → List WordAfter → List ℕ → Type 0
 AreLeftmost value [] rest = (value ≡ rest) × NoneBegins rest []
-AreLeftmost value (w ∷ ws) rest = (later : List ℕ) × (value ≡ w.between ++ (spelled w.word ++ later)) × IsTrue (is_well_formed w.word)
+AreLeftmost value (w ∷ ws) rest = (later : List ℕ) × (value ≡ w.between ++ (spelled w.word ++ later))
+    × IsTrue (is_well_formed w.word)
     × NoneBegins w.between (spelled w.word ++ later) × AreLeftmost later ws rest
 
 -- ---- the text of a value

@@ -1,6 +1,7 @@
 -- How bytes with escapes are decoded, in quoted-printable and in Q; an escape is `=` and two hexadecimal digits (RFC
 -- 2045, 6.7; RFC 2047, 4.2).
-use Rattle.std.specs.Prelude.{ℕ, ◌+◌, ◌-◌, ◌*◌, ◌&&◌, ◌==◌, nat_le, List, [], ◌∷◌, Option, Some, None, if◌then◌else◌, option_map, option_and_then}
+use Rattle.std.specs.Prelude.{ℕ, ◌+◌, ◌-◌, ◌*◌, ◌&&◌, ◌==◌, nat_le, List, [], ◌∷◌, Option, Some, None, if◌then◌else◌}
+use Rattle.std.specs.Prelude.{option_map, option_and_then}
 
 -- the value of a hexadecimal digit, in either case
 abbrev pub hex_value : ℕ → Option ℕ
@@ -11,7 +12,8 @@ hex_value b =
 
 -- the byte that three bytes encode, if they are `=` and two hexadecimal digits
 abbrev pub escaped : ℕ → ℕ → ℕ → Option ℕ
-escaped a b c = if a == 0x3D then option_and_then (λ high. option_map (λ low. high * 16 + low) (hex_value c)) (hex_value b) else None
+escaped a b c = if a == 0x3D then option_and_then (λ high. option_map (λ low. high * 16 + low) (hex_value c))
+    (hex_value b) else None
 
 -- `other` says what becomes of a byte that isn't in an escape.
 module _ (other : ℕ → ℕ) where
@@ -20,7 +22,8 @@ module _ (other : ℕ → ℕ) where
   unescaped_by [] = []
   unescaped_by (a ∷ []) = other a ∷ []
   unescaped_by (a ∷ b ∷ []) = other a ∷ other b ∷ []
-  unescaped_by (a ∷ b ∷ c ∷ bytes) = elim (escaped a b c) [ Some n ↦ n ∷ unescaped_by bytes | None ↦ other a ∷ unescaped_by (b ∷ c ∷ bytes) ]
+  unescaped_by (a ∷ b ∷ c ∷ bytes) = elim (escaped a b c)
+      [ Some n ↦ n ∷ unescaped_by bytes | None ↦ other a ∷ unescaped_by (b ∷ c ∷ bytes) ]
 
 -- bytes decoded as in quoted-printable: any byte outside an escape stays
 unfoldable pub unescaped : List ℕ → List ℕ

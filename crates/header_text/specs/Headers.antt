@@ -1,5 +1,6 @@
 -- The fields of a header (RFC 5322, 2.2), found in its lines.
-use Rattle.std.specs.Prelude.{ℕ, ◌+◌, ◌-◌, Bool, true, false, not, ◌&&◌, ◌==◌, nat_le, List, [], ◌∷◌, ◌++◌, length, Option, Some, None}
+use Rattle.std.specs.Prelude.{ℕ, ◌+◌, ◌-◌, Bool, true, false, not, ◌&&◌, ◌==◌, nat_le, List, [], ◌∷◌, ◌++◌, length}
+use Rattle.std.specs.Prelude.{Option, Some, None}
 use Rattle.header_text.specs.Blanks.{is_blank, split_while, after_blanks}
 use Rattle.mbox_cutter.specs.Lines.{is_empty}
 
@@ -54,7 +55,11 @@ with_continuations (Some f) more later = record { name = f.name; body = f.body +
 abbrev pub continued_and_fields : List (List ℕ) → List ℕ × List HeaderField
 continued_and_fields [] = ([], [])
 continued_and_fields (l ∷ ls) = let rest = continued_and_fields ls in
-    elim (is_continuation l) [ true ↦ (l ++ rest.0, rest.1) | false ↦ ([], with_continuations (field_of_line l) rest.0 rest.1) ]
+    elim (is_continuation l) [
+      | true ↦ (l ++ rest.0, rest.1)
+      | false ↦
+          ([], with_continuations (field_of_line l) rest.0 rest.1)
+    ]
 
 -- the fields of these lines
 abbrev pub fields_in : List (List ℕ) → List HeaderField

@@ -14,11 +14,12 @@ taken_of ls = if has_empty ls then Ended else More
 
 -- The state of a Header after these lines: its fields, the bytes of the lines that count, whether its last field may be
 -- continued, and its stage.
-pub record Holds (fields : List HeaderField) (size : ℕ) (in_field : Bool) (stage : Stage) (ls : List (List ℕ)) : Type 0 where
-  pub fields_are : fields ≡ fields_of ls
-  pub size_is : size ≡ lines_size (header ls)
-  pub in_field_is : in_field ≡ is_open_behind false (header ls)
-  pub stage_is : stage ≡ stage_of ls
+pub record Holds (fields : List HeaderField) (size : ℕ) (in_field : Bool) (stage : Stage) (ls : List (List ℕ)) : Type 0
+  where
+    pub fields_are : fields ≡ fields_of ls
+    pub size_is : size ≡ lines_size (header ls)
+    pub in_field_is : in_field ≡ is_open_behind false (header ls)
+    pub stage_is : stage ≡ stage_of ls
 
 -- these are the lines that were pushed
 abbrev pub HasLines : Header → List (List ℕ) → Type 0

@@ -1,5 +1,6 @@
 -- The message ids of a value (RFC 5322, 3.6.4).
-use Rattle.std.specs.Prelude.{ℕ, ◌+◌, Bool, false, not, ◌&&◌, ◌||◌, ◌==◌, nat_lt, List, [], ◌∷◌, length, map, filter, slice_range}
+use Rattle.std.specs.Prelude.{ℕ, ◌+◌, Bool, false, not, ◌&&◌, ◌||◌, ◌==◌, nat_lt, List, [], ◌∷◌, length, map, filter}
+use Rattle.std.specs.Prelude.{slice_range}
 use Rattle.std.specs.List.{list_all}
 use Rattle.contract_words.specs.Ranges.{ranges_from, passes_at}
 use Rattle.header_text.specs.Blanks.{is_blank}
@@ -24,7 +25,8 @@ is_inside_id b = not ((b == open_sign) || (b == close_sign))
 -- Whether a range of a value is an id: it is directly between a `<` and a `>`, and has neither. The range is given as
 -- the bytes before it, the nearest first, those inside it, and those after it.
 abbrev pub is_id : List ℕ → List ℕ → List ℕ → Bool
-is_id before inside behind = begins_with open_sign before && list_all is_inside_id inside && begins_with close_sign behind
+is_id before inside behind = begins_with open_sign before && list_all is_inside_id inside && begins_with close_sign
+    behind
 
 -- the ranges of a value that are ids, in order
 abbrev pub id_ranges : List ℕ → List (ℕ × ℕ)

@@ -24,4 +24,5 @@ stage_of ls = if has_empty ls then Ended else if nat_lt (length (header ls)) (le
 abbrev pub stage_behind : Stage → ℕ → List ℕ → Stage
 stage_behind Ended size l = Ended
 stage_behind Full size l = if is_empty l then Ended else Full
-stage_behind Open size l = if is_empty l then Ended else if nat_lt (most_in_header - size) (length l) then Full else Open
+stage_behind Open size l = if is_empty l then Ended else if nat_lt (most_in_header - size) (length l) then Full
+    else Open

@@ -1,18 +1,27 @@
 -- What reading an archive's messages, one after another, makes of a builder's draft.
-use Rattle.index_job.proofs.Words.{true, false, nat_lt, if◌then◌else◌, ◌≡◌, ◌∙◌, ◌+◌, ◌≤◌, ◌<◌, ◌++◌, ℕ, suc, List, [], ◌∷◌, length, Option, Some, option_map, unwrap_or, refl, sym, ap, subst, arith, append_assoc, append-nil, ⊎_elim, Ok, Err, length-map, map-append, ◌>>=◌, Draft, archive_count, begun_archive, stepped, TooMany, nat_tests, Key, Message, text, CutFault, Coming, JobFault, coming_ahead, Heads, AddsMessages, HasDone, with_terms, with_messages, with_open_archive, draft_with_messages, HasTooMany, IsJobFault, message_terms}
+use Rattle.index_job.proofs.Words.{true, false, nat_lt, if◌then◌else◌, ◌≡◌, ◌∙◌, ◌+◌, ◌≤◌, ◌<◌, ◌++◌, ℕ, suc, List, []}
+use Rattle.index_job.proofs.Words.{◌∷◌, length, Option, Some, option_map, unwrap_or, refl, sym, ap, subst, arith}
+use Rattle.index_job.proofs.Words.{append_assoc, append-nil, ⊎_elim, Ok, Err, length-map, map-append, ◌>>=◌, Draft}
+use Rattle.index_job.proofs.Words.{archive_count, begun_archive, stepped, TooMany, nat_tests, Key, Message, text}
+use Rattle.index_job.proofs.Words.{CutFault, Coming, JobFault, coming_ahead, Heads, AddsMessages, HasDone, with_terms}
+use Rattle.index_job.proofs.Words.{with_messages, with_open_archive, draft_with_messages, HasTooMany, IsJobFault}
+use Rattle.index_job.proofs.Words.{message_terms}
 use Rattle.std.proofs.lemmas.List.{length-append}
 use Rattle.index_job.specs.declared.archive_reading.Heading.TheVariants as heading
 use Rattle.index_job.proofs.Terms.{with_terms-more}
 
 -- ---- keys of messages
 
-pub with_messages-append : (n : ℕ) (xs ys : List Message) (ks : List Key) → with_messages n (xs ++ ys) ks ≡ with_messages (n + length xs) ys (with_messages n xs ks)
+pub with_messages-append : (n : ℕ) (xs ys : List Message) (ks : List Key) → with_messages n (xs ++ ys) ks
+    ≡ with_messages (n + length xs) ys (with_messages n xs ks)
 with_messages-append n [] ys ks = ap (λ k. with_messages k ys ks) (omega arith)
-with_messages-append n (m ∷ xs) ys ks = grind (arith, with_messages-append (suc n) xs ys (with_terms n (message_terms (text m)) ks))
+with_messages-append n (m ∷ xs) ys ks = grind
+    (arith, with_messages-append (suc n) xs ys (with_terms n (message_terms (text m)) ks))
 
 pub with_messages-more : (n : ℕ) (ms : List Message) (ks : List Key) → length ks ≤ length (with_messages n ms ks)
 with_messages-more n [] ks = omega arith
-with_messages-more n (m ∷ ms) ks = grind (arith, with_terms-more, with_messages-more (suc n) ms (with_terms n (message_terms (text m)) ks))
+with_messages-more n (m ∷ ms) ks = grind
+    (arith, with_terms-more, with_messages-more (suc n) ms (with_terms n (message_terms (text m)) ks))
 
 -- ---- drafts
 
@@ -21,7 +30,8 @@ module _ (number : ℕ) where
   no-messages d = ap (λ rs. record d { table = record d.table { messages = rs } }) (append-nil d.table.messages)
 
   -- adding messages in two steps is adding them at once
-  pub then-messages : (xs ys : List Message) (d : Draft) → draft_with_messages number (xs ++ ys) d ≡ draft_with_messages number ys (draft_with_messages number xs d)
+  pub then-messages : (xs ys : List Message) (d : Draft) → draft_with_messages number (xs ++ ys) d
+      ≡ draft_with_messages number ys (draft_with_messages number xs d)
   then-messages xs ys d = grind (arith, length-append, length-map, map-append, append_assoc, with_messages-append)
 
   -- a draft with too much has too much with more messages, too
@@ -30,7 +40,8 @@ module _ (number : ℕ) where
 
 -- ---- faults
 
-pub weaker : (refusal : Option CutFault) (A B : Type 0) → (A → B) → (f : JobFault) → IsJobFault refusal A f → IsJobFault refusal B f
+pub weaker : (refusal : Option CutFault) (A B : Type 0) → (A → B) → (f : JobFault) → IsJobFault refusal A f
+    → IsJobFault refusal B f
 weaker refusal A B h f h2 = grind arith
 
 -- ---- an archive, message by message
@@ -40,7 +51,8 @@ module _ (number : ℕ) (d : Draft) (all : ℕ) (ms : Option (List Message)) (re
   whole_draft = draft_with_messages number (unwrap_or ms []) d
 
   -- before the first message none is done
-  pub done-none : (builder : Option Draft) (coming : Option Coming) → builder ≡ Some d → coming ≡ Some (coming_ahead all ms refusal) → HasDone number d all ms refusal 0 builder coming
+  pub done-none : (builder : Option Draft) (coming : Option Coming) → builder ≡ Some d → coming
+      ≡ Some (coming_ahead all ms refusal) → HasDone number d all ms refusal 0 builder coming
   done-none builder coming is comes = record {
     done = [];
     rest = ms;
@@ -53,27 +65,35 @@ module _ (number : ℕ) (d : Draft) (all : ℕ) (ms : Option (List Message)) (re
       same : (o : Option (List Message)) → o ≡ option_map (λ later. [] ++ later) o
       same o = grind arith
 
-  module _ (count : ℕ) (builder : Option Draft) (coming : Option Coming) (h : HasDone number d all ms refusal count builder coming) where
+  module _ (count : ℕ) (builder : Option Draft) (coming : Option Coming)
+      (h : HasDone number d all ms refusal count builder coming) where
     -- a fault between two messages is a fault of the archive
     pub between-fault : (f : JobFault) → IsJobFault refusal ⊥ f → IsJobFault refusal (HasTooMany whole_draft) f
     between-fault f = weaker refusal ⊥ (HasTooMany whole_draft) (λ never. elim never [ ]) f
 
-    module _ (start : ℕ) (next : Option Coming) (m : Message) (later : List Message) (rest-is : h.rest ≡ Some (m ∷ later)) where
+    module _ (start : ℕ) (next : Option Coming) (m : Message) (later : List Message)
+        (rest-is : h.rest ≡ Some (m ∷ later)) where
       ms-is : ms ≡ Some ((h.done ++ m ∷ []) ++ later)
       ms-is = h.whole ∙ ap (option_map (λ l. h.done ++ l)) rest-is ∙ ap Some (sym (append_assoc h.done (m ∷ []) later))
 
       -- a fault inside a message is a fault of the archive
-      pub inside-fault : (f : JobFault) → IsJobFault refusal (HasTooMany (draft_with_messages number (m ∷ []) (draft_with_messages number h.done d))) f → IsJobFault refusal (HasTooMany whole_draft) f
+      pub inside-fault : (f : JobFault) → IsJobFault refusal
+          (HasTooMany (draft_with_messages number (m ∷ []) (draft_with_messages number h.done d))) f
+          → IsJobFault refusal (HasTooMany whole_draft) f
       inside-fault f =
           weaker refusal _ (HasTooMany whole_draft)
           (λ much. subst HasTooMany
-          (sym (then-messages number (h.done ++ m ∷ []) later d) ∙ ap (λ o. draft_with_messages number (unwrap_or o []) d) (sym ms-is))
-          (still-too-many number later (draft_with_messages number (h.done ++ m ∷ []) d) (subst HasTooMany (sym (then-messages number h.done (m ∷ []) d)) much)))
+          (sym (then-messages number (h.done ++ m ∷ []) later d)
+          ∙ ap (λ o. draft_with_messages number (unwrap_or o []) d) (sym ms-is))
+          (still-too-many number later (draft_with_messages number (h.done ++ m ∷ []) d)
+          (subst HasTooMany (sym (then-messages number h.done (m ∷ []) d)) much)))
           f
 
       -- after one more message, that one is done too
-      pub done-more : (builder' : Option Draft) (coming' : Option Coming) → builder' ≡ Some (draft_with_messages number (m ∷ []) (draft_with_messages number h.done d))
-          → coming' ≡ Some (coming_ahead all (Some later) refusal) → HasDone number d all ms refusal (count + 1) builder' coming'
+      pub done-more : (builder' : Option Draft) (coming' : Option Coming) → builder'
+          ≡ Some (draft_with_messages number (m ∷ []) (draft_with_messages number h.done d))
+          → coming' ≡ Some (coming_ahead all (Some later) refusal)
+          → HasDone number d all ms refusal (count + 1) builder' coming'
       done-more builder' coming' is comes = record {
         done = h.done ++ m ∷ [];
         rest = Some later;
@@ -84,16 +104,23 @@ module _ (number : ℕ) (d : Draft) (all : ℕ) (ms : Option (List Message)) (re
       }
 
     -- at the archive's end all messages are done
-    pub archive-done : (bytes : ℕ) → Heads (heading.End bytes) all h.rest refusal coming → AddsMessages number d all ms refusal (Ok (record { messages = count; length = bytes })) builder
+    pub archive-done : (bytes : ℕ) → Heads (heading.End bytes) all h.rest refusal coming
+        → AddsMessages number d all ms refusal (Ok (record { messages = count; length = bytes })) builder
     archive-done bytes (none, same, sound) = grind (arith, unwrap_or, option_map, append-nil)
 
 -- ---- an archive with its path
 
 -- if an archive has begun, there was room for it
-pub begun-is : (path : List ℕ) (d : Draft) (new : Option Draft) → stepped (begun_archive path) (Some d) ≡ Ok new → (archive_count d < d.most) × (new ≡ Some (with_open_archive path d))
+pub begun-is : (path : List ℕ) (d : Draft) (new : Option Draft) → stepped (begun_archive path) (Some d) ≡ Ok new
+    → (archive_count d < d.most) × (new ≡ Some (with_open_archive path d))
 begun-is path d new given =
     (elim (nat_lt (length d.table.archives) d.most)
-    as (λ b. nat_lt (length d.table.archives) d.most ≡ b → ((if b then Ok (with_open_archive path d) else Err TooMany) >>= λ e. Ok (Some e)) ≡ Ok new → (archive_count d < d.most) × (new ≡ Some (with_open_archive path d))) [
-      | true ↦ λ few is. (grind (arith, nat_tests, few), (let same : Some (with_open_archive path d) ≡ new = cc in sym same))
+    as (λ b. nat_lt (length d.table.archives) d.most ≡ b
+    → ((if b then Ok (with_open_archive path d) else Err TooMany) >>= λ e. Ok (Some e)) ≡ Ok new
+    → (archive_count d < d.most) × (new ≡ Some (with_open_archive path d))) [
+      | true ↦ λ few is. (
+        grind (arith, nat_tests, few),
+        (let same : Some (with_open_archive path d) ≡ new = cc in sym same),
+      )
       | false ↦ λ few is. absurd cc
     ]) refl given

@@ -1,10 +1,13 @@
 -- What comes between two messages of a known archive.
-use Rattle.index_job.proofs.Words.{ℕ, List, [], ◌∷◌, Option, None, Some, refl, arith, Message, CutFault, Start, Done, Coming, TakesKnown, coming_ahead, Heads}
+use Rattle.index_job.proofs.Words.{ℕ, List, [], ◌∷◌, Option, None, Some, refl, arith, Message, CutFault, Start, Done}
+use Rattle.index_job.proofs.Words.{Coming, TakesKnown, coming_ahead, Heads}
 use Rattle.index_job.specs.declared.archive_reading.Heading.TheVariants as heading
 
 -- if a message begins, it is the first of those that were to come
-pub heads-message : (all : ℕ) (ms : Option (List Message)) (refusal : Option CutFault) (at : ℕ) (line : List ℕ) (new : Option Coming)
-    → TakesKnown (Start at line) (Some (coming_ahead all ms refusal)) new → Heads (heading.Message at) all ms refusal new
+pub heads-message : (all : ℕ) (ms : Option (List Message)) (refusal : Option CutFault) (at : ℕ) (line : List ℕ)
+    (new : Option Coming)
+    → TakesKnown (Start at line) (Some (coming_ahead all ms refusal)) new
+    → Heads (heading.Message at) all ms refusal new
 heads-message all None refusal at line new (after, is, (events, same)) = absurd cc
 heads-message all (Some []) refusal at line new (after, is, (events, same)) = absurd cc
 heads-message all (Some (m ∷ later)) refusal at line new (after, is, (events, same)) = grind arith

@@ -1,3 +1,4 @@
+-- The proofs of index_job: words and lemmas. Proofs of single functions are in folders named after these.
 pub mod Words
 pub mod Terms
 pub mod FoldedWords

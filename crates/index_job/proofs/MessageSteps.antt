@@ -1,11 +1,19 @@
 -- What reading a whole message makes of a builder's draft.
-use Rattle.index_job.proofs.Words.{◌≡◌, ◌∙◌, ◌+◌, ◌++◌, ℕ, nat_eq, if◌then◌else◌, List, [], ◌∷◌, Option, Some, option_map, refl, ap, arith, Result, Ok, Err, IfErr, OnOk, fields_of, Record, Draft, end_of, IsInArchive, Message, text, size, span_length, Coming, Facts, MessageText, facts_of, texts_of_message, JobFault, Span, Awaited, HasReadAll, IsMessageFault, AddsMessage, HasGathered, IsGatherFault, with_texts, draft_with_terms, draft_with_messages, with_open_message, HasTooMany, IsReady, IsOpenAt, IsBuilderReady, IsJobFault, IsArchiveFault, ended_with, Term, text_terms, message_terms}
+use Rattle.index_job.proofs.Words.{◌≡◌, ◌∙◌, ◌+◌, ◌++◌, ℕ, nat_eq, if◌then◌else◌, List, [], ◌∷◌, Option, Some}
+use Rattle.index_job.proofs.Words.{option_map, refl, ap, arith, Result, Ok, Err, IfErr, OnOk, fields_of, Record, Draft}
+use Rattle.index_job.proofs.Words.{end_of, IsInArchive, Message, text, size, span_length, Coming, Facts, MessageText}
+use Rattle.index_job.proofs.Words.{facts_of, texts_of_message, JobFault, Span, Awaited, HasReadAll, IsMessageFault}
+use Rattle.index_job.proofs.Words.{AddsMessage, HasGathered, IsGatherFault, with_texts, draft_with_terms}
+use Rattle.index_job.proofs.Words.{draft_with_messages, with_open_message, HasTooMany, IsReady, IsOpenAt}
+use Rattle.index_job.proofs.Words.{IsBuilderReady, IsJobFault, IsArchiveFault, ended_with, Term, text_terms}
+use Rattle.index_job.proofs.Words.{message_terms}
 use Rattle.index_job.proofs.Terms.{with_terms-append}
 use Rattle.index_job.proofs.ReadingLines.{gather-own, gather-is-job}
 use Rattle.std.specs.List.{flat_map}
 
 -- the last message decides where messages end
-end_of-last : (n : ℕ) (rs : List Record) (r : Record) → end_of n (rs ++ r ∷ []) ≡ (if nat_eq r.archive n then r.offset + r.length else 0)
+end_of-last : (n : ℕ) (rs : List Record) (r : Record) → end_of n (rs ++ r ∷ [])
+    ≡ (if nat_eq r.archive n then r.offset + r.length else 0)
 end_of-last n [] r = refl
 end_of-last n (s ∷ []) r = refl
 end_of-last n (s ∷ t ∷ rs) r = end_of-last n (t ∷ rs) r
@@ -13,7 +21,9 @@ end_of-last n (s ∷ t ∷ rs) r = end_of-last n (t ∷ rs) r
 -- ---- faults
 
 -- a fault of a message is that the draft would have too much
-pub message-fault : (archive : ℕ) (d : Draft) (w : Awaited) (f : JobFault) → IsMessageFault (Some (with_open_message d)) w f → IsJobFault w.refusal (HasTooMany (draft_with_messages archive (w.message ∷ []) d)) f
+pub message-fault : (archive : ℕ) (d : Draft) (w : Awaited) (f : JobFault)
+    → IsMessageFault (Some (with_open_message d)) w f
+    → IsJobFault w.refusal (HasTooMany (draft_with_messages archive (w.message ∷ []) d)) f
 message-fault archive d w f h = grind arith
 
 -- ---- the open message
@@ -25,39 +35,55 @@ opens archive place d h = record { phase = (h.phase.0, refl); most = h.most; arc
 
 module _ (span : Span) (d : Draft) where
   -- the draft at the end of a message is ready for the next
-  pub ended-ready : (facts : Facts) (ts : List Term) → IsReady span.archive span.offset d → IsReady span.archive (span.offset + span.length) (ended_with facts span (draft_with_terms ts (with_open_message d)))
+  pub ended-ready : (facts : Facts) (ts : List Term) → IsReady span.archive span.offset d
+      → IsReady span.archive (span.offset + span.length)
+      (ended_with facts span (draft_with_terms ts (with_open_message d)))
   ended-ready facts ts h = grind (arith, end_of-last)
 
-  pub ready-behind : {T : Type 0} (place : ℕ) (r : Result T JobFault) (gathered : MessageText) (builder new : Option Draft) (ls : List (List ℕ)) → HasGathered gathered builder (Some (with_open_message d)) ls
+  pub ready-behind : {T : Type 0} (place : ℕ) (r : Result T JobFault) (gathered : MessageText)
+      (builder new : Option Draft) (ls : List (List ℕ)) → HasGathered gathered builder (Some (with_open_message d)) ls
       → IsReady span.archive span.offset d → place ≡ span.offset + span.length
-      → OnOk r ((ls : List (List ℕ)) (d : Option Draft) → HasGathered gathered builder d ls → new ≡ option_map (ended_with (facts_of (fields_of ls)) span) (with_texts (texts_of_message ls) d))
+      → OnOk r ((ls : List (List ℕ)) (d : Option Draft) → HasGathered gathered builder d ls → new
+      ≡ option_map (ended_with (facts_of (fields_of ls)) span) (with_texts (texts_of_message ls) d))
       → OnOk r (IsBuilderReady span.archive place new)
   ready-behind place (Err f) gathered builder new ls g h at is = tt
   ready-behind place (Ok x) gathered builder new ls g h at is = (
-    ended_with (facts_of (fields_of ls)) span (draft_with_terms (flat_map text_terms (texts_of_message ls)) (with_open_message d)),
+    ended_with (facts_of (fields_of ls)) span
+        (draft_with_terms (flat_map text_terms (texts_of_message ls)) (with_open_message d)),
     is ls (Some (with_open_message d)) g,
     rw at (ended-ready (facts_of (fields_of ls)) (flat_map text_terms (texts_of_message ls)) h),
   )
 
   -- if the message is known, the draft is the one with that message
   ended-is : (m : Message) → IsInArchive d → m.offset ≡ span.offset → span.length ≡ span_length m → span.size ≡ size m
-      → ended_with (facts_of (fields_of (text m))) span (draft_with_terms (flat_map text_terms (texts_of_message (text m))) (with_open_message d)) ≡ draft_with_messages span.archive (m ∷ []) d
+      → ended_with (facts_of (fields_of (text m))) span
+      (draft_with_terms (flat_map text_terms (texts_of_message (text m))) (with_open_message d))
+      ≡ draft_with_messages span.archive (m ∷ []) d
   ended-is m phase offset length-is size-is = grind (arith, with_terms-append)
 
-  pub adds-message : {T : Type 0} (w : Awaited) (coming : Option Coming) (r : Result T JobFault) (gathered : MessageText) (builder new : Option Draft) → IsInArchive d → w.message.offset ≡ span.offset
-      → HasReadAll (Some (with_open_message d)) w (record { length = span.length; size = span.size }) gathered builder coming
-      → OnOk r ((ls : List (List ℕ)) (d : Option Draft) → HasGathered gathered builder d ls → new ≡ option_map (ended_with (facts_of (fields_of ls)) span) (with_texts (texts_of_message ls) d))
-      → IfErr r (λ f. (ls : List (List ℕ)) (d : Option Draft) → HasGathered gathered builder d ls → IsGatherFault (option_map (draft_with_terms (message_terms ls)) d) f)
+  pub adds-message : {T : Type 0} (w : Awaited) (coming : Option Coming) (r : Result T JobFault)
+      (gathered : MessageText) (builder new : Option Draft) → IsInArchive d → w.message.offset ≡ span.offset
+      → HasReadAll (Some (with_open_message d)) w (record { length = span.length; size = span.size }) gathered builder
+      coming
+      → OnOk r ((ls : List (List ℕ)) (d : Option Draft) → HasGathered gathered builder d ls → new
+      ≡ option_map (ended_with (facts_of (fields_of ls)) span) (with_texts (texts_of_message ls) d))
+      → IfErr r (λ f. (ls : List (List ℕ)) (d : Option Draft) → HasGathered gathered builder d ls
+      → IsGatherFault (option_map (draft_with_terms (message_terms ls)) d) f)
       → AddsMessage span.archive d w r new coming
   adds-message w coming (Ok x) gathered builder new phase offset h is fails = (
-    is (text w.message) (Some (with_open_message d)) h.whole ∙ ap Some (ended-is w.message phase offset h.length h.told_size),
+    is (text w.message) (Some (with_open_message d)) h.whole
+        ∙ ap Some (ended-is w.message phase offset h.length h.told_size),
     h.comes,
   )
   adds-message w coming (Err f) gathered builder new phase offset h is fails =
-      message-fault span.archive d w f (gather-is-job (option_map (draft_with_terms (message_terms (text w.message))) (Some (with_open_message d))) w.refusal f (fails (text w.message) (Some (with_open_message d)) h.whole))
+      message-fault span.archive d w f (gather-is-job
+      (option_map (draft_with_terms (message_terms (text w.message))) (Some (with_open_message d))) w.refusal f
+      (fails (text w.message) (Some (with_open_message d)) h.whole))
 
 -- a fault inside the message, whatever is to come
-pub own-fault : {T : Type 0} (r : Result T JobFault) (gathered : MessageText) (builder d : Option Draft) (ls : List (List ℕ)) → HasGathered gathered builder d ls
-    → IfErr r (λ f. (ls : List (List ℕ)) (d : Option Draft) → HasGathered gathered builder d ls → IsGatherFault (option_map (draft_with_terms (message_terms ls)) d) f) → IfErr r IsArchiveFault
+pub own-fault : {T : Type 0} (r : Result T JobFault) (gathered : MessageText) (builder d : Option Draft)
+    (ls : List (List ℕ)) → HasGathered gathered builder d ls
+    → IfErr r (λ f. (ls : List (List ℕ)) (d : Option Draft) → HasGathered gathered builder d ls
+    → IsGatherFault (option_map (draft_with_terms (message_terms ls)) d) f) → IfErr r IsArchiveFault
 own-fault (Ok x) gathered builder d ls g fails = tt
 own-fault (Err f) gathered builder d ls g fails = gather-own _ f (fails ls d g)

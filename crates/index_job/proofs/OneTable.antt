@@ -1,5 +1,9 @@
 -- The table of archives has the numbers of the messages at their terms, and is the only such table.
-use Rattle.index_job.proofs.Words.{◌≡◌, ◌∙◌, ℕ, suc, ◌<◌, ◌≤◌, Bool, true, false, cond, nat_eq, nat_lt, ◌&&◌, List, [], ◌∷◌, ◌++◌, length, map, refl, sym, ap, ap₂, arith, append-nil, append_assoc, bytes_eq, AllByRecursion, nat_tests, Key, KeyBefore, AllNext, newest, IsKey, with_pair, Message, text, Mbox, all_messages, table, with_terms, with_messages, Term, message_terms}
+use Rattle.index_job.proofs.Words.{◌≡◌, ◌∙◌, ℕ, suc, ◌<◌, ◌≤◌, Bool, true, false, cond, nat_eq, nat_lt, ◌&&◌, List, []}
+use Rattle.index_job.proofs.Words.{◌∷◌, ◌++◌, length, map, refl, sym, ap, ap₂, arith, append-nil, append_assoc}
+use Rattle.index_job.proofs.Words.{bytes_eq, AllByRecursion, nat_tests, Key, KeyBefore, AllNext, newest, IsKey}
+use Rattle.index_job.proofs.Words.{with_pair, Message, text, Mbox, all_messages, table, with_terms, with_messages, Term}
+use Rattle.index_job.proofs.Words.{message_terms}
 use Rattle.std.specs.Prelude.{◌≢◌, filter}
 use Rattle.std.specs.List.{enumerate_from}
 use Rattle.std.specs.declared.cmp.Ordering.{Ordering}
@@ -27,7 +31,8 @@ use Rattle.index_job.proofs.SoundTables.Keys.{messages-listed, messages-sorted, 
 -- ---- a key among sorted ones
 
 -- comparing the wanted key with this one decides whether they are the same
-key-compared : (kind : Kind) (term : List ℕ) (k : Key) (o : Ordering) → key_cmp (kind_number kind) term (kind_number k.kind) k.text ≡ o
+key-compared : (kind : Kind) (term : List ℕ) (k : Key) (o : Ordering)
+    → key_cmp (kind_number kind) term (kind_number k.kind) k.text ≡ o
     → is_key kind term k ≡ is_eq (ordering_reverse o)
 key-compared kind term k o e =
     sym (is_eq-slice_cmp (key_bytes k) (kind_number kind ∷ term))
@@ -59,7 +64,8 @@ none-after k (j ∷ ks) h = grind (arith, key-compared k.kind k.text j Less h.0,
 none-first : (j : Key) (js : List Key) → 0 < length j.numbers → [] ≢ numbers_at j.kind j.text (j ∷ js)
 none-first j js some e = grind (arith, key-itself j)
 
-module _ (k j : Key) (ks js : List Key) (ks-sorted : AllNext KeyBefore (k ∷ ks)) (js-sorted : AllNext KeyBefore (j ∷ js))
+module _ (k j : Key) (ks js : List Key) (ks-sorted : AllNext KeyBefore (k ∷ ks))
+    (js-sorted : AllNext KeyBefore (j ∷ js))
     (same : (kind : Kind) (term : List ℕ) → numbers_at kind term (k ∷ ks) ≡ numbers_at kind term (j ∷ js)) where
   -- the first keys are the same: otherwise the lower of them is missing in the other list
   first-same : 0 < length k.numbers → 0 < length j.numbers → k ≡ j
@@ -68,7 +74,8 @@ module _ (k j : Key) (ks js : List Key) (ks-sorted : AllNext KeyBefore (k ∷ ks
       go : (o : Ordering) → key_cmp (kind_number k.kind) k.text (kind_number j.kind) j.text ≡ o → k ≡ j
       go Less e = absurd (none-first k ks k-some (sym (same k.kind k.text ∙ none-after k (j ∷ js) (e, js-sorted))))
       go Greater e =
-          let before : KeyBefore j k = nat_list_cmp_total.antisymm (key_bytes j) (key_bytes k) ∙ ap ordering_reverse e in
+          let before : KeyBefore j k = nat_list_cmp_total.antisymm (key_bytes j) (key_bytes k) ∙ ap ordering_reverse e
+          in
           absurd (none-first j js j-some (sym (sym (same j.kind j.text) ∙ none-after j (k ∷ ks) (before, ks-sorted))))
       go Equal e =
           let is : is_key k.kind k.text j ≡ true = key-compared k.kind k.text j Equal e in
@@ -90,7 +97,8 @@ one-list : (ks js : List Key) → AllNext KeyBefore ks → AllNext KeyBefore js
     → ((kind : Kind) (term : List ℕ) → numbers_at kind term ks ≡ numbers_at kind term js) → ks ≡ js
 one-list [] [] ks-sorted js-sorted ks-some js-some same = refl
 one-list [] (j ∷ js) ks-sorted js-sorted ks-some js-some same = absurd (none-first j js js-some.0 (same j.kind j.text))
-one-list (k ∷ ks) [] ks-sorted js-sorted ks-some js-some same = absurd (none-first k ks ks-some.0 (sym (same k.kind k.text)))
+one-list (k ∷ ks) [] ks-sorted js-sorted ks-some js-some same =
+    absurd (none-first k ks ks-some.0 (sym (same k.kind k.text)))
 one-list (k ∷ ks) (j ∷ js) ks-sorted js-sorted ks-some js-some same =
     let first : k ≡ j = first-same k j ks js ks-sorted js-sorted same ks-some.0 js-some.0 in
     let rest : ks ≡ js = one-list ks js (sorted-after k ks ks-sorted) (sorted-after j js js-sorted) ks-some.1 js-some.1
@@ -114,10 +122,12 @@ number-twice : (ns : List ℕ) (n : ℕ) → with_number (with_number ns n) n �
 number-twice ns n = go (nat_lt n (end_from 0 ns)) refl
   where
     go : (b : Bool) → nat_lt n (end_from 0 ns) ≡ b → with_number (with_number ns n) n ≡ with_number ns n
-    go true e = let h : n < end_from 0 ns = grind (arith, nat_tests) in ap (λ xs. with_number xs n) (with_number-low ns n h)
+    go true e = let h : n < end_from 0 ns = grind (arith, nat_tests)
+        in ap (λ xs. with_number xs n) (with_number-low ns n h)
     go false e =
         let h : end_from 0 ns ≤ n = grind (arith, nat_tests) in
-        ap (λ xs. with_number xs n) (with_number-new ns n h) ∙ with_number-low (ns ++ n ∷ []) n (omega (arith, end-pushed 0 ns n))
+        ap (λ xs. with_number xs n) (with_number-new ns n h)
+        ∙ with_number-low (ns ++ n ∷ []) n (omega (arith, end-pushed 0 ns n))
         ∙ sym (with_number-new ns n h)
 
 module _ (kind : Kind) (term : List ℕ) where
@@ -154,11 +164,14 @@ module _ (kind : Kind) (term : List ℕ) where
     pair-at : (ks : List Key) → AllNext KeyBefore ks
         → at (with_pair t.0 t.1 n ks) ≡ added (is_term t) n ks
     pair-at [] sorted = new-at [] tt
-    pair-at (k ∷ ks) sorted = go (key_cmp (kind_number t.0) t.1 (kind_number k.kind) k.text) refl (pair-at ks (sorted-after k ks sorted))
+    pair-at (k ∷ ks) sorted = go (key_cmp (kind_number t.0) t.1 (kind_number k.kind) k.text) refl
+        (pair-at ks (sorted-after k ks sorted))
       where
         go : (o : Ordering) → key_cmp (kind_number t.0) t.1 (kind_number k.kind) k.text ≡ o
             → at (with_pair t.0 t.1 n ks) ≡ added (is_term t) n ks
-            → at (match_ordering o (new ∷ k ∷ ks) (record { kind = k.kind; text = k.text; numbers = with_number k.numbers n } ∷ ks) (k ∷ with_pair t.0 t.1 n ks))
+            → at (match_ordering o (new ∷ k ∷ ks)
+            (record { kind = k.kind; text = k.text; numbers = with_number k.numbers n } ∷ ks)
+            (k ∷ with_pair t.0 t.1 n ks))
             ≡ added (is_term t) n (k ∷ ks)
         go Less e rest = new-at (k ∷ ks) (e, sorted)
         go Equal e rest =
@@ -175,14 +188,20 @@ module _ (kind : Kind) (term : List ℕ) where
       → at (with_terms n ts ks) ≡ added (has_term kind term ts) n ks
   terms-at n [] ks sorted = refl
   terms-at n (t ∷ ts) ks sorted =
-      grind (arith, pair-at n t ks sorted, number-twice (at ks) n, terms-at n ts (with_pair t.0 t.1 n ks) (with_pair-sorted t.0 t.1 n ks sorted))
+      grind (
+        arith,
+        pair-at n t ks sorted,
+        number-twice (at ks) n,
+        terms-at n ts (with_pair t.0 t.1 n ks) (with_pair-sorted t.0 t.1 n ks sorted),
+      )
 
   -- the numbers of the messages that have the term, if the first message has the number n
   abbrev pub numbers_from : ℕ → List Message → List ℕ
   numbers_from n ms = map (λ m. m.0) (filter (λ m. has_term kind term (message_terms (text m.1))) (enumerate_from n ms))
 
   pub numbers-cons : (n : ℕ) (m : Message) (ms : List Message)
-      → numbers_from n (m ∷ ms) ≡ cond (has_term kind term (message_terms (text m))) (n ∷ numbers_from (suc n) ms) (numbers_from (suc n) ms)
+      → numbers_from n (m ∷ ms) ≡ cond (has_term kind term (message_terms (text m))) (n ∷ numbers_from (suc n) ms)
+      (numbers_from (suc n) ms)
   numbers-cons n m ms = grind arith
 
   -- with messages: the numbers of those that have the term are added
@@ -206,7 +225,8 @@ module _ (kind : Kind) (term : List ℕ) where
           → at (with_messages (suc n) ms more) ≡ ns ++ numbers_from n (m ∷ ms)
       go true e rest =
           let here : at more ≡ ns ++ n ∷ [] = grind (arith, terms-at n terms ks sorted, with_number-new ns n low) in
-          rest (omega (arith, ap (end_from 0) here, end-pushed 0 ns n)) ∙ grind (arith, append_assoc, numbers-cons n m ms)
+          rest (omega (arith, ap (end_from 0) here, end-pushed 0 ns n))
+          ∙ grind (arith, append_assoc, numbers-cons n m ms)
       go false e rest =
           let here : at more ≡ ns = grind (arith, terms-at n terms ks sorted) in
           rest (omega (arith, ap (end_from 0) here, low)) ∙ grind (arith, numbers-cons n m ms)
@@ -217,7 +237,9 @@ table-is archives = record {
   named = refl;
   records = refl;
   sorted = messages-sorted 0 (all_messages archives) [] tt;
-  some_number = all-weaker (IsKey newest (length (all_messages archives))) (λ k. 0 < length k.numbers) (λ k is. is.some_number)
-      (table archives).keys (messages-listed (length (all_messages archives)) 0 (all_messages archives) (omega arith) [] tt);
+  some_number = all-weaker (IsKey newest (length (all_messages archives))) (λ k. 0 < length k.numbers)
+      (λ k is. is.some_number)
+      (table archives).keys (messages-listed (length (all_messages archives)) 0 (all_messages archives) (omega arith) []
+      tt);
   numbers = λ kind term. messages-at kind term 0 (all_messages archives) [] tt (omega arith);
 }

@@ -1,30 +1,41 @@
 -- The lines of a message, as its archive gives them and as they are gathered.
-use Rattle.index_job.proofs.Words.{still_known, ◌≡◌, ◌∙◌, ◌++◌, ℕ, List, [], ◌∷◌, Option, Some, sym, ap, subst, append_assoc, append-nil, arith, Draft, text, size, span_length, CutFault, Line, End, Coming, TakesKnown, MessageText, texts_of_message, Ended, JobFault, Awaited, coming_inside, coming_between, IsReading, HasReadAll, IsMessageFault, HasGathered, IsGatherFault, with_texts, RefusesTerms, IsJobFault, IsArchiveFault}
+use Rattle.index_job.proofs.Words.{still_known, ◌≡◌, ◌∙◌, ◌++◌, ℕ, List, [], ◌∷◌, Option, Some, sym, ap, subst}
+use Rattle.index_job.proofs.Words.{append_assoc, append-nil, arith, Draft, text, size, span_length, CutFault, Line, End}
+use Rattle.index_job.proofs.Words.{Coming, TakesKnown, MessageText, texts_of_message, Ended, JobFault, Awaited}
+use Rattle.index_job.proofs.Words.{coming_inside, coming_between, IsReading, HasReadAll, IsMessageFault, HasGathered}
+use Rattle.index_job.proofs.Words.{IsGatherFault, with_texts, RefusesTerms, IsJobFault, IsArchiveFault}
 use Rattle.index_job.proofs.Gatherings.{texts-fail}
 use Rattle.contract_words.proofs.StillKnown.{still-other}
 
 -- what is known to come agrees with the text that is left
-behind-line : (w : Awaited) (rest : List (List ℕ)) (l : List ℕ) (now' : Option Coming) → TakesKnown (Line l) (Some (coming_inside w rest)) now'
+behind-line : (w : Awaited) (rest : List (List ℕ)) (l : List ℕ) (now' : Option Coming)
+    → TakesKnown (Line l) (Some (coming_inside w rest)) now'
     → (left : List (List ℕ)) × (rest ≡ l ∷ left) × (now' ≡ Some (coming_inside w left))
 behind-line w [] l now' (after, is, takes) = absurd cc
 behind-line w (l' ∷ left) l now' (after, is, (events, refusal)) = grind arith
 
-behind-end : (w : Awaited) (rest : List (List ℕ)) (span told_size : ℕ) (now' : Option Coming) → TakesKnown (End span told_size) (Some (coming_inside w rest)) now'
-    → (rest ≡ []) × (span ≡ span_length w.message) × (told_size ≡ size w.message) × (now' ≡ Some (coming_between w.all w.later w.refusal))
+behind-end : (w : Awaited) (rest : List (List ℕ)) (span told_size : ℕ) (now' : Option Coming)
+    → TakesKnown (End span told_size) (Some (coming_inside w rest)) now'
+    → (rest ≡ []) × (span ≡ span_length w.message) × (told_size ≡ size w.message)
+    × (now' ≡ Some (coming_between w.all w.later w.refusal))
 behind-end w (l ∷ rest) span told_size now' (after, is, takes) = absurd cc
 behind-end w [] span told_size now' (after, is, (events, refusal)) = grind arith
 
 -- a fault of gathering is a fault of the job
-pub gather-is-job : (whole : Option Draft) (refusal : Option CutFault) (f : JobFault) → IsGatherFault whole f → IsJobFault refusal (RefusesTerms whole) f
+pub gather-is-job : (whole : Option Draft) (refusal : Option CutFault) (f : JobFault) → IsGatherFault whole f
+    → IsJobFault refusal (RefusesTerms whole) f
 gather-is-job whole refusal f h = grind arith
 
 pub gather-own : (whole : Option Draft) (f : JobFault) → IsGatherFault whole f → IsArchiveFault f
 gather-own whole f h = grind arith
 
-module _ (d : Option Draft) (w : Awaited) (ls rest : List (List ℕ)) (gathered : MessageText) (builder : Option Draft) (now now' : Option Coming) (l : List ℕ) where
+module _ (d : Option Draft) (w : Awaited) (ls rest : List (List ℕ)) (gathered : MessageText) (builder : Option Draft)
+    (now now' : Option Coming) (l : List ℕ) where
   -- one more line is read
-  pub reads-line : (gathered' : MessageText) (builder' : Option Draft) → IsReading d w ls rest gathered builder now → TakesKnown (Line l) now now'
-      → HasGathered gathered' builder' d (ls ++ l ∷ []) → (more left : List (List ℕ)) × IsReading d w more left gathered' builder' now'
+  pub reads-line : (gathered' : MessageText) (builder' : Option Draft) → IsReading d w ls rest gathered builder now
+      → TakesKnown (Line l) now now'
+      → HasGathered gathered' builder' d (ls ++ l ∷ []) → (more left : List (List ℕ))
+      × IsReading d w more left gathered' builder' now'
   reads-line gathered' builder' r takes more =
       let b = behind-line w rest l now' (subst (λ o. TakesKnown (Line l) o now') r.comes takes) in (
         ls ++ l ∷ [],
@@ -42,13 +53,17 @@ module _ (d : Option Draft) (w : Awaited) (ls rest : List (List ℕ)) (gathered 
   line-is-fault f r takes fails =
       let b = behind-line w rest l now' (subst (λ o. TakesKnown (Line l) o now') r.comes takes) in
       let whole : ls ++ l ∷ b.0 ≡ text w.message = ap (λ x. ls ++ x) (sym b.1) ∙ sym r.whole in
-      gather-is-job _ w.refusal f (texts-fail (text w.message) d f (subst (λ t. IsGatherFault (with_texts (texts_of_message t) d) f) whole (fails b.0)))
+      gather-is-job _ w.refusal f (texts-fail (text w.message) d f
+      (subst (λ t. IsGatherFault (with_texts (texts_of_message t) d) f) whole (fails b.0)))
 
 -- the end of the message is read
-pub reads-end : (d : Option Draft) (w : Awaited) (ls rest : List (List ℕ)) (gathered : MessageText) (builder : Option Draft) (now now' : Option Coming) (ended : Ended)
-    → IsReading d w ls rest gathered builder now → TakesKnown (End ended.length ended.size) now now' → HasReadAll d w ended gathered builder now'
+pub reads-end : (d : Option Draft) (w : Awaited) (ls rest : List (List ℕ)) (gathered : MessageText)
+    (builder : Option Draft) (now now' : Option Coming) (ended : Ended)
+    → IsReading d w ls rest gathered builder now → TakesKnown (End ended.length ended.size) now now'
+    → HasReadAll d w ended gathered builder now'
 reads-end d w ls rest gathered builder now now' ended r takes =
-    let b = behind-end w rest ended.length ended.size now' (subst (λ o. TakesKnown (End ended.length ended.size) o now') r.comes takes) in
+    let b = behind-end w rest ended.length ended.size now'
+    (subst (λ o. TakesKnown (End ended.length ended.size) o now') r.comes takes) in
     let all : ls ≡ text w.message = sym (r.whole ∙ ap (λ x. ls ++ x) b.0 ∙ append-nil ls) in
     record {
       whole = subst (λ x. HasGathered gathered builder d x) all r.so_far;

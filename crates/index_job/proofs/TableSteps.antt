@@ -1,10 +1,18 @@
 -- The table of archives with one more archive.
-use Rattle.index_job.proofs.Words.{◌≡◌, ◌∙◌, ◌+◌, ◌<◌, ◌++◌, ℕ, suc, List, [], ◌∷◌, length, map, Option, Some, refl, sym, ap, arith, append_assoc, append-nil, ⊎_elim, Result, Ok, Err, IfSome, flat_map-append, length-map, map-append, sha256, Draft, IsWithinMost, begun_archive, ended_archive, stepped, messages, coming_of, events, refusal_of, ReadArchive, JobFault, coming_ahead, AddsMessages, most_in_archive, most_in_index, IsTooMuch, Mbox, messages_in, all_messages, record_of, records_from, with_messages, table, IsAdded, IsAddFault, draft_of, draft_with_messages, draft_ended, with_open_archive, HasTooMany, IsIdle}
+use Rattle.index_job.proofs.Words.{◌≡◌, ◌∙◌, ◌+◌, ◌<◌, ◌++◌, ℕ, suc, List, [], ◌∷◌, length, map, Option, Some, refl}
+use Rattle.index_job.proofs.Words.{sym, ap, arith, append_assoc, append-nil, ⊎_elim, Result, Ok, Err, IfSome}
+use Rattle.index_job.proofs.Words.{flat_map-append, length-map, map-append, sha256, Draft, IsWithinMost, begun_archive}
+use Rattle.index_job.proofs.Words.{ended_archive, stepped, messages, coming_of, events, refusal_of, ReadArchive}
+use Rattle.index_job.proofs.Words.{JobFault, coming_ahead, AddsMessages, most_in_archive, most_in_index, IsTooMuch}
+use Rattle.index_job.proofs.Words.{Mbox, messages_in, all_messages, record_of, records_from, with_messages, table}
+use Rattle.index_job.proofs.Words.{IsAdded, IsAddFault, draft_of, draft_with_messages, draft_ended, with_open_archive}
+use Rattle.index_job.proofs.Words.{HasTooMany, IsIdle}
 use Rattle.std.proofs.lemmas.List.{length-append}
 use Rattle.index_job.proofs.ArchiveSteps.{begun-is, with_messages-append}
 
 -- what is to come of an archive's bytes
-pub comes-known : (bytes : List ℕ) → coming_of most_in_archive bytes ≡ coming_ahead (length bytes) (messages bytes) (refusal_of most_in_archive bytes)
+pub comes-known : (bytes : List ℕ) → coming_of most_in_archive bytes
+    ≡ coming_ahead (length bytes) (messages bytes) (refusal_of most_in_archive bytes)
 unfolding events
 comes-known bytes = refl
 
@@ -13,28 +21,35 @@ zero_more n = omega arith
 
 -- ---- each section
 
-records-more : (n : ℕ) (archives : List Mbox) (a : Mbox) → records_from n (archives ++ a ∷ []) ≡ records_from n archives ++ map (record_of (n + length archives)) (messages_in a.bytes)
-records-more n [] a = append-nil (map (record_of n) (messages_in a.bytes)) ∙ ap (λ k. map (record_of k) (messages_in a.bytes)) (omega arith)
+records-more : (n : ℕ) (archives : List Mbox) (a : Mbox) → records_from n (archives ++ a ∷ [])
+    ≡ records_from n archives ++ map (record_of (n + length archives)) (messages_in a.bytes)
+records-more n [] a = append-nil (map (record_of n) (messages_in a.bytes))
+    ∙ ap (λ k. map (record_of k) (messages_in a.bytes)) (omega arith)
 records-more n (b ∷ archives) a = grind (arith, append_assoc, records-more (suc n) archives a)
 
 pub records-count : (n : ℕ) (archives : List Mbox) → length (records_from n archives) ≡ length (all_messages archives)
 records-count n [] = refl
 records-count n (a ∷ archives) = grind (arith, length-append, length-map, records-count (suc n) archives)
 
-all-more : (archives : List Mbox) (a : Mbox) → all_messages (archives ++ a ∷ []) ≡ all_messages archives ++ messages_in a.bytes
+all-more : (archives : List Mbox) (a : Mbox) → all_messages (archives ++ a ∷ [])
+    ≡ all_messages archives ++ messages_in a.bytes
 all-more archives a = grind (arith, flat_map-append, append-nil)
 
-keys-more : (archives : List Mbox) (a : Mbox) → with_messages (length (records_from 0 archives)) (messages_in a.bytes) (with_messages 0 (all_messages archives) []) ≡ with_messages 0 (all_messages (archives ++ a ∷ [])) []
+keys-more : (archives : List Mbox) (a : Mbox)
+    → with_messages (length (records_from 0 archives)) (messages_in a.bytes)
+    (with_messages 0 (all_messages archives) []) ≡ with_messages 0 (all_messages (archives ++ a ∷ [])) []
 keys-more archives a = grind (arith, records-count, zero_more, with_messages-append, all-more)
 
 -- ---- the whole
 
 module _ (archives : List Mbox) (a : Mbox) where
   abbrev pub read_draft : Draft
-  read_draft = draft_with_messages (length archives) (messages_in a.bytes) (with_open_archive a.path (draft_of archives))
+  read_draft = draft_with_messages (length archives) (messages_in a.bytes)
+      (with_open_archive a.path (draft_of archives))
 
   messages-are : read_draft.table.messages ≡ (table (archives ++ a ∷ [])).messages
-  messages-are = ap (λ k. records_from 0 archives ++ map (record_of k) (messages_in a.bytes)) (sym (zero_more (length archives))) ∙ sym (records-more 0 archives a)
+  messages-are = ap (λ k. records_from 0 archives ++ map (record_of k) (messages_in a.bytes))
+      (sym (zero_more (length archives))) ∙ sym (records-more 0 archives a)
 
   keys-are : read_draft.table.keys ≡ (table (archives ++ a ∷ [])).keys
   keys-are = keys-more archives a
@@ -45,27 +60,36 @@ module _ (archives : List Mbox) (a : Mbox) where
   too-much : HasTooMany read_draft → IsTooMuch (table (archives ++ a ∷ []))
   too-much h = grind (arith, ⊎_elim, messages-are, keys-are)
 
-  module _ (number : ℕ) (begun : Option Draft) (same : number ≡ length archives) (given : stepped (begun_archive a.path) (Some (draft_of archives)) ≡ Ok begun) where
+  module _ (number : ℕ) (begun : Option Draft) (same : number ≡ length archives)
+      (given : stepped (begun_archive a.path) (Some (draft_of archives)) ≡ Ok begun) where
     abbrev Adds : Result ReadArchive JobFault → Option Draft → Type 0
-    Adds r builder = (d : Draft) → begun ≡ Some d → AddsMessages number d (length a.bytes) (messages a.bytes) (refusal_of most_in_archive a.bytes) r builder
+    Adds r builder = (d : Draft) → begun ≡ Some d
+        → AddsMessages number d (length a.bytes) (messages a.bytes) (refusal_of most_in_archive a.bytes) r builder
 
     room : length archives < most_in_index
     room = grind (arith, length-map, begun-is)
 
     -- the archive has ended, with its length and its digest
-    pub one-added : (read : ReadArchive) (builder : Option Draft) (digest : List ℕ) (new : Option Draft) → Adds (Ok read) builder
-        → digest ≡ sha256 a.bytes → stepped (ended_archive read.length digest) builder ≡ Ok new → IfSome new IsWithinMost → IsAdded archives a read.messages new
-    one-added read builder digest new adds digest-is gives within = ended (adds (with_open_archive a.path (draft_of archives)) (begun-is a.path (draft_of archives) begun given).1)
+    pub one-added : (read : ReadArchive) (builder : Option Draft) (digest : List ℕ) (new : Option Draft)
+        → Adds (Ok read) builder
+        → digest ≡ sha256 a.bytes → stepped (ended_archive read.length digest) builder ≡ Ok new
+        → IfSome new IsWithinMost → IsAdded archives a read.messages new
+    one-added read builder digest new adds digest-is gives within =
+        ended (adds (with_open_archive a.path (draft_of archives)) (begun-is a.path (draft_of archives) begun given).1)
       where
-        ended : AddsMessages number (with_open_archive a.path (draft_of archives)) (length a.bytes) (messages a.bytes) (refusal_of most_in_archive a.bytes) (Ok read) builder → IsAdded archives a read.messages new
+        ended : AddsMessages number (with_open_archive a.path (draft_of archives)) (length a.bytes) (messages a.bytes)
+            (refusal_of most_in_archive a.bytes) (Ok read) builder → IsAdded archives a read.messages new
         ended (sound, is, counted, long) = grind (arith, table-more)
 
     pub add-fault : (builder : Option Draft) (f : JobFault) → Adds (Err f) builder → IsAddFault archives a f
-    add-fault builder f adds = refused (adds (with_open_archive a.path (draft_of archives)) (begun-is a.path (draft_of archives) begun given).1)
+    add-fault builder f adds = refused (adds (with_open_archive a.path (draft_of archives))
+        (begun-is a.path (draft_of archives) begun given).1)
       where
-        refused : AddsMessages number (with_open_archive a.path (draft_of archives)) (length a.bytes) (messages a.bytes) (refusal_of most_in_archive a.bytes) (Err f) builder → IsAddFault archives a f
+        refused : AddsMessages number (with_open_archive a.path (draft_of archives)) (length a.bytes) (messages a.bytes)
+            (refusal_of most_in_archive a.bytes) (Err f) builder → IsAddFault archives a f
         refused h = grind (arith, room, too-much)
 
 -- the number of archives that have ended
-pub number-is : (number : ℕ) (archives : List Mbox) (builder : Option Draft) → builder ≡ Some (draft_of archives) → IfSome builder (IsIdle number) → number ≡ length archives
+pub number-is : (number : ℕ) (archives : List Mbox) (builder : Option Draft) → builder ≡ Some (draft_of archives)
+    → IfSome builder (IsIdle number) → number ≡ length archives
 number-is number archives builder is idle = grind (arith, length-map)

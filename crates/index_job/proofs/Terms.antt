@@ -1,5 +1,10 @@
 -- What adding terms makes of a builder's draft.
-use Rattle.index_job.proofs.Words.{◌≡◌, ◌<◌, ◌≤◌, ℕ, zero, Bor, List, [], ◌∷◌, ◌++◌, length, Option, IfSome, Ok, Err, option_map, refl, ap, ◌∙◌, subst, arith, suc, drop, take, map, append_assoc, get_or, ◌+◌, Vec, BuildFault, Global, AllByRecursion, nat_tests, drop_more, map-append, length-map, length-take-le, LinkId, Text, TextKind, Key, Draft, with_pair, added, refusal, stepped, IsInMessage, with_terms, draft_with_terms, IsTermFault, RefusesTerms, Term, link_terms, word_terms, HasTermLength}
+use Rattle.index_job.proofs.Words.{◌≡◌, ◌<◌, ◌≤◌, ℕ, zero, Bor, List, [], ◌∷◌, ◌++◌, length, Option, IfSome, Ok, Err}
+use Rattle.index_job.proofs.Words.{option_map, refl, ap, ◌∙◌, subst, arith, suc, drop, take, map, append_assoc, get_or}
+use Rattle.index_job.proofs.Words.{◌+◌, Vec, BuildFault, Global, AllByRecursion, nat_tests, drop_more, map-append}
+use Rattle.index_job.proofs.Words.{length-map, length-take-le, LinkId, Text, TextKind, Key, Draft, with_pair, added}
+use Rattle.index_job.proofs.Words.{refusal, stepped, IsInMessage, with_terms, draft_with_terms, IsTermFault}
+use Rattle.index_job.proofs.Words.{RefusesTerms, Term, link_terms, word_terms, HasTermLength}
 use Rattle.mail_index.specs.declared.kind.Kind.{Kind}
 use Rattle.mail_index.specs.Builders.{HasPair}
 use Rattle.mail_index.proofs.BuildLaws.BuilderSteps.{added-is}
@@ -7,7 +12,8 @@ use Rattle.mail_index.proofs.BuildLaws.HadPairs.{with_pair-had}
 
 -- ---- keys only become more
 
-pub with_pair-more : (kind : Kind) (text : List ℕ) (n : ℕ) (ks : List Key) → length ks ≤ length (with_pair kind text n ks)
+pub with_pair-more : (kind : Kind) (text : List ℕ) (n : ℕ) (ks : List Key)
+    → length ks ≤ length (with_pair kind text n ks)
 with_pair-more kind text n [] = omega arith
 with_pair-more kind text n (k ∷ ks) = grind (arith, with_pair-more kind text n ks)
 
@@ -15,62 +21,80 @@ pub with_terms-more : (n : ℕ) (ts : List Term) (ks : List Key) → length ks �
 with_terms-more n [] ks = omega arith
 with_terms-more n (t ∷ ts) ks = grind (arith, with_pair-more, with_terms-more n ts (with_pair t.0 t.1 n ks))
 
-pub with_terms-append : (n : ℕ) (ts us : List Term) (ks : List Key) → with_terms n (ts ++ us) ks ≡ with_terms n us (with_terms n ts ks)
+pub with_terms-append : (n : ℕ) (ts us : List Term) (ks : List Key) → with_terms n (ts ++ us) ks
+    ≡ with_terms n us (with_terms n ts ks)
 with_terms-append n [] us ks = refl
 with_terms-append n (t ∷ ts) us ks = with_terms-append n ts us (with_pair t.0 t.1 n ks)
 
 -- ---- one call
 
 -- a term is added, and then the others
-pub added-terms : (kind : Kind) (text : List ℕ) (ts : List Term) (old new : Option Draft) → stepped (added kind text) old ≡ Ok new
+pub added-terms : (kind : Kind) (text : List ℕ) (ts : List Term) (old new : Option Draft)
+    → stepped (added kind text) old ≡ Ok new
     → option_map (draft_with_terms ((kind, text) ∷ ts)) old ≡ option_map (draft_with_terms ts) new
 added-terms kind text ts old new h = grind (arith, option_map, added-is)
 
 -- a term is refused
 pub add-fails : (kind : Kind) (text : List ℕ) (ts : List Term) (old new : Option Draft) (fault : BuildFault)
-    → IfSome (refusal fault) (λ f. stepped (added kind text) old ≡ Err f) → IsTermFault (option_map (draft_with_terms ((kind, text) ∷ ts)) old) fault
+    → IfSome (refusal fault) (λ f. stepped (added kind text) old ≡ Err f)
+    → IsTermFault (option_map (draft_with_terms ((kind, text) ∷ ts)) old) fault
 add-fails kind text ts old new fault h = grind (arith, nat_tests, with_terms-more)
 
 -- a term that is added leaves the message open
-pub in-message-kept : (kind : Kind) (text : List ℕ) (old new : Option Draft) → stepped (added kind text) old ≡ Ok new → IfSome old IsInMessage → IfSome new IsInMessage
+pub in-message-kept : (kind : Kind) (text : List ℕ) (old new : Option Draft) → stepped (added kind text) old ≡ Ok new
+    → IfSome old IsInMessage → IfSome new IsInMessage
 in-message-kept kind text old new h h2 = grind (arith, added-is)
 
 -- the next of the ids that are left
-pub next-link : (ids : List (Vec ℕ Global)) (i : ℕ) (v : Vec ℕ Global) (id : List ℕ) → (i < length ids) × (v ≡ get_or ids i v) → id ≡ v.items
-    → link_terms (map (λ id. id.items) (drop i ids)) ≡ (LinkId, id) ∷ link_terms (map (λ id. id.items) (drop (i + 1) ids))
+pub next-link : (ids : List (Vec ℕ Global)) (i : ℕ) (v : Vec ℕ Global) (id : List ℕ) → (i < length ids)
+    × (v ≡ get_or ids i v) → id ≡ v.items
+    → link_terms (map (λ id. id.items) (drop i ids))
+    ≡ (LinkId, id) ∷ link_terms (map (λ id. id.items) (drop (i + 1) ids))
 next-link ids i v id here same = grind (arith, drop_more)
 
 -- ---- terms, and then others
 
-pub joined : (ts us : List Term) (o : Option Draft) → option_map (draft_with_terms (ts ++ us)) o ≡ option_map (draft_with_terms us) (option_map (draft_with_terms ts) o)
+pub joined : (ts us : List Term) (o : Option Draft) → option_map (draft_with_terms (ts ++ us)) o
+    ≡ option_map (draft_with_terms us) (option_map (draft_with_terms ts) o)
 joined ts us o = grind (arith, with_terms-append)
 
 -- a draft with too many keys has too many with more terms, too
-still-fails : (us : List Term) (o : Option Draft) (fault : BuildFault) → IsTermFault o fault → IsTermFault (option_map (draft_with_terms us) o) fault
+still-fails : (us : List Term) (o : Option Draft) (fault : BuildFault) → IsTermFault o fault
+    → IsTermFault (option_map (draft_with_terms us) o) fault
 still-fails us o fault h = grind (arith, with_terms-more)
 
-pub fails-first : (ts us : List Term) (old : Option Draft) (fault : BuildFault) → IsTermFault (option_map (draft_with_terms ts) old) fault → IsTermFault (option_map (draft_with_terms (ts ++ us)) old) fault
+pub fails-first : (ts us : List Term) (old : Option Draft) (fault : BuildFault)
+    → IsTermFault (option_map (draft_with_terms ts) old) fault
+    → IsTermFault (option_map (draft_with_terms (ts ++ us)) old) fault
 fails-first ts us old fault h = grind (arith, joined, still-fails, option_map)
 
-pub still-refuses : (us : List Term) (o : Option Draft) → RefusesTerms o → RefusesTerms (option_map (draft_with_terms us) o)
+pub still-refuses : (us : List Term) (o : Option Draft) → RefusesTerms o
+    → RefusesTerms (option_map (draft_with_terms us) o)
 still-refuses us o h = grind (arith, with_terms-more)
 
 -- ---- words of a batch
 
 -- a term that the keys already have is also there after other terms
-terms-had : (n : ℕ) (ts : List Term) (kind : Kind) (text : List ℕ) (ks : List Key) → with_pair kind text n ks ≡ ks → with_terms n (ts ++ (kind, text) ∷ []) ks ≡ with_terms n ts ks
+terms-had : (n : ℕ) (ts : List Term) (kind : Kind) (text : List ℕ) (ks : List Key) → with_pair kind text n ks ≡ ks
+    → with_terms n (ts ++ (kind, text) ∷ []) ks ≡ with_terms n ts ks
 terms-had n [] kind text ks had = had
-terms-had n (t ∷ ts) kind text ks had = terms-had n ts kind text (with_pair t.0 t.1 n ks) (with_pair-had n t.0 t.1 ks kind text had)
+terms-had n (t ∷ ts) kind text ks had = terms-had n ts kind text (with_pair t.0 t.1 n ks)
+    (with_pair-had n t.0 t.1 ks kind text had)
 
 -- a word that the message already has needn't join the batch
-pub word-had : (kind : TextKind) (old : List (List ℕ)) (word : List ℕ) (o : Option Draft) → IfSome o (HasPair (Text kind) word)
-    → option_map (draft_with_terms (word_terms kind (old ++ word ∷ []))) o ≡ option_map (draft_with_terms (word_terms kind old)) o
+pub word-had : (kind : TextKind) (old : List (List ℕ)) (word : List ℕ) (o : Option Draft)
+    → IfSome o (HasPair (Text kind) word)
+    → option_map (draft_with_terms (word_terms kind (old ++ word ∷ []))) o
+    ≡ option_map (draft_with_terms (word_terms kind old)) o
 word-had kind old word o had = grind (arith, map-append, option_map, terms-had)
 
 -- a word joins the batch, or the batch is added first: either way, the same terms are added in the end
-pub waits-next : (kind : TextKind) (old : List (List ℕ)) (word : List ℕ) (new : List (List ℕ)) (us : List Term) (o n : Option Draft)
-    → option_map (draft_with_terms (word_terms kind (old ++ word ∷ []))) o ≡ option_map (draft_with_terms (word_terms kind new)) n
-    → option_map (draft_with_terms (word_terms kind old ++ (Text kind, word) ∷ us)) o ≡ option_map (draft_with_terms (word_terms kind new ++ us)) n
+pub waits-next : (kind : TextKind) (old : List (List ℕ)) (word : List ℕ) (new : List (List ℕ)) (us : List Term)
+    (o n : Option Draft)
+    → option_map (draft_with_terms (word_terms kind (old ++ word ∷ []))) o
+    ≡ option_map (draft_with_terms (word_terms kind new)) n
+    → option_map (draft_with_terms (word_terms kind old ++ (Text kind, word) ∷ us)) o
+    ≡ option_map (draft_with_terms (word_terms kind new ++ us)) n
 waits-next kind old word new us o n h = grind (arith, map-append, append_assoc, option_map, joined)
 
 -- the bytes of a reference to a word
@@ -83,31 +107,38 @@ word-at : (words : List (Bor (List ℕ))) (n i : ℕ) (none : List ℕ) (nothing
 word-at [] n i none nothing below within = absurd (omega (arith, below, within))
 word-at (w ∷ ws) zero i none nothing below within = absurd (omega (arith, below))
 word-at (w ∷ ws) (suc n) zero none nothing below within = refl
-word-at (w ∷ ws) (suc n) (suc i) none nothing below within = word-at ws n i none nothing (omega (arith, below)) (omega (arith, within))
+word-at (w ∷ ws) (suc n) (suc i) none nothing below within =
+    word-at ws n i none nothing (omega (arith, below)) (omega (arith, within))
 
 waiting-count : (words : List (Bor (List ℕ))) (n : ℕ) → n ≤ length words → length (map shown (take n words)) ≡ n
 waiting-count words n within = length-map (take n words) shown ∙ length-take-le n words within
 
-pub next-waiting : (kind : TextKind) (words : List (Bor (List ℕ))) (n i : ℕ) (nothing : Bor (List ℕ)) (seen : List (List ℕ)) → map shown (take n words) ≡ seen → i < n → n ≤ length words
+pub next-waiting : (kind : TextKind) (words : List (Bor (List ℕ))) (n i : ℕ) (nothing : Bor (List ℕ))
+    (seen : List (List ℕ)) → map shown (take n words) ≡ seen → i < n → n ≤ length words
     → word_terms kind (drop i seen) ≡ (Text kind, (get_or words i nothing).now) ∷ word_terms kind (drop (i + 1) seen)
 next-waiting kind words n i nothing seen is below within =
     let all : List (List ℕ) = map shown (take n words) in
-    subst (λ (l : List (List ℕ)). word_terms kind (drop i l) ≡ (Text kind, (get_or words i nothing).now) ∷ word_terms kind (drop (i + 1) l)) is
+    subst (λ (l : List (List ℕ)). word_terms kind (drop i l)
+    ≡ (Text kind, (get_or words i nothing).now) ∷ word_terms kind (drop (i + 1) l)) is
     (ap (word_terms kind) (drop_more all i [] (omega (arith, below, waiting-count words n within)))
-    ∙ ap (λ (w : List ℕ). (Text kind, w) ∷ word_terms kind (drop (i + 1) all)) (word-at words n i [] nothing below within))
+    ∙ ap (λ (w : List ℕ). (Text kind, w) ∷ word_terms kind (drop (i + 1) all))
+    (word-at words n i [] nothing below within))
 
 all-at : (ws : List (List ℕ)) (i : ℕ) → i < length ws → AllByRecursion HasTermLength ws → HasTermLength (get_or ws i [])
 all-at [] i below all = absurd (omega (arith, below))
 all-at (w ∷ ws) zero below all = all.0
 all-at (w ∷ ws) (suc i) below all = all-at ws i (omega (arith, below)) all.1
 
-pub waiting-length : (words : List (Bor (List ℕ))) (n i : ℕ) (nothing : Bor (List ℕ)) → AllByRecursion HasTermLength (map shown (take n words)) → i < n → n ≤ length words
+pub waiting-length : (words : List (Bor (List ℕ))) (n i : ℕ) (nothing : Bor (List ℕ))
+    → AllByRecursion HasTermLength (map shown (take n words)) → i < n → n ≤ length words
     → HasTermLength (get_or words i nothing).now
 waiting-length words n i nothing all below within =
-    subst HasTermLength (word-at words n i [] nothing below within) (all-at (map shown (take n words)) i (omega (arith, below, waiting-count words n within)) all)
+    subst HasTermLength (word-at words n i [] nothing below within)
+    (all-at (map shown (take n words)) i (omega (arith, below, waiting-count words n within)) all)
 
 -- all words of the batch are added, and the batch has the next word
 pub added-first : (kind : TextKind) (old now : List (List ℕ)) (word : List ℕ) (new : List (List ℕ)) (o n : Option Draft)
     → n ≡ option_map (draft_with_terms (word_terms kind old)) o → now ≡ [] → new ≡ now ++ word ∷ []
-    → option_map (draft_with_terms (word_terms kind (old ++ word ∷ []))) o ≡ option_map (draft_with_terms (word_terms kind new)) n
+    → option_map (draft_with_terms (word_terms kind (old ++ word ∷ []))) o
+    ≡ option_map (draft_with_terms (word_terms kind new)) n
 added-first kind old now word new o n added none is = grind (arith, option_map, map-append, joined)

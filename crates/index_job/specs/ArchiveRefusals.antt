@@ -8,7 +8,8 @@ use Rattle.index_job.specs.ArchiveTables.{Mbox, table}
 
 -- the table has more archives, messages or keys than an index may have
 abbrev pub IsTooMuch : Table → Type 0
-IsTooMuch t = (most_in_index < length t.archives) ⊎ (most_in_index < length t.messages) ⊎ (most_in_index < length t.keys)
+IsTooMuch t = (most_in_index < length t.archives) ⊎ (most_in_index < length t.messages)
+    ⊎ (most_in_index < length t.keys)
 
 -- the table has no more archives, messages and keys than an index may have
 pub record IsWithinLimit (t : Table) : Type 0 where

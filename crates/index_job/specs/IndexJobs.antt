@@ -25,8 +25,10 @@ pub record IsAdded (before : List Mbox) (a : Mbox) (count : ℕ) (job : Option D
 -- or the source or memory failed.
 abbrev pub IsAddFault : List Mbox → Mbox → JobFault → Type 0
 IsAddFault before a (job.Cut Device) = ⊤
-IsAddFault before a (job.Cut NotAnMbox) = (length before < most_in_index) × (refusal_of most_in_archive a.bytes ≡ Some NotAnMbox)
-IsAddFault before a (job.Cut ArchiveTooLong) = (length before < most_in_index) × (refusal_of most_in_archive a.bytes ≡ Some ArchiveTooLong)
+IsAddFault before a (job.Cut NotAnMbox) = (length before < most_in_index)
+    × (refusal_of most_in_archive a.bytes ≡ Some NotAnMbox)
+IsAddFault before a (job.Cut ArchiveTooLong) = (length before < most_in_index)
+    × (refusal_of most_in_archive a.bytes ≡ Some ArchiveTooLong)
 IsAddFault before a (job.Cut Failed) = ⊥
 IsAddFault before a job.OutOfMemory = ⊤
 IsAddFault before a job.TooMany = IsTooMuch (table (before ++ a ∷ []))

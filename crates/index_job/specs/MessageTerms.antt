@@ -1,5 +1,6 @@
 -- The terms of a message in an index: the folded words of its texts, its own id, and the ids that link it to others.
-use Rattle.std.specs.Prelude.{ℕ, ◌≤◌, Bool, ◌&&◌, nat_eq, List, length, [], ◌∷◌, ◌++◌, map, flat_map, Option, Some, None}
+use Rattle.std.specs.Prelude.{ℕ, ◌≤◌, Bool, ◌&&◌, nat_eq, List, length, [], ◌∷◌, ◌++◌, map, flat_map, Option, Some}
+use Rattle.std.specs.Prelude.{None}
 use Rattle.std.specs.List.{list_any}
 use Rattle.std.specs.Str.{bytes_eq}
 use Rattle.header_text.specs.Headers.{fields_of}
@@ -49,4 +50,5 @@ message_terms ls = flat_map text_terms (texts_of_message ls) ++ id_terms (facts_
 
 -- whether one of the terms has this kind and this text
 abbrev pub has_term : Kind → List ℕ → List Term → Bool
-has_term kind text terms = list_any (λ (t : Term). nat_eq (kind_number t.0) (kind_number kind) && bytes_eq text t.1) terms
+has_term kind text terms = list_any (λ (t : Term). nat_eq (kind_number t.0) (kind_number kind) && bytes_eq text t.1)
+    terms

@@ -11,7 +11,8 @@ use Rattle.index_job.specs.MessageTerms.{has_term, message_terms}
 
 -- the rising list of the numbers of the messages that have this term
 abbrev pub numbers_with : Kind → List ℕ → List Message → List ℕ
-numbers_with kind term ms = map (λ m. m.0) (filter (λ m. has_term kind term (message_terms (text m.1))) (enumerate_from 0 ms))
+numbers_with kind term ms = map (λ m. m.0)
+    (filter (λ m. has_term kind term (message_terms (text m.1))) (enumerate_from 0 ms))
 
 -- The table names the archives in order. It has a record of each message, by archive, then offset. Its keys are the
 -- sorted list of all terms of messages, each with the rising list of the numbers of all messages that have it.
@@ -21,4 +22,5 @@ pub record IsTableOf (archives : List Mbox) (t : Table) : Type 0 where
   pub records : t.messages ≡ records_from 0 archives
   pub sorted : AllNext KeyBefore t.keys
   pub some_number : AllByRecursion (λ k. 0 < length k.numbers) t.keys
-  pub numbers : (kind : Kind) (term : List ℕ) → numbers_at kind term t.keys ≡ numbers_with kind term (all_messages archives)
+  pub numbers : (kind : Kind) (term : List ℕ) → numbers_at kind term t.keys
+      ≡ numbers_with kind term (all_messages archives)

@@ -1,5 +1,9 @@
 -- Sound archives aren't refused, because the counts of a front of them are no larger.
-use Rattle.index_run.proofs.Words.{◌≡◌, ◌∙◌, ◌+◌, ◌<◌, ◌≤◌, ◌++◌, List, [], ◌∷◌, length, All, get_or, None, Some, sym, ap, subst, arith, append_assoc, ⊎_elim, length-append, length-map, All-get_or, get_or-append_seam, CutFault, refusal_of, Fault, most_in_archive, AreSound, IsTooMuch, IsWithinLimit, Mbox, table, all_messages, messages_in, with_messages, entry_of, Refuses}
+use Rattle.index_run.proofs.Words.{◌≡◌, ◌∙◌, ◌+◌, ◌<◌, ◌≤◌, ◌++◌, List, [], ◌∷◌, length, All, get_or, None, Some, sym}
+use Rattle.index_run.proofs.Words.{ap, subst, arith, append_assoc, ⊎_elim, length-append, length-map, All-get_or}
+use Rattle.index_run.proofs.Words.{get_or-append_seam, CutFault, refusal_of, Fault, most_in_archive, AreSound}
+use Rattle.index_run.proofs.Words.{IsTooMuch, IsWithinLimit, Mbox, table, all_messages, messages_in, with_messages}
+use Rattle.index_run.proofs.Words.{entry_of, Refuses}
 use Rattle.std.proofs.lemmas.Grind.{flat_map-append}
 use Rattle.run_faults.specs.declared.fault.Fault.TheVariants as of
 use Rattle.index_job.proofs.ArchiveSteps.{with_messages-append, with_messages-more}
@@ -8,7 +12,13 @@ use Rattle.index_job.proofs.TableSteps.{records-count}
 -- more archives make the counts of a table no smaller
 messages-grow : (xs ys : List Mbox) → length (table xs).messages ≤ length (table (xs ++ ys)).messages
 messages-grow xs ys =
-    omega (arith, records-count 0 xs, records-count 0 (xs ++ ys), ap length (flat_map-append (λ (a : Mbox). messages_in a.bytes) xs ys), length-append (all_messages xs) (all_messages ys))
+    omega (
+      arith,
+      records-count 0 xs,
+      records-count 0 (xs ++ ys),
+      ap length (flat_map-append (λ (a : Mbox). messages_in a.bytes) xs ys),
+      length-append (all_messages xs) (all_messages ys),
+    )
 
 keys-grow : (xs ys : List Mbox) → length (table xs).keys ≤ length (table (xs ++ ys)).keys
 keys-grow xs ys =
@@ -22,7 +32,8 @@ keys-grow xs ys =
 archives-grow : (xs ys : List Mbox) → length (table xs).archives ≤ length (table (xs ++ ys)).archives
 archives-grow xs ys = omega (arith, length-map xs entry_of, length-map (xs ++ ys) entry_of, length-append xs ys)
 
-never-too-much : (archives before behind : List Mbox) (a : Mbox) → archives ≡ before ++ a ∷ behind → IsWithinLimit (table archives) → IsTooMuch (table (before ++ a ∷ [])) → ⊥
+never-too-much : (archives before behind : List Mbox) (a : Mbox) → archives ≡ before ++ a ∷ behind
+    → IsWithinLimit (table archives) → IsTooMuch (table (before ++ a ∷ [])) → ⊥
 never-too-much archives before behind a whole few much =
     let same : archives ≡ (before ++ a ∷ []) ++ behind = whole ∙ sym (append_assoc before (a ∷ []) behind) in
     let limit : IsWithinLimit (table ((before ++ a ∷ []) ++ behind)) = subst (λ l. IsWithinLimit (table l)) same few in
@@ -34,18 +45,25 @@ never-too-much archives before behind a whole few much =
     rest)
     much
 
-never-cut-off : (archives before behind : List Mbox) (a : Mbox) (f : CutFault) → archives ≡ before ++ a ∷ behind → AreSound archives → refusal_of most_in_archive a.bytes ≡ Some f → ⊥
+never-cut-off : (archives before behind : List Mbox) (a : Mbox) (f : CutFault) → archives ≡ before ++ a ∷ behind
+    → AreSound archives → refusal_of most_in_archive a.bytes ≡ Some f → ⊥
 never-cut-off archives before behind a f whole sound is =
-    let all : All (λ (b : Mbox). refusal_of most_in_archive b.bytes ≡ None) (before ++ a ∷ behind) = subst (λ l. All (λ (b : Mbox). refusal_of most_in_archive b.bytes ≡ None) l) whole sound.each in
+    let all : All (λ (b : Mbox). refusal_of most_in_archive b.bytes ≡ None) (before ++ a ∷ behind) =
+    subst (λ l. All (λ (b : Mbox). refusal_of most_in_archive b.bytes ≡ None) l) whole sound.each in
     let inside : length before < length (before ++ a ∷ behind) = omega (arith, length-append before (a ∷ behind)) in
-    let none : refusal_of most_in_archive (get_or (before ++ a ∷ behind) (length before) a).bytes ≡ None = All-get_or (λ (b : Mbox). refusal_of most_in_archive b.bytes ≡ None) (before ++ a ∷ behind) (length before) a inside all in
+    let none : refusal_of most_in_archive (get_or (before ++ a ∷ behind) (length before) a).bytes ≡ None =
+    All-get_or (λ (b : Mbox). refusal_of most_in_archive b.bytes ≡ None) (before ++ a ∷ behind) (length before) a
+    inside all in
     let here : get_or (before ++ a ∷ behind) (length before) a ≡ a = get_or-append_seam before a behind a in
-    let none-here : refusal_of most_in_archive a.bytes ≡ None = subst (λ (b : Mbox). refusal_of most_in_archive b.bytes ≡ None) here none in
+    let none-here : refusal_of most_in_archive a.bytes ≡ None =
+    subst (λ (b : Mbox). refusal_of most_in_archive b.bytes ≡ None) here none in
     cc
 
 pub sound-not-refused : (archives : List Mbox) (f : Fault) → AreSound archives → Refuses archives f → ⊥
-sound-not-refused archives (of.Archive number fault) sound (before, a, parted, same, h) = never-cut-off archives before parted.behind a fault parted.whole sound h.refused
-sound-not-refused archives of.TooMany sound (before, a, parted, h) = never-too-much archives before parted.behind a parted.whole sound.few h.much
+sound-not-refused archives (of.Archive number fault) sound (before, a, parted, same, h) =
+    never-cut-off archives before parted.behind a fault parted.whole sound h.refused
+sound-not-refused archives of.TooMany sound (before, a, parted, h) =
+    never-too-much archives before parted.behind a parted.whole sound.few h.much
 sound-not-refused archives (of.Usage f) sound h = h
 sound-not-refused archives (of.Rc f) sound h = h
 sound-not-refused archives (of.Query f) sound h = h

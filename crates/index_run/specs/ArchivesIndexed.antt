@@ -22,13 +22,15 @@ pub record Parted (archives before : List Mbox) (a : Mbox) : Type 0 where
 -- the archives are refused with this fault: the first archive that is refused, or the first that is too much together
 -- with those before it
 abbrev pub Refuses : List Mbox → Fault → Type 0
-Refuses archives (Archive number fault) = (before : List Mbox) × (a : Mbox) × Parted archives before a × (number ≡ length before) × IsCutOff before a fault
+Refuses archives (Archive number fault) = (before : List Mbox) × (a : Mbox) × Parted archives before a
+    × (number ≡ length before) × IsCutOff before a fault
 Refuses archives TooMany = (before : List Mbox) × (a : Mbox) × Parted archives before a × IsOneTooMany before a
 Refuses archives _ = ⊥
 
 -- the source with this number failed: it is that of an archive, and all archives before it are sound
 abbrev pub FailsAt : List Mbox → ℕ → Type 0
-FailsAt archives number = (before : List Mbox) × (a : Mbox) × Parted archives before a × (number ≡ length before) × AreSound before
+FailsAt archives number = (before : List Mbox) × (a : Mbox) × Parted archives before a × (number ≡ length before)
+    × AreSound before
 
 -- a fault that indexing these archives can have: their refusal, a failed source, or lack of memory
 abbrev pub IsArchivesFault : List Mbox → Fault → Type 0

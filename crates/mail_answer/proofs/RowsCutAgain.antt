@@ -1,9 +1,11 @@
 -- Rows: messages that are closed and joined, and how they are cut again.
-use Rattle.mail_answer.proofs.Words.{◌≡◌, ℕ, List, [], ◌∷◌, Some, map, refl, codes, concat, cut, messages, lines, first_length, is_empty, is_separator, without_break, has_form, places_from, closed}
+use Rattle.mail_answer.proofs.Words.{◌≡◌, ℕ, List, [], ◌∷◌, Some, map, refl, codes, concat, cut, messages, lines}
+use Rattle.mail_answer.proofs.Words.{first_length, is_empty, is_separator, without_break, has_form, places_from, closed}
 
 -- texts that end without LF, in one LF, and in an empty line
 abbrev three : List (List ℕ)
-three = map closed (codes "From a 10:00 2003" ∷ codes "From b 10:00 2004\nx\n" ∷ codes "From c 10:00 2005\ny\r\n\r\n" ∷ [])
+three = map closed (codes "From a 10:00 2003" ∷ codes "From b 10:00 2004\nx\n" ∷ codes "From c 10:00 2005\ny\r\n\r\n" ∷
+    [])
 
 -- CR LF is a line break, so the added LF makes the last line a separator
 abbrev ends_in_cr : List ℕ

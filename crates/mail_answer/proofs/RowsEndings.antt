@@ -1,6 +1,8 @@
 -- Rows: how the last line ends.
-use Rattle.mail_answer.proofs.Words.{◌≡◌, [], ◌∷◌, map, refl, codes, lines, first_length, is_empty, ending_of, Empty, Ended, Return, Open}
+use Rattle.mail_answer.proofs.Words.{◌≡◌, [], ◌∷◌, map, refl, codes, lines, first_length, is_empty, ending_of, Empty}
+use Rattle.mail_answer.proofs.Words.{Ended, Return, Open}
 
-rows : map ending_of (codes "hi\n\r\n" ∷ codes "hi\r\n" ∷ codes "hi\n\r" ∷ codes "hi\nyou" ∷ []) ≡ Empty ∷ Ended ∷ Return ∷ Open 3 ∷ []
+rows : map ending_of (codes "hi\n\r\n" ∷ codes "hi\r\n" ∷ codes "hi\n\r" ∷ codes "hi\nyou" ∷ [])
+    ≡ Empty ∷ Ended ∷ Return ∷ Open 3 ∷ []
 unfolding lines first_length is_empty
 rows = refl

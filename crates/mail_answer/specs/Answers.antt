@@ -1,5 +1,6 @@
 -- What a call that writes an answer does to its output, and what it says of the archives.
-use Rattle.std.specs.Prelude.{◌≡◌, ℕ, ◌-◌, ◌^◌, min, List, ◌++◌, length, Bool, false, Option, None, Some, Result, Ok, Err}
+use Rattle.std.specs.Prelude.{◌≡◌, ℕ, ◌-◌, ◌^◌, min, List, ◌++◌, length, Bool, false, Option, None, Some, Result, Ok}
+use Rattle.std.specs.Prelude.{Err}
 use Rattle.std.specs.Io.KnownBytes.{Appends, Keeps}
 use Rattle.std.specs.Bool.{MatchBool}
 use Rattle.std.specs.List.{flat_map}
@@ -26,12 +27,14 @@ SendsAnswer taken taken' text messages (Err fault) = SendsFront taken taken' tex
 
 -- The same of a text that may be unknown: it is the known one, if there is a known one.
 abbrev pub SendsKnown : Option (List ℕ) → Option (List ℕ) → Option (List ℕ) → ℕ → Result ℕ AnswerFault → Type 0
-SendsKnown taken taken' known messages result = (text : List ℕ) × Tells known text × SendsAnswer taken taken' text messages result
+SendsKnown taken taken' known messages result = (text : List ℕ) × Tells known text
+    × SendsAnswer taken taken' text messages result
 
 -- The same of an mbox answer, whatever bytes the archives have: for each of the messages with these numbers it has as
 -- many bytes as were indexed, closed.
 abbrev pub SendsSpans : Option (List ℕ) → Option (List ℕ) → Table → List ℕ → Result ℕ AnswerFault → Type 0
-SendsSpans taken taken' t numbers result = (spans : List (List ℕ)) × AreSpansOf t numbers spans × SendsAnswer taken taken' (flat_map closed spans) (length numbers) result
+SendsSpans taken taken' t numbers result = (spans : List (List ℕ)) × AreSpansOf t numbers spans
+    × SendsAnswer taken taken' (flat_map closed spans) (length numbers) result
 
 -- whether the call failed with a fault of these kinds
 abbrev pub fails_by : {T : Type 0} → (AnswerFaultKind → Bool) → Result T AnswerFault → Bool
@@ -48,4 +51,6 @@ kind_of (Err fault) = Err fault.kind
 abbrev pub AnswersStale : Option (List ℕ) → Option (List ℕ) → Option ℕ → Result ℕ AnswerFault → Type 0
 AnswersStale taken taken' stale (Ok _) = stale ≡ None
 AnswersStale taken taken' None (Err fault) = is_stale fault.kind ≡ false
-AnswersStale taken taken' (Some n) (Err fault) = MatchBool (is_of_archives fault.kind) (fault.sent ≡ 0) (fault ≡ record { kind = Stale n; sent = 0 }) × Keeps taken taken'
+AnswersStale taken taken' (Some n) (Err fault) =
+    MatchBool (is_of_archives fault.kind) (fault.sent ≡ 0) (fault ≡ record { kind = Stale n; sent = 0 })
+    × Keeps taken taken'

@@ -15,7 +15,8 @@ has_feed line = list_any (λ b. b == 10) line
 -- the line feeds that close a last line: none after an empty one, one after a line with LF or after CR alone, otherwise
 -- two
 abbrev pub feeds_behind : List ℕ → List ℕ
-feeds_behind line = if is_empty line then [] else if has_feed line || bytes_eq line (13 ∷ []) then feed else feed ++ feed
+feeds_behind line = if is_empty line then [] else if has_feed line || bytes_eq line (13 ∷ []) then feed
+    else feed ++ feed
 
 -- the bytes after the first line
 abbrev pub behind_next : List ℕ → List ℕ
@@ -27,4 +28,5 @@ feeds_if last line = if last then feeds_behind line else []
 
 -- the first line, with what closes it if it is the last
 abbrev pub next_text : List ℕ → List ℕ
-next_text bytes = take (first_length bytes) bytes ++ feeds_if (nat_eq (first_length bytes) (length bytes)) (take (first_length bytes) bytes)
+next_text bytes = take (first_length bytes) bytes ++ feeds_if (nat_eq (first_length bytes) (length bytes))
+    (take (first_length bytes) bytes)

@@ -1,5 +1,6 @@
 -- What a walk through the messages of an index still gives, with one truth for each message.
-use Rattle.std.specs.Prelude.{◌≡◌, ℕ, ◌+◌, ◌-◌, ◌<◌, ◌≤◌, nat_le, Bool, true, false, not, ◌&&◌, ◌||◌, max, List, [], ◌∷◌, MatchOption, Option, Some, None, min}
+use Rattle.std.specs.Prelude.{◌≡◌, ℕ, ◌+◌, ◌-◌, ◌<◌, ◌≤◌, nat_le, Bool, true, false, not, ◌&&◌, ◌||◌, max, List, []}
+use Rattle.std.specs.Prelude.{◌∷◌, MatchOption, Option, Some, None, min}
 use Rattle.mail_index.specs.Steps.{add_steps}
 use Rattle.mail_answer.specs.Marks.{truth_at, each_number}
 

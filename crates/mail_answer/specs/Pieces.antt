@@ -1,15 +1,16 @@
 -- What is read of an archive, piece after piece.
 use Rattle.std.specs.Prelude.{◌≡◌, ℕ, ◌+◌, ◌<◌, List, [], ◌∷◌, length, take, IfSome, Result, Ok}
 use Rattle.std.specs.List.{concat}
+use Rattle.contract_words.specs.Archives.{archive_at}
 use Rattle.contract_words.specs.Knowledge.{WasKnown}
 use Rattle.mbox_cutter.specs.declared.device.DeviceFault.{DeviceFault}
-use Rattle.mail_answer.specs.Archives.{archive_at}
 use Rattle.mail_answer.specs.declared.archives.Archives.{Ghosts}
 
 -- These pieces of an archive were read from an offset on, each from where the one before it ended.
 abbrev pub TellPieces : {A : Type 0} → Ghosts A → ℕ → ℕ → List (List ℕ) → A → A → Type 0
 TellPieces g n offset [] old new = new ≡ old
-TellPieces {A} g n offset (piece ∷ pieces) old new = (next : A) × g.reads old n offset (Ok piece) next × TellPieces g n (offset + length piece) pieces next new
+TellPieces {A} g n offset (piece ∷ pieces) old new = (next : A) × g.reads old n offset (Ok piece) next
+    × TellPieces g n (offset + length piece) pieces next new
 
 -- These bytes of an archive were read from its beginning on, in pieces. If its bytes are still known after that, they
 -- are its first ones.
@@ -20,7 +21,8 @@ pub record ReadsFront {A : Type 0} (g : Ghosts A) (n : ℕ) (bytes : List ℕ) (
   pub known : IfSome (g.held new) (λ archives. bytes ≡ take (length bytes) (archive_at archives n))
 
 -- Fewer than `count` bytes were read of an archive, and then a read after them had this result.
-pub record StopsWithin {A : Type 0} (g : Ghosts A) (n count : ℕ) (answer : Result (List ℕ) DeviceFault) (old new : A) : Type 0 where
+pub record StopsWithin {A : Type 0} (g : Ghosts A) (n count : ℕ) (answer : Result (List ℕ) DeviceFault) (old new : A) :
+    Type 0 where
   pub bytes : List ℕ
   pub before : A
   pub front : ReadsFront g n bytes old before

@@ -1,14 +1,15 @@
 -- The three forms of an answer.
-use Rattle.std.specs.Prelude.{◌≡◌, ℕ, Bool, map, length, List, [], ◌∷◌, ◌++◌, Option, Some, if◌then◌else◌, take, drop, unwrap_or}
+use Rattle.std.specs.Prelude.{◌≡◌, ℕ, Bool, map, length, List, [], ◌∷◌, ◌++◌, Option, Some, if◌then◌else◌, take, drop}
+use Rattle.std.specs.Prelude.{unwrap_or}
 use Rattle.std.specs.Fmt.{decimal}
 use Rattle.std.specs.List.{flat_map, slice_get}
 use Rattle.std.specs.Option.{option_map}
+use Rattle.contract_words.specs.Archives.{archive_at}
 use Rattle.mbox_cutter.specs.Lines.{is_empty, lines}
 use Rattle.mail_index.specs.declared.record.Record.{Record}
 use Rattle.mail_index.specs.Tables.{Archive, Table}
 use Rattle.mail_answer.specs.declared.format.Format.{Format}
 use Rattle.mail_answer.specs.declared.format.Format.TheVariants.{Raw, Excerpt, Mbox}
-use Rattle.mail_answer.specs.Archives.{archive_at}
 use Rattle.mail_answer.specs.Closing.{feed}
 use Rattle.mail_answer.specs.Excerpts.{excerpt}
 use Rattle.mail_answer.specs.TableFacts.{record_at}
@@ -41,7 +42,8 @@ is_closed bytes = is_empty (last_of (lines bytes))
 
 -- the bytes, and as few LFs as make their last line empty
 unfoldable pub closed : List ℕ → List ℕ
-closed bytes = if is_closed bytes then bytes else if is_closed (bytes ++ feed) then bytes ++ feed else bytes ++ feed ++ feed
+closed bytes = if is_closed bytes then bytes else if is_closed (bytes ++ feed) then bytes ++ feed
+    else bytes ++ feed ++ feed
 
 -- ---- answers
 
@@ -53,7 +55,8 @@ message_text Mbox named archives m = closed (span archives m)
 
 -- the texts of the messages with these numbers, one after another
 abbrev pub answer_text : Format → Table → List (List ℕ) → List ℕ → List ℕ
-answer_text format t archives numbers = flat_map (λ n. message_text format t.archives archives (record_at t.messages n)) numbers
+answer_text format t archives numbers = flat_map (λ n. message_text format t.archives archives (record_at t.messages n))
+    numbers
 
 -- The spans are as many as the numbers, and each has as many bytes as its message.
 abbrev pub AreSpansOf : Table → List ℕ → List (List ℕ) → Type 0
@@ -68,5 +71,7 @@ known_answer Mbox t held numbers = option_map (λ archives. answer_text Mbox t a
 -- The text of the message with this number, if it is known.
 abbrev pub known_message : Format → Table → Option (List (List ℕ)) → ℕ → Option (List ℕ)
 known_message Raw t held n = Some (message_text Raw t.archives [] (record_at t.messages n))
-known_message Excerpt t held n = option_map (λ archives. message_text Excerpt t.archives archives (record_at t.messages n)) held
-known_message Mbox t held n = option_map (λ archives. message_text Mbox t.archives archives (record_at t.messages n)) held
+known_message Excerpt t held n = option_map
+    (λ archives. message_text Excerpt t.archives archives (record_at t.messages n)) held
+known_message Mbox t held n = option_map (λ archives. message_text Mbox t.archives archives (record_at t.messages n))
+    held

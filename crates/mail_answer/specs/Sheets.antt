@@ -1,5 +1,6 @@
 -- How the bytes of an answer are sent: they are gathered, and from time to time a front of them is sent.
-use Rattle.std.specs.Prelude.{◌≡◌, ℕ, ◌+◌, ◌-◌, ◌^◌, min, List, ◌++◌, length, Option, None, Some, IfSome, Result, Ok, Err}
+use Rattle.std.specs.Prelude.{◌≡◌, ℕ, ◌+◌, ◌-◌, ◌^◌, min, List, ◌++◌, length, Option, None, Some, IfSome, Result, Ok}
+use Rattle.std.specs.Prelude.{Err}
 use Rattle.std.specs.Io.KnownBytes.{Appends}
 use Rattle.mail_answer.specs.declared.output.sheet.Sheet.{Sheet}
 
@@ -34,6 +35,7 @@ abbrev pub Tells : Option (List ℕ) → List ℕ → Type 0
 Tells known text = IfSome known (λ k. k ≡ text)
 
 -- A text, known or not, was added to the answer; with a fault, a front of it.
-abbrev pub Writes : {T E : Type 0} → Option (List ℕ) → Option (List ℕ) → Sheet → Sheet → Option (List ℕ) → Result T E → Type 0
+abbrev pub Writes : {T E : Type 0} → Option (List ℕ) → Option (List ℕ) → Sheet → Sheet → Option (List ℕ) → Result T E
+    → Type 0
 Writes taken taken' old new known (Ok _) = (text : List ℕ) × Tells known text × Joins taken taken' old new text
 Writes taken taken' old new known (Err _) = (text : List ℕ) × Tells known text × JoinsFront taken taken' old new text

@@ -34,7 +34,8 @@ answer_of_numbers t s held numbers = record { text = known_answer s.format t hel
 
 -- the answer of the table: the text of the messages that the search chooses, and how many they are
 abbrev pub IsTableAnswer : Table → Search → Option (List (List ℕ)) → TableAnswer → Type 0
-IsTableAnswer t s held a = (numbers : List ℕ) × AreChosen (mail_told t) s numbers × (a ≡ answer_of_numbers t s held numbers)
+IsTableAnswer t s held a = (numbers : List ℕ) × AreChosen (mail_told t) s numbers
+    × (a ≡ answer_of_numbers t s held numbers)
 
 -- The whole text was sent and the messages are counted; with a fault, a front of the text was sent, and the fault says
 -- how much. If the text isn't known, this is true of some text.

@@ -1,5 +1,6 @@
 -- Which archive has other bytes than those that were indexed.
-use Rattle.std.specs.Prelude.{◌≡◌, ◌⊎◌, ℕ, ◌+◌, ◌<◌, List, [], ◌∷◌, length, map, take, drop, Bool, false, Option, None, Some, IfSome, IfErr, Result, Ok, Err, if◌then◌else◌}
+use Rattle.std.specs.Prelude.{◌≡◌, ◌⊎◌, ℕ, ◌+◌, ◌<◌, List, [], ◌∷◌, length, map, take, drop, Bool, false, Option, None}
+use Rattle.std.specs.Prelude.{Some, IfSome, IfErr, Result, Ok, Err, if◌then◌else◌}
 use Rattle.std.specs.Option.{option_map_or, option_or}
 use Rattle.std.specs.Str.{bytes_eq}
 use Rattle.sha2.specs.Sha256.{sha256}
@@ -24,7 +25,8 @@ has_digest a bytes = option_map_or (λ digest. bytes_eq digest (sha256 bytes)) a
 abbrev pub first_altered : ℕ → List Archive → List (List ℕ) → Option ℕ
 first_altered n [] archives = None
 first_altered n (a ∷ named) [] = None
-first_altered n (a ∷ named) (bytes ∷ archives) = if has_digest a bytes then first_altered (n + 1) named archives else Some n
+first_altered n (a ∷ named) (bytes ∷ archives) = if has_digest a bytes then first_altered (n + 1) named archives
+    else Some n
 
 -- the archive that isn't the one that was indexed: first by the number of archives and their lengths, then by the
 -- digests
@@ -54,7 +56,8 @@ TellsVerified named archives (Err kind) = TellsFault named archives kind
 -- These bytes were read of the archives from this number on, one archive after another.
 abbrev pub ReadEach : {A : Type 0} → Ghosts A → ℕ → List (List ℕ) → A → A → Type 0
 ReadEach g n [] old new = new ≡ old
-ReadEach {A} g n (bytes ∷ archives) old new = (next : A) × ReadsFront g n bytes old next × ReadEach g (n + 1) archives next new
+ReadEach {A} g n (bytes ∷ archives) old new = (next : A) × ReadsFront g n bytes old next
+    × ReadEach g (n + 1) archives next new
 
 -- This many archives were read, each once, and the bytes that were read have the lengths and digests that were indexed.
 -- If the bytes of the archives are still known after that, they are the ones that were read.
@@ -65,7 +68,8 @@ pub record AreRead {A : Type 0} (g : Ghosts A) (named : List Archive) (count : �
   pub known : IfSome (g.held new) (λ held. take count held ≡ archives)
 
 -- The archives before this one were read in this way. Then this one was read, and no other after it, with this result.
-pub record ReadsUpTo {A : Type 0} (g : Ghosts A) (named : List Archive) (n : ℕ) (Finds : Archive → A → A → Type 0) (old new : A) : Type 0 where
+pub record ReadsUpTo {A : Type 0} (g : Ghosts A) (named : List Archive) (n : ℕ) (Finds : Archive → A → A → Type 0)
+    (old new : A) : Type 0 where
   pub here : Archive
   pub behind : List Archive
   pub place : drop n named ≡ here ∷ behind
@@ -77,7 +81,8 @@ pub record ReadsUpTo {A : Type 0} (g : Ghosts A) (named : List Archive) (n : ℕ
 
 -- The archive ends before its length, or that many of its bytes have another digest.
 abbrev pub ReadsOther : {A : Type 0} → Ghosts A → ℕ → Archive → A → A → Type 0
-ReadsOther g n a old new = StopsWithin g n a.length (Ok []) old new ⊎ ((bytes : List ℕ) × ReadsFront g n bytes old new × (length bytes ≡ a.length) × (has_digest a bytes ≡ false))
+ReadsOther g n a old new = StopsWithin g n a.length (Ok []) old new
+    ⊎ ((bytes : List ℕ) × ReadsFront g n bytes old new × (length bytes ≡ a.length) × (has_digest a bytes ≡ false))
 
 -- A read of the archive fails before all of its indexed length was read.
 abbrev pub FailsWithin : {A : Type 0} → Ghosts A → ℕ → Archive → A → A → Type 0
@@ -94,17 +99,20 @@ FindsDigests g named old new (Err OutFailed) = ⊥
 
 -- If the lengths gave a fault, that is the result. If they agree, the digests decide, and what is known at the end was
 -- known after the lengths.
-abbrev pub GoesOnToDigests : {A T : Type 0} → Ghosts A → List Archive → Result (Unit {0}) AnswerFaultKind → A → A → Result T AnswerFaultKind → Type 0
+abbrev pub GoesOnToDigests : {A T : Type 0} → Ghosts A → List Archive → Result (Unit {0}) AnswerFaultKind → A → A
+    → Result T AnswerFaultKind → Type 0
 GoesOnToDigests g named (Err kind) found new result = (new ≡ found) × (result ≡ Err kind)
 GoesOnToDigests g named (Ok _) found new result =
     WasKnown (g.held found) (g.held new) × FindsDigests g named found new result
 
 -- What a call does if there are as many archives as were indexed: it reads all lengths, and then the archives.
 abbrev pub LooksThrough : {A T : Type 0} → Ghosts A → List Archive → A → A → Result T AnswerFaultKind → Type 0
-LooksThrough {A} g named old new result = (found : A) × (told : Result (Unit {0}) AnswerFaultKind) × FindsLengths g named old found told × GoesOnToDigests g named told found new result
+LooksThrough {A} g named old new result = (found : A) × (told : Result (Unit {0}) AnswerFaultKind)
+    × FindsLengths g named old found told × GoesOnToDigests g named told found new result
 
 -- What `verify` does if there are as many archives as were indexed, whether their bytes are known or not.
-pub record VerifiesArchives {A T : Type 0} (g : Ghosts A) (named : List Archive) (old new : A) (result : Result T AnswerFault) : Type 0 where
+pub record VerifiesArchives {A T : Type 0} (g : Ghosts A) (named : List Archive) (old new : A)
+    (result : Result T AnswerFault) : Type 0 where
   pub through : LooksThrough g named old new (kind_of result)
   -- a stale archive is one of them
   pub below : IfErr result (λ fault. IfStale fault.kind (λ n. n < length named))

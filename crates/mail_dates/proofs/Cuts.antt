@@ -1,5 +1,7 @@
 -- Cutting lists where a test passes.
-use Rattle.mail_dates.proofs.Words.{◌≡◌, ◌<◌, ◌≤◌, ◌+◌, ℕ, Bool, true, false, cond, List, [], ◌∷◌, length, take, drop, Some, None, refl, arith, slice_split, onto_first, position, position_or_len, nat_tests}
+use Rattle.mail_dates.proofs.Words.{◌≡◌, ◌<◌, ◌≤◌, ◌+◌, ℕ, Bool, true, false, cond, List, [], ◌∷◌, length, take, drop}
+use Rattle.mail_dates.proofs.Words.{Some, None, refl, arith, slice_split, onto_first, position, position_or_len}
+use Rattle.mail_dates.proofs.Words.{nat_tests}
 use Rattle.std.proofs.lemmas.List.Splits.{slice_split_first}
 
 module _ (p : ℕ → Bool) where
@@ -24,10 +26,14 @@ module _ (p : ℕ → Bool) where
   split_front [] = ([], [], refl)
   split_front (x ∷ xs) = go (p x) (split_front xs)
     where
-      go : (t : Bool) → (part : List ℕ) × (parts : List (List ℕ)) × (slice_split p xs ≡ part ∷ parts) → (part : List ℕ) × (parts : List (List ℕ)) × (cond t ([] ∷ slice_split p xs) (onto_first x (slice_split p xs)) ≡ part ∷ parts)
+      go : (t : Bool) → (part : List ℕ) × (parts : List (List ℕ)) × (slice_split p xs ≡ part ∷ parts) → (part : List ℕ)
+          × (parts : List (List ℕ)) × (cond t ([] ∷ slice_split p xs) (onto_first x (slice_split p xs)) ≡ part ∷ parts)
       go true r = ([], slice_split p xs, refl)
       go false r = (x ∷ r.0, r.1, rw r.2 refl)
 
   -- a list that is cut three times has four or more parts
-  pub split_four : (xs first ys second zs third ws : List ℕ) → slice_split p xs ≡ first ∷ slice_split p ys → slice_split p ys ≡ second ∷ slice_split p zs → slice_split p zs ≡ third ∷ slice_split p ws → (fourth : List ℕ) × (rest : List (List ℕ)) × (slice_split p xs ≡ first ∷ second ∷ third ∷ fourth ∷ rest)
-  split_four xs first ys second zs third ws e f g = let front = split_front ws in (front.0, front.1, rw (e, f, g, front.2) refl)
+  pub split_four : (xs first ys second zs third ws : List ℕ) → slice_split p xs ≡ first ∷ slice_split p ys
+      → slice_split p ys ≡ second ∷ slice_split p zs → slice_split p zs ≡ third ∷ slice_split p ws → (fourth : List ℕ)
+      × (rest : List (List ℕ)) × (slice_split p xs ≡ first ∷ second ∷ third ∷ fourth ∷ rest)
+  split_four xs first ys second zs third ws e f g = let front = split_front ws
+      in (front.0, front.1, rw (e, f, g, front.2) refl)

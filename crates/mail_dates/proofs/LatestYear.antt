@@ -1,5 +1,9 @@
 -- The search from a year downwards finds the latest year that passes.
-use Rattle.mail_dates.proofs.Words.{◌≡◌, ℕ, zero, suc, ◌<◌, ◌≤◌, Bool, true, false, Option, Some, None, refl, sym, ap, ◌∙◌, subst, arith, ℤ, pos, negsuc, ◌+ℤ◌, ◌-ℤ◌, ◌≤ℤ◌, ◌<ℤ◌, unsigned_abs, ◌↔◌, option_map, IsTrue, int_le, ints, ◌>>=◌, day_number, greatest_below, year_at, latest_year, IsLatestYear, HasNoLater, days_from_to, days_in_by, latest_days_by, begin_by, fit_by}
+use Rattle.mail_dates.proofs.Words.{◌≡◌, ℕ, zero, suc, ◌<◌, ◌≤◌, Bool, true, false, Option, Some, None, refl, sym, ap}
+use Rattle.mail_dates.proofs.Words.{◌∙◌, subst, arith, ℤ, pos, negsuc, ◌+ℤ◌, ◌-ℤ◌, ◌≤ℤ◌, ◌<ℤ◌, unsigned_abs, ◌↔◌}
+use Rattle.mail_dates.proofs.Words.{option_map, IsTrue, int_le, ints, ◌>>=◌, day_number, greatest_below, year_at}
+use Rattle.mail_dates.proofs.Words.{latest_year, IsLatestYear, HasNoLater, days_from_to, days_in_by, latest_days_by}
+use Rattle.mail_dates.proofs.Words.{begin_by, fit_by}
 use Rattle.mail_dates.specs.declared.days.DaysOfYear.{DaysOfYear}
 use Rattle.mail_dates.specs.declared.days.DaysOfYear.TheVariants as days
 use Rattle.mail_dates.proofs.CivilDays.{year_within, numbered}
@@ -25,7 +29,8 @@ module _ (passes : ℤ → Bool) where
   pub latest_found : (year : ℤ) → negsuc 9998 ≤ℤ year → passes year ≡ true → latest_up_to year passes ≡ Some year
   latest_found year low e = grind (arith, placed)
 
-  pub latest_skipped : (year : ℤ) → negsuc 9998 ≤ℤ year → passes year ≡ false → latest_up_to year passes ≡ latest_up_to (year -ℤ pos 1) passes
+  pub latest_skipped : (year : ℤ) → negsuc 9998 ≤ℤ year → passes year ≡ false → latest_up_to year passes
+      ≡ latest_up_to (year -ℤ pos 1) passes
   latest_skipped year low e =
       let p = placed year low in
       let here : passes (year_at p.n) ≡ false = rw p.is e in rw (p.at, p.before, here) refl
@@ -34,14 +39,16 @@ module _ (passes : ℤ → Bool) where
   latest_none = refl
 
   -- the years after this one can be left out, if none of them passes
-  pub latest_from : (k : ℕ) (year : ℤ) → negsuc 9998 ≤ℤ year → ((next : ℤ) → year <ℤ next → passes next ≡ false) → latest_up_to (year +ℤ pos k) passes ≡ latest_up_to year passes
+  pub latest_from : (k : ℕ) (year : ℤ) → negsuc 9998 ≤ℤ year → ((next : ℤ) → year <ℤ next → passes next ≡ false)
+      → latest_up_to (year +ℤ pos k) passes ≡ latest_up_to year passes
   latest_from zero year low no_later = let same : year +ℤ pos 0 ≡ year = omega (arith, ints) in rw same refl
   latest_from (suc k) year low no_later =
       let before : (year +ℤ pos (suc k)) -ℤ pos 1 ≡ year +ℤ pos k = omega (arith, ints) in
       latest_skipped (year +ℤ pos (suc k)) (omega (arith, ints)) (no_later (year +ℤ pos (suc k)) (omega (arith, ints)))
       ∙ rw before (latest_from k year low no_later)
 
-  pub latest_year_from : (year : ℤ) → negsuc 9998 ≤ℤ year → year ≤ℤ pos 9999 → ((next : ℤ) → year <ℤ next → passes next ≡ false) → latest_year passes ≡ latest_up_to year passes
+  pub latest_year_from : (year : ℤ) → negsuc 9998 ≤ℤ year → year ≤ℤ pos 9999
+      → ((next : ℤ) → year <ℤ next → passes next ≡ false) → latest_year passes ≡ latest_up_to year passes
   latest_year_from year low high no_later =
       let k : ℕ = unsigned_abs (pos 9999 -ℤ year) in
       let top : year +ℤ pos k ≡ pos 9999 = rest year high in
@@ -51,7 +58,8 @@ module _ (passes : ℤ → Bool) where
       rest year h = grind (arith, ints)
 
 -- days of a year later than that of this day don't begin by this day
-begins_later : (by year next : ℤ) (month date : ℕ) (last : Option ℤ) → HasNoLater by year → year <ℤ next → begin_by by (days_from_to (day_number next month date) last) ≡ false
+begins_later : (by year next : ℤ) (month date : ℕ) (last : Option ℤ) → HasNoLater by year → year <ℤ next
+    → begin_by by (days_from_to (day_number next month date) last) ≡ false
 begins_later by year next month date last h later = go (day_number next month date) last refl
   where
     go : (first last : Option ℤ) → day_number next month date ≡ first → begin_by by (days_from_to first last) ≡ false
@@ -62,7 +70,8 @@ begins_later by year next month date last h later = go (day_number next month da
         after : (by first : ℤ) → by <ℤ first → int_le first by ≡ false
         after by first lt = grind (arith, ints)
 
-pub none_later_begins : (by year : ℤ) (which : DaysOfYear) → HasNoLater by year → (next : ℤ) → year <ℤ next → begin_by by (days_in_by day_number which next) ≡ false
+pub none_later_begins : (by year : ℤ) (which : DaysOfYear) → HasNoLater by year → (next : ℤ) → year <ℤ next
+    → begin_by by (days_in_by day_number which next) ≡ false
 none_later_begins by year days.All h next later = begins_later by year next 1 1 _ h later
 none_later_begins by year (days.Month month) h next later = begins_later by year next month 1 _ h later
 none_later_begins by year (days.Day month day) h next later = begins_later by year next month day _ h later
@@ -80,23 +89,29 @@ search_start which by year h = record {
   latest = latest_year_from (fit_by day_number which by) year h.low h.high (none_later_begins by year which h);
 }
 
-pub search_next : (which : DaysOfYear) (by year next : ℤ) → IsSearch which by year → negsuc 9998 ≤ℤ year → begin_by by (days_in_by day_number which year) ≡ false → next ≡ year -ℤ pos 1 → IsSearch which by next
+pub search_next : (which : DaysOfYear) (by year next : ℤ) → IsSearch which by year → negsuc 9998 ≤ℤ year
+    → begin_by by (days_in_by day_number which year) ≡ false → next ≡ year -ℤ pos 1 → IsSearch which by next
 search_next which by year next h low e is = rw is (record {
   low = omega (arith, ints);
   high = let high = h.high in omega (arith, ints);
   latest = h.latest ∙ latest_skipped (fit_by day_number which by) year low e;
 })
 
-pub search_found : (which : DaysOfYear) (by year : ℤ) → IsSearch which by year → negsuc 9998 ≤ℤ year → begin_by by (days_in_by day_number which year) ≡ true → days_in_by day_number which year ≡ latest_days_by day_number which by
+pub search_found : (which : DaysOfYear) (by year : ℤ) → IsSearch which by year → negsuc 9998 ≤ℤ year
+    → begin_by by (days_in_by day_number which year) ≡ true → days_in_by day_number which year
+    ≡ latest_days_by day_number which by
 unfolding latest_days_by
 search_found which by year h low e =
-    sym (ap (λ (o : Option ℤ). o >>= days_in_by day_number which) (h.latest ∙ latest_found (fit_by day_number which by) year low e))
+    sym (ap (λ (o : Option ℤ). o >>= days_in_by day_number which)
+    (h.latest ∙ latest_found (fit_by day_number which by) year low e))
 
-pub search_over : (which : DaysOfYear) (by year : ℤ) → IsSearch which by year → year <ℤ negsuc 9998 → None ≡ latest_days_by day_number which by
+pub search_over : (which : DaysOfYear) (by year : ℤ) → IsSearch which by year → year <ℤ negsuc 9998 → None
+    ≡ latest_days_by day_number which by
 unfolding latest_days_by
 search_over which by year h over =
     let end : year ≡ negsuc 9999 = let low = h.low in omega (arith, ints) in
-    let none : latest_up_to year (fit_by day_number which by) ≡ None = rw end (latest_none (fit_by day_number which by)) in
+    let none : latest_up_to year (fit_by day_number which by) ≡ None = rw end (latest_none (fit_by day_number which by))
+    in
     sym (ap (λ (o : Option ℤ). o >>= days_in_by day_number which) (h.latest ∙ none))
 
 -- ---- the year found is the latest, and the latest is found
@@ -107,7 +122,8 @@ record IsGreatest (passes : ℕ → Bool) (limit found : ℕ) : Type 0 where
   below : found < limit
   most : (k : ℕ) → k < limit → passes k ≡ true → k ≤ found
 
-greatest_is : (limit : ℕ) (passes : ℕ → Bool) (found : ℕ) → greatest_below limit passes ≡ Some found → IsGreatest passes limit found
+greatest_is : (limit : ℕ) (passes : ℕ → Bool) (found : ℕ) → greatest_below limit passes ≡ Some found
+    → IsGreatest passes limit found
 greatest_is zero passes found e = absurd cc
 greatest_is (suc n) passes found e = grind (arith, greatest_is n passes found)
 
@@ -118,7 +134,8 @@ found_year o year h = grind arith
 abbrev pub AreOfCalendar : (ℤ → Bool) → Type 0
 AreOfCalendar passes = (year : ℤ) → IsTrue (passes year) → (negsuc 9998 ≤ℤ year) × (year ≤ℤ pos 9999)
 
-pub latest_is : (passes : ℤ → Bool) (year : ℤ) → AreOfCalendar passes → latest_year passes ≡ Some year → IsLatestYear passes year
+pub latest_is : (passes : ℤ → Bool) (year : ℤ) → AreOfCalendar passes → latest_year passes ≡ Some year
+    → IsLatestYear passes year
 latest_is passes year calendar e =
     let f = found_year (greatest_below 19999 (λ n. passes (year_at n))) year e in
     let g = greatest_is 19999 (λ n. passes (year_at n)) f.0 f.1 in
@@ -127,7 +144,8 @@ latest_is passes year calendar e =
       latest = λ other h. go other h (placed other (calendar other h).0) f.0 f.2 g;
     }
   where
-    go : (other : ℤ) → passes other ≡ true → IsPlaced other → (m : ℕ) → year_at m ≡ year → IsGreatest (λ n. passes (year_at n)) 19999 m → other ≤ℤ year
+    go : (other : ℤ) → passes other ≡ true → IsPlaced other → (m : ℕ) → year_at m ≡ year
+        → IsGreatest (λ n. passes (year_at n)) 19999 m → other ≤ℤ year
     go other h p m same g =
         let high : other ≤ℤ pos 9999 = (calendar other h).1 in
         let at : place other ≡ suc p.n = p.at in
@@ -135,17 +153,20 @@ latest_is passes year calendar e =
         let most : p.n ≤ m = g.most p.n (omega (arith, ints)) (subst (λ (y : ℤ). passes y ≡ true) (sym is) h) in
         omega (arith, ints)
 
-pub is_latest : (passes : ℤ → Bool) (year : ℤ) → AreOfCalendar passes → IsLatestYear passes year → latest_year passes ≡ Some year
+pub is_latest : (passes : ℤ → Bool) (year : ℤ) → AreOfCalendar passes → IsLatestYear passes year → latest_year passes
+    ≡ Some year
 is_latest passes year calendar h =
     let within = calendar year h.has in
-    latest_year_from passes year within.0 within.1 (λ next later. not_later next later (passes next) refl) ∙ latest_found passes year within.0 h.has
+    latest_year_from passes year within.0 within.1 (λ next later. not_later next later (passes next) refl)
+    ∙ latest_found passes year within.0 h.has
   where
     not_later : (next : ℤ) → year <ℤ next → (t : Bool) → passes next ≡ t → t ≡ false
     not_later next later true e = let below : next ≤ℤ year = h.latest next e in absurd (omega (arith, ints))
     not_later next later false e = refl
 
 -- a year that has days is a year of the calendar
-of_calendar : (by year : ℤ) (month date : ℕ) (last : Option ℤ) → begin_by by (days_from_to (day_number year month date) last) ≡ true → (negsuc 9998 ≤ℤ year) × (year ≤ℤ pos 9999)
+of_calendar : (by year : ℤ) (month date : ℕ) (last : Option ℤ)
+    → begin_by by (days_from_to (day_number year month date) last) ≡ true → (negsuc 9998 ≤ℤ year) × (year ≤ℤ pos 9999)
 of_calendar by year month date last h = grind (arith, year_within, numbered)
 
 pub fits_are_of_calendar : (which : DaysOfYear) (by : ℤ) → AreOfCalendar (fit_by day_number which by)
@@ -153,6 +174,9 @@ fits_are_of_calendar days.All by year h = of_calendar by year 1 1 _ h
 fits_are_of_calendar (days.Month month) by year h = of_calendar by year month 1 _ h
 fits_are_of_calendar (days.Day month day) by year h = of_calendar by year month day _ h
 
-pub latest_year_law : (which : DaysOfYear) (by year : ℤ) → (latest_year (fit_by day_number which by) ≡ Some year) ↔ IsLatestYear (fit_by day_number which by) year
-latest_year_law which by year =
-    (latest_is (fit_by day_number which by) year (fits_are_of_calendar which by), is_latest (fit_by day_number which by) year (fits_are_of_calendar which by))
+pub latest_year_law : (which : DaysOfYear) (by year : ℤ)
+    → (latest_year (fit_by day_number which by) ≡ Some year) ↔ IsLatestYear (fit_by day_number which by) year
+latest_year_law which by year = (
+  latest_is (fit_by day_number which by) year (fits_are_of_calendar which by),
+  is_latest (fit_by day_number which by) year (fits_are_of_calendar which by),
+)

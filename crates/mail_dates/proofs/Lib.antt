@@ -1,3 +1,4 @@
+-- The proofs of mail_dates: words, lemmas and rows. Proofs of single functions are in folders named after these.
 pub mod Words
 pub mod CivilDays
 pub mod Cuts

@@ -1,6 +1,8 @@
 -- The forms of periods exclude one another, because they differ in the number of digits and of other bytes, and in
 -- whether a digit comes first.
-use Rattle.mail_dates.proofs.Words.{◌≡◌, ℕ, zero, suc, ◌+◌, ◌≤◌, ◌<◌, Bool, true, false, cond, ◌&&◌, ◌==◌, nat_le, List, [], ◌∷◌, ◌++◌, length, get_or, Option, Some, None, refl, sym, ap, ◌∙◌, arith, ℤ, list_all, nat_tests, if◌then◌else◌, number_in, month_of, option_map, position}
+use Rattle.mail_dates.proofs.Words.{◌≡◌, ℕ, zero, suc, ◌+◌, ◌≤◌, ◌<◌, Bool, true, false, cond, ◌&&◌, ◌==◌, nat_le, List}
+use Rattle.mail_dates.proofs.Words.{[], ◌∷◌, ◌++◌, length, get_or, Option, Some, None, refl, sym, ap, ◌∙◌, arith, ℤ}
+use Rattle.mail_dates.proofs.Words.{list_all, nat_tests, if◌then◌else◌, number_in, month_of, option_map, position}
 use Rattle.std.specs.Char.{is_ascii_digit, is_ascii_alphabetic, to_ascii_lowercase}
 use Rattle.std.specs.Str.{str_to_ascii_lowercase, str_eq_ignore_ascii_case}
 use Rattle.std.proofs.Common.{length-append}
@@ -10,7 +12,9 @@ use Rattle.mail_dates.specs.declared.days.Days.{Days}
 use Rattle.mail_dates.specs.declared.period.Unit.{Unit}
 use Rattle.mail_dates.specs.Calendar.{month_names}
 use Rattle.mail_dates.specs.Periods.{unit_of, day_of}
-use Rattle.mail_dates.specs.PeriodGrammar.{Form, DaysAgo, FullDate, WholeYear, NamedMonth, DayThenMonth, MonthThenDay, IsPeriod, CountOfUnits, YearMonthDay, Year, Month, DayMonth, MonthDay, IsLongCount, DigitsAndUnit}
+use Rattle.mail_dates.specs.PeriodGrammar.{Form, DaysAgo, FullDate, WholeYear, NamedMonth, DayThenMonth, MonthThenDay}
+use Rattle.mail_dates.specs.PeriodGrammar.{IsPeriod, CountOfUnits, YearMonthDay, Year, Month, DayMonth, MonthDay}
+use Rattle.mail_dates.specs.PeriodGrammar.{IsLongCount, DigitsAndUnit}
 
 -- ---- digits
 
@@ -103,8 +107,10 @@ name_is text month e =
     let f = found (position (str_eq_ignore_ascii_case text) month_names) month e in
     let at = position-Some (str_eq_ignore_ascii_case text) month_names f.0 [] f.1 in
     let name : List ℕ = get_or month_names f.0 [] in
-    let same : str_to_ascii_lowercase text ≡ str_to_ascii_lowercase name = (bytes_eq-Decides (str_to_ascii_lowercase text) (str_to_ascii_lowercase name)).0 at.1 in
-    lower_name text (ap is_lower_name same ∙ passes_at (λ m. is_lower_name (str_to_ascii_lowercase m)) month_names f.0 refl at.0)
+    let same : str_to_ascii_lowercase text ≡ str_to_ascii_lowercase name =
+    (bytes_eq-Decides (str_to_ascii_lowercase text) (str_to_ascii_lowercase name)).0 at.1 in
+    lower_name text (ap is_lower_name same
+    ∙ passes_at (λ m. is_lower_name (str_to_ascii_lowercase m)) month_names f.0 refl at.0)
 
 -- ---- the form, by the number of digits and of other bytes, and by whether a digit comes first
 
@@ -112,7 +118,8 @@ abbrev form_of : List ℕ → Option Form
 form_of text =
     if length text == digits_in text then (if digits_in text == 8 then Some FullDate else Some WholeYear)
     else (if length text == digits_in text + 1 then (if nat_le (digits_in text) 4 then Some DaysAgo else None)
-    else (if digits_in text == 0 then Some NamedMonth else (if begins_with_digit text then Some DayThenMonth else Some MonthThenDay)))
+    else (if digits_in text == 0 then Some NamedMonth
+    else (if begins_with_digit text then Some DayThenMonth else Some MonthThenDay)))
 
 days_ago : (text : List ℕ) → length text ≡ digits_in text + 1 → digits_in text ≤ 4 → form_of text ≡ Some DaysAgo
 days_ago text e h = grind (arith, nat_tests)
@@ -141,7 +148,12 @@ record IsCount (text : List ℕ) (digits : ℕ) : Type 0 where
 count_is : (digits : List ℕ) (letter : ℕ) → list_all is_ascii_digit digits ≡ true
     → is_ascii_alphabetic letter ≡ true → IsCount (digits ++ letter ∷ []) (length digits)
 count_is digits letter h e = record {
-  count = omega (arith, digits_in-append digits (letter ∷ []), all_digits digits h, no_digits (letter ∷ []) (rw e refl));
+  count = omega (
+    arith,
+    digits_in-append digits (letter ∷ []),
+    all_digits digits h,
+    no_digits (letter ∷ []) (rw e refl),
+  );
   whole = omega (arith, length-append digits (letter ∷ []));
 }
 
@@ -155,8 +167,31 @@ formed today by text form days (YearMonthDay yyyy mm dd year month day e f g) =
     let y = number_is 4 4 yyyy year e in
     let m = number_is 2 2 mm month f in
     let d = number_is 2 2 dd day g in
-    full_date (yyyy ++ (mm ++ dd)) (omega (arith, length-append yyyy (mm ++ dd), length-append mm dd, y.low, y.high, m.low, m.high, d.low, d.high))
-    (omega (arith, digits_in-append yyyy (mm ++ dd), digits_in-append mm dd, all_digits yyyy y.digits, all_digits mm m.digits, all_digits dd d.digits, y.low, y.high, m.low, m.high, d.low, d.high))
+    full_date (yyyy ++ (mm ++ dd)) (omega (
+      arith,
+      length-append yyyy (mm ++ dd),
+      length-append mm dd,
+      y.low,
+      y.high,
+      m.low,
+      m.high,
+      d.low,
+      d.high,
+    ))
+    (omega (
+      arith,
+      digits_in-append yyyy (mm ++ dd),
+      digits_in-append mm dd,
+      all_digits yyyy y.digits,
+      all_digits mm m.digits,
+      all_digits dd d.digits,
+      y.low,
+      y.high,
+      m.low,
+      m.high,
+      d.low,
+      d.high,
+    ))
 formed today by text form days (Year yyyy year e) =
     let y = number_is 4 4 yyyy year e in
     whole_year yyyy (omega (arith, y.low, y.high)) (omega (arith, all_digits yyyy y.digits, y.low, y.high))
@@ -165,16 +200,22 @@ formed today by text form days (Month name month e) =
 formed today by text form days (DayMonth digits name day month d e) =
     let n = name_is name month e in
     let k = day_is digits day d in
-    let first : begins_with_digit (digits ++ name) ≡ true = begins-append digits name k.low ∙ digit_first digits k.low k.digits in
-    let count : digits_in (digits ++ name) ≡ length digits = omega (arith, digits_in-append digits name, all_digits digits k.digits, no_digits name n.letters) in
-    with_month (digits ++ name) (omega (arith, length-append digits name, count, n.three)) (omega (arith, count, k.low)) ∙ rw first refl
+    let first : begins_with_digit (digits ++ name) ≡ true = begins-append digits name k.low
+    ∙ digit_first digits k.low k.digits in
+    let count : digits_in (digits ++ name) ≡ length digits =
+    omega (arith, digits_in-append digits name, all_digits digits k.digits, no_digits name n.letters) in
+    with_month (digits ++ name) (omega (arith, length-append digits name, count, n.three)) (omega (arith, count, k.low))
+    ∙ rw first refl
 formed today by text form days (MonthDay name digits month day e d) =
     let n = name_is name month e in
     let k = day_is digits day d in
     let long : 1 ≤ length name = omega (arith, n.three) in
-    let first : begins_with_digit (name ++ digits) ≡ false = begins-append name digits long ∙ letter_first name long n.letters in
-    let count : digits_in (name ++ digits) ≡ length digits = omega (arith, digits_in-append name digits, all_digits digits k.digits, no_digits name n.letters) in
-    with_month (name ++ digits) (omega (arith, length-append name digits, count, n.three)) (omega (arith, count, k.low)) ∙ rw first refl
+    let first : begins_with_digit (name ++ digits) ≡ false = begins-append name digits long
+    ∙ letter_first name long n.letters in
+    let count : digits_in (name ++ digits) ≡ length digits =
+    omega (arith, digits_in-append name digits, all_digits digits k.digits, no_digits name n.letters) in
+    with_month (name ++ digits) (omega (arith, length-append name digits, count, n.three)) (omega (arith, count, k.low))
+    ∙ rw first refl
 
 pub same_form : (today by : ℤ) (text : List ℕ) (f g : Form) (d e : Option Days) → IsPeriod today by text f d
     → IsPeriod today by text g e → f ≡ g

@@ -1,5 +1,8 @@
 -- Periods are read as their grammar says.
-use Rattle.mail_dates.proofs.Words.{◌≡◌, ℕ, ◌-◌, ◌<◌, Bool, true, false, ◌&&◌, ◌==◌, List, [], ◌∷◌, ◌++◌, length, take, drop, Option, Some, None, Result, Ok, Err, refl, sym, ap, ◌∙◌, subst, arith, ℤ, pos, list_all, nat_tests, if◌then◌else◌, option_map, number_in, month_of, day_number, period_of, ◌>>=◌, DateFault, BadDate, BadNumber, ◌↔◌}
+use Rattle.mail_dates.proofs.Words.{◌≡◌, ℕ, ◌-◌, ◌<◌, Bool, true, false, ◌&&◌, ◌==◌, List, [], ◌∷◌, ◌++◌, length, take}
+use Rattle.mail_dates.proofs.Words.{drop, Option, Some, None, Result, Ok, Err, refl, sym, ap, ◌∙◌, subst, arith, ℤ, pos}
+use Rattle.mail_dates.proofs.Words.{list_all, nat_tests, if◌then◌else◌, option_map, number_in, month_of, day_number}
+use Rattle.mail_dates.proofs.Words.{period_of, ◌>>=◌, DateFault, BadDate, BadNumber, ◌↔◌}
 use Rattle.std.specs.Prelude.{slice_get, slice_range, is_some, nat_lt, ok_or}
 use Rattle.contract_words.specs.Answers.{◌>>=◌ as ◌>>=ᵣ◌}
 use Rattle.std.specs.Char.{is_ascii_digit}
@@ -14,9 +17,12 @@ use Rattle.mail_dates.specs.declared.period.Unit.{Unit}
 use Rattle.mail_dates.specs.declared.period.Period.{Period}
 use Rattle.mail_dates.specs.declared.period.Period.TheVariants.{Ago, InYear, Yearly}
 use Rattle.mail_dates.specs.Periods as periods
-use Rattle.mail_dates.specs.Periods.{unit_of, last_unit, before_last_letter, day_of, yearly_day, has_long_count, period_days_by}
+use Rattle.mail_dates.specs.Periods.{unit_of, last_unit, before_last_letter, day_of, yearly_day, has_long_count}
+use Rattle.mail_dates.specs.Periods.{period_days_by}
 use Rattle.mail_dates.specs.Ranges.{named_days_by}
-use Rattle.mail_dates.specs.PeriodGrammar.{Names, Form, DaysAgo, FullDate, WholeYear, NamedMonth, DayThenMonth, MonthThenDay, IsPeriod, CountOfUnits, YearMonthDay, Year, Month, DayMonth, MonthDay, IsLongCount, DigitsAndUnit, IsRefused, LongCount, NoPeriod}
+use Rattle.mail_dates.specs.PeriodGrammar.{Names, Form, DaysAgo, FullDate, WholeYear, NamedMonth, DayThenMonth}
+use Rattle.mail_dates.specs.PeriodGrammar.{MonthThenDay, IsPeriod, CountOfUnits, YearMonthDay, Year, Month, DayMonth}
+use Rattle.mail_dates.specs.PeriodGrammar.{MonthDay, IsLongCount, DigitsAndUnit, IsRefused, LongCount, NoPeriod}
 use Rattle.mail_dates.proofs.PeriodForms.{number_is, name_is, formed, no_form, same_form}
 
 -- the period that is read from a text of this form
@@ -120,16 +126,19 @@ record DateParts (text : List ℕ) (period : Period) : Type 0 where
 
 date_parts : (text : List ℕ) (period : Period) → periods.full_date text ≡ Some period → DateParts text period
 date_parts text period e =
-    go (length text == 8) (number_in 4 4 (take 4 text)) (number_in 2 2 (slice_range text 4 6)) (number_in 2 2 (drop 6 text)) refl refl refl e
+    go (length text == 8) (number_in 4 4 (take 4 text)) (number_in 2 2 (slice_range text 4 6))
+    (number_in 2 2 (drop 6 text)) refl refl refl e
   where
     go : (long : Bool) (y m d : Option ℕ) → number_in 4 4 (take 4 text) ≡ y
         → number_in 2 2 (slice_range text 4 6) ≡ m → number_in 2 2 (drop 6 text) ≡ d
-        → (if long then (y >>= (λ year. m >>= (λ month. d >>= (λ day. Some (InYear (pos year) (days.Day month day)))))) else None) ≡ Some period → DateParts text period
+        → (if long then (y >>= (λ year. m >>= (λ month. d >>= (λ day. Some (InYear (pos year) (days.Day month day))))))
+        else None) ≡ Some period → DateParts text period
     go long y m d h h2 h3 h4 = grind arith
 
 date_text : (text : List ℕ) → take 4 text ++ (slice_range text 4 6 ++ drop 6 text) ≡ text
 date_text text =
-    ap (λ (t : List ℕ). take 4 text ++ t) (ap (λ (t : List ℕ). slice_range text 4 6 ++ t) (sym (drop-drop 2 4 text)) ∙ take-append-drop 2 (drop 4 text)) ∙ take-append-drop 4 text
+    ap (λ (t : List ℕ). take 4 text ++ t) (ap (λ (t : List ℕ). slice_range text 4 6 ++ t) (sym (drop-drop 2 4 text))
+    ∙ take-append-drop 2 (drop 4 text)) ∙ take-append-drop 4 text
 
 record YearlyParts (name digits : Option ℕ) (period : Period) : Type 0 where
   month : ℕ
@@ -150,7 +159,8 @@ module _ (today by : ℤ) where
     has : period_days_by day_number today by period ≡ said
 
   ago_of : (front : List ℕ) (letter : ℕ)
-      → periods.ago (front ++ letter ∷ []) ≡ (unit_of letter >>= (λ unit. number_in 1 4 front >>= (λ count. Some (Ago count unit))))
+      → periods.ago (front ++ letter ∷ []) ≡
+      (unit_of letter >>= (λ unit. number_in 1 4 front >>= (λ count. Some (Ago count unit))))
   ago_of front letter = rw (last_unit-last front letter, before_last front letter) refl
 
   ago_read : (digits : List ℕ) (count letter : ℕ) (unit : Unit) → number_in 1 4 digits ≡ Some count
@@ -166,17 +176,25 @@ module _ (today by : ℤ) where
       let d = number_is 2 2 dd day g in
       let first = cut_at 4 yyyy (mm ++ dd) (omega (arith, y.low, y.high)) in
       let second = cut_at 2 mm dd (omega (arith, m.low, m.high)) in
-      let long : length (yyyy ++ (mm ++ dd)) ≡ 8 = omega (arith, length-append yyyy (mm ++ dd), length-append mm dd, y.low, y.high, m.low, m.high, d.low, d.high) in
+      let long : length (yyyy ++ (mm ++ dd)) ≡ 8 =
+      omega (arith, length-append yyyy (mm ++ dd), length-append mm dd, y.low, y.high, m.low, m.high, d.low, d.high)
+      in
       let front : take 4 (yyyy ++ (mm ++ dd)) ≡ yyyy = first.front in
       let middle : slice_range (yyyy ++ (mm ++ dd)) 4 6 ≡ mm = ap (take 2) first.back ∙ second.front in
-      let back : drop 6 (yyyy ++ (mm ++ dd)) ≡ dd = sym (drop-drop 2 4 (yyyy ++ (mm ++ dd))) ∙ (ap (drop 2) first.back ∙ second.back) in
+      let back : drop 6 (yyyy ++ (mm ++ dd)) ≡ dd = sym (drop-drop 2 4 (yyyy ++ (mm ++ dd)))
+      ∙ (ap (drop 2) first.back ∙ second.back) in
       rw (long, front, middle, back, e, f, g) refl
 
   reads : (text : List ℕ) (form : Form) (said : Option Days) → IsPeriod today by text form said → Reads form text said
   reads text form said (CountOfUnits digits count letter unit e u) =
       record { period = Ago count unit; is = ago_read digits count letter unit e u; has = refl }
   reads text form said (YearMonthDay yyyy mm dd year month day e f g) =
-      record { period = InYear (pos year) (days.Day month day); is = date_read yyyy mm dd year month day e f g; has = refl }
+      record {
+        period = InYear (pos year) (days.Day month day);
+        is = date_read yyyy mm dd year month day e f g;
+        has =
+            refl;
+      }
   reads text form said (Year yyyy year e) = record { period = InYear (pos year) days.All; is = rw e refl; has = refl }
   reads text form said (Month name month e) = record { period = Yearly (days.Month month); is = rw e refl; has = refl }
   reads text form said (DayMonth digits name day month d e) =
@@ -193,7 +211,8 @@ module _ (today by : ℤ) where
   ago_is : (front : List ℕ) (letter : ℕ) (period : Period) → periods.ago (front ++ letter ∷ []) ≡ Some period
       → Is DaysAgo (front ++ letter ∷ []) period
   ago_is front letter period e =
-      option_and_then_some (λ unit. number_in 1 4 front >>= (λ count. Some (Ago count unit))) (unit_of letter) period (sym (ago_of front letter) ∙ e) (λ unit u h.
+      option_and_then_some (λ unit. number_in 1 4 front >>= (λ count. Some (Ago count unit))) (unit_of letter) period
+      (sym (ago_of front letter) ∙ e) (λ unit u h.
       option_and_then_some (λ count. Some (Ago count unit)) (number_in 1 4 front) period h (λ count n k.
       subst (Is DaysAgo (front ++ letter ∷ [])) (same_some _ _ k) (CountOfUnits front count letter unit n u)))
 
@@ -201,34 +220,40 @@ module _ (today by : ℤ) where
   date_is text period e =
       let d = date_parts text period e in
       subst (λ (t : List ℕ). Is FullDate t period) (date_text text)
-      (subst (Is FullDate (take 4 text ++ (slice_range text 4 6 ++ drop 6 text))) (sym d.is) (YearMonthDay (take 4 text) (slice_range text 4 6) (drop 6 text) d.year d.month d.day d.yyyy d.mm d.dd))
+      (subst (Is FullDate (take 4 text ++ (slice_range text 4 6 ++ drop 6 text))) (sym d.is)
+      (YearMonthDay (take 4 text) (slice_range text 4 6) (drop 6 text) d.year d.month d.day d.yyyy d.mm d.dd))
 
   year_is : (text : List ℕ) (period : Period) → periods.whole_year text ≡ Some period → Is WholeYear text period
   year_is text period e =
-      let m = map_some (λ year. InYear (pos year) days.All) (number_in 4 4 text) period e in subst (Is WholeYear text) m.2 (Year text m.0 m.1)
+      let m = map_some (λ year. InYear (pos year) days.All) (number_in 4 4 text) period e
+      in subst (Is WholeYear text) m.2 (Year text m.0 m.1)
 
   month_is : (text : List ℕ) (period : Period) → periods.yearly_month text ≡ Some period → Is NamedMonth text period
   month_is text period e =
-      let m = map_some (λ month. Yearly (days.Month month)) (month_of text) period e in subst (Is NamedMonth text) m.2 (Month text m.0 m.1)
+      let m = map_some (λ month. Yearly (days.Month month)) (month_of text) period e
+      in subst (Is NamedMonth text) m.2 (Month text m.0 m.1)
 
   day_first_is : (n : ℕ) (text : List ℕ) (period : Period)
       → yearly_day (month_of (drop n text)) (day_of (take n text)) ≡ Some period → Is DayThenMonth text period
   day_first_is n text period e =
       let p = yearly_parts (month_of (drop n text)) (day_of (take n text)) period e in
       subst (λ (t : List ℕ). Is DayThenMonth t period) (take-append-drop n text)
-      (subst (Is DayThenMonth (take n text ++ drop n text)) (sym p.is) (DayMonth (take n text) (drop n text) p.day p.month p.named_day p.named_month))
+      (subst (Is DayThenMonth (take n text ++ drop n text)) (sym p.is)
+      (DayMonth (take n text) (drop n text) p.day p.month p.named_day p.named_month))
 
   month_first_is : (n : ℕ) (text : List ℕ) (period : Period)
       → yearly_day (month_of (take n text)) (day_of (drop n text)) ≡ Some period → Is MonthThenDay text period
   month_first_is n text period e =
       let p = yearly_parts (month_of (take n text)) (day_of (drop n text)) period e in
       subst (λ (t : List ℕ). Is MonthThenDay t period) (take-append-drop n text)
-      (subst (Is MonthThenDay (take n text ++ drop n text)) (sym p.is) (MonthDay (take n text) (drop n text) p.month p.day p.named_month p.named_day))
+      (subst (Is MonthThenDay (take n text ++ drop n text)) (sym p.is)
+      (MonthDay (take n text) (drop n text) p.month p.day p.named_month p.named_day))
 
   is_read : (form : Form) (text : List ℕ) (period : Period) → read form text ≡ Some period → Is form text period
   is_read DaysAgo [] period e = absurd cc
   is_read DaysAgo (b ∷ bs) period e =
-      let l = last_of b bs in subst (λ (t : List ℕ). Is DaysAgo t period) (sym l.2) (ago_is l.0 l.1 period (ap periods.ago (sym l.2) ∙ e))
+      let l = last_of b bs in subst (λ (t : List ℕ). Is DaysAgo t period) (sym l.2)
+      (ago_is l.0 l.1 period (ap periods.ago (sym l.2) ∙ e))
   is_read FullDate text period e = date_is text period e
   is_read WholeYear text period e = year_is text period e
   is_read NamedMonth text period e = month_is text period e
@@ -249,7 +274,8 @@ module _ (today by : ℤ) where
       go : (o : Option Period) → read g text ≡ o → option_or o rest ≡ Some period
       go None k = h
       go (Some other) k =
-          sym k ∙ (ap (λ form. read form text) (same_form today by text g f _ _ (is_read g text other k) (is_read f text period e)) ∙ e)
+          sym k ∙ (ap (λ form. read form text)
+          (same_form today by text g f _ _ (is_read g text other k) (is_read f text period e)) ∙ e)
 
   chosen_is : (form : Form) (text : List ℕ) (period : Period) → read form text ≡ Some period → chosen text ≡ Some period
   unfolding chosen
@@ -274,9 +300,13 @@ module _ (today by : ℤ) where
   is_chosen : (text : List ℕ) (period : Period) → chosen text ≡ Some period → HasForm text period
   unfolding chosen
   is_chosen text period e =
-      let at : (form : Form) → read form text ≡ Some period → HasForm text period = λ form h. record { form = form; is = h } in
-      either (read DaysAgo text) _ period e (at DaysAgo) (λ e. either (read FullDate text) _ period e (at FullDate) (λ e. either (read WholeYear text) _ period e (at WholeYear)
-      (λ e. either (read NamedMonth text) _ period e (at NamedMonth) (λ e. either (read DayThenMonth text) _ period e (at DayThenMonth) (at MonthThenDay)))))
+      let at : (form : Form) → read form text ≡ Some period → HasForm text period =
+      λ form h. record { form = form; is = h } in
+      either (read DaysAgo text) _ period e (at DaysAgo)
+      (λ e. either (read FullDate text) _ period e (at FullDate)
+      (λ e. either (read WholeYear text) _ period e (at WholeYear)
+      (λ e. either (read NamedMonth text) _ period e (at NamedMonth)
+      (λ e. either (read DayThenMonth text) _ period e (at DayThenMonth) (at MonthThenDay)))))
 
   -- ---- the days that a text names
 
@@ -290,7 +320,8 @@ module _ (today by : ℤ) where
       go : (t : Bool) → has_long_count text ≡ t → t ≡ false
       go false e = refl
       go true e =
-          let none : None ≡ Some form = sym (no_form text (is_long text e)) ∙ formed today by text form said h in absurd cc
+          let none : None ≡ Some form = sym (no_form text (is_long text e)) ∙ formed today by text form said h
+          in absurd cc
 
   pub names_read : (text : List ℕ) (days : Days) → Names today by text days → named text ≡ Ok days
   unfolding period_of chosen
@@ -308,7 +339,8 @@ module _ (today by : ℤ) where
     has : period_days_by day_number today by period ≡ Some days
 
   was_read : (long : Bool) (text : List ℕ) (days : Days)
-      → ((if long then Err BadNumber else ok_or (chosen text) BadDate) >>=ᵣ (λ period. ok_or (period_days_by day_number today by period) BadDate)) ≡ Ok days → HasRead text days
+      → ((if long then Err BadNumber else ok_or (chosen text) BadDate) >>=ᵣ
+      (λ period. ok_or (period_days_by day_number today by period) BadDate)) ≡ Ok days → HasRead text days
   was_read long text days e = grind arith
 
   pub read_names : (text : List ℕ) (days : Days) → named text ≡ Ok days → Names today by text days
@@ -328,7 +360,8 @@ module _ (today by : ℤ) where
   read_long text e = go (has_long_count text) refl e
     where
       go : (t : Bool) → has_long_count text ≡ t
-          → ((if t then Err BadNumber else ok_or (chosen text) BadDate) >>=ᵣ (λ period. ok_or (period_days_by day_number today by period) BadDate)) ≡ Err BadNumber → IsLongCount text
+          → ((if t then Err BadNumber else ok_or (chosen text) BadDate) >>=ᵣ
+          (λ period. ok_or (period_days_by day_number today by period) BadDate)) ≡ Err BadNumber → IsLongCount text
       go true h k = is_long text h
       go false h k = absurd (other_fault (chosen text) k)
 

@@ -1,5 +1,9 @@
 -- Ranges of days are read as their grammar says.
-use Rattle.mail_dates.proofs.Words.{◌≡◌, ℕ, Bool, true, false, cond, List, [], ◌∷◌, ◌++◌, Some, None, Result, Ok, Err, refl, sym, ap, ◌∙◌, subst, arith, ℤ, pos, ◌↔◌, list_all, nat_tests, day_number, number_in, month_of, period_of, slice_split, onto_first, is_dash, range_at, range_of_parts_by, DateFault, BadDate, BadNumber, Range, start_of_day, end_of_day, Option}
+use Rattle.mail_dates.proofs.Words.{◌≡◌, ℕ, Bool, true, false, cond, List, [], ◌∷◌, ◌++◌, Some, None, Result, Ok, Err}
+use Rattle.mail_dates.proofs.Words.{refl, sym, ap, ◌∙◌, subst, arith, ℤ, pos, ◌↔◌, list_all, nat_tests, day_number}
+use Rattle.mail_dates.proofs.Words.{number_in, month_of, period_of, slice_split, onto_first, is_dash, range_at}
+use Rattle.mail_dates.proofs.Words.{range_of_parts_by, DateFault, BadDate, BadNumber, Range, start_of_day, end_of_day}
+use Rattle.mail_dates.proofs.Words.{Option}
 use Rattle.contract_words.specs.Answers.{◌>>=◌ as ◌>>=ᵣ◌}
 use Rattle.std.specs.List.{list_any, join_with_byte}
 use Rattle.std.specs.Char.{is_ascii_digit, is_ascii_alphabetic}
@@ -10,8 +14,10 @@ use Rattle.mail_dates.specs.declared.days.Days.{Days}
 use Rattle.mail_dates.specs.declared.period.Unit.{Unit}
 use Rattle.mail_dates.specs.Periods.{unit_of}
 use Rattle.mail_dates.specs.Ranges.{named_days_by, range_of_days, range_of_period_by, range_between_by, range_from_by}
-use Rattle.mail_dates.specs.PeriodGrammar.{Names, Form, IsPeriod, CountOfUnits, YearMonthDay, Year, Month, DayMonth, MonthDay, IsLongCount, DigitsAndUnit}
-use Rattle.mail_dates.specs.RangeGrammar.{day_at, IsRange, InPeriod, Between, Until, Since, IsEnd, NoEnd, NamedEnd, HasLongCount, AsPeriod, AsEnd, AsStart, IsFault, TooLong, NoRange}
+use Rattle.mail_dates.specs.PeriodGrammar.{Names, Form, IsPeriod, CountOfUnits, YearMonthDay, Year, Month, DayMonth}
+use Rattle.mail_dates.specs.PeriodGrammar.{MonthDay, IsLongCount, DigitsAndUnit}
+use Rattle.mail_dates.specs.RangeGrammar.{day_at, IsRange, InPeriod, Between, Until, Since, IsEnd, NoEnd, NamedEnd}
+use Rattle.mail_dates.specs.RangeGrammar.{HasLongCount, AsPeriod, AsEnd, AsStart, IsFault, TooLong, NoRange}
 use Rattle.mail_dates.proofs.Cuts.{split_front}
 use Rattle.mail_dates.proofs.PeriodForms.{number_is, name_is, day_is, unit_letter}
 use Rattle.mail_dates.proofs.PeriodReading.{names_read, read_names, long_read, read_long}
@@ -30,7 +36,8 @@ split_at : (text rest : List ℕ) → Free text
     → slice_split is_dash (text ++ 0x2D ∷ rest) ≡ text ∷ slice_split is_dash rest
 split_at [] rest h = refl
 split_at (b ∷ bs) rest h =
-    let parts = or_parts (is_dash b) (list_any is_dash bs) h in rw parts.0 (ap (onto_first b) (split_at bs rest parts.1))
+    let parts = or_parts (is_dash b) (list_any is_dash bs) h
+    in rw parts.0 (ap (onto_first b) (split_at bs rest parts.1))
 
 alone : (text part : List ℕ) → slice_split is_dash text ≡ part ∷ [] → text ≡ part
 alone text part e = sym (join_with_byte-slice_split 0x2D text) ∙ ap (join_with_byte 0x2D) e
@@ -44,7 +51,8 @@ first_free (b ∷ bs) first rest e = go (is_dash b) refl (split_front is_dash bs
   where
     go : (t : Bool) → is_dash b ≡ t
         → (part : List ℕ) × (parts : List (List ℕ)) × (slice_split is_dash bs ≡ part ∷ parts)
-        → ((part : List ℕ) (parts : List (List ℕ)) → slice_split is_dash bs ≡ part ∷ parts → Free part) → cond t ([] ∷ slice_split is_dash bs) (onto_first b (slice_split is_dash bs)) ≡ first ∷ rest → Free first
+        → ((part : List ℕ) (parts : List (List ℕ)) → slice_split is_dash bs ≡ part ∷ parts → Free part)
+        → cond t ([] ∷ slice_split is_dash bs) (onto_first b (slice_split is_dash bs)) ≡ first ∷ rest → Free first
     go true h f r k = let nothing : [] ≡ first = cc in subst Free nothing refl
     go false h f r k =
         let same : (b ∷ f.0) ∷ f.1 ≡ first ∷ rest = sym (ap (onto_first b) f.2) ∙ k in
@@ -76,7 +84,8 @@ period_free : (today by : ℤ) (text : List ℕ) (form : Form) (said : Option Da
 period_free today by text form said (CountOfUnits digits count letter unit e u) =
     append_free digits (letter ∷ []) (number_free 1 4 digits count e) (letter_free letter unit u)
 period_free today by text form said (YearMonthDay yyyy mm dd year month day e f g) =
-    append_free yyyy (mm ++ dd) (number_free 4 4 yyyy year e) (append_free mm dd (number_free 2 2 mm month f) (number_free 2 2 dd day g))
+    append_free yyyy (mm ++ dd) (number_free 4 4 yyyy year e)
+    (append_free mm dd (number_free 2 2 mm month f) (number_free 2 2 dd day g))
 period_free today by text form said (Year yyyy year e) = number_free 4 4 yyyy year e
 period_free today by text form said (Month name month e) = name_free name month e
 period_free today by text form said (DayMonth digits name day month d e) =
@@ -106,7 +115,8 @@ none_names today by days e = let wrong : Err BadDate ≡ Ok days = sym (none_nam
 
 none_long : {P : Type 0} → IsLongCount [] → P
 none_long long =
-    let wrong : Err BadDate ≡ Err BadNumber = sym (none_named (pos 0) (pos 0)) ∙ long_read (pos 0) (pos 0) [] long in absurd cc
+    let wrong : Err BadDate ≡ Err BadNumber = sym (none_named (pos 0) (pos 0)) ∙ long_read (pos 0) (pos 0) [] long
+    in absurd cc
 
 module _ (now : ℕ) where
   abbrev days_of : List ℕ → Result Days DateFault
@@ -114,16 +124,19 @@ module _ (now : ℕ) where
 
   between_read : (start end : List ℕ) (first last : Days) → days_of end ≡ Ok last
       → named (day_at now) last.last start ≡ Ok first
-      → range_between_by day_number now start end ≡ Ok (record { from = Some (start_of_day first.first); until = Some (end_of_day last.last) })
+      → range_between_by day_number now start end
+      ≡ Ok (record { from = Some (start_of_day first.first); until = Some (end_of_day last.last) })
   between_read start [] first last e f = none_names (day_at now) (day_at now) last e
   between_read [] (b ∷ bs) first last e f = none_names (day_at now) last.last first f
   between_read (a ∷ more) (b ∷ bs) first last e f = rw (e, f) refl
 
-  until_read : (end : List ℕ) (last : Days) → days_of end ≡ Ok last → range_between_by day_number now [] end ≡ Ok (record { from = None; until = Some (end_of_day last.last) })
+  until_read : (end : List ℕ) (last : Days) → days_of end ≡ Ok last → range_between_by day_number now [] end
+      ≡ Ok (record { from = None; until = Some (end_of_day last.last) })
   until_read [] last e = none_names (day_at now) (day_at now) last e
   until_read (b ∷ bs) last e = rw e refl
 
-  since_read : (start : List ℕ) (first : Days) → days_of start ≡ Ok first → range_between_by day_number now start [] ≡ Ok (record { from = Some (start_of_day first.first); until = Some (pos now) })
+  since_read : (start : List ℕ) (first : Days) → days_of start ≡ Ok first → range_between_by day_number now start []
+      ≡ Ok (record { from = Some (start_of_day first.first); until = Some (pos now) })
   since_read [] first e = none_names (day_at now) (day_at now) first e
   since_read (a ∷ more) first e = rw e refl
 
@@ -136,17 +149,24 @@ module _ (now : ℕ) where
       → range_at (start ++ 0x2D ∷ end) now ≡ range_between_by day_number now start end
   unfolding range_at
   two_parts start end h k =
-      ap (range_of_parts_by day_number now) (split_at start end h ∙ ap (λ (parts : List (List ℕ)). start ∷ parts) (split_none end k))
+      ap (range_of_parts_by day_number now) (split_at start end h
+      ∙ ap (λ (parts : List (List ℕ)). start ∷ parts) (split_none end k))
 
   pub range_read : (text : List ℕ) (range : Range) → IsRange now text range → range_at text now ≡ Ok range
   range_read text range (InPeriod period days n) =
-      one_part period (names_free (day_at now) (day_at now) period days n) ∙ rw (names_read (day_at now) (day_at now) period days n) refl
+      one_part period (names_free (day_at now) (day_at now) period days n)
+      ∙ rw (names_read (day_at now) (day_at now) period days n) refl
   range_read text range (Between start end first last l f) =
-      two_parts start end (names_free (day_at now) last.last start first f) (names_free (day_at now) (day_at now) end last l) ∙ between_read start end first last (names_read (day_at now) (day_at now) end last l) (names_read (day_at now) last.last start first f)
+      two_parts start end (names_free (day_at now) last.last start first f)
+      (names_free (day_at now) (day_at now) end last l)
+      ∙ between_read start end first last (names_read (day_at now) (day_at now) end last l)
+      (names_read (day_at now) last.last start first f)
   range_read text range (Until end last l) =
-      two_parts [] end refl (names_free (day_at now) (day_at now) end last l) ∙ until_read end last (names_read (day_at now) (day_at now) end last l)
+      two_parts [] end refl (names_free (day_at now) (day_at now) end last l)
+      ∙ until_read end last (names_read (day_at now) (day_at now) end last l)
   range_read text range (Since start first f) =
-      two_parts start [] (names_free (day_at now) (day_at now) start first f) refl ∙ since_read start first (names_read (day_at now) (day_at now) start first f)
+      two_parts start [] (names_free (day_at now) (day_at now) start first f) refl
+      ∙ since_read start first (names_read (day_at now) (day_at now) start first f)
 
   -- ---- the range of days
 
@@ -155,7 +175,8 @@ module _ (now : ℕ) where
 
   abbrev after_start : ℤ → Result Days DateFault → Result Range DateFault
   after_start until start =
-      (start >>=ᵣ (λ days. Ok (Some (start_of_day days.first)))) >>=ᵣ (λ from. Ok (record { from = from; until = Some until }))
+      (start >>=ᵣ (λ days. Ok (Some (start_of_day days.first)))) >>=ᵣ
+      (λ from. Ok (record { from = from; until = Some until }))
 
   abbrev after_end : List ℕ → Result Days DateFault → Result Range DateFault
   after_end start end = end >>=ᵣ (λ last. range_from_by day_number now last.last start (end_of_day last.last))
@@ -165,7 +186,8 @@ module _ (now : ℕ) where
   day_and_second last = (last.last, end_of_day last.last)
 
   ended : (start : List ℕ) (r : Result Days DateFault)
-      → ((r >>=ᵣ (λ days. Ok (day_and_second days))) >>=ᵣ (λ end. range_from_by day_number now end.0 start end.1)) ≡ after_end start r
+      → ((r >>=ᵣ (λ days. Ok (day_and_second days))) >>=ᵣ (λ end. range_from_by day_number now end.0 start end.1))
+      ≡ after_end start r
   ended start (Ok last) = refl
   ended start (Err fault) = refl
 
@@ -196,21 +218,25 @@ module _ (now : ℕ) where
     where
       go : (r : Result Days DateFault) → days_of period ≡ r → after_period r ≡ Ok range → IsRange now period range
       go (Ok days) h k =
-          let same : range_of_days days ≡ range = cc in subst (IsRange now period) same (InPeriod period days (read_names (day_at now) (day_at now) period days h))
+          let same : range_of_days days ≡ range = cc
+          in subst (IsRange now period) same (InPeriod period days
+          (read_names (day_at now) (day_at now) period days h))
       go (Err fault) h k = absurd cc
 
   read_between : (start end : List ℕ) (range : Range) → range_between_by day_number now start end ≡ Ok range
       → IsRange now (start ++ 0x2D ∷ end) range
   read_between [] [] range e = absurd cc
   read_between (a ∷ more) [] range e =
-      let s = read_start (day_at now) a more (pos now) range e in subst (IsRange now ((a ∷ more) ++ 0x2D ∷ [])) s.is (Since (a ∷ more) s.first s.names)
+      let s = read_start (day_at now) a more (pos now) range e
+      in subst (IsRange now ((a ∷ more) ++ 0x2D ∷ [])) s.is (Since (a ∷ more) s.first s.names)
   read_between [] (b ∷ bs) range e = go (days_of (b ∷ bs)) refl (sym (with_end [] b bs) ∙ e)
     where
       go : (r : Result Days DateFault) → days_of (b ∷ bs) ≡ r → after_end [] r ≡ Ok range
           → IsRange now (0x2D ∷ b ∷ bs) range
       go (Ok last) h k =
           let same : record { from = None; until = Some (end_of_day last.last) } ≡ range = cc in
-          subst (IsRange now (0x2D ∷ b ∷ bs)) same (Until (b ∷ bs) last (read_names (day_at now) (day_at now) (b ∷ bs) last h))
+          subst (IsRange now (0x2D ∷ b ∷ bs)) same
+          (Until (b ∷ bs) last (read_names (day_at now) (day_at now) (b ∷ bs) last h))
       go (Err fault) h k = absurd cc
   read_between (a ∷ more) (b ∷ bs) range e = go (days_of (b ∷ bs)) refl (sym (with_end (a ∷ more) b bs) ∙ e)
     where
@@ -218,7 +244,8 @@ module _ (now : ℕ) where
           → IsRange now ((a ∷ more) ++ 0x2D ∷ b ∷ bs) range
       go (Ok last) h k =
           let s = read_start last.last a more (end_of_day last.last) range k in
-          subst (IsRange now ((a ∷ more) ++ 0x2D ∷ b ∷ bs)) s.is (Between (a ∷ more) (b ∷ bs) s.first last (read_names (day_at now) (day_at now) (b ∷ bs) last h) s.names)
+          subst (IsRange now ((a ∷ more) ++ 0x2D ∷ b ∷ bs)) s.is
+          (Between (a ∷ more) (b ∷ bs) s.first last (read_names (day_at now) (day_at now) (b ∷ bs) last h) s.names)
       go (Err fault) h k = absurd cc
 
   pub read_range : (text : List ℕ) (range : Range) → range_at text now ≡ Ok range → IsRange now text range
@@ -299,7 +326,8 @@ module _ (now : ℕ) where
       go : (r : Result Days DateFault) → days_of (b ∷ bs) ≡ r → after_end (a ∷ more) r ≡ Err BadNumber
           → HasLongCount now ((a ∷ more) ++ 0x2D ∷ b ∷ bs)
       go (Ok last) h k =
-          AsStart (a ∷ more) (b ∷ bs) (was_long last.last a more (end_of_day last.last) k) (NamedEnd (b ∷ bs) last (read_names (day_at now) (day_at now) (b ∷ bs) last h))
+          AsStart (a ∷ more) (b ∷ bs) (was_long last.last a more (end_of_day last.last) k)
+          (NamedEnd (b ∷ bs) last (read_names (day_at now) (day_at now) (b ∷ bs) last h))
       go (Err BadNumber) h k = AsEnd (a ∷ more) (b ∷ bs) f (read_long (day_at now) (day_at now) (b ∷ bs) h)
       go (Err BadDate) h k = absurd cc
 
@@ -312,7 +340,8 @@ module _ (now : ℕ) where
       go [] h k = absurd cc
       go (period ∷ []) h k = subst (HasLongCount now) (sym (alone text period h)) (was_long_period period k)
       go (start ∷ end ∷ []) h k =
-          subst (HasLongCount now) (sym (joined text start end h)) (was_long_between start end (first_free text start (end ∷ []) h) k)
+          subst (HasLongCount now) (sym (joined text start end h))
+          (was_long_between start end (first_free text start (end ∷ []) h) k)
       go (a ∷ b ∷ c ∷ rest) h k = absurd cc
 
   -- ---- the laws

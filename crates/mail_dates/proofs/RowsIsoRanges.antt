@@ -1,8 +1,10 @@
 -- Worked examples of ranges of ISO 8601 dates.
-use Rattle.mail_dates.proofs.Words.{[], ◌∷◌, ◌++◌, refl, Some, None, Err, pos, negsuc, codes, BadDate, iso_range_of, iso_range_by, iso_days_by}
+use Rattle.mail_dates.proofs.Words.{[], ◌∷◌, ◌++◌, refl, Some, None, Err, pos, negsuc, codes, BadDate, iso_range_of}
+use Rattle.mail_dates.proofs.Words.{iso_range_by, iso_days_by}
 use Rattle.mail_dates.proofs.RowTables.{Holds, hold, all_say, between, days}
 
-rows : Holds iso_range_of ((codes "2003-02", days 1044057600 1046476799) ∷ (codes "2003-02-28", days 1046390400 1046476799)
+rows : Holds iso_range_of ((codes "2003-02", days 1044057600 1046476799) ∷
+    (codes "2003-02-28", days 1046390400 1046476799)
     ∷ (codes "2004-02-29", days 1078012800 1078099199) ∷ (codes "2003-12-31", days 1072828800 1072915199)
     ∷ (codes "2003-01-01", days 1041379200 1041465599)
     ∷ (codes "0000-01", between (Some (negsuc 62167219199)) (Some (negsuc 62164540800)))

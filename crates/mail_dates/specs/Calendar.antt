@@ -1,5 +1,7 @@
 -- Days and seconds of UTC on the proleptic Gregorian calendar (ISO 8601), where year 0 is a leap year.
-use Rattle.std.specs.Prelude.{◌≡◌, ℕ, zero, suc, nat_le, Bool, true, false, ◌&&◌, IsTrue, ℤ, pos, negsuc, ◌+ℤ◌, ◌-ℤ◌, ◌*ℤ◌, ◌≤ℤ◌, ◌<ℤ◌, unsigned_abs, List, [], ◌∷◌, Option, Some, None, if◌then◌else◌, option_map, position, codes}
+use Rattle.std.specs.Prelude.{◌≡◌, ℕ, zero, suc, nat_le, Bool, true, false, ◌&&◌, IsTrue, ℤ, pos, negsuc, ◌+ℤ◌, ◌-ℤ◌}
+use Rattle.std.specs.Prelude.{◌*ℤ◌, ◌≤ℤ◌, ◌<ℤ◌, unsigned_abs, List, [], ◌∷◌, Option, Some, None, if◌then◌else◌}
+use Rattle.std.specs.Prelude.{option_map, position, codes}
 use Rattle.std.specs.Str.{str_eq_ignore_ascii_case}
 use Rattle.jiff_core.specs.Calendar.{days_from_civil, days_in_month}
 
@@ -18,7 +20,8 @@ end_of_day day = day *ℤ pos 86400 +ℤ pos 86399
 -- whether the calendar has this day, in a year from -9999 to 9999
 abbrev pub is_civil_day : ℤ → ℕ → ℕ → Bool
 is_civil_day year month day =
-    nat_le (unsigned_abs year) 9999 && nat_le 1 month && nat_le month 12 && nat_le 1 day && nat_le day (days_in_month year month)
+    nat_le (unsigned_abs year) 9999 && nat_le 1 month && nat_le month 12 && nat_le 1 day && nat_le day
+    (days_in_month year month)
 
 -- the number of a day, counted from 1970-01-01 as 0, if the calendar has it
 unfoldable pub day_number : ℤ → ℕ → ℕ → Option ℤ
@@ -56,4 +59,5 @@ pub record IsLatestYear (passes : ℤ → Bool) (year : ℤ) : Type 0 where
 pub record HasNoLater (day year : ℤ) : Type 0 where
   pub low : negsuc 9998 ≤ℤ year
   pub high : year ≤ℤ pos 9999
-  pub later : (next : ℤ) (month date : ℕ) (number : ℤ) → year <ℤ next → day_number next month date ≡ Some number → day <ℤ number
+  pub later : (next : ℤ) (month date : ℕ) (number : ℤ) → year <ℤ next → day_number next month date ≡ Some number
+      → day <ℤ number

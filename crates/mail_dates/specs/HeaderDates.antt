@@ -1,5 +1,7 @@
 -- The second that the Date field of a message says (RFC 5322 3.3, and its obsolete forms, 4.3).
-use Rattle.std.specs.Prelude.{ℕ, ◌+◌, ◌*◌, ◌/◌, ◌%◌, nat_le, nat_lt, ◌==◌, Bool, not, ◌&&◌, ◌||◌, ℤ, pos, neg_ℤ, ◌+ℤ◌, ◌-ℤ◌, List, [], ◌∷◌, length, filter, find, Option, Some, None, if◌then◌else◌, option_map, unwrap_or, bytes_eq, codes}
+use Rattle.std.specs.Prelude.{ℕ, ◌+◌, ◌*◌, ◌/◌, ◌%◌, nat_le, nat_lt, ◌==◌, Bool, not, ◌&&◌, ◌||◌, ℤ, pos, neg_ℤ, ◌+ℤ◌}
+use Rattle.std.specs.Prelude.{◌-ℤ◌, List, [], ◌∷◌, length, filter, find, Option, Some, None, if◌then◌else◌, option_map}
+use Rattle.std.specs.Prelude.{unwrap_or, bytes_eq, codes}
 use Rattle.std.specs.List.{list_all, slice_split, before_first}
 use Rattle.std.specs.Option.{option_map_or}
 use Rattle.std.specs.Char.{is_ascii_alphabetic}
@@ -77,7 +79,8 @@ time_of token = time_of_parts (slice_split is_colon token)
 -- how many seconds `hhmm` is, with at most 23 hours and 59 minutes
 abbrev pub offset_size : List ℕ → Option ℕ
 offset_size digits =
-    number_in 4 4 digits >>= (λ n. if nat_le (n / 100) 23 && nat_le (n % 100) 59 then Some (n / 100 * 3600 + n % 100 * 60) else None)
+    number_in 4 4 digits >>= (λ n. if nat_le (n / 100) 23 && nat_le (n % 100) 59
+    then Some (n / 100 * 3600 + n % 100 * 60) else None)
 
 -- the offset of `+hhmm` or `-hhmm`, in seconds east of UTC
 abbrev pub numeric_offset : List ℕ → Option ℤ

@@ -12,5 +12,6 @@ o >>= f = option_and_then f o
 -- the number that the text writes in decimal, if it has `least` to `most` digits and nothing else
 abbrev pub number_in : ℕ → ℕ → List ℕ → Option ℕ
 number_in least most text =
-    if nat_le least (length text) && nat_le (length text) most && list_all is_ascii_digit text then Some (digits_value 10 text)
+    if nat_le least (length text) && nat_le (length text) most && list_all is_ascii_digit text
+    then Some (digits_value 10 text)
     else None

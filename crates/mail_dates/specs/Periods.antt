@@ -1,6 +1,8 @@
 -- The periods that a range of days names, and the days of each, as they are read. Laws prove that PeriodGrammar says
 -- the same.
-use Rattle.std.specs.Prelude.{ℕ, ◌-◌, ◌*◌, nat_le, nat_lt, ◌==◌, Bool, false, not, ◌&&◌, ℤ, pos, ◌-ℤ◌, int_le, List, length, take, drop, slice_get, slice_range, Option, Some, None, Result, Err, ok_or, is_some, if◌then◌else◌, option_map}
+use Rattle.std.specs.Prelude.{ℕ, ◌-◌, ◌*◌, nat_le, nat_lt, ◌==◌, Bool, false, not, ◌&&◌, ℤ, pos, ◌-ℤ◌, int_le, List}
+use Rattle.std.specs.Prelude.{length, take, drop, slice_get, slice_range, Option, Some, None, Result, Err, ok_or}
+use Rattle.std.specs.Prelude.{is_some, if◌then◌else◌, option_map}
 use Rattle.std.specs.Option.{option_or}
 use Rattle.std.specs.Char.{is_ascii_digit, to_ascii_lowercase}
 use Rattle.std.specs.List.{list_all}
@@ -45,7 +47,8 @@ ago text = do
 -- whether a text is more than four digits and then a unit
 abbrev pub has_long_count : List ℕ → Bool
 has_long_count text =
-    is_some (last_unit text) && nat_lt 4 (length (before_last_letter text)) && list_all is_ascii_digit (before_last_letter text)
+    is_some (last_unit text) && nat_lt 4 (length (before_last_letter text)) && list_all is_ascii_digit
+    (before_last_letter text)
 
 -- the period of YYYYMMDD, by its parts
 abbrev pub full_date_of : List ℕ → Option Period
@@ -128,7 +131,8 @@ module _ (day_number : ℤ → ℕ → ℕ → Option ℤ) where
   -- the numbers of these days in a year, if the year has them
   abbrev pub days_in_by : DaysOfYear → ℤ → Option Days
   days_in_by days.All year = days_from_to (day_number year 1 1) (day_number year 12 31)
-  days_in_by (days.Month month) year = days_from_to (day_number year month 1) (day_number year month (days_in_month year month))
+  days_in_by (days.Month month) year = days_from_to (day_number year month 1)
+      (day_number year month (days_in_month year month))
   days_in_by (days.Day month day) year = days_from_to (day_number year month day) (day_number year month day)
 
   -- whether the year has these days, and they begin by the day `by`

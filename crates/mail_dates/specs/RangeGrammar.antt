@@ -20,8 +20,10 @@ pub data IsRange (now : ℕ) : List ℕ → Range → Type 0 where
   InPeriod : (period : List ℕ) (days : Days) → Names (day_at now) (day_at now) period days
       → IsRange now period (record { from = Some (start_of_day days.first); until = Some (end_of_day days.last) })
   -- from the start's first second to the end's last; a start without a year begins by the last day of the end
-  Between : (start end : List ℕ) (first last : Days) → Names (day_at now) (day_at now) end last → Names (day_at now) last.last start first
-      → IsRange now (start ++ 0x2D ∷ end) (record { from = Some (start_of_day first.first); until = Some (end_of_day last.last) })
+  Between : (start end : List ℕ) (first last : Days) → Names (day_at now) (day_at now) end last
+      → Names (day_at now) last.last start first
+      → IsRange now (start ++ 0x2D ∷ end) (record
+      { from = Some (start_of_day first.first); until = Some (end_of_day last.last) })
   -- an empty start is no bound
   Until : (end : List ℕ) (last : Days) → Names (day_at now) (day_at now) end last
       → IsRange now (0x2D ∷ end) (record { from = None; until = Some (end_of_day last.last) })
@@ -38,7 +40,8 @@ pub data IsEnd (now : ℕ) : List ℕ → Type 0 where
 -- end isn't faulty.
 pub data HasLongCount (now : ℕ) : List ℕ → Type 0 where
   AsPeriod : (period : List ℕ) → IsLongCount period → HasLongCount now period
-  AsEnd : (start end : List ℕ) → list_any is_dash start ≡ false → IsLongCount end → HasLongCount now (start ++ 0x2D ∷ end)
+  AsEnd : (start end : List ℕ) → list_any is_dash start ≡ false → IsLongCount end
+      → HasLongCount now (start ++ 0x2D ∷ end)
   AsStart : (start end : List ℕ) → IsLongCount start → IsEnd now end → HasLongCount now (start ++ 0x2D ∷ end)
 
 -- why the text is no range; any fault but a count that is too long is a bad date

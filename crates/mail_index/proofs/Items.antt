@@ -1,11 +1,14 @@
 -- Properties of each item of a list, and a list without items.
-use Rattle.mail_index.proofs.Words.{◌≡◌, ◌<◌, ℕ, zero, suc, List, [], ◌∷◌, ◌++◌, length, take, drop, get_or, refl, arith, AllByRecursion}
+use Rattle.mail_index.proofs.Words.{◌≡◌, ◌<◌, ℕ, zero, suc, List, [], ◌∷◌, ◌++◌, length, take, drop, get_or, refl}
+use Rattle.mail_index.proofs.Words.{arith, AllByRecursion}
 
-pub all-snoc : {A : Type 0} (P : A → Type 0) (xs : List A) (x : A) → AllByRecursion P xs → P x → AllByRecursion P (xs ++ x ∷ [])
+pub all-snoc : {A : Type 0} (P : A → Type 0) (xs : List A) (x : A) → AllByRecursion P xs → P x
+    → AllByRecursion P (xs ++ x ∷ [])
 all-snoc P [] x all p = (p, tt)
 all-snoc P (y ∷ ys) x all p = (all.0, all-snoc P ys x all.1 p)
 
-pub all-weaker : {A : Type 0} (P Q : A → Type 0) → ((x : A) → P x → Q x) → (xs : List A) → AllByRecursion P xs → AllByRecursion Q xs
+pub all-weaker : {A : Type 0} (P Q : A → Type 0) → ((x : A) → P x → Q x) → (xs : List A) → AllByRecursion P xs
+    → AllByRecursion Q xs
 all-weaker P Q f [] all = tt
 all-weaker P Q f (x ∷ xs) all = (f x all.0, all-weaker P Q f xs all.1)
 
@@ -19,7 +22,8 @@ all-drop P zero xs all = all
 all-drop P (suc n) [] all = tt
 all-drop P (suc n) (x ∷ xs) all = all-drop P n xs all.1
 
-pub all-at : {A : Type 0} (P : A → Type 0) (xs : List A) (n : ℕ) (d : A) → AllByRecursion P xs → n < length xs → P (get_or xs n d)
+pub all-at : {A : Type 0} (P : A → Type 0) (xs : List A) (n : ℕ) (d : A) → AllByRecursion P xs → n < length xs
+    → P (get_or xs n d)
 all-at P [] n d all lt = absurd (omega (arith, lt))
 all-at P (x ∷ xs) zero d all lt = all.0
 all-at P (x ∷ xs) (suc n) d all lt = all-at P xs n d all.1 (omega (arith, lt))

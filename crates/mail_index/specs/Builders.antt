@@ -1,5 +1,6 @@
 -- The table that an index builder has so far, and what its calls change in it.
-use Rattle.std.specs.Prelude.{◌≡◌, ℕ, ◌+◌, ◌<◌, ◌≤◌, Bool, true, false, nat_eq, nat_lt, nat_le, if◌then◌else◌, List, [], ◌∷◌, ◌++◌, length, Option, Some, None, IsSome, unwrap_or, Result, Ok, Err}
+use Rattle.std.specs.Prelude.{◌≡◌, ℕ, ◌+◌, ◌<◌, ◌≤◌, Bool, true, false, nat_eq, nat_lt, nat_le, if◌then◌else◌, List, []}
+use Rattle.std.specs.Prelude.{◌∷◌, ◌++◌, length, Option, Some, None, IsSome, unwrap_or, Result, Ok, Err}
 use Rattle.std.specs.Ordering.{match_ordering}
 use Rattle.contract_words.specs.Answers.{◌>>=◌}
 use Rattle.mail_index.specs.declared.build.build_fault.BuildFault.{BuildFault}
@@ -30,11 +31,18 @@ pub record Draft : Type 0 where
 
 -- a draft without archives, messages and keys
 abbrev pub empty_draft : ℕ → Draft
-empty_draft most = record { most = most; path = None; in_message = false; table = record { version = newest; archives = []; messages = []; keys = [] } }
+empty_draft most = record {
+  most = most;
+  path = None;
+  in_message = false;
+  table =
+      record { version = newest; archives = []; messages = []; keys = [] };
+}
 
 -- the draft with an open archive that has this path, if there is room for one more archive
 abbrev pub begun_archive : List ℕ → Draft → Result Draft BuildFault
-begun_archive path d = if nat_lt (length d.table.archives) d.most then Ok (record d { path = Some path }) else Err TooMany
+begun_archive path d = if nat_lt (length d.table.archives) d.most then Ok (record d { path = Some path })
+    else Err TooMany
 
 -- the draft with an open message, if there is room for one more message
 abbrev pub begun_message : Draft → Result Draft BuildFault
@@ -53,11 +61,22 @@ HasPair kind text d = with_pair kind text (length d.table.messages) d.table.keys
 
 -- the draft with its open message ended, which has this record
 abbrev pub ended_message : Record → Draft → Result Draft BuildFault
-ended_message r d = Ok (record d { in_message = false; table = record d.table { messages = d.table.messages ++ r ∷ [] } })
+ended_message r d = Ok (record d {
+  in_message = false;
+  table =
+      record d.table { messages = d.table.messages ++ r ∷ [] };
+})
 
 -- the draft with its open archive ended, which has this length and this digest
 abbrev pub ended_archive : ℕ → List ℕ → Draft → Result Draft BuildFault
-ended_archive n digest d = Ok (record d { path = None; table = record d.table { archives = d.table.archives ++ record { path = unwrap_or d.path []; length = n; digest = Some digest } ∷ [] } })
+ended_archive n digest d = Ok (record d {
+  path = None;
+  table =
+      record d.table {
+        archives = d.table.archives ++ record
+            { path = unwrap_or d.path []; length = n; digest = Some digest } ∷ [];
+      };
+})
 
 -- the fault that the definition gives; None for lack of memory, of which the definition says nothing
 abbrev pub refusal : BuildFault → Option BuildFault

@@ -1,6 +1,7 @@
 -- The entries of a directory, read one after another. For bytes that are in no table's file these definitions may say
 -- anything.
-use Rattle.std.specs.Prelude.{◌≡◌, ℕ, zero, suc, ◌+◌, ◌-◌, ◌<◌, ◌≤◌, Bool, true, ◌&&◌, nat_eq, cond, List, [], ◌∷◌, length, take, drop}
+use Rattle.std.specs.Prelude.{◌≡◌, ℕ, zero, suc, ◌+◌, ◌-◌, ◌<◌, ◌≤◌, Bool, true, ◌&&◌, nat_eq, cond, List, [], ◌∷◌}
+use Rattle.std.specs.Prelude.{length, take, drop}
 use Rattle.std.specs.declared.cmp.Ordering.TheVariants.{Less}
 use Rattle.mail_index.specs.Kinds.{is_kind_number, kind_of_number}
 use Rattle.mail_index.specs.Versions.{last_kind}
@@ -10,7 +11,8 @@ use Rattle.mail_index.specs.OrderOfKeys.{key_cmp}
 
 -- the first byte is the number of a kind that the version has, and three zeros follow
 unfoldable pub is_entry : ℕ → List ℕ → Bool
-is_entry version d = is_kind_number (last_kind version) (byte_at d 0) && nat_eq (byte_at d 1) 0 && nat_eq (byte_at d 2) 0 && nat_eq (byte_at d 3) 0
+is_entry version d = is_kind_number (last_kind version) (byte_at d 0) && nat_eq (byte_at d 1) 0 && nat_eq (byte_at d 2)
+    0 && nat_eq (byte_at d 3) 0
 
 -- where the postings of the entry before this directory end: where those of its first entry begin, or at the end of all
 -- if there is no entry
@@ -55,4 +57,5 @@ abbrev pub AreEntries : ℕ → List ℕ → ℕ → ℕ → ℕ → ℕ → Lis
 AreEntries version texts total text_place place number text zero d = (text_place ≡ length texts) × (place ≡ total)
 AreEntries version texts total text_place place number text (suc n) d =
     IsEntryAt version texts total text_place place number text d
-    × AreEntries version texts total (text_place + u32_at d 4) (end_before (drop 24 d) total) (byte_at d 0) (text_at texts d) n (drop 24 d)
+    × AreEntries version texts total (text_place + u32_at d 4) (end_before (drop 24 d) total) (byte_at d 0)
+    (text_at texts d) n (drop 24 d)

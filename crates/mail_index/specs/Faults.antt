@@ -1,17 +1,20 @@
 -- Which bytes are an index file, and what the first fault of other bytes is.
-use Rattle.std.specs.Prelude.{◌≡◌, ◌≢◌, ℕ, ◌+◌, ◌-◌, ◌*◌, ◌<◌, ◌≤◌, List, length, take, drop, map, flat_map, slice_range}
+use Rattle.std.specs.Prelude.{◌≡◌, ◌≢◌, ℕ, ◌+◌, ◌-◌, ◌*◌, ◌<◌, ◌≤◌, List, length, take, drop, map, flat_map}
+use Rattle.std.specs.Prelude.{slice_range}
 use Rattle.std.specs.List.{AllByRecursion}
 use Rattle.std.specs.declared.cmp.Ordering.TheVariants.{Less}
 use Rattle.sha2.specs.Sha256.{sha256}
 use Rattle.mail_index.specs.declared.view.fault.IndexFault.{IndexFault}
-use Rattle.mail_index.specs.declared.view.fault.IndexFault.TheVariants.{TooShort, BadMagic, BadVersion, BadDigest, BadLayout}
+use Rattle.mail_index.specs.declared.view.fault.IndexFault.TheVariants.{TooShort, BadMagic, BadVersion, BadDigest}
+use Rattle.mail_index.specs.declared.view.fault.IndexFault.TheVariants.{BadLayout}
 use Rattle.mail_index.specs.declared.view.fault.Section.TheVariants.{Counts, Archives, Records, Directory, Postings}
 use Rattle.mail_index.specs.declared.record.Record.{Record}
 use Rattle.mail_index.specs.Kinds.{kind_number}
 use Rattle.mail_index.specs.Versions.{IsVersion, last_kind}
 use Rattle.mail_index.specs.Fields.{u32_at, u64_at}
 use Rattle.mail_index.specs.Tables.{Archive, Key, Table, IsWellFormed, IsArchive, IsMessage, IsKey, Follows, AllNext}
-use Rattle.mail_index.specs.Files.{magic, archive_bytes, record_bytes, Entry, entry_of, directory_from, texts_of, postings_of, index_file}
+use Rattle.mail_index.specs.Files.{magic, archive_bytes, record_bytes, Entry, entry_of, directory_from, texts_of}
+use Rattle.mail_index.specs.Files.{postings_of, index_file}
 use Rattle.mail_index.specs.Limits.{four_byte_limit}
 use Rattle.mail_index.specs.OrderOfKeys.{key_cmp}
 
@@ -21,7 +24,8 @@ EntryBefore a b = key_cmp (kind_number a.kind) a.text (kind_number b.kind) b.tex
 
 -- the entry has a kind of the version, a text that isn't empty and fits its count, and postings
 abbrev pub IsEntry : ℕ → Entry → Type 0
-IsEntry version e = (kind_number e.kind ≤ last_kind version) × (0 < length e.text) × (length e.text < four_byte_limit) × (0 < length e.postings)
+IsEntry version e = (kind_number e.kind ≤ last_kind version) × (0 < length e.text) × (length e.text < four_byte_limit)
+    × (0 < length e.postings)
 
 module _ (bytes : List ℕ) where
   -- the version that the bytes name
@@ -107,6 +111,9 @@ module _ (bytes : List ℕ) where
   IsFirstFault BadDigest = (80 ≤ length bytes) × (take 8 bytes ≡ magic) × IsVersion version_told × ¬ HasDigest
   IsFirstFault (BadLayout Counts) = IsSigned × ¬ (digest_start + 32 ≡ length bytes)
   IsFirstFault (BadLayout Archives) = HasCounts × ((archives : List Archive) → ¬ HasArchives archives)
-  IsFirstFault (BadLayout Records) = (archives : List Archive) × HasArchives archives × ((ms : List Record) → ¬ HasRecords archives ms)
-  IsFirstFault (BadLayout Directory) = (archives : List Archive) × (ms : List Record) × HasRecords archives ms × ((es : List Entry) → ¬ HasDirectory archives ms es)
-  IsFirstFault (BadLayout Postings) = (archives : List Archive) × (ms : List Record) × (es : List Entry) × HasDirectory archives ms es × ((ks : List Key) → ¬ HasPostings archives ms ks)
+  IsFirstFault (BadLayout Records) = (archives : List Archive) × HasArchives archives
+      × ((ms : List Record) → ¬ HasRecords archives ms)
+  IsFirstFault (BadLayout Directory) = (archives : List Archive) × (ms : List Record) × HasRecords archives ms
+      × ((es : List Entry) → ¬ HasDirectory archives ms es)
+  IsFirstFault (BadLayout Postings) = (archives : List Archive) × (ms : List Record) × (es : List Entry)
+      × HasDirectory archives ms es × ((ks : List Key) → ¬ HasPostings archives ms ks)

@@ -11,7 +11,8 @@
 --   24  8  bytes of archives                              24  8  its text's length
 --   32  8  bytes of texts                                 32  8  its date, or 0
 --   40  8  bytes of postings
-use Rattle.std.specs.Prelude.{ℕ, ◌+◌, ◌^◌, ◌<◌, Bool, if◌then◌else◌, ℤ, List, [], ◌∷◌, ◌++◌, length, map, Option, Some, None, flat_map, is_some, unwrap_or}
+use Rattle.std.specs.Prelude.{ℕ, ◌+◌, ◌^◌, ◌<◌, Bool, if◌then◌else◌, ℤ, List, [], ◌∷◌, ◌++◌, length, map, Option, Some}
+use Rattle.std.specs.Prelude.{None, flat_map, is_some, unwrap_or}
 use Rattle.std.specs.Int.{w32, w64, to_be_bytes, cast_unsigned}
 use Rattle.std.specs.List.{concat}
 use Rattle.sha2.specs.Sha256.{sha256}
@@ -56,7 +57,8 @@ date_number (Some z) = cast_unsigned w64 z
 
 -- the bytes of a record
 abbrev pub record_bytes : Record → List ℕ
-record_bytes m = concat (be32 m.archive ∷ (flags_byte m ∷ zeros) ∷ be64 m.offset ∷ be64 m.length ∷ be64 m.size ∷ be64 (date_number m.date) ∷ [])
+record_bytes m = concat (be32 m.archive ∷ (flags_byte m ∷ zeros) ∷ be64 m.offset ∷ be64 m.length ∷ be64 m.size ∷ be64
+    (date_number m.date) ∷ [])
 
 -- a key with the bytes of its numbers
 pub record Entry : Type 0 where
@@ -70,12 +72,14 @@ entry_of k = record { kind = k.kind; text = k.text; postings = postings k.number
 
 -- the bytes of an entry, with the places of its text and of its postings
 abbrev pub entry_bytes : ℕ → ℕ → Entry → List ℕ
-entry_bytes text_place place e = concat ((kind_number e.kind ∷ zeros) ∷ be32 (length e.text) ∷ be64 text_place ∷ be64 place ∷ [])
+entry_bytes text_place place e = concat ((kind_number e.kind ∷ zeros) ∷ be32 (length e.text) ∷ be64 text_place ∷ be64
+    place ∷ [])
 
 -- the bytes of the directory, if the text and the postings of the first entry begin at these places
 abbrev pub directory_from : ℕ → ℕ → List Entry → List ℕ
 directory_from text_place place [] = []
-directory_from text_place place (e ∷ es) = entry_bytes text_place place e ++ directory_from (text_place + length e.text) (place + length e.postings) es
+directory_from text_place place (e ∷ es) =
+    entry_bytes text_place place e ++ directory_from (text_place + length e.text) (place + length e.postings) es
 
 -- the texts of the entries, one after another
 abbrev pub texts_of : List Entry → List ℕ
@@ -97,7 +101,8 @@ archive_section t = flat_map archive_bytes t.archives
 abbrev pub counts : Table → List (List ℕ)
 counts t =
     magic ∷ be32 t.version ∷ be32 (length t.archives) ∷ be32 (length t.messages) ∷ be32 (length t.keys)
-    ∷ be64 (length (archive_section t)) ∷ be64 (length (texts_of (entries t))) ∷ be64 (length (postings_of (entries t))) ∷ []
+    ∷ be64 (length (archive_section t)) ∷ be64 (length (texts_of (entries t))) ∷ be64 (length (postings_of (entries t)))
+    ∷ []
 
 -- the six sections of the file, in order
 abbrev pub sections : Table → List (List ℕ)

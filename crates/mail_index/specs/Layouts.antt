@@ -6,7 +6,8 @@ use Rattle.mail_index.specs.Fields.{u32_at}
 use Rattle.mail_index.specs.Versions.{version_number}
 use Rattle.mail_index.specs.Tables.{Key, Table, IsWellFormed}
 use Rattle.mail_index.specs.Tables as table
-use Rattle.mail_index.specs.Faults.{version_told, records_start, directory_start, texts_start, postings_start, digest_start}
+use Rattle.mail_index.specs.Faults.{version_told, records_start, directory_start, texts_start, postings_start}
+use Rattle.mail_index.specs.Faults.{digest_start}
 use Rattle.mail_index.specs.Records.{SpellsArchives, AreRecords, read_archives, read_records}
 use Rattle.mail_index.specs.Directory.{AreEntries}
 use Rattle.mail_index.specs.Lists.{AreLists}
@@ -47,7 +48,8 @@ pub record IsChecked (l : Layout) : Type 0 where
   pub record_bytes : length l.records.now ≡ 40 * l.message_count
   pub records : AreRecords (version_number l.version) l.archive_count 0 0 l.archives.now l.message_count l.records.now
   pub directory_bytes : length l.directory.now ≡ 24 * l.key_count
-  pub entries : AreEntries (version_number l.version) l.texts.now (length l.postings.now) 0 0 0 [] l.key_count l.directory.now
+  pub entries : AreEntries (version_number l.version) l.texts.now (length l.postings.now) 0 0 0 [] l.key_count
+      l.directory.now
   pub few_messages : l.message_count < four_byte_limit
   pub lists : AreLists l.message_count l.postings.now l.key_count l.directory.now
   pub formed : IsWellFormed (table_of l)

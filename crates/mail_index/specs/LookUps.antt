@@ -1,5 +1,6 @@
 -- What a table returns for a key, and how many comparisons this takes.
-use Rattle.std.specs.Prelude.{◌≡◌, ℕ, zero, suc, ◌+◌, ◌/◌, ◌^◌, ◌<◌, ◌≤◌, Bool, true, false, ◌&&◌, nat_eq, nat_lt, List, [], ◌∷◌, length, take, drop, map, filter}
+use Rattle.std.specs.Prelude.{◌≡◌, ℕ, zero, suc, ◌+◌, ◌/◌, ◌^◌, ◌<◌, ◌≤◌, Bool, true, false, ◌&&◌, nat_eq, nat_lt, List}
+use Rattle.std.specs.Prelude.{[], ◌∷◌, length, take, drop, map, filter}
 use Rattle.std.specs.Str.{bytes_eq}
 use Rattle.std.specs.List.{starts_with}
 use Rattle.mail_index.specs.declared.kind.Kind.{Kind}
@@ -66,7 +67,8 @@ comparisons kind text ks = comparisons_within (length ks) kind text ks
 -- the new count is higher by the number of steps taken, and these are at most as many as the number has binary digits
 -- (the least number of digits that can hold it)
 abbrev pub TakesDigits : ℕ → ℕ → ℕ → Type 0
-TakesDigits number old new = (digits : ℕ) → number < 2 ^ digits → (taken : ℕ) × (taken ≤ digits) × (new ≡ add_steps old taken)
+TakesDigits number old new = (digits : ℕ) → number < 2 ^ digits → (taken : ℕ) × (taken ≤ digits)
+    × (new ≡ add_steps old taken)
 
 -- ---- runs of keys: those of a kind that begin with one text
 
@@ -85,7 +87,11 @@ abbrev pub bisections_within : ℕ → (Key → Bool) → List Key → ℕ
 bisections_within zero passes ks = 0
 bisections_within (suc most) passes ks = elim (drop (length ks / 2) ks) [
   | [] ↦ 0
-  | k ∷ behind ↦ suc (elim (passes k) [ true ↦ bisections_within most passes behind | false ↦ bisections_within most passes (take (length ks / 2) ks) ])
+  | k ∷ behind ↦ suc (elim (passes k) [
+    | true ↦ bisections_within most passes behind
+    | false ↦ bisections_within most
+        passes (take (length ks / 2) ks)
+  ])
 ]
 
 -- the same, halving as often as there are keys, which is enough
@@ -94,7 +100,8 @@ bisections passes ks = bisections_within (length ks) passes ks
 
 -- how many comparisons find a run: those for where it begins, and those for where it ends
 abbrev pub comparisons_of_run : Kind → List ℕ → List Key → ℕ
-comparisons_of_run kind text ks = bisections (lies_below Equal kind text) ks + bisections (lies_below Greater kind text) ks
+comparisons_of_run kind text ks = bisections (lies_below Equal kind text) ks + bisections (lies_below Greater kind text)
+    ks
 
 -- ---- a table with counts
 

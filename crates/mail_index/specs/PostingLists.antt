@@ -1,5 +1,6 @@
 -- A list of postings while it grows: the numbers so far, and how they are read back from its bytes.
-use Rattle.std.specs.Prelude.{◌≡◌, ℕ, suc, ◌+◌, ◌-◌, ◌*◌, ◌<◌, ◌≤◌, nat_lt, if◌then◌else◌, List, [], ◌∷◌, ◌++◌, length, fold}
+use Rattle.std.specs.Prelude.{◌≡◌, ℕ, suc, ◌+◌, ◌-◌, ◌*◌, ◌<◌, ◌≤◌, nat_lt, if◌then◌else◌, List, [], ◌∷◌, ◌++◌, length}
+use Rattle.std.specs.Prelude.{fold}
 use Rattle.mail_index.specs.Postings.{postings}
 use Rattle.mail_index.specs.Limits.{four_byte_limit}
 

@@ -1,6 +1,7 @@
 -- Records and archives read from the beginning of their sections. For bytes that are in no table's file these
 -- definitions may say anything.
-use Rattle.std.specs.Prelude.{◌≡◌, ◌-◌, true, ℕ, zero, suc, ◌+◌, ◌<◌, ◌≤◌, Bool, ◌&&◌, ◌||◌, nat_eq, nat_le, nat_lt, cond, ℤ, List, [], ◌∷◌, ◌++◌, take, drop, Option, Some, None, flat_map, bit_and}
+use Rattle.std.specs.Prelude.{◌≡◌, ◌-◌, true, ℕ, zero, suc, ◌+◌, ◌<◌, ◌≤◌, Bool, ◌&&◌, ◌||◌, nat_eq, nat_le, nat_lt}
+use Rattle.std.specs.Prelude.{cond, ℤ, List, [], ◌∷◌, ◌++◌, take, drop, Option, Some, None, flat_map, bit_and}
 use Rattle.std.specs.Int.{w64, cast_signed}
 use Rattle.std.specs.List.{AllByRecursion}
 use Rattle.mail_words.specs.declared.flags.Flags.{Flags}
@@ -54,7 +55,12 @@ behind_path r = drop (u32_at r 8) (drop 12 r)
 
 -- the first archive
 unfoldable pub read_archive : ℕ → List ℕ → Archive
-read_archive version r = record { path = take (u32_at r 8) (drop 12 r); length = u64_at r 0; digest = read_digest version (behind_path r) }
+read_archive version r = record {
+  path = take (u32_at r 8) (drop 12 r);
+  length = u64_at r 0;
+  digest =
+      read_digest version (behind_path r);
+}
 
 -- the bytes after the first archive
 unfoldable pub behind_archive : ℕ → List ℕ → List ℕ
@@ -99,4 +105,5 @@ abbrev pub AreRecords : ℕ → ℕ → ℕ → ℕ → List ℕ → ℕ → Lis
 AreRecords version count archive place rest zero r = Unit {0}
 AreRecords version count archive place rest (suc n) r =
     (is_record r ≡ true) × IsNextRecord version count archive place rest (read_record r)
-    × AreRecords version count (read_record r).archive ((read_record r).offset + (read_record r).length) (behind_archives version ((read_record r).archive - archive) rest) n (drop 40 r)
+    × AreRecords version count (read_record r).archive ((read_record r).offset + (read_record r).length)
+    (behind_archives version ((read_record r).archive - archive) rest) n (drop 40 r)

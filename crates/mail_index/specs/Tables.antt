@@ -1,5 +1,6 @@
 -- What an index says about archives, apart from its file.
-use Rattle.std.specs.Prelude.{◌≡◌, ◌≢◌, ℕ, zero, suc, ◌+◌, ◌<◌, ◌≤◌, ◌⊎◌, FitsSigned, List, [], ◌∷◌, length, Option, IfSome, IsUtf8}
+use Rattle.std.specs.Prelude.{◌≡◌, ◌≢◌, ℕ, zero, suc, ◌+◌, ◌<◌, ◌≤◌, ◌⊎◌, FitsSigned, List, [], ◌∷◌, length, Option}
+use Rattle.std.specs.Prelude.{IfSome, IsUtf8}
 use Rattle.std.specs.Int.{w64}
 use Rattle.std.specs.List.{AllByRecursion}
 use Rattle.std.specs.declared.cmp.Ordering.TheVariants.{Less}

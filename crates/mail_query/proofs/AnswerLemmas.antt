@@ -1,7 +1,8 @@
 -- What is known of a call's result, if its definition gives a known value.
 use Rattle.mail_query.proofs.Words.{◌≡◌, Option, Result, Ok, Err, IfOk, IfErr, IfSome, arith, Gives, if_some_map}
 
-module _ {X Y E F : Type 0} (view : X → Y) (refusal : E → Option F) (r : Result X E) (defined : Result Y F) (given : Gives view refusal r defined) where
+module _ {X Y E F : Type 0} (view : X → Y) (refusal : E → Option F) (r : Result X E) (defined : Result Y F)
+    (given : Gives view refusal r defined) where
   pub if_ok : (P : Y → Type 0) → ((y : Y) → defined ≡ Ok y → P y) → IfOk r (λ x. P (view x))
   if_ok P h = grind arith
 

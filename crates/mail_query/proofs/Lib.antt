@@ -1,3 +1,4 @@
+-- The proofs of mail_query: words, lemmas, rows and laws. Proofs of single functions are in folders named after these.
 pub mod Words
 pub mod AnswerLemmas
 pub mod PieceLemmas

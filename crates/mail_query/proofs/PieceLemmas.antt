@@ -1,5 +1,8 @@
 -- Laws of cutting a text at a byte.
-use Rattle.mail_query.proofs.Words.{◌≡◌, ◌≢◌, ℕ, suc, ◌-◌, ◌<◌, Bool, true, false, eqb, List, [], ◌∷◌, ◌++◌, length, length-append, take, get_or, Option, Some, None, option_map, MatchOption, refl, sym, ap, ◌∙◌, arith, option_copied, take-append_seam, list_any, or_parts, or_from, nat_tests, is_byte, cut, without_first, without_last}
+use Rattle.mail_query.proofs.Words.{◌≡◌, ◌≢◌, ℕ, suc, ◌-◌, ◌<◌, Bool, true, false, eqb, List, [], ◌∷◌, ◌++◌, length}
+use Rattle.mail_query.proofs.Words.{length-append, take, get_or, Option, Some, None, option_map, MatchOption, refl, sym}
+use Rattle.mail_query.proofs.Words.{ap, ◌∙◌, arith, option_copied, take-append_seam, list_any, or_parts, or_from}
+use Rattle.mail_query.proofs.Words.{nat_tests, is_byte, cut, without_first, without_last}
 use denote.Ref.{Bor}
 
 pub none_unless : {A : Type 0} (o : Option A) → ((x : A) → o ≡ Some x → ⊥) → o ≡ None
@@ -28,16 +31,19 @@ without_last-other c (b ∷ []) h =
     let differs : b ≢ c = λ e. h [] (ap (λ x. x ∷ []) e) in
     rw (other_byte b c differs) refl
 without_last-other c (b ∷ d ∷ bs) h =
-    ap (option_map (λ (front : List ℕ). b ∷ front)) (without_last-other c (d ∷ bs) (λ front e. h (b ∷ front) (ap (λ (t : List ℕ). b ∷ t) e)))
+    ap (option_map (λ (front : List ℕ). b ∷ front))
+    (without_last-other c (d ∷ bs) (λ front e. h (b ∷ front) (ap (λ (t : List ℕ). b ∷ t) e)))
 
 -- the byte isn't in the text
 abbrev pub Free : ℕ → List ℕ → Type 0
 Free c text = list_any (is_byte c) text ≡ false
 
 -- no byte passes, if the byte at each place doesn't
-pub none_passes : (p : ℕ → Bool) (text : List ℕ) → ((i : ℕ) → i < length text → p (get_or text i 0) ≡ false) → list_any p text ≡ false
+pub none_passes : (p : ℕ → Bool) (text : List ℕ) → ((i : ℕ) → i < length text → p (get_or text i 0) ≡ false)
+    → list_any p text ≡ false
 none_passes p [] h = refl
-none_passes p (b ∷ bs) h = or_from (p b) (list_any p bs) (h 0 (omega arith)) (none_passes p bs (λ i below. h (suc i) (omega (arith, below))))
+none_passes p (b ∷ bs) h = or_from (p b) (list_any p bs) (h 0 (omega arith))
+    (none_passes p bs (λ i below. h (suc i) (omega (arith, below))))
 
 free_at : (c : ℕ) (text : List ℕ) → ((i : ℕ) → i < length text → get_or text i 0 ≢ c) → Free c text
 free_at c text h = none_passes (is_byte c) text (λ i below. other_byte (get_or text i 0) c (h i below))
@@ -48,12 +54,14 @@ onto_front b o = option_map (λ (p : List ℕ × List ℕ). (b ∷ p.0, p.1)) o
 pub cut_none : (c : ℕ) (text : List ℕ) → Free c text → cut c text ≡ None
 unfolding onto_front
 cut_none c [] h = refl
-cut_none c (b ∷ bs) h = let parts = or_parts (eqb b c) (list_any (is_byte c) bs) h in rw parts.0 (ap (onto_front b) (cut_none c bs parts.1))
+cut_none c (b ∷ bs) h = let parts = or_parts (eqb b c) (list_any (is_byte c) bs) h
+    in rw parts.0 (ap (onto_front b) (cut_none c bs parts.1))
 
 pub cut_at : (c : ℕ) (text rest : List ℕ) → Free c text → cut c (text ++ c ∷ rest) ≡ Some (text, rest)
 unfolding onto_front
 cut_at c [] rest h = rw same_byte refl
-cut_at c (b ∷ bs) rest h = let parts = or_parts (eqb b c) (list_any (is_byte c) bs) h in rw parts.0 (ap (onto_front b) (cut_at c bs rest parts.1))
+cut_at c (b ∷ bs) rest h = let parts = or_parts (eqb b c) (list_any (is_byte c) bs) h
+    in rw parts.0 (ap (onto_front b) (cut_at c bs rest parts.1))
 
 -- ---- the last element
 
@@ -70,14 +78,18 @@ before_last {A} front x =
 
 -- ---- the same of what a call returns
 
-pub first_answer : (c : ℕ) (bs : List ℕ) (r : Option (Bor (List ℕ))) → MatchOption r ((rest : List ℕ) → bs ≢ c ∷ rest) (λ x. bs ≡ c ∷ x.now) → option_copied r ≡ without_first c bs
+pub first_answer : (c : ℕ) (bs : List ℕ) (r : Option (Bor (List ℕ)))
+    → MatchOption r ((rest : List ℕ) → bs ≢ c ∷ rest) (λ x. bs ≡ c ∷ x.now) → option_copied r ≡ without_first c bs
 first_answer c bs r h = grind (arith, without_first-other, without_first-same)
 
-pub last_answer : (c : ℕ) (bs : List ℕ) (r : Option (Bor (List ℕ))) → MatchOption r ((front : List ℕ) → bs ≢ front ++ c ∷ []) (λ x. bs ≡ x.now ++ c ∷ []) → option_copied r ≡ without_last c bs
+pub last_answer : (c : ℕ) (bs : List ℕ) (r : Option (Bor (List ℕ)))
+    → MatchOption r ((front : List ℕ) → bs ≢ front ++ c ∷ []) (λ x. bs ≡ x.now ++ c ∷ []) → option_copied r
+    ≡ without_last c bs
 last_answer c bs r h = grind (arith, without_last-other, without_last-same)
 
 pub cut_answer : (c : ℕ) (bs : List ℕ) (r : Option (Bor (List ℕ) × Bor (List ℕ)))
-    → MatchOption r ((i : ℕ) → i < length bs → get_or bs i 0 ≢ c) (λ x. (bs ≡ x.0.now ++ c ∷ x.1.now) × ((i : ℕ) → i < length x.0.now → get_or x.0.now i 0 ≢ c))
+    → MatchOption r ((i : ℕ) → i < length bs → get_or bs i 0 ≢ c)
+    (λ x. (bs ≡ x.0.now ++ c ∷ x.1.now) × ((i : ℕ) → i < length x.0.now → get_or x.0.now i 0 ≢ c))
     → option_map {T = Bor (List ℕ) × Bor (List ℕ)} {U = List ℕ × List ℕ} (λ p. (p.0.now, p.1.now)) r ≡ cut c bs
 cut_answer c bs None h = sym (cut_none c bs (free_at c bs h))
 cut_answer c bs (Some x) h = sym (ap (cut c) h.0 ∙ cut_at c x.0.now x.1.now (free_at c x.0.now h.1))

@@ -1,5 +1,8 @@
 -- Rows of boolean queries, each with the query or the first fault that a second reader finds.
-use Rattle.mail_query.proofs.Words.{◌≡◌, ℕ, List, codes, None, Some, Ok, Err, refl, true, QueryFaultKind, NoPattern, BadPrefix, BadWord, BadDate, NeedsOperator, BadParenthesis, MissingTerm, TooDeep, Phrase, Query, Word, Prefix, Date, Not, Either, End, More, no_kinds, tokens, first_fault, tokens_query}
+use Rattle.mail_query.proofs.Words.{◌≡◌, ℕ, List, codes, None, Some, Ok, Err, refl, true, QueryFaultKind, NoPattern}
+use Rattle.mail_query.proofs.Words.{BadPrefix, BadWord, BadDate, NeedsOperator, BadParenthesis, MissingTerm, TooDeep}
+use Rattle.mail_query.proofs.Words.{Phrase, Query, Word, Prefix, Date, Not, Either, End, More, no_kinds, tokens}
+use Rattle.mail_query.proofs.Words.{first_fault, tokens_query}
 use Rattle.mail_query.specs.Query.{All}
 use Rattle.mail_query.proofs.RowLexicon.{toy, every_date}
 
@@ -8,10 +11,17 @@ Asks text q = (tokens_query toy (tokens text) ≡ Ok q) × (first_fault toy (tok
 
 abbrev Shows : List ℕ → ℕ → QueryFaultKind → Type 0
 Shows text n kind =
-    (tokens_query toy (tokens text) ≡ Err (record { number = n; kind = kind })) × (first_fault toy (tokens text) ≡ Some (record { number = n; kind = kind }))
+    (tokens_query toy (tokens text) ≡ Err (record { number = n; kind = kind }))
+    × (first_fault toy (tokens text) ≡ Some (record { number = n; kind = kind }))
 
-rows : Asks (codes "subject:hello and not body:ho") (All (More (Word (record no_kinds { subject = true }) (codes "hello")) (More (Not (Word (record no_kinds { body = true }) (codes "ho"))) End)))
-    × Asks (codes "(subject:ho or body:hi) hel*") (All (More (Either (More (Word (record no_kinds { subject = true }) (codes "ho")) (More (Word (record no_kinds { body = true }) (codes "hi")) End))) (More (Prefix (record no_kinds { to = true; cc = true; bcc = true; from = true; subject = true; body = true }) (codes "hel")) End)))
+rows : Asks (codes "subject:hello and not body:ho")
+    (All (More (Word (record no_kinds { subject = true }) (codes "hello"))
+    (More (Not (Word (record no_kinds { body = true }) (codes "ho"))) End)))
+    × Asks (codes "(subject:ho or body:hi) hel*")
+    (All (More (Either (More (Word (record no_kinds { subject = true }) (codes "ho"))
+    (More (Word (record no_kinds { body = true }) (codes "hi")) End)))
+    (More (Prefix (record no_kinds { to = true; cc = true; bcc = true; from = true; subject = true; body = true })
+    (codes "hel")) End)))
     × Shows (codes "subject:a subject:b") 2 NeedsOperator
     × Shows (codes "a or") 3 MissingTerm
     × Shows (codes "(a") 3 BadParenthesis
@@ -23,6 +33,25 @@ rows : Asks (codes "subject:hello and not body:ho") (All (More (Word (record no_
     × Asks (codes "date:ok") (Date every_date)
     × Shows (codes "date:no") 1 BadDate
     × Asks (codes "id:<x>") (Word (record no_kinds { own_id = true }) (codes "x"))
-    × Asks (codes "a\nb\tc") (All (More (Word (record no_kinds { to = true; cc = true; bcc = true; from = true; subject = true; body = true }) (codes "a")) (More (Word (record no_kinds { to = true; cc = true; bcc = true; from = true; subject = true; body = true }) (codes "b")) (More (Word (record no_kinds { to = true; cc = true; bcc = true; from = true; subject = true; body = true }) (codes "c")) End))))
+    × Asks (codes "a\nb\tc") (All (More (Word
+    (record no_kinds { to = true; cc = true; bcc = true; from = true; subject = true; body = true }) (codes "a"))
+    (More (Word (record no_kinds { to = true; cc = true; bcc = true; from = true; subject = true; body = true })
+    (codes "b")) (More (Word (record no_kinds
+    { to = true; cc = true; bcc = true; from = true; subject = true; body = true }) (codes "c")) End))))
 unfolding tokens
-rows = ((refl, refl), (refl, refl), (refl, refl), (refl, refl), (refl, refl), (refl, refl), (refl, refl), (refl, refl), (refl, refl), (refl, refl), (refl, refl), (refl, refl), (refl, refl), (refl, refl))
+rows = (
+  (refl, refl),
+  (refl, refl),
+  (refl, refl),
+  (refl, refl),
+  (refl, refl),
+  (refl, refl),
+  (refl, refl),
+  (refl, refl),
+  (refl, refl),
+  (refl, refl),
+  (refl, refl),
+  (refl, refl),
+  (refl, refl),
+  (refl, refl),
+)

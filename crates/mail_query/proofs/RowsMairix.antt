@@ -1,5 +1,8 @@
 -- Rows of mairix patterns, each with the query or the fault that a second reader finds.
-use Rattle.mail_query.proofs.Words.{◌≡◌, ℕ, List, [], ◌∷◌, codes, Some, Ok, Err, refl, true, false, Seen, Replied, QueryFaultKind, NoPattern, BadPrefix, BadWord, Approximate, BadDate, BadSize, BadFlag, Query, Word, Part, Prefix, Date, Size, HasFlag, Not, Either, End, More, no_kinds, size_of, sizes_of, flags_of, patterns_query}
+use Rattle.mail_query.proofs.Words.{◌≡◌, ℕ, List, [], ◌∷◌, codes, Some, Ok, Err, refl, true, false, Seen, Replied}
+use Rattle.mail_query.proofs.Words.{QueryFaultKind, NoPattern, BadPrefix, BadWord, Approximate, BadDate, BadSize}
+use Rattle.mail_query.proofs.Words.{BadFlag, Query, Word, Part, Prefix, Date, Size, HasFlag, Not, Either, End, More}
+use Rattle.mail_query.proofs.Words.{no_kinds, size_of, sizes_of, flags_of, patterns_query}
 use Rattle.mail_query.specs.Query.{All}
 use Rattle.mail_query.proofs.RowLexicon.{toy, every_date}
 
@@ -19,8 +22,13 @@ rows : Shows [] 1 NoPattern
     × Shows ([] ∷ []) 1 BadWord
     × Asks (codes "m:<x>" ∷ []) (Word (record no_kinds { own_id = true }) (codes "x"))
     × Asks (codes "z:1k-2k" ∷ []) (Size 1024 (Some 2048))
-    × Asks (codes "s:a=,~^b=/c" ∷ []) (Either (More (All (More (Part (record no_kinds { subject = true }) (codes "a")) (More (Not (Prefix (record no_kinds { subject = true }) (codes "b"))) End))) (More (Word (record no_kinds { subject = true }) (codes "c")) End)))
+    × Asks (codes "s:a=,~^b=/c" ∷ []) (Either
+    (More (All (More (Part (record no_kinds { subject = true }) (codes "a"))
+    (More (Not (Prefix (record no_kinds { subject = true }) (codes "b"))) End)))
+    (More (Word (record no_kinds { subject = true }) (codes "c")) End)))
     × Shows (codes "s:a" ∷ codes "q:x" ∷ codes "F:x" ∷ []) 2 BadPrefix
-    × Asks (codes "an:x" ∷ codes "n:y" ∷ []) (All (More (Word (record no_kinds { to = true; cc = true; from = true; name = true }) (codes "x")) (More (Word (record no_kinds { name = true }) (codes "y")) End)))
+    × Asks (codes "an:x" ∷ codes "n:y" ∷ [])
+    (All (More (Word (record no_kinds { to = true; cc = true; from = true; name = true }) (codes "x"))
+    (More (Word (record no_kinds { name = true }) (codes "y")) End)))
 unfolding size_of sizes_of flags_of
 rows = (refl, refl, refl, refl, refl, refl, refl, refl, refl, refl, refl, refl, refl)

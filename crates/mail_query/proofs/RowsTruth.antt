@@ -1,5 +1,7 @@
 -- Rows of queries, with whether one letter satisfies them.
-use Rattle.mail_query.proofs.Words.{◌≡◌, Bool, List, ℕ, [], ◌∷◌, map, codes, None, Some, refl, true, false, Seen, Replied, Flagged, Kinds, no_kinds, Query, Any, Word, Part, Prefix, Date, Size, HasFlag, Not, Either, End, More, uses_names, Facts, is_true}
+use Rattle.mail_query.proofs.Words.{◌≡◌, Bool, List, ℕ, [], ◌∷◌, map, codes, None, Some, refl, true, false, Seen}
+use Rattle.mail_query.proofs.Words.{Replied, Flagged, Kinds, no_kinds, Query, Any, Word, Part, Prefix, Date, Size}
+use Rattle.mail_query.proofs.Words.{HasFlag, Not, Either, End, More, uses_names, Facts, is_true}
 use Rattle.mail_words.specs.declared.kind.TextKind.{TextKind}
 use Rattle.mail_words.specs.declared.kind.TextKind.TheVariants.{To, Cc, Bcc, From, Subject, Body, Name}
 use Rattle.mail_query.specs.Query.{All}
@@ -47,9 +49,11 @@ abbrev Have : Bool → List Query → Type 0
 Have truth queries = map (λ query. is_true query letter) queries ≡ map (λ _. truth) queries
 
 -- words, parts of words, and beginnings of words
-rows : Have true (Word from (codes "alice@example.org") ∷ Word from (codes "example") ∷ Part from (codes "alic") ∷ Part from (codes "xample")
+rows : Have true (Word from (codes "alice@example.org") ∷ Word from (codes "example") ∷ Part from (codes "alic") ∷ Part
+    from (codes "xample")
     ∷ Part from (codes "org") ∷ Prefix from (codes "exam") ∷ Word names (codes "report") ∷ Word own (codes "1@X") ∷ [])
-    × Have false (Word from (codes "alic") ∷ Part from (codes "examplealice") ∷ Prefix from (codes "xample") ∷ Word to (codes "alice")
+    × Have false (Word from (codes "alic") ∷ Part from (codes "examplealice") ∷ Prefix from (codes "xample") ∷ Word to
+    (codes "alice")
     ∷ Word own (codes "1@x") ∷ [])
     -- a word without a prefix isn't looked for in blind copies, names of attachments and ids
     × Have false (Word plain (codes "carol") ∷ Word plain (codes "report") ∷ Word plain (codes "1@X") ∷ [])
@@ -62,10 +66,12 @@ rows : Have true (Word from (codes "alice@example.org") ∷ Word from (codes "ex
     × Have true (HasFlag Seen true ∷ All (More (HasFlag Replied false) (More (HasFlag Seen true) End)) ∷ [])
     × Have false (HasFlag Seen false ∷ HasFlag Flagged true ∷ [])
     -- two words may be in two fields
-    × Have true (All End ∷ All (More (Word plain (codes "alice")) (More (Word plain (codes "bob")) End)) ∷ Either (More (Word plain (codes "carol")) (More (Word plain (codes "bob")) End)) ∷ Any ∷ [])
+    × Have true (All End ∷ All (More (Word plain (codes "alice")) (More (Word plain (codes "bob")) End)) ∷ Either
+    (More (Word plain (codes "carol")) (More (Word plain (codes "bob")) End)) ∷ Any ∷ [])
     × Have false (Either End ∷ [])
 rows = (refl, refl, refl, refl, refl, refl, refl, refl, refl, refl, refl)
 
-names_that_are_used : (uses_names (All (More (Word plain (codes "report")) (More (Not (Part names (codes "rep"))) End))) ≡ true)
+names_that_are_used : (uses_names (All (More (Word plain (codes "report")) (More (Not (Part names (codes "rep"))) End)))
+    ≡ true)
     × (uses_names (Either (More (Word plain (codes "report")) (More (Word own (codes "1@X")) End))) ≡ false)
 names_that_are_used = (refl, refl)

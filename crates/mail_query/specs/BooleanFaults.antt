@@ -1,10 +1,12 @@
 -- The first fault of a boolean query, found from the tokens before each place.
-use Rattle.std.specs.Prelude.{ℕ, zero, suc, ◌+◌, ◌==◌, Bool, true, false, not, ◌&&◌, nat_le, List, [], ◌∷◌, Option, Some, None, Result, Ok, Err, if◌then◌else◌}
+use Rattle.std.specs.Prelude.{ℕ, zero, suc, ◌+◌, ◌==◌, Bool, true, false, not, ◌&&◌, nat_le, List, [], ◌∷◌, Option}
+use Rattle.std.specs.Prelude.{Some, None, Result, Ok, Err, if◌then◌else◌}
 use Rattle.mail_query.specs.declared.boolean.field.Field.{Field}
 use Rattle.mail_query.specs.declared.boolean.field.Fields.{Fields}
 use Rattle.mail_query.specs.declared.fault.QueryFault.{QueryFault}
 use Rattle.mail_query.specs.declared.fault.QueryFaultKind.{QueryFaultKind}
-use Rattle.mail_query.specs.declared.fault.QueryFaultKind.TheVariants.{NoPattern, BadPrefix, NeedsOperator, BadParenthesis, MissingTerm, TooDeep, Phrase}
+use Rattle.mail_query.specs.declared.fault.QueryFaultKind.TheVariants.{NoPattern, BadPrefix, NeedsOperator}
+use Rattle.mail_query.specs.declared.fault.QueryFaultKind.TheVariants.{BadParenthesis, MissingTerm, TooDeep, Phrase}
 use Rattle.mail_query.specs.Lexicon.{Lexicon}
 use Rattle.mail_query.specs.Query.{Query}
 use Rattle.mail_query.specs.Tokens.{Token, Open, Close, AndSign, OrSign, NotSign, Term}
@@ -94,7 +96,8 @@ module _ (lexicon : Lexicon) where
   abbrev pub parts_fault : List Token → Option Parts → Option QueryFaultKind
   parts_fault back None = Some BadPrefix
   parts_fault back (Some parts) =
-      if needs_operator back parts.prefix then Some NeedsOperator else err_of (parts_query lexicon parts.prefix parts.rest)
+      if needs_operator back parts.prefix then Some NeedsOperator
+      else err_of (parts_query lexicon parts.prefix parts.rest)
 
   -- the fault of a term after these tokens: it has a `"`, or its parts are faulty
   abbrev pub term_fault : List Token → List ℕ → Option QueryFaultKind
@@ -113,7 +116,8 @@ module _ (lexicon : Lexicon) where
   abbrev pub first_fault_from : ℕ → List Token → List Token → Option QueryFault
   first_fault_from n back [] = first_some (λ kind. record { number = n; kind = kind }) (end_fault back) None
   first_fault_from n back (t ∷ ts) =
-      first_some (λ kind. record { number = n; kind = kind }) (token_fault back t) (first_fault_from (n + 1) (t ∷ back) ts)
+      first_some (λ kind. record { number = n; kind = kind }) (token_fault back t)
+      (first_fault_from (n + 1) (t ∷ back) ts)
 
   -- the first fault of a query, if it has any; without tokens it is NoPattern
   abbrev pub first_fault : List Token → Option QueryFault

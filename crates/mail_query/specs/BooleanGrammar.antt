@@ -1,5 +1,6 @@
 -- The grammar of boolean queries: the trees that can be written, the tokens of each tree, and the query that it means.
-use Rattle.std.specs.Prelude.{◌≡◌, ℕ, ◌+◌, Bool, not, ◌&&◌, nat_lt, IsTrue, is_ok, List, [], ◌∷◌, ◌++◌, map, Option, None, Result, Ok, Err, option_and_then}
+use Rattle.std.specs.Prelude.{◌≡◌, ℕ, ◌+◌, Bool, not, ◌&&◌, nat_lt, IsTrue, is_ok, List, [], ◌∷◌, ◌++◌, map, Option}
+use Rattle.std.specs.Prelude.{None, Result, Ok, Err, option_and_then}
 use Rattle.mail_query.specs.declared.boolean.field.Field.{Field}
 use Rattle.mail_query.specs.declared.boolean.field.Fields.{Fields}
 use Rattle.mail_query.specs.declared.fault.QueryFaultKind.{QueryFaultKind}

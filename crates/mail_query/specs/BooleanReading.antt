@@ -1,11 +1,13 @@
 -- What the boolean reader returns, token by token. The laws compare it with the grammar and with the first fault.
-use Rattle.std.specs.Prelude.{ℕ, ◌+◌, Bool, true, false, not, ◌&&◌, nat_le, List, [], ◌∷◌, ◌++◌, length, Option, Some, None, Result, Ok, Err, if◌then◌else◌}
+use Rattle.std.specs.Prelude.{ℕ, ◌+◌, Bool, true, false, not, ◌&&◌, nat_le, List, [], ◌∷◌, ◌++◌, length, Option, Some}
+use Rattle.std.specs.Prelude.{None, Result, Ok, Err, if◌then◌else◌}
 use Rattle.contract_words.specs.Answers.{◌>>=◌, fault_as}
 use Rattle.mail_query.specs.declared.boolean.field.Field.{Field}
 use Rattle.mail_query.specs.declared.boolean.field.Fields.{Fields}
 use Rattle.mail_query.specs.declared.fault.QueryFault.{QueryFault}
 use Rattle.mail_query.specs.declared.fault.QueryFaultKind.{QueryFaultKind}
-use Rattle.mail_query.specs.declared.fault.QueryFaultKind.TheVariants.{NoPattern, BadPrefix, NeedsOperator, BadParenthesis, MissingTerm, TooDeep, Phrase}
+use Rattle.mail_query.specs.declared.fault.QueryFaultKind.TheVariants.{NoPattern, BadPrefix, NeedsOperator}
+use Rattle.mail_query.specs.declared.fault.QueryFaultKind.TheVariants.{BadParenthesis, MissingTerm, TooDeep, Phrase}
 use Rattle.mail_query.specs.Lexicon.{Lexicon}
 use Rattle.mail_query.specs.Query.{Query, Not, all_of, either_of}
 use Rattle.mail_query.specs.Tokens.{Token, Open, Close, AndSign, OrSign, NotSign, Term}
@@ -72,7 +74,8 @@ has_open (ForNot ∷ waiting) = has_open waiting
 abbrev pub placed : List Waiting → Level → Query → State
 placed [] level q = record { waiting = []; level = with_member level q; wanted = false }
 placed (ForNot ∷ waiting) level q = placed waiting level (Not q)
-placed (ForClose outer ∷ waiting) level q = record { waiting = ForClose outer ∷ waiting; level = with_member level q; wanted = false }
+placed (ForClose outer ∷ waiting) level q =
+    record { waiting = ForClose outer ∷ waiting; level = with_member level q; wanted = false }
 
 -- the state with one more `(` or `not` open, if fewer than 30 are
 abbrev pub deeper : List Waiting → Waiting → Level → Result State QueryFaultKind
@@ -82,7 +85,8 @@ deeper waiting what level =
 
 -- the state after an `and`
 abbrev pub joined : State → Result State QueryFaultKind
-joined s = if s.wanted then Err MissingTerm else Ok (record { waiting = s.waiting; level = run_ended s.level; wanted = true })
+joined s = if s.wanted then Err MissingTerm
+    else Ok (record { waiting = s.waiting; level = run_ended s.level; wanted = true })
 
 -- the state after an `or`
 abbrev pub parted : State → Result State QueryFaultKind
@@ -110,7 +114,8 @@ module _ (lexicon : Lexicon) where
   abbrev pub cut_term_step : State → Option Field → List ℕ → Result State QueryFaultKind
   cut_term_step s prefix rest =
       if not (is_negated s.waiting) && has_field s.level.seen prefix then Err NeedsOperator
-      else (parts_query lexicon prefix rest >>= (λ q. Ok (placed s.waiting (noted (is_negated s.waiting) prefix s.level) q)))
+      else (parts_query lexicon prefix rest >>=
+      (λ q. Ok (placed s.waiting (noted (is_negated s.waiting) prefix s.level) q)))
 
   -- the state after a term with these parts; None has a prefix that isn't known
   abbrev pub parts_step : State → Option Parts → Result State QueryFaultKind
@@ -133,7 +138,8 @@ module _ (lexicon : Lexicon) where
   -- the query after the tokens from number n on, or the first fault
   abbrev pub run_from : ℕ → State → List Token → Result Query QueryFault
   run_from n s [] = fault_as (λ kind. record { number = n; kind = kind }) (ended s)
-  run_from n s (t ∷ ts) = fault_as (λ kind. record { number = n; kind = kind }) (step s t) >>= (λ next. run_from (n + 1) next ts)
+  run_from n s (t ∷ ts) = fault_as (λ kind. record { number = n; kind = kind }) (step s t) >>=
+      (λ next. run_from (n + 1) next ts)
 
   -- the query of all tokens, or the first fault; without tokens it is NoPattern
   abbrev pub tokens_query : List Token → Result Query QueryFault

@@ -1,5 +1,6 @@
 -- The query that a term of a boolean query means, or its fault.
-use Rattle.std.specs.Prelude.{ℕ, Bool, true, false, List, [], ◌∷◌, bytes_eq, codes, Option, Some, None, Result, Ok, Err, if◌then◌else◌, option_map}
+use Rattle.std.specs.Prelude.{ℕ, Bool, true, false, List, [], ◌∷◌, bytes_eq, codes, Option, Some, None, Result, Ok, Err}
+use Rattle.std.specs.Prelude.{if◌then◌else◌, option_map}
 use Rattle.std.specs.List.{list_any}
 use Rattle.std.specs.Str.{str_eq_ignore_ascii_case}
 use Rattle.mail_query.specs.declared.boolean.field.Field.{Field}
@@ -84,7 +85,8 @@ module _ (lexicon : Lexicon) where
   -- a word that begins with this text, if there is a text and it can be a part of a word
   abbrev pub piece_query : Kinds → Option (List ℕ) → Result Query QueryFaultKind
   piece_query kinds None = Err BadWord
-  piece_query kinds (Some piece) = if lexicon.is_piece piece then Ok (Prefix kinds (lexicon.folded piece)) else Err BadWord
+  piece_query kinds (Some piece) = if lexicon.is_piece piece then Ok (Prefix kinds (lexicon.folded piece))
+      else Err BadWord
 
   -- a whole word, or the beginning of one, with a `*` after it
   abbrev pub word_query : Kinds → List ℕ → Result Query QueryFaultKind

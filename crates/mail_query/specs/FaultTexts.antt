@@ -3,7 +3,10 @@ use Rattle.std.specs.Prelude.{ℕ, List, ◌∷◌, ◌++◌, codes}
 use Rattle.std.specs.Fmt.{decimal}
 use Rattle.mail_query.specs.declared.fault.QueryFault.{QueryFault}
 use Rattle.mail_query.specs.declared.fault.QueryFaultKind.{QueryFaultKind}
-use Rattle.mail_query.specs.declared.fault.QueryFaultKind.TheVariants.{NoPattern, BadPrefix, BadWord, Approximate, BadDate, BadSize, BadFlag, NeedsOperator, BadParenthesis, MissingTerm, TooDeep, Phrase, OutOfMemory}
+use Rattle.mail_query.specs.declared.fault.QueryFaultKind.TheVariants.{NoPattern, BadPrefix, BadWord, Approximate}
+use Rattle.mail_query.specs.declared.fault.QueryFaultKind.TheVariants.{BadDate, BadSize, BadFlag, NeedsOperator}
+use Rattle.mail_query.specs.declared.fault.QueryFaultKind.TheVariants.{BadParenthesis, MissingTerm, TooDeep, Phrase}
+use Rattle.mail_query.specs.declared.fault.QueryFaultKind.TheVariants.{OutOfMemory}
 
 -- the text of a kind of fault
 abbrev pub text_of_kind : QueryFaultKind → List ℕ

@@ -1,5 +1,6 @@
 -- The flags that a pattern `F:` names, read letter by letter.
-use Rattle.std.specs.Prelude.{ℕ, ◌==◌, ◌||◌, Bool, true, not, List, [], ◌∷◌, Option, Some, None, if◌then◌else◌, option_map, option_and_then}
+use Rattle.std.specs.Prelude.{ℕ, ◌==◌, ◌||◌, Bool, true, not, List, [], ◌∷◌, Option, Some, None, if◌then◌else◌}
+use Rattle.std.specs.Prelude.{option_map, option_and_then}
 use Rattle.mail_words.specs.declared.flags.Flag.{Flag}
 use Rattle.mail_words.specs.declared.flags.Flag.TheVariants.{Seen, Replied, Flagged}
 use Rattle.mail_query.specs.Query.{Query, HasFlag, all_of}
@@ -13,7 +14,8 @@ flag_of letter =
 
 -- the letter's flag, wanted or not, before the flags that follow; None if any of them is none
 abbrev pub with_flag : Bool → ℕ → Option (List Query) → Option (List Query)
-with_flag wanted letter rest = option_and_then (λ flag. option_map (λ qs. HasFlag flag wanted ∷ qs) rest) (flag_of letter)
+with_flag wanted letter rest = option_and_then (λ flag. option_map (λ qs. HasFlag flag wanted ∷ qs) rest)
+    (flag_of letter)
 
 -- the flags of the letters; a dash before a letter negates it, and `wanted` is false right after a dash
 abbrev pub flags_behind : Bool → List ℕ → Option (List Query)

@@ -17,7 +17,17 @@ has_kind kinds Name = kinds.name
 -- the empty set
 abbrev pub no_kinds : Kinds
 no_kinds =
-    record { to = false; cc = false; bcc = false; from = false; subject = false; body = false; name = false; own_id = false }
+    record {
+      to = false;
+      cc = false;
+      bcc = false;
+      from = false;
+      subject = false;
+      body = false;
+      name = false;
+      own_id =
+          false;
+    }
 
 -- all that is in one set or the other
 abbrev pub union : Kinds → Kinds → Kinds

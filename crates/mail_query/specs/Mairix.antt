@@ -1,5 +1,6 @@
 -- The query that a list of mairix patterns means, or the first fault in it.
-use Rattle.std.specs.Prelude.{ℕ, ◌+◌, ◌==◌, Bool, true, false, not, ◌&&◌, ◌||◌, List, [], ◌∷◌, bytes_eq, codes, Option, Some, None, Result, Ok, Err, ok_or, if◌then◌else◌, option_map, option_and_then}
+use Rattle.std.specs.Prelude.{ℕ, ◌+◌, ◌==◌, Bool, true, false, not, ◌&&◌, ◌||◌, List, [], ◌∷◌, bytes_eq, codes, Option}
+use Rattle.std.specs.Prelude.{Some, None, Result, Ok, Err, ok_or, if◌then◌else◌, option_map, option_and_then}
 use Rattle.std.specs.List.{list_any, list_all, slice_split}
 use Rattle.std.specs.Option.{option_or}
 use Rattle.std.specs.Char.{is_ascii_digit}
@@ -8,7 +9,8 @@ use Rattle.mail_dates.specs.declared.range.Range.{Range}
 use Rattle.mail_query.specs.declared.kinds.Kinds.{Kinds}
 use Rattle.mail_query.specs.declared.fault.QueryFault.{QueryFault}
 use Rattle.mail_query.specs.declared.fault.QueryFaultKind.{QueryFaultKind}
-use Rattle.mail_query.specs.declared.fault.QueryFaultKind.TheVariants.{NoPattern, BadPrefix, BadWord, Approximate, BadDate, BadSize, BadFlag}
+use Rattle.mail_query.specs.declared.fault.QueryFaultKind.TheVariants.{NoPattern, BadPrefix, BadWord, Approximate}
+use Rattle.mail_query.specs.declared.fault.QueryFaultKind.TheVariants.{BadDate, BadSize, BadFlag}
 use Rattle.mail_query.specs.Kinds.{no_kinds, union}
 use Rattle.mail_query.specs.Pieces.{is_byte, cut, without_first, without_last, without_angles, is_nonempty}
 use Rattle.mail_query.specs.Lexicon.{Lexicon}
@@ -37,7 +39,8 @@ kinds_of_letter letter =
 -- these kinds and those of the letters; None if a letter names nothing
 abbrev pub kinds_with : Kinds → List ℕ → Option Kinds
 kinds_with kinds [] = Some kinds
-kinds_with kinds (letter ∷ letters) = option_and_then (λ more. kinds_with (union kinds more) letters) (kinds_of_letter letter)
+kinds_with kinds (letter ∷ letters) = option_and_then (λ more. kinds_with (union kinds more) letters)
+    (kinds_of_letter letter)
 
 -- the kinds that one or more letters name
 abbrev pub kinds_of : List ℕ → Option Kinds

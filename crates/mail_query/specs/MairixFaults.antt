@@ -5,7 +5,8 @@ use Rattle.std.specs.List.{All, list_any, list_all, slice_split}
 use Rattle.std.specs.Char.{is_ascii_digit}
 use Rattle.mail_query.specs.declared.fault.QueryFault.{QueryFault}
 use Rattle.mail_query.specs.declared.fault.QueryFaultKind.{QueryFaultKind}
-use Rattle.mail_query.specs.declared.fault.QueryFaultKind.TheVariants.{NoPattern, BadPrefix, BadWord, Approximate, BadDate, BadSize, BadFlag}
+use Rattle.mail_query.specs.declared.fault.QueryFaultKind.TheVariants.{NoPattern, BadPrefix, BadWord, Approximate}
+use Rattle.mail_query.specs.declared.fault.QueryFaultKind.TheVariants.{BadDate, BadSize, BadFlag}
 use Rattle.mail_query.specs.Pieces.{is_byte}
 use Rattle.mail_query.specs.Lexicon.{Lexicon}
 use Rattle.mail_query.specs.Query.{Query}

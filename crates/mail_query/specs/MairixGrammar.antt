@@ -35,13 +35,16 @@ kinds_named letters = record {
 -- one *(sign one): the texts between the signs mean these queries
 pub data Separated (sign : ℕ) (Asks : List ℕ → Query → Type 0) : List ℕ → List Query → Type 0 where
   Alone : (text : List ℕ) (q : Query) → Asks text q → Separated sign Asks text (q ∷ [])
-  Before : (text rest : List ℕ) (q : Query) (qs : List Query) → Asks text q → Separated sign Asks rest qs → Separated sign Asks (text ++ sign ∷ rest) (q ∷ qs)
+  Before : (text rest : List ℕ) (q : Query) (qs : List Query) → Asks text q → Separated sign Asks rest qs
+      → Separated sign Asks (text ++ sign ∷ rest) (q ∷ qs)
 
 -- atom = word | sub "=" | "^" sub "=": a whole word, a part of one, or the beginning of one
 pub data IsAtom (forms : Forms) : List ℕ → Query → Type 0 where
   WholeWord : (word sought : List ℕ) → forms.word word ≡ Some sought → IsAtom forms word (Word forms.kinds sought)
-  PartOfWord : (sub sought : List ℕ) → forms.part sub ≡ Some sought → IsAtom forms (sub ++ codes "=") (Part forms.kinds sought)
-  FrontOfWord : (sub sought : List ℕ) → forms.part sub ≡ Some sought → IsAtom forms (codes "^" ++ (sub ++ codes "=")) (Prefix forms.kinds sought)
+  PartOfWord : (sub sought : List ℕ) → forms.part sub ≡ Some sought
+      → IsAtom forms (sub ++ codes "=") (Part forms.kinds sought)
+  FrontOfWord : (sub sought : List ℕ) → forms.part sub ≡ Some sought
+      → IsAtom forms (codes "^" ++ (sub ++ codes "=")) (Prefix forms.kinds sought)
 
 -- term = ["~"] atom: a `~` negates the atom
 pub data IsTerm (forms : Forms) : List ℕ → Query → Type 0 where
@@ -63,22 +66,27 @@ pub record AreLetters (text : List ℕ) : Type 0 where
 
 -- pattern = rest | letters ":" rest | "m:" rest | "d:" dates | "z:" sizes | "F:" flags; a rest alone has no `:`
 pub data IsPattern (lexicon : Lexicon) : List ℕ → Query → Type 0 where
-  Plain : (rest : List ℕ) (q : Query) → list_any (is_byte 0x3A) rest ≡ false → IsRest (word_forms lexicon plain_kinds) rest q → IsPattern lexicon rest q
-  InKinds : (letters rest : List ℕ) (q : Query) → AreLetters letters → IsRest (word_forms lexicon (kinds_named letters)) rest q → IsPattern lexicon (letters ++ 0x3A ∷ rest) q
+  Plain : (rest : List ℕ) (q : Query) → list_any (is_byte 0x3A) rest ≡ false
+      → IsRest (word_forms lexicon plain_kinds) rest q → IsPattern lexicon rest q
+  InKinds : (letters rest : List ℕ) (q : Query) → AreLetters letters
+      → IsRest (word_forms lexicon (kinds_named letters)) rest q → IsPattern lexicon (letters ++ 0x3A ∷ rest) q
   OfId : (rest : List ℕ) (q : Query) → IsRest id_forms rest q → IsPattern lexicon (codes "m:" ++ rest) q
-  OfDate : (dates : List ℕ) (range : Range) → lexicon.dates dates ≡ Some range → IsPattern lexicon (codes "d:" ++ dates) (Date range)
+  OfDate : (dates : List ℕ) (range : Range) → lexicon.dates dates ≡ Some range
+      → IsPattern lexicon (codes "d:" ++ dates) (Date range)
   OfSize : (sizes : List ℕ) (q : Query) → IsSizes sizes q → IsPattern lexicon (codes "z:" ++ sizes) q
   OfFlags : (flags : List ℕ) (q : Query) → IsFlags flags q → IsPattern lexicon (codes "F:" ++ flags) q
 
 -- one or more patterns, one after another, mean these queries
 pub data ArePatterns (lexicon : Lexicon) : List (List ℕ) → List Query → Type 0 where
   Only : (pattern : List ℕ) (q : Query) → IsPattern lexicon pattern q → ArePatterns lexicon (pattern ∷ []) (q ∷ [])
-  AndAlso : (pattern : List ℕ) (patterns : List (List ℕ)) (q : Query) (qs : List Query) → IsPattern lexicon pattern q → ArePatterns lexicon patterns qs
+  AndAlso : (pattern : List ℕ) (patterns : List (List ℕ)) (q : Query) (qs : List Query) → IsPattern lexicon pattern q
+      → ArePatterns lexicon patterns qs
       → ArePatterns lexicon (pattern ∷ patterns) (q ∷ qs)
 
 -- a list of patterns asks for all of them
 pub data IsAsked (lexicon : Lexicon) : List (List ℕ) → Query → Type 0 where
-  EachPattern : (patterns : List (List ℕ)) (qs : List Query) → ArePatterns lexicon patterns qs → IsAsked lexicon patterns (all_of qs)
+  EachPattern : (patterns : List (List ℕ)) (qs : List Query) → ArePatterns lexicon patterns qs
+      → IsAsked lexicon patterns (all_of qs)
 
 -- the grammar gives no query: a text in the list is no pattern, or the list is empty
 abbrev pub AskNothing : Lexicon → List (List ℕ) → Type 0

@@ -14,8 +14,10 @@ pub record IsNumber (text : List ℕ) : Type 0 where
 
 -- size = number ["k" / "K" / "M" / "m"]: this many bytes, at most the limit
 pub data IsSize : List ℕ → ℕ → Type 0 where
-  InBytes : (digits : List ℕ) → IsNumber digits → digits_value 10 digits ≤ size_limit → IsSize digits (digits_value 10 digits)
-  InUnits : (digits : List ℕ) (letter factor : ℕ) → IsNumber digits → factor_of letter ≡ Some factor → digits_value 10 digits * factor ≤ size_limit
+  InBytes : (digits : List ℕ) → IsNumber digits → digits_value 10 digits ≤ size_limit
+      → IsSize digits (digits_value 10 digits)
+  InUnits : (digits : List ℕ) (letter factor : ℕ) → IsNumber digits → factor_of letter ≡ Some factor
+      → digits_value 10 digits * factor ≤ size_limit
       → IsSize (digits ++ letter ∷ []) (digits_value 10 digits * factor)
 
 -- low = [size]: an empty text is 0
@@ -30,4 +32,5 @@ pub data IsHigh : List ℕ → Option ℕ → Type 0 where
 
 -- sizes = low "-" high: both ends are in the range
 pub data IsSizes : List ℕ → Query → Type 0 where
-  Between : (low high : List ℕ) (least : ℕ) (most : Option ℕ) → IsLow low least → IsHigh high most → IsSizes (low ++ 0x2D ∷ high) (Size least most)
+  Between : (low high : List ℕ) (least : ℕ) (most : Option ℕ) → IsLow low least → IsHigh high most
+      → IsSizes (low ++ 0x2D ∷ high) (Size least most)

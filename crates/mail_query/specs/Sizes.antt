@@ -1,5 +1,6 @@
 -- The sizes that a pattern `z:low-high` names.
-use Rattle.std.specs.Prelude.{ℕ, ◌-◌, ◌*◌, nat_le, ◌&&◌, ◌||◌, ◌==◌, List, [], ◌∷◌, length, take, slice_get, Option, Some, None, if◌then◌else◌, option_map, option_and_then}
+use Rattle.std.specs.Prelude.{ℕ, ◌-◌, ◌*◌, nat_le, ◌&&◌, ◌||◌, ◌==◌, List, [], ◌∷◌, length, take, slice_get, Option}
+use Rattle.std.specs.Prelude.{Some, None, if◌then◌else◌, option_map, option_and_then}
 use Rattle.std.specs.List.{list_all}
 use Rattle.std.specs.Char.{is_ascii_digit}
 use Rattle.std.specs.Str.Parse.{digits_value}
@@ -27,7 +28,8 @@ before_last_byte text = take (length text - 1) text
 -- the number of 1 to 18 digits times the factor, if that is at most the limit
 abbrev pub scaled : ℕ → List ℕ → Option ℕ
 scaled factor digits =
-    if (nat_le 1 (length digits) && nat_le (length digits) 18) && (list_all is_ascii_digit digits && nat_le (digits_value 10 digits * factor) size_limit)
+    if (nat_le 1 (length digits) && nat_le (length digits) 18) &&
+    (list_all is_ascii_digit digits && nat_le (digits_value 10 digits * factor) size_limit)
     then Some (digits_value 10 digits * factor) else None
 
 -- the size of a text whose last byte has this factor, or isn't a letter with one

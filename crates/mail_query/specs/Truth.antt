@@ -10,7 +10,8 @@ use Rattle.mail_words.specs.declared.flags.Flags.{Flags}
 use Rattle.mail_dates.specs.Ranges.{has_date}
 use Rattle.mail_query.specs.declared.kinds.Kinds.{Kinds}
 use Rattle.mail_query.specs.Kinds.{has_kind}
-use Rattle.mail_query.specs.Query.{Query, Any, Word, Part, Prefix, Date, Size, HasFlag, Not, All, Either, Queries, End, More}
+use Rattle.mail_query.specs.Query.{Query, Any, Word, Part, Prefix, Date, Size, HasFlag, Not, All, Either, Queries, End}
+use Rattle.mail_query.specs.Query.{More}
 
 -- What a query needs to know of a message: the words of its texts of each kind, with case folded, and its own ids. The
 -- size is in bytes.

@@ -1,9 +1,15 @@
 -- A run of word characters and joiners is its joined front and the joiners at its end, found by looking at bytes.
-use Rattle.mail_words.proofs.Imports.{◌≡◌, ℕ, ◌+◌, ◌-◌, ◌<◌, ◌≤◌, Bool, true, false, ◌&&◌, ◌||◌, List, [], ◌∷◌, ◌++◌, length, reverse, get_or, encode_utf8, encode_utf8_all, inl, inr, refl, sym, ap, ap₂, subst, ◌∙◌, arith, length-append, and_parts, cases_lt, get_or_append_left, get_or-append-add, get_or-append_right, list_all_at, encode_ascii, encodes-append, inside_one, length-encode, len_utf8_bounds, length-le-encodes, list_all, is_word_character, is_joiner, begins, front, is_piece, joined_to, joined_front}
+use Rattle.mail_words.proofs.Imports.{◌≡◌, ℕ, ◌+◌, ◌-◌, ◌<◌, ◌≤◌, Bool, true, false, ◌&&◌, ◌||◌, List, [], ◌∷◌, ◌++◌}
+use Rattle.mail_words.proofs.Imports.{length, reverse, get_or, encode_utf8, encode_utf8_all, inl, inr, refl, sym, ap}
+use Rattle.mail_words.proofs.Imports.{ap₂, subst, ◌∙◌, arith, length-append, and_parts, cases_lt, get_or_append_left}
+use Rattle.mail_words.proofs.Imports.{get_or-append-add, get_or-append_right, list_all_at, encode_ascii, encodes-append}
+use Rattle.mail_words.proofs.Imports.{inside_one, length-encode, len_utf8_bounds, length-le-encodes, list_all}
+use Rattle.mail_words.proofs.Imports.{is_word_character, is_joiner, begins, front, is_piece, joined_to, joined_front}
 use Rattle.std.proofs.Common.{append-nil}
 use Rattle.mail_words.proofs.Characters.{joiner_below, word_character_is_no_joiner}
 use Rattle.mail_words.proofs.OneWord.{ends-cons, ends-joined_front}
-use Rattle.mail_words.proofs.RunLemmas.{front-pass, front-fail, joined_front-word, joined_front-joiner, joined_front-other}
+use Rattle.mail_words.proofs.RunLemmas.{front-pass, front-fail, joined_front-word, joined_front-joiner}
+use Rattle.mail_words.proofs.RunLemmas.{joined_front-other}
 use Rattle.mail_words.proofs.Seams.{some_from_bytes}
 
 -- ---- characters
@@ -12,7 +18,8 @@ use Rattle.mail_words.proofs.Seams.{some_from_bytes}
 abbrev EndsInJoiners : List ℕ → List ℕ → Type 0
 EndsInJoiners cs kept = (js : List ℕ) × (cs ≡ kept ++ js) × (list_all is_joiner js ≡ true)
 
-joined_to-joiners : (c : ℕ) (kept js : List ℕ) → is_joiner c ≡ true → list_all is_joiner js ≡ true → EndsInJoiners (c ∷ (kept ++ js)) (joined_to c kept)
+joined_to-joiners : (c : ℕ) (kept js : List ℕ) → is_joiner c ≡ true → list_all is_joiner js ≡ true
+    → EndsInJoiners (c ∷ (kept ++ js)) (joined_to c kept)
 joined_to-joiners c [] js joins all = (c ∷ js, refl, (λ k. joins k && all k))
 joined_to-joiners c (d ∷ ds) js joins all = (js, refl, all)
 
@@ -20,11 +27,16 @@ run-joiners : (cs : List ℕ) → EndsInJoiners (front is_piece cs) (joined_fron
 run-joiners [] = ([], refl, refl)
 run-joiners (c ∷ cs) = go (is_word_character c) (is_joiner c) refl refl (run-joiners cs)
   where
-    go : (w j : Bool) → is_word_character c ≡ w → is_joiner c ≡ j → EndsInJoiners (front is_piece cs) (joined_front cs) → EndsInJoiners (front is_piece (c ∷ cs)) (joined_front (c ∷ cs))
+    go : (w j : Bool) → is_word_character c ≡ w → is_joiner c ≡ j → EndsInJoiners (front is_piece cs) (joined_front cs)
+        → EndsInJoiners (front is_piece (c ∷ cs)) (joined_front (c ∷ cs))
     go true j e f h = grind (arith, front-pass, joined_front-word)
     go false true e f h =
-        let more = joined_to-joiners c (joined_front cs) h.0 f h.2 in
-        (more.0, front-pass is_piece c cs (λ k. e k || f k) ∙ ap (λ ds. c ∷ ds) h.1 ∙ more.1 ∙ ap (λ ds. ds ++ more.0) (sym (joined_front-joiner c cs f)), more.2)
+        let more = joined_to-joiners c (joined_front cs) h.0 f h.2 in (
+          more.0,
+          front-pass is_piece c cs (λ k. e k || f k) ∙ ap (λ ds. c ∷ ds) h.1 ∙ more.1
+              ∙ ap (λ ds. ds ++ more.0) (sym (joined_front-joiner c cs f)),
+          more.2,
+        )
     go false false e f h = grind (arith, front-fail, joined_front-other)
 
 -- ---- bytes
@@ -33,7 +45,8 @@ run-joiners (c ∷ cs) = go (is_word_character c) (is_joiner c) refl refl (run-j
 joiners-own : (js : List ℕ) → list_all is_joiner js ≡ true → encode_utf8_all js ≡ js
 joiners-own [] all = refl
 joiners-own (c ∷ cs) all =
-    let parts = and_parts (is_joiner c) (list_all is_joiner cs) all in ap₂ ◌++◌ (encode_ascii c (joiner_below c parts.0)) (joiners-own cs parts.1)
+    let parts = and_parts (is_joiner c) (list_all is_joiner cs) all
+    in ap₂ ◌++◌ (encode_ascii c (joiner_below c parts.0)) (joiners-own cs parts.1)
 
 abbrev last_of : List ℕ → ℕ
 last_of bytes = get_or bytes (length bytes - 1) 0
@@ -44,34 +57,43 @@ last-character c of_word = go (is_joiner (last_of (encode_utf8 c))) refl
   where
     go : (t : Bool) → is_joiner (last_of (encode_utf8 c)) ≡ t → is_joiner (last_of (encode_utf8 c)) ≡ false
     go true joins =
-        let same = inside_one c [] (encode_utf8 c) (length (encode_utf8 c) - 1) (sym (append-nil (encode_utf8 c))) (omega (arith, length-encode c, (len_utf8_bounds c).0)) (joiner_below (last_of (encode_utf8 c)) joins) in
+        let same = inside_one c [] (encode_utf8 c) (length (encode_utf8 c) - 1) (sym (append-nil (encode_utf8 c)))
+        (omega (arith, length-encode c, (len_utf8_bounds c).0)) (joiner_below (last_of (encode_utf8 c)) joins) in
         sym (ap is_joiner same) ∙ word_character_is_no_joiner c of_word
     go false apart = apart
 
-last-characters : (cs : List ℕ) → begins is_word_character (reverse cs) ≡ true → is_joiner (last_of (encode_utf8_all cs)) ≡ false
+last-characters : (cs : List ℕ) → begins is_word_character (reverse cs) ≡ true
+    → is_joiner (last_of (encode_utf8_all cs)) ≡ false
 last-characters [] ends = cc
-last-characters (c ∷ []) ends = subst (λ bytes. is_joiner (last_of bytes) ≡ false) (sym (append-nil (encode_utf8 c))) (last-character c ends)
+last-characters (c ∷ []) ends = subst (λ bytes. is_joiner (last_of bytes) ≡ false) (sym (append-nil (encode_utf8 c)))
+    (last-character c ends)
 last-characters (c ∷ d ∷ ds) ends =
     let rest = encode_utf8_all (d ∷ ds) in
-    let at : length (encode_utf8 c ++ rest) - 1 ≡ length (encode_utf8 c) + (length rest - 1) = omega (arith, length-append (encode_utf8 c) rest, length-le-encodes (d ∷ ds)) in
-    ap is_joiner (ap (λ n. get_or (encode_utf8 c ++ rest) n 0) at ∙ get_or-append-add (encode_utf8 c) rest (length rest - 1) 0)
+    let at : length (encode_utf8 c ++ rest) - 1 ≡ length (encode_utf8 c) + (length rest - 1) =
+    omega (arith, length-append (encode_utf8 c) rest, length-le-encodes (d ∷ ds)) in
+    ap is_joiner (ap (λ n. get_or (encode_utf8 c ++ rest) n 0) at
+    ∙ get_or-append-add (encode_utf8 c) rest (length rest - 1) 0)
     ∙ last-characters (d ∷ ds) (sym (ends-cons is_word_character c (d ∷ ds) refl) ∙ ends)
 
 -- the place in the bytes where the joiners at the end of a run begin
 pub joined-bytes : (cs bytes : List ℕ) (n : ℕ) → bytes ≡ encode_utf8_all (front is_piece cs) → n ≤ length bytes
-    → ((k : ℕ) → n ≤ k → k < length bytes → is_joiner (get_or bytes k 0) ≡ true) → (0 < n → is_joiner (get_or bytes (n - 1) 0) ≡ false) → n ≡ length (encode_utf8_all (joined_front cs))
+    → ((k : ℕ) → n ≤ k → k < length bytes → is_joiner (get_or bytes k 0) ≡ true)
+    → (0 < n → is_joiner (get_or bytes (n - 1) 0) ≡ false) → n ≡ length (encode_utf8_all (joined_front cs))
 joined-bytes cs bytes n is within joiners last =
     elim (cases_lt n (length kept)) [
       | inl less ↦
           let some = some_from_bytes (joined_front cs) (omega (arith, less)) in
           let no = last-characters (joined_front cs) (ends-joined_front cs some) in
           let yes = joiners (length kept - 1) (omega (arith, less)) (omega (arith, less, sizes)) in
-          let same = ap (λ bs. get_or bs (length kept - 1) 0) joined ∙ get_or_append_left kept js 0 (length kept - 1) (omega (arith, less)) in
+          let same = ap (λ bs. get_or bs (length kept - 1) 0) joined
+          ∙ get_or_append_left kept js 0 (length kept - 1) (omega (arith, less)) in
           let wrong : true ≡ false = sym yes ∙ ap is_joiner same ∙ no in cc
       | inr not_less ↦ elim (cases_lt (length kept) n) [
         | inl more ↦
-            let same = ap (λ bs. get_or bs (n - 1) 0) joined ∙ get_or-append_right kept js (length kept) (n - 1) 0 refl (omega (arith, more)) in
-            let no = list_all_at is_joiner js (n - 1 - length kept) 0 (omega (arith, more, within, sizes)) (sym (ap is_joiner same) ∙ last (omega (arith, more))) in
+            let same = ap (λ bs. get_or bs (n - 1) 0) joined
+            ∙ get_or-append_right kept js (length kept) (n - 1) 0 refl (omega (arith, more)) in
+            let no = list_all_at is_joiner js (n - 1 - length kept) 0 (omega (arith, more, within, sizes))
+            (sym (ap is_joiner same) ∙ last (omega (arith, more))) in
             let wrong : true ≡ false = sym parts.2 ∙ no in cc
         | inr not_more ↦ omega (arith, not_less, not_more)
       ]
@@ -87,7 +109,8 @@ joined-bytes cs bytes n is within joiners last =
     kept = encode_utf8_all (joined_front cs)
 
     joined : bytes ≡ kept ++ js
-    joined = is ∙ ap encode_utf8_all parts.1 ∙ encodes-append (joined_front cs) js ∙ ap (λ bs. kept ++ bs) (joiners-own js parts.2)
+    joined = is ∙ ap encode_utf8_all parts.1 ∙ encodes-append (joined_front cs) js
+        ∙ ap (λ bs. kept ++ bs) (joiners-own js parts.2)
 
     sizes : length bytes ≡ length kept + length js
     sizes = ap length joined ∙ length-append kept js

@@ -1,6 +1,9 @@
 -- The bytes that are word characters, found from the mask of one load.
 use lib.Lanes.{Each1, chunk, mask_l, top}
-use Rattle.mail_words.proofs.Imports.{◌≡◌, ℕ, ◌+◌, ◌-◌, ◌%◌, ◌^◌, ◌<◌, ◌≤◌, Bool, true, false, not, List, [], ◌∷◌, length, get_or, Fits, w8, refl, ap, ap₂, ◌∙◌, subst, arith, inl, inr, agree_below, agree_below_at, cases_lt, length-map, map-map, mask_l-mod, length-chunk, get_or-chunk, prefix_len}
+use Rattle.mail_words.proofs.Imports.{◌≡◌, ℕ, ◌+◌, ◌-◌, ◌%◌, ◌^◌, ◌<◌, ◌≤◌, Bool, true, false, not, List, [], ◌∷◌}
+use Rattle.mail_words.proofs.Imports.{length, get_or, Fits, w8, refl, ap, ap₂, ◌∙◌, subst, arith, inl, inr, agree_below}
+use Rattle.mail_words.proofs.Imports.{agree_below_at, cases_lt, length-map, map-map, mask_l-mod, length-chunk}
+use Rattle.mail_words.proofs.Imports.{get_or-chunk, prefix_len}
 use Rattle.std.proofs.Common.{map}
 use Rattle.std.proofs.lemmas.List.Sums.{prefix_len-le-length, prefix_len_passes}
 
@@ -10,10 +13,12 @@ same_tests p q [] fits all = refl
 same_tests p q (x ∷ xs) fits all = ap₂ ◌∷◌ (agree_below_at p q 256 x all fits.0.fits) (same_tests p q xs fits.1 all)
 
 -- the lanes z, computed from those of a load, mark exactly the bytes that pass the test
-pub lanes_mask : (test : ℕ → Bool) (f : ℕ → ℕ) (load z : List ℕ) → length load ≤ 64 → Each1 (Fits w8) load → z ≡ map f load → agree_below (λ b. top 7 (f b)) test 256 ≡ true
+pub lanes_mask : (test : ℕ → Bool) (f : ℕ → ℕ) (load z : List ℕ) → length load ≤ 64 → Each1 (Fits w8) load → z
+    ≡ map f load → agree_below (λ b. top 7 (f b)) test 256 ≡ true
     → mask_l (map (top 7) z) % 2 ^ 64 ≡ mask_l (map test load)
 lanes_mask test f load z few fits lanes all =
-    ap (λ l. mask_l l % 2 ^ 64) (ap (map (top 7)) lanes ∙ map-map (top 7) f load ∙ same_tests (λ b. top 7 (f b)) test load fits all)
+    ap (λ l. mask_l l % 2 ^ 64) (ap (map (top 7)) lanes ∙ map-map (top 7) f load
+    ∙ same_tests (λ b. top 7 (f b)) test load fits all)
     ∙ mask_l-mod (map test load) 64 (omega (arith, few, length-map load test))
 
 -- bytes that don't fail the test pass it
@@ -24,11 +29,14 @@ not_not false = refl
 pub run_of_not : (test : ℕ → Bool) (load : List ℕ) → prefix_len (λ b. not (not (test b))) load ≡ prefix_len test load
 run_of_not test load = λ i. prefix_len (λ b. not_not (test b) i) load
 
-pub run_bound : (test : ℕ → Bool) (bytes : List ℕ) (at r : ℕ) → at + 16 ≤ length bytes → r ≡ prefix_len test (chunk at 16 bytes) → r ≤ 16
-run_bound test bytes at r room run = omega (arith, run, length-chunk at 16 bytes room, prefix_len-le-length test (chunk at 16 bytes))
+pub run_bound : (test : ℕ → Bool) (bytes : List ℕ) (at r : ℕ) → at + 16 ≤ length bytes → r
+    ≡ prefix_len test (chunk at 16 bytes) → r ≤ 16
+run_bound test bytes at r room run = omega
+    (arith, run, length-chunk at 16 bytes room, prefix_len-le-length test (chunk at 16 bytes))
 
 -- the bytes passed before, and those of one more load
-pub passed_on : (test : ℕ → Bool) (bytes : List ℕ) (at r : ℕ) → at + 16 ≤ length bytes → r ≡ prefix_len test (chunk at 16 bytes) → ((k : ℕ) → k < at → test (get_or bytes k 0) ≡ true)
+pub passed_on : (test : ℕ → Bool) (bytes : List ℕ) (at r : ℕ) → at + 16 ≤ length bytes → r
+    ≡ prefix_len test (chunk at 16 bytes) → ((k : ℕ) → k < at → test (get_or bytes k 0) ≡ true)
     → (k : ℕ) → k < at + r → test (get_or bytes k 0) ≡ true
 passed_on test bytes at r room run passed k below =
     elim (cases_lt k at) [
@@ -36,6 +44,8 @@ passed_on test bytes at r room run passed k below =
       | inr late ↦
           let within : r ≤ 16 = run_bound test bytes at r room run in
           let back : at + (k - at) ≡ k = omega (arith, late) in
-          let same = get_or-chunk at 16 bytes (k - at) 0 (omega (arith, within, below, late)) ∙ ap (λ j. get_or bytes j 0) back in
-          subst (λ b. test b ≡ true) same (prefix_len_passes test (chunk at 16 bytes) (k - at) 0 (omega (arith, run, below, late)))
+          let same = get_or-chunk at 16 bytes (k - at) 0 (omega (arith, within, below, late))
+          ∙ ap (λ j. get_or bytes j 0) back in
+          subst (λ b. test b ≡ true) same (prefix_len_passes test (chunk at 16 bytes) (k - at) 0
+          (omega (arith, run, below, late)))
     ]

@@ -1,5 +1,8 @@
 -- Each word has 1 to 128 bytes, because the test of a word has these limits.
-use Rattle.mail_words.proofs.Imports.{◌≡◌, ℕ, zero, suc, ◌≤◌, Bool, true, false, cond, List, [], ◌∷◌, ◌++◌, All, length, encode_utf8_all, nat_le, refl, sym, subst, arith, and_parts, leb-true, length-le-encodes, is_word_character, begins, is_word, word_limit, words, HasWordLength, words_left}
+use Rattle.mail_words.proofs.Imports.{◌≡◌, ℕ, zero, suc, ◌≤◌, Bool, true, false, cond, List, [], ◌∷◌, ◌++◌, All, length}
+use Rattle.mail_words.proofs.Imports.{encode_utf8_all, nat_le, refl, sym, subst, arith, and_parts, leb-true}
+use Rattle.mail_words.proofs.Imports.{length-le-encodes, is_word_character, begins, is_word, word_limit, words}
+use Rattle.mail_words.proofs.Imports.{HasWordLength, words_left}
 use Rattle.std.proofs.Common.{chars}
 use Rattle.std.proofs.lemmas.List.Elements.{All-append}
 use Rattle.mail_words.proofs.Places.{if_word, words_on, words_from, words_behind-places}
@@ -16,29 +19,37 @@ begun_length : (cs : List ℕ) → begins is_word_character cs ≡ true → 1 �
 begun_length [] e = cc
 begun_length (c ∷ cs) e = omega (arith, length-le-encodes (c ∷ cs))
 
-short_of_word : (before inside behind : List ℕ) → is_word is_word_character before inside behind ≡ true → nat_le (length (encode_utf8_all inside)) word_limit ≡ true
+short_of_word : (before inside behind : List ℕ) → is_word is_word_character before inside behind ≡ true
+    → nat_le (length (encode_utf8_all inside)) word_limit ≡ true
 unfolding is_word
 short_of_word before inside behind e = (and_parts _ (nat_le (length (encode_utf8_all inside)) word_limit) e).1
 
 all-if_word : (before inside behind : List ℕ) → All HasWordLength (if_word before inside behind)
-all-if_word before inside behind = go (is_word is_word_character before inside behind) (begins is_word_character inside) refl refl
+all-if_word before inside behind = go (is_word is_word_character before inside behind) (begins is_word_character inside)
+    refl refl
   where
-    go : (word begun : Bool) → is_word is_word_character before inside behind ≡ word → begins is_word_character inside ≡ begun → All HasWordLength (if_word before inside behind)
+    go : (word begun : Bool) → is_word is_word_character before inside behind ≡ word → begins is_word_character inside
+        ≡ begun → All HasWordLength (if_word before inside behind)
     go word false e b = subst (All HasWordLength) (sym (none_begins before inside behind b)) all-nil
     go false true e b = subst (λ t. All HasWordLength (cond t (encode_utf8_all inside ∷ []) [])) (sym e) all-nil
     go true true e b =
         subst (λ t. All HasWordLength (cond t (encode_utf8_all inside ∷ []) [])) (sym e)
-        (all-one (encode_utf8_all inside) (begun_length inside b, leb-true (length (encode_utf8_all inside)) word_limit (short_of_word before inside behind e)))
+        (all-one (encode_utf8_all inside) (
+          begun_length inside b,
+          leb-true (length (encode_utf8_all inside)) word_limit (short_of_word before inside behind e),
+        ))
 
 all-words_on : (before inside rest : List ℕ) → All HasWordLength (words_on before inside rest)
 all-words_on before inside [] = all-nil
 all-words_on before inside (c ∷ cs) =
-    All-append HasWordLength (if_word before (inside ++ c ∷ []) cs) (words_on before (inside ++ c ∷ []) cs) (all-if_word before (inside ++ c ∷ []) cs) (all-words_on before (inside ++ c ∷ []) cs)
+    All-append HasWordLength (if_word before (inside ++ c ∷ []) cs) (words_on before (inside ++ c ∷ []) cs)
+    (all-if_word before (inside ++ c ∷ []) cs) (all-words_on before (inside ++ c ∷ []) cs)
 
 all-words_from : (before cs : List ℕ) → All HasWordLength (words_from before cs)
 all-words_from before [] = all-nil
 all-words_from before (c ∷ cs) =
-    All-append HasWordLength (words_on before [] (c ∷ cs)) (words_from (c ∷ before) cs) (all-words_on before [] (c ∷ cs)) (all-words_from (c ∷ before) cs)
+    All-append HasWordLength (words_on before [] (c ∷ cs)) (words_from (c ∷ before) cs)
+    (all-words_on before [] (c ∷ cs)) (all-words_from (c ∷ before) cs)
 
 -- at first, the words left are the words of the text
 pub words_left-whole : (text : List ℕ) → words_left false (chars text) ≡ words text

@@ -5,4 +5,5 @@ use Rattle.contract_words.specs.Ranges.{ranges_from, AreInOrder}
 use Rattle.contract_words.proofs.RangeOrder.{order-filter, order-ranges_from}
 
 pub order-word_ranges : (text : List ℕ) → AreInOrder (word_ranges text)
-order-word_ranges text = order-filter (is_word_range is_word_character (chars text)) (ranges_from 0 (chars text)) (order-ranges_from 0 (chars text))
+order-word_ranges text = order-filter (is_word_range is_word_character (chars text)) (ranges_from 0 (chars text))
+    (order-ranges_from 0 (chars text))

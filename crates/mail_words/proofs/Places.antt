@@ -15,5 +15,6 @@ words_on = seen_on (is_word is_word_character) encode_utf8_all
 abbrev pub words_from : List ℕ → List ℕ → List (List ℕ)
 words_from = seen_from (is_word is_word_character) encode_utf8_all
 
-pub words_behind-places : (front rest : List ℕ) → words_behind is_word_character front rest ≡ words_from (reverse front) rest
+pub words_behind-places : (front rest : List ℕ) → words_behind is_word_character front rest
+    ≡ words_from (reverse front) rest
 words_behind-places = seen_behind-places (is_word is_word_character) encode_utf8_all

@@ -1,5 +1,6 @@
 -- Words of given texts, by computation. Here word characters are the letters and digits of ASCII.
-use Rattle.mail_words.proofs.Imports.{ℕ, Bool, ◌||◌, ◌&&◌, List, [], ◌∷◌, refl, leb, codes, is_joiner, is_word, words_behind}
+use Rattle.mail_words.proofs.Imports.{ℕ, Bool, ◌||◌, ◌&&◌, List, [], ◌∷◌, refl, leb, codes, is_joiner, is_word}
+use Rattle.mail_words.proofs.Imports.{words_behind}
 use Rattle.mail_words.proofs.RowTables.{Each}
 
 abbrev is_ascii_word : ℕ → Bool
@@ -13,7 +14,11 @@ rows : Each words_of (([], []) ∷ (codes " ", []) ∷ (codes "-", []) ∷ (code
     ∷ (codes "e-mail, a_b!", codes "e" ∷ codes "e-mail" ∷ codes "mail" ∷ codes "a" ∷ codes "a_b" ∷ codes "b" ∷ [])
     ∷ (codes "--a-b--", codes "a" ∷ codes "a-b" ∷ codes "b" ∷ []) ∷ (codes "-a", codes "a" ∷ [])
     ∷ (codes "a-", codes "a" ∷ [])
-    ∷ (codes "a-b_c.d+e@f", codes "a" ∷ codes "a-b_c.d+e@f" ∷ codes "b" ∷ codes "c" ∷ codes "d" ∷ codes "e" ∷ codes "f" ∷ [])
+    ∷ (
+      codes "a-b_c.d+e@f",
+      codes "a" ∷ codes "a-b_c.d+e@f" ∷ codes "b" ∷ codes "c" ∷ codes "d" ∷ codes "e" ∷ codes "f"
+          ∷ [],
+    )
     ∷ (codes "a--b", codes "a" ∷ codes "a--b" ∷ codes "b" ∷ [])
     ∷ (codes "a+.b", codes "a" ∷ codes "a+.b" ∷ codes "b" ∷ [])
     ∷ (codes "a-b-c", codes "a" ∷ codes "a-b-c" ∷ codes "b" ∷ codes "c" ∷ [])

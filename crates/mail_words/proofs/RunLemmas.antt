@@ -1,5 +1,6 @@
 -- Laws of the runs at the front of the rest of a text.
-use Rattle.mail_words.proofs.Imports.{◌≡◌, ℕ, Bool, true, false, List, [], ◌∷◌, ◌++◌, refl, arith, is_word_character, is_joiner, begins, after_joiners, front, behind, joined_to, joined_front}
+use Rattle.mail_words.proofs.Imports.{◌≡◌, ℕ, Bool, true, false, List, [], ◌∷◌, ◌++◌, refl, arith, is_word_character}
+use Rattle.mail_words.proofs.Imports.{is_joiner, begins, after_joiners, front, behind, joined_to, joined_front}
 use Rattle.mail_words.proofs.Characters.{joiner_is_no_word_character, word_character_is_no_joiner}
 
 pub front-pass : (p : ℕ → Bool) (c : ℕ) (cs : List ℕ) → p c ≡ true → front p (c ∷ cs) ≡ c ∷ front p cs
@@ -32,13 +33,16 @@ nil_from_none cs h = grind arith
 pub joined_front-word : (c : ℕ) (cs : List ℕ) → is_word_character c ≡ true → joined_front (c ∷ cs) ≡ c ∷ joined_front cs
 joined_front-word c cs e = rw (e, joined_front) refl
 
-pub joined_front-joiner : (c : ℕ) (cs : List ℕ) → is_joiner c ≡ true → joined_front (c ∷ cs) ≡ joined_to c (joined_front cs)
+pub joined_front-joiner : (c : ℕ) (cs : List ℕ) → is_joiner c ≡ true → joined_front (c ∷ cs)
+    ≡ joined_to c (joined_front cs)
 joined_front-joiner c cs e = let no = joiner_is_no_word_character c e in rw (no, e, joined_front) refl
 
-pub joined_front-other : (c : ℕ) (cs : List ℕ) → is_word_character c ≡ false → is_joiner c ≡ false → joined_front (c ∷ cs) ≡ []
+pub joined_front-other : (c : ℕ) (cs : List ℕ) → is_word_character c ≡ false → is_joiner c ≡ false
+    → joined_front (c ∷ cs) ≡ []
 joined_front-other c cs e f = rw (e, f, joined_front) refl
 
-pub joined_front-none : (cs : List ℕ) → begins is_word_character cs ≡ false → begins is_joiner cs ≡ false → joined_front cs ≡ []
+pub joined_front-none : (cs : List ℕ) → begins is_word_character cs ≡ false → begins is_joiner cs ≡ false
+    → joined_front cs ≡ []
 joined_front-none cs h h2 = grind (arith, joined_front-other)
 
 pub after_joiners-joiner : (c : ℕ) (cs : List ℕ) → is_joiner c ≡ true → after_joiners (c ∷ cs) ≡ after_joiners cs
@@ -50,7 +54,16 @@ after_joiners-other c cs e = rw (e, after_joiners) refl
 -- the run continues exactly if a word character follows the joiners
 pub is_some-joined_front : (cs : List ℕ) → is_some (joined_front cs) ≡ begins is_word_character (after_joiners cs)
 is_some-joined_front [] = refl
-is_some-joined_front (c ∷ cs) = grind (arith, joined_front-word, after_joiners-other, word_character_is_no_joiner, joined_front-joiner, after_joiners-joiner, joined_front-other, is_some-joined_front cs)
+is_some-joined_front (c ∷ cs) = grind (
+  arith,
+  joined_front-word,
+  after_joiners-other,
+  word_character_is_no_joiner,
+  joined_front-joiner,
+  after_joiners-joiner,
+  joined_front-other,
+  is_some-joined_front cs,
+)
 
 -- characters that begin with a word character continue a run
 pub run-word : (cs : List ℕ) → begins is_word_character cs ≡ true → begins is_word_character (after_joiners cs) ≡ true

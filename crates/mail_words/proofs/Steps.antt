@@ -1,10 +1,17 @@
 -- The words that begin at a place, by the character there.
-use Rattle.mail_words.proofs.Imports.{◌≡◌, ℕ, Bool, true, false, ◌&&◌, ◌||◌, List, [], ◌∷◌, ◌++◌, reverse, refl, sym, ap, ap₂, ◌∙◌, append_assoc, arith, and-false, or-true, and_parts, reverse-append, list_all-append, list_any-append, list_all, list_any, is_word_character, is_joiner, begins, after_joiners, is_piece, front, behind, joined_to, joined_front, within, joined_on, long_at}
+use Rattle.mail_words.proofs.Imports.{◌≡◌, ℕ, Bool, true, false, ◌&&◌, ◌||◌, List, [], ◌∷◌, ◌++◌, reverse, refl, sym}
+use Rattle.mail_words.proofs.Imports.{ap, ap₂, ◌∙◌, append_assoc, arith, and-false, or-true, and_parts, reverse-append}
+use Rattle.mail_words.proofs.Imports.{list_all-append, list_any-append, list_all, list_any, is_word_character}
+use Rattle.mail_words.proofs.Imports.{is_joiner, begins, after_joiners, is_piece, front, behind, joined_to}
+use Rattle.mail_words.proofs.Imports.{joined_front, within, joined_on, long_at}
 use Rattle.std.proofs.Common.{append-nil}
 use Rattle.mail_words.proofs.Characters.{joiner_is_no_word_character, word_character_is_no_joiner}
-use Rattle.mail_words.proofs.RunLemmas.{front-pass, front-fail, behind-pass, behind-fail, begins-behind, is_some, nil_from_none, joined_front-word, joined_front-joiner, joined_front-other, is_some-joined_front}
+use Rattle.mail_words.proofs.RunLemmas.{front-pass, front-fail, behind-pass, behind-fail, begins-behind, is_some}
+use Rattle.mail_words.proofs.RunLemmas.{nil_from_none, joined_front-word, joined_front-joiner, joined_front-other}
+use Rattle.mail_words.proofs.RunLemmas.{is_some-joined_front}
 use Rattle.mail_words.proofs.Places.{words_on}
-use Rattle.mail_words.proofs.WordTests.{is_plain, is_long, none_begins, none_inside, none_of_others, none_ends, none_yet, none_in_run, none_before_end}
+use Rattle.mail_words.proofs.WordTests.{is_plain, is_long, none_begins, none_inside, none_of_others, none_ends}
+use Rattle.mail_words.proofs.WordTests.{none_yet, none_in_run, none_before_end}
 
 -- ---- the front of a word that grows by a character
 
@@ -20,32 +27,42 @@ any-push p xs c = list_any-append p xs (c ∷ [])
 -- ---- no word begins here
 
 -- none begins at a character that isn't a word character
-none_begin : (before : List ℕ) (x : ℕ) (inside rest : List ℕ) → is_word_character x ≡ false → words_on before (x ∷ inside) rest ≡ []
+none_begin : (before : List ℕ) (x : ℕ) (inside rest : List ℕ) → is_word_character x ≡ false
+    → words_on before (x ∷ inside) rest ≡ []
 none_begin before x inside [] other = refl
 none_begin before x inside (c ∷ cs) other =
     ap₂ ◌++◌ (none_begins before (x ∷ inside ++ c ∷ []) cs other) (none_begin before x (inside ++ c ∷ []) cs other)
 
-pub words_on-other : (before : List ℕ) (c : ℕ) (cs : List ℕ) → is_word_character c ≡ false → words_on before [] (c ∷ cs) ≡ []
+pub words_on-other : (before : List ℕ) (c : ℕ) (cs : List ℕ) → is_word_character c ≡ false → words_on before [] (c ∷ cs)
+    ≡ []
 words_on-other before c cs other = ap₂ ◌++◌ (none_begins before (c ∷ []) cs other) (none_begin before c [] cs other)
 
 -- none begins inside a run of word characters
-pub none_within : (before inside rest : List ℕ) → begins is_word_character before ≡ true → begins is_word_character (after_joiners before) ≡ true → words_on before inside rest ≡ []
+pub none_within : (before inside rest : List ℕ) → begins is_word_character before ≡ true
+    → begins is_word_character (after_joiners before) ≡ true → words_on before inside rest ≡ []
 none_within before inside [] first run = refl
-none_within before inside (c ∷ cs) first run = grind (arith, none_inside, none_within before (inside ++ c ∷ []) cs first run)
+none_within before inside (c ∷ cs) first run =
+    grind (arith, none_inside, none_within before (inside ++ c ∷ []) cs first run)
 
 -- none has a character that is neither a word character nor a joiner
-none_with_other : (before inside rest : List ℕ) → list_all is_word_character inside ≡ false → list_all is_piece inside ≡ false → words_on before inside rest ≡ []
+none_with_other : (before inside rest : List ℕ) → list_all is_word_character inside ≡ false → list_all is_piece inside
+    ≡ false → words_on before inside rest ≡ []
 none_with_other before inside [] all pieces = refl
 none_with_other before inside (c ∷ cs) all pieces =
-    let all' : list_all is_word_character (inside ++ c ∷ []) ≡ false = all-push is_word_character inside c ∙ ap (λ b. b && (is_word_character c && true)) all in
-    let pieces' : list_all is_piece (inside ++ c ∷ []) ≡ false = all-push is_piece inside c ∙ ap (λ b. b && (is_piece c && true)) pieces in
-    ap₂ ◌++◌ (none_of_others before (inside ++ c ∷ []) cs all' pieces') (none_with_other before (inside ++ c ∷ []) cs all' pieces')
+    let all' : list_all is_word_character (inside ++ c ∷ []) ≡ false = all-push is_word_character inside c
+    ∙ ap (λ b. b && (is_word_character c && true)) all in
+    let pieces' : list_all is_piece (inside ++ c ∷ []) ≡ false = all-push is_piece inside c
+    ∙ ap (λ b. b && (is_piece c && true)) pieces in
+    ap₂ ◌++◌ (none_of_others before (inside ++ c ∷ []) cs all' pieces')
+    (none_with_other before (inside ++ c ∷ []) cs all' pieces')
 
 -- none is a long word whose run began earlier
-none_again : (before inside rest : List ℕ) → list_all is_word_character inside ≡ false → begins is_word_character (after_joiners before) ≡ true → words_on before inside rest ≡ []
+none_again : (before inside rest : List ℕ) → list_all is_word_character inside ≡ false
+    → begins is_word_character (after_joiners before) ≡ true → words_on before inside rest ≡ []
 none_again before inside [] all run = refl
 none_again before inside (c ∷ cs) all run =
-    let all' : list_all is_word_character (inside ++ c ∷ []) ≡ false = all-push is_word_character inside c ∙ ap (λ b. b && (is_word_character c && true)) all in
+    let all' : list_all is_word_character (inside ++ c ∷ []) ≡ false = all-push is_word_character inside c
+    ∙ ap (λ b. b && (is_word_character c && true)) all in
     ap₂ ◌++◌ (none_in_run before (inside ++ c ∷ []) cs all' run) (none_again before (inside ++ c ∷ []) cs all' run)
 
 -- ---- a plain word
@@ -59,8 +76,10 @@ begins-all p (x ∷ xs) c h = grind arith
 abbrev plain_first : List ℕ → List ℕ → List ℕ → List ℕ → List (List ℕ)
 plain_first before inside fore rest = within (inside ++ fore) ++ words_on before (inside ++ fore) rest
 
-words_on-plain : (before inside cs : List ℕ) → list_all is_word_character inside ≡ true → list_any is_joiner inside ≡ false → begins is_word_character before ≡ false
-    → begins is_word_character cs ≡ true → words_on before inside cs ≡ plain_first before inside (front is_word_character cs) (behind is_word_character cs)
+words_on-plain : (before inside cs : List ℕ) → list_all is_word_character inside ≡ true → list_any is_joiner inside
+    ≡ false → begins is_word_character before ≡ false
+    → begins is_word_character cs ≡ true → words_on before inside cs
+    ≡ plain_first before inside (front is_word_character cs) (behind is_word_character cs)
 words_on-plain before inside [] all joins first e = cc
 words_on-plain before inside (c ∷ cs) all joins first e =
     go (begins is_word_character cs) refl (words_on-plain before longer cs all' joins' first)
@@ -76,19 +95,25 @@ words_on-plain before inside (c ∷ cs) all joins first e =
     joins' = any-push is_joiner inside c ∙ (λ k. joins k || (word_character_is_no_joiner c e k || false))
 
     go : (t : Bool) → begins is_word_character cs ≡ t
-        → (begins is_word_character cs ≡ true → words_on before longer cs ≡ plain_first before longer (front is_word_character cs) (behind is_word_character cs))
-        → words_on before inside (c ∷ cs) ≡ plain_first before inside (c ∷ front is_word_character cs) (behind is_word_character cs)
+        → (begins is_word_character cs ≡ true → words_on before longer cs
+        ≡ plain_first before longer (front is_word_character cs) (behind is_word_character cs))
+        → words_on before inside (c ∷ cs) ≡ plain_first before inside (c ∷ front is_word_character cs)
+        (behind is_word_character cs)
     go true more rest = grind (arith, none_yet, longer, joins', words_on, append_assoc)
     go false last rest =
-        ap (λ ws. ws ++ words_on before longer cs) (is_plain before longer cs (begins-all is_word_character inside c all') all' first last)
-        ∙ sym (ap₂ (λ fore rest. plain_first before inside (c ∷ fore) rest) (front-fail is_word_character cs last) (behind-fail is_word_character cs last))
+        ap (λ ws. ws ++ words_on before longer cs)
+        (is_plain before longer cs (begins-all is_word_character inside c all') all' first last)
+        ∙ sym (ap₂ (λ fore rest. plain_first before inside (c ∷ fore) rest) (front-fail is_word_character cs last)
+        (behind-fail is_word_character cs last))
 
 -- ---- a long word
 
-joined_on-push : (inside : List ℕ) (c : ℕ) (cs : List ℕ) → is_some cs ≡ true → joined_on (inside ++ c ∷ []) cs ≡ joined_on inside (c ∷ cs)
+joined_on-push : (inside : List ℕ) (c : ℕ) (cs : List ℕ) → is_some cs ≡ true → joined_on (inside ++ c ∷ []) cs
+    ≡ joined_on inside (c ∷ cs)
 joined_on-push inside c cs h = grind (arith, append_assoc)
 
-joined_on-joined_to : (inside : List ℕ) (c : ℕ) (cs : List ℕ) → joined_on (inside ++ c ∷ []) cs ≡ joined_on inside (joined_to c cs)
+joined_on-joined_to : (inside : List ℕ) (c : ℕ) (cs : List ℕ) → joined_on (inside ++ c ∷ []) cs
+    ≡ joined_on inside (joined_to c cs)
 joined_on-joined_to inside c cs = grind (arith, append_assoc)
 
 -- what holds of the front of a long word
@@ -97,7 +122,8 @@ record BeginsLong (before inside : List ℕ) : Type 0 where
   pieces : list_all is_piece inside ≡ true
   first : begins is_word_character (after_joiners before) ≡ false
 
-begins_long-push : (before inside : List ℕ) (c : ℕ) → BeginsLong before inside → is_piece c ≡ true → BeginsLong before (inside ++ c ∷ [])
+begins_long-push : (before inside : List ℕ) (c : ℕ) → BeginsLong before inside → is_piece c ≡ true
+    → BeginsLong before (inside ++ c ∷ [])
 begins_long-push before inside c h piece = grind (arith, all-push)
 
 -- a joiner is in it
@@ -111,37 +137,45 @@ is_joined-push inside c h = grind (arith, any-push, all-push)
 is_joined-joiner : (inside : List ℕ) (c : ℕ) → is_joiner c ≡ true → IsJoined (inside ++ c ∷ [])
 is_joined-joiner inside c e = grind (arith, any-push, or-true, all-push, joiner_is_no_word_character, and-false)
 
-none_past_other : (before inside : List ℕ) (c : ℕ) (cs : List ℕ) → is_word_character c ≡ false → is_joiner c ≡ false → words_on before inside (c ∷ cs) ≡ []
+none_past_other : (before inside : List ℕ) (c : ℕ) (cs : List ℕ) → is_word_character c ≡ false → is_joiner c ≡ false
+    → words_on before inside (c ∷ cs) ≡ []
 none_past_other before inside c cs e f = grind (arith, none_of_others, none_with_other, all-push, and-false)
 
-words_on-joined : (before inside cs : List ℕ) → BeginsLong before inside → IsJoined inside → words_on before inside cs ≡ joined_on inside (joined_front cs)
+words_on-joined : (before inside cs : List ℕ) → BeginsLong before inside → IsJoined inside → words_on before inside cs
+    ≡ joined_on inside (joined_front cs)
 words_on-joined before inside [] h j = refl
 words_on-joined before inside (c ∷ cs) h j =
-    go (is_word_character c) (is_joiner c) (begins is_word_character (after_joiners cs)) refl refl refl (words_on-joined before longer cs)
+    go (is_word_character c) (is_joiner c) (begins is_word_character (after_joiners cs)) refl refl refl
+    (words_on-joined before longer cs)
   where
     longer : List ℕ
     longer = inside ++ c ∷ []
 
-    go : (w d more : Bool) → is_word_character c ≡ w → is_joiner c ≡ d → begins is_word_character (after_joiners cs) ≡ more
+    go : (w d more : Bool) → is_word_character c ≡ w → is_joiner c ≡ d → begins is_word_character (after_joiners cs)
+        ≡ more
         → (BeginsLong before longer → IsJoined longer → words_on before longer cs ≡ joined_on longer (joined_front cs))
         → words_on before inside (c ∷ cs) ≡ joined_on inside (joined_front (c ∷ cs))
     go true d true e f m rest =
         let h' = begins_long-push before inside c h (λ k. e k || is_joiner c) in
         let j' = is_joined-push inside c j in
         ap₂ ◌++◌ (none_before_end before longer cs j'.all m) (rest h' j')
-        ∙ joined_on-push inside c (joined_front cs) (is_some-joined_front cs ∙ m) ∙ ap (joined_on inside) (sym (joined_front-word c cs e))
+        ∙ joined_on-push inside c (joined_front cs) (is_some-joined_front cs ∙ m)
+        ∙ ap (joined_on inside) (sym (joined_front-word c cs e))
     go true d false e f m rest =
         let h' = begins_long-push before inside c h (λ k. e k || is_joiner c) in
         let j' = is_joined-push inside c j in
         let none = nil_from_none (joined_front cs) (is_some-joined_front cs ∙ m) in
-        ap₂ ◌++◌ (is_long before longer cs h'.begun (ends-push is_word_character inside c ∙ e) h'.pieces j'.joins h.first m) (rest h' j' ∙ ap (joined_on longer) none)
-        ∙ append-nil (within longer) ∙ ap (λ js. within (inside ++ c ∷ js)) (sym none) ∙ ap (joined_on inside) (sym (joined_front-word c cs e))
+        ap₂ ◌++◌ (is_long before longer cs h'.begun (ends-push is_word_character inside c ∙ e) h'.pieces j'.joins
+        h.first m) (rest h' j' ∙ ap (joined_on longer) none)
+        ∙ append-nil (within longer) ∙ ap (λ js. within (inside ++ c ∷ js)) (sym none)
+        ∙ ap (joined_on inside) (sym (joined_front-word c cs e))
     go false true more e f m rest =
         let h' = begins_long-push before inside c h (λ k. e k || f k) in
         let j' = is_joined-push inside c j in
         ap₂ ◌++◌ (none_ends before longer cs j'.all (ends-push is_word_character inside c ∙ e)) (rest h' j')
         ∙ joined_on-joined_to inside c (joined_front cs) ∙ ap (joined_on inside) (sym (joined_front-joiner c cs f))
-    go false false more e f m rest = none_past_other before inside c cs e f ∙ ap (joined_on inside) (sym (joined_front-other c cs e f))
+    go false false more e f m rest = none_past_other before inside c cs e f
+        ∙ ap (joined_on inside) (sym (joined_front-other c cs e f))
 
 -- ---- the words that begin at the first character of a plain word
 
@@ -159,15 +193,34 @@ begins-front : (p : ℕ → Bool) (cs : List ℕ) → begins p cs ≡ true → b
 begins-front p cs h = grind (arith, front-pass)
 
 -- the long word, after the plain one with which it begins
-long_behind : (before plain rest : List ℕ) → begins is_word_character plain ≡ true → list_all is_word_character plain ≡ true → begins is_word_character rest ≡ false
-    → begins is_word_character (after_joiners before) ≡ false → words_on before plain rest ≡ joined_on plain (joined_front rest)
-long_behind before plain rest h h2 h3 h4 = grind (arith, words_on, is_joined-joiner, begins_long-push, all_pieces, none_ends, ends-push, words_on-joined, joined_on-joined_to, joined_front-joiner, none_past_other, joined_front-other)
+long_behind : (before plain rest : List ℕ) → begins is_word_character plain ≡ true → list_all is_word_character plain
+    ≡ true → begins is_word_character rest ≡ false
+    → begins is_word_character (after_joiners before) ≡ false → words_on before plain rest
+    ≡ joined_on plain (joined_front rest)
+long_behind before plain rest h h2 h3 h4 =
+    grind (
+      arith,
+      words_on,
+      is_joined-joiner,
+      begins_long-push,
+      all_pieces,
+      none_ends,
+      ends-push,
+      words_on-joined,
+      joined_on-joined_to,
+      joined_front-joiner,
+      none_past_other,
+      joined_front-other,
+    )
 
 -- no long word, because its run began earlier
-no_long_behind : (before plain rest : List ℕ) → begins is_word_character rest ≡ false → begins is_word_character (after_joiners before) ≡ true → words_on before plain rest ≡ []
+no_long_behind : (before plain rest : List ℕ) → begins is_word_character rest ≡ false
+    → begins is_word_character (after_joiners before) ≡ true → words_on before plain rest ≡ []
 no_long_behind before plain rest h h2 = grind (arith, none_in_run, none_again, all-push, and-false)
 
 -- the plain word and the long one that begin at a word character
-pub words_on-word : (in_run : Bool) (before cs : List ℕ) → begins is_word_character before ≡ false → begins is_word_character (after_joiners before) ≡ in_run → begins is_word_character cs ≡ true
+pub words_on-word : (in_run : Bool) (before cs : List ℕ) → begins is_word_character before ≡ false
+    → begins is_word_character (after_joiners before) ≡ in_run → begins is_word_character cs ≡ true
     → words_on before [] cs ≡ within (front is_word_character cs) ++ long_at in_run cs
-words_on-word in_run before cs first run e = grind (arith, words_on-plain, words_on, no_long_behind, begins-behind, long_behind, begins-front, all-front)
+words_on-word in_run before cs first run e =
+    grind (arith, words_on-plain, words_on, no_long_behind, begins-behind, long_behind, begins-front, all-front)

@@ -1,5 +1,6 @@
 -- The words of a text: maximal runs of word characters, and longer runs in which joiners come between them.
-use Rattle.std.specs.Prelude.{ℕ, ◌≤◌, Bool, true, false, not, ◌&&◌, ◌||◌, ◌==◌, nat_le, List, [], ◌∷◌, ◌++◌, length, map, reverse, filter, slice_range, chars, encode_utf8_all, codes}
+use Rattle.std.specs.Prelude.{ℕ, ◌≤◌, Bool, true, false, not, ◌&&◌, ◌||◌, ◌==◌, nat_le, List, [], ◌∷◌, ◌++◌, length}
+use Rattle.std.specs.Prelude.{map, reverse, filter, slice_range, chars, encode_utf8_all, codes}
 use Rattle.std.specs.List.{list_any, list_all}
 use Rattle.contract_words.specs.Ranges.{ranges_from, passes_at}
 use Rattle.unicode.specs.Binary.{is_alphabetic}
@@ -9,7 +10,8 @@ use Rattle.unicode.specs.declared.properties.GeneralCategory.TheVariants.{Nonspa
 -- whether a character is a word character: Alphabetic, or of category Mn, Mc or Nd (Unicode 4.5 and 4.10)
 unfoldable pub is_word_character : ℕ → Bool
 is_word_character c =
-    is_alphabetic c || list_any (general_category_eq (general_category c)) (NonspacingMark ∷ SpacingMark ∷ DecimalNumber ∷ [])
+    is_alphabetic c || list_any (general_category_eq (general_category c))
+    (NonspacingMark ∷ SpacingMark ∷ DecimalNumber ∷ [])
 
 -- whether a character joins plain words to a long one: `-`, `_`, `.`, `+` or `@`
 unfoldable pub is_joiner : ℕ → Bool
@@ -55,7 +57,8 @@ module _ (in_word : ℕ → Bool) where
   -- whether a range is a plain or a long word of at most 128 bytes
   unfoldable pub is_word : List ℕ → List ℕ → List ℕ → Bool
   is_word before inside behind =
-      (is_plain_word before inside behind || is_long_word before inside behind) && nat_le (length (encode_utf8_all inside)) word_limit
+      (is_plain_word before inside behind || is_long_word before inside behind) && nat_le
+      (length (encode_utf8_all inside)) word_limit
 
   -- whether a range of these characters, given by its start and its end, is such a word
   abbrev pub is_word_range : List ℕ → ℕ × ℕ → Bool
@@ -85,7 +88,8 @@ is_one_word text = is_word is_word_character [] (chars text) []
 -- whether a text can be part of a word: 1 to 128 bytes of word characters and joiners
 unfoldable pub is_part_of_word : List ℕ → Bool
 is_part_of_word text =
-    nat_le 1 (length text) && nat_le (length text) word_limit && list_all (λ c. is_word_character c || is_joiner c) (chars text)
+    nat_le 1 (length text) && nat_le (length text) word_limit && list_all (λ c. is_word_character c || is_joiner c)
+    (chars text)
 
 -- ---- facts
 

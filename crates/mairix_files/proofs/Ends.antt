@@ -1,5 +1,6 @@
 -- What a noted read says of the bytes that are left, if these are known.
-use Rattle.std.proofs.Common.{◌≡◌, ◌<◌, ◌≤◌, ℕ, List, [], Option, None, Some, Result, Ok, Err, IfOk, OnOk, length, take, refl, subst, arith, ◌∙◌}
+use Rattle.std.proofs.Common.{◌≡◌, ◌<◌, ◌≤◌, ℕ, List, [], Option, None, Some, Result, Ok, Err, IfOk, OnOk, length, take}
+use Rattle.std.proofs.Common.{refl, subst, arith, ◌∙◌}
 use Rattle.std.specs.Option.{ForSome}
 use Rattle.std.specs.Io.KnownBytes.{Consumes, IsAtEnd, ReadConsumes}
 use Rattle.call_record.specs.declared.record.Record.{Record}

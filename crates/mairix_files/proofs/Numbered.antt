@@ -3,7 +3,7 @@ use Rattle.std.proofs.Common.{◌≡◌, ◌∙◌, ℕ, ◌+◌, List, [], ◌�
 use Rattle.std.specs.List.{range_with_len}
 use Rattle.std.proofs.lemmas.List.{get_or-map, length-map, map_push}
 use Rattle.std.proofs.lemmas.List.FromFn.{fill_by_all, map-range_with_len_more}
-use Rattle.call_record.specs.Calls.{archive_at}
+use Rattle.contract_words.specs.Archives.{archive_at}
 
 -- one more item, with the next number
 pub next : {S X : Type 0} (f : S → X) (g : ℕ → X) (items : List S) (s : S) (n : ℕ)

@@ -1,14 +1,17 @@
 -- What a noted call says of the archives' bytes, and what a piece of them gives.
-use Rattle.std.proofs.Common.{◌≡◌, ◌≤◌, ◌<◌, ℕ, ◌+◌, ◌-◌, min, Bool, true, false, List, [], ◌∷◌, Option, None, Some, IfSome, Result, Ok, Err, IfOk, length, take, drop, slice_range, refl, sym, ap, ◌∙◌, subst, arith, length-drop, length-take-le, if◌then◌else◌}
+use Rattle.std.proofs.Common.{◌≡◌, ◌≤◌, ◌<◌, ℕ, ◌+◌, ◌-◌, min, Bool, true, false, List, [], ◌∷◌, Option, None, Some}
+use Rattle.std.proofs.Common.{IfSome, Result, Ok, Err, IfOk, length, take, drop, slice_range, refl, sym, ap, ◌∙◌, subst}
+use Rattle.std.proofs.Common.{arith, length-drop, length-take-le, if◌then◌else◌}
 use Rattle.std.specs.Option.{ForSome}
 use Rattle.std.proofs.lemmas.Bool.Decides.{nat_tests}
 use Rattle.std.proofs.lemmas.Slice.Eq.{bytes_eq-Decides}
 use Rattle.std.proofs.lemmas.List.{take-take, drop-drop, drop-take}
 use Rattle.std.proofs.lemmas.Grind.{common_steps}
+use Rattle.contract_words.specs.Archives.{IsLength, IsRead, archive_at}
 use Rattle.call_record.specs.declared.record.Record.{Record}
-use Rattle.call_record.specs.Calls.{Call, read_at, measured, is_front, archive_at, agrees_with, held_after}
+use Rattle.call_record.specs.Calls.{Call, read_at, measured, is_front, agrees_with, held_after}
 use Rattle.call_record.specs.Noted.{Notes, held_by, read_at_told, length_told}
-use Rattle.mairix_files.specs.Ahead.{IsLength, IsRead, IsPiece}
+use Rattle.mairix_files.specs.Ahead.{IsPiece}
 
 -- ---- what a call says of archives that agree with it
 

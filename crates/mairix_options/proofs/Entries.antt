@@ -1,7 +1,11 @@
 -- What a line sets, by what a reader finds in it.
-use Rattle.mairix_options.proofs.Words.{◌≡◌, ℕ, ◌+◌, ◌≤◌, ◌==◌, Option, List, [], length, Err, refl, sym, ap, ◌∙◌, arith, before_first, after_first, position_or_len, IsUtf8, or_right, false_from_ne_true, drop_all, is_utf8-from_IsUtf8, IsUtf8-from_is_utf8, trimmed, entry, assigned, BadLine}
+use Rattle.mairix_options.proofs.Words.{◌≡◌, ℕ, ◌+◌, ◌≤◌, ◌==◌, Option, List, [], length, Err, refl, sym, ap, ◌∙◌}
+use Rattle.mairix_options.proofs.Words.{arith, before_first, after_first, position_or_len, IsUtf8, or_right}
+use Rattle.mairix_options.proofs.Words.{false_from_ne_true, drop_all, is_utf8-from_IsUtf8, IsUtf8-from_is_utf8, trimmed}
+use Rattle.mairix_options.proofs.Words.{entry, assigned, BadLine}
 
-pub entry-not_utf8 : (base : Option (List ℕ)) (n : ℕ) (text : List ℕ) → ¬ (IsUtf8 text) → entry base n text ≡ Err (BadLine n)
+pub entry-not_utf8 : (base : Option (List ℕ)) (n : ℕ) (text : List ℕ) → ¬ (IsUtf8 text) → entry base n text
+    ≡ Err (BadLine n)
 entry-not_utf8 base n text broken = grind (arith, false_from_ne_true, IsUtf8-from_is_utf8)
 
 pub entry-assigned : (base : Option (List ℕ)) (n : ℕ) (text option value : List ℕ) → IsUtf8 text
@@ -17,9 +21,11 @@ unfolding trimmed
 trimmed-nil = refl
 
 -- a line without `=`
-pub entry-no_value : (base : Option (List ℕ)) (n : ℕ) (text : List ℕ) → IsUtf8 text → position_or_len (λ b. b == 61) text ≡ length text → entry base n text ≡ Err (BadLine n)
+pub entry-no_value : (base : Option (List ℕ)) (n : ℕ) (text : List ℕ) → IsUtf8 text
+    → position_or_len (λ b. b == 61) text ≡ length text → entry base n text ≡ Err (BadLine n)
 entry-no_value base n text whole none =
     let past : length text ≤ position_or_len (λ b. b == 61) text + 1 = omega arith in
     let behind : after_first (λ b. b == 61) text ≡ [] = drop_all (position_or_len (λ b. b == 61) text + 1) text past in
-    entry-assigned base n text (trimmed (before_first (λ b. b == 61) text)) [] whole refl (sym (ap trimmed behind ∙ trimmed-nil))
+    entry-assigned base n text (trimmed (before_first (λ b. b == 61) text)) [] whole refl
+    (sym (ap trimmed behind ∙ trimmed-nil))
     ∙ assigned-nothing base n (trimmed (before_first (λ b. b == 61) text))

@@ -1,3 +1,4 @@
+-- The proofs of mairix_options: words, lemmas and rows. Proofs of single functions are in folders named after these.
 pub mod Words
 pub mod Entries
 pub mod OneKind

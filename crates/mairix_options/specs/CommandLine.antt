@@ -1,8 +1,10 @@
 -- What the words after the program's name ask for, by what clap promises of a simple command.
-use Rattle.std.specs.Prelude.{ℕ, Bool, true, false, ◌&&◌, if◌then◌else◌, List, [], ◌∷◌, Option, Some, None, unwrap_or, codes, fold, Result, Ok, Err}
+use Rattle.std.specs.Prelude.{ℕ, Bool, true, false, ◌&&◌, if◌then◌else◌, List, [], ◌∷◌, Option, Some, None, unwrap_or}
+use Rattle.std.specs.Prelude.{codes, fold, Result, Ok, Err}
 use Rattle.std.specs.Option.{option_map_or}
 use Rattle.std.specs.Str.{byte, bytes_eq}
-use Rattle.clap.specs.Words.{App, Rule, Row, Text, Kinds, new_app, new_rule, with_rule, fault_of, matches_of, first_of, all_of, rows_of, found_of, kind_of}
+use Rattle.clap.specs.Words.{App, Rule, Row, Text, Kinds, new_app, new_rule, with_rule, fault_of, matches_of, first_of}
+use Rattle.clap.specs.Words.{all_of, rows_of, found_of, kind_of}
 use Rattle.clap.specs.Simple.{on_top}
 use Rattle.clap.specs.declared.builder.action.ArgAction.TheVariants.{Set, Append, SetTrue}
 use Rattle.clap.specs.declared.error.Error.{Error}
@@ -32,7 +34,8 @@ long_flag id = record (bare_flag id) { long = Some id }
 
 -- the option `-f RCFILE`, which is required and can be given once
 abbrev pub rcfile_option : Rule
-rcfile_option = record (new_rule (codes "rcfile")) { short = Some (byte "f"); value_names = 1; action = Some Set; required = true }
+rcfile_option = record (new_rule (codes "rcfile"))
+    { short = Some (byte "f"); value_names = 1; action = Some Set; required = true }
 
 -- the option `-o NAME`, which can be given once
 abbrev pub mfolder_option : Rule

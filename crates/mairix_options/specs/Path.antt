@@ -1,5 +1,6 @@
 -- Which texts can name files, and how a name is put under a base.
-use Rattle.std.specs.Prelude.{ℕ, ◌==◌, nat_eq, nat_lt, nat_le, Bool, false, not, ◌&&◌, ◌||◌, if◌then◌else◌, List, [], ◌∷◌, ◌++◌, Option, Some, None, length, codes}
+use Rattle.std.specs.Prelude.{ℕ, ◌==◌, nat_eq, nat_lt, nat_le, Bool, false, not, ◌&&◌, ◌||◌, if◌then◌else◌, List, []}
+use Rattle.std.specs.Prelude.{◌∷◌, ◌++◌, Option, Some, None, length, codes}
 use Rattle.std.specs.List.{list_any, starts_with}
 
 -- whether a text can name a file: it has 1 to 4,096 bytes, none of them LF or NUL

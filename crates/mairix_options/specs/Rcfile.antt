@@ -1,6 +1,8 @@
 -- What an rcfile says, by mairixrc(5): the archives, the index file, the file for answers, and the form of answers.
-use Rattle.std.specs.Prelude.{ℕ, ◌+◌, ◌==◌, nat_eq, nat_lt, min, Bool, true, not, ◌&&◌, ◌||◌, if◌then◌else◌, List, [], ◌∷◌, ◌++◌, length, map, filter, codes, Option, Some, None, unwrap_or, Result, Ok, Err}
-use Rattle.std.specs.List.{list_any, list_all, before_first, after_first, slice_get, slice_split, flat_map, filter_map, last_or}
+use Rattle.std.specs.Prelude.{ℕ, ◌+◌, ◌==◌, nat_eq, nat_lt, min, Bool, true, not, ◌&&◌, ◌||◌, if◌then◌else◌, List, []}
+use Rattle.std.specs.Prelude.{◌∷◌, ◌++◌, length, map, filter, codes, Option, Some, None, unwrap_or, Result, Ok, Err}
+use Rattle.std.specs.List.{list_any, list_all, before_first, after_first, slice_get, slice_split, flat_map, filter_map}
+use Rattle.std.specs.List.{last_or}
 use Rattle.std.specs.Option.{option_and_then}
 use Rattle.std.specs.Str.{bytes_eq, is_utf8}
 use Rattle.bstr.specs.Text.{lines_of, without_terminator}
@@ -15,7 +17,8 @@ use Rattle.mairix_options.specs.declared.rcfile.Name.{Name}
 use Rattle.mairix_options.specs.declared.rcfile.Name.TheVariants as name
 use Rattle.mairix_options.specs.declared.rcfile.Rc.{Rc}
 use Rattle.mairix_options.specs.declared.rcfile.RcFault.{RcFault}
-use Rattle.mairix_options.specs.declared.rcfile.RcFault.TheVariants.{BadLine, NotSupported, Wildcard, Expansion, Missing, BadFormat}
+use Rattle.mairix_options.specs.declared.rcfile.RcFault.TheVariants.{BadLine, NotSupported, Wildcard, Expansion}
+use Rattle.mairix_options.specs.declared.rcfile.RcFault.TheVariants.{Missing, BadFormat}
 use Rattle.mairix_options.specs.declared.setting.ArchivesLine.{ArchivesLine}
 use Rattle.mairix_options.specs.declared.setting.MfolderLine.{MfolderLine}
 use Rattle.mairix_options.specs.declared.setting.Setting.{Setting}
@@ -76,7 +79,8 @@ setting_of n keyword.Base value = Ok (Base value)
 setting_of n keyword.Mbox value = Ok (Archives (record { number = n; names = archives_of value }))
 setting_of n keyword.Database value = Ok (Database value)
 setting_of n keyword.Mfolder value = Ok (Mfolder (record { number = n; name = value }))
-setting_of n keyword.Mformat value = elim (format_of value) [ Some format ↦ Ok (Format format) | None ↦ Err (BadFormat n) ]
+setting_of n keyword.Mformat value = elim (format_of value)
+    [ Some format ↦ Ok (Format format) | None ↦ Err (BadFormat n) ]
 
 -- what line n sets, if its option is known and its names are paths; or the first of its faults
 abbrev pub supported : ℕ → Keyword → List ℕ → Result Setting RcFault
@@ -89,7 +93,8 @@ supported n k value =
 abbrev pub assigned : Option (List ℕ) → ℕ → List ℕ → List ℕ → Result Setting RcFault
 assigned base n option value =
     let k = keyword_of option in
-    if nat_eq (length option) 0 || (nat_eq (length value) 0 || not (list_all is_path (names_in k value) && list_all is_path (paths_in base k value))) then Err (BadLine n)
+    if nat_eq (length option) 0 || (nat_eq (length value) 0 || not
+    (list_all is_path (names_in k value) && list_all is_path (paths_in base k value))) then Err (BadLine n)
     else elim k [ None ↦ Err (NotSupported n) | Some k ↦ supported n k value ]
 
 -- what line n sets, given its text without blanks at its ends: it must be UTF-8, and without `=` its value is empty
@@ -194,22 +199,32 @@ abbrev pub all_paths : Option (List ℕ) → List ArchivesLine → List (List �
 all_paths base archives = flat_map (λ line. map (archive_path base) line.names) archives
 
 -- what the options say together, if each name is a path, or the first option that is missing
-abbrev pub rc_fitting : Option (List ℕ) → List ArchivesLine → Option (List ℕ) → Option MfolderLine → Option MailFormat → Result Rc RcFault
+abbrev pub rc_fitting : Option (List ℕ) → List ArchivesLine → Option (List ℕ) → Option MfolderLine → Option MailFormat
+    → Result Rc RcFault
 rc_fitting base archives database mfolder format =
     required name.Mbox (if_any (all_paths base archives)) >>= (λ paths.
     required name.Database database >>= (λ database.
     required name.Mfolder mfolder >>= (λ line.
-    Ok (record { base = base; paths = paths; database = database; mfolder = mfolder_path base line.name; format = unwrap_or format mail.Mbox }))))
+    Ok (record {
+      base = base;
+      paths = paths;
+      database = database;
+      mfolder = mfolder_path base line.name;
+      format =
+          unwrap_or format mail.Mbox;
+    }))))
 
 -- what the options say together, or the first fault: names that aren't paths come before missing options
-abbrev pub rc_with : Option (List ℕ) → List ArchivesLine → Option (List ℕ) → Option MfolderLine → Option MailFormat → Result Rc RcFault
+abbrev pub rc_with : Option (List ℕ) → List ArchivesLine → Option (List ℕ) → Option MfolderLine → Option MailFormat
+    → Result Rc RcFault
 rc_with base archives database mfolder format =
     all_fit (first_misfit base archives mfolder) >>= (λ _. rc_fitting base archives database mfolder format)
 
 -- what some settings say together: all lines of `mbox`, and the last of each other option
 abbrev pub rc_from : List Setting → Result Rc RcFault
 rc_from settings =
-    rc_with (last_of base_in settings) (filter_map archives_in settings) (last_of database_in settings) (last_of mfolder_in settings) (last_of format_in settings)
+    rc_with (last_of base_in settings) (filter_map archives_in settings) (last_of database_in settings)
+    (last_of mfolder_in settings) (last_of format_in settings)
 
 -- What the rcfile says, or its first fault. Faulty lines come first, then lines that are faulty only under the base
 -- that counts, and then options that are missing.

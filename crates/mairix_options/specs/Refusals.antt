@@ -8,7 +8,8 @@ use Rattle.mairix_options.specs.declared.or_memory.OrMemory.TheVariants.{Refused
 use Rattle.mairix_options.specs.declared.rcfile.Name.{Name}
 use Rattle.mairix_options.specs.declared.rcfile.Name.TheVariants as name
 use Rattle.mairix_options.specs.declared.rcfile.RcFault.{RcFault}
-use Rattle.mairix_options.specs.declared.rcfile.RcFault.TheVariants.{BadLine, NotSupported, Wildcard, Expansion, Missing, BadFormat}
+use Rattle.mairix_options.specs.declared.rcfile.RcFault.TheVariants.{BadLine, NotSupported, Wildcard, Expansion}
+use Rattle.mairix_options.specs.declared.rcfile.RcFault.TheVariants.{Missing, BadFormat}
 
 -- the refusal, which depends only on what is read; lack of memory is none
 abbrev pub refusal : {E : Type 0} → OrMemory E → Option E

@@ -1,5 +1,6 @@
 -- A fault in the first bytes of an index is a fault of the whole index, because these bytes are its front.
-use Rattle.mairix_tool.proofs.Words.{◌≡◌, ℕ, ◌≤◌, List, ◌++◌, length, arith, length-append, length-drop, take-append-le, drop-append-le, BadMagic, BadVersion, IsFirstFault, version_told}
+use Rattle.mairix_tool.proofs.Words.{◌≡◌, ℕ, ◌≤◌, List, ◌++◌, length, arith, length-append, length-drop, take-append-le}
+use Rattle.mairix_tool.proofs.Words.{drop-append-le, BadMagic, BadVersion, IsFirstFault, version_told}
 
 longer : (front rest : List ℕ) → 80 ≤ length front → 80 ≤ length (front ++ rest)
 longer front rest long = omega (arith, long, length-append front rest)

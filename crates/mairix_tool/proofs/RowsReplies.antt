@@ -1,5 +1,9 @@
 -- Rows: whole runs that were worked out by hand, checked by computation.
-use Rattle.mairix_tool.proofs.Words.{◌≡◌, ◌<◌, ℕ, zero, suc, Bool, true, false, nat_le, All, List, [], ◌∷◌, ◌++◌, map, length, None, Ok, Err, refl, sym, subst, arith, inl, inr, All-cons, All-nil, AreSound, table, mboxes, AreThreadsOf, AreChosen, IsLedToBySome, Fault, Wanted, mail_in, shape, answered, refused, IsReply, Query as Asked, Word, Size, Not, End, More, Format, Raw, Excerpt, is_among}
+use Rattle.mairix_tool.proofs.Words.{◌≡◌, ◌<◌, ℕ, zero, suc, Bool, true, false, nat_le, All, List, [], ◌∷◌, ◌++◌, map}
+use Rattle.mairix_tool.proofs.Words.{length, None, Ok, Err, refl, sym, subst, arith, inl, inr, All-cons, All-nil}
+use Rattle.mairix_tool.proofs.Words.{AreSound, table, mboxes, AreThreadsOf, AreChosen, IsLedToBySome, Fault, Wanted}
+use Rattle.mairix_tool.proofs.Words.{mail_in, shape, answered, refused, IsReply, Query as Asked, Word, Size, Not, End}
+use Rattle.mairix_tool.proofs.Words.{More, Format, Raw, Excerpt, is_among}
 use Rattle.std.specs.Char.{encode_utf8}
 use Rattle.std.specs.Fmt.{digits}
 use Rattle.std.specs.Prelude.{codes}
@@ -51,12 +55,16 @@ use Rattle.mairix_tool.specs.WorkedReplies.{IsWorked, Row, asked_by}
 
 -- what a proof unfolds to compute what words and rcfile mean
 unfoldable asking : Unit {0}
-unfolding parse plan clap_on_literals computing trimmed size_of sizes_of tokens is_one_word is_part_of_word is_word is_joiner is_word_character ucd_derived ucd_category chars encode_utf8 caseless
+unfolding parse plan clap_on_literals computing trimmed size_of sizes_of tokens is_one_word is_part_of_word is_word
+    is_joiner is_word_character ucd_derived ucd_category chars encode_utf8 caseless
 asking = tt
 
 -- what a proof unfolds to compute what archives say
 unfoldable saying : Unit {0}
-unfolding messages refusal_of lines first_length is_empty is_separator without_break has_form fields_of before_blanks unfolded ids_of charset_of text_of decoded word_and_later word_at q_bytes unescaped facts_of leaf_texts piece_of parameter is_delimiter texts_of_message shape_of_value charset_of_value transfer_named words is_word is_joiner is_word_character ucd_derived ucd_category chars encode_utf8 caseless computing closed excerpt digits
+unfolding messages refusal_of lines first_length is_empty is_separator without_break has_form fields_of before_blanks
+    unfolded ids_of charset_of text_of decoded word_and_later word_at q_bytes unescaped facts_of leaf_texts piece_of
+    parameter is_delimiter texts_of_message shape_of_value charset_of_value transfer_named words is_word is_joiner
+    is_word_character ucd_derived ucd_category chars encode_utf8 caseless computing closed excerpt digits
 saying = tt
 
 -- ---- how each row is proved
@@ -73,7 +81,8 @@ abbrev NotRefused : Archived → Type 0
 NotRefused a = refusal_of most_in_archive a.bytes ≡ None
 
 each-sound : (archives : List Archived)
-    → map (λ (a : Archived). refusal_of most_in_archive a.bytes) archives ≡ map (λ _. None) archives → All NotRefused archives
+    → map (λ (a : Archived). refusal_of most_in_archive a.bytes) archives ≡ map (λ _. None) archives
+    → All NotRefused archives
 each-sound [] h = All-nil NotRefused
 each-sound (a ∷ archives) h = All-cons NotRefused a archives (cc) (each-sound archives (cc))
 
@@ -197,7 +206,8 @@ mbox = of-answer row.mbox (one (subject (codes "hello")) Mbox) (0 ∷ []) asked.
 
 pub excerpt_row : IsWorked row.excerpt
 unfolding saying
-excerpt_row = of-answer row.excerpt (one (to (codes "alice")) Excerpt) (0 ∷ []) asked.3 (refl, refl, refl, refl) refl refl
+excerpt_row = of-answer row.excerpt (one (to (codes "alice")) Excerpt) (0 ∷ []) asked.3 (refl, refl, refl, refl) refl
+    refl
 
 pub negated : IsWorked row.negated
 unfolding saying
@@ -234,6 +244,12 @@ no_mbox =
     of-archives row.no_mbox (one (subject (codes "hello")) Raw) asked.11
     (inr (
       Archive 0 NotAnMbox,
-      ([], _, record { behind = []; whole = refl }, refl, record { sound = none-sound; few = omega arith; refused = refl }),
+      (
+        [],
+        _,
+        record { behind = []; whole = refl },
+        refl,
+        record { sound = none-sound; few = omega arith; refused = refl },
+      ),
       refl,
     ))

@@ -13,4 +13,5 @@ AreToldApart all = (x y : List ℕ) → Contains all x → Contains all y → sh
 -- The first of the indexed archives that has another path now; if their numbers differ, the smaller number; otherwise
 -- the first with other bytes, by number, length, then digest.
 abbrev pub altered_archive : List Mbox → List (List ℕ) → List (List ℕ) → Option ℕ
-altered_archive before paths bytes = option_or (renamed_archive (table before).archives paths) (unverified_archive (table before).archives bytes)
+altered_archive before paths bytes = option_or (renamed_archive (table before).archives paths)
+    (unverified_archive (table before).archives bytes)

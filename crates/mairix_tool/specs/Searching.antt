@@ -1,6 +1,7 @@
 -- What a run does to archives and output, whether the archives' bytes are known or not: in which order it reads them,
 -- and what is sent.
-use Rattle.std.specs.Prelude.{◌≡◌, ◌≢◌, ◌⊎◌, ℕ, Bool, List, length, Option, None, IfSome, Result, Ok, Err, is_err, false}
+use Rattle.std.specs.Prelude.{◌≡◌, ◌≢◌, ◌⊎◌, ℕ, Bool, List, length, Option, None, IfSome, Result, Ok, Err, is_err}
+use Rattle.std.specs.Prelude.{false}
 use Rattle.std.specs.Bool.{MatchBool, OnTrue}
 use Rattle.contract_words.specs.Answers.{fault_as}
 use Rattle.contract_words.specs.Knowledge.{AreStillKnown}
@@ -30,7 +31,8 @@ run_of_answer found = fault_as (λ fault. fault_of_answer_kind fault.kind) found
 
 -- A table is searched, and the reply is that of an answer from it, `found`: the number of its messages; or its fault,
 -- with the number of bytes that were sent before.
-pub record Searches {A O : Type 0} (g : Ghosts A) (h : OutGhosts O) (t : Table) (s : Search) (old new : A) (before after : O) (reply : Reply) : Type 0 where
+pub record Searches {A O : Type 0} (g : Ghosts A) (h : OutGhosts O) (t : Table) (s : Search) (old new : A)
+    (before after : O) (reply : Reply) : Type 0 where
   pub found : Result ℕ AnswerFault
   pub replied : reply ≡ reply_of (run_of_answer found)
   pub keeps : HoldsArchives g old new
@@ -42,16 +44,19 @@ pub record Searches {A O : Type 0} (g : Ghosts A) (h : OutGhosts O) (t : Table) 
   -- the number of the messages that the table chooses, and their text; with a fault, a front of that text
   pub answered : (a : TableAnswer) → IsTableAnswer t s (g.held new) a → Answers (h.taken before) (h.taken after) a found
   -- an mbox answer has, for each message, as many bytes as were indexed, closed; with a fault, a front of that
-  pub spans : s.format ≡ Mbox → (numbers : List ℕ) → AreChosen (mail_told t) s numbers → SendsSpans (h.taken before) (h.taken after) t numbers found
+  pub spans : s.format ≡ Mbox → (numbers : List ℕ) → AreChosen (mail_told t) s numbers
+      → SendsSpans (h.taken before) (h.taken after) t numbers found
   -- archives whose known bytes have another number or length are stale, before anything is written
-  pub stale : IfSome (g.held new) (λ bytes. AnswersStale (h.taken before) (h.taken after) (stale_archive t.archives bytes) found)
+  pub stale : IfSome (g.held new) (λ bytes. AnswersStale (h.taken before) (h.taken after)
+      (stale_archive t.archives bytes) found)
   -- if an archive is faulty or memory ran out, and no byte was sent, the output is as it was
   pub unwritten : OnTrue (is_unwritten found) (after ≡ before)
 
 -- ---- by a stored index
 
 -- Archives are verified against those that were indexed.
-pub record Verifies {A : Type 0} (g : Ghosts A) (named : List Archive) (old new : A) (found : Result (Unit {0}) AnswerFault) : Type 0 where
+pub record Verifies {A : Type 0} (g : Ghosts A) (named : List Archive) (old new : A)
+    (found : Result (Unit {0}) AnswerFault) : Type 0 where
   pub keeps : HoldsArchives g old new
   -- if the number of archives isn't the one that was indexed, none is read, and the smaller number is stale
   pub other_count : g.number old ≢ length named → RefusesCount g named old new found
@@ -69,23 +74,28 @@ VerifiesWhere g verify named old new result =
     ((new ≡ old) × (is_err result ≡ false))
 
 -- Verified archives are searched. With a fault, nothing more is read and nothing is sent.
-abbrev pub SearchesVerified : {A O : Type 0} → Ghosts A → OutGhosts O → Table → Search → Result (Unit {0}) AnswerFault → A → A → O → O → Reply → Type 0
+abbrev pub SearchesVerified : {A O : Type 0} → Ghosts A → OutGhosts O → Table → Search → Result (Unit {0}) AnswerFault
+    → A → A → O → O → Reply → Type 0
 SearchesVerified g h t s (Ok verified) old new before after reply = Searches g h t s old new before after reply
 SearchesVerified g h t s (Err fault) old new before after reply =
     (reply ≡ reply_of (run_of_answer (Err fault))) × (new ≡ old) × (after ≡ before)
 
 -- The archives are verified, and then searched.
-abbrev pub VerifiesAndSearches : {A O : Type 0} → Ghosts A → OutGhosts O → Table → Search → A → A → O → O → Reply → Type 0
+abbrev pub VerifiesAndSearches : {A O : Type 0} → Ghosts A → OutGhosts O → Table → Search → A → A → O → O → Reply
+    → Type 0
 VerifiesAndSearches {A} g h t s old new before after reply =
-    (read : A) × (found : Result (Unit {0}) AnswerFault) × Verifies g t.archives old read found × SearchesVerified g h t s found read new before after reply
+    (read : A) × (found : Result (Unit {0}) AnswerFault) × Verifies g t.archives old read found
+    × SearchesVerified g h t s found read new before after reply
 
 -- A table is searched for what is wanted. If it is wanted, the archives are verified before.
 abbrev pub SearchesFor : {A O : Type 0} → Ghosts A → OutGhosts O → Wanted → Table → A → A → O → O → Reply → Type 0
 SearchesFor g h w t old new before after reply =
-    MatchBool w.verify (VerifiesAndSearches g h t w.search old new before after reply) (Searches g h t w.search old new before after reply)
+    MatchBool w.verify (VerifiesAndSearches g h t w.search old new before after reply)
+    (Searches g h t w.search old new before after reply)
 
 -- For a fault with this cause, no archive is read, and nothing is sent.
-pub record AsksNothing {A O : Type 0} (IsCause : Fault → Type 0) (old new : A) (before after : O) (reply : Reply) : Type 0 where
+pub record AsksNothing {A O : Type 0} (IsCause : Fault → Type 0) (old new : A) (before after : O) (reply : Reply) : Type
+    0 where
   pub fault : Fault
   pub cause : IsCause fault
   pub replied : reply ≡ reply_of (Err fault)
@@ -107,7 +117,8 @@ pub record IsIndexed (paths : List (List ℕ)) (before after : List (Option (Lis
   pub known : (bytes : List (List ℕ)) → AreStillKnown before after bytes → t ≡ table (mboxes paths bytes)
 
 -- The archives are indexed, and their table is searched; or they aren't indexed.
-abbrev pub IndexesAndSearches : {A O : Type 0} → Ghosts A → OutGhosts O → Wanted → List (Option (List ℕ)) → List (Option (List ℕ)) → A → A → O → O → Reply → Type 0
+abbrev pub IndexesAndSearches : {A O : Type 0} → Ghosts A → OutGhosts O → Wanted → List (Option (List ℕ))
+    → List (Option (List ℕ)) → A → A → O → O → Reply → Type 0
 IndexesAndSearches g h w unread read old new before after reply =
     AsksNothing IsOfIndexing old new before after reply
     ⊎ ((t : Table) × IsIndexed w.paths unread read t × Searches g h t w.search old new before after reply)

@@ -1,5 +1,7 @@
 -- The steps of a cutter, stated for bytes that may be known or not.
-use Rattle.mbox_cutter.proofs.Words.{still_known, IsSome, ◌≡◌, ℕ, ◌+◌, ◌<◌, List, Option, Some, IfSome, take, arith, option_map, CutFault, ArchiveTooLong, Phase, Between, first_length, ArchiveEvent, coming_of, Takes, TakesKnown, Refuses, CutterPlace, FailsFirst, coming_at, resume}
+use Rattle.mbox_cutter.proofs.Words.{still_known, IsSome, ◌≡◌, ℕ, ◌+◌, ◌<◌, List, Option, Some, IfSome, take, arith}
+use Rattle.mbox_cutter.proofs.Words.{option_map, CutFault, ArchiveTooLong, Phase, Between, first_length, ArchiveEvent}
+use Rattle.mbox_cutter.proofs.Words.{coming_of, Takes, TakesKnown, Refuses, CutterPlace, FailsFirst, coming_at, resume}
 use Rattle.mbox_cutter.proofs.Steps.{resume-beginning}
 
 -- ---- facts of known values
@@ -42,5 +44,6 @@ pub known-fault : (bytes last : Option (List ℕ)) (p : CutterPlace) (was : Phas
 known-fault bytes last p was fault h h2 h3 = grind (arith, each_some)
 
 -- what comes at the beginning
-pub known-beginning : (bytes window : Option (List ℕ)) (most : ℕ) → window ≡ bytes → option_map (resume Between 0 most) window ≡ option_map (coming_of most) bytes
+pub known-beginning : (bytes window : Option (List ℕ)) (most : ℕ) → window ≡ bytes
+    → option_map (resume Between 0 most) window ≡ option_map (coming_of most) bytes
 known-beginning bytes window most h = grind (arith, resume-beginning)

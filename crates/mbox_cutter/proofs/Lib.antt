@@ -1,3 +1,4 @@
+-- The proofs of mbox_cutter: words, lemmas and rows. Proofs of single functions are in folders named after these.
 pub mod Words
 pub mod FirstLines
 pub mod KnownSteps

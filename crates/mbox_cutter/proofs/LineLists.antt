@@ -1,5 +1,6 @@
 -- The lines of bytes are the first line and the lines of the bytes after it, however many turns are allowed.
-use Rattle.mbox_cutter.proofs.Words.{◌≡◌, ℕ, zero, suc, ◌<◌, ◌≤◌, List, [], ◌∷◌, length, take, drop, refl, ap, arith, length-drop, lines, first_lines, first_length}
+use Rattle.mbox_cutter.proofs.Words.{◌≡◌, ℕ, zero, suc, ◌<◌, ◌≤◌, List, [], ◌∷◌, length, take, drop, refl, ap, arith}
+use Rattle.mbox_cutter.proofs.Words.{length-drop, lines, first_lines, first_length}
 use Rattle.mbox_cutter.proofs.FirstLines.{first_length-positive}
 
 -- after the first line there are fewer bytes
@@ -7,10 +8,17 @@ behind-fewer : (b : List ℕ) (n : ℕ) → 0 < length b → length b ≤ suc n 
 behind-fewer b n some h = grind (arith, first_length-positive, length-drop)
 
 -- what holds of no bytes, and of any bytes if it holds of those after their first line, holds of all bytes
-pub by_lines : (P : List ℕ → Type 0) → P [] → ((b : List ℕ) → 0 < length b → P (drop (first_length b) b) → P b) → (n : ℕ) (b : List ℕ) → length b ≤ n → P b
+pub by_lines : (P : List ℕ → Type 0) → P [] → ((b : List ℕ) → 0 < length b → P (drop (first_length b) b) → P b)
+    → (n : ℕ) (b : List ℕ) → length b ≤ n → P b
 by_lines P none each n [] h = none
 by_lines P none each zero (x ∷ xs) h = absurd (omega arith)
-by_lines P none each (suc n) (x ∷ xs) h = grind (arith, behind-fewer, by_lines P none each n (drop (first_length (x ∷ xs)) (x ∷ xs)) (behind-fewer (x ∷ xs) n (omega arith) h))
+by_lines P none each (suc n) (x ∷ xs) h =
+    grind (
+      arith,
+      behind-fewer,
+      by_lines P none each n (drop (first_length (x ∷ xs)) (x ∷ xs))
+          (behind-fewer (x ∷ xs) n (omega arith) h),
+    )
 
 -- more turns than bytes change nothing
 first_lines-enough : (n m : ℕ) (b : List ℕ) → length b ≤ n → length b ≤ m → first_lines n b ≡ first_lines m b
@@ -20,14 +28,21 @@ first_lines-enough zero (suc m) (x ∷ xs) p q = absurd (omega arith)
 first_lines-enough (suc n) zero [] p q = refl
 first_lines-enough (suc n) zero (x ∷ xs) p q = absurd (omega arith)
 first_lines-enough (suc n) (suc m) [] p q = refl
-first_lines-enough (suc n) (suc m) (x ∷ xs) p q = grind (arith, behind-fewer, first_lines-enough n m (drop (first_length (x ∷ xs)) (x ∷ xs)) (behind-fewer (x ∷ xs) n (omega arith) p) (behind-fewer (x ∷ xs) m (omega arith) q))
+first_lines-enough (suc n) (suc m) (x ∷ xs) p q =
+    grind (
+      arith,
+      behind-fewer,
+      first_lines-enough n m (drop (first_length (x ∷ xs)) (x ∷ xs))
+          (behind-fewer (x ∷ xs) n (omega arith) p) (behind-fewer (x ∷ xs) m (omega arith) q),
+    )
 
 pub lines-cons : (b : List ℕ) → 0 < length b → lines b ≡ take (first_length b) b ∷ lines (drop (first_length b) b)
 unfolding lines
 lines-cons [] h = absurd (omega arith)
 lines-cons (x ∷ xs) h =
     ap (λ (ls : List (List ℕ)). take (first_length (x ∷ xs)) (x ∷ xs) ∷ ls)
-    (first_lines-enough (length xs) _ (drop (first_length (x ∷ xs)) (x ∷ xs)) (behind-fewer (x ∷ xs) (length xs) h (omega arith)) (omega arith))
+    (first_lines-enough (length xs) _ (drop (first_length (x ∷ xs)) (x ∷ xs))
+    (behind-fewer (x ∷ xs) (length xs) h (omega arith)) (omega arith))
 
 pub lines-nil : lines [] ≡ []
 unfolding lines

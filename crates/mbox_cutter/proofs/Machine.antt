@@ -1,11 +1,14 @@
 -- How the events go on from one line to the next.
-use Rattle.mbox_cutter.proofs.Words.{◌≡◌, ℕ, ◌+◌, ◌-◌, ◌≤◌, Bool, true, false, ◌||◌, ◌⊎◌, inl, inr, List, [], ◌∷◌, length, refl, ap, arith, add_assoc, add-zero, zero-add, is_empty, is_separator, marked, grouped, without_closing, Start, Line, End, told_between, told_inside}
+use Rattle.mbox_cutter.proofs.Words.{◌≡◌, ℕ, ◌+◌, ◌-◌, ◌≤◌, Bool, true, false, ◌||◌, ◌⊎◌, inl, inr, List, [], ◌∷◌}
+use Rattle.mbox_cutter.proofs.Words.{length, refl, ap, arith, add_assoc, add-zero, zero-add, is_empty, is_separator}
+use Rattle.mbox_cutter.proofs.Words.{marked, grouped, without_closing, Start, Line, End, told_between, told_inside}
 use Rattle.std.specs.Str.{bytes_eq}
 use Rattle.std.proofs.lemmas.Slice.Eq.{bytes_eq-Decides}
 use Rattle.mbox_cutter.proofs.FirstLines.{not_true}
 
 -- a line that isn't empty is never the one that is left out at the end
-without_closing-full : (l : List ℕ) (ls : List (List ℕ)) → is_empty l ≡ false → without_closing (l ∷ ls) ≡ l ∷ without_closing ls
+without_closing-full : (l : List ℕ) (ls : List (List ℕ)) → is_empty l ≡ false → without_closing (l ∷ ls)
+    ≡ l ∷ without_closing ls
 without_closing-full l ls h = grind arith
 
 -- the length of what was taken since a place
@@ -15,18 +18,23 @@ sub_front a b = omega arith
 -- a line of k bytes, and the lines after it
 module _ (l : List ℕ) (ls : List (List ℕ)) (k : ℕ) (len : length l ≡ k) where
   -- an empty line between two messages
-  pub between-empty : (all at : ℕ) → is_empty l ≡ true → is_separator l ≡ false → told_between all at (l ∷ ls) ≡ told_between all (at + k) ls
+  pub between-empty : (all at : ℕ) → is_empty l ≡ true → is_separator l ≡ false → told_between all at (l ∷ ls)
+      ≡ told_between all (at + k) ls
   between-empty all at e s = grind (arith, add_assoc)
 
   -- a start
-  pub between-start : (all at : ℕ) → is_separator l ≡ true → is_empty l ≡ false → told_between all at (l ∷ ls) ≡ Start at l ∷ told_inside all (at + k) at 0 ls
+  pub between-start : (all at : ℕ) → is_separator l ≡ true → is_empty l ≡ false → told_between all at (l ∷ ls)
+      ≡ Start at l ∷ told_inside all (at + k) at 0 ls
   between-start all at s e = rw (← len) (rw (s, e) (simp (add-zero, zero-add, add_assoc, sub_front)))
 
-  pub inside-line : (all at start size : ℕ) → is_empty l ≡ false → told_inside all at start size (l ∷ ls) ≡ Line l ∷ told_inside all (at + k) start (size + k) ls
-  inside-line all at start size e = rw (← len) (rw e (rw (without_closing-full l (grouped (marked false ls)).0 e) (simp add_assoc)))
+  pub inside-line : (all at start size : ℕ) → is_empty l ≡ false → told_inside all at start size (l ∷ ls)
+      ≡ Line l ∷ told_inside all (at + k) start (size + k) ls
+  inside-line all at start size e = rw (← len)
+      (rw e (rw (without_closing-full l (grouped (marked false ls)).0 e) (simp add_assoc)))
 
   -- the archive ends with an empty line
-  pub inside-closing_last : (all at start size : ℕ) → is_empty l ≡ true → ls ≡ [] → told_inside all at start size (l ∷ ls) ≡ End ((at + k) - start) size ∷ told_between all (at + k) ls
+  pub inside-closing_last : (all at start size : ℕ) → is_empty l ≡ true → ls ≡ []
+      → told_inside all at start size (l ∷ ls) ≡ End ((at + k) - start) size ∷ told_between all (at + k) ls
   inside-closing_last all at start size e none = rw (← len, none) (rw e (simp add-zero))
 
   module _ (m : List ℕ) (behind : List (List ℕ)) (next : ls ≡ m ∷ behind) where
@@ -40,7 +48,8 @@ module _ (l : List ℕ) (ls : List (List ℕ)) (k : ℕ) (len : length l ≡ k) 
         told_inside all at start size (l ∷ ls) ≡ Line l ∷ told_inside all (at + k) start (size + k) ls
     inside-empty all at start size e s = rw (← len, next) (rw (e, s) (simp add_assoc))
 
-pub inside-nil : (all at start size : ℕ) → told_inside all at start size [] ≡ End (at - start) size ∷ told_between all at []
+pub inside-nil : (all at start size : ℕ) → told_inside all at start size []
+    ≡ End (at - start) size ∷ told_between all at []
 inside-nil all at start size = simp add-zero
 
 -- a separator isn't empty
@@ -48,14 +57,16 @@ either : (a b : Bool) → (a || b) ≡ true → (a ≡ true) ⊎ (b ≡ true)
 either a b h = grind arith
 
 no_separator : (l m : List ℕ) → bytes_eq l m ≡ true → is_separator m ≡ false → is_separator l ≡ true → ⊥
-no_separator l m h none s = let is : l ≡ m = (bytes_eq-Decides l m).0 h in let c : is_separator l ≡ is_separator m = ap is_separator is in cc
+no_separator l m h none s = let is : l ≡ m = (bytes_eq-Decides l m).0 h in let c : is_separator l ≡ is_separator m =
+    ap is_separator is in cc
 
 pub separator-full : (l : List ℕ) → is_separator l ≡ true → is_empty l ≡ false
 unfolding is_separator is_empty
-separator-full l s = not_true (is_empty l) (λ e. elim (either (bytes_eq l (10 ∷ [])) (bytes_eq l (13 ∷ 10 ∷ [])) e) as (λ (_ : _). ⊥) [
-  | inl h ↦ no_separator l (10 ∷ []) h refl s
-  | inr h ↦ no_separator l (13 ∷ 10 ∷ []) h refl s
-])
+separator-full l s = not_true (is_empty l)
+    (λ e. elim (either (bytes_eq l (10 ∷ [])) (bytes_eq l (13 ∷ 10 ∷ [])) e) as (λ (_ : _). ⊥) [
+      | inl h ↦ no_separator l (10 ∷ []) h refl s
+      | inr h ↦ no_separator l (13 ∷ 10 ∷ []) h refl s
+    ])
 
 pub empty-short : (l : List ℕ) → is_empty l ≡ true → length l ≤ 2
 unfolding is_empty

@@ -1,5 +1,7 @@
 -- Worked rows: offset, length and size of the messages of archives.
-use Rattle.mbox_cutter.proofs.Words.{◌≡◌, ℕ, List, [], ◌∷◌, ◌++◌, Option, None, Some, map, refl, codes, option_map, lines, first_length, is_empty, is_separator, without_break, has_form, messages, cut, span_length, size}
+use Rattle.mbox_cutter.proofs.Words.{◌≡◌, ℕ, List, [], ◌∷◌, ◌++◌, Option, None, Some, map, refl, codes, option_map}
+use Rattle.mbox_cutter.proofs.Words.{lines, first_length, is_empty, is_separator, without_break, has_form, messages}
+use Rattle.mbox_cutter.proofs.Words.{cut, span_length, size}
 use Rattle.mbox_cutter.proofs.RowTables.{Each}
 
 abbrev cut_with_sizes : List ℕ → Option (List (ℕ × ℕ × ℕ))
@@ -9,7 +11,9 @@ abbrev hello : List ℕ
 hello = codes "From a@x.org Thu Jan  2 10:00:00 2003\nSubject: Hello\n\nhi"
 
 abbrev two : List ℕ
-two = codes "From a@x.org Thu Jan  2 10:00:00 2003\nSubject: one\n\na\n\nFrom here on we go\n\nFrom - Sat Jan  4 12:00:00 2003\nSubject: two\n\nb\n\n"
+two =
+    codes
+    "From a@x.org Thu Jan  2 10:00:00 2003\nSubject: one\n\na\n\nFrom here on we go\n\nFrom - Sat Jan  4 12:00:00 2003\nSubject: two\n\nb\n\n"
 
 rows : Each cut_with_sizes ((codes "", Some []) ∷ (codes "\n\n", Some []) ∷ (codes "\r\n\r\n", Some [])
     ∷ (codes "hello\n", None)
@@ -36,8 +40,14 @@ rows : Each cut_with_sizes ((codes "", Some []) ∷ (codes "\n\n", Some []) ∷ 
     ∷ (codes "From a 10:00 2003\n\nfrom b 10:00 2004\n", Some ((0, 37, 19) ∷ []))
     ∷ (codes "From a 10:00 2003\n\nFrom here on\n\nFrom b 2004 10:00\n", Some ((0, 51, 33) ∷ []))
     ∷ (codes "From a 2003 10:00\n", None)
-    ∷ (codes "From a 10:00 2003\n" ++ (0 ∷ 255 ∷ 195 ∷ []) ++ codes "\n\nFrom b 10:00 2004\n" ++ (226 ∷ 128 ∷ 168 ∷ []), Some ((0, 23, 4) ∷ (23, 21, 3) ∷ []))
-    ∷ (codes "From a 10:00 2003\na\n\nFrom b 10:00 2004\n\nFrom a 10:00 2003\nb", Some ((0, 21, 2) ∷ (21, 19, 0) ∷ (40, 19, 1) ∷ []))
+    ∷ (
+      codes "From a 10:00 2003\n" ++ (0 ∷ 255 ∷ 195 ∷ []) ++ codes "\n\nFrom b 10:00 2004\n" ++ (226 ∷ 128 ∷ 168 ∷ []),
+      Some ((0, 23, 4) ∷ (23, 21, 3) ∷ []),
+    )
+    ∷ (
+      codes "From a 10:00 2003\na\n\nFrom b 10:00 2004\n\nFrom a 10:00 2003\nb",
+      Some ((0, 21, 2) ∷ (21, 19, 0) ∷ (40, 19, 1) ∷ []),
+    )
     ∷ (codes "From a 10:00 2003\n\nx\n\nFrom c\n", Some ((0, 29, 11) ∷ [])) ∷ [])
     × (cut two ≡ Some ((0, 75) ∷ (75, 49) ∷ []))
 unfolding messages lines first_length is_separator is_empty without_break has_form

@@ -1,12 +1,19 @@
 -- How the calls in a step change a scan, and each way in which a step can end.
-use Rattle.mbox_cutter.proofs.Words.{still_known, IsSome, MutBor, known_until, ◌≡◌, ℕ, ◌+◌, ◌-◌, ◌<◌, ◌≤◌, Bool, true, false, List, Option, Some, Result, Ok, Err, IfSome, IfOk, length, take, drop, ap, sym, ◌∙◌, subst, arith, IsAtEnd, length-take-le, Ghosts, CutFault, Device, NotAnMbox, ArchiveTooLong, Phase, Between, Inside, Ended, first_length, is_empty, IsLine, is_separator, Line, Refuses, Takes, is_device, CutterPlace, Moves, HasLine, known, ReadsOn, resume, closes_at, coming, place_of, told_at, IsPlace, IsWithin, IsScan, IsFresh, FindsLine, Passes, Steps}
+use Rattle.mbox_cutter.proofs.Words.{still_known, IsSome, MutBor, known_until, ◌≡◌, ℕ, ◌+◌, ◌-◌, ◌<◌, ◌≤◌, Bool, true}
+use Rattle.mbox_cutter.proofs.Words.{false, List, Option, Some, Result, Ok, Err, IfSome, IfOk, length, take, drop, ap}
+use Rattle.mbox_cutter.proofs.Words.{sym, ◌∙◌, subst, arith, IsAtEnd, length-take-le, Ghosts, CutFault, Device}
+use Rattle.mbox_cutter.proofs.Words.{NotAnMbox, ArchiveTooLong, Phase, Between, Inside, Ended, first_length, is_empty}
+use Rattle.mbox_cutter.proofs.Words.{IsLine, is_separator, Line, Refuses, Takes, is_device, CutterPlace, Moves, HasLine}
+use Rattle.mbox_cutter.proofs.Words.{known, ReadsOn, resume, closes_at, coming, place_of, told_at, IsPlace, IsWithin}
+use Rattle.mbox_cutter.proofs.Words.{IsScan, IsFresh, FindsLine, Passes, Steps}
 use Rattle.mbox_cutter.specs.declared.scan.Scan.{Scan}
 use Rattle.mbox_cutter.specs.declared.scan.Step.{Step}
 use Rattle.mbox_cutter.specs.declared.scan.Step.TheVariants as step
 use Rattle.mbox_cutter.specs.Progress.{Progress, Advances}
 use Rattle.mbox_cutter.proofs.KnownSteps.{each_some, at_same, both, still-on, IsFirst, known-step, known-fault}
 use Rattle.mbox_cutter.proofs.Sources.{Serves, Serves-none, Serves-join, served}
-use Rattle.mbox_cutter.proofs.Steps.{step-done, step-start, step-empty, step-refused, step-long, step-end, step-line, step-open, step-closed, step-long_inside, ended-stays}
+use Rattle.mbox_cutter.proofs.Steps.{step-done, step-start, step-empty, step-refused, step-long, step-end, step-line}
+use Rattle.mbox_cutter.proofs.Steps.{step-open, step-closed, step-long_inside, ended-stays}
 use Rattle.mbox_cutter.proofs.Windows.{known_taken, line_taken, length-Extends, take-Extends, ReadsOn-join}
 
 -- the place n bytes further, in this phase
@@ -46,9 +53,12 @@ module _ {S : Type 0} (g : Ghosts S) (old mid : Scan S) (n : ℕ) (line : List �
         some = some;
         place = f.place;
         reads = f.reads;
-        first = both (known_until g.rest old.window mid.window) (λ b. n ≡ first_length b) (λ b. line ≡ take n b) f.first.first
-            (at_same (known_until g.rest old.window mid.window) (known g.rest mid.window) (λ b. line ≡ take n b) f.reads.bytes
-            (subst (λ (l : List ℕ). IfSome (known g.rest mid.window) (λ b. l ≡ take n b)) (sym is) (line_taken n mid.window.unread (g.rest mid.window.source.now) within)));
+        first = both (known_until g.rest old.window mid.window) (λ b. n ≡ first_length b) (λ b. line ≡ take n b)
+            f.first.first
+            (at_same (known_until g.rest old.window mid.window) (known g.rest mid.window) (λ b. line ≡ take n b)
+            f.reads.bytes
+            (subst (λ (l : List ℕ). IfSome (known g.rest mid.window) (λ b. l ≡ take n b)) (sym is)
+            (line_taken n mid.window.unread (g.rest mid.window.source.now) within)));
         fits = f.fits;
         within = within;
         is = sym is;
@@ -56,14 +66,17 @@ module _ {S : Type 0} (g : Ghosts S) (old mid : Scan S) (n : ℕ) (line : List �
       }
 
   -- a line that was found is still found after more has been read
-  pub found-on : (far : Scan S) → Found g old mid n line → place_of far ≡ place_of mid → ReadsOn g false mid.window far.window → Found g old far n line
+  pub found-on : (far : Scan S) → Found g old mid n line → place_of far ≡ place_of mid
+      → ReadsOn g false mid.window far.window → Found g old far n line
   found-on far h same r = record {
     some = h.some;
     place = same ∙ h.place;
     reads = ReadsOn-join g false old.window mid.window far.window h.reads r;
-    first = still-on (known g.rest old.window) (g.rest mid.window.source.now) (g.rest far.window.source.now) (IsFirst n line) r.stays.known h.first;
+    first = still-on (known g.rest old.window) (g.rest mid.window.source.now) (g.rest far.window.source.now)
+        (IsFirst n line) r.stays.known h.first;
     fits = h.fits;
-    within = let more : length mid.window.unread ≤ length far.window.unread = length-Extends mid.window.unread far.window.unread r.keeps in omega (arith, h.within);
+    within = let more : length mid.window.unread ≤ length far.window.unread =
+        length-Extends mid.window.unread far.window.unread r.keeps in omega (arith, h.within);
     is = take-Extends n mid.window.unread far.window.unread h.within r.keeps ∙ h.is;
     is_line = h.is_line;
   }
@@ -82,10 +95,12 @@ module _ {S : Type 0} (g : Ghosts S) (old mid : Scan S) (n : ℕ) (line : List �
       IfSome (known_until g.rest mid.window far.window) (λ b. is ≡ closes_at n b) → is ≡ wanted →
       IfSome (known_until g.rest old.window new.window) (λ b. wanted ≡ closes_at n b)
   closes-known far new is wanted source same still h e =
-      subst (λ (m : MutBor S). IfSome (still_known (known g.rest old.window) (g.rest m.now)) (λ b. wanted ≡ closes_at n b))
+      subst (λ (m : MutBor S). IfSome (still_known (known g.rest old.window) (g.rest m.now))
+      (λ b. wanted ≡ closes_at n b))
       (sym source) (closes-far far is wanted same still h e)
 
-  pub taken : (new : Scan S) (phase : Phase) → Found g old mid n line → Passes n phase mid new → Taken g old new n phase line
+  pub taken : (new : Scan S) (phase : Phase) → Found g old mid n line → Passes n phase mid new
+      → Taken g old new n phase line
   taken new phase h p = grind (arith, served, at_same, known_taken, length-take-le)
 
 -- an option has its own value
@@ -95,23 +110,33 @@ itself o last = grind arith
 -- ---- steps that report an event
 
 -- a step that reports an event in a phase leaves the scan at this place
-told-steps : {S : Type 0} (g : Ghosts S) (old new : Scan S) (was : Phase) (p : CutterPlace) (s : Step) (line : List ℕ) (P : List ℕ → Type 0) (left : List ℕ → List ℕ) →
-    Serves g false old.window.source new.window.source → place_of new ≡ p → new.window.line ≡ line → old.phase ≡ was → p.most ≡ old.most → IsPlace p →
+told-steps : {S : Type 0} (g : Ghosts S) (old new : Scan S) (was : Phase) (p : CutterPlace) (s : Step) (line : List ℕ)
+    (P : List ℕ → Type 0) (left : List ℕ → List ℕ) →
+    Serves g false old.window.source new.window.source → place_of new ≡ p → new.window.line ≡ line → old.phase ≡ was
+    → p.most ≡ old.most → IsPlace p →
     (p.phase ≡ Ended → IsAtEnd (g.rest new.window.source.now)) →
-    IfSome (known_until g.rest old.window new.window) P → IfSome (known_until g.rest old.window new.window) (λ b. known g.rest new.window ≡ Some (left b)) →
-    ((b : List ℕ) → P b → Takes (told_at s line) (resume was old.offset old.most b) (resume p.phase p.offset p.most (left b))) →
+    IfSome (known_until g.rest old.window new.window) P
+    → IfSome (known_until g.rest old.window new.window) (λ b. known g.rest new.window ≡ Some (left b)) →
+    ((b : List ℕ) → P b → Takes (told_at s line) (resume was old.offset old.most b)
+    (resume p.phase p.offset p.most (left b))) →
     Moves (told_at s line) (place_of old) p → HasLine (told_at s line) → Steps g old (Ok s) new
-told-steps g old new was p s line P left reads at is before most place end h leaves takes moves lends = grind (arith, known-step)
+told-steps g old new was p s line P left reads at is before most place end h leaves takes moves lends =
+    grind (arith, known-step)
 
 -- steps that take a line
 module _ {S : Type 0} (g : Ghosts S) (old new : Scan S) (n : ℕ) (line : List ℕ) where
-  taken-steps : (was phase : Phase) (s : Step) (P : List ℕ → Type 0) → old.phase ≡ was → Taken g old new n phase line → IsWithin phase (old.offset + n) → (phase ≡ Ended → ⊥) →
-      IfSome (known_until g.rest old.window new.window) P → ((b : List ℕ) → P b → Takes (told_at s line) (resume was old.offset old.most b) (resume phase (old.offset + n) old.most (drop n b))) →
-      Moves (told_at s line) (place_of old) (further phase n (place_of old)) → HasLine (told_at s line) → Steps g old (Ok s) new
+  taken-steps : (was phase : Phase) (s : Step) (P : List ℕ → Type 0) → old.phase ≡ was → Taken g old new n phase line
+      → IsWithin phase (old.offset + n) → (phase ≡ Ended → ⊥) →
+      IfSome (known_until g.rest old.window new.window) P
+      → ((b : List ℕ) → P b → Takes (told_at s line) (resume was old.offset old.most b)
+      (resume phase (old.offset + n) old.most (drop n b))) →
+      Moves (told_at s line) (place_of old) (further phase n (place_of old)) → HasLine (told_at s line)
+      → Steps g old (Ok s) new
   taken-steps was phase s P before t within not_ended h takes moves lends = grind (arith, told-steps)
 
   -- a message starts
-  pub start-steps : (at : ℕ) → old.phase ≡ Between → at ≡ old.offset → is_separator line ≡ true → Taken g old new n (Inside at 0) line → Steps g old (Ok (step.Start at)) new
+  pub start-steps : (at : ℕ) → old.phase ≡ Between → at ≡ old.offset → is_separator line ≡ true
+      → Taken g old new n (Inside at 0) line → Steps g old (Ok (step.Start at)) new
   start-steps at between is starts t = grind (arith, taken-steps, step-start)
 
   module _ (start size : ℕ) (inside : old.phase ≡ Inside start size) (was : IsScan g.rest old) where
@@ -119,29 +144,38 @@ module _ {S : Type 0} (g : Ghosts S) (old new : Scan S) (n : ℕ) (line : List �
     begun = subst (λ (p : Phase). IsWithin p old.offset) inside was.place.phase
 
     -- a line of the open message's text
-    text-steps : (P : List ℕ → Type 0) → Taken g old new n (Inside start (size + n)) line → IfSome (known_until g.rest old.window new.window) P →
-        ((b : List ℕ) → P b → Takes (Line line) (resume (Inside start size) old.offset old.most b) (resume (Inside start (size + n)) (old.offset + n) old.most (drop n b))) →
+    text-steps : (P : List ℕ → Type 0) → Taken g old new n (Inside start (size + n)) line
+        → IfSome (known_until g.rest old.window new.window) P →
+        ((b : List ℕ) → P b → Takes (Line line) (resume (Inside start size) old.offset old.most b)
+        (resume (Inside start (size + n)) (old.offset + n) old.most (drop n b))) →
         Steps g old (Ok step.Line) new
     text-steps P t h takes = grind (arith, taken-steps, begun)
 
-    pub line-steps : is_empty line ≡ false → Taken g old new n (Inside start (size + n)) line → Steps g old (Ok step.Line) new
-    line-steps full t = text-steps (IsFirst n line) t t.first (λ b f. rw f.1 (step-line old.offset old.most n b f.0 t.some start size (sym (ap is_empty f.1) ∙ full)))
+    pub line-steps : is_empty line ≡ false → Taken g old new n (Inside start (size + n)) line
+        → Steps g old (Ok step.Line) new
+    line-steps full t = text-steps (IsFirst n line) t t.first
+        (λ b f. rw f.1 (step-line old.offset old.most n b f.0 t.some start size (sym (ap is_empty f.1) ∙ full)))
 
     -- an empty line that doesn't end the message
-    pub open-steps : is_empty line ≡ true → IfSome (known_until g.rest old.window new.window) (λ b. false ≡ closes_at n b) →
+    pub open-steps : is_empty line ≡ true → IfSome (known_until g.rest old.window new.window)
+        (λ b. false ≡ closes_at n b) →
         Taken g old new n (Inside start (size + n)) line → Steps g old (Ok step.Line) new
     open-steps empty opens t = grind (arith, text-steps, both, step-open)
 
     -- the empty line that ends the message
-    pub closed-steps : is_empty line ≡ true → IfSome (known_until g.rest old.window new.window) (λ b. true ≡ closes_at n b) →
+    pub closed-steps : is_empty line ≡ true
+        → IfSome (known_until g.rest old.window new.window) (λ b. true ≡ closes_at n b) →
         Taken g old new n Between line → Steps g old (Ok (step.End (new.offset - start) size)) new
     closed-steps empty closes t = grind (arith, begun, taken-steps, both, step-closed)
 
 -- steps at the end of the archive
-module _ {S : Type 0} (g : Ghosts S) (old mid : Scan S) (n : ℕ) (found_none : FindsLine g old (Ok n) mid) (none : n ≡ 0) (was : IsScan g.rest old) where
+module _ {S : Type 0} (g : Ghosts S) (old mid : Scan S) (n : ℕ) (found_none : FindsLine g old (Ok n) mid) (none : n ≡ 0)
+    (was : IsScan g.rest old) where
   none-steps : (before phase : Phase) (s : Step) → old.phase ≡ before → IsWithin phase old.offset →
-      ((b : List ℕ) → 0 ≡ first_length b → Takes (told_at s mid.window.line) (resume before old.offset old.most b) (resume phase old.offset old.most b)) →
-      Moves (told_at s mid.window.line) (place_of old) (record { phase = phase; offset = old.offset; most = old.most }) → HasLine (told_at s mid.window.line) →
+      ((b : List ℕ) → 0 ≡ first_length b → Takes (told_at s mid.window.line) (resume before old.offset old.most b)
+      (resume phase old.offset old.most b)) →
+      Moves (told_at s mid.window.line) (place_of old) (record { phase = phase; offset = old.offset; most = old.most })
+      → HasLine (told_at s mid.window.line) →
       Steps g old (Ok s) (record mid { phase = phase })
   none-steps before phase s is within takes moves lends = grind (arith, told-steps, served)
 
@@ -151,39 +185,52 @@ module _ {S : Type 0} (g : Ghosts S) (old mid : Scan S) (n : ℕ) (found_none : 
   pub done-steps : old.phase ≡ Between → Steps g old (Ok (step.Done mid.offset)) (record mid { phase = Ended })
   done-steps between = grind (arith, same_offset, none-steps, step-done)
 
-  pub end-steps : (start size : ℕ) → old.phase ≡ Inside start size → Steps g old (Ok (step.End (mid.offset - start) size)) (record mid { phase = Between })
+  pub end-steps : (start size : ℕ) → old.phase ≡ Inside start size
+      → Steps g old (Ok (step.End (mid.offset - start) size)) (record mid { phase = Between })
   end-steps start size inside = grind (arith, same_offset, none-steps, step-end)
 
 -- the end is reported again
-pub ended-steps : {S : Type 0} (g : Ghosts S) (old : Scan S) → old.phase ≡ Ended → IsScan g.rest old → Steps g old (Ok (step.Done old.offset)) old
+pub ended-steps : {S : Type 0} (g : Ghosts S) (old : Scan S) → old.phase ≡ Ended → IsScan g.rest old
+    → Steps g old (Ok (step.Done old.offset)) old
 ended-steps g old ended was = grind (arith, told-steps, Serves-none, itself, ended-stays)
 
 -- ---- steps that fail
 
 module _ {S : Type 0} (g : Ghosts S) (old mid : Scan S) (fault : CutFault) (was : IsScan g.rest old) where
   -- a step that fails leaves the scan in its place
-  fails-steps : (old.phase ≡ Ended → ⊥) → Serves g (is_device fault) old.window.source mid.window.source → place_of mid ≡ place_of old →
-      IfSome (still_known (coming g.rest old) (g.rest mid.window.source.now)) (Refuses fault) → IsFresh fault → Steps g old (Err fault) mid
+  fails-steps : (old.phase ≡ Ended → ⊥) → Serves g (is_device fault) old.window.source mid.window.source → place_of mid
+      ≡ place_of old →
+      IfSome (still_known (coming g.rest old) (g.rest mid.window.source.now)) (Refuses fault) → IsFresh fault
+      → Steps g old (Err fault) mid
   fails-steps not_ended reads same refuses fresh = grind arith
 
   -- no line was found
-  unfound-steps : (before : Phase) → old.phase ≡ before → (old.phase ≡ Ended → ⊥) → ((b : List ℕ) → old.most < old.offset + first_length b → Refuses ArchiveTooLong (resume before old.offset old.most b)) →
+  unfound-steps : (before : Phase) → old.phase ≡ before → (old.phase ≡ Ended → ⊥)
+      → ((b : List ℕ) → old.most < old.offset + first_length b
+      → Refuses ArchiveTooLong (resume before old.offset old.most b)) →
       FindsLine g old (Err fault) mid → Steps g old (Err fault) mid
   unfound-steps before is not_ended long f = grind (arith, fails-steps, served, known-fault)
 
   pub fault-steps : old.phase ≡ Between → FindsLine g old (Err fault) mid → Steps g old (Err fault) mid
-  fault-steps between f = unfound-steps Between between (λ e. cc) (λ b. step-long old.offset old.most b was.place.most) f
+  fault-steps between f = unfound-steps Between between (λ e. cc) (λ b. step-long old.offset old.most b was.place.most)
+      f
 
-  pub fault_inside-steps : (start size : ℕ) → old.phase ≡ Inside start size → FindsLine g old (Err fault) mid → Steps g old (Err fault) mid
-  fault_inside-steps start size inside f = unfound-steps (Inside start size) inside (λ e. cc) (λ b. step-long_inside old.offset old.most start size b) f
+  pub fault_inside-steps : (start size : ℕ) → old.phase ≡ Inside start size → FindsLine g old (Err fault) mid
+      → Steps g old (Err fault) mid
+  fault_inside-steps start size inside f =
+      unfound-steps (Inside start size) inside (λ e. cc) (λ b. step-long_inside old.offset old.most start size b) f
 
 -- the line after an empty one can't be read
-pub unread-steps : {S : Type 0} (g : Ghosts S) (old mid : Scan S) (fault : CutFault) → IsScan g.rest old → (n start size : ℕ) (line : List ℕ) (far : Scan S) →
-    old.phase ≡ Inside start size → Found g old mid n line → place_of far ≡ place_of mid → ReadsOn g (is_device fault) mid.window far.window → fault ≡ Device → Steps g old (Err fault) far
-unread-steps g old mid fault was n start size line far inside h same r device = grind (arith, fails-steps, served, ReadsOn-join, each_some)
+pub unread-steps : {S : Type 0} (g : Ghosts S) (old mid : Scan S) (fault : CutFault) → IsScan g.rest old
+    → (n start size : ℕ) (line : List ℕ) (far : Scan S) →
+    old.phase ≡ Inside start size → Found g old mid n line → place_of far ≡ place_of mid
+    → ReadsOn g (is_device fault) mid.window far.window → fault ≡ Device → Steps g old (Err fault) far
+unread-steps g old mid fault was n start size line far inside h same r device =
+    grind (arith, fails-steps, served, ReadsOn-join, each_some)
 
 -- the first line that isn't empty isn't a separator
-pub refused-steps : {S : Type 0} (g : Ghosts S) (old mid : Scan S) (n : ℕ) (line : List ℕ) → IsScan g.rest old → old.phase ≡ Between → Found g old mid n line →
+pub refused-steps : {S : Type 0} (g : Ghosts S) (old mid : Scan S) (n : ℕ) (line : List ℕ) → IsScan g.rest old
+    → old.phase ≡ Between → Found g old mid n line →
     is_separator line ≡ false → is_empty line ≡ false → Steps g old (Err NotAnMbox) mid
 refused-steps g old mid n line was between h other full = grind (arith, fails-steps, served, step-refused)
 
@@ -199,18 +246,22 @@ pub record Skipped {S : Type 0} (g : Ghosts S) (old now : Scan S) : Type 0 where
   pub most : now.most ≡ old.most
   pub still : IfSome (still_known (coming g.rest old) (g.rest now.window.source.now)) (λ k. coming g.rest now ≡ Some k)
 
-pub skipped-none : {S : Type 0} (g : Ghosts S) (old : Scan S) → old.phase ≡ Between → IsScan g.rest old → Skipped g old old
+pub skipped-none : {S : Type 0} (g : Ghosts S) (old : Scan S) → old.phase ≡ Between → IsScan g.rest old
+    → Skipped g old old
 skipped-none g old between was = grind (arith, Serves-none, itself)
 
-pub skipped-one : {S : Type 0} (g : Ghosts S) (old now new : Scan S) (n : ℕ) (line : List ℕ) → Skipped g old now → Taken g now new n Between line →
+pub skipped-one : {S : Type 0} (g : Ghosts S) (old now new : Scan S) (n : ℕ) (line : List ℕ) → Skipped g old now
+    → Taken g now new n Between line →
     is_separator line ≡ false → is_empty line ≡ true → Skipped g old new
 skipped-one g old now new n line k t other empty = grind (arith, Serves-join, at_same, both, step-empty)
 
-moves-skipped : (result : Result Step CutFault) (line : List ℕ) (old now new : CutterPlace) → old.phase ≡ Between → now.phase ≡ Between → old.offset ≤ now.offset →
+moves-skipped : (result : Result Step CutFault) (line : List ℕ) (old now new : CutterPlace) → old.phase ≡ Between
+    → now.phase ≡ Between → old.offset ≤ now.offset →
     IfOk result (λ s. Moves (told_at s line) now new) → IfOk result (λ s. Moves (told_at s line) old new)
 moves-skipped result line old now new h h2 h3 h4 = grind arith
 
-pub skipped-steps : {S : Type 0} (g : Ghosts S) (old now new : Scan S) (result : Result Step CutFault) → Skipped g old now → Steps g now result new → Steps g old result new
+pub skipped-steps : {S : Type 0} (g : Ghosts S) (old now new : Scan S) (result : Result Step CutFault)
+    → Skipped g old now → Steps g now result new → Steps g old result new
 skipped-steps g old now new result k s = grind (arith, Serves-join, moves-skipped)
 
 -- ---- a step, as callers see it
@@ -220,5 +271,6 @@ abbrev pub shown_as : {S : Type 0} → Ghosts S → Scan S → Progress S
 shown_as g s = record { coming = coming g.rest s; place = place_of s; line = s.window.line; source = s.window.source }
 
 -- a step that reports an event advances the cutter
-pub steps-advance : {S : Type 0} (g : Ghosts S) (old new : Scan S) (s : Step) → Steps g old (Ok s) new → Advances g (shown_as g old) (Ok (told_at s new.window.line)) (shown_as g new)
+pub steps-advance : {S : Type 0} (g : Ghosts S) (old new : Scan S) (s : Step) → Steps g old (Ok s) new
+    → Advances g (shown_as g old) (Ok (told_at s new.window.line)) (shown_as g new)
 steps-advance g old new s h = grind arith

@@ -1,5 +1,9 @@
 -- How the calls of a window change the bytes to come.
-use Rattle.mbox_cutter.proofs.Words.{still_known, IsSome, ◌≡◌, ℕ, ◌+◌, ◌-◌, ◌<◌, ◌≤◌, Bool, true, false, Result, List, ◌++◌, Option, Some, None, IfSome, IfOk, length, take, drop, append-nil, ap, ◌∙◌, arith, append_assoc, subst, ReadConsumes, IsAtEnd, prepend_known, take-append-add, take-append-le, length-take-le, drop-append-le, Counted, Ghosts, line_end_of, first_length, Ahead, known, ReadsBehind, ReadsOn, Extends}
+use Rattle.mbox_cutter.proofs.Words.{still_known, IsSome, ◌≡◌, ℕ, ◌+◌, ◌-◌, ◌<◌, ◌≤◌, Bool, true, false, Result, List}
+use Rattle.mbox_cutter.proofs.Words.{◌++◌, Option, Some, None, IfSome, IfOk, length, take, drop, append-nil, ap, ◌∙◌}
+use Rattle.mbox_cutter.proofs.Words.{arith, append_assoc, subst, ReadConsumes, IsAtEnd, prepend_known, take-append-add}
+use Rattle.mbox_cutter.proofs.Words.{take-append-le, length-take-le, drop-append-le, Counted, Ghosts, line_end_of}
+use Rattle.mbox_cutter.proofs.Words.{first_length, Ahead, known, ReadsBehind, ReadsOn, Extends}
 use Rattle.std.specs.Result.{IsErr, is_err}
 use Rattle.std.proofs.lemmas.List.{length-append}
 use borrow.Rule.Slice.PartMut.{put_mid}
@@ -8,16 +12,20 @@ use Rattle.mbox_cutter.proofs.FirstLines.{line_end-more, line_end-whole}
 use Rattle.mbox_cutter.proofs.Parts.{take_front}
 use Rattle.mbox_cutter.proofs.Sources.{Stays-join}
 
-take_behind : (front into post : List ℕ) (held n : ℕ) → length front ≡ held → n ≤ length into → take (held + n) (front ++ (into ++ post)) ≡ front ++ take n into
-take_behind front into post held n e h = rw (← e) (take-append-add front (into ++ post) n ∙ ap (λ (s : List ℕ). front ++ s) (take-append-le n into post h))
+take_behind : (front into post : List ℕ) (held n : ℕ) → length front ≡ held → n ≤ length into
+    → take (held + n) (front ++ (into ++ post)) ≡ front ++ take n into
+take_behind front into post held n e h =
+    rw (← e) (take-append-add front (into ++ post) n ∙ ap (λ (s : List ℕ). front ++ s) (take-append-le n into post h))
 
 pub reads_behind : (held : ℕ) (old new : Option (List ℕ)) (result : Result ℕ DeviceFault) (before into : List ℕ) →
-    held < length before → length into ≡ length before - held → IfOk result (λ n. n ≤ length into) → ReadConsumes old new result into →
+    held < length before → length into ≡ length before - held → IfOk result (λ n. n ≤ length into)
+    → ReadConsumes old new result into →
     ReadsBehind held old new result before (put_mid held (length before - held) before into)
 reads_behind held old new result before into h h2 h3 h4 = grind (arith, length-take-le, take_behind, take_front)
 
 -- the end of the line is in what was read
-pub at_some : (skip n : ℕ) (u : List ℕ) (old now : Option (List ℕ)) → skip ≤ length u → Some n ≡ line_end_of (drop skip u) →
+pub at_some : (skip n : ℕ) (u : List ℕ) (old now : Option (List ℕ)) → skip ≤ length u → Some n
+    ≡ line_end_of (drop skip u) →
     IfSome old (λ b. prepend_known u now ≡ Some b) → IfSome old (λ b. n ≡ first_length (drop skip b))
 at_some skip n u old now h h2 h3 = grind (arith, line_end-more, drop-append-le)
 
@@ -30,7 +38,8 @@ pub known_taken : (n : ℕ) (u : List ℕ) (r : Option (List ℕ)) → n ≤ len
     IfSome (prepend_known u r) (λ b. prepend_known (drop n u) r ≡ Some (drop n b))
 known_taken n u r h = grind (arith, drop-append-le)
 
-pub line_taken : (n : ℕ) (u : List ℕ) (r : Option (List ℕ)) → n ≤ length u → IfSome (prepend_known u r) (λ b. take n u ≡ take n b)
+pub line_taken : (n : ℕ) (u : List ℕ) (r : Option (List ℕ)) → n ≤ length u
+    → IfSome (prepend_known u r) (λ b. take n u ≡ take n b)
 line_taken n u r h = grind (arith, take-append-le)
 
 pub Extends-join : (a b c : List ℕ) → Extends a b → Extends b c → Extends a c
@@ -42,18 +51,23 @@ length-Extends a b h = omega (arith, ap length h.1, length-append a h.0)
 pub take-Extends : (n : ℕ) (a b : List ℕ) → n ≤ length a → Extends a b → take n b ≡ take n a
 take-Extends n a b fits h = ap (take n) h.1 ∙ take-append-le n a h.0 fits
 
-join_known : {B C : Type 0} (a b c : Option (List ℕ)) (mid : Option B) (new : Option C) → (IsSome new → IsSome mid) → IfSome (still_known a mid) (λ x. b ≡ Some x) → IfSome (still_known b new) (λ x. c ≡ Some x) → IfSome (still_known a new) (λ x. c ≡ Some x)
+join_known : {B C : Type 0} (a b c : Option (List ℕ)) (mid : Option B) (new : Option C) → (IsSome new → IsSome mid)
+    → IfSome (still_known a mid) (λ x. b ≡ Some x) → IfSome (still_known b new) (λ x. c ≡ Some x)
+    → IfSome (still_known a new) (λ x. c ≡ Some x)
 join_known a b c mid new h h2 h3 = grind arith
 
-pub ReadsOn-failed : {S T E : Type 0} (g : Ghosts S) (r : Result T E) (old new : Ahead S) → IsErr r → ReadsOn g true old new → ReadsOn g (is_err r) old new
+pub ReadsOn-failed : {S T E : Type 0} (g : Ghosts S) (r : Result T E) (old new : Ahead S) → IsErr r
+    → ReadsOn g true old new → ReadsOn g (is_err r) old new
 ReadsOn-failed g r old new h h2 = grind arith
 
 -- one read after another
-pub ReadsOn-join : {S : Type 0} (g : Ghosts S) (failed : Bool) (a b c : Ahead S) → ReadsOn g false a b → ReadsOn g failed b c → ReadsOn g failed a c
+pub ReadsOn-join : {S : Type 0} (g : Ghosts S) (failed : Bool) (a b c : Ahead S) → ReadsOn g false a b
+    → ReadsOn g failed b c → ReadsOn g failed a c
 ReadsOn-join g failed a b c h k = record {
   source = k.source ∙ h.source;
   count = subst (λ (n : ℕ). Counted failed n (g.failures c.source.now)) h.count k.count;
   stays = Stays-join g a.source.now b.source.now c.source.now h.stays k.stays;
-  bytes = join_known (known g.rest a) (known g.rest b) (known g.rest c) (g.rest b.source.now) (g.rest c.source.now) k.stays.known h.bytes k.bytes;
+  bytes = join_known (known g.rest a) (known g.rest b) (known g.rest c) (g.rest b.source.now) (g.rest c.source.now)
+      k.stays.known h.bytes k.bytes;
   keeps = Extends-join a.unread b.unread c.unread h.keeps k.keeps;
 }

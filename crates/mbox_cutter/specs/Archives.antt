@@ -1,6 +1,7 @@
 -- An mbox archive cut into its messages. A message starts at each separator that is the archive's first line or
 -- directly follows an empty line. It ends at the next start or at the archive's end.
-use Rattle.std.specs.Prelude.{ℕ, ◌+◌, Bool, true, not, ◌&&◌, false, if◌then◌else◌, List, [], ◌∷◌, length, map, Option, None, Some}
+use Rattle.std.specs.Prelude.{ℕ, ◌+◌, Bool, true, not, ◌&&◌, false, if◌then◌else◌, List, [], ◌∷◌, length, map, Option}
+use Rattle.std.specs.Prelude.{None, Some}
 use Rattle.std.specs.List.{find}
 use Rattle.std.specs.Option.{option_map, option_map_or}
 use Rattle.mbox_cutter.specs.Lines.{lines, is_empty}
@@ -54,7 +55,8 @@ span_length m = length m.separator + total m.after
 abbrev pub messages_from : ℕ → List (List ℕ × List (List ℕ)) → List Message
 messages_from offset [] = []
 messages_from offset (group ∷ groups) =
-    record { offset = offset; separator = group.0; after = group.1 } ∷ messages_from (offset + (length group.0 + total group.1)) groups
+    record { offset = offset; separator = group.0; after = group.1 } ∷ messages_from
+    (offset + (length group.0 + total group.1)) groups
 
 -- the messages of an archive, or None if it is refused
 unfoldable pub messages : List ℕ → Option (List Message)

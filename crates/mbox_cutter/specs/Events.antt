@@ -1,5 +1,6 @@
 -- The events of an archive: for each message its start, the lines of its text and its end; and then the archive's end.
-use Rattle.std.specs.Prelude.{ℕ, ◌+◌, true, ◌&&◌, nat_lt, nat_le, if◌then◌else◌, List, [], ◌∷◌, ◌++◌, Option, None, Some, length, map}
+use Rattle.std.specs.Prelude.{ℕ, ◌+◌, true, ◌&&◌, nat_lt, nat_le, if◌then◌else◌, List, [], ◌∷◌, ◌++◌, Option, None}
+use Rattle.std.specs.Prelude.{Some, length, map}
 use Rattle.std.specs.Option.{option_map_or}
 use Rattle.mbox_cutter.specs.declared.event.CutFault.{CutFault}
 use Rattle.mbox_cutter.specs.declared.event.CutFault.TheVariants.{NotAnMbox, ArchiveTooLong}

@@ -1,6 +1,7 @@
 -- The lines of bytes. A line ends after its LF, or at the end. It also ends after 65,536 bytes without LF, if the next
 -- byte isn't LF.
-use Rattle.std.specs.Prelude.{◌≡◌, ℕ, zero, suc, ◌+◌, ◌<◌, ◌≤◌, ◌==◌, ◌||◌, Bool, nat_lt, if◌then◌else◌, List, [], ◌∷◌, Option, None, Some, length, take, drop}
+use Rattle.std.specs.Prelude.{◌≡◌, ℕ, zero, suc, ◌+◌, ◌<◌, ◌≤◌, ◌==◌, ◌||◌, Bool, nat_lt, if◌then◌else◌, List, [], ◌∷◌}
+use Rattle.std.specs.Prelude.{Option, None, Some, length, take, drop}
 use Rattle.std.specs.List.{concat}
 use Rattle.std.specs.Str.{bytes_eq}
 
@@ -34,7 +35,8 @@ first_length bytes =
 abbrev pub first_lines : ℕ → List ℕ → List (List ℕ)
 first_lines zero bytes = []
 first_lines (suc n) [] = []
-first_lines (suc n) (b ∷ bytes) = take (first_length (b ∷ bytes)) (b ∷ bytes) ∷ first_lines n (drop (first_length (b ∷ bytes)) (b ∷ bytes))
+first_lines (suc n) (b ∷ bytes) = take (first_length (b ∷ bytes)) (b ∷ bytes) ∷ first_lines n
+    (drop (first_length (b ∷ bytes)) (b ∷ bytes))
 
 -- the lines of bytes: the first one, and the lines of the bytes after it
 unfoldable pub lines : List ℕ → List (List ℕ)
@@ -50,7 +52,8 @@ pub record IsLine (line : List ℕ) : Type 0 where
 abbrev pub AreCut : List (List ℕ) → Type 0
 AreCut [] = Unit {0}
 AreCut (l ∷ []) = IsLine l
-AreCut (l ∷ m ∷ ls) = IsLine l × (length_before_feed l ≡ length l → (length l ≡ most_before_feed) × (0 < length_before_feed m)) × AreCut (m ∷ ls)
+AreCut (l ∷ m ∷ ls) = IsLine l × (length_before_feed l ≡ length l → (length l ≡ most_before_feed)
+    × (0 < length_before_feed m)) × AreCut (m ∷ ls)
 
 -- these are lines, and they join to the bytes
 pub record AreLines (bytes : List ℕ) (ls : List (List ℕ)) : Type 0 where

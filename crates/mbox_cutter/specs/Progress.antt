@@ -35,7 +35,8 @@ shown_result (Ok e) = Ok (shown e)
 shown_result (Err fault) = Err fault
 
 -- how a call with this result changes a cutter
-pub record Advances {S : Type 0} (g : Ghosts S) (old : Progress S) (answer : Result ArchiveEvent CutFault) (new : Progress S) : Type 0 where
+pub record Advances {S : Type 0} (g : Ghosts S) (old : Progress S) (answer : Result ArchiveEvent CutFault)
+    (new : Progress S) : Type 0 where
   -- the source is the same
   pub source : new.source.ghost_name ≡ old.source.ghost_name
   -- its count of failures rises by one if it failed, and stays if it didn't

@@ -1,6 +1,7 @@
 -- Which lines are separators: `From `, an address and a date (RFC 4155, Appendix A). The rule here is more lenient: the
 -- line begins with `From `, and has a time and a later year. Neither the address nor the place of a zone matters.
-use Rattle.std.specs.Prelude.{ℕ, ◌-◌, Bool, false, ◌||◌, ◌&&◌, ◌==◌, if◌then◌else◌, List, [], ◌∷◌, length, take, drop, codes}
+use Rattle.std.specs.Prelude.{ℕ, ◌-◌, Bool, false, ◌||◌, ◌&&◌, ◌==◌, if◌then◌else◌, List, [], ◌∷◌, length, take, drop}
+use Rattle.std.specs.Prelude.{codes}
 use Rattle.std.specs.List.{list_any, slice_split}
 use Rattle.std.specs.Char.{is_ascii_digit}
 use Rattle.std.specs.Cmp.Lexicographic.{pointwise}

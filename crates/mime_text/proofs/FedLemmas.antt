@@ -1,5 +1,7 @@
 -- How the lines read and the pairs given grow with each call of MessageText.
-use Rattle.mime_text.proofs.Words.{◌≡◌, ◌∙◌, ◌++◌, ℕ, List, [], ◌∷◌, sym, ap, append_assoc, arith, Result, OnOk, IfErr, TextKind, SinkFault, TextFault, Pair, texts_of_message, Passed, Stopped, Passes, IsOver, Comes, KnowsFacts}
+use Rattle.mime_text.proofs.Words.{◌≡◌, ◌∙◌, ◌++◌, ℕ, List, [], ◌∷◌, sym, ap, append_assoc, arith, Result, OnOk, IfErr}
+use Rattle.mime_text.proofs.Words.{TextKind, SinkFault, TextFault, Pair, texts_of_message, Passed, Stopped, Passes}
+use Rattle.mime_text.proofs.Words.{IsOver, Comes, KnowsFacts}
 use Rattle.std.proofs.lemmas.List.{append-nil}
 use Rattle.mime_text.specs.declared.message_text.MessageText.{MessageText}
 use Rattle.mime_text.specs.Fed.{Feeds, FeedsPart, Finishes, FinishesPart}
@@ -7,12 +9,15 @@ use Rattle.mime_text.specs.Fed.{Feeds, FeedsPart, Finishes, FinishesPart}
 abbrev Line : Type 0
 Line = List ℕ
 
-module _ {S : Type 0} (takes : S → TextKind → List ℕ → S → Type 0) (refuses : S → TextKind → List ℕ → SinkFault → S → Type 0) where
-  pub feeds : (m n : MessageText) (l : Line) (s t : S) → n.ended ≡ m.ended → Passed takes refuses (Comes m.reader) (Comes n.reader) (λ c ms. c (l ∷ ms)) s t
+module _ {S : Type 0} (takes : S → TextKind → List ℕ → S → Type 0)
+    (refuses : S → TextKind → List ℕ → SinkFault → S → Type 0) where
+  pub feeds : (m n : MessageText) (l : Line) (s t : S) → n.ended ≡ m.ended
+      → Passed takes refuses (Comes m.reader) (Comes n.reader) (λ c ms. c (l ∷ ms)) s t
       → ((ls : List Line) → KnowsFacts m.reader ls → KnowsFacts n.reader (ls ++ l ∷ [])) → Feeds takes refuses m n l s t
   feeds m n l s t q h k = grind (arith, append_assoc)
 
-  pub feeds_part : (m : MessageText) (l : Line) (fault : TextFault) (s t : S) → Stopped takes refuses (Comes m.reader) (λ c ms. c (l ∷ ms)) fault s t → FeedsPart takes refuses m l fault s t
+  pub feeds_part : (m : MessageText) (l : Line) (fault : TextFault) (s t : S)
+      → Stopped takes refuses (Comes m.reader) (λ c ms. c (l ∷ ms)) fault s t → FeedsPart takes refuses m l fault s t
   feeds_part m l fault s t h =
       record {
         pairs = h.pairs;
@@ -24,30 +29,37 @@ module _ {S : Type 0} (takes : S → TextKind → List ℕ → S → Type 0) (re
         );
       }
 
-  pub finishes : (m : MessageText) (s t : S) → Passed takes refuses (Comes m.reader) IsOver (λ c _. c []) s t → Finishes takes refuses m s t
+  pub finishes : (m : MessageText) (s t : S) → Passed takes refuses (Comes m.reader) IsOver (λ c _. c []) s t
+      → Finishes takes refuses m s t
   finishes m s t h =
       record {
         pairs = h.pairs;
         taken = h.taken;
         whole = λ ls ps f. ap texts_of_message (sym (append-nil ls)) ∙ f.texts []
-            ∙ ap (λ (x : List Pair). ps ++ x) ((h.rest f.coming f.comes).2 [] ∙ ap (λ (x : List Pair). h.pairs ++ x) ((h.rest f.coming f.comes).1 []) ∙ append-nil h.pairs);
+            ∙ ap (λ (x : List Pair). ps ++ x) ((h.rest f.coming f.comes).2 []
+            ∙ ap (λ (x : List Pair). h.pairs ++ x) ((h.rest f.coming f.comes).1 []) ∙ append-nil h.pairs);
       }
 
-  pub finishes-part : (m : MessageText) (fault : TextFault) (s t : S) → Stopped takes refuses (Comes m.reader) (λ c _. c []) fault s t → FinishesPart takes refuses m fault s t
+  pub finishes-part : (m : MessageText) (fault : TextFault) (s t : S)
+      → Stopped takes refuses (Comes m.reader) (λ c _. c []) fault s t → FinishesPart takes refuses m fault s t
   finishes-part m fault s t h =
       record {
         pairs = h.pairs;
         broken = h.broken;
         front = λ ls ps f. (
           (h.front f.coming f.comes []).0,
-          ap texts_of_message (sym (append-nil ls)) ∙ f.texts [] ∙ ap (λ (x : List Pair). ps ++ x) (h.front f.coming f.comes []).1
+          ap texts_of_message (sym (append-nil ls)) ∙ f.texts []
+              ∙ ap (λ (x : List Pair). ps ++ x) (h.front f.coming f.comes []).1
               ∙ sym (append_assoc ps h.pairs (h.front f.coming f.comes []).0),
         );
       }
 
-  pub finishes-at : {T : Type 0} (m : MessageText) (result : Result T TextFault) (s t : S) → Passes takes refuses (Comes m.reader) IsOver (λ c _. c []) result s t → OnOk result (Finishes takes refuses m s t)
+  pub finishes-at : {T : Type 0} (m : MessageText) (result : Result T TextFault) (s t : S)
+      → Passes takes refuses (Comes m.reader) IsOver (λ c _. c []) result s t
+      → OnOk result (Finishes takes refuses m s t)
   finishes-at m result s t h = grind (arith, finishes)
 
-  pub finishes-part_at : {T : Type 0} (m : MessageText) (result : Result T TextFault) (s t : S) → Passes takes refuses (Comes m.reader) IsOver (λ c _. c []) result s t
+  pub finishes-part_at : {T : Type 0} (m : MessageText) (result : Result T TextFault) (s t : S)
+      → Passes takes refuses (Comes m.reader) IsOver (λ c _. c []) result s t
       → IfErr result (λ fault. FinishesPart takes refuses m fault s t)
   finishes-part_at m result s t h = grind (arith, finishes-part)

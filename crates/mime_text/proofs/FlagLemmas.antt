@@ -1,5 +1,7 @@
 -- The letters of the Status and X-Status fields, collected field by field.
-use Rattle.mime_text.proofs.Words.{◌≡◌, ◌∙◌, ◌<◌, ◌==◌, ℕ, Bool, true, List, [], ◌∷◌, refl, arith, ◌||◌, reverse, reverse-append, list_any, HeaderField, after_blanks, before_blanks, unfolded, is_status, has_letter}
+use Rattle.mime_text.proofs.Words.{◌≡◌, ◌∙◌, ◌<◌, ◌==◌, ℕ, Bool, true, List, [], ◌∷◌, refl, arith, ◌||◌, reverse}
+use Rattle.mime_text.proofs.Words.{reverse-append, list_any, HeaderField, after_blanks, before_blanks, unfolded}
+use Rattle.mime_text.proofs.Words.{is_status, has_letter}
 use Rattle.std.proofs.lemmas.List.Folds.{list_any-append}
 use Rattle.header_text.specs.Unfolding.{without_breaks}
 
@@ -26,6 +28,7 @@ module _ (letter : ℕ) (high : 0x20 < letter) where
   in-unfolded body = in-reverse _ ∙ in-after_blanks _ ∙ in-reverse _ ∙ in-after_blanks _ ∙ in-without_breaks body
 
   -- the flag with one more such field
-  pub letter-step : (f : HeaderField) (rest fields : List HeaderField) (all seen found : Bool) → fields ≡ f ∷ rest → all ≡ (seen || has_letter letter fields)
+  pub letter-step : (f : HeaderField) (rest fields : List HeaderField) (all seen found : Bool) → fields ≡ f ∷ rest → all
+      ≡ (seen || has_letter letter fields)
       → is_status f.name ≡ true → found ≡ is_in f.body → all ≡ ((seen || found) || has_letter letter rest)
   letter-step f rest fields all seen found h h2 h3 h4 = grind (arith, in-unfolded)

@@ -1,5 +1,10 @@
 -- Delimiter lines and the open multiparts: what the code finds is what Stream defines.
-use Rattle.mime_text.proofs.Words.{◌≡◌, ◌∙◌, ◌≤◌, ◌<◌, ◌+◌, ◌-◌, ◌++◌, ◌==◌, ℕ, zero, suc, Bool, true, false, cond, List, [], ◌∷◌, Option, Some, None, length, take, drop, refl, sym, ap, arith, add-one, get_or, Bor, slice_get, option_map, MatchOption, IfSome, eqb-true, bytes_eq, without_break, after_blanks, DefaultType, Frame, Delimiter, are_blanks, is_delimiter, is_closing, StreamPlace, Skip, InHeader, or_else, own_hit, hit, dash_dash, dashes, kind_behind, delimiter_of, led, scan, inside_out, opened, AreNested}
+use Rattle.mime_text.proofs.Words.{◌≡◌, ◌∙◌, ◌≤◌, ◌<◌, ◌+◌, ◌-◌, ◌++◌, ◌==◌, ℕ, zero, suc, Bool, true, false, cond}
+use Rattle.mime_text.proofs.Words.{List, [], ◌∷◌, Option, Some, None, length, take, drop, refl, sym, ap, arith, add-one}
+use Rattle.mime_text.proofs.Words.{get_or, Bor, slice_get, option_map, MatchOption, IfSome, eqb-true, bytes_eq}
+use Rattle.mime_text.proofs.Words.{without_break, after_blanks, DefaultType, Frame, Delimiter, are_blanks, is_delimiter}
+use Rattle.mime_text.proofs.Words.{is_closing, StreamPlace, Skip, InHeader, or_else, own_hit, hit, dash_dash, dashes}
+use Rattle.mime_text.proofs.Words.{kind_behind, delimiter_of, led, scan, inside_out, opened, AreNested}
 use Rattle.std.proofs.lemmas.Option.{slice_get-get_or}
 use Rattle.header_text.specs.EncodedWords.{after}
 use Rattle.mime_text.specs.declared.parts.delimiter.Delimiter.TheVariants.{Next, Closing}
@@ -16,7 +21,8 @@ after-append [] b bytes = refl
 after-append (c ∷ a) b [] = refl
 after-append (c ∷ a) b (x ∷ bytes) = grind (arith, after-append a b bytes)
 
-after-tested : (front bytes : List ℕ) → after front bytes ≡ cond (bytes_eq (take (length front) bytes) front) (Some (drop (length front) bytes)) None
+after-tested : (front bytes : List ℕ) → after front bytes
+    ≡ cond (bytes_eq (take (length front) bytes) front) (Some (drop (length front) bytes)) None
 after-tested [] bytes = refl
 after-tested (c ∷ front) [] = refl
 after-tested (c ∷ front) (x ∷ bytes) = grind (arith, after-tested front bytes)
@@ -33,12 +39,15 @@ not_blank (x ∷ xs) end h = grind arith
 
 -- the result of `strip_prefix`
 pub after-stripped : (front bytes : List ℕ) (r : Option (Bor (List ℕ)))
-    → MatchOption r (bytes_eq (take (length front) bytes) front ≡ false) (λ x. (bytes_eq (take (length front) bytes) front ≡ true) × (x.now ≡ drop (length front) bytes) × (length x.now + length front ≡ length bytes))
+    → MatchOption r (bytes_eq (take (length front) bytes) front ≡ false)
+    (λ x. (bytes_eq (take (length front) bytes) front ≡ true) × (x.now ≡ drop (length front) bytes)
+    × (length x.now + length front ≡ length bytes))
     → option_map (λ x. x.now) r ≡ after front bytes
 after-stripped front bytes r h = grind (arith, after-tested)
 
 -- each byte of the text that begins some bytes
-pub after-each : (front bytes : List ℕ) (k : ℕ) → k < length front → IfSome (after front bytes) (λ _. (k < length bytes) × (get_or bytes k 0 ≡ get_or front k 0))
+pub after-each : (front bytes : List ℕ) (k : ℕ) → k < length front
+    → IfSome (after front bytes) (λ _. (k < length bytes) × (get_or bytes k 0 ≡ get_or front k 0))
 after-each [] bytes k below = absurd (omega (arith, below))
 after-each (c ∷ front) [] k below = tt
 after-each (c ∷ front) (b ∷ bytes) zero below = grind (arith, eqb-true)
@@ -50,18 +59,26 @@ abbrev led_by : {A : Type 0} → Option (List ℕ) → Frame → List Frame → 
 led_by None f outer = None
 led_by (Some text) f outer = led (delimiter_of f.boundary text) f outer
 
-own_hit-is : {A : Type 0} (l : List ℕ) (f : Frame) (outer : List Frame) → own_hit {A = A} (is_closing f.boundary l) (is_delimiter f.boundary l) f outer ≡ led_by (dashes l) f outer
+own_hit-is : {A : Type 0} (l : List ℕ) (f : Frame) (outer : List Frame)
+    → own_hit {A = A} (is_closing f.boundary l) (is_delimiter f.boundary l) f outer ≡ led_by (dashes l) f outer
 unfolding is_delimiter dashes delimiter_of
 own_hit-is {A} l f outer =
-    rw (after-append dash_dash f.boundary (without_break l), after-append dash_dash (f.boundary ++ dash_dash) (without_break l)) (by_dashes (after dash_dash (without_break l)))
+    rw (
+      after-append dash_dash f.boundary (without_break l),
+      after-append dash_dash (f.boundary ++ dash_dash) (without_break l),
+    )
+    (by_dashes (after dash_dash (without_break l)))
   where
-    by_bools : (closing blank : Bool) → own_hit {A = A} closing blank f outer ≡ led (cond closing (Some Closing) (cond blank (Some Next) None)) f outer
+    by_bools : (closing blank : Bool) → own_hit {A = A} closing blank f outer
+        ≡ led (cond closing (Some Closing) (cond blank (Some Next) None)) f outer
     by_bools closing blank = grind arith
 
-    by_rest : (o : Option (List ℕ)) → own_hit {A = A} (are_blanks (then_after o dash_dash)) (are_blanks o) f outer ≡ led (kind_behind o) f outer
+    by_rest : (o : Option (List ℕ)) → own_hit {A = A} (are_blanks (then_after o dash_dash)) (are_blanks o) f outer
+        ≡ led (kind_behind o) f outer
     by_rest o = grind (arith, by_bools)
 
-    by_dashes : (o : Option (List ℕ)) → own_hit {A = A} (are_blanks (then_after o (f.boundary ++ dash_dash))) (are_blanks (then_after o f.boundary)) f outer ≡ led_by o f outer
+    by_dashes : (o : Option (List ℕ)) → own_hit {A = A} (are_blanks (then_after o (f.boundary ++ dash_dash)))
+        (are_blanks (then_after o f.boundary)) f outer ≡ led_by o f outer
     by_dashes o = grind (arith, after-append, by_rest)
 
 -- ---- the outermost multipart that a line delimits
@@ -73,29 +90,35 @@ scan_by (Some text) outer fs = scan outer fs text
 or_else-assoc : {A : Type 0} (a b c : Option A) → or_else (or_else a b) c ≡ or_else a (or_else b c)
 or_else-assoc a b c = grind arith
 
-hit_inside : {A : Type 0} (l : List ℕ) (fs outer : List Frame) → hit {A = A} (inside_out fs outer) l ≡ or_else (hit outer l) (scan_by (dashes l) outer fs)
+hit_inside : {A : Type 0} (l : List ℕ) (fs outer : List Frame) → hit {A = A} (inside_out fs outer) l
+    ≡ or_else (hit outer l) (scan_by (dashes l) outer fs)
 hit_inside {A} l [] outer = grind arith
 hit_inside {A} l (f ∷ fs) outer =
     hit_inside l fs (f ∷ outer)
-    ∙ ap (λ (o : Option (List Frame × StreamPlace A)). or_else (or_else (hit outer l) o) (scan_by (dashes l) (f ∷ outer) fs)) (own_hit-is l f outer)
+    ∙ ap (λ (o : Option (List Frame × StreamPlace A)). or_else (or_else (hit outer l) o)
+    (scan_by (dashes l) (f ∷ outer) fs)) (own_hit-is l f outer)
     ∙ or_else-assoc (hit outer l) (led_by (dashes l) f outer) (scan_by (dashes l) (f ∷ outer) fs)
     ∙ ap (or_else (hit outer l)) (go (dashes l))
   where
-    go : (o : Option (List ℕ)) → or_else (led_by {A = A} o f outer) (scan_by o (f ∷ outer) fs) ≡ scan_by o outer (f ∷ fs)
+    go : (o : Option (List ℕ)) → or_else (led_by {A = A} o f outer) (scan_by o (f ∷ outer) fs)
+        ≡ scan_by o outer (f ∷ fs)
     go o = grind arith
 
 pub hit-is : {A : Type 0} (l : List ℕ) (fs : List Frame) → hit {A = A} (inside_out fs []) l ≡ scan_by (dashes l) [] fs
 hit-is l fs = hit_inside l fs []
 
 -- the search passes over the multiparts that the line doesn't delimit, and ends at one that it does
-pub scan-at : {A : Type 0} (text : List ℕ) (fs : List Frame) (n : ℕ) (outer : List Frame) (f : Frame) → slice_get fs n ≡ Some f
+pub scan-at : {A : Type 0} (text : List ℕ) (fs : List Frame) (n : ℕ) (outer : List Frame) (f : Frame) → slice_get fs n
+    ≡ Some f
     → scan {A = A} (inside_out (take n fs) outer) (drop n fs) text
-    ≡ or_else (led (delimiter_of f.boundary text) f (inside_out (take n fs) outer)) (scan (inside_out (take (suc n) fs) outer) (drop (suc n) fs) text)
+    ≡ or_else (led (delimiter_of f.boundary text) f (inside_out (take n fs) outer))
+    (scan (inside_out (take (suc n) fs) outer) (drop (suc n) fs) text)
 scan-at text [] n outer f e = absurd (cc)
 scan-at {A} text (g ∷ gs) zero outer f e = grind (arith)
 scan-at text (g ∷ gs) (suc n) outer f e = scan-at text gs n (g ∷ outer) f e
 
-pub inside_out-at : (fs : List Frame) (n : ℕ) (outer : List Frame) (f : Frame) → slice_get fs n ≡ Some f → inside_out (take (suc n) fs) outer ≡ f ∷ inside_out (take n fs) outer
+pub inside_out-at : (fs : List Frame) (n : ℕ) (outer : List Frame) (f : Frame) → slice_get fs n ≡ Some f
+    → inside_out (take (suc n) fs) outer ≡ f ∷ inside_out (take n fs) outer
 inside_out-at [] n outer f e = absurd (cc)
 inside_out-at (g ∷ gs) zero outer f e = grind (arith)
 inside_out-at (g ∷ gs) (suc n) outer f e = inside_out-at gs n (g ∷ outer) f e
@@ -106,7 +129,8 @@ inside_out-push (g ∷ gs) outer f = inside_out-push gs (g ∷ outer) f
 
 -- ---- how deep multiparts are
 
-pub AreNested_push : (above : ℕ) (fs : List Frame) (f : Frame) → AreNested above fs → above + length fs + 1 + f.left ≤ 16 → AreNested above (fs ++ f ∷ [])
+pub AreNested_push : (above : ℕ) (fs : List Frame) (f : Frame) → AreNested above fs
+    → above + length fs + 1 + f.left ≤ 16 → AreNested above (fs ++ f ∷ [])
 AreNested_push above [] f h e = (omega arith, tt)
 AreNested_push above (g ∷ gs) f h e = (h.0, AreNested_push (above + 1) gs f h.1 (omega arith))
 
@@ -115,19 +139,22 @@ AreNested-take above fs zero h = tt
 AreNested-take above [] (suc n) h = tt
 AreNested-take above (g ∷ gs) (suc n) h = (h.0, AreNested-take (above + 1) gs n h.1)
 
-pub AreNested-at : (above : ℕ) (fs : List Frame) (n : ℕ) (f : Frame) → AreNested above fs → slice_get fs n ≡ Some f → above + n + 1 + f.left ≤ 16
+pub AreNested-at : (above : ℕ) (fs : List Frame) (n : ℕ) (f : Frame) → AreNested above fs → slice_get fs n ≡ Some f
+    → above + n + 1 + f.left ≤ 16
 AreNested-at above [] n f h e = absurd (cc)
 AreNested-at above (g ∷ gs) zero f h e = grind (arith)
 AreNested-at above (g ∷ gs) (suc n) f h e = omega (arith, AreNested-at (above + 1) gs n f h.1 e)
 
 -- the open multiparts with one more
 pub open_frames : (fs : List Frame) (left : ℕ) (boundary : List ℕ) (d : DefaultType) → 0 < left
-    → inside_out (fs ++ record { boundary = boundary; default = d; left = left - 1 } ∷ []) [] ≡ opened left boundary d (inside_out fs [])
+    → inside_out (fs ++ record { boundary = boundary; default = d; left = left - 1 } ∷ []) []
+    ≡ opened left boundary d (inside_out fs [])
 open_frames fs left boundary d h = grind (arith, inside_out-push)
 
 -- ---- the place after a delimiter
 
-pub or_else-led : {A : Type 0} (k : Delimiter) (f : Frame) (outer : List Frame) (o : Option (List Frame × StreamPlace A)) → or_else (led (Some k) f outer) o ≡ led (Some k) f outer
+pub or_else-led : {A : Type 0} (k : Delimiter) (f : Frame) (outer : List Frame)
+    (o : Option (List Frame × StreamPlace A)) → or_else (led (Some k) f outer) o ≡ led (Some k) f outer
 or_else-led k f outer o = grind arith
 
 -- the element at the index that a loop or an index expression reads
@@ -137,7 +164,8 @@ got-at fs n f h e = slice_get-get_or fs n f h ∙ ap (λ (x : Frame). Some x) (s
 pub no_dashes : {A : Type 0} (l : List ℕ) (frames : List Frame) → dashes l ≡ None → hit {A = A} frames l ≡ None
 no_dashes l [] e = refl
 no_dashes {A} l (f ∷ outer) e =
-    ap (λ (o : Option (List Frame × StreamPlace A)). or_else o (own_hit (is_closing f.boundary l) (is_delimiter f.boundary l) f outer)) (no_dashes l outer e)
+    ap (λ (o : Option (List Frame × StreamPlace A)). or_else o
+    (own_hit (is_closing f.boundary l) (is_delimiter f.boundary l) f outer)) (no_dashes l outer e)
     ∙ own_hit-is l f outer ∙ ap (λ (o : Option (List ℕ)). led_by {A = A} o f outer) e
 
 pub scanned : {A : Type 0} (l text : List ℕ) (frames fs seen : List Frame) (o : Option (List Frame × StreamPlace A))
@@ -146,14 +174,17 @@ scanned {A} l text frames fs seen o v q e s = grind (arith, hit-is)
 
 -- what the search finds of the multipart that a line delimits
 abbrev pub Found : (A : Type 0) → List Frame → List ℕ → ℕ → Delimiter → Type 0
-Found A seen text n k = (f : Frame) × (slice_get seen n ≡ Some f) × (scan {A = A} [] seen text ≡ led (Some k) f (inside_out (take n seen) []))
+Found A seen text n k = (f : Frame) × (slice_get seen n ≡ Some f)
+    × (scan {A = A} [] seen text ≡ led (Some k) f (inside_out (take n seen) []))
 
 pub closing-leads : {A : Type 0} (l text : List ℕ) (frames fs seen kept : List Frame) (n : ℕ) (k : Delimiter)
-    → frames ≡ inside_out fs [] → seen ≡ fs → dashes l ≡ Some text → k ≡ Closing → Found A seen text n k → kept ≡ take n fs
+    → frames ≡ inside_out fs [] → seen ≡ fs → dashes l ≡ Some text → k ≡ Closing → Found A seen text n k → kept
+    ≡ take n fs
     → Some (inside_out kept [], Skip) ≡ hit {A = A} frames l
 closing-leads {A} l text frames fs seen kept n k v q e is found t = grind (arith, scanned)
 
 pub next-leads : {A : Type 0} (l text : List ℕ) (frames fs seen kept : List Frame) (n : ℕ) (k : Delimiter) (g : Frame)
-    → frames ≡ inside_out fs [] → seen ≡ fs → dashes l ≡ Some text → k ≡ Next → Found A seen text n k → slice_get fs n ≡ Some g → kept ≡ take (n + 1) fs
+    → frames ≡ inside_out fs [] → seen ≡ fs → dashes l ≡ Some text → k ≡ Next → Found A seen text n k → slice_get fs n
+    ≡ Some g → kept ≡ take (n + 1) fs
     → Some (inside_out kept [], InHeader false g.left g.default []) ≡ hit {A = A} frames l
 next-leads {A} l text frames fs seen kept n k g v q e is found got t = grind (arith, add-one, scanned, inside_out-at)

@@ -1,3 +1,4 @@
+-- The proofs of mime_text: words, lemmas, rows and laws. Proofs of single functions are in folders named after these.
 pub mod Words
 mod FlagLemmas
 mod IdSizes

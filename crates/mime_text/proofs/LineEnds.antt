@@ -1,35 +1,57 @@
 -- The end of a line whose beginning was searched before.
-use Rattle.mime_text.proofs.Words.{◌≡◌, ◌∙◌, ◌+◌, ◌<◌, ◌≤◌, ◌==◌, ◌++◌, ℕ, zero, suc, true, false, cond, List, [], ◌∷◌, Some, None, length, take, drop, sym, ap, arith, min, nat_lt, nat_tests, length-take, length-drop, take-append-le, length_before_feed, line_end_of, length_before_feed-le, length_before_feed-take, length_before_feed-found, length_before_feed-not_found}
+use Rattle.mime_text.proofs.Words.{◌≡◌, ◌∙◌, ◌+◌, ◌<◌, ◌≤◌, ◌==◌, ◌++◌, ℕ, zero, suc, true, false, cond, List, [], ◌∷◌}
+use Rattle.mime_text.proofs.Words.{Some, None, length, take, drop, sym, ap, arith, min, nat_lt, nat_tests, length-take}
+use Rattle.mime_text.proofs.Words.{length-drop, take-append-le, length_before_feed, line_end_of, length_before_feed-le}
+use Rattle.mime_text.proofs.Words.{length_before_feed-take, length_before_feed-found, length_before_feed-not_found}
 use Rattle.memchr.specs.Find.{IsFirstByte, is_byte}
 
-before_feed-drop : (n : ℕ) (b : List ℕ) → n ≤ length_before_feed b → length_before_feed b ≡ n + length_before_feed (drop n b)
+before_feed-drop : (n : ℕ) (b : List ℕ) → n ≤ length_before_feed b → length_before_feed b
+    ≡ n + length_before_feed (drop n b)
 before_feed-drop zero b h = omega arith
 before_feed-drop (suc n) [] h = absurd (omega arith)
-before_feed-drop (suc n) (x ∷ xs) h = (elim (x == 10) as (λ v. suc n ≤ cond v 0 (suc (length_before_feed xs)) → cond v 0 (suc (length_before_feed xs)) ≡ suc n + length_before_feed (drop n xs))
+before_feed-drop (suc n) (x ∷ xs) h = (elim (x == 10) as
+    (λ v. suc n ≤ cond v 0 (suc (length_before_feed xs)) → cond v 0 (suc (length_before_feed xs))
+    ≡ suc n + length_before_feed (drop n xs))
     [ true ↦ λ k. absurd (omega arith) | false ↦ λ k. omega (arith, before_feed-drop n xs (omega arith)) ]) h
 
 -- the part that was searched has no line feed
-front-free : (b : List ℕ) (n s : ℕ) → n ≡ min (length b) 65537 → s ≤ length_before_feed b → s ≤ 65536 → s ≤ length_before_feed (take n b)
+front-free : (b : List ℕ) (n s : ℕ) → n ≡ min (length b) 65537 → s ≤ length_before_feed b → s ≤ 65536
+    → s ≤ length_before_feed (take n b)
 front-free b n s e free few = omega (arith, length_before_feed-take n b, length_before_feed-le b)
 
-pub searched-fits : (b : List ℕ) (n s : ℕ) → n ≡ min (length b) 65537 → s ≤ length_before_feed b → s ≤ 65536 → s ≤ length (take n b)
+pub searched-fits : (b : List ℕ) (n s : ℕ) → n ≡ min (length b) 65537 → s ≤ length_before_feed b → s ≤ 65536
+    → s ≤ length (take n b)
 searched-fits b n s e free few = omega (arith, front-free b n s e free few, length_before_feed-le (take n b))
 
-pub behind-found : (b rest : List ℕ) (n s at : ℕ) → n ≡ min (length b) 65537 → s ≤ length_before_feed b → s ≤ 65536 → rest ≡ drop s (take n b)
+pub behind-found : (b rest : List ℕ) (n s at : ℕ) → n ≡ min (length b) 65537 → s ≤ length_before_feed b → s ≤ 65536
+    → rest ≡ drop s (take n b)
     → IsFirstByte (is_byte 10) rest (Some at) → Some (s + at + 1) ≡ line_end_of b
 unfolding line_end_of
-behind-found b rest n s at e free few is h = grind (arith, before_feed-drop, front-free, length_before_feed-found, length_before_feed-take, length-drop, length-take, nat_lt)
+behind-found b rest n s at e free few is h =
+    grind (
+      arith,
+      before_feed-drop,
+      front-free,
+      length_before_feed-found,
+      length_before_feed-take,
+      length-drop,
+      length-take,
+      nat_lt,
+    )
 
-none-before : (b rest : List ℕ) (n s : ℕ) → n ≡ min (length b) 65537 → s ≤ length_before_feed b → s ≤ 65536 → rest ≡ drop s (take n b)
+none-before : (b rest : List ℕ) (n s : ℕ) → n ≡ min (length b) 65537 → s ≤ length_before_feed b → s ≤ 65536 → rest
+    ≡ drop s (take n b)
     → IsFirstByte (is_byte 10) rest None → min n (length_before_feed b) ≡ length (take n b)
 none-before b rest n s e free few is h =
-    let front : length_before_feed (take n b) ≡ s + length_before_feed (drop s (take n b)) = before_feed-drop s (take n b) (front-free b n s e free few) in
+    let front : length_before_feed (take n b) ≡ s + length_before_feed (drop s (take n b)) =
+    before_feed-drop s (take n b) (front-free b n s e free few) in
     let none : length_before_feed rest ≡ length rest = length_before_feed-not_found rest h in
     let same : length_before_feed rest ≡ length_before_feed (drop s (take n b)) = ap length_before_feed is in
     let sizes : length rest ≡ length (drop s (take n b)) = ap length is in
     omega (arith, length_before_feed-take n b, length-drop s (take n b), searched-fits b n s e free few)
 
-pub behind-full : (b rest : List ℕ) (n s : ℕ) → n ≡ min (length b) 65537 → s ≤ length_before_feed b → s ≤ 65536 → rest ≡ drop s (take n b)
+pub behind-full : (b rest : List ℕ) (n s : ℕ) → n ≡ min (length b) 65537 → s ≤ length_before_feed b → s ≤ 65536 → rest
+    ≡ drop s (take n b)
     → IsFirstByte (is_byte 10) rest None → 65536 < length (take n b) → Some 65536 ≡ line_end_of b
 unfolding line_end_of
 behind-full b rest n s e free few is h long =
@@ -38,7 +60,8 @@ behind-full b rest n s e free few is h long =
     let lt : nat_lt 65536 (length_before_feed b) ≡ true = grind (arith, nat_tests) in
     rw lt
 
-pub behind-open : (b rest : List ℕ) (n s : ℕ) → n ≡ min (length b) 65537 → s ≤ length_before_feed b → s ≤ 65536 → rest ≡ drop s (take n b)
+pub behind-open : (b rest : List ℕ) (n s : ℕ) → n ≡ min (length b) 65537 → s ≤ length_before_feed b → s ≤ 65536 → rest
+    ≡ drop s (take n b)
     → IsFirstByte (is_byte 10) rest None → length (take n b) ≤ 65536 → None ≡ line_end_of b
 unfolding line_end_of
 behind-open b rest n s e free few is h short =
@@ -47,7 +70,8 @@ behind-open b rest n s e free few is h short =
     let le = length_before_feed-le b in
     let place : length_before_feed b ≡ length b = omega (arith, r, size, le) in
     let below : length b ≤ 65536 = omega (arith, size) in
-    rw place (let a : nat_lt 65536 (length b) ≡ false = grind arith in let c : nat_lt (length b) (length b) ≡ false = grind arith in rw (a, c))
+    rw place (let a : nat_lt 65536 (length b) ≡ false = grind arith in let c : nat_lt (length b) (length b) ≡ false =
+    grind arith in rw (a, c))
 
 -- ---- bytes that are held
 
@@ -57,8 +81,10 @@ unfolding line_end_of
 held-free b e = let le = length_before_feed-le b in grind (arith, nat_tests)
 
 -- their beginning has none either, after bytes were added at the end
-pub still-free : (old new x y : List ℕ) (k : ℕ) → new ++ x ≡ old ++ y → k ≤ length old → k ≤ length new → length_before_feed old ≡ length old → k ≤ length_before_feed new
+pub still-free : (old new x y : List ℕ) (k : ℕ) → new ++ x ≡ old ++ y → k ≤ length old → k ≤ length new
+    → length_before_feed old ≡ length old → k ≤ length_before_feed new
 still-free old new x y k e in_old in_new free =
-    let fronts : take k new ≡ take k old = sym (take-append-le k new x in_new) ∙ ap (take k) e ∙ take-append-le k old y in_old in
+    let fronts : take k new ≡ take k old = sym (take-append-le k new x in_new) ∙ ap (take k) e
+    ∙ take-append-le k old y in_old in
     let same : length_before_feed (take k new) ≡ length_before_feed (take k old) = ap length_before_feed fronts in
     omega (arith, same, length_before_feed-take k new, length_before_feed-take k old)

@@ -1,5 +1,12 @@
 -- The decoded bytes of a leaf, line by line: each call gives the first lines and keeps the rest.
-use Rattle.mime_text.proofs.Words.{◌≡◌, ◌∙◌, ◌+◌, ◌-◌, ◌<◌, ◌≤◌, ◌==◌, ◌++◌, ℕ, suc, true, false, cond, List, [], ◌∷◌, Some, None, length, take, drop, refl, sym, ap, ap₂, subst, arith, length-append, append-nil, Result, Ok, Err, OnOk, concat, eqb-true, nat_tests, length-drop, drop-drop, take-append-le, drop-append-le, take_all, drop_all, take-append-drop, length_before_feed, line_end_of, lines, line_end-more, line_end-positive, line_end-within, line_end-whole, TextKind, SinkFault, TextFault, OutOfMemory, Sink, Failed, LineTexts, Pair, Gave, Broke, Hands, ends_in, line_text, is_open_behind_line, texts_behind, body_pairs, pairs_of_lines, pairs_of_bytes}
+use Rattle.mime_text.proofs.Words.{◌≡◌, ◌∙◌, ◌+◌, ◌-◌, ◌<◌, ◌≤◌, ◌==◌, ◌++◌, ℕ, suc, true, false, cond, List, [], ◌∷◌}
+use Rattle.mime_text.proofs.Words.{Some, None, length, take, drop, refl, sym, ap, ap₂, subst, arith, length-append}
+use Rattle.mime_text.proofs.Words.{append-nil, Result, Ok, Err, OnOk, concat, eqb-true, nat_tests, length-drop}
+use Rattle.mime_text.proofs.Words.{drop-drop, take-append-le, drop-append-le, take_all, drop_all, take-append-drop}
+use Rattle.mime_text.proofs.Words.{length_before_feed, line_end_of, lines, line_end-more, line_end-positive}
+use Rattle.mime_text.proofs.Words.{line_end-within, line_end-whole, TextKind, SinkFault, TextFault, OutOfMemory, Sink}
+use Rattle.mime_text.proofs.Words.{Failed, LineTexts, Pair, Gave, Broke, Hands, ends_in, line_text, is_open_behind_line}
+use Rattle.mime_text.proofs.Words.{texts_behind, body_pairs, pairs_of_lines, pairs_of_bytes}
 use Rattle.std.proofs.lemmas.Slice.Eq.{bytes_eq-Decides}
 use Rattle.mbox_cutter.proofs.LineLists.{lines-cons, lines-nil}
 use Rattle.mail_words.specs.declared.kind.TextKind.TheVariants as kind
@@ -12,11 +19,23 @@ pub concat-one : (bytes : List ℕ) → concat (bytes ∷ []) ≡ bytes
 concat-one bytes = append-nil bytes
 
 -- the first line of some bytes, if no bytes to come can change it
-pub lines-first : (b more : List ℕ) (n : ℕ) → Some n ≡ line_end_of b → lines (b ++ more) ≡ take n b ∷ lines (drop n b ++ more)
-lines-first b more n e = grind (arith, line_end-more, line_end-within, line_end-positive, length-append, lines-cons, take-append-le, drop-append-le)
+pub lines-first : (b more : List ℕ) (n : ℕ) → Some n ≡ line_end_of b → lines (b ++ more)
+    ≡ take n b ∷ lines (drop n b ++ more)
+lines-first b more n e = grind (
+  arith,
+  line_end-more,
+  line_end-within,
+  line_end-positive,
+  length-append,
+  lines-cons,
+  take-append-le,
+  drop-append-le,
+)
 
-pub lines-parts : (b line later more : List ℕ) (n : ℕ) → Some n ≡ line_end_of b → line ≡ take n b → later ≡ drop n b → lines (b ++ more) ≡ line ∷ lines (later ++ more)
-lines-parts b line later more n e f g = lines-first b more n e ∙ ap₂ (λ (x y : List ℕ). x ∷ lines (y ++ more)) (sym f) (sym g)
+pub lines-parts : (b line later more : List ℕ) (n : ℕ) → Some n ≡ line_end_of b → line ≡ take n b → later ≡ drop n b
+    → lines (b ++ more) ≡ line ∷ lines (later ++ more)
+lines-parts b line later more n e f g = lines-first b more n e
+    ∙ ap₂ (λ (x y : List ℕ). x ∷ lines (y ++ more)) (sym f) (sym g)
 
 -- the last line
 pub lines-last : (b : List ℕ) → None ≡ line_end_of b → 0 < length b → lines b ≡ b ∷ []
@@ -24,23 +43,30 @@ lines-last b e some = grind (arith, line_end-whole, lines-cons, take_all, drop_a
 
 before_feed-last : (front : List ℕ) → length_before_feed (front ++ 10 ∷ []) ≤ length front
 before_feed-last [] = omega arith
-before_feed-last (x ∷ xs) = elim (x == 10) as (λ v. cond v 0 (suc (length_before_feed (xs ++ 10 ∷ []))) ≤ length (x ∷ xs)) [ true ↦ omega arith | false ↦ omega (arith, before_feed-last xs) ]
+before_feed-last (x ∷ xs) = elim (x == 10) as
+    (λ v. cond v 0 (suc (length_before_feed (xs ++ 10 ∷ []))) ≤ length (x ∷ xs))
+    [ true ↦ omega arith | false ↦ omega (arith, before_feed-last xs) ]
 
 -- a line that ends with its only line feed
-pub feed-end : (line : List ℕ) → ends_in 0x0A line ≡ true → length line ≤ length_before_feed line + 1 → length line ≤ 65537 → Some (length line) ≡ line_end_of line
+pub feed-end : (line : List ℕ) → ends_in 0x0A line ≡ true → length line ≤ length_before_feed line + 1
+    → length line ≤ 65537 → Some (length line) ≡ line_end_of line
 unfolding line_end_of
 feed-end line feed last short =
-    let tail : drop (length line - 1) line ≡ 10 ∷ [] = (bytes_eq-Decides (drop (length line - 1) line) (10 ∷ [])).0 feed in
+    let tail : drop (length line - 1) line ≡ 10 ∷ [] = (bytes_eq-Decides (drop (length line - 1) line) (10 ∷ [])).0 feed
+    in
     let front : List ℕ = take (length line - 1) line in
-    let whole : line ≡ front ++ 10 ∷ [] = sym (take-append-drop (length line - 1) line) ∙ ap (λ (l : List ℕ). front ++ l) tail in
+    let whole : line ≡ front ++ 10 ∷ [] = sym (take-append-drop (length line - 1) line)
+    ∙ ap (λ (l : List ℕ). front ++ l) tail in
     let size : length line ≡ length front + 1 = ap length whole ∙ length-append front (10 ∷ []) in
     let P : List ℕ → Type 0 = λ l. length_before_feed l ≤ length front in
     let feeds : length_before_feed line ≤ length front = subst P (sym whole) (before_feed-last front) in
     grind (arith, nat_tests)
 
-pub lines-whole : (line more : List ℕ) → Some (length line) ≡ line_end_of line → lines (line ++ more) ≡ line ∷ lines more
+pub lines-whole : (line more : List ℕ) → Some (length line) ≡ line_end_of line → lines (line ++ more)
+    ≡ line ∷ lines more
 lines-whole line more e =
-    lines-first line more (length line) e ∙ ap₂ (λ (x y : List ℕ). x ∷ lines (y ++ more)) (take_all (length line) line (omega arith)) (drop_all (length line) line (omega arith))
+    lines-first line more (length line) e ∙ ap₂ (λ (x y : List ℕ). x ∷ lines (y ++ more))
+    (take_all (length line) line (omega arith)) (drop_all (length line) line (omega arith))
 
 -- ---- the texts of lines
 
@@ -56,14 +82,18 @@ some_bytes b h = grind arith
 pub rest-start : (b : List ℕ) → b ≡ drop (length b - length b) b
 rest-start b = let none : length b - length b ≡ 0 = omega arith in rw none refl
 
-pub rest-step : (b rest later : List ℕ) (n : ℕ) → length rest ≤ length b → rest ≡ drop (length b - length rest) b → later ≡ drop n rest → n ≤ length rest
+pub rest-step : (b rest later : List ℕ) (n : ℕ) → length rest ≤ length b → rest ≡ drop (length b - length rest) b
+    → later ≡ drop n rest → n ≤ length rest
     → later ≡ drop (length b - length later) b
 rest-step b rest later n fits is next within = grind (arith, length-drop, drop-drop)
 
-module _ {S : Type 0} (takes : S → TextKind → List ℕ → S → Type 0) (refuses : S → TextKind → List ℕ → SinkFault → S → Type 0) where
+module _ {S : Type 0} (takes : S → TextKind → List ℕ → S → Type 0)
+    (refuses : S → TextKind → List ℕ → SinkFault → S → Type 0) where
   -- the text of a line is given
-  pub hands_line : {T : Type 0} (old new : LineTexts) (line : List ℕ) (result : Result T TextFault) (s t : S) → Shows takes refuses kind.Body (line_text old.charset old.is_html old.is_open line) result s t
-      → new.charset ≡ old.charset → new.is_html ≡ old.is_html → OnOk result (new.is_open ≡ is_open_behind_line old.charset old.is_html old.is_open line)
+  pub hands_line : {T : Type 0} (old new : LineTexts) (line : List ℕ) (result : Result T TextFault) (s t : S)
+      → Shows takes refuses kind.Body (line_text old.charset old.is_html old.is_open line) result s t
+      → new.charset ≡ old.charset → new.is_html ≡ old.is_html
+      → OnOk result (new.is_open ≡ is_open_behind_line old.charset old.is_html old.is_open line)
       → Hands takes refuses (λ ls. pairs_of_lines old (line ∷ ls)) (λ ls. pairs_of_lines new ls) result s t
   hands_line old new line (Ok x) s t h e f g =
       let p : Pair = (kind.Body, line_text old.charset old.is_html old.is_open line) in
@@ -74,41 +104,60 @@ module _ {S : Type 0} (takes : S → TextKind → List ℕ → S → Type 0) (re
       record {
         pairs = p ∷ [];
         broken = ([], p, s, refl, refl, h);
-        front = λ ls. (body_pairs (texts_behind old.charset old.is_html (is_open_behind_line old.charset old.is_html old.is_open line) ls), refl);
+        front = λ ls. (
+          body_pairs (texts_behind old.charset old.is_html
+              (is_open_behind_line old.charset old.is_html old.is_open line) ls),
+          refl,
+        );
       }
   hands_line old new line (Err Failed) s t h e f g = absurd h
 
-  pub gave-line : (old new : LineTexts) (b line later : List ℕ) (n : ℕ) (s t : S) → Some n ≡ line_end_of b → line ≡ take n b → later ≡ drop n b
+  pub gave-line : (old new : LineTexts) (b line later : List ℕ) (n : ℕ) (s t : S) → Some n ≡ line_end_of b → line
+      ≡ take n b → later ≡ drop n b
       → Gave takes refuses (λ ls. pairs_of_lines old (line ∷ ls)) (λ ls. pairs_of_lines new ls) s t
-      → Gave takes refuses (λ ms. pairs_of_bytes old (b ++ concat ms)) (λ ms. pairs_of_bytes new (later ++ concat ms)) s t
+      → Gave takes refuses (λ ms. pairs_of_bytes old (b ++ concat ms)) (λ ms. pairs_of_bytes new (later ++ concat ms)) s
+      t
   gave-line old new b line later n s t e f g h =
       gave-along takes refuses (λ ls. pairs_of_lines old (line ∷ ls)) (λ ls. pairs_of_lines new ls)
-      (λ ms. pairs_of_bytes old (b ++ concat ms)) (λ ms. pairs_of_bytes new (later ++ concat ms)) (λ ms. lines (later ++ concat ms)) s t
+      (λ ms. pairs_of_bytes old (b ++ concat ms)) (λ ms. pairs_of_bytes new (later ++ concat ms))
+      (λ ms. lines (later ++ concat ms)) s t
       (λ ms. ap (pairs_of_lines old) (lines-parts b line later (concat ms) n e f g)) (λ ms. refl) h
 
-  pub broke-line : (old : LineTexts) (b line : List ℕ) (n : ℕ) (fault : TextFault) (s t : S) → Some n ≡ line_end_of b → line ≡ take n b
+  pub broke-line : (old : LineTexts) (b line : List ℕ) (n : ℕ) (fault : TextFault) (s t : S) → Some n ≡ line_end_of b
+      → line ≡ take n b
       → Broke takes refuses (λ ls. pairs_of_lines old (line ∷ ls)) fault s t
       → Broke takes refuses (λ ms. pairs_of_bytes old (b ++ concat ms)) fault s t
   broke-line old b line n fault s t e f h =
-      broke-along takes refuses (λ ls. pairs_of_lines old (line ∷ ls)) (λ ms. pairs_of_bytes old (b ++ concat ms)) (λ ms. lines (drop n b ++ concat ms)) fault s t
+      broke-along takes refuses (λ ls. pairs_of_lines old (line ∷ ls)) (λ ms. pairs_of_bytes old (b ++ concat ms))
+      (λ ms. lines (drop n b ++ concat ms)) fault s t
       (λ ms. ap (pairs_of_lines old) (lines-parts b line (drop n b) (concat ms) n e f refl)) h
 
   -- the first lines were given, and nothing is left
-  pub gave-all : (old new : LineTexts) (b rest : List ℕ) (s t : S) → rest ≡ [] → Gave takes refuses (λ ms. pairs_of_bytes old (b ++ concat ms)) (λ ms. pairs_of_bytes new (rest ++ concat ms)) s t
+  pub gave-all : (old new : LineTexts) (b rest : List ℕ) (s t : S) → rest ≡ []
+      → Gave takes refuses (λ ms. pairs_of_bytes old (b ++ concat ms)) (λ ms. pairs_of_bytes new (rest ++ concat ms)) s
+      t
       → Gave takes refuses (λ _. pairs_of_bytes old b) (λ _. []) s t
   gave-all old new b rest s t e h =
-      gave-along takes refuses (λ ms. pairs_of_bytes old (b ++ concat ms)) (λ ms. pairs_of_bytes new (rest ++ concat ms)) (λ _. pairs_of_bytes old b) (λ _. []) (λ _. []) s t
-      (λ ms. ap (pairs_of_bytes old) (sym (append-nil b))) (λ ms. sym (ap (pairs_of_bytes new) (append-nil rest ∙ e) ∙ ap (pairs_of_lines new) lines-nil)) h
+      gave-along takes refuses (λ ms. pairs_of_bytes old (b ++ concat ms))
+      (λ ms. pairs_of_bytes new (rest ++ concat ms)) (λ _. pairs_of_bytes old b) (λ _. []) (λ _. []) s t
+      (λ ms. ap (pairs_of_bytes old) (sym (append-nil b)))
+      (λ ms. sym (ap (pairs_of_bytes new) (append-nil rest ∙ e) ∙ ap (pairs_of_lines new) lines-nil)) h
 
   -- the first lines were given, and the last line is left
   pub gave-front : (old new : LineTexts) (b rest : List ℕ) (s t : S) → None ≡ line_end_of rest → 0 < length rest
-      → Gave takes refuses (λ ms. pairs_of_bytes old (b ++ concat ms)) (λ ms. pairs_of_bytes new (rest ++ concat ms)) s t
+      → Gave takes refuses (λ ms. pairs_of_bytes old (b ++ concat ms)) (λ ms. pairs_of_bytes new (rest ++ concat ms)) s
+      t
       → Gave takes refuses (λ _. pairs_of_bytes old b) (λ _. pairs_of_lines new (rest ∷ [])) s t
   gave-front old new b rest s t e some h =
-      gave-along takes refuses (λ ms. pairs_of_bytes old (b ++ concat ms)) (λ ms. pairs_of_bytes new (rest ++ concat ms)) (λ _. pairs_of_bytes old b) (λ _. pairs_of_lines new (rest ∷ [])) (λ _. []) s t
-      (λ ms. ap (pairs_of_bytes old) (sym (append-nil b))) (λ ms. sym (ap (pairs_of_bytes new) (append-nil rest) ∙ ap (pairs_of_lines new) (lines-last rest e some))) h
+      gave-along takes refuses (λ ms. pairs_of_bytes old (b ++ concat ms))
+      (λ ms. pairs_of_bytes new (rest ++ concat ms)) (λ _. pairs_of_bytes old b)
+      (λ _. pairs_of_lines new (rest ∷ [])) (λ _. []) s t
+      (λ ms. ap (pairs_of_bytes old) (sym (append-nil b)))
+      (λ ms. sym (ap (pairs_of_bytes new) (append-nil rest) ∙ ap (pairs_of_lines new) (lines-last rest e some))) h
 
-  pub broke-front : (old : LineTexts) (b : List ℕ) (fault : TextFault) (s t : S) → Broke takes refuses (λ ms. pairs_of_bytes old (b ++ concat ms)) fault s t
+  pub broke-front : (old : LineTexts) (b : List ℕ) (fault : TextFault) (s t : S)
+      → Broke takes refuses (λ ms. pairs_of_bytes old (b ++ concat ms)) fault s t
       → Broke takes refuses (λ _. pairs_of_bytes old b) fault s t
   broke-front old b fault s t h =
-      broke-along takes refuses (λ ms. pairs_of_bytes old (b ++ concat ms)) (λ _. pairs_of_bytes old b) (λ _. []) fault s t (λ ms. ap (pairs_of_bytes old) (sym (append-nil b))) h
+      broke-along takes refuses (λ ms. pairs_of_bytes old (b ++ concat ms)) (λ _. pairs_of_bytes old b) (λ _. []) fault
+      s t (λ ms. ap (pairs_of_bytes old) (sym (append-nil b))) h

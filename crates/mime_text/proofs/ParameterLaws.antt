@@ -1,13 +1,18 @@
 -- The parameters of a value are those of its pieces, and no other list is.
-use Rattle.mime_text.proofs.Words.{◌≡◌, ◌≤◌, ℕ, zero, suc, List, [], ◌∷◌, Option, Some, None, length, refl, sym, subst, arith, Parameter, piece_of, AreParameters, none_left, piece_first, parameters_behind}
+use Rattle.mime_text.proofs.Words.{◌≡◌, ◌≤◌, ℕ, zero, suc, List, [], ◌∷◌, Option, Some, None, length, refl, sym, subst}
+use Rattle.mime_text.proofs.Words.{arith, Parameter, piece_of, AreParameters, none_left, piece_first, parameters_behind}
 use Rattle.mime_text.proofs.ParameterLemmas.{behind-step, later-shorter}
 
-pub only_parameters : (begin : Option (List ℕ)) (ps : List Parameter) → AreParameters begin ps → ps ≡ parameters_behind begin
+pub only_parameters : (begin : Option (List ℕ)) (ps : List Parameter) → AreParameters begin ps → ps
+    ≡ parameters_behind begin
 only_parameters None ps none_left = refl
-only_parameters (Some bs) ps (piece_first {later = later} rest) = grind (arith, behind-step, only_parameters (piece_of bs).later later rest)
+only_parameters (Some bs) ps (piece_first {later = later} rest) =
+    grind (arith, behind-step, only_parameters (piece_of bs).later later rest)
 
-first_piece : (bs : List ℕ) → AreParameters (piece_of bs).later (parameters_behind (piece_of bs).later) → AreParameters (Some bs) (parameters_behind (Some bs))
-first_piece bs later = subst (λ (ps : List Parameter). AreParameters (Some bs) ps) (sym (behind-step bs)) (piece_first later)
+first_piece : (bs : List ℕ) → AreParameters (piece_of bs).later (parameters_behind (piece_of bs).later)
+    → AreParameters (Some bs) (parameters_behind (Some bs))
+first_piece bs later = subst (λ (ps : List Parameter). AreParameters (Some bs) ps) (sym (behind-step bs))
+    (piece_first later)
 
 no_bytes : AreParameters (piece_of []).later (parameters_behind (piece_of []).later)
 unfolding piece_of
@@ -18,7 +23,8 @@ within_bytes n [] few = first_piece [] no_bytes
 within_bytes zero (b ∷ bs) few = absurd (omega arith)
 within_bytes (suc n) (b ∷ bs) few = first_piece (b ∷ bs) (go (piece_of (b ∷ bs)).later refl (within_bytes n))
   where
-    go : (o : Option (List ℕ)) → (piece_of (b ∷ bs)).later ≡ o → ((rest : List ℕ) → length rest ≤ n → AreParameters (Some rest) (parameters_behind (Some rest)))
+    go : (o : Option (List ℕ)) → (piece_of (b ∷ bs)).later ≡ o
+        → ((rest : List ℕ) → length rest ≤ n → AreParameters (Some rest) (parameters_behind (Some rest)))
         → AreParameters o (parameters_behind o)
     go None e later = none_left
     go (Some rest) e later = let less = later-shorter (b ∷ bs) rest e in later rest (omega (arith, less))

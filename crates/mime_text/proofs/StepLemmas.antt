@@ -1,5 +1,13 @@
 -- The place of a reader after one more line.
-use Rattle.mime_text.proofs.Words.{◌≡◌, ◌∙◌, ◌++◌, ℕ, zero, suc, Bool, true, false, ◌||◌, List, [], ◌∷◌, Option, Some, None, refl, sym, ap, append_assoc, arith, flat_map, flat_map-append, is_empty, lines, fields_of, before_blanks, unfolded, has_empty, base64_bytes, bytes_of_sextets, Charset, DefaultType, TextPlain, Shape, Multipart, Message, Text, Other, Frame, Identity, QuotedPrintable, Base64, Pair, Coming, texts_of_fields, piece_of, parameter, shape_of, charset_in, transfer_in, name_texts, leaf_texts, body_pairs, body_lines, pieces, parts, parts_by, is_left, StreamPlace, InHeader, InLeaf, hit, counted_part, header_parts, value, behind_header, inner_step, Nest, part_texts, texts_of_message, given_from, counted_texts, header_texts, given_behind}
+use Rattle.mime_text.proofs.Words.{◌≡◌, ◌∙◌, ◌++◌, ℕ, zero, suc, Bool, true, false, ◌||◌, List, [], ◌∷◌, Option, Some}
+use Rattle.mime_text.proofs.Words.{None, refl, sym, ap, append_assoc, arith, flat_map, flat_map-append, is_empty, lines}
+use Rattle.mime_text.proofs.Words.{fields_of, before_blanks, unfolded, has_empty, base64_bytes, bytes_of_sextets}
+use Rattle.mime_text.proofs.Words.{Charset, DefaultType, TextPlain, Shape, Multipart, Message, Text, Other, Frame}
+use Rattle.mime_text.proofs.Words.{Identity, QuotedPrintable, Base64, Pair, Coming, texts_of_fields, piece_of}
+use Rattle.mime_text.proofs.Words.{parameter, shape_of, charset_in, transfer_in, name_texts, leaf_texts, body_pairs}
+use Rattle.mime_text.proofs.Words.{body_lines, pieces, parts, parts_by, is_left, StreamPlace, InHeader, InLeaf, hit}
+use Rattle.mime_text.proofs.Words.{counted_part, header_parts, value, behind_header, inner_step, Nest, part_texts}
+use Rattle.mime_text.proofs.Words.{texts_of_message, given_from, counted_texts, header_texts, given_behind}
 use Rattle.std.proofs.lemmas.List.{append-nil}
 use Rattle.mime_text.specs.declared.leaf.transfer.TransferEncoding.{TransferEncoding}
 use Rattle.mime_text.proofs.StreamLaws.{IsHeader, fields_of-ended, whole_given}
@@ -18,14 +26,19 @@ has_empty-push [] l = grind arith
 has_empty-push (k ∷ ls) l = grind (arith, has_empty-push ls l)
 
 -- whether a line ends a header
-pub empty_ends : (ls : List Line) (l : Line) (t : Bool) → has_empty ls ≡ false → has_empty (ls ++ l ∷ []) ≡ t → is_empty l ≡ t
-empty_ends ls l t e q = let p = has_empty-push ls l in let r : (false || is_empty l) ≡ t = ap (λ (b : Bool). b || is_empty l) (sym e) ∙ sym p ∙ q in r
+pub empty_ends : (ls : List Line) (l : Line) (t : Bool) → has_empty ls ≡ false → has_empty (ls ++ l ∷ []) ≡ t
+    → is_empty l ≡ t
+empty_ends ls l t e q = let p = has_empty-push ls l in let r : (false || is_empty l) ≡ t =
+    ap (λ (b : Bool). b || is_empty l) (sym e) ∙ sym p ∙ q in r
 
-pub fields-ended : (ls : List Line) (l : Line) → has_empty ls ≡ false → is_empty l ≡ true → fields_of (ls ++ l ∷ []) ≡ fields_of ls
+pub fields-ended : (ls : List Line) (l : Line) → has_empty ls ≡ false → is_empty l ≡ true → fields_of (ls ++ l ∷ [])
+    ≡ fields_of ls
 fields-ended ls l e t = fields_of-ended ls l [] (IsHeader-of ls e) t
 
-pub fields-on : (ls : List Line) (l : Line) (ms : List Line) → has_empty ls ≡ false → is_empty l ≡ true → fields_of ((ls ++ l ∷ []) ++ ms) ≡ fields_of (ls ++ l ∷ [])
-fields-on ls l ms e t = ap fields_of (append_assoc ls (l ∷ []) ms) ∙ fields_of-ended ls l ms (IsHeader-of ls e) t ∙ sym (fields-ended ls l e t)
+pub fields-on : (ls : List Line) (l : Line) (ms : List Line) → has_empty ls ≡ false → is_empty l ≡ true
+    → fields_of ((ls ++ l ∷ []) ++ ms) ≡ fields_of (ls ++ l ∷ [])
+fields-on ls l ms e t = ap fields_of (append_assoc ls (l ∷ []) ms) ∙ fields_of-ended ls l ms (IsHeader-of ls e) t
+    ∙ sym (fields-ended ls l e t)
 
 counted-is : (c : Bool) (ls : List Line) → flat_map part_texts (counted_part c ls) ≡ counted_texts c (fields_of ls)
 counted-is c ls = grind (arith, append-nil)
@@ -47,7 +60,8 @@ name-none : name_texts (fields_of []) ≡ []
 unfolding before_blanks fields_of unfolded piece_of parameter
 name-none = refl
 
-pub leaf_texts-none : (transfer : TransferEncoding) (charset : Charset) (is_html : Bool) → leaf_texts transfer charset is_html [] ≡ []
+pub leaf_texts-none : (transfer : TransferEncoding) (charset : Charset) (is_html : Bool)
+    → leaf_texts transfer charset is_html [] ≡ []
 unfolding leaf_texts lines base64_bytes bytes_of_sextets
 leaf_texts-none Identity charset true = refl
 leaf_texts-none Identity charset false = refl
@@ -61,73 +75,98 @@ abbrev name_at : ℕ → List Line → List Pair
 name_at zero ls = []
 name_at (suc n) ls = name_texts (fields_of ls)
 
-parts-none : (n : ℕ) (d : DefaultType) (ls : List Line) → body_lines ls ≡ [] → flat_map part_texts (parts shape_of n d ls) ≡ name_at n ls
+parts-none : (n : ℕ) (d : DefaultType) (ls : List Line) → body_lines ls ≡ []
+    → flat_map part_texts (parts shape_of n d ls) ≡ name_at n ls
 parts-none zero d ls e = refl
 parts-none (suc n) d ls e =
-    ap (λ (ps : List Pair). name_texts (fields_of ls) ++ ps) (go n (λ k. parts-none n TextPlain k) (shape_of d (fields_of ls))) ∙ append-nil (name_texts (fields_of ls))
+    ap (λ (ps : List Pair). name_texts (fields_of ls) ++ ps)
+    (go n (λ k. parts-none n TextPlain k) (shape_of d (fields_of ls))) ∙ append-nil (name_texts (fields_of ls))
   where
-    go : (m : ℕ) → ((ks : List Line) → body_lines ks ≡ [] → flat_map part_texts (parts shape_of m TextPlain ks) ≡ name_at m ks) → (sh : Shape)
+    go : (m : ℕ) → ((ks : List Line) → body_lines ks ≡ [] → flat_map part_texts (parts shape_of m TextPlain ks)
+        ≡ name_at m ks) → (sh : Shape)
         → flat_map part_texts (parts_by shape_of (λ e ks. parts shape_of m e ks) (is_left m) sh ls) ≡ []
-    go m later (Multipart b f) = ap (λ (ks : List Line). flat_map part_texts (flat_map (parts shape_of m f) (pieces b ks))) e
+    go m later (Multipart b f) = ap (λ (ks : List Line). flat_map part_texts
+        (flat_map (parts shape_of m f) (pieces b ks))) e
     go zero later Message = refl
     go (suc m) later Message =
-        ap (λ (ks : List Line). texts_of_fields (fields_of ks) ++ flat_map part_texts (parts shape_of (suc m) TextPlain ks)) e
-        ∙ ap (λ (ps : List Pair). ps ++ flat_map part_texts (parts shape_of (suc m) TextPlain [])) fields-none ∙ later [] refl ∙ name-none
+        ap (λ (ks : List Line). texts_of_fields (fields_of ks) ++ flat_map part_texts
+        (parts shape_of (suc m) TextPlain ks)) e
+        ∙ ap (λ (ps : List Pair). ps ++ flat_map part_texts (parts shape_of (suc m) TextPlain [])) fields-none
+        ∙ later [] refl ∙ name-none
     go m later (Text h) =
         append-nil (body_pairs (leaf_texts (transfer_in (fields_of ls)) (charset_in (fields_of ls)) h (body_lines ls)))
-        ∙ ap (λ (ks : List Line). body_pairs (leaf_texts (transfer_in (fields_of ls)) (charset_in (fields_of ls)) h ks)) e
-        ∙ ap (λ (ts : List Line). body_pairs ts) (leaf_texts-none (transfer_in (fields_of ls)) (charset_in (fields_of ls)) h)
+        ∙ ap (λ (ks : List Line). body_pairs (leaf_texts (transfer_in (fields_of ls)) (charset_in (fields_of ls)) h ks))
+        e
+        ∙ ap (λ (ts : List Line). body_pairs ts)
+        (leaf_texts-none (transfer_in (fields_of ls)) (charset_in (fields_of ls)) h)
     go m later Other = refl
 
 -- what an entity gives that ends in its header
-pub value-header : (c : Bool) (n : ℕ) (d : DefaultType) (held : List Line) → has_empty held ≡ false → value shape_of part_texts (InHeader c n d held) [] ≡ header_texts c (fields_of held)
+pub value-header : (c : Bool) (n : ℕ) (d : DefaultType) (held : List Line) → has_empty held ≡ false
+    → value shape_of part_texts (InHeader c n d held) [] ≡ header_texts c (fields_of held)
 value-header c n d held e =
     ap (λ (ks : List Line). flat_map part_texts (counted_part c ks ++ parts shape_of (suc n) d ks)) (append-nil held)
     ∙ flat_map-append part_texts (counted_part c held) (parts shape_of (suc n) d held)
-    ∙ ap (λ (ps : List Pair). flat_map part_texts (counted_part c held) ++ ps) (parts-none (suc n) d held (body-none held e))
+    ∙ ap (λ (ps : List Pair). flat_map part_texts (counted_part c held) ++ ps)
+    (parts-none (suc n) d held (body-none held e))
     ∙ ap (λ (ps : List Pair). ps ++ name_texts (fields_of held)) (counted-is c held)
 
 -- ---- one line
 
-pub given-hit : (fs : List Frame) (place : StreamPlace Pair) (l : Line) (h : List Frame × StreamPlace Pair) (ms : List Line) → hit fs l ≡ Some h
+pub given-hit : (fs : List Frame) (place : StreamPlace Pair) (l : Line) (h : List Frame × StreamPlace Pair)
+    (ms : List Line) → hit fs l ≡ Some h
     → given_from fs place (l ∷ ms) ≡ value shape_of part_texts place [] ++ given_from h.0 h.1 ms
 given-hit fs place l h ms e = grind arith
 
 given-inner : (fs : List Frame) (place : StreamPlace Pair) (l : Line) (ms : List Line) → hit {A = Pair} fs l ≡ None
-    → given_from fs place (l ∷ ms) ≡ (inner_step shape_of part_texts fs place l).0 ++ given_from (inner_step shape_of part_texts fs place l).1.0 (inner_step shape_of part_texts fs place l).1.1 ms
+    → given_from fs place (l ∷ ms) ≡ (inner_step shape_of part_texts fs place l).0 ++ given_from
+    (inner_step shape_of part_texts fs place l).1.0 (inner_step shape_of part_texts fs place l).1.1 ms
 given-inner fs place l ms e = grind arith
 
-pub given-leaf_line : (fs : List Frame) (leaf : Coming) (l : Line) (ms : List Line) → hit {A = Pair} fs l ≡ None → given_from fs (InLeaf leaf) (l ∷ ms) ≡ given_from fs (InLeaf (λ ks. leaf (l ∷ ks))) ms
+pub given-leaf_line : (fs : List Frame) (leaf : Coming) (l : Line) (ms : List Line) → hit {A = Pair} fs l ≡ None
+    → given_from fs (InLeaf leaf) (l ∷ ms) ≡ given_from fs (InLeaf (λ ks. leaf (l ∷ ks))) ms
 given-leaf_line fs leaf l ms e = given-inner fs (InLeaf leaf) l ms e
 
 abbrev header_step : Bool → Nest → Bool → DefaultType → List Line → Line → List Pair × (List Frame × StreamPlace Pair)
 header_step t nest c d held l = elim t [
-  | true ↦ (flat_map part_texts (header_parts c held), behind_header shape_of part_texts (shape_of d (fields_of held)) nest.frames nest.left (fields_of held))
+  | true ↦ (
+    flat_map part_texts (header_parts c held),
+    behind_header shape_of part_texts (shape_of d (fields_of held)) nest.frames nest.left (fields_of held),
+  )
   | false ↦ ([], (nest.frames, InHeader c nest.left d (held ++ l ∷ [])))
 ]
 
-given-header : (nest : Nest) (c : Bool) (d : DefaultType) (held : List Line) (l : Line) (ms : List Line) (t : Bool) → hit {A = Pair} nest.frames l ≡ None → is_empty l ≡ t
+given-header : (nest : Nest) (c : Bool) (d : DefaultType) (held : List Line) (l : Line) (ms : List Line) (t : Bool)
+    → hit {A = Pair} nest.frames l ≡ None → is_empty l ≡ t
     → given_from nest.frames (InHeader c nest.left d held) (l ∷ ms)
-    ≡ (header_step t nest c d held l).0 ++ given_from (header_step t nest c d held l).1.0 (header_step t nest c d held l).1.1 ms
+    ≡ (header_step t nest c d held l).0 ++ given_from (header_step t nest c d held l).1.0
+    (header_step t nest c d held l).1.1 ms
 given-header nest c d held l ms t e q = grind (arith, given-inner)
 
 -- the header goes on
-pub given-more : (nest : Nest) (c : Bool) (d : DefaultType) (held : List Line) (l : Line) (ms : List Line) → hit {A = Pair} nest.frames l ≡ None → is_empty l ≡ false
-    → given_from nest.frames (InHeader c nest.left d held) (l ∷ ms) ≡ given_from nest.frames (InHeader c nest.left d (held ++ l ∷ [])) ms
+pub given-more : (nest : Nest) (c : Bool) (d : DefaultType) (held : List Line) (l : Line) (ms : List Line)
+    → hit {A = Pair} nest.frames l ≡ None → is_empty l ≡ false
+    → given_from nest.frames (InHeader c nest.left d held) (l ∷ ms)
+    ≡ given_from nest.frames (InHeader c nest.left d (held ++ l ∷ [])) ms
 given-more nest c d held l ms e t = given-header nest c d held l ms false e t
 
 -- the header ends
-pub given-ended : (nest : Nest) (c : Bool) (d : DefaultType) (held : List Line) (l : Line) (ms : List Line) → hit {A = Pair} nest.frames l ≡ None → has_empty held ≡ false → is_empty l ≡ true
+pub given-ended : (nest : Nest) (c : Bool) (d : DefaultType) (held : List Line) (l : Line) (ms : List Line)
+    → hit {A = Pair} nest.frames l ≡ None → has_empty held ≡ false → is_empty l ≡ true
     → given_from nest.frames (InHeader c nest.left d held) (l ∷ ms)
-    ≡ header_texts c (fields_of (held ++ l ∷ [])) ++ given_behind (shape_of d (fields_of (held ++ l ∷ []))) nest (fields_of (held ++ l ∷ [])) ms
+    ≡ header_texts c (fields_of (held ++ l ∷ [])) ++ given_behind (shape_of d (fields_of (held ++ l ∷ []))) nest
+    (fields_of (held ++ l ∷ [])) ms
 given-ended nest c d held l ms e q t = grind (arith, given-header, header-is, fields-ended)
 
 -- a leaf that has given some pairs
-pub given-leaf : (fs : List Frame) (f g : Coming) (qs : List Pair) → ((ms : List Line) → f ms ≡ qs ++ g ms) → (ms : List Line) → given_from fs (InLeaf f) ms ≡ qs ++ given_from fs (InLeaf g) ms
+pub given-leaf : (fs : List Frame) (f g : Coming) (qs : List Pair) → ((ms : List Line) → f ms ≡ qs ++ g ms)
+    → (ms : List Line) → given_from fs (InLeaf f) ms ≡ qs ++ given_from fs (InLeaf g) ms
 given-leaf fs f g qs e [] = e []
-given-leaf fs f g qs e (l ∷ ms) = go (hit fs l) refl (given-leaf fs (λ ks. f (l ∷ ks)) (λ ks. g (l ∷ ks)) qs (λ ks. e (l ∷ ks)) ms)
+given-leaf fs f g qs e (l ∷ ms) = go (hit fs l) refl
+    (given-leaf fs (λ ks. f (l ∷ ks)) (λ ks. g (l ∷ ks)) qs (λ ks. e (l ∷ ks)) ms)
   where
-    go : (o : Option (List Frame × StreamPlace Pair)) → hit fs l ≡ o → given_from fs (InLeaf (λ ks. f (l ∷ ks))) ms ≡ qs ++ given_from fs (InLeaf (λ ks. g (l ∷ ks))) ms
+    go : (o : Option (List Frame × StreamPlace Pair)) → hit fs l ≡ o → given_from fs (InLeaf (λ ks. f (l ∷ ks))) ms
+        ≡ qs ++ given_from fs (InLeaf (λ ks. g (l ∷ ks))) ms
         → given_from fs (InLeaf f) (l ∷ ms) ≡ qs ++ given_from fs (InLeaf g) (l ∷ ms)
     go o h h2 = grind (arith, append_assoc)
 

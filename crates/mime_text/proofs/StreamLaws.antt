@@ -1,5 +1,11 @@
 -- Reading one line at a time gives what the parts of the outermost split give: induction over the lines and the depths.
-use Rattle.mime_text.proofs.Words.{◌≡◌, ℕ, zero, suc, Bool, true, false, cond, List, [], ◌∷◌, ◌++◌, Option, Some, None, refl, sym, ap, ◌∙◌, append_assoc, arith, flat_map, AllByRecursion, flat_map-append, is_empty, HeaderField, lines_before_empty, fields_of, DefaultType, Shape, Multipart, Message, Text, Other, Frame, Part, Entity, Counted, body_lines, is_closing, is_delimiter, preamble_and_pieces, pieces, parts, parts_by, is_left, StreamPlace, Skip, InHeader, InLeaf, or_else, own_hit, hit, counted_part, header_parts, value, behind_header, inner_step, step_by, given}
+use Rattle.mime_text.proofs.Words.{◌≡◌, ℕ, zero, suc, Bool, true, false, cond, List, [], ◌∷◌, ◌++◌, Option, Some, None}
+use Rattle.mime_text.proofs.Words.{refl, sym, ap, ◌∙◌, append_assoc, arith, flat_map, AllByRecursion, flat_map-append}
+use Rattle.mime_text.proofs.Words.{is_empty, HeaderField, lines_before_empty, fields_of, DefaultType, Shape, Multipart}
+use Rattle.mime_text.proofs.Words.{Message, Text, Other, Frame, Part, Entity, Counted, body_lines, is_closing}
+use Rattle.mime_text.proofs.Words.{is_delimiter, preamble_and_pieces, pieces, parts, parts_by, is_left, StreamPlace}
+use Rattle.mime_text.proofs.Words.{Skip, InHeader, InLeaf, or_else, own_hit, hit, counted_part, header_parts, value}
+use Rattle.mime_text.proofs.Words.{behind_header, inner_step, step_by, given}
 use Rattle.std.proofs.lemmas.List.{append-nil}
 
 abbrev Line : Type 0
@@ -9,20 +15,24 @@ Line = List ℕ
 abbrev pub IsHeader : List Line → Type 0
 IsHeader = AllByRecursion (λ l. is_empty l ≡ false)
 
-before_empty_of : (ls : List Line) (l : Line) (rest : List Line) → IsHeader ls → is_empty l ≡ true → lines_before_empty (ls ++ l ∷ rest) ≡ ls
+before_empty_of : (ls : List Line) (l : Line) (rest : List Line) → IsHeader ls → is_empty l ≡ true
+    → lines_before_empty (ls ++ l ∷ rest) ≡ ls
 before_empty_of [] l rest h e = rw (e, lines_before_empty) refl
-before_empty_of (k ∷ ls) l rest h e = rw (h.0, lines_before_empty) (ap (λ (t : List Line). k ∷ t) (before_empty_of ls l rest h.1 e))
+before_empty_of (k ∷ ls) l rest h e = rw (h.0, lines_before_empty)
+    (ap (λ (t : List Line). k ∷ t) (before_empty_of ls l rest h.1 e))
 
 before_empty_all : (ls : List Line) → IsHeader ls → lines_before_empty ls ≡ ls
 before_empty_all [] h = refl
 before_empty_all (k ∷ ls) h = rw (h.0, lines_before_empty) (ap (λ (t : List Line). k ∷ t) (before_empty_all ls h.1))
 
 -- the fields of a header are known once it has ended
-pub fields_of-ended : (ls : List Line) (l : Line) (rest : List Line) → IsHeader ls → is_empty l ≡ true → fields_of (ls ++ l ∷ rest) ≡ fields_of ls
+pub fields_of-ended : (ls : List Line) (l : Line) (rest : List Line) → IsHeader ls → is_empty l ≡ true
+    → fields_of (ls ++ l ∷ rest) ≡ fields_of ls
 unfolding fields_of
 fields_of-ended ls l rest h e = grind (arith, before_empty_of, before_empty_all)
 
-pub body_of : (ls : List Line) (l : Line) (rest : List Line) → IsHeader ls → is_empty l ≡ true → body_lines (ls ++ l ∷ rest) ≡ rest
+pub body_of : (ls : List Line) (l : Line) (rest : List Line) → IsHeader ls → is_empty l ≡ true
+    → body_lines (ls ++ l ∷ rest) ≡ rest
 body_of [] l rest h e = rw (e, body_lines) refl
 body_of (k ∷ ls) l rest h e = rw (h.0, body_lines) (body_of ls l rest h.1 e)
 
@@ -30,11 +40,14 @@ pub IsHeader-push : (ls : List Line) (l : Line) → IsHeader ls → is_empty l �
 IsHeader-push [] l h e = (e, tt)
 IsHeader-push (k ∷ ls) l h e = (h.0, IsHeader-push ls l h.1 e)
 
-counted_part-ended : (c : Bool) (lines : List Line) (l : Line) (rest : List Line) → IsHeader lines → is_empty l ≡ true → counted_part c (lines ++ l ∷ rest) ≡ counted_part c lines
-counted_part-ended true lines l rest h e = ap (λ (fs : List HeaderField). Counted fs ∷ []) (fields_of-ended lines l rest h e)
+counted_part-ended : (c : Bool) (lines : List Line) (l : Line) (rest : List Line) → IsHeader lines → is_empty l ≡ true
+    → counted_part c (lines ++ l ∷ rest) ≡ counted_part c lines
+counted_part-ended true lines l rest h e =
+    ap (λ (fs : List HeaderField). Counted fs ∷ []) (fields_of-ended lines l rest h e)
 counted_part-ended false lines l rest h e = refl
 
-header_parts-ended : (c : Bool) (lines : List Line) (l : Line) (rest : List Line) → IsHeader lines → is_empty l ≡ true → header_parts c (lines ++ l ∷ rest) ≡ header_parts c lines
+header_parts-ended : (c : Bool) (lines : List Line) (l : Line) (rest : List Line) → IsHeader lines → is_empty l ≡ true
+    → header_parts c (lines ++ l ∷ rest) ≡ header_parts c lines
 header_parts-ended c lines l rest h e = grind (arith, counted_part-ended, fields_of-ended)
 
 flat_map-none : {A : Type 0} (xs : List (List Line)) → flat_map {A = A} (λ (x : List Line). []) xs ≡ []
@@ -80,16 +93,21 @@ module _ {A : Type 0} (shape_of : DefaultType → List HeaderField → Shape) (g
   later_none [] = refl
   later_none (l ∷ ls) = later_none ls
 
-  preamble_is : (f : Frame) (outer : List Frame) (ls : List Line) → (preamble_and_pieces f.boundary (before outer ls)).0 ≡ before (f ∷ outer) ls
+  preamble_is : (f : Frame) (outer : List Frame) (ls : List Line) → (preamble_and_pieces f.boundary (before outer ls)).0
+      ≡ before (f ∷ outer) ls
   preamble_is f outer [] = refl
   preamble_is f outer (l ∷ ls) = by_outer (hits outer l) (preamble_is f outer ls)
     where
       by_own : (c d : Bool) (p : List Line × List (List Line)) (x : List Line) → p.0 ≡ x
-          → (elim c as (λ _. List Line × List (List Line)) [ true ↦ ([], []) | false ↦ cond d ([], p.0 ∷ p.1) (l ∷ p.0, p.1) ]).0 ≡ before_by (own_hit c d f outer) l x
+          → (elim c as (λ _. List Line × List (List Line))
+          [ true ↦ ([], []) | false ↦ cond d ([], p.0 ∷ p.1) (l ∷ p.0, p.1) ]).0
+          ≡ before_by (own_hit c d f outer) l x
       by_own c d p x h = grind arith
 
       by_outer : (o : Lead) → (preamble_and_pieces f.boundary (before outer ls)).0 ≡ before (f ∷ outer) ls
-          → (preamble_and_pieces f.boundary (before_by o l (before outer ls))).0 ≡ before_by (or_else o (own_hit (is_closing f.boundary l) (is_delimiter f.boundary l) f outer)) l (before (f ∷ outer) ls)
+          → (preamble_and_pieces f.boundary (before_by o l (before outer ls))).0
+          ≡ before_by (or_else o (own_hit (is_closing f.boundary l) (is_delimiter f.boundary l) f outer)) l
+          (before (f ∷ outer) ls)
       by_outer o h = grind (arith, by_own)
 
   -- what the pieces of a multipart give
@@ -100,7 +118,8 @@ module _ {A : Type 0} (shape_of : DefaultType → List HeaderField → Shape) (g
   StreamIs ls fs place = given shape_of gives fs place ls ≡ value shape_of gives place (before fs ls) ++ later fs ls
 
   abbrev FrameIs : List Line → Frame → List Frame → Type 0
-  FrameIs ls f outer = given shape_of gives (f ∷ outer) Skip ls ≡ of_pieces (suc f.left) f.default (pieces f.boundary (before outer ls)) ++ later outer ls
+  FrameIs ls f outer = given shape_of gives (f ∷ outer) Skip ls
+      ≡ of_pieces (suc f.left) f.default (pieces f.boundary (before outer ls)) ++ later outer ls
 
   abbrev AllStreams : List Line → Type 0
   AllStreams ls = (fs : List Frame) (place : StreamPlace A) → IsFine place → StreamIs ls fs place
@@ -111,13 +130,16 @@ module _ {A : Type 0} (shape_of : DefaultType → List HeaderField → Shape) (g
   -- the entity whose header has ended, and what comes after it
   abbrev EntityIs : Shape → List Line → List Frame → ℕ → List Line → Line → Type 0
   EntityIs sh ls fs left lines l =
-      given shape_of gives (behind_header shape_of gives sh fs left (fields_of lines)).0 (behind_header shape_of gives sh fs left (fields_of lines)).1 ls
-      ≡ flat_map gives (parts_by shape_of (λ e ks. parts shape_of left e ks) (is_left left) sh (lines ++ l ∷ before fs ls)) ++ later fs ls
+      given shape_of gives (behind_header shape_of gives sh fs left (fields_of lines)).0
+      (behind_header shape_of gives sh fs left (fields_of lines)).1 ls
+      ≡ flat_map gives (parts_by shape_of (λ e ks. parts shape_of left e ks) (is_left left) sh
+      (lines ++ l ∷ before fs ls)) ++ later fs ls
 
   by_shape : (sh : Shape) (ls : List Line) (fs : List Frame) (left : ℕ) (lines : List Line) (l : Line)
       → AllStreams ls → AllFrames ls → IsHeader lines → is_empty l ≡ true → EntityIs sh ls fs left lines l
   by_shape (Multipart b e) ls fs zero lines l m g h t =
-      m fs Skip tt ∙ ap (λ (ps : List Part). flat_map gives ps ++ later fs ls) (sym (flat_map-none {A = Part} (pieces b (body_lines (lines ++ l ∷ before fs ls)))))
+      m fs Skip tt ∙ ap (λ (ps : List Part). flat_map gives ps ++ later fs ls)
+      (sym (flat_map-none {A = Part} (pieces b (body_lines (lines ++ l ∷ before fs ls)))))
   by_shape (Multipart b e) ls fs (suc left) lines l m g h t = grind (arith, body_of)
   by_shape Message ls fs zero lines l m g h t = m fs Skip tt
   by_shape Message ls fs (suc left) lines l m g h t = grind (arith, body_of)
@@ -127,60 +149,88 @@ module _ {A : Type 0} (shape_of : DefaultType → List HeaderField → Shape) (g
   by_end : (ls : List Line) (fs : List Frame) (c : Bool) (left : ℕ) (d : DefaultType) (lines : List Line) (l : Line)
       → AllStreams ls → AllFrames ls → IsHeader lines → is_empty l ≡ true
       → flat_map gives (header_parts c lines)
-      ++ given shape_of gives (behind_header shape_of gives (shape_of d (fields_of lines)) fs left (fields_of lines)).0 (behind_header shape_of gives (shape_of d (fields_of lines)) fs left (fields_of lines)).1 ls
+      ++ given shape_of gives (behind_header shape_of gives (shape_of d (fields_of lines)) fs left (fields_of lines)).0
+      (behind_header shape_of gives (shape_of d (fields_of lines)) fs left (fields_of lines)).1 ls
       ≡ value shape_of gives (InHeader c left d lines) (l ∷ before fs ls) ++ later fs ls
   by_end ls fs c left d lines l m g h t =
       let x = before fs ls in
       let all = lines ++ l ∷ x in
-      let inside : Shape → List Part = λ sh. parts_by shape_of (λ e ks. parts shape_of left e ks) (is_left left) sh all in
-      ap (λ (ps : List A). flat_map gives (header_parts c lines) ++ ps) (by_shape (shape_of d (fields_of lines)) ls fs left lines l m g h t)
-      ∙ sym (append_assoc (flat_map gives (header_parts c lines)) (flat_map gives (inside (shape_of d (fields_of lines)))) (later fs ls))
-      ∙ ap (λ (ps : List A). ps ++ later fs ls) (sym (flat_map-append gives (header_parts c lines) (inside (shape_of d (fields_of lines)))))
-      ∙ ap (λ (ps : List Part). flat_map gives (ps ++ inside (shape_of d (fields_of lines))) ++ later fs ls) (sym (header_parts-ended c lines l x h t))
-      ∙ ap (λ (k : List HeaderField). flat_map gives (header_parts c all ++ inside (shape_of d k)) ++ later fs ls) (sym (fields_of-ended lines l x h t))
-      ∙ ap (λ (ps : List Part). flat_map gives ps ++ later fs ls) (append_assoc (counted_part c all) (Entity (fields_of all) ∷ []) (inside (shape_of d (fields_of all))))
+      let inside : Shape → List Part = λ sh. parts_by shape_of (λ e ks. parts shape_of left e ks) (is_left left) sh all
+      in
+      ap (λ (ps : List A). flat_map gives (header_parts c lines) ++ ps)
+      (by_shape (shape_of d (fields_of lines)) ls fs left lines l m g h t)
+      ∙ sym (append_assoc (flat_map gives (header_parts c lines))
+      (flat_map gives (inside (shape_of d (fields_of lines)))) (later fs ls))
+      ∙ ap (λ (ps : List A). ps ++ later fs ls)
+      (sym (flat_map-append gives (header_parts c lines) (inside (shape_of d (fields_of lines)))))
+      ∙ ap (λ (ps : List Part). flat_map gives (ps ++ inside (shape_of d (fields_of lines))) ++ later fs ls)
+      (sym (header_parts-ended c lines l x h t))
+      ∙ ap (λ (k : List HeaderField). flat_map gives (header_parts c all ++ inside (shape_of d k)) ++ later fs ls)
+      (sym (fields_of-ended lines l x h t))
+      ∙ ap (λ (ps : List Part). flat_map gives ps ++ later fs ls)
+      (append_assoc (counted_part c all) (Entity (fields_of all) ∷ []) (inside (shape_of d (fields_of all))))
 
   one_more : (c : Bool) (n : ℕ) (d : DefaultType) (lines : List Line) (l : Line) (rest : List Line)
-      → value shape_of gives (InHeader c n d (lines ++ l ∷ [])) rest ≡ value shape_of gives (InHeader c n d lines) (l ∷ rest)
-  one_more c n d lines l rest = ap (λ (ks : List Line). flat_map gives (counted_part c ks ++ parts shape_of (suc n) d ks)) (append_assoc lines (l ∷ []) rest)
+      → value shape_of gives (InHeader c n d (lines ++ l ∷ [])) rest
+      ≡ value shape_of gives (InHeader c n d lines) (l ∷ rest)
+  one_more c n d lines l rest = ap (λ (ks : List Line). flat_map gives
+      (counted_part c ks ++ parts shape_of (suc n) d ks)) (append_assoc lines (l ∷ []) rest)
 
-  by_place : (place : StreamPlace A) (ls : List Line) (fs : List Frame) (l : Line) → AllStreams ls → AllFrames ls → IsFine place
-      → (inner_step shape_of gives fs place l).0 ++ given shape_of gives (inner_step shape_of gives fs place l).1.0 (inner_step shape_of gives fs place l).1.1 ls
+  by_place : (place : StreamPlace A) (ls : List Line) (fs : List Frame) (l : Line) → AllStreams ls → AllFrames ls
+      → IsFine place
+      → (inner_step shape_of gives fs place l).0 ++ given shape_of gives (inner_step shape_of gives fs place l).1.0
+      (inner_step shape_of gives fs place l).1.1 ls
       ≡ value shape_of gives place (l ∷ before fs ls) ++ later fs ls
   by_place place ls fs l h h2 h3 = grind (arith, by_end, IsHeader-push, one_more)
 
-  by_hit : (o : Lead) (place : StreamPlace A) (ls : List Line) (fs : List Frame) (l : Line) → AllStreams ls → AllFrames ls → IsFine place
-      → (step_by shape_of gives o fs place l).0 ++ given shape_of gives (step_by shape_of gives o fs place l).1.0 (step_by shape_of gives o fs place l).1.1 ls
+  by_hit : (o : Lead) (place : StreamPlace A) (ls : List Line) (fs : List Frame) (l : Line) → AllStreams ls
+      → AllFrames ls → IsFine place
+      → (step_by shape_of gives o fs place l).0 ++ given shape_of gives (step_by shape_of gives o fs place l).1.0
+      (step_by shape_of gives o fs place l).1.1 ls
       ≡ value shape_of gives place (before_by o l (before fs ls)) ++ later_by o (later fs ls) ls
   by_hit o place ls fs l h h2 h3 = grind (arith, by_place)
 
   by_own : (c d : Bool) (ls : List Line) (f : Frame) (outer : List Frame) (l : Line) → AllStreams ls → AllFrames ls
       → (step_by shape_of gives (own_hit c d f outer) (f ∷ outer) Skip l).0
-      ++ given shape_of gives (step_by shape_of gives (own_hit c d f outer) (f ∷ outer) Skip l).1.0 (step_by shape_of gives (own_hit c d f outer) (f ∷ outer) Skip l).1.1 ls
+      ++ given shape_of gives (step_by shape_of gives (own_hit c d f outer) (f ∷ outer) Skip l).1.0
+      (step_by shape_of gives (own_hit c d f outer) (f ∷ outer) Skip l).1.1 ls
       ≡ of_pieces (suc f.left) f.default (elim c as (λ _. List Line × List (List Line)) [
         | true ↦ ([], [])
-        | false ↦ cond d ([], (preamble_and_pieces f.boundary (before outer ls)).0 ∷ (preamble_and_pieces f.boundary (before outer ls)).1)
-            (l ∷ (preamble_and_pieces f.boundary (before outer ls)).0, (preamble_and_pieces f.boundary (before outer ls)).1)
+        | false ↦ cond d (
+          [],
+          (preamble_and_pieces f.boundary (before outer ls)).0 ∷
+              (preamble_and_pieces f.boundary (before outer ls)).1,
+        ) (
+          l ∷ (preamble_and_pieces f.boundary (before outer ls)).0,
+          (preamble_and_pieces f.boundary (before outer ls)).1,
+        )
       ]).1 ++ later outer ls
   by_own c d ls f outer l h h2 = grind (arith, preamble_is, append_assoc, flat_map-append)
 
   by_outer : (o : Lead) (ls : List Line) (f : Frame) (outer : List Frame) (l : Line) → AllStreams ls → AllFrames ls
-      → (step_by shape_of gives (or_else o (own_hit (is_closing f.boundary l) (is_delimiter f.boundary l) f outer)) (f ∷ outer) Skip l).0
-      ++ given shape_of gives (step_by shape_of gives (or_else o (own_hit (is_closing f.boundary l) (is_delimiter f.boundary l) f outer)) (f ∷ outer) Skip l).1.0
-      (step_by shape_of gives (or_else o (own_hit (is_closing f.boundary l) (is_delimiter f.boundary l) f outer)) (f ∷ outer) Skip l).1.1 ls
-      ≡ of_pieces (suc f.left) f.default (pieces f.boundary (before_by o l (before outer ls))) ++ later_by o (later outer ls) ls
+      → (step_by shape_of gives (or_else o (own_hit (is_closing f.boundary l) (is_delimiter f.boundary l) f outer))
+      (f ∷ outer) Skip l).0
+      ++ given shape_of gives (step_by shape_of gives
+      (or_else o (own_hit (is_closing f.boundary l) (is_delimiter f.boundary l) f outer)) (f ∷ outer) Skip l).1.0
+      (step_by shape_of gives (or_else o (own_hit (is_closing f.boundary l) (is_delimiter f.boundary l) f outer))
+      (f ∷ outer) Skip l).1.1 ls
+      ≡ of_pieces (suc f.left) f.default (pieces f.boundary (before_by o l (before outer ls))) ++ later_by o
+      (later outer ls) ls
   by_outer o ls f outer l h h2 = grind (arith, by_own)
 
   mutual
     given_is : (ls : List Line) (fs : List Frame) (place : StreamPlace A) → IsFine place → StreamIs ls fs place
     given_is [] fs place h = sym (append-nil (value shape_of gives place []))
-    given_is (l ∷ ls) fs place h = by_hit (hits fs l) place ls fs l (λ gs p k. given_is ls gs p k) (λ f outer. frame_is ls f outer) h
+    given_is (l ∷ ls) fs place h = by_hit (hits fs l) place ls fs l (λ gs p k. given_is ls gs p k)
+        (λ f outer. frame_is ls f outer) h
 
     frame_is : (ls : List Line) (f : Frame) (outer : List Frame) → FrameIs ls f outer
     frame_is [] f outer = refl
-    frame_is (l ∷ ls) f outer = by_outer (hits outer l) ls f outer l (λ gs p k. given_is ls gs p k) (λ e o. frame_is ls e o)
+    frame_is (l ∷ ls) f outer = by_outer (hits outer l) ls f outer l (λ gs p k. given_is ls gs p k)
+        (λ e o. frame_is ls e o)
 
   -- from the beginning of an entity on, with no multipart open
   pub whole_given : (c : Bool) (n : ℕ) (d : DefaultType) (ls : List Line)
-      → given shape_of gives [] (InHeader c n d []) ls ≡ flat_map gives (counted_part c ls ++ parts shape_of (suc n) d ls)
+      → given shape_of gives [] (InHeader c n d []) ls
+      ≡ flat_map gives (counted_part c ls ++ parts shape_of (suc n) d ls)
   whole_given c n d ls = grind (arith, given_is, later_none, append-nil, before_all)

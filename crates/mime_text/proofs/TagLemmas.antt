@@ -1,5 +1,9 @@
 -- Tags line by line give what tags in the whole text give.
-use Rattle.mime_text.proofs.Words.{◌≡◌, ◌∙◌, ◌<◌, ◌==◌, ◌++◌, ℕ, Bool, true, false, List, [], ◌∷◌, map, reverse, refl, ap, ap₂, arith, append_assoc, encode_utf8_all, IsUtf8, eqb-true, reverse-append, encode_ascii, encodes-chars, Lacks, text_of, Charset, is_open, without_tags, lines_without_tags, texts_of_lines, is_open_after, is_open_behind, blanked, texts_behind}
+use Rattle.mime_text.proofs.Words.{◌≡◌, ◌∙◌, ◌<◌, ◌==◌, ◌++◌, ℕ, Bool, true, false, List, [], ◌∷◌, map, reverse, refl}
+use Rattle.mime_text.proofs.Words.{ap, ap₂, arith, append_assoc, encode_utf8_all, IsUtf8, eqb-true, reverse-append}
+use Rattle.mime_text.proofs.Words.{encode_ascii, encodes-chars, Lacks, text_of, Charset, is_open, without_tags}
+use Rattle.mime_text.proofs.Words.{lines_without_tags, texts_of_lines, is_open_after, is_open_behind, blanked}
+use Rattle.mime_text.proofs.Words.{texts_behind}
 use Rattle.std.specs.Char.{encode_utf8}
 use Rattle.std.specs.Str.{chars}
 
@@ -10,28 +14,34 @@ is_open-step before c = grind arith
 
 without_tags-blanked : (before cs : List ℕ) (o : Bool) → is_open before ≡ o → without_tags before cs ≡ blanked o cs
 without_tags-blanked before [] o h = refl
-without_tags-blanked before (c ∷ cs) o h = grind (arith, is_open-step, without_tags-blanked (c ∷ before) cs (is_open_after o c))
+without_tags-blanked before (c ∷ cs) o h =
+    grind (arith, is_open-step, without_tags-blanked (c ∷ before) cs (is_open_after o c))
 
 is_open-line : (before cs : List ℕ) → is_open (reverse cs ++ before) ≡ is_open_behind (is_open before) cs
 is_open-line before [] = refl
 is_open-line before (c ∷ cs) =
-    let turned : reverse (c ∷ cs) ++ before ≡ reverse cs ++ c ∷ before = ap (λ (l : List ℕ). l ++ before) (reverse-append (c ∷ []) cs) ∙ append_assoc (reverse cs) (c ∷ []) before in
+    let turned : reverse (c ∷ cs) ++ before ≡ reverse cs ++ c ∷ before =
+    ap (λ (l : List ℕ). l ++ before) (reverse-append (c ∷ []) cs) ∙ append_assoc (reverse cs) (c ∷ []) before in
     ap is_open turned ∙ is_open-line (c ∷ before) cs ∙ ap (λ (b : Bool). is_open_behind b cs) (is_open-step before c)
 
 tagged_lines : (charset : Charset) (before : List ℕ) (o : Bool) (ls : List (List ℕ)) → is_open before ≡ o
-    → map encode_utf8_all (lines_without_tags before (map (λ line. chars (text_of charset line)) ls)) ≡ texts_behind charset true o ls
+    → map encode_utf8_all (lines_without_tags before (map (λ line. chars (text_of charset line)) ls))
+    ≡ texts_behind charset true o ls
 tagged_lines charset before o [] h = refl
 tagged_lines charset before o (l ∷ ls) h =
     let cs : List ℕ = chars (text_of charset l) in
     ap₂ (λ (t : List ℕ) (ts : List (List ℕ)). encode_utf8_all t ∷ ts) (without_tags-blanked before cs o h)
-    (tagged_lines charset (reverse cs ++ before) (is_open_behind o cs) ls (is_open-line before cs ∙ ap (λ (b : Bool). is_open_behind b cs) h))
+    (tagged_lines charset (reverse cs ++ before) (is_open_behind o cs) ls
+    (is_open-line before cs ∙ ap (λ (b : Bool). is_open_behind b cs) h))
 
-plain_lines : (charset : Charset) (o : Bool) (ls : List (List ℕ)) → map (text_of charset) ls ≡ texts_behind charset false o ls
+plain_lines : (charset : Charset) (o : Bool) (ls : List (List ℕ)) → map (text_of charset) ls
+    ≡ texts_behind charset false o ls
 plain_lines charset o [] = refl
 plain_lines charset o (l ∷ ls) = ap (λ (ts : List (List ℕ)). text_of charset l ∷ ts) (plain_lines charset o ls)
 
 -- at the beginning no tag is open
-pub texts_begin : (charset : Charset) (is_html : Bool) (ls : List (List ℕ)) → texts_behind charset is_html false ls ≡ texts_of_lines charset is_html ls
+pub texts_begin : (charset : Charset) (is_html : Bool) (ls : List (List ℕ)) → texts_behind charset is_html false ls
+    ≡ texts_of_lines charset is_html ls
 texts_begin charset is_html ls = grind (arith, plain_lines, tagged_lines)
 
 -- ---- text without tags
@@ -43,7 +53,8 @@ lacks-append c (x ∷ xs) ys h = let rest = lacks-append c xs ys h.1 in ((h.0, r
 -- if no byte is this ASCII character, no character is
 lacks-chars : (c : ℕ) → c < 128 → (cs : List ℕ) → Lacks c (encode_utf8_all cs) → Lacks c cs
 lacks-chars c ascii [] h = tt
-lacks-chars c ascii (x ∷ cs) h = let parts = lacks-append c (encode_utf8 x) (encode_utf8_all cs) h in (go (x == c) refl parts.0, lacks-chars c ascii cs parts.1)
+lacks-chars c ascii (x ∷ cs) h = let parts = lacks-append c (encode_utf8 x) (encode_utf8_all cs) h
+    in (go (x == c) refl parts.0, lacks-chars c ascii cs parts.1)
   where
     go : (t : Bool) → (x == c) ≡ t → Lacks c (encode_utf8 x) → (x == c) ≡ false
     go t h h2 = grind (arith, eqb-true, encode_ascii)
@@ -59,8 +70,11 @@ pub is_open-free : (cs : List ℕ) → Lacks 0x3C cs → is_open_behind false cs
 is_open-free [] h = refl
 is_open-free (c ∷ cs) h = rw h.0 (is_open-free cs h.1)
 
-pub free-text : (text : List ℕ) (o : Bool) → o ≡ false → IsUtf8 text → Lacks 0x3C text → encode_utf8_all (blanked o (chars text)) ≡ text
-free-text text o e utf8 h = rw e (ap encode_utf8_all (blanked-free (chars text) (lacks-text 0x3C (omega arith) text utf8 h)) ∙ encodes-chars text utf8)
+pub free-text : (text : List ℕ) (o : Bool) → o ≡ false → IsUtf8 text → Lacks 0x3C text
+    → encode_utf8_all (blanked o (chars text)) ≡ text
+free-text text o e utf8 h = rw e (ap encode_utf8_all
+    (blanked-free (chars text) (lacks-text 0x3C (omega arith) text utf8 h)) ∙ encodes-chars text utf8)
 
-pub free-behind : (text : List ℕ) (o : Bool) → o ≡ false → IsUtf8 text → Lacks 0x3C text → is_open_behind o (chars text) ≡ false
+pub free-behind : (text : List ℕ) (o : Bool) → o ≡ false → IsUtf8 text → Lacks 0x3C text → is_open_behind o (chars text)
+    ≡ false
 free-behind text o e utf8 h = rw e (is_open-free (chars text) (lacks-text 0x3C (omega arith) text utf8 h))

@@ -1,5 +1,13 @@
 -- The loop that blanks the tags of a text, one span at a time.
-use Rattle.mime_text.proofs.Words.{◌≡◌, ℕ, zero, suc, ◌+◌, ◌≤◌, ◌<◌, Bool, true, false, List, [], ◌∷◌, ◌++◌, length, drop, get_or, replicate, chars, encode_utf8, encode_utf8_all, IsUtf8, refl, sym, ap, ap₂, ◌∙◌, subst, arith, length-append, append_assoc, not, ◌≢◌, ◌==◌, option_map, Option, eqb-true, false_from_ne_true, IsAscii, take_at, drop_at, get_or_at, length_push, length-replicate, replicate-append-replicate, IsUtf8-take, IsUtf8-drop, IsUtf8-from_ascii, IsCharBoundary-before_ascii, IsCharBoundary-after_ascii, chars-append, chars-IsAscii, encode_ascii, encodes-append, encodes-chars, length-le-encodes, cut_at, Lacks, IsCut, cut_at-none, cut_at-is, is_open_after, is_open_behind, blanked, span_end, shown_span}
+use Rattle.mime_text.proofs.Words.{◌≡◌, ℕ, zero, suc, ◌+◌, ◌≤◌, ◌<◌, Bool, true, false, List, [], ◌∷◌, ◌++◌, length}
+use Rattle.mime_text.proofs.Words.{drop, get_or, replicate, chars, encode_utf8, encode_utf8_all, IsUtf8, refl, sym, ap}
+use Rattle.mime_text.proofs.Words.{ap₂, ◌∙◌, subst, arith, length-append, append_assoc, not, ◌≢◌, ◌==◌, option_map}
+use Rattle.mime_text.proofs.Words.{Option, eqb-true, false_from_ne_true, IsAscii, take_at, drop_at, get_or_at}
+use Rattle.mime_text.proofs.Words.{length_push, length-replicate, replicate-append-replicate, IsUtf8-take, IsUtf8-drop}
+use Rattle.mime_text.proofs.Words.{IsUtf8-from_ascii, IsCharBoundary-before_ascii, IsCharBoundary-after_ascii}
+use Rattle.mime_text.proofs.Words.{chars-append, chars-IsAscii, encode_ascii, encodes-append, encodes-chars}
+use Rattle.mime_text.proofs.Words.{length-le-encodes, cut_at, Lacks, IsCut, cut_at-none, cut_at-is, is_open_after}
+use Rattle.mime_text.proofs.Words.{is_open_behind, blanked, span_end, shown_span}
 use denote.Ref.{Bor}
 use Rattle.std.proofs.lemmas.Str.Ascii.{IsAscii-nil, IsAscii-cons}
 use Rattle.std.proofs.lemmas.Str.Pattern.{IsSplitOnceResult, split_parts}
@@ -7,7 +15,8 @@ use Rattle.mime_text.proofs.TagLemmas.{lacks-text, blanked-free, is_open-free}
 
 -- ---- characters one after another
 
-is_open_behind-append : (o : Bool) (xs ys : List ℕ) → is_open_behind o (xs ++ ys) ≡ is_open_behind (is_open_behind o xs) ys
+is_open_behind-append : (o : Bool) (xs ys : List ℕ) → is_open_behind o (xs ++ ys)
+    ≡ is_open_behind (is_open_behind o xs) ys
 is_open_behind-append o [] ys = refl
 is_open_behind-append o (x ∷ xs) ys = is_open_behind-append (is_open_after o x) xs ys
 
@@ -36,13 +45,15 @@ encodes-spaces zero = refl
 encodes-spaces (suc n) = ap₂ (λ (xs ys : List ℕ). xs ++ ys) (encode_ascii 0x20 (omega arith)) (encodes-spaces n)
 
 -- how a span in a tag, or outside tags, is written
-pub written_tag : (text : List ℕ) → replicate (length (chars text)) 0x20 ≡ encode_utf8_all (shown_span true (chars text))
+pub written_tag : (text : List ℕ) → replicate (length (chars text)) 0x20
+    ≡ encode_utf8_all (shown_span true (chars text))
 written_tag text = sym (encodes-spaces (length (chars text)))
 
 pub written_outside : (text : List ℕ) → IsUtf8 text → text ≡ encode_utf8_all (shown_span false (chars text))
 written_outside text utf8 = sym (encodes-chars text utf8)
 
-length-span : (o : Bool) (text : List ℕ) → IsUtf8 text → length (encode_utf8_all (shown_span o (chars text))) ≤ length text
+length-span : (o : Bool) (text : List ℕ) → IsUtf8 text
+    → length (encode_utf8_all (shown_span o (chars text))) ≤ length text
 length-span o text h = grind (arith, written_tag, length-replicate, length-le-encodes, encodes-chars)
 
 -- ---- spaces
@@ -52,7 +63,8 @@ spaces-ascii zero = IsAscii-nil
 spaces-ascii (suc n) = IsAscii-cons 0x20 (replicate n 0x20) (omega arith) (spaces-ascii n)
 
 -- some of the spaces that are left are added
-pub spaces-more : (into new some : List ℕ) (left n rest : ℕ) → some ≡ replicate n 0x20 → n + rest ≡ left → new ≡ into ++ some → new ++ replicate rest 0x20 ≡ into ++ replicate left 0x20
+pub spaces-more : (into new some : List ℕ) (left n rest : ℕ) → some ≡ replicate n 0x20 → n + rest ≡ left → new
+    ≡ into ++ some → new ++ replicate rest 0x20 ≡ into ++ replicate left 0x20
 spaces-more into new some left n rest are parts added = grind (arith, append_assoc, replicate-append-replicate)
 
 -- ---- what ends a span
@@ -70,7 +82,8 @@ cut-ascii : (c : ℕ) (bs : List ℕ) (r : Option (Bor (List ℕ) × Bor (List �
     → option_map (λ parts. (parts.0.now, parts.1.now)) r ≡ cut_at c bs
 cut-ascii c bs r h h2 = grind (arith, split_parts, cut_at-none, differs, cut_at-is, lacks-places)
 
-pub cut_from_split : (o : Bool) (sign : ℕ) (bs : List ℕ) (r : Option (Bor (List ℕ) × Bor (List ℕ))) → sign ≡ span_end o → IsSplitOnceResult sign bs r
+pub cut_from_split : (o : Bool) (sign : ℕ) (bs : List ℕ) (r : Option (Bor (List ℕ) × Bor (List ℕ))) → sign ≡ span_end o
+    → IsSplitOnceResult sign bs r
     → option_map (λ parts. (parts.0.now, parts.1.now)) r ≡ cut_at (span_end o) bs
 cut_from_split o sign bs r is h = grind (arith, cut-ascii, IsSplitOnceResult)
 
@@ -85,13 +98,17 @@ cut_text c before behind ascii utf8 =
     let n : ℕ = length before in
     let is : get_or bs n 0 ≡ c = get_or_at before c behind 0 n refl in
     let lt : n < length bs = omega (arith, length-append before (c ∷ behind)) in
-    let front : IsUtf8 before = subst (λ (l : List ℕ). IsUtf8 l) (take_at before (c ∷ behind) n refl) (IsUtf8-take bs n utf8 (IsCharBoundary-before_ascii bs n lt (omega (arith, is)))) in
-    let rest : drop (n + 1) bs ≡ behind = ap (drop (n + 1)) (sym (append_assoc before (c ∷ []) behind)) ∙ drop_at (before ++ c ∷ []) behind (n + 1) (length_push before c) in
+    let front : IsUtf8 before = subst (λ (l : List ℕ). IsUtf8 l) (take_at before (c ∷ behind) n refl)
+    (IsUtf8-take bs n utf8 (IsCharBoundary-before_ascii bs n lt (omega (arith, is)))) in
+    let rest : drop (n + 1) bs ≡ behind = ap (drop (n + 1)) (sym (append_assoc before (c ∷ []) behind))
+    ∙ drop_at (before ++ c ∷ []) behind (n + 1) (length_push before c) in
     let small : IsAscii (c ∷ []) = IsAscii-cons c [] ascii IsAscii-nil in
-    let later : chars (c ∷ behind) ≡ c ∷ chars behind = grind (arith, chars-append (c ∷ []) behind (IsUtf8-from_ascii (c ∷ []) small), chars-IsAscii (c ∷ []) small) in
+    let later : chars (c ∷ behind) ≡ c ∷ chars behind =
+    grind (arith, chars-append (c ∷ []) behind (IsUtf8-from_ascii (c ∷ []) small), chars-IsAscii (c ∷ []) small) in
     record {
       utf8_before = front;
-      utf8_behind = subst (λ (l : List ℕ). IsUtf8 l) rest (IsUtf8-drop bs (n + 1) utf8 (IsCharBoundary-after_ascii bs n utf8 lt (omega (arith, is))));
+      utf8_behind = subst (λ (l : List ℕ). IsUtf8 l) rest
+          (IsUtf8-drop bs (n + 1) utf8 (IsCharBoundary-after_ascii bs n utf8 lt (omega (arith, is))));
       characters = chars-append before (c ∷ behind) front ∙ ap (λ (l : List ℕ). chars before ++ l) later;
     }
 
@@ -110,14 +127,35 @@ pub record TagsBlanked (text : List ℕ) (start : Bool) (old into : List ℕ) (o
   pub behind : o ≡ is_open_behind start (chars text)
   pub size : length into ≤ length old + length text
 
-pub tags_read-start : (text : List ℕ) (start : Bool) (old : List ℕ) → IsUtf8 text → TagsRead text start old old start text
+pub tags_read-start : (text : List ℕ) (start : Bool) (old : List ℕ) → IsUtf8 text
+    → TagsRead text start old old start text
 tags_read-start text start old utf8 = record { utf8 = utf8; sofar = refl; behind = refl; size = omega arith }
 
-pub tags_read-step : (text : List ℕ) (start : Bool) (old into : List ℕ) (o : Bool) (rest before behind spanned new : List ℕ) → TagsRead text start old into o rest
-    → IsCut (span_end o) rest before behind → spanned ≡ into ++ encode_utf8_all (shown_span o (chars before)) → new ≡ spanned ++ encode_utf8 0x20
+pub tags_read-step : (text : List ℕ) (start : Bool) (old into : List ℕ) (o : Bool)
+    (rest before behind spanned new : List ℕ) → TagsRead text start old into o rest
+    → IsCut (span_end o) rest before behind → spanned ≡ into ++ encode_utf8_all (shown_span o (chars before)) → new
+    ≡ spanned ++ encode_utf8 0x20
     → TagsRead text start old new (not o) behind
-tags_read-step text start old into o rest before behind spanned new h cut written ended = grind (arith, cut_text, lacks-text, is_open-span, blanked-append, blanked-span, encode_utf8_all, encode_utf8, encodes-append, is_open_behind-append, append_assoc, length-append, length-span, encode_ascii)
+tags_read-step text start old into o rest before behind spanned new h cut written ended =
+    grind (
+      arith,
+      cut_text,
+      lacks-text,
+      is_open-span,
+      blanked-append,
+      blanked-span,
+      encode_utf8_all,
+      encode_utf8,
+      encodes-append,
+      is_open_behind-append,
+      append_assoc,
+      length-append,
+      length-span,
+      encode_ascii,
+    )
 
-pub tags_read-end : (text : List ℕ) (start : Bool) (old into : List ℕ) (o : Bool) (rest new : List ℕ) → TagsRead text start old into o rest → Lacks (span_end o) rest
+pub tags_read-end : (text : List ℕ) (start : Bool) (old into : List ℕ) (o : Bool) (rest new : List ℕ)
+    → TagsRead text start old into o rest → Lacks (span_end o) rest
     → new ≡ into ++ encode_utf8_all (shown_span o (chars rest)) → TagsBlanked text start old new o
-tags_read-end text start old into o rest new h lacks written = grind (arith, lacks-text, encode_utf8_all, blanked-span, is_open-span, length-append, length-span)
+tags_read-end text start old into o rest new h lacks written =
+    grind (arith, lacks-text, encode_utf8_all, blanked-span, is_open-span, length-append, length-span)

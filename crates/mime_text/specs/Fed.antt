@@ -21,7 +21,8 @@ pub record Fed (m : MessageText) (ls : List (List ℕ)) (ps : List Pair) : Type 
   pub texts : (ms : List (List ℕ)) → texts_of_message (ls ++ ms) ≡ ps ++ coming ms
   pub facts : KnowsFacts m.reader ls
 
-module _ {S : Type 0} (takes : S → TextKind → List ℕ → S → Type 0) (refuses : S → TextKind → List ℕ → SinkFault → S → Type 0) where
+module _ {S : Type 0} (takes : S → TextKind → List ℕ → S → Type 0)
+    (refuses : S → TextKind → List ℕ → SinkFault → S → Type 0) where
   -- the sink took some pairs; whatever lines m was fed before, n was fed this line too, and gave these pairs too
   pub record Feeds (m n : MessageText) (l : List ℕ) (old new : S) : Type 0 where
     pub pairs : List Pair
@@ -33,7 +34,8 @@ module _ {S : Type 0} (takes : S → TextKind → List ℕ → S → Type 0) (re
   pub record FeedsPart (m : MessageText) (l : List ℕ) (fault : TextFault) (old new : S) : Type 0 where
     pub pairs : List Pair
     pub broken : Breaks takes refuses fault pairs old new
-    pub front : (ls : List (List ℕ)) (ps : List Pair) → Fed m ls ps → (ms : List (List ℕ)) → (later : List Pair) × (texts_of_message (ls ++ l ∷ ms) ≡ (ps ++ pairs) ++ later)
+    pub front : (ls : List (List ℕ)) (ps : List Pair) → Fed m ls ps → (ms : List (List ℕ)) → (later : List Pair)
+        × (texts_of_message (ls ++ l ∷ ms) ≡ (ps ++ pairs) ++ later)
 
   -- the sink took the pairs that were left: with those given before, they are the texts of the whole message
   pub record Finishes (m : MessageText) (old new : S) : Type 0 where
@@ -45,4 +47,5 @@ module _ {S : Type 0} (takes : S → TextKind → List ℕ → S → Type 0) (re
   pub record FinishesPart (m : MessageText) (fault : TextFault) (old new : S) : Type 0 where
     pub pairs : List Pair
     pub broken : Breaks takes refuses fault pairs old new
-    pub front : (ls : List (List ℕ)) (ps : List Pair) → Fed m ls ps → (later : List Pair) × (texts_of_message ls ≡ (ps ++ pairs) ++ later)
+    pub front : (ls : List (List ℕ)) (ps : List Pair) → Fed m ls ps → (later : List Pair)
+        × (texts_of_message ls ≡ (ps ++ pairs) ++ later)

@@ -70,14 +70,16 @@ Comes r c = ComesAt r.state r c
 -- these pairs come from a reader whose header has just ended
 abbrev pub ComesBehindHeader : PartReader → Bool → DefaultType → Coming → Type 0
 ComesBehindHeader r counted d c = (ls : List (List ℕ)) × HasLines r.header ls
-    × ((ms : List (List ℕ)) → c ms ≡ header_texts counted (fields_of ls) ++ given_behind (shape_of d (fields_of ls)) r.nesting (fields_of ls) ms)
+    × ((ms : List (List ℕ)) → c ms ≡ header_texts counted (fields_of ls) ++ given_behind (shape_of d (fields_of ls))
+    r.nesting (fields_of ls) ms)
 
 -- these pairs come if the entity ends in this state, and then those after a delimiter line
 abbrev pub ComesEndingAt : State → PartReader → Lead → Coming → Type 0
 ComesEndingAt state.Skipping r lead c = (ms : List (List ℕ)) → c ms ≡ given_after lead r.nesting ms
 ComesEndingAt (state.InHeader counted d) r lead c = (held : List (List ℕ)) × HasLines r.header held
     × ((ms : List (List ℕ)) → c ms ≡ header_texts counted (fields_of held) ++ given_after lead r.nesting ms)
-ComesEndingAt state.InLeaf r lead c = (ms : List (List ℕ)) → c ms ≡ pairs_to_come r.leaf [] ++ given_after lead r.nesting ms
+ComesEndingAt state.InLeaf r lead c = (ms : List (List ℕ)) → c ms
+    ≡ pairs_to_come r.leaf [] ++ given_after lead r.nesting ms
 
 -- the same for the state of the reader
 abbrev pub ComesEnding : PartReader → Lead → Coming → Type 0

@@ -1,6 +1,7 @@
 -- Delimiter lines and the open multiparts, as the code keeps them: the outermost first. Parts defines which lines
 -- delimit and what a message's parts are; this file serves proofs that the code does the same.
-use Rattle.std.specs.Prelude.{◌≡◌, ℕ, zero, suc, Bool, true, false, ◌+◌, ◌≤◌, List, [], ◌∷◌, Option, Some, None, if◌then◌else◌}
+use Rattle.std.specs.Prelude.{◌≡◌, ℕ, zero, suc, Bool, true, false, ◌+◌, ◌≤◌, List, [], ◌∷◌, Option, Some, None}
+use Rattle.std.specs.Prelude.{if◌then◌else◌}
 use Rattle.mbox_cutter.specs.Separators.{without_break}
 use Rattle.header_text.specs.EncodedWords.{after}
 use Rattle.mime_text.specs.declared.parts.shape.DefaultType.{DefaultType}
@@ -24,7 +25,8 @@ dashes l = after dash_dash (without_break l)
 -- what a line is, if this follows the boundary in it: the closing delimiter, another one, or none
 abbrev pub kind_behind : Option (List ℕ) → Option Delimiter
 kind_behind None = None
-kind_behind (Some rest) = if are_blanks (after dash_dash rest) then Some Closing else if are_blanks (Some rest) then Some Next else None
+kind_behind (Some rest) = if are_blanks (after dash_dash rest) then Some Closing else if are_blanks (Some rest)
+    then Some Next else None
 
 -- what a line is to the multipart of a boundary, if this text follows the line's two dashes
 unfoldable pub delimiter_of : List ℕ → List ℕ → Option Delimiter

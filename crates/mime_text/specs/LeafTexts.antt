@@ -11,7 +11,8 @@ use Rattle.mime_text.specs.declared.leaf.transfer.TransferEncoding.{TransferEnco
 -- the text of each line; in HTML a tag may begin in one line and end in a later one
 abbrev pub texts_of_lines : Charset → Bool → List (List ℕ) → List (List ℕ)
 texts_of_lines charset false ls = map (text_of charset) ls
-texts_of_lines charset true ls = map encode_utf8_all (lines_without_tags [] (map (λ line. chars (text_of charset line)) ls))
+texts_of_lines charset true ls = map encode_utf8_all
+    (lines_without_tags [] (map (λ line. chars (text_of charset line)) ls))
 
 -- the texts of a body with these lines: the decoded bytes are cut into lines again
 unfoldable pub leaf_texts : TransferEncoding → Charset → Bool → List (List ℕ) → List (List ℕ)

@@ -1,5 +1,6 @@
 -- The tags of HTML read one character and one line at a time: of the text before, only whether a tag is open counts.
-use Rattle.std.specs.Prelude.{ℕ, Bool, true, false, not, ◌&&◌, ◌||◌, ◌==◌, if◌then◌else◌, List, [], ◌∷◌, encode_utf8_all}
+use Rattle.std.specs.Prelude.{ℕ, Bool, true, false, not, ◌&&◌, ◌||◌, ◌==◌, if◌then◌else◌, List, [], ◌∷◌}
+use Rattle.std.specs.Prelude.{encode_utf8_all}
 use Rattle.std.specs.Str.{chars}
 use Rattle.header_text.specs.Charsets.{text_of}
 use Rattle.header_text.specs.declared.charset.Charset.{Charset}
@@ -36,4 +37,5 @@ is_open_behind_line charset true open_before line = is_open_behind open_before (
 abbrev pub texts_behind : Charset → Bool → Bool → List (List ℕ) → List (List ℕ)
 texts_behind charset is_html open_before [] = []
 texts_behind charset is_html open_before (l ∷ ls) =
-    line_text charset is_html open_before l ∷ texts_behind charset is_html (is_open_behind_line charset is_html open_before l) ls
+    line_text charset is_html open_before l ∷ texts_behind charset is_html
+    (is_open_behind_line charset is_html open_before l) ls

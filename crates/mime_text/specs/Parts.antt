@@ -1,5 +1,6 @@
 -- The parts of a message (RFC 2046), by splitting at the outermost boundary first.
-use Rattle.std.specs.Prelude.{ℕ, zero, suc, Bool, true, false, List, [], ◌∷◌, ◌++◌, Option, Some, None, flat_map, if◌then◌else◌}
+use Rattle.std.specs.Prelude.{ℕ, zero, suc, Bool, true, false, List, [], ◌∷◌, ◌++◌, Option, Some, None, flat_map}
+use Rattle.std.specs.Prelude.{if◌then◌else◌}
 use Rattle.std.specs.List.{list_all}
 use Rattle.mbox_cutter.specs.Lines.{is_empty}
 use Rattle.mbox_cutter.specs.Separators.{without_break}
@@ -67,7 +68,8 @@ module _ (shape_of : DefaultType → List HeaderField → Shape) where
   -- the parts of an entity if this many depths are left, its own included: first the entity itself, of any type
   abbrev pub parts : ℕ → DefaultType → List (List ℕ) → List Part
   parts zero default ls = []
-  parts (suc left) default ls = Entity (fields_of ls) ∷ parts_by (λ d ks. parts left d ks) (is_left left) (shape_of default (fields_of ls)) ls
+  parts (suc left) default ls = Entity (fields_of ls) ∷ parts_by (λ d ks. parts left d ks) (is_left left)
+      (shape_of default (fields_of ls)) ls
 
   -- the parts of a message: its own header, and then those of its body down to the depth of 16
   abbrev pub parts_of_message : List (List ℕ) → List Part

@@ -21,7 +21,8 @@ Pair = TextKind × List ℕ
 abbrev pub Coming : Type 0
 Coming = List (List ℕ) → List Pair
 
-module _ {S : Type 0} (takes : S → TextKind → List ℕ → S → Type 0) (refuses : S → TextKind → List ℕ → SinkFault → S → Type 0) where
+module _ {S : Type 0} (takes : S → TextKind → List ℕ → S → Type 0)
+    (refuses : S → TextKind → List ℕ → SinkFault → S → Type 0) where
   -- the sink takes these pairs, one after another
   abbrev pub TakesAll : List Pair → S → S → Type 0
   TakesAll [] old new = new ≡ old
@@ -32,7 +33,8 @@ module _ {S : Type 0} (takes : S → TextKind → List ℕ → S → Type 0) (re
   abbrev pub Breaks : TextFault → List Pair → S → S → Type 0
   Breaks OutOfMemory ps old new = TakesAll ps old new
   Breaks (Sink fault) ps old new =
-      (front : List Pair) × (last : Pair) × (reached : S) × (ps ≡ front ++ last ∷ []) × TakesAll front old reached × refuses reached last.0 last.1 fault new
+      (front : List Pair) × (last : Pair) × (reached : S) × (ps ≡ front ++ last ∷ []) × TakesAll front old reached
+      × refuses reached last.0 last.1 fault new
   Breaks Failed ps old new = ⊥
 
   -- the sink takes the first of the pairs to come; the others come after the call
@@ -49,4 +51,5 @@ module _ {S : Type 0} (takes : S → TextKind → List ℕ → S → Type 0) (re
 
   -- a call gives the sink what comes, except what still comes after the call; at a fault it has given some of it
   abbrev pub Hands : {T : Type 0} → Coming → Coming → Result T TextFault → S → S → Type 0
-  Hands before after result old new = MatchResult result (λ _. Gave before after old new) (λ fault. Broke before fault old new)
+  Hands before after result old new = MatchResult result (λ _. Gave before after old new)
+      (λ fault. Broke before fault old new)

@@ -25,7 +25,8 @@ or_else (Some x) o = Some x
 -- the place after a line that delimits the innermost multipart f: after the multipart, or in its next piece; None if
 -- the line doesn't delimit it
 abbrev pub own_hit : {A : Type 0} → Bool → Bool → Frame → List Frame → Option (List Frame × StreamPlace A)
-own_hit closing delimiter f outer = cond closing (Some (outer, Skip)) (cond delimiter (Some (f ∷ outer, InHeader false f.left f.default [])) None)
+own_hit closing delimiter f outer = cond closing (Some (outer, Skip))
+    (cond delimiter (Some (f ∷ outer, InHeader false f.left f.default [])) None)
 
 -- the place after a line that delimits an open multipart, of several the outermost; None if it delimits none. The
 -- innermost multipart comes first in the list.
@@ -47,7 +48,8 @@ module _ {A : Type 0} (shape_of : DefaultType → List HeaderField → Shape) (g
   -- what an entity gives if it has these lines more and ends with them
   abbrev pub value : StreamPlace A → List (List ℕ) → List A
   value Skip ls = []
-  value (InHeader counted left d lines) ls = flat_map gives (counted_part counted (lines ++ ls) ++ parts shape_of (suc left) d (lines ++ ls))
+  value (InHeader counted left d lines) ls =
+      flat_map gives (counted_part counted (lines ++ ls) ++ parts shape_of (suc left) d (lines ++ ls))
   value (InLeaf leaf) ls = leaf ls
 
   -- the place after a header's end, by what the header says
@@ -63,13 +65,17 @@ module _ {A : Type 0} (shape_of : DefaultType → List HeaderField → Shape) (g
   abbrev pub inner_step : List Frame → StreamPlace A → List ℕ → List A × (List Frame × StreamPlace A)
   inner_step fs Skip l = ([], (fs, Skip))
   inner_step fs (InHeader counted left d lines) l = elim (is_empty l) [
-    | true ↦ (flat_map gives (header_parts counted lines), behind_header (shape_of d (fields_of lines)) fs left (fields_of lines))
+    | true ↦ (
+      flat_map gives (header_parts counted lines),
+      behind_header (shape_of d (fields_of lines)) fs left (fields_of lines),
+    )
     | false ↦ ([], (fs, InHeader counted left d (lines ++ l ∷ [])))
   ]
   inner_step fs (InLeaf leaf) l = ([], (fs, InLeaf (λ ms. leaf (l ∷ ms))))
 
   -- what a line gives, and the place after it; a line that delimits ends the entity
-  abbrev pub step_by : Option (List Frame × StreamPlace A) → List Frame → StreamPlace A → List ℕ → List A × (List Frame × StreamPlace A)
+  abbrev pub step_by : Option (List Frame × StreamPlace A) → List Frame → StreamPlace A → List ℕ → List A
+      × (List Frame × StreamPlace A)
   step_by None fs place l = inner_step fs place l
   step_by (Some h) fs place l = (value place [], h)
 

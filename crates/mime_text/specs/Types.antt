@@ -1,5 +1,6 @@
 -- What an entity is, by the fields of its header (RFC 2045, 5 and 6; RFC 2046).
-use Rattle.std.specs.Prelude.{ℕ, Bool, true, false, not, ◌&&◌, ◌==◌, nat_le, if◌then◌else◌, List, [], length, take, Option, None, Some, unwrap_or, codes}
+use Rattle.std.specs.Prelude.{ℕ, Bool, true, false, not, ◌&&◌, ◌==◌, nat_le, if◌then◌else◌, List, [], length, take}
+use Rattle.std.specs.Prelude.{Option, None, Some, unwrap_or, codes}
 use Rattle.std.specs.List.{list_any}
 use Rattle.header_text.specs.Blanks.{split_while, trimmed}
 use Rattle.header_text.specs.Headers.{HeaderField}
@@ -43,7 +44,8 @@ media_type default value = if has_slash (type_text value) then type_text value e
 
 -- a boundary, if it isn't empty and not too long
 abbrev pub usable : List ℕ → Option (List ℕ)
-usable boundary = if nat_le 1 (length boundary) && nat_le (length boundary) most_in_boundary then Some boundary else None
+usable boundary = if nat_le 1 (length boundary) && nat_le (length boundary) most_in_boundary then Some boundary
+    else None
 
 -- the type of entities in a multipart that don't name theirs: messages in a multipart/digest (RFC 2046, 5.1.5)
 abbrev pub default_in : List ℕ → DefaultType
@@ -52,7 +54,8 @@ default_in type = if is_named type (codes "multipart/digest") then MessageRfc822
 -- a multipart with a usable boundary; one without is read as text/plain
 abbrev pub shape_of_multipart : List ℕ → Option (List ℕ) → Shape
 shape_of_multipart type None = Text false
-shape_of_multipart type (Some boundary) = elim (usable boundary) [ Some b ↦ Multipart b (default_in type) | None ↦ Text false ]
+shape_of_multipart type (Some boundary) =
+    elim (usable boundary) [ Some b ↦ Multipart b (default_in type) | None ↦ Text false ]
 
 -- whether a type begins with `multipart/`, in any ASCII case
 abbrev pub is_multipart : List ℕ → Bool
@@ -88,7 +91,8 @@ charset_in fields = charset_of_value (content_type fields)
 -- the encoding of an entity's body, by the value of its Content-Transfer-Encoding field; an unknown encoding changes
 -- nothing
 unfoldable pub transfer_named : List ℕ → TransferEncoding
-transfer_named value = if is_named value (codes "quoted-printable") then QuotedPrintable else if is_named value (codes "base64") then Base64 else Identity
+transfer_named value = if is_named value (codes "quoted-printable") then QuotedPrintable
+    else if is_named value (codes "base64") then Base64 else Identity
 
 -- the encoding of the body of an entity with this header
 abbrev pub transfer_in : List HeaderField → TransferEncoding

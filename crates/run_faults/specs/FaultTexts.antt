@@ -6,7 +6,8 @@ use Rattle.mairix_options.specs.Refusals.{text_of_usage, text_of_rc}
 use Rattle.mail_query.specs.FaultTexts.{text_of_query}
 use Rattle.mail_index.specs.FaultTexts.{text_of_index}
 use Rattle.run_faults.specs.declared.fault.Fault.{Fault}
-use Rattle.run_faults.specs.declared.fault.Fault.TheVariants.{Usage, Rc, Query, Archive, Index, OldIndex, Stale, Device, Out, Memory, TooMany}
+use Rattle.run_faults.specs.declared.fault.Fault.TheVariants.{Usage, Rc, Query, Archive, Index, OldIndex, Stale, Device}
+use Rattle.run_faults.specs.declared.fault.Fault.TheVariants.{Out, Memory, TooMany}
 
 -- the text of a fault of an archive, such as `archive 2: too long`; the number counts from 0, and is printed plus 1
 abbrev pub of_archive : ℕ → List ℕ → List ℕ

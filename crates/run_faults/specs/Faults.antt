@@ -12,7 +12,8 @@ use Rattle.mail_query.specs.declared.fault.QueryFaultKind.{QueryFaultKind}
 use Rattle.mail_query.specs.declared.fault.QueryFaultKind.TheVariants as query
 use Rattle.run_faults.specs.declared.fault.Fault.{Fault}
 use Rattle.run_faults.specs.declared.fault.Fault.TheVariants as of
-use Rattle.run_faults.specs.declared.fault.Fault.TheVariants.{Usage, Rc, Query, Archive, Index, OldIndex, Stale, Out, Memory, TooMany}
+use Rattle.run_faults.specs.declared.fault.Fault.TheVariants.{Usage, Rc, Query, Archive, Index, OldIndex, Stale, Out}
+use Rattle.run_faults.specs.declared.fault.Fault.TheVariants.{Memory, TooMany}
 
 -- the exit status of a refused command line, and of help and version
 abbrev pub status_of_usage : UsageFault → ℕ

@@ -1,5 +1,6 @@
 -- The loop of a caller that counts the messages that start, and the bytes of the texts that end.
-use Rattle.std.proofs.Common.{◌≡◌, ℕ, suc, ◌+◌, ◌≤◌, List, [], ◌∷◌, ◌++◌, Option, Some, None, IfSome, length, map, refl, ap, sym, ◌∙◌, arith}
+use Rattle.std.proofs.Common.{◌≡◌, ℕ, suc, ◌+◌, ◌≤◌, List, [], ◌∷◌, ◌++◌, Option, Some, None, IfSome, length, map, refl}
+use Rattle.std.proofs.Common.{ap, sym, ◌∙◌, arith}
 use Rattle.std.specs.List.{sum_by}
 use Rattle.std.proofs.lemmas.List.Sums.{sum_by-cons}
 use Rattle.std.specs.Option.{option_map}
@@ -29,7 +30,8 @@ sizes (Done all ∷ es) = sizes es
 -- this many messages and bytes have been counted since
 abbrev pub Tallied : Option Coming → ℕ → ℕ → Option Coming → Type 0
 Tallied before count bytes after =
-    IfSome before (λ k. (m : Coming) × (after ≡ Some m) × (starts k.events ≡ count + starts m.events) × (sizes k.events ≡ bytes + sizes m.events))
+    IfSome before (λ k. (m : Coming) × (after ≡ Some m) × (starts k.events ≡ count + starts m.events)
+    × (sizes k.events ≡ bytes + sizes m.events))
 
 -- what has been counted, if something is known after one more call
 pub tallied_on : {M N : Type 0} (before now : Option Coming) (mid : Option M) (new : Option N) (count bytes : ℕ)
@@ -56,39 +58,49 @@ sizes-lines (l ∷ ls) es = sizes-lines ls es
 
 starts-told : (all : ℕ) (ms : List Message) → starts (told all ms) ≡ length ms
 starts-told all [] = refl
-starts-told all (m ∷ ms) = ap suc (starts-lines (text m) (End (span_length m) (size m) ∷ told all ms) ∙ starts-told all ms)
+starts-told all (m ∷ ms) = ap suc (starts-lines (text m) (End (span_length m) (size m) ∷ told all ms)
+    ∙ starts-told all ms)
 
 sizes-told : (all : ℕ) (ms : List Message) → sizes (told all ms) ≡ sum_by size ms
 sizes-told all [] = refl
 sizes-told all (m ∷ ms) =
-    sizes-lines (text m) (End (span_length m) (size m) ∷ told all ms) ∙ ap (λ (n : ℕ). size m + n) (sizes-told all ms) ∙ sym (sum_by-cons size m ms)
+    sizes-lines (text m) (End (span_length m) (size m) ∷ told all ms) ∙ ap (λ (n : ℕ). size m + n) (sizes-told all ms)
+    ∙ sym (sum_by-cons size m ms)
 
 events-accepted : (b : List ℕ) (ms : List Message) → messages b ≡ Some ms → events b ≡ told (length b) ms
 unfolding events
 events-accepted b ms e = rw e refl
 
-counted-at : (most : ℕ) (b : List ℕ) (ms : List Message) (before now after : Option Coming) (count bytes all : ℕ) → messages b ≡ Some ms → before ≡ Some (coming_of most b) →
+counted-at : (most : ℕ) (b : List ℕ) (ms : List Message) (before now after : Option Coming) (count bytes all : ℕ)
+    → messages b ≡ Some ms → before ≡ Some (coming_of most b) →
     Tallied before count bytes now → TakesKnown (Done all) now after → (count ≡ length ms) × (bytes ≡ sum_by size ms)
 counted-at most b ms None now after count bytes all m e t d = cc
 counted-at most b ms (Some k) None after count bytes all m e t d = let no : None ≡ Some t.0 = t.1 in cc
 counted-at most b ms (Some k) (Some n) after count bytes all m e t d =
     let is : n ≡ t.0 = cc (t.1) in
     let last : t.0.events ≡ Done all ∷ [] = ap (λ (c : Coming). c.events) (sym is) ∙ d.2.0 in
-    let first : k.events ≡ told (length b) ms = ap (λ (c : Coming). c.events) (let same : k ≡ coming_of most b = cc in same) ∙ events-accepted b ms m in
+    let first : k.events ≡ told (length b) ms =
+    ap (λ (c : Coming). c.events) (let same : k ≡ coming_of most b = cc in same) ∙ events-accepted b ms m in
     let all_starts : starts k.events ≡ length ms = ap starts first ∙ starts-told (length b) ms in
     let all_sizes : sizes k.events ≡ sum_by size ms = ap sizes first ∙ sizes-told (length b) ms in
     let no_starts : starts t.0.events ≡ 0 = ap starts last in
     let no_sizes : sizes t.0.events ≡ 0 = ap sizes last in
     (omega (arith, t.2), omega (arith, t.3))
 
-pub counted : (most : ℕ) (known : Option (List ℕ)) (before now after : Option Coming) (count bytes all : ℕ) → before ≡ option_map (coming_of most) known →
-    Tallied before count bytes now → TakesKnown (Done all) now after → IfSome known (λ b. IfSome (messages b) (λ ms. (count ≡ length ms) × (bytes ≡ sum_by size ms)))
+pub counted : (most : ℕ) (known : Option (List ℕ)) (before now after : Option Coming) (count bytes all : ℕ) → before
+    ≡ option_map (coming_of most) known →
+    Tallied before count bytes now → TakesKnown (Done all) now after
+    → IfSome known (λ b. IfSome (messages b) (λ ms. (count ≡ length ms) × (bytes ≡ sum_by size ms)))
 counted most known before now after count bytes all e t d =
-    each_some known _ (λ b is. each_some (messages b) _ (λ ms m. counted-at most b ms before now after count bytes all m (e ∙ ap (option_map (coming_of most)) is) t d))
+    each_some known _ (λ b is. each_some (messages b) _
+    (λ ms m. counted-at most b ms before now after count bytes all m (e ∙ ap (option_map (coming_of most)) is) t d))
 
 -- the same, if something is still known at the end
-pub still-counted : {N : Type 0} (most : ℕ) (known : Option (List ℕ)) (begun : Option Coming) (last : Option N) (now after : Option Coming) (count bytes all : ℕ)
-    → begun ≡ option_map (coming_of most) known → Tallied (still_known begun last) count bytes now → TakesKnown (Done all) now after
+pub still-counted : {N : Type 0} (most : ℕ) (known : Option (List ℕ)) (begun : Option Coming) (last : Option N)
+    (now after : Option Coming) (count bytes all : ℕ)
+    → begun ≡ option_map (coming_of most) known → Tallied (still_known begun last) count bytes now
+    → TakesKnown (Done all) now after
     → IfSome (still_known known last) (λ b. IfSome (messages b) (λ ms. (count ≡ length ms) × (bytes ≡ sum_by size ms)))
 still-counted most known begun None now after count bytes all e t d = tt
-still-counted most known begun (Some x) now after count bytes all e t d = counted most known begun now after count bytes all e t d
+still-counted most known begun (Some x) now after count bytes all e t d =
+    counted most known begun now after count bytes all e t d

@@ -1,5 +1,10 @@
 -- The fields of lines with one more line.
-use Rattle.header_text.proofs.Words.{get_or, take, drop, take_rest, eq-eqb, ◌-◌, ◌≡◌, ◌∙◌, ◌+◌, ◌≤◌, ◌<◌, ◌++◌, ℕ, Bool, true, false, List, [], ◌∷◌, Option, Some, None, length, refl, sym, ap, arith, length-append, append_assoc, append-nil, is_some, HeaderField, is_continuation, field_of_line, with_continuations, continued_and_fields, fields_in, fields_size, named, is_field_name_byte, split_while, after_blanks, onto_last, is_open_after, is_open_behind, fields_with}
+use Rattle.header_text.proofs.Words.{get_or, take, drop, take_rest, eq-eqb, ◌-◌, ◌≡◌, ◌∙◌, ◌+◌, ◌≤◌, ◌<◌, ◌++◌, ℕ, Bool}
+use Rattle.header_text.proofs.Words.{true, false, List, [], ◌∷◌, Option, Some, None, length, refl, sym, ap, arith}
+use Rattle.header_text.proofs.Words.{length-append, append_assoc, append-nil, is_some, HeaderField, is_continuation}
+use Rattle.header_text.proofs.Words.{field_of_line, with_continuations, continued_and_fields, fields_in, fields_size}
+use Rattle.header_text.proofs.Words.{named, is_field_name_byte, split_while, after_blanks, onto_last, is_open_after}
+use Rattle.header_text.proofs.Words.{is_open_behind, fields_with}
 use Rattle.std.specs.Option.{option_to_list}
 use Rattle.header_text.proofs.Fronts.{split_while-joined}
 
@@ -12,30 +17,38 @@ abbrev whole : Option HeaderField → List (List ℕ) → List HeaderField
 whole o ls = let rest = continued_and_fields ls in with_continuations o rest.0 rest.1
 
 -- continuation bytes before what follows a field
-with_continuations-grown : (o : Option HeaderField) (l more : List ℕ) (later : List HeaderField) → with_continuations o (l ++ more) later ≡ with_continuations (grown o l) more later
+with_continuations-grown : (o : Option HeaderField) (l more : List ℕ) (later : List HeaderField)
+    → with_continuations o (l ++ more) later ≡ with_continuations (grown o l) more later
 with_continuations-grown o l more later = grind (arith, append_assoc)
 
-whole-cons_yes : (o : Option HeaderField) (l : List ℕ) (ls : List (List ℕ)) → is_continuation l ≡ true → whole o (l ∷ ls) ≡ whole (grown o l) ls
-whole-cons_yes o l ls e = rw (e, continued_and_fields) (with_continuations-grown o l (continued_and_fields ls).0 (continued_and_fields ls).1)
+whole-cons_yes : (o : Option HeaderField) (l : List ℕ) (ls : List (List ℕ)) → is_continuation l ≡ true
+    → whole o (l ∷ ls) ≡ whole (grown o l) ls
+whole-cons_yes o l ls e = rw (e, continued_and_fields)
+    (with_continuations-grown o l (continued_and_fields ls).0 (continued_and_fields ls).1)
 
-whole-cons_no : (o : Option HeaderField) (l : List ℕ) (ls : List (List ℕ)) → is_continuation l ≡ false → whole o (l ∷ ls) ≡ with_continuations o [] (whole (field_of_line l) ls)
+whole-cons_no : (o : Option HeaderField) (l : List ℕ) (ls : List (List ℕ)) → is_continuation l ≡ false
+    → whole o (l ∷ ls) ≡ with_continuations o [] (whole (field_of_line l) ls)
 whole-cons_no o l ls e = rw (e, continued_and_fields) refl
 
-with_continuations-append : (o : Option HeaderField) (more : List ℕ) (later end : List HeaderField) → with_continuations o more (later ++ end) ≡ with_continuations o more later ++ end
+with_continuations-append : (o : Option HeaderField) (more : List ℕ) (later end : List HeaderField)
+    → with_continuations o more (later ++ end) ≡ with_continuations o more later ++ end
 with_continuations-append o more later end = grind arith
 
 is_some-grown : (o : Option HeaderField) (l : List ℕ) → is_some (grown o l) ≡ is_some o
 is_some-grown o l = grind arith
 
 -- a last line that isn't a continuation
-whole-push_no : (o : Option HeaderField) (ls : List (List ℕ)) (l : List ℕ) → is_continuation l ≡ false → whole o (ls ++ l ∷ []) ≡ whole o ls ++ whole (field_of_line l) []
+whole-push_no : (o : Option HeaderField) (ls : List (List ℕ)) (l : List ℕ) → is_continuation l ≡ false
+    → whole o (ls ++ l ∷ []) ≡ whole o ls ++ whole (field_of_line l) []
 whole-push_no o [] l e = rw (e, continued_and_fields) (with_continuations-append o [] [] (whole (field_of_line l) []))
 whole-push_no o (k ∷ ks) l e = go (λ p. whole-push_no p ks l e) (is_continuation k) refl
   where
-    go : ((p : Option HeaderField) → whole p (ks ++ l ∷ []) ≡ whole p ks ++ whole (field_of_line l) []) → (t : Bool) → is_continuation k ≡ t
+    go : ((p : Option HeaderField) → whole p (ks ++ l ∷ []) ≡ whole p ks ++ whole (field_of_line l) []) → (t : Bool)
+        → is_continuation k ≡ t
         → whole o (k ∷ (ks ++ l ∷ [])) ≡ whole o (k ∷ ks) ++ whole (field_of_line l) []
     go later true f =
-        whole-cons_yes o k (ks ++ l ∷ []) f ∙ later (grown o k) ∙ ap (λ (fs : List HeaderField). fs ++ whole (field_of_line l) []) (sym (whole-cons_yes o k ks f))
+        whole-cons_yes o k (ks ++ l ∷ []) f ∙ later (grown o k)
+        ∙ ap (λ (fs : List HeaderField). fs ++ whole (field_of_line l) []) (sym (whole-cons_yes o k ks f))
     go later false f = grind arith
 
 -- a last line that is a continuation: it goes to the last field if that may be continued, and otherwise it is skipped
@@ -43,18 +56,22 @@ record Continued (o : Option HeaderField) (ls : List (List ℕ)) (l : List ℕ) 
   goes : opened ≡ true → (whole o (ls ++ l ∷ []) ≡ onto_last l (whole o ls)) × (0 < length (whole o ls))
   skips : opened ≡ false → whole o (ls ++ l ∷ []) ≡ whole o ls
 
-onto_last-front : (o : Option HeaderField) (l more : List ℕ) (fs : List HeaderField) → 0 < length fs → with_continuations o more (onto_last l fs) ≡ onto_last l (with_continuations o more fs)
+onto_last-front : (o : Option HeaderField) (l more : List ℕ) (fs : List HeaderField) → 0 < length fs
+    → with_continuations o more (onto_last l fs) ≡ onto_last l (with_continuations o more fs)
 onto_last-front o l more fs h = grind arith
 
-length-with_continuations : (o : Option HeaderField) (more : List ℕ) (fs : List HeaderField) → length fs ≤ length (with_continuations o more fs)
+length-with_continuations : (o : Option HeaderField) (more : List ℕ) (fs : List HeaderField)
+    → length fs ≤ length (with_continuations o more fs)
 length-with_continuations o more fs = grind arith
 
-continued : (o : Option HeaderField) (ls : List (List ℕ)) (l : List ℕ) → is_continuation l ≡ true → Continued o ls l (is_open_behind (is_some o) ls)
+continued : (o : Option HeaderField) (ls : List (List ℕ)) (l : List ℕ) → is_continuation l ≡ true
+    → Continued o ls l (is_open_behind (is_some o) ls)
 continued None [] l e = record { goes = λ no. absurd (cc); skips = λ _. rw (e, continued_and_fields) refl }
 continued (Some f) [] l e = grind (arith, append-nil)
 continued o (k ∷ ks) l e = go (λ p. continued p ks l e) (is_continuation k) refl
   where
-    go : ((p : Option HeaderField) → Continued p ks l (is_open_behind (is_some p) ks)) → (t : Bool) → is_continuation k ≡ t
+    go : ((p : Option HeaderField) → Continued p ks l (is_open_behind (is_some p) ks)) → (t : Bool) → is_continuation k
+        ≡ t
         → Continued o (k ∷ ks) l (is_open_behind (is_open_after (is_some o) k) ks)
     go each true f =
         let later = each (grown o k) in
@@ -72,25 +89,30 @@ continued o (k ∷ ks) l e = go (λ p. continued p ks l e) (is_continuation k) r
         let next = whole-cons_no o k (ks ++ l ∷ []) f in
         rw same (record {
           goes = λ is. (
-            next ∙ ap (λ (fs : List HeaderField). with_continuations o [] fs) (later.goes is).0 ∙ onto_last-front o l [] (whole (field_of_line k) ks) (later.goes is).1 ∙ ap (onto_last l) (sym now),
+            next ∙ ap (λ (fs : List HeaderField). with_continuations o [] fs) (later.goes is).0
+                ∙ onto_last-front o l [] (whole (field_of_line k) ks) (later.goes is).1 ∙ ap (onto_last l) (sym now),
             rw now (omega (arith, (later.goes is).1, length-with_continuations o [] (whole (field_of_line k) ks))),
           );
           skips = λ is. next ∙ ap (λ (fs : List HeaderField). with_continuations o [] fs) (later.skips is) ∙ sym now;
         })
 
 -- one more line
-pub fields_in-push : (ls : List (List ℕ)) (l : List ℕ) → fields_in (ls ++ l ∷ []) ≡ fields_with (is_open_behind false ls) l (fields_in ls)
+pub fields_in-push : (ls : List (List ℕ)) (l : List ℕ) → fields_in (ls ++ l ∷ [])
+    ≡ fields_with (is_open_behind false ls) l (fields_in ls)
 fields_in-push ls l = go (is_continuation l) refl (is_open_behind false ls) refl
   where
     last : (o : Option HeaderField) → whole o [] ≡ option_to_list o
     last o = grind (arith, append-nil)
 
-    go : (t : Bool) → is_continuation l ≡ t → (u : Bool) → is_open_behind false ls ≡ u → fields_in (ls ++ l ∷ []) ≡ fields_with (is_open_behind false ls) l (fields_in ls)
-    go false e u f = whole-push_no None ls l e ∙ rw e (ap (λ (fs : List HeaderField). fields_in ls ++ fs) (last (field_of_line l)))
+    go : (t : Bool) → is_continuation l ≡ t → (u : Bool) → is_open_behind false ls ≡ u → fields_in (ls ++ l ∷ [])
+        ≡ fields_with (is_open_behind false ls) l (fields_in ls)
+    go false e u f = whole-push_no None ls l e
+        ∙ rw e (ap (λ (fs : List HeaderField). fields_in ls ++ fs) (last (field_of_line l)))
     go true e true f = ((continued None ls l e).goes f).0 ∙ rw (e, f) refl
     go true e false f = (continued None ls l e).skips f ∙ rw (e, f) refl
 
-pub is_open_behind-push : (b : Bool) (ls : List (List ℕ)) (l : List ℕ) → is_open_behind b (ls ++ l ∷ []) ≡ is_open_after (is_open_behind b ls) l
+pub is_open_behind-push : (b : Bool) (ls : List (List ℕ)) (l : List ℕ) → is_open_behind b (ls ++ l ∷ [])
+    ≡ is_open_after (is_open_behind b ls) l
 is_open_behind-push b [] l = refl
 is_open_behind-push b (k ∷ ks) l = is_open_behind-push (is_open_after b k) ks l
 
@@ -115,7 +137,8 @@ named-size name rest = grind arith
 field_of_line-size : (l : List ℕ) → fields_size (option_to_list (field_of_line l)) ≤ length l
 field_of_line-size l =
     let parts = split_while is_field_name_byte l in
-    let sizes : length parts.0 + length parts.1 ≡ length l = sym (length-append parts.0 parts.1) ∙ ap length (split_while-joined is_field_name_byte l) in
+    let sizes : length parts.0 + length parts.1 ≡ length l = sym (length-append parts.0 parts.1)
+    ∙ ap length (split_while-joined is_field_name_byte l) in
     omega (arith, named-size parts.0 (after_blanks parts.1), length-after_blanks parts.1, sizes)
 
 -- a name that isn't empty, and a colon
@@ -124,8 +147,15 @@ pub named-begins : (name rest : List ℕ) → 0 < length name → 1 ≤ length r
 named-begins [] rest some one is = absurd (omega arith)
 named-begins (b ∷ name) [] some one is = absurd (omega arith)
 named-begins (b ∷ name) (c ∷ rest) some one is =
-    rw (eq-eqb c 0x3A is, named) (ap (λ (l : List ℕ). Some (record { name = b ∷ name; body = l })) (take_rest (c ∷ rest) 1))
+    rw (eq-eqb c 0x3A is, named) (ap (λ (l : List ℕ). Some (record { name = b ∷ name; body = l }))
+    (take_rest (c ∷ rest) 1))
 
 -- a line adds no more bytes than it has
-pub fields_size-with : (b : Bool) (l : List ℕ) (fs : List HeaderField) → fields_size (fields_with b l fs) ≤ fields_size fs + length l
-fields_size-with b l fs = grind (arith, fields_size-append fs (option_to_list (field_of_line l)), field_of_line-size l, fields_size-onto_last l fs)
+pub fields_size-with : (b : Bool) (l : List ℕ) (fs : List HeaderField)
+    → fields_size (fields_with b l fs) ≤ fields_size fs + length l
+fields_size-with b l fs = grind (
+  arith,
+  fields_size-append fs (option_to_list (field_of_line l)),
+  field_of_line-size l,
+  fields_size-onto_last l fs,
+)

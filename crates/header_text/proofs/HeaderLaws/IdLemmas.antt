@@ -1,5 +1,8 @@
 -- Reading text after text, each up to a `>`, gives the ids of a value.
-use Rattle.header_text.proofs.Words.{◌≡◌, ◌∙◌, ◌+◌, ◌<◌, ◌≤◌, ◌++◌, ◌==◌, ℕ, zero, suc, Bool, true, false, nat_lt, List, [], ◌∷◌, Option, Some, None, length, drop, get_or, slice_index, map, refl, sym, ap, subst, arith, filter, IfSome, Vec, filter_map, length-map, get_or-map, ltb-true, is_id_byte, ids_of, ids_size, onto_first, closed_texts, after_last_open, ids_in}
+use Rattle.header_text.proofs.Words.{◌≡◌, ◌∙◌, ◌+◌, ◌<◌, ◌≤◌, ◌++◌, ◌==◌, ℕ, zero, suc, Bool, true, false, nat_lt, List}
+use Rattle.header_text.proofs.Words.{[], ◌∷◌, Option, Some, None, length, drop, get_or, slice_index, map, refl, sym, ap}
+use Rattle.header_text.proofs.Words.{subst, arith, filter, IfSome, Vec, filter_map, length-map, get_or-map, ltb-true}
+use Rattle.header_text.proofs.Words.{is_id_byte, ids_of, ids_size, onto_first, closed_texts, after_last_open, ids_in}
 use Rattle.std.specs.Global.{Global}
 use Rattle.std.specs.Prelude.{All}
 use Rattle.header_text.proofs.HeaderLaws.IdRanges.{ids_of-closed}
@@ -10,22 +13,28 @@ use Rattle.header_text.proofs.CutLemmas.{Lacks}
 abbrev judged : ℕ → List ℕ → Option (List ℕ) → Option (List ℕ)
 judged b bs o = elim o [ Some id ↦ Some id | None ↦ elim (b == 0x3C) [ true ↦ Some bs | false ↦ None ] ]
 
-pub after_last_open-none : (bs : List ℕ) → ((k : ℕ) → k < length bs → (slice_index bs k == 0x3C) ≡ false) → after_last_open bs ≡ None
+pub after_last_open-none : (bs : List ℕ) → ((k : ℕ) → k < length bs → (slice_index bs k == 0x3C) ≡ false)
+    → after_last_open bs ≡ None
 after_last_open-none [] h = refl
-after_last_open-none (b ∷ bs) h = ap (judged b bs) (after_last_open-none bs (λ k lt. h (suc k) (omega arith))) ∙ rw (h 0 (omega arith), judged) refl
+after_last_open-none (b ∷ bs) h = ap (judged b bs) (after_last_open-none bs (λ k lt. h (suc k) (omega arith)))
+    ∙ rw (h 0 (omega arith), judged) refl
 
-pub after_last_open-last : (bs : List ℕ) (at : ℕ) → at < length bs → (slice_index bs at == 0x3C) ≡ true → ((k : ℕ) → at + 1 ≤ k → k < length bs → (slice_index bs k == 0x3C) ≡ false)
+pub after_last_open-last : (bs : List ℕ) (at : ℕ) → at < length bs → (slice_index bs at == 0x3C) ≡ true
+    → ((k : ℕ) → at + 1 ≤ k → k < length bs → (slice_index bs k == 0x3C) ≡ false)
     → after_last_open bs ≡ Some (drop (suc at) bs)
 after_last_open-last [] at lt is after = absurd (omega arith)
 after_last_open-last (b ∷ bs) zero lt is after =
     ap (judged b bs) (after_last_open-none bs (λ k l. after (suc k) (omega arith) (omega arith))) ∙ rw (is, judged) refl
-after_last_open-last (b ∷ bs) (suc at) lt is after = grind (arith, after_last_open-last bs at (omega arith) is (λ k low high. after (suc k) (omega arith) (omega arith)))
+after_last_open-last (b ∷ bs) (suc at) lt is after =
+    grind (arith, after_last_open-last bs at (omega arith) is (λ k low high. after (suc k) (omega arith) (omega arith)))
 
 -- ---- text by text
 
-pub closed_texts-cut : (text behind : List ℕ) → Lacks 0x3E text → closed_texts (text ++ 0x3E ∷ behind) ≡ text ∷ closed_texts behind
+pub closed_texts-cut : (text behind : List ℕ) → Lacks 0x3E text → closed_texts (text ++ 0x3E ∷ behind)
+    ≡ text ∷ closed_texts behind
 closed_texts-cut [] behind free = refl
-closed_texts-cut (b ∷ text) behind free = rw (free.0, closed_texts) (ap (onto_first b) (closed_texts-cut text behind free.1))
+closed_texts-cut (b ∷ text) behind free =
+    rw (free.0, closed_texts) (ap (onto_first b) (closed_texts-cut text behind free.1))
 
 pub closed_texts-free : (text : List ℕ) → Lacks 0x3E text → closed_texts text ≡ []
 closed_texts-free [] free = refl
@@ -52,7 +61,12 @@ onto_first-short n b ts h = grind (arith, AreShort-more)
 
 closed_texts-short : (bs : List ℕ) → AreShort (length bs) (closed_texts bs)
 closed_texts-short [] = tt
-closed_texts-short (b ∷ bs) = grind (arith, closed_texts-short bs, AreShort-more (length bs) (suc (length bs)) (closed_texts bs), onto_first-short (length bs) b (closed_texts bs))
+closed_texts-short (b ∷ bs) = grind (
+  arith,
+  closed_texts-short bs,
+  AreShort-more (length bs) (suc (length bs)) (closed_texts bs),
+  onto_first-short (length bs) b (closed_texts bs),
+)
 
 after_last_open-short : (bs : List ℕ) → IfSome (after_last_open bs) (λ t. length t < length bs)
 after_last_open-short [] = tt
@@ -66,12 +80,14 @@ ids_in-sized : (n : ℕ) (ts : List (List ℕ)) → AreShort n ts → AreSized n
 ids_in-sized n [] h = tt
 ids_in-sized n (t ∷ ts) h = go (after_last_open t) refl (after_last_open-short t) (ids_in-sized n ts h.1)
   where
-    go : (o : Option (List ℕ)) → after_last_open t ≡ o → IfSome (after_last_open t) (λ u. length u < length t) → AreSized n (ids_in ts) → AreSized n (ids_in (t ∷ ts))
+    go : (o : Option (List ℕ)) → after_last_open t ≡ o → IfSome (after_last_open t) (λ u. length u < length t)
+        → AreSized n (ids_in ts) → AreSized n (ids_in (t ∷ ts))
     go None e short later = rw e later
     go (Some u) e short later = rw e (last (nat_lt 0 (length (filter is_id_byte u))) refl)
       where
         last : (v : Bool) → nat_lt 0 (length (filter is_id_byte u)) ≡ v
-            → AreSized n (filter (λ x. nat_lt 0 (length x)) (filter is_id_byte u ∷ map (filter is_id_byte) (filter_map after_last_open ts)))
+            → AreSized n (filter (λ x. nat_lt 0 (length x))
+            (filter is_id_byte u ∷ map (filter is_id_byte) (filter_map after_last_open ts)))
         last true f =
             let fits : length u < length t = rw e at short in
             rw f (ltb-true 0 (length (filter is_id_byte u)) f, omega (arith, filter-short is_id_byte u, h.0), later)
@@ -92,20 +108,26 @@ ids_in-size (t ∷ ts) = grind (arith, after_last_open-short t, ids_in-size ts, 
 
 pub ids_of-size : (value : List ℕ) → ids_size (ids_of value) ≤ length value
 ids_of-size value =
-    let found : ids_size (ids_of value) ≤ closed_size (closed_texts value) = rw (ids_of-closed value) (ids_in-size (closed_texts value)) in
+    let found : ids_size (ids_of value) ≤ closed_size (closed_texts value) =
+    rw (ids_of-closed value) (ids_in-size (closed_texts value)) in
     omega (arith, found, closed_texts-size value)
 
-All-sized : (n : ℕ) (ids : List (List ℕ)) → AreSized n ids → (k : ℕ) (d : List ℕ) → k < length ids → (0 < length (get_or ids k d)) × (length (get_or ids k d) ≤ n)
+All-sized : (n : ℕ) (ids : List (List ℕ)) → AreSized n ids → (k : ℕ) (d : List ℕ) → k < length ids
+    → (0 < length (get_or ids k d)) × (length (get_or ids k d) ≤ n)
 All-sized n [] h k d lt = absurd (omega arith)
 All-sized n (id ∷ ids) h zero d lt = (h.0, h.1)
 All-sized n (id ∷ ids) h (suc k) d lt = All-sized n ids h.2 k d (omega arith)
 
-pub ids_of-sized : (value : List ℕ) (k : ℕ) (d : List ℕ) → k < length (ids_of value) → (0 < length (get_or (ids_of value) k d)) × (length (get_or (ids_of value) k d) ≤ length value)
-ids_of-sized value = All-sized (length value) (ids_of value) (rw (ids_of-closed value) (ids_in-sized (length value) (closed_texts value) (closed_texts-short value)))
+pub ids_of-sized : (value : List ℕ) (k : ℕ) (d : List ℕ) → k < length (ids_of value)
+    → (0 < length (get_or (ids_of value) k d)) × (length (get_or (ids_of value) k d) ≤ length value)
+ids_of-sized value = All-sized (length value) (ids_of value)
+    (rw (ids_of-closed value) (ids_in-sized (length value) (closed_texts value) (closed_texts-short value)))
 
 -- what is true of each text is true of each vector that has one of these texts
-pub each-kept : (P : List ℕ → Type 0) (ids : List (Vec ℕ Global)) (texts : List (List ℕ)) → map (λ (id : Vec ℕ Global). id.items) ids ≡ texts → All P texts → All (λ (id : Vec ℕ Global). P id.items) ids
+pub each-kept : (P : List ℕ → Type 0) (ids : List (Vec ℕ Global)) (texts : List (List ℕ))
+    → map (λ (id : Vec ℕ Global). id.items) ids ≡ texts → All P texts → All (λ (id : Vec ℕ Global). P id.items) ids
 each-kept P ids texts e all k d lt =
     let below : k < length texts = omega (arith, ap length e, length-map ids (λ (id : Vec ℕ Global). id.items)) in
-    let here : get_or texts k d.items ≡ (get_or ids k d).items = ap (λ (l : List (List ℕ)). get_or l k d.items) (sym e) ∙ get_or-map (λ (id : Vec ℕ Global). id.items) ids k d d.items lt in
+    let here : get_or texts k d.items ≡ (get_or ids k d).items = ap (λ (l : List (List ℕ)). get_or l k d.items) (sym e)
+    ∙ get_or-map (λ (id : Vec ℕ Global). id.items) ids k d d.items lt in
     subst P here (all k d.items below)

@@ -1,5 +1,9 @@
 -- The ids found by their ranges are those of the texts up to each `>`.
-use Rattle.header_text.proofs.Words.{◌≡◌, ◌∙◌, ◌++◌, ◌&&◌, ◌==◌, ℕ, Bool, true, false, cond, List, [], ◌∷◌, Option, Some, None, refl, sym, ap, ap₂, append_assoc, append-nil, inl, inr, ◌⊎◌, nat_lt, arith, list_all, map-append, filter-append, filter_map-append, eqb-true, open_sign, close_sign, begins_with, is_inside_id, is_id, kept_ids, ids_of, closed_texts, after_last_open, ids_in}
+use Rattle.header_text.proofs.Words.{◌≡◌, ◌∙◌, ◌++◌, ◌&&◌, ◌==◌, ℕ, Bool, true, false, cond, List, [], ◌∷◌, Option}
+use Rattle.header_text.proofs.Words.{Some, None, refl, sym, ap, ap₂, append_assoc, append-nil, inl, inr, ◌⊎◌, nat_lt}
+use Rattle.header_text.proofs.Words.{arith, list_all, map-append, filter-append, filter_map-append, eqb-true, open_sign}
+use Rattle.header_text.proofs.Words.{close_sign, begins_with, is_inside_id, is_id, kept_ids, ids_of, closed_texts}
+use Rattle.header_text.proofs.Words.{after_last_open, ids_in}
 use Rattle.std.proofs.lemmas.List.Folds.{list_all-append}
 use Rattle.contract_words.proofs.RangePlaces.{seen_on, seen_from, if_passes, seen_behind-places}
 use Rattle.header_text.proofs.CutLemmas.{Lacks}
@@ -30,10 +34,12 @@ taken : (before inside behind : List ℕ) → is_id before inside behind ≡ tru
 taken before inside behind e = ap (λ (t : Bool). cond t (inside ∷ []) []) e
 
 -- one more byte inside
-inside_more : (inside : List ℕ) (b : ℕ) → list_all is_inside_id inside ≡ true → is_inside_id b ≡ true → list_all is_inside_id (inside ++ b ∷ []) ≡ true
+inside_more : (inside : List ℕ) (b : ℕ) → list_all is_inside_id inside ≡ true → is_inside_id b ≡ true
+    → list_all is_inside_id (inside ++ b ∷ []) ≡ true
 inside_more inside b e f = list_all-append is_inside_id inside (b ∷ []) ∙ rw (e, f) refl
 
-broken_more : (inside : List ℕ) (b : ℕ) → list_all is_inside_id inside ≡ false → list_all is_inside_id (inside ++ b ∷ []) ≡ false
+broken_more : (inside : List ℕ) (b : ℕ) → list_all is_inside_id inside ≡ false
+    → list_all is_inside_id (inside ++ b ∷ []) ≡ false
 broken_more inside b e = list_all-append is_inside_id inside (b ∷ []) ∙ rw e refl
 
 and_false : (a : Bool) → (a && false) ≡ false
@@ -48,7 +54,8 @@ is_inside b e f = rw (e, f) refl
 -- no `<` is directly before them
 on-unopened : (before inside rest : List ℕ) → begins_with open_sign before ≡ false → ids_on before inside rest ≡ []
 on-unopened before inside [] e = refl
-on-unopened before inside (c ∷ cs) e = grind (arith, refused, before, not_first, on-unopened before (inside ++ c ∷ []) cs e)
+on-unopened before inside (c ∷ cs) e = grind
+    (arith, refused, before, not_first, on-unopened before (inside ++ c ∷ []) cs e)
 
 refused_broken : (before inside behind : List ℕ) → list_all is_inside_id inside ≡ false → one before inside behind ≡ []
 refused_broken before inside behind e = grind (arith, refused, before, behind)
@@ -59,42 +66,51 @@ refused_open before inside behind e = grind (arith, refused, before, behind)
 -- a `<` or a `>` is among them
 on-broken : (before inside rest : List ℕ) → list_all is_inside_id inside ≡ false → ids_on before inside rest ≡ []
 on-broken before inside [] e = refl
-on-broken before inside (c ∷ cs) e = grind (arith, refused_broken, broken_more, on-broken before (inside ++ c ∷ []) cs (broken_more inside c e))
+on-broken before inside (c ∷ cs) e = grind
+    (arith, refused_broken, broken_more, on-broken before (inside ++ c ∷ []) cs (broken_more inside c e))
 
 on-sign : (before inside rest : List ℕ) (c : ℕ) → is_inside_id c ≡ false → ids_on before inside (c ∷ rest) ≡ []
 on-sign before inside rest c e = grind (arith, refused_broken, before, broken_by, on-broken)
 
-not_closed : (x rest : List ℕ) → Lacks close_sign x → begins_with close_sign rest ≡ false → begins_with close_sign (x ++ rest) ≡ false
+not_closed : (x rest : List ℕ) → Lacks close_sign x → begins_with close_sign rest ≡ false
+    → begins_with close_sign (x ++ rest) ≡ false
 not_closed [] rest free e = e
 not_closed (b ∷ x) rest free e = free.0
 
 -- a `<` comes before any `>`
 on-reopened : (before inside x rest : List ℕ) → Lacks close_sign x → ids_on before inside (x ++ open_sign ∷ rest) ≡ []
 on-reopened before inside [] rest free = on-sign before inside rest open_sign refl
-on-reopened before inside (b ∷ x) rest free = grind (arith, refused_open, before, not_closed, on-reopened before (inside ++ b ∷ []) x rest free.1)
+on-reopened before inside (b ∷ x) rest free =
+    grind (arith, refused_open, before, not_closed, on-reopened before (inside ++ b ∷ []) x rest free.1)
 
 -- no `>` comes
 on-end : (before inside x : List ℕ) → Lacks close_sign x → ids_on before inside x ≡ []
 on-end before inside [] free = refl
-on-end before inside (b ∷ x) free = grind (arith, append-nil, not_closed, refused_open, before, on-end before (inside ++ b ∷ []) x free.1)
+on-end before inside (b ∷ x) free = grind
+    (arith, append-nil, not_closed, refused_open, before, on-end before (inside ++ b ∷ []) x free.1)
 
 -- a text, or nothing if these bytes are none
 abbrev unless_none : List ℕ → List ℕ → List (List ℕ)
 unless_none [] text = []
 unless_none (b ∷ bs) text = text ∷ []
 
-on-found : (before inside u rest : List ℕ) → begins_with open_sign before ≡ true → list_all is_inside_id inside ≡ true → Lacks open_sign u → Lacks close_sign u
+on-found : (before inside u rest : List ℕ) → begins_with open_sign before ≡ true → list_all is_inside_id inside ≡ true
+    → Lacks open_sign u → Lacks close_sign u
     → ids_on before inside (u ++ close_sign ∷ rest) ≡ unless_none u (inside ++ u)
 on-found before inside [] rest e f unopened unclosed = on-sign before inside rest close_sign refl
-on-found before inside (b ∷ []) rest e f unopened unclosed = grind (arith, inside_more, is_inside, unopened, unclosed, taken, before, all_three, on-sign)
+on-found before inside (b ∷ []) rest e f unopened unclosed =
+    grind (arith, inside_more, is_inside, unopened, unclosed, taken, before, all_three, on-sign)
 on-found before inside (b ∷ c ∷ u) rest e f unopened unclosed =
-    let more : list_all is_inside_id (inside ++ b ∷ []) ≡ true = inside_more inside b f (is_inside b unopened.0 unclosed.0) in
-    ap₂ ◌++◌ (refused_open before (inside ++ b ∷ []) (c ∷ (u ++ close_sign ∷ rest)) unclosed.1.0) (on-found before (inside ++ b ∷ []) (c ∷ u) rest e more unopened.1 unclosed.1)
+    let more : list_all is_inside_id (inside ++ b ∷ []) ≡ true =
+    inside_more inside b f (is_inside b unopened.0 unclosed.0) in
+    ap₂ ◌++◌ (refused_open before (inside ++ b ∷ []) (c ∷ (u ++ close_sign ∷ rest)) unclosed.1.0)
+    (on-found before (inside ++ b ∷ []) (c ∷ u) rest e more unopened.1 unclosed.1)
     ∙ ap (λ (l : List ℕ). l ∷ []) (append_assoc inside (b ∷ []) (c ∷ u))
 
 -- ---- of the bytes before, it matters only whether a `<` comes last
 
-on-same : (x y inside rest : List ℕ) → begins_with open_sign x ≡ begins_with open_sign y → ids_on x inside rest ≡ ids_on y inside rest
+on-same : (x y inside rest : List ℕ) → begins_with open_sign x ≡ begins_with open_sign y → ids_on x inside rest
+    ≡ ids_on y inside rest
 on-same x y inside [] e = refl
 on-same x y inside (c ∷ cs) e = grind (arith, on-same x y (inside ++ c ∷ []) cs e)
 
@@ -102,17 +118,25 @@ from-same : (x y rest : List ℕ) → begins_with open_sign x ≡ begins_with op
 from-same x y [] e = refl
 from-same x y (c ∷ cs) e = ap₂ ◌++◌ (on-same x y [] (c ∷ cs) e) (from-same (c ∷ x) (c ∷ y) cs refl)
 
-from-reopened : (before x rest : List ℕ) → Lacks close_sign x → ids_from before (x ++ open_sign ∷ rest) ≡ ids_from (open_sign ∷ []) rest
-from-reopened before [] rest free = ap₂ ◌++◌ (on-reopened before [] [] rest tt) (from-same (open_sign ∷ before) (open_sign ∷ []) rest refl)
-from-reopened before (b ∷ x) rest free = ap₂ ◌++◌ (on-reopened before [] (b ∷ x) rest free) (from-reopened (b ∷ before) x rest free.1)
+from-reopened : (before x rest : List ℕ) → Lacks close_sign x → ids_from before (x ++ open_sign ∷ rest)
+    ≡ ids_from (open_sign ∷ []) rest
+from-reopened before [] rest free = ap₂ ◌++◌ (on-reopened before [] [] rest tt)
+    (from-same (open_sign ∷ before) (open_sign ∷ []) rest refl)
+from-reopened before (b ∷ x) rest free =
+    ap₂ ◌++◌ (on-reopened before [] (b ∷ x) rest free) (from-reopened (b ∷ before) x rest free.1)
 
-from-unopened : (before u rest : List ℕ) → begins_with open_sign before ≡ false → Lacks open_sign u → ids_from before (u ++ close_sign ∷ rest) ≡ ids_from [] rest
-from-unopened before [] rest e free = ap₂ ◌++◌ (on-unopened before [] (close_sign ∷ rest) e) (from-same (close_sign ∷ before) [] rest refl)
-from-unopened before (b ∷ u) rest e free = ap₂ ◌++◌ (on-unopened before [] (b ∷ (u ++ close_sign ∷ rest)) e) (from-unopened (b ∷ before) u rest free.0 free.1)
+from-unopened : (before u rest : List ℕ) → begins_with open_sign before ≡ false → Lacks open_sign u
+    → ids_from before (u ++ close_sign ∷ rest) ≡ ids_from [] rest
+from-unopened before [] rest e free = ap₂ ◌++◌ (on-unopened before [] (close_sign ∷ rest) e)
+    (from-same (close_sign ∷ before) [] rest refl)
+from-unopened before (b ∷ u) rest e free =
+    ap₂ ◌++◌ (on-unopened before [] (b ∷ (u ++ close_sign ∷ rest)) e) (from-unopened (b ∷ before) u rest free.0 free.1)
 
-from-found : (u rest : List ℕ) → Lacks open_sign u → Lacks close_sign u → ids_from (open_sign ∷ []) (u ++ close_sign ∷ rest) ≡ unless_none u u ++ ids_from [] rest
+from-found : (u rest : List ℕ) → Lacks open_sign u → Lacks close_sign u
+    → ids_from (open_sign ∷ []) (u ++ close_sign ∷ rest) ≡ unless_none u u ++ ids_from [] rest
 from-found [] rest unopened unclosed =
-    ap₂ ◌++◌ (on-found (open_sign ∷ []) [] [] rest refl refl tt tt) (from-same (close_sign ∷ open_sign ∷ []) [] rest refl)
+    ap₂ ◌++◌ (on-found (open_sign ∷ []) [] [] rest refl refl tt tt)
+    (from-same (close_sign ∷ open_sign ∷ []) [] rest refl)
 from-found (b ∷ u) rest unopened unclosed = grind (arith, on-found, unopened, unclosed, from-unopened)
 
 from-end : (before x : List ℕ) → Lacks close_sign x → ids_from before x ≡ []
@@ -140,7 +164,8 @@ record LastOpen (text : List ℕ) : Type 0 where
 abbrev judged : ℕ → List ℕ → Option (List ℕ) → Option (List ℕ)
 judged b bs o = elim o [ Some id ↦ Some id | None ↦ elim (b == open_sign) [ true ↦ Some bs | false ↦ None ] ]
 
-last_open : (text : List ℕ) → Lacks close_sign text → ((after_last_open text ≡ None) × Lacks open_sign text) ⊎ LastOpen text
+last_open : (text : List ℕ) → Lacks close_sign text → ((after_last_open text ≡ None) × Lacks open_sign text)
+    ⊎ LastOpen text
 last_open [] free = inl (refl, tt)
 last_open (b ∷ bs) free = elim (last_open bs free.1) [
   | inr o ↦ inr (record {
@@ -155,7 +180,8 @@ last_open (b ∷ bs) free = elim (last_open bs free.1) [
   | inl none ↦ go (b == open_sign) refl none
 ]
   where
-    go : (t : Bool) → (b == open_sign) ≡ t → (after_last_open bs ≡ None) × Lacks open_sign bs → ((after_last_open (b ∷ bs) ≡ None) × Lacks open_sign (b ∷ bs)) ⊎ LastOpen (b ∷ bs)
+    go : (t : Bool) → (b == open_sign) ≡ t → (after_last_open bs ≡ None) × Lacks open_sign bs
+        → ((after_last_open (b ∷ bs) ≡ None) × Lacks open_sign (b ∷ bs)) ⊎ LastOpen (b ∷ bs)
     go true t none = inr (record {
       before = [];
       behind = bs;
@@ -167,7 +193,8 @@ last_open (b ∷ bs) free = elim (last_open bs free.1) [
     })
     go false t none = inl (ap (judged b bs) none.0 ∙ rw (judged, t) refl, (t, none.1))
 
-from-text : (text rest : List ℕ) → Lacks close_sign text → kept_ids (ids_from [] (text ++ close_sign ∷ rest)) ≡ ids_in (text ∷ []) ++ kept_ids (ids_from [] rest)
+from-text : (text rest : List ℕ) → Lacks close_sign text → kept_ids (ids_from [] (text ++ close_sign ∷ rest))
+    ≡ ids_in (text ∷ []) ++ kept_ids (ids_from [] rest)
 from-text text rest free = grind (arith, last_open, from-unopened, append_assoc, from-reopened, from-found, kept-append)
 
 -- ---- all texts
@@ -180,26 +207,33 @@ onto_text front (text ∷ texts) = (front ++ text) ∷ texts
 onto_text-nil : (texts : List (List ℕ)) → onto_text [] texts ≡ texts
 onto_text-nil texts = grind arith
 
-lacks_more : (front : List ℕ) (b : ℕ) → Lacks close_sign front → (b == close_sign) ≡ false → Lacks close_sign (front ++ b ∷ [])
+lacks_more : (front : List ℕ) (b : ℕ) → Lacks close_sign front → (b == close_sign) ≡ false
+    → Lacks close_sign (front ++ b ∷ [])
 lacks_more [] b free e = (e, tt)
 lacks_more (a ∷ front) b free e = (free.0, lacks_more front b free.1 e)
 
-from-texts : (front bs : List ℕ) → Lacks close_sign front → kept_ids (ids_from [] (front ++ bs)) ≡ ids_in (onto_text front (closed_texts bs))
+from-texts : (front bs : List ℕ) → Lacks close_sign front → kept_ids (ids_from [] (front ++ bs))
+    ≡ ids_in (onto_text front (closed_texts bs))
 from-texts front [] free = ap kept_ids (ap (ids_from []) (append-nil front) ∙ from-end [] front free)
-from-texts front (b ∷ bs) free = go (b == close_sign) refl (from-texts [] bs tt) (λ e. from-texts (front ++ b ∷ []) bs (lacks_more front b free e))
+from-texts front (b ∷ bs) free = go (b == close_sign) refl (from-texts [] bs tt)
+    (λ e. from-texts (front ++ b ∷ []) bs (lacks_more front b free e))
   where
     go : (t : Bool) → (b == close_sign) ≡ t → kept_ids (ids_from [] bs) ≡ ids_in (onto_text [] (closed_texts bs))
-        → ((b == close_sign) ≡ false → kept_ids (ids_from [] ((front ++ b ∷ []) ++ bs)) ≡ ids_in (onto_text (front ++ b ∷ []) (closed_texts bs)))
+        → ((b == close_sign) ≡ false → kept_ids (ids_from [] ((front ++ b ∷ []) ++ bs))
+        ≡ ids_in (onto_text (front ++ b ∷ []) (closed_texts bs)))
         → kept_ids (ids_from [] (front ++ b ∷ bs)) ≡ ids_in (onto_text front (closed_texts (b ∷ bs)))
     go true t behind longer =
         let texts : closed_texts (b ∷ bs) ≡ [] ∷ closed_texts bs = rw (t, closed_texts) refl in
-        let later : kept_ids (ids_from [] bs) ≡ ids_in (closed_texts bs) = behind ∙ ap ids_in (onto_text-nil (closed_texts bs)) in
+        let later : kept_ids (ids_from [] bs) ≡ ids_in (closed_texts bs) = behind
+        ∙ ap ids_in (onto_text-nil (closed_texts bs)) in
         ap (λ (c : ℕ). kept_ids (ids_from [] (front ++ c ∷ bs))) (eqb-true b close_sign t) ∙ from-text front bs free
         ∙ ap (λ (l : List (List ℕ)). ids_in (front ∷ []) ++ l) later ∙ sym (ids_in-cons front (closed_texts bs))
-        ∙ ap (λ (l : List ℕ). ids_in (l ∷ closed_texts bs)) (sym (append-nil front)) ∙ ap (λ (l : List (List ℕ)). ids_in (onto_text front l)) (sym texts)
+        ∙ ap (λ (l : List ℕ). ids_in (l ∷ closed_texts bs)) (sym (append-nil front))
+        ∙ ap (λ (l : List (List ℕ)). ids_in (onto_text front l)) (sym texts)
     go false t behind longer = grind (arith, append_assoc)
 
 pub ids_of-closed : (value : List ℕ) → ids_of value ≡ ids_in (closed_texts value)
 unfolding ids_of
 ids_of-closed value =
-    ap kept_ids (seen_behind-places is_id (λ bs. bs) [] value) ∙ from-texts [] value tt ∙ ap ids_in (onto_text-nil (closed_texts value))
+    ap kept_ids (seen_behind-places is_id (λ bs. bs) [] value) ∙ from-texts [] value tt
+    ∙ ap ids_in (onto_text-nil (closed_texts value))

@@ -1,5 +1,9 @@
 -- The state of a Header after one more line, for each stage before the line.
-use Rattle.header_text.proofs.Words.{◌≡◌, ◌∙◌, ◌+◌, ◌-◌, ◌≤◌, ◌<◌, ◌++◌, ◌||◌, ◌⊎◌, inl, inr, ℕ, Bool, true, false, nat_le, nat_lt, List, [], ◌∷◌, length, refl, sym, ap, ap₂, arith, length-append, cases_lt, nat_tests, is_empty, HeaderField, most_in_header, lines_before_empty, lines_within, header, fields_in, fields_of, is_open_after, is_open_behind, fields_with, has_empty, lines_size, stage_of, stage_behind, Open, Full, Ended}
+use Rattle.header_text.proofs.Words.{◌≡◌, ◌∙◌, ◌+◌, ◌-◌, ◌≤◌, ◌<◌, ◌++◌, ◌||◌, ◌⊎◌, inl, inr, ℕ, Bool, true, false}
+use Rattle.header_text.proofs.Words.{nat_le, nat_lt, List, [], ◌∷◌, length, refl, sym, ap, ap₂, arith, length-append}
+use Rattle.header_text.proofs.Words.{cases_lt, nat_tests, is_empty, HeaderField, most_in_header, lines_before_empty}
+use Rattle.header_text.proofs.Words.{lines_within, header, fields_in, fields_of, is_open_after, is_open_behind}
+use Rattle.header_text.proofs.Words.{fields_with, has_empty, lines_size, stage_of, stage_behind, Open, Full, Ended}
 use Rattle.header_text.specs.HeldLines.{Holds, taken_of}
 use Rattle.header_text.specs.declared.header.Stage.{Stage}
 use Rattle.header_text.specs.declared.header.Taken.TheVariants.{More, Ended as HeaderEnded}
@@ -11,11 +15,13 @@ before_empty-none : (ls : List (List ℕ)) → has_empty ls ≡ false → lines_
 before_empty-none [] h = refl
 before_empty-none (l ∷ ls) h = grind (arith, before_empty-none ls)
 
-before_empty-push_some : (ls : List (List ℕ)) (l : List ℕ) → has_empty ls ≡ true → lines_before_empty (ls ++ l ∷ []) ≡ lines_before_empty ls
+before_empty-push_some : (ls : List (List ℕ)) (l : List ℕ) → has_empty ls ≡ true → lines_before_empty (ls ++ l ∷ [])
+    ≡ lines_before_empty ls
 before_empty-push_some [] l h = absurd (cc)
 before_empty-push_some (k ∷ ks) l h = grind (arith, before_empty-push_some ks l)
 
-before_empty-push_end : (ls : List (List ℕ)) (l : List ℕ) → is_empty l ≡ true → lines_before_empty (ls ++ l ∷ []) ≡ lines_before_empty ls
+before_empty-push_end : (ls : List (List ℕ)) (l : List ℕ) → is_empty l ≡ true → lines_before_empty (ls ++ l ∷ [])
+    ≡ lines_before_empty ls
 before_empty-push_end [] l h = rw (h, lines_before_empty) refl
 before_empty-push_end (k ∷ ks) l h = grind (arith, before_empty-push_end ks l h)
 
@@ -43,8 +49,10 @@ stops room [] more h = absurd (omega arith)
 stops room (l ∷ ls) more h = grind (arith, stops (room - length l) ls more)
 
 -- a line that doesn't fit
-overflow : (room : ℕ) (ls : List (List ℕ)) (l : List ℕ) → lines_size ls ≤ room → room - lines_size ls < length l → lines_within room (ls ++ l ∷ []) ≡ ls
-overflow room [] l h over = let none : nat_le (length l) room ≡ false = grind (arith, nat_tests) in rw (none, lines_within) refl
+overflow : (room : ℕ) (ls : List (List ℕ)) (l : List ℕ) → lines_size ls ≤ room → room - lines_size ls < length l
+    → lines_within room (ls ++ l ∷ []) ≡ ls
+overflow room [] l h over = let none : nat_le (length l) room ≡ false = grind (arith, nat_tests)
+    in rw (none, lines_within) refl
 overflow room (k ∷ ks) l h over = grind (arith, nat_le, overflow (room - length k) ks l (omega arith) (omega arith))
 
 pub size-within : (room : ℕ) (ls : List (List ℕ)) → lines_size (lines_within room ls) ≤ room
@@ -59,7 +67,8 @@ stage_of-ended ls h = rw h refl
 
 stage_of-full : (ls : List (List ℕ)) → has_empty ls ≡ false → length (header ls) < length ls → stage_of ls ≡ Full
 unfolding stage_of
-stage_of-full ls h less = let short : nat_lt (length (header ls)) (length ls) ≡ true = grind (arith, nat_tests) in rw (h, short) refl
+stage_of-full ls h less = let short : nat_lt (length (header ls)) (length ls) ≡ true = grind (arith, nat_tests)
+    in rw (h, short) refl
 
 stage_of-open : (ls : List (List ℕ)) → has_empty ls ≡ false → header ls ≡ ls → stage_of ls ≡ Open
 unfolding stage_of
@@ -79,7 +88,8 @@ header-none : (ls : List (List ℕ)) → has_empty ls ≡ false → header ls �
 header-none ls h = ap front (before_empty-none ls h)
 
 -- the header has ended before the line
-steps-ended : (ls : List (List ℕ)) (l : List ℕ) (stage : Stage) (size : ℕ) → has_empty ls ≡ true → stage ≡ stage_of ls → Steps ls l stage size
+steps-ended : (ls : List (List ℕ)) (l : List ℕ) (stage : Stage) (size : ℕ) → has_empty ls ≡ true → stage ≡ stage_of ls
+    → Steps ls l stage size
 steps-ended ls l stage size h e =
     let was : stage ≡ Ended = e ∙ stage_of-ended ls h in
     let now : stage_of (ls ++ l ∷ []) ≡ Ended = stage_of-ended (ls ++ l ∷ []) (rw (has_empty-push ls l, h) refl) in
@@ -91,7 +101,8 @@ steps-ended ls l stage size h e =
     }
 
 -- the line ends it
-steps-end : (ls : List (List ℕ)) (l : List ℕ) (stage : Stage) (size : ℕ) → has_empty ls ≡ false → is_empty l ≡ true → Steps ls l stage size
+steps-end : (ls : List (List ℕ)) (l : List ℕ) (stage : Stage) (size : ℕ) → has_empty ls ≡ false → is_empty l ≡ true
+    → Steps ls l stage size
 steps-end ls l stage size h e =
     let some : has_empty (ls ++ l ∷ []) ≡ true = rw (has_empty-push ls l, h, e) refl in
     let now : stage_of (ls ++ l ∷ []) ≡ Ended = stage_of-ended (ls ++ l ∷ []) some in
@@ -106,7 +117,8 @@ steps-end ls l stage size h e =
     ends s h = grind arith
 
 -- a line didn't fit before this line
-steps-full : (ls : List (List ℕ)) (l : List ℕ) (stage : Stage) (size : ℕ) → has_empty ls ≡ false → is_empty l ≡ false → stage ≡ stage_of ls → most_in_header < lines_size ls → Steps ls l stage size
+steps-full : (ls : List (List ℕ)) (l : List ℕ) (stage : Stage) (size : ℕ) → has_empty ls ≡ false → is_empty l ≡ false
+    → stage ≡ stage_of ls → most_in_header < lines_size ls → Steps ls l stage size
 steps-full ls l stage size h e s over =
     let none : has_empty (ls ++ l ∷ []) ≡ false = rw (has_empty-push ls l, h, e) refl in
     let stop = stops most_in_header ls (l ∷ []) over in
@@ -114,7 +126,8 @@ steps-full ls l stage size h e s over =
     let same : header (ls ++ l ∷ []) ≡ header ls = header-none (ls ++ l ∷ []) none ∙ stop.same ∙ sym before in
     let fewer : length (header ls) < length ls = rw before stop.fewer in
     let was : stage ≡ Full = s ∙ stage_of-full ls h fewer in
-    let now : stage_of (ls ++ l ∷ []) ≡ Full = stage_of-full (ls ++ l ∷ []) none (rw same (omega (arith, length-append ls (l ∷ [])))) in
+    let now : stage_of (ls ++ l ∷ []) ≡ Full =
+    stage_of-full (ls ++ l ∷ []) none (rw same (omega (arith, length-append ls (l ∷ [])))) in
     record {
       next = rw (was, e, now) refl;
       counts = λ o. absurd (cc);
@@ -123,7 +136,8 @@ steps-full ls l stage size h e s over =
     }
 
 -- all lines before this one count
-steps-open : (ls : List (List ℕ)) (l : List ℕ) (stage : Stage) (size : ℕ) → has_empty ls ≡ false → is_empty l ≡ false → stage ≡ stage_of ls → size ≡ lines_size (header ls) → lines_size ls ≤ most_in_header → Steps ls l stage size
+steps-open : (ls : List (List ℕ)) (l : List ℕ) (stage : Stage) (size : ℕ) → has_empty ls ≡ false → is_empty l ≡ false
+    → stage ≡ stage_of ls → size ≡ lines_size (header ls) → lines_size ls ≤ most_in_header → Steps ls l stage size
 steps-open ls l stage size h e s n fits = go (cases_lt (most_in_header - lines_size ls) (length l))
   where
     none : has_empty (ls ++ l ∷ []) ≡ false
@@ -138,10 +152,13 @@ steps-open ls l stage size h e s n fits = go (cases_lt (most_in_header - lines_s
     sized : size ≡ lines_size ls
     sized = n ∙ ap lines_size before
 
-    go : (most_in_header - lines_size ls < length l) ⊎ (length l ≤ most_in_header - lines_size ls) → Steps ls l stage size
+    go : (most_in_header - lines_size ls < length l) ⊎ (length l ≤ most_in_header - lines_size ls)
+        → Steps ls l stage size
     go (inl over) =
-        let now : header (ls ++ l ∷ []) ≡ ls = header-none (ls ++ l ∷ []) none ∙ overflow most_in_header ls l fits over in
-        let full : stage_of (ls ++ l ∷ []) ≡ Full = stage_of-full (ls ++ l ∷ []) none (rw now (omega (arith, length-append ls (l ∷ [])))) in
+        let now : header (ls ++ l ∷ []) ≡ ls = header-none (ls ++ l ∷ []) none ∙ overflow most_in_header ls l fits over
+        in
+        let full : stage_of (ls ++ l ∷ []) ≡ Full =
+        stage_of-full (ls ++ l ∷ []) none (rw now (omega (arith, length-append ls (l ∷ [])))) in
         let test : nat_lt (most_in_header - size) (length l) ≡ true = rw sized (grind (arith, nat_tests)) in
         record {
           next = rw (was, e, test, full) refl;
@@ -150,7 +167,8 @@ steps-open ls l stage size h e s n fits = go (cases_lt (most_in_header - lines_s
           stays = λ _. now ∙ sym before;
         }
     go (inr room) =
-        let now : header (ls ++ l ∷ []) ≡ ls ++ l ∷ [] = header-none (ls ++ l ∷ []) none ∙ within-all most_in_header (ls ++ l ∷ []) (omega (arith, lines_size-push ls l)) in
+        let now : header (ls ++ l ∷ []) ≡ ls ++ l ∷ [] = header-none (ls ++ l ∷ []) none
+        ∙ within-all most_in_header (ls ++ l ∷ []) (omega (arith, lines_size-push ls l)) in
         let still : stage_of (ls ++ l ∷ []) ≡ Open = stage_of-open (ls ++ l ∷ []) none now in
         let test : nat_lt (most_in_header - size) (length l) ≡ false = rw sized (grind (arith, nat_tests)) in
         record {
@@ -160,10 +178,12 @@ steps-open ls l stage size h e s n fits = go (cases_lt (most_in_header - lines_s
           stays = λ no. absurd (no still);
         }
 
-pub steps : (ls : List (List ℕ)) (l : List ℕ) (stage : Stage) (size : ℕ) → stage ≡ stage_of ls → size ≡ lines_size (header ls) → Steps ls l stage size
+pub steps : (ls : List (List ℕ)) (l : List ℕ) (stage : Stage) (size : ℕ) → stage ≡ stage_of ls → size
+    ≡ lines_size (header ls) → Steps ls l stage size
 steps ls l stage size s n = go (has_empty ls) refl (is_empty l) refl (cases_lt most_in_header (lines_size ls))
   where
-    go : (t : Bool) → has_empty ls ≡ t → (u : Bool) → is_empty l ≡ u → (most_in_header < lines_size ls) ⊎ (lines_size ls ≤ most_in_header) → Steps ls l stage size
+    go : (t : Bool) → has_empty ls ≡ t → (u : Bool) → is_empty l ≡ u → (most_in_header < lines_size ls)
+        ⊎ (lines_size ls ≤ most_in_header) → Steps ls l stage size
     go true h u e c = steps-ended ls l stage size h s
     go false h true e c = steps-end ls l stage size h e
     go false h false e (inl over) = steps-full ls l stage size h e s over
@@ -185,26 +205,32 @@ pub holds_new : (fs : List HeaderField) → fs ≡ [] → Holds fs 0 false Open 
 unfolding fields_of stage_of
 holds_new fs e = record { fields_are = e; size_is = refl; in_field_is = refl; stage_is = refl }
 
-module _ (fs : List HeaderField) (size : ℕ) (in_field : Bool) (stage : Stage) (ls : List (List ℕ)) (l : List ℕ) (h : Holds fs size in_field stage ls) where
+module _ (fs : List HeaderField) (size : ℕ) (in_field : Bool) (stage : Stage) (ls : List (List ℕ)) (l : List ℕ)
+    (h : Holds fs size in_field stage ls) where
   stepped : Steps ls l stage size
   stepped = steps ls l stage size h.stage_is h.size_is
 
   -- a line that counts
-  pub holds-counted : (new : List HeaderField) (after : Bool) → stage_behind stage size l ≡ Open → new ≡ fields_with in_field l fs → after ≡ is_open_after in_field l
+  pub holds-counted : (new : List HeaderField) (after : Bool) → stage_behind stage size l ≡ Open → new
+      ≡ fields_with in_field l fs → after ≡ is_open_after in_field l
       → Holds new (size + length l) after stage (ls ++ l ∷ [])
   unfolding fields_of
   holds-counted new after e f g =
       let still : stage_of (ls ++ l ∷ []) ≡ Open = sym stepped.next ∙ e in
       let more : header (ls ++ l ∷ []) ≡ header ls ++ l ∷ [] = stepped.counts still in
       record {
-        fields_are = f ∙ ap₂ (λ (b : Bool) (gs : List HeaderField). fields_with b l gs) h.in_field_is h.fields_are ∙ sym (fields_in-push (header ls) l) ∙ ap fields_in (sym more);
-        size_is = ap (λ (n : ℕ). n + length l) h.size_is ∙ sym (lines_size-push (header ls) l) ∙ ap lines_size (sym more);
-        in_field_is = g ∙ ap (λ (b : Bool). is_open_after b l) h.in_field_is ∙ sym (is_open_behind-push false (header ls) l) ∙ ap (is_open_behind false) (sym more);
+        fields_are = f ∙ ap₂ (λ (b : Bool) (gs : List HeaderField). fields_with b l gs) h.in_field_is h.fields_are
+            ∙ sym (fields_in-push (header ls) l) ∙ ap fields_in (sym more);
+        size_is = ap (λ (n : ℕ). n + length l) h.size_is ∙ sym (lines_size-push (header ls) l)
+            ∙ ap lines_size (sym more);
+        in_field_is = g ∙ ap (λ (b : Bool). is_open_after b l) h.in_field_is
+            ∙ sym (is_open_behind-push false (header ls) l) ∙ ap (is_open_behind false) (sym more);
         stage_is = stepped.was_open still ∙ sym still;
       }
 
   -- a line that doesn't count
-  pub holds-skipped : (next : Stage) → stage_behind stage size l ≡ next → (next ≡ Open → ⊥) → Holds fs size in_field next (ls ++ l ∷ [])
+  pub holds-skipped : (next : Stage) → stage_behind stage size l ≡ next → (next ≡ Open → ⊥)
+      → Holds fs size in_field next (ls ++ l ∷ [])
   unfolding fields_of
   holds-skipped next e closed =
       let is : next ≡ stage_of (ls ++ l ∷ []) = sym e ∙ stepped.next in
@@ -218,10 +244,12 @@ module _ (fs : List HeaderField) (size : ℕ) (in_field : Bool) (stage : Stage) 
 
   -- a line after the end
   pub holds-ended : stage ≡ Ended → Holds fs size in_field stage (ls ++ l ∷ [])
-  holds-ended e = let next : stage_behind stage size l ≡ stage = rw e refl in holds-skipped stage next (λ o. absurd (cc))
+  holds-ended e = let next : stage_behind stage size l ≡ stage = rw e refl
+      in holds-skipped stage next (λ o. absurd (cc))
 
   pub has_empty-ended : stage ≡ Ended → has_empty (ls ++ l ∷ []) ≡ true
-  has_empty-ended e = let some : has_empty ls ≡ true = stage_of-ended_only ls (sym h.stage_is ∙ e) in rw (has_empty-push ls l, some) refl
+  has_empty-ended e = let some : has_empty ls ≡ true = stage_of-ended_only ls (sym h.stage_is ∙ e)
+      in rw (has_empty-push ls l, some) refl
 
   pub never_ended : has_empty ls ≡ true → (stage ≡ Ended → ⊥) → ⊥
   never_ended some goes_on = goes_on (h.stage_is ∙ stage_of-ended ls some)

@@ -1,5 +1,9 @@
 -- Unfolding part by part gives the unfolded body.
-use Rattle.header_text.proofs.Words.{suc, Some, ◌≡◌, ◌+◌, ◌-◌, Bor, Option, MatchOption, unwrap_or, bytes_eq, ◌∙◌, ◌++◌, ◌&&◌, ℕ, Bool, true, false, nat_lt, List, [], ◌∷◌, None, length, take, drop, refl, sym, ap, ap₂, arith, length-append, append_assoc, append-nil, nat_tests, lt-ltb, take_at, drop_at, after_blanks, before_blanks, without_breaks, unfolded, without_final_cr, led, cut_at}
+use Rattle.header_text.proofs.Words.{suc, Some, ◌≡◌, ◌+◌, ◌-◌, Bor, Option, MatchOption, unwrap_or, bytes_eq, ◌∙◌, ◌++◌}
+use Rattle.header_text.proofs.Words.{◌&&◌, ℕ, Bool, true, false, nat_lt, List, [], ◌∷◌, None, length, take, drop, refl}
+use Rattle.header_text.proofs.Words.{sym, ap, ap₂, arith, length-append, append_assoc, append-nil, nat_tests, lt-ltb}
+use Rattle.header_text.proofs.Words.{take_at, drop_at, after_blanks, before_blanks, without_breaks, unfolded}
+use Rattle.header_text.proofs.Words.{without_final_cr, led, cut_at}
 use Rattle.header_text.proofs.CutLemmas.{Lacks, IsCut, Lacks-from}
 
 -- ---- a CR at the end
@@ -23,7 +27,9 @@ no_cr-stays (b ∷ c ∷ bs) h =
 
 -- the result of `strip_suffix`
 pub without_final_cr-stripped : (bs : Bor (List ℕ)) (r : Option (Bor (List ℕ)))
-    → MatchOption r (ends_in_cr bs.now ≡ false) (λ x. (ends_in_cr bs.now ≡ true) × (x.now ≡ take (length bs.now - 1) bs.now) × (length x.now + 1 ≡ length bs.now))
+    → MatchOption r (ends_in_cr bs.now ≡ false)
+    (λ x. (ends_in_cr bs.now ≡ true) × (x.now ≡ take (length bs.now - 1) bs.now)
+    × (length x.now + 1 ≡ length bs.now))
     → (unwrap_or r bs).now ≡ without_final_cr bs.now
 without_final_cr-stripped bs None h = sym (no_cr-stays bs.now h)
 without_final_cr-stripped bs (Some x) h = h.1 ∙ sym (cr-goes bs.now h.0)
@@ -41,7 +47,8 @@ breaks-feed : (later : List ℕ) → without_breaks (0x0A ∷ later) ≡ without
 breaks-feed later = grind arith
 
 -- a line without LF, its LF, and what follows
-breaks-cut : (line later : List ℕ) → Lacks 0x0A line → without_breaks (line ++ 0x0A ∷ later) ≡ without_final_cr line ++ without_breaks later
+breaks-cut : (line later : List ℕ) → Lacks 0x0A line → without_breaks (line ++ 0x0A ∷ later)
+    ≡ without_final_cr line ++ without_breaks later
 unfolding chosen
 breaks-cut [] later free = breaks-feed later
 breaks-cut (b ∷ []) later free = grind arith
@@ -65,7 +72,8 @@ after_blanks-append [] w = refl
 after_blanks-append (b ∷ p) w = grind (arith, after_blanks-append p w)
 
 -- one more part
-led-append : (done p w : List ℕ) → (done ++ led (is_some_bytes done) p) ++ led (is_some_bytes (done ++ led (is_some_bytes done) p)) w ≡ done ++ led (is_some_bytes done) (p ++ w)
+led-append : (done p w : List ℕ) → (done ++ led (is_some_bytes done) p) ++ led
+    (is_some_bytes (done ++ led (is_some_bytes done) p)) w ≡ done ++ led (is_some_bytes done) (p ++ w)
 led-append done p w = grind (arith, after_blanks-append, append_assoc)
 
 is_some-test : (old done : List ℕ) → nat_lt (length old) (length (old ++ done)) ≡ is_some_bytes done
@@ -82,17 +90,20 @@ pub record Unfolds (old body items rest : List ℕ) : Type 0 where
 pub unfolds-start : (old body : List ℕ) → Unfolds old body old body
 unfolds-start old body = record { done = []; items_are = sym (append-nil old); sofar = refl }
 
-pub unfolds-line : (old body items rest line behind new : List ℕ) → Unfolds old body items rest → IsCut 0x0A rest line behind
+pub unfolds-line : (old body items rest line behind new : List ℕ) → Unfolds old body items rest
+    → IsCut 0x0A rest line behind
     → new ≡ items ++ led (nat_lt (length old) (length items)) (without_final_cr line) → Unfolds old body new behind
 unfolds-line old body items rest line behind new h cut e =
     let part : List ℕ = without_final_cr line in
     let test : nat_lt (length old) (length items) ≡ is_some_bytes h.done = rw h.items_are (is_some-test old h.done) in
     let more : List ℕ = led (is_some_bytes h.done) part in
-    let split : without_breaks rest ≡ part ++ without_breaks behind = ap without_breaks cut.joined ∙ breaks-cut line behind cut.free in
+    let split : without_breaks rest ≡ part ++ without_breaks behind = ap without_breaks cut.joined
+    ∙ breaks-cut line behind cut.free in
     record {
       done = h.done ++ more;
       items_are = e ∙ ap₂ (λ (l : List ℕ) (t : Bool). l ++ led t part) h.items_are test ∙ append_assoc old h.done more;
-      sofar = led-append h.done part (without_breaks behind) ∙ ap (λ (l : List ℕ). h.done ++ led (is_some_bytes h.done) l) (sym split) ∙ h.sofar;
+      sofar = led-append h.done part (without_breaks behind)
+          ∙ ap (λ (l : List ℕ). h.done ++ led (is_some_bytes h.done) l) (sym split) ∙ h.sofar;
     }
 
 pub unfolds-end : (old body items rest new : List ℕ) → Unfolds old body items rest → Lacks 0x0A rest
@@ -101,15 +112,19 @@ unfolds-end old body items rest new h free e =
     let test : nat_lt (length old) (length items) ≡ is_some_bytes h.done = rw h.items_are (is_some-test old h.done) in
     let more : List ℕ = led (is_some_bytes h.done) rest in
     e ∙ ap₂ (λ (l : List ℕ) (t : Bool). l ++ led t rest) h.items_are test ∙ append_assoc old h.done more
-    ∙ ap (λ (l : List ℕ). old ++ l) (ap (λ (l : List ℕ). h.done ++ led (is_some_bytes h.done) l) (sym (breaks-free rest free)) ∙ h.sofar)
+    ∙ ap (λ (l : List ℕ). old ++ l) (ap (λ (l : List ℕ). h.done ++ led (is_some_bytes h.done) l)
+    (sym (breaks-free rest free)) ∙ h.sofar)
 
 -- the end is trimmed
-pub unfolded-trimmed : (old body items : List ℕ) → items ≡ old ++ after_blanks (without_breaks body) → take (length old) items ++ before_blanks (drop (length old) items) ≡ old ++ unfolded body
+pub unfolded-trimmed : (old body items : List ℕ) → items ≡ old ++ after_blanks (without_breaks body)
+    → take (length old) items ++ before_blanks (drop (length old) items) ≡ old ++ unfolded body
 unfolding unfolded
 unfolded-trimmed old body items e = grind (arith, take_at, drop_at)
 
 -- the rest has no break
-pub unfolds-rest : (old body items rest new : List ℕ) (start : ℕ) → start ≡ length old → Unfolds old body items rest → cut_at 0x0A rest ≡ None
+pub unfolds-rest : (old body items rest new : List ℕ) (start : ℕ) → start ≡ length old → Unfolds old body items rest
+    → cut_at 0x0A rest ≡ None
     → new ≡ items ++ led (nat_lt start (length items)) rest → new ≡ old ++ after_blanks (without_breaks body)
 unfolds-rest old body items rest new start s h none e =
-    unfolds-end old body items rest new h (Lacks-from 0x0A rest none) (e ∙ ap (λ (n : ℕ). items ++ led (nat_lt n (length items)) rest) s)
+    unfolds-end old body items rest new h (Lacks-from 0x0A rest none)
+    (e ∙ ap (λ (n : ℕ). items ++ led (nat_lt n (length items)) rest) s)

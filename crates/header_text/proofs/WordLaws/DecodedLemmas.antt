@@ -1,11 +1,14 @@
 -- The text of a value, word by word.
-use Rattle.header_text.proofs.Words.{◌≡◌, ◌++◌, ℕ, Bool, true, false, List, refl, append_assoc, arith, if◌then◌else◌, WordAfter, Pieces, pieces, word_text, plain_text, text_between, later_words_text, words_text, decoded, word_first}
+use Rattle.header_text.proofs.Words.{◌≡◌, ◌++◌, ℕ, Bool, true, false, List, refl, append_assoc, arith, if◌then◌else◌}
+use Rattle.header_text.proofs.Words.{WordAfter, Pieces, pieces, word_text, plain_text, text_between, later_words_text}
+use Rattle.header_text.proofs.Words.{words_text, decoded, word_first}
 
 -- the text of words, which follow a word or are at the front
 abbrev pub words_behind : Bool → List WordAfter → List ℕ
 words_behind follows ws = if follows then later_words_text ws else words_text ws
 
-pub decoded-start : (value : List ℕ) → words_behind false (pieces value).words ++ plain_text (pieces value).rest ≡ decoded value
+pub decoded-start : (value : List ℕ) → words_behind false (pieces value).words ++ plain_text (pieces value).rest
+    ≡ decoded value
 unfolding decoded
 decoded-start value = refl
 

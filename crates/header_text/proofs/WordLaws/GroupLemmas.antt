@@ -1,8 +1,18 @@
 -- The decoder reads whole groups of base64 as the definition does.
-use Rattle.header_text.proofs.Words.{◌≡◌, ◌∙◌, ◌==◌, ◌&&◌, ◌<◌, ◌≤◌, ◌+◌, ◌-◌, ◌*◌, ◌/◌, ◌%◌, ◌++◌, ℕ, zero, suc, Bool, true, false, ◌⊎◌, inl, inr, nat_lt, List, [], ◌∷◌, Option, Some, None, length, slice_index, slice_set, take, drop, map, refl, sym, ap, subst, arith, length-append, append_assoc, append-nil, if◌then◌else◌, not, Ok, Result, OnOk, is_none, filter_map, and_parts, eqb-true, ne_eqb, not-true, cases_lt, cases_eq, filter_map-append, drop_more, drop_all, map-append, length-map, length-take-le, take-append-drop, take_at, take_all, take_more_set, length-set, get_or-set_same, get_or-set_other, get_or-take, nat_tests, sextet, bytes_of_sextets, bytes_of_symbols, is_symbol}
+use Rattle.header_text.proofs.Words.{◌≡◌, ◌∙◌, ◌==◌, ◌&&◌, ◌<◌, ◌≤◌, ◌+◌, ◌-◌, ◌*◌, ◌/◌, ◌%◌, ◌++◌, ℕ, zero, suc, Bool}
+use Rattle.header_text.proofs.Words.{true, false, ◌⊎◌, inl, inr, nat_lt, List, [], ◌∷◌, Option, Some, None, length}
+use Rattle.header_text.proofs.Words.{slice_index, slice_set, take, drop, map, refl, sym, ap, subst, arith}
+use Rattle.header_text.proofs.Words.{length-append, append_assoc, append-nil, if◌then◌else◌, not, Ok, Result, OnOk}
+use Rattle.header_text.proofs.Words.{is_none, filter_map, and_parts, eqb-true, ne_eqb, not-true, cases_lt, cases_eq}
+use Rattle.header_text.proofs.Words.{filter_map-append, drop_more, drop_all, map-append, length-map, length-take-le}
+use Rattle.header_text.proofs.Words.{take-append-drop, take_at, take_all, take_more_set, length-set, get_or-set_same}
+use Rattle.header_text.proofs.Words.{get_or-set_other, get_or-take, nat_tests, sextet, bytes_of_sextets}
+use Rattle.header_text.proofs.Words.{bytes_of_symbols, is_symbol}
 use Rattle.base64.specs.Engines.{standard}
 use Rattle.base64.specs.GeneralPurpose.{decode_slice_of, decoded_bytes_of}
-use Rattle.base64.specs.Decode.{IsWrittenOver, push_leftover, no_leftover, scan, scan_last, suffix_error, suffix_bytes, decode_group, groups_error, groups_bytes, group_error, group_bytes, groups_before_last, symbol_error}
+use Rattle.base64.specs.Decode.{IsWrittenOver, push_leftover, no_leftover, scan, scan_last, suffix_error, suffix_bytes}
+use Rattle.base64.specs.Decode.{decode_group, groups_error, groups_bytes, group_error, group_bytes, groups_before_last}
+use Rattle.base64.specs.Decode.{symbol_error}
 use Rattle.base64.specs.declared.decode.DecodeSliceError.{DecodeSliceError}
 use Rattle.base64.specs.declared.engine.DecodePaddingMode.TheVariants.{RequireCanonical}
 use Rattle.base64.proofs.Decoding.{length-groups_bytes, scan-cons_ok, scan-nil, suffix_error_of, suffix_bytes_of}
@@ -21,7 +31,8 @@ is_value (Some m) n = m == n
 
 -- a symbol isn't padding, and its value is its place in the alphabet; any other byte has no value
 abbrev test : ℕ → Bool
-test b = if is_symbol b then not (b == 61) && (not (value b == 255) && is_value (sextet b) (value b)) else is_none (sextet b)
+test b = if is_symbol b then not (b == 61) && (not (value b == 255) && is_value (sextet b) (value b))
+    else is_none (sextet b)
 
 all : all_below test 256 ≡ true
 unfolding sextet is_value
@@ -47,20 +58,29 @@ from_value (Some m) n h = ap (λ (k : ℕ). Some k) (eqb-true m n h)
 
 pub symbol : (b : ℕ) → b < 256 → is_symbol b ≡ true → IsSymbol b
 symbol b lt is =
-    let parts = if_parts (is_symbol b) (not (b == 61) && (not (value b == 255) && is_value (sextet b) (value b))) (is_none (sextet b)) is (all_below_at test 256 b all lt) in
+    let parts = if_parts (is_symbol b) (not (b == 61) && (not (value b == 255) && is_value (sextet b) (value b)))
+    (is_none (sextet b)) is (all_below_at test 256 b all lt) in
     let outer = and_parts (not (b == 61)) (not (value b == 255) && is_value (sextet b) (value b)) parts in
     let inner = and_parts (not (value b == 255)) (is_value (sextet b) (value b)) outer.1 in
-    record { padding = not-true (b == 61) outer.0; valued = not-true (value b == 255) inner.0; sextet_is = from_value (sextet b) (value b) inner.1 }
+    record {
+      padding = not-true (b == 61) outer.0;
+      valued = not-true (value b == 255) inner.0;
+      sextet_is =
+          from_value (sextet b) (value b) inner.1;
+    }
 
 pub sextet-other : (b : ℕ) → b < 256 → is_symbol b ≡ false → sextet b ≡ None
-sextet-other b lt no_symbol = none (sextet b) (if_not_parts (is_symbol b) (not (b == 61) && (not (value b == 255) && is_value (sextet b) (value b))) (is_none (sextet b)) no_symbol (all_below_at test 256 b all lt))
+sextet-other b lt no_symbol = none (sextet b)
+    (if_not_parts (is_symbol b) (not (b == 61) && (not (value b == 255) && is_value (sextet b) (value b)))
+    (is_none (sextet b)) no_symbol (all_below_at test 256 b all lt))
   where
     none : (o : Option ℕ) → is_none o ≡ true → o ≡ None
     none o h = grind arith
 
 -- ---- groups joined
 
-pub bytes_of_sextets-append : (k : ℕ) (xs ys : List ℕ) → length xs ≡ 4 * k → bytes_of_sextets (xs ++ ys) ≡ bytes_of_sextets xs ++ bytes_of_sextets ys
+pub bytes_of_sextets-append : (k : ℕ) (xs ys : List ℕ) → length xs ≡ 4 * k → bytes_of_sextets (xs ++ ys)
+    ≡ bytes_of_sextets xs ++ bytes_of_sextets ys
 unfolding bytes_of_sextets
 bytes_of_sextets-append zero [] ys e = refl
 bytes_of_sextets-append zero (a ∷ xs) ys e = absurd (omega arith)
@@ -68,7 +88,8 @@ bytes_of_sextets-append (suc k) [] ys e = absurd (omega arith)
 bytes_of_sextets-append (suc k) (a ∷ []) ys e = absurd (omega arith)
 bytes_of_sextets-append (suc k) (a ∷ b ∷ []) ys e = absurd (omega arith)
 bytes_of_sextets-append (suc k) (a ∷ b ∷ c ∷ []) ys e = absurd (omega arith)
-bytes_of_sextets-append (suc k) (a ∷ b ∷ c ∷ d ∷ xs) ys e = grind (arith, append_assoc, bytes_of_sextets-append k xs ys (omega arith))
+bytes_of_sextets-append (suc k) (a ∷ b ∷ c ∷ d ∷ xs) ys e =
+    grind (arith, append_assoc, bytes_of_sextets-append k xs ys (omega arith))
 
 one_group : (a b c d : ℕ) → bytes_of_sextets (a ∷ b ∷ c ∷ d ∷ []) ≡ decode_group a b c d
 unfolding bytes_of_sextets
@@ -104,38 +125,49 @@ module _ (s : List ℕ) (h : AreSymbols s) (bytes : AreBytes s) where
   groups_error-none zero le = refl
   groups_error-none (suc j) le = rw (groups_error-none j (omega arith), group_error-none (4 * j) (omega arith)) refl
 
-  four : (i : ℕ) → i + 3 < length s → drop i s ≡ slice_index s i ∷ slice_index s (i + 1) ∷ slice_index s (i + 2) ∷ slice_index s (i + 3) ∷ drop (i + 4) s
+  four : (i : ℕ) → i + 3 < length s → drop i s
+      ≡ slice_index s i ∷ slice_index s (i + 1) ∷ slice_index s (i + 2) ∷ slice_index s (i + 3) ∷ drop (i + 4) s
   four i lt = grind (arith, drop_more, slice_index)
 
   -- one more group
   taken_group : (j : ℕ) → 4 * suc j ≤ length s
-      → take (4 * suc j) s ≡ take (4 * j) s ++ slice_index s (4 * j) ∷ slice_index s (4 * j + 1) ∷ slice_index s (4 * j + 2) ∷ slice_index s (4 * j + 3) ∷ []
+      → take (4 * suc j) s ≡ take (4 * j) s ++ slice_index s (4 * j) ∷ slice_index s (4 * j + 1) ∷ slice_index s
+      (4 * j + 2) ∷ slice_index s (4 * j + 3) ∷ []
   taken_group j le =
       let i = 4 * j in
-      let group : List ℕ = slice_index s i ∷ slice_index s (i + 1) ∷ slice_index s (i + 2) ∷ slice_index s (i + 3) ∷ [] in
+      let group : List ℕ = slice_index s i ∷ slice_index s (i + 1) ∷ slice_index s (i + 2) ∷ slice_index s (i + 3) ∷ []
+      in
       let front : length (take i s) ≡ i = length-take-le i s (omega arith) in
       let size : length (take i s ++ group) ≡ 4 * suc j = omega (arith, length-append (take i s) group, front) in
       let split : s ≡ (take i s ++ group) ++ drop (i + 4) s =
-      sym (take-append-drop i s) ∙ ap (λ (l : List ℕ). take i s ++ l) (four i (omega arith)) ∙ sym (append_assoc (take i s) group (drop (i + 4) s)) in
+      sym (take-append-drop i s) ∙ ap (λ (l : List ℕ). take i s ++ l) (four i (omega arith))
+      ∙ sym (append_assoc (take i s) group (drop (i + 4) s)) in
       ap (λ (l : List ℕ). take (4 * suc j) l) split ∙ take_at (take i s ++ group) (drop (i + 4) s) (4 * suc j) size
 
   -- the bytes of the groups, one after another
-  groups_bytes-sextets : (j : ℕ) → 4 * j ≤ length s → groups_bytes dec s j ≡ bytes_of_sextets (map value (take (4 * j) s))
+  groups_bytes-sextets : (j : ℕ) → 4 * j ≤ length s → groups_bytes dec s j
+      ≡ bytes_of_sextets (map value (take (4 * j) s))
   unfolding groups_bytes bytes_of_sextets
   groups_bytes-sextets zero le = refl
   groups_bytes-sextets (suc j) le =
       let i = 4 * j in
-      let group : List ℕ = slice_index s i ∷ slice_index s (i + 1) ∷ slice_index s (i + 2) ∷ slice_index s (i + 3) ∷ [] in
+      let group : List ℕ = slice_index s i ∷ slice_index s (i + 1) ∷ slice_index s (i + 2) ∷ slice_index s (i + 3) ∷ []
+      in
       let sum : 4 * suc j ≡ i + 4 = omega arith in
       let taken : take (4 * suc j) s ≡ take i s ++ group = taken_group j le in
-      let size : length (map value (take i s)) ≡ 4 * j = length-map (take i s) value ∙ length-take-le i s (omega arith) in
+      let size : length (map value (take i s)) ≡ 4 * j = length-map (take i s) value ∙ length-take-le i s (omega arith)
+      in
       ap (λ (l : List ℕ). l ++ group_bytes dec s i) (groups_bytes-sextets j (omega arith))
-      ∙ ap (λ (l : List ℕ). bytes_of_sextets (map value (take i s)) ++ l) (sym (one_group (value (slice_index s i)) (value (slice_index s (i + 1))) (value (slice_index s (i + 2))) (value (slice_index s (i + 3)))))
+      ∙ ap (λ (l : List ℕ). bytes_of_sextets (map value (take i s)) ++ l)
+      (sym (one_group (value (slice_index s i)) (value (slice_index s (i + 1))) (value (slice_index s (i + 2)))
+      (value (slice_index s (i + 3)))))
       ∙ sym (bytes_of_sextets-append j (map value (take i s)) (map value group) size)
-      ∙ ap bytes_of_sextets (sym (map-append value (take i s) group)) ∙ ap (λ (l : List ℕ). bytes_of_sextets (map value l)) (sym taken)
+      ∙ ap bytes_of_sextets (sym (map-append value (take i s) group))
+      ∙ ap (λ (l : List ℕ). bytes_of_sextets (map value l)) (sym taken)
 
   -- the last group
-  last_group : (i : ℕ) → i + 4 ≡ length s → (suffix_error dec 61 false RequireCanonical i s ≡ None) × (suffix_bytes dec 61 i s ≡ group_bytes dec s i)
+  last_group : (i : ℕ) → i + 4 ≡ length s → (suffix_error dec 61 false RequireCanonical i s ≡ None)
+      × (suffix_bytes dec 61 i s ≡ group_bytes dec s i)
   last_group i e =
       let a = slice_index s i in
       let b = slice_index s (i + 1) in
@@ -145,15 +177,36 @@ module _ (s : List ℕ) (h : AreSymbols s) (bytes : AreBytes s) where
       let fb = at (i + 1) (omega arith) in
       let fc = at (i + 2) (omega arith) in
       let fd = at (i + 3) (omega arith) in
-      let st1 = record no_leftover { morsels = value a ∷ 0 ∷ 0 ∷ 0 ∷ []; morsels_count = 1; last_symbol = a; last_symbol_value = value a } in
-      let st2 = record no_leftover { morsels = value a ∷ value b ∷ 0 ∷ 0 ∷ []; morsels_count = 2; last_symbol = b; last_symbol_value = value b } in
-      let st3 = record no_leftover { morsels = value a ∷ value b ∷ value c ∷ 0 ∷ []; morsels_count = 3; last_symbol = c; last_symbol_value = value c } in
-      let st4 = record no_leftover { morsels = value a ∷ value b ∷ value c ∷ value d ∷ []; morsels_count = 4; last_symbol = d; last_symbol_value = value d } in
+      let st1 = record no_leftover {
+        morsels = value a ∷ 0 ∷ 0 ∷ 0 ∷ [];
+        morsels_count = 1;
+        last_symbol = a;
+        last_symbol_value = value a;
+      } in
+      let st2 = record no_leftover {
+        morsels = value a ∷ value b ∷ 0 ∷ 0 ∷ [];
+        morsels_count = 2;
+        last_symbol = b;
+        last_symbol_value = value b;
+      } in
+      let st3 = record no_leftover {
+        morsels = value a ∷ value b ∷ value c ∷ 0 ∷ [];
+        morsels_count = 3;
+        last_symbol = c;
+        last_symbol_value = value c;
+      } in
+      let st4 = record no_leftover {
+        morsels = value a ∷ value b ∷ value c ∷ value d ∷ [];
+        morsels_count = 4;
+        last_symbol = d;
+        last_symbol_value = value d;
+      } in
       let push1 : push_leftover dec 61 i no_leftover 0 a ≡ Ok st1 = rw (fa.padding, fa.valued) refl in
       let push2 : push_leftover dec 61 i st1 1 b ≡ Ok st2 = rw (fb.padding, fb.valued) refl in
       let push3 : push_leftover dec 61 i st2 2 c ≡ Ok st3 = rw (fc.padding, fc.valued) refl in
       let push4 : push_leftover dec 61 i st3 3 d ≡ Ok st4 = rw (fd.padding, fd.valued) refl in
-      let rest : drop i s ≡ a ∷ b ∷ c ∷ d ∷ [] = four i (omega arith) ∙ ap (λ (l : List ℕ). a ∷ b ∷ c ∷ d ∷ l) (drop_all (i + 4) s (omega arith)) in
+      let rest : drop i s ≡ a ∷ b ∷ c ∷ d ∷ [] = four i (omega arith)
+      ∙ ap (λ (l : List ℕ). a ∷ b ∷ c ∷ d ∷ l) (drop_all (i + 4) s (omega arith)) in
       let scanned : scan_last dec 61 i s ≡ Ok st4 =
       ap (λ (l : List ℕ). scan dec 61 i no_leftover 0 l) rest
       ∙ scan-cons_ok dec 61 i no_leftover 0 a (b ∷ c ∷ d ∷ []) st1 push1
@@ -161,8 +214,10 @@ module _ (s : List ℕ) (h : AreSymbols s) (bytes : AreBytes s) where
       ∙ scan-cons_ok dec 61 i st2 2 c (d ∷ []) st3 push3
       ∙ scan-cons_ok dec 61 i st3 3 d [] st4 push4
       ∙ scan-nil dec 61 i st4 4 in
-      let some : (length s == 0) ≡ false = ne_eqb (length s) 0 (λ z. absurd (omega arith)) in
-      (suffix_error_of dec s 61 i false RequireCanonical st4 scanned ∙ rw some refl, suffix_bytes_of dec s 61 i st4 scanned)
+      let some : (length s == 0) ≡ false = ne_eqb (length s) 0 (λ z. absurd (omega arith)) in (
+        suffix_error_of dec s 61 i false RequireCanonical st4 scanned ∙ rw some refl,
+        suffix_bytes_of dec s 61 i st4 scanned,
+      )
 
   groups_bytes-suc : (j : ℕ) → groups_bytes dec s (suc j) ≡ groups_bytes dec s j ++ group_bytes dec s (4 * j)
   unfolding groups_bytes
@@ -176,14 +231,17 @@ module _ (s : List ℕ) (h : AreSymbols s) (bytes : AreBytes s) where
   decoded_is m e =
       let last : groups_before_last (length s) ≡ m = omega arith in
       let ends = last_group (4 * m) (omega arith) in
-      rw last (ap (λ (l : List ℕ). groups_bytes dec s m ++ l) ends.1) ∙ sym (groups_bytes-suc m) ∙ groups_bytes-sextets (suc m) (omega arith)
-      ∙ ap (λ (l : List ℕ). bytes_of_sextets (map value l)) (take_all (4 * suc m) s (omega arith)) ∙ ap bytes_of_sextets (sym (sextets-symbols s h bytes))
+      rw last (ap (λ (l : List ℕ). groups_bytes dec s m ++ l) ends.1) ∙ sym (groups_bytes-suc m)
+      ∙ groups_bytes-sextets (suc m) (omega arith)
+      ∙ ap (λ (l : List ℕ). bytes_of_sextets (map value l)) (take_all (4 * suc m) s (omega arith))
+      ∙ ap bytes_of_sextets (sym (sextets-symbols s h bytes))
 
   pub length-decoded : (m : ℕ) → length s ≡ 4 * suc m → length (decoded_bytes_of standard s) ≡ 3 * suc m
   length-decoded m e =
       let last : groups_before_last (length s) ≡ m = omega arith in
       let ends = last_group (4 * m) (omega arith) in
-      rw last (ap length (ap (λ (l : List ℕ). groups_bytes dec s m ++ l) ends.1 ∙ sym (groups_bytes-suc m)) ∙ length-groups_bytes dec s (suc m))
+      rw last (ap length (ap (λ (l : List ℕ). groups_bytes dec s m ++ l) ends.1 ∙ sym (groups_bytes-suc m))
+      ∙ length-groups_bytes dec s (suc m))
 
   pub decode_slice_is : (m : ℕ) → length s ≡ 4 * suc m → decode_slice_of standard s (3 * suc m) ≡ Ok (3 * suc m)
   decode_slice_is m e =
@@ -196,17 +254,23 @@ module _ (s : List ℕ) (h : AreSymbols s) (bytes : AreBytes s) where
       rw (len, lone, last, room, groups_error-none m (omega arith), ends.0, fits) refl
 
 -- what the decoder wrote into a slice of the right length
-pub decoded-into : (s back new : List ℕ) (r : Result ℕ DecodeSliceError) → AreSymbols s → AreBytes s → 0 < length s → length s % 4 ≡ 0 → length back ≡ length s / 4 * 3
-    → r ≡ decode_slice_of standard s (length back) → OnOk r (IsWrittenOver (decoded_bytes_of standard s) back new) → new ≡ bytes_of_sextets (filter_map sextet s)
+pub decoded-into : (s back new : List ℕ) (r : Result ℕ DecodeSliceError) → AreSymbols s → AreBytes s → 0 < length s
+    → length s % 4 ≡ 0 → length back ≡ length s / 4 * 3
+    → r ≡ decode_slice_of standard s (length back) → OnOk r (IsWrittenOver (decoded_bytes_of standard s) back new) → new
+    ≡ bytes_of_sextets (filter_map sextet s)
 decoded-into s back new r h bytes some whole room e written =
     let m : ℕ = length s / 4 - 1 in
     let size : length s ≡ 4 * suc m = omega arith in
     let three : length back ≡ 3 * suc m = omega arith in
-    let ok : r ≡ Ok (3 * suc m) = e ∙ ap (λ (n : ℕ). decode_slice_of standard s n) three ∙ decode_slice_is s h bytes m size in
+    let ok : r ≡ Ok (3 * suc m) = e ∙ ap (λ (n : ℕ). decode_slice_of standard s n) three
+    ∙ decode_slice_is s h bytes m size in
     let over : new ≡ decoded_bytes_of standard s ++ drop (length (decoded_bytes_of standard s)) back =
-    subst (λ (q : Result ℕ DecodeSliceError). OnOk q (IsWrittenOver (decoded_bytes_of standard s) back new)) ok written in
-    let none : drop (length (decoded_bytes_of standard s)) back ≡ [] = drop_all (length (decoded_bytes_of standard s)) back (omega (arith, length-decoded s h bytes m size)) in
-    over ∙ ap (λ (l : List ℕ). decoded_bytes_of standard s ++ l) none ∙ append-nil (decoded_bytes_of standard s) ∙ decoded_is s h bytes m size
+    subst (λ (q : Result ℕ DecodeSliceError). OnOk q (IsWrittenOver (decoded_bytes_of standard s) back new)) ok written
+    in
+    let none : drop (length (decoded_bytes_of standard s)) back ≡ [] =
+    drop_all (length (decoded_bytes_of standard s)) back (omega (arith, length-decoded s h bytes m size)) in
+    over ∙ ap (λ (l : List ℕ). decoded_bytes_of standard s ++ l) none ∙ append-nil (decoded_bytes_of standard s)
+    ∙ decoded_is s h bytes m size
 
 -- ---- symbols of any text
 
@@ -219,14 +283,18 @@ AreBytes-symbols (x ∷ s) h zero = below x (h 0 (omega arith))
 AreBytes-symbols (x ∷ s) h (suc k) = AreBytes-symbols s (λ j lt. h (suc j) (omega arith)) k
 
 -- whole groups at the front
-pub bytes_of_symbols-groups : (s later : List ℕ) → AreSymbols s → length s % 4 ≡ 0 → bytes_of_symbols (s ++ later) ≡ bytes_of_symbols s ++ bytes_of_symbols later
+pub bytes_of_symbols-groups : (s later : List ℕ) → AreSymbols s → length s % 4 ≡ 0 → bytes_of_symbols (s ++ later)
+    ≡ bytes_of_symbols s ++ bytes_of_symbols later
 bytes_of_symbols-groups s later h whole =
     let values : filter_map sextet s ≡ map value s = sextets-symbols s h (AreBytes-symbols s h) in
-    let size : length (filter_map sextet s) ≡ 4 * (length s / 4) = ap length values ∙ length-map s value ∙ omega arith in
-    ap bytes_of_sextets (filter_map-append sextet s later) ∙ bytes_of_sextets-append (length s / 4) (filter_map sextet s) (filter_map sextet later) size
+    let size : length (filter_map sextet s) ≡ 4 * (length s / 4) = ap length values ∙ length-map s value ∙ omega arith
+    in
+    ap bytes_of_sextets (filter_map-append sextet s later)
+    ∙ bytes_of_sextets-append (length s / 4) (filter_map sextet s) (filter_map sextet later) size
 
 -- a byte outside the alphabet is skipped
-pub bytes_of_symbols-other : (front later : List ℕ) (b : ℕ) → sextet b ≡ None → bytes_of_symbols (front ++ b ∷ later) ≡ bytes_of_symbols (front ++ later)
+pub bytes_of_symbols-other : (front later : List ℕ) (b : ℕ) → sextet b ≡ None → bytes_of_symbols (front ++ b ∷ later)
+    ≡ bytes_of_symbols (front ++ later)
 bytes_of_symbols-other front later b other = grind (arith, filter_map-append)
 
 -- ---- the fourth symbol of a group
@@ -239,9 +307,11 @@ module _ (symbols : List ℕ) (count symbol : ℕ) (size : length symbols ≡ 4)
       let same_size : length (slice_set symbols count symbol) ≡ length symbols = length-set symbols count symbol in
       each inside (omega arith) (cases_eq k count)
     where
-      each : count < length symbols → k < 4 → (k ≡ count) ⊎ (k ≡ count → ⊥) → is_symbol (slice_index (slice_set symbols count symbol) k) ≡ true
+      each : count < length symbols → k < 4 → (k ≡ count) ⊎ (k ≡ count → ⊥)
+          → is_symbol (slice_index (slice_set symbols count symbol) k) ≡ true
       each inside four (inl same) = rw (same, get_or-set_same symbols count symbol 0 inside) is
-      each inside four (inr other) = rw (get_or-set_other symbols count k symbol 0 other) (held k (less (cases_lt k count)))
+      each inside four (inr other) = rw (get_or-set_other symbols count k symbol 0 other)
+          (held k (less (cases_lt k count)))
         where
           less : (k < count) ⊎ (count ≤ k) → k < count
           less (inl lt) = lt
@@ -253,23 +323,33 @@ module _ (symbols : List ℕ) (count symbol : ℕ) (size : length symbols ≡ 4)
       let group : List ℕ = slice_set symbols count symbol in
       let full : length group ≡ 4 = length-set symbols count symbol ∙ size in
       let inside : count < length symbols = omega arith in
-      let front : take count symbols ++ symbol ∷ [] ≡ group = sym (take_more_set symbols count symbol inside) ∙ take_all (count + 1) group (omega arith) in
+      let front : take count symbols ++ symbol ∷ [] ≡ group = sym (take_more_set symbols count symbol inside)
+      ∙ take_all (count + 1) group (omega arith) in
       let whole : length group % 4 ≡ 0 = rw full refl in
-      ap (λ (l : List ℕ). l ++ bytes_of_symbols later) e ∙ append_assoc old (bytes_of_symbols group) (bytes_of_symbols later)
-      ∙ ap (λ (l : List ℕ). old ++ l) (sym (bytes_of_symbols-groups group later hold-symbols whole) ∙ ap (λ (l : List ℕ). bytes_of_symbols (l ++ later)) (sym front) ∙ ap bytes_of_symbols (append_assoc (take count symbols) (symbol ∷ []) later))
+      ap (λ (l : List ℕ). l ++ bytes_of_symbols later) e
+      ∙ append_assoc old (bytes_of_symbols group) (bytes_of_symbols later)
+      ∙ ap (λ (l : List ℕ). old ++ l) (sym (bytes_of_symbols-groups group later hold-symbols whole)
+      ∙ ap (λ (l : List ℕ). bytes_of_symbols (l ++ later)) (sym front)
+      ∙ ap bytes_of_symbols (append_assoc (take count symbols) (symbol ∷ []) later))
 
 -- ---- the groups of a text, if no symbol is held
 
-pub text-groups : (symbols : List ℕ) (count : ℕ) (rest : List ℕ) (n : ℕ) → count ≡ 0 → n ≤ length rest → n % 4 ≡ 0 → ((k : ℕ) → k < n → is_symbol (slice_index rest k) ≡ true)
+pub text-groups : (symbols : List ℕ) (count : ℕ) (rest : List ℕ) (n : ℕ) → count ≡ 0 → n ≤ length rest → n % 4 ≡ 0
+    → ((k : ℕ) → k < n → is_symbol (slice_index rest k) ≡ true)
     → (later old new : List ℕ) → new ≡ old ++ bytes_of_symbols (take n rest) → (behind : List ℕ) → behind ≡ drop n rest
-    → new ++ bytes_of_symbols (take count symbols ++ (behind ++ later)) ≡ old ++ bytes_of_symbols (take count symbols ++ (rest ++ later))
+    → new ++ bytes_of_symbols (take count symbols ++ (behind ++ later))
+    ≡ old ++ bytes_of_symbols (take count symbols ++ (rest ++ later))
 text-groups symbols count rest n none fits whole are later old new e behind f =
     let run : List ℕ = take n rest in
     let size : length run ≡ n = length-take-le n rest fits in
-    let symbols : AreSymbols run = λ k lt. let inside : k < n = omega (arith, lt, size) in rw (get_or-take n rest k 0 inside) (are k inside) in
-    let split : run ++ (behind ++ later) ≡ rest ++ later = sym (append_assoc run behind later) ∙ ap (λ (l : List ℕ). l ++ later) (ap (λ (l : List ℕ). run ++ l) f ∙ take-append-drop n rest) in
-    rw none (ap (λ (l : List ℕ). l ++ bytes_of_symbols (behind ++ later)) e ∙ append_assoc old (bytes_of_symbols run) (bytes_of_symbols (behind ++ later))
-    ∙ ap (λ (l : List ℕ). old ++ l) (sym (bytes_of_symbols-groups run (behind ++ later) symbols (rw size whole)) ∙ ap bytes_of_symbols split))
+    let symbols : AreSymbols run = λ k lt. let inside : k < n = omega (arith, lt, size)
+    in rw (get_or-take n rest k 0 inside) (are k inside) in
+    let split : run ++ (behind ++ later) ≡ rest ++ later = sym (append_assoc run behind later)
+    ∙ ap (λ (l : List ℕ). l ++ later) (ap (λ (l : List ℕ). run ++ l) f ∙ take-append-drop n rest) in
+    rw none (ap (λ (l : List ℕ). l ++ bytes_of_symbols (behind ++ later)) e
+    ∙ append_assoc old (bytes_of_symbols run) (bytes_of_symbols (behind ++ later))
+    ∙ ap (λ (l : List ℕ). old ++ l) (sym (bytes_of_symbols-groups run (behind ++ later) symbols (rw size whole))
+    ∙ ap bytes_of_symbols split))
 
 -- a byte that is skipped
 pub text-other : (front rest others : List ℕ) (b : ℕ) → rest ≡ b ∷ others → sextet b ≡ None → (later : List ℕ)

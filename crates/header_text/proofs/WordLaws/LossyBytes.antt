@@ -1,5 +1,7 @@
 -- A lossy text has at most three bytes for each byte.
-use Rattle.header_text.proofs.Words.{◌≡◌, ◌≤◌, ◌*◌, ℕ, zero, suc, List, [], ◌∷◌, Option, Some, None, map, drop, length, refl, encode_utf8_all, arith, length-drop, length-append, encode_utf8, or_replacement, pieces_from, lossy_chars}
+use Rattle.header_text.proofs.Words.{◌≡◌, ◌≤◌, ◌*◌, ℕ, zero, suc, List, [], ◌∷◌, Option, Some, None, map, drop, length}
+use Rattle.header_text.proofs.Words.{refl, encode_utf8_all, arith, length-drop, length-append, encode_utf8}
+use Rattle.header_text.proofs.Words.{or_replacement, pieces_from, lossy_chars}
 use Rattle.bstr.specs.Utf8.{decoded}
 use Rattle.bstr.proofs.lemmas.PieceLemmas.{piece-bounds}
 use Rattle.bstr.proofs.lemmas.SoundLemmas.{SpellsChar-decoded}
@@ -8,11 +10,13 @@ replacement_len : length (encode_utf8 0xFFFD) ≡ 3
 unfolding encode_utf8
 replacement_len = refl
 
-one_char : (bs : List ℕ) (o : Option ℕ) → (decoded bs).char ≡ o → 1 ≤ (decoded bs).size → length (encode_utf8 (or_replacement o)) ≤ 3 * (decoded bs).size
+one_char : (bs : List ℕ) (o : Option ℕ) → (decoded bs).char ≡ o → 1 ≤ (decoded bs).size
+    → length (encode_utf8 (or_replacement o)) ≤ 3 * (decoded bs).size
 one_char bs None e some = let three : length (encode_utf8 0xFFFD) ≡ 3 = replacement_len in omega (arith, three)
 one_char bs (Some y) e some = let w = (SpellsChar-decoded bs y e).width in omega (arith, w)
 
-bounded : (n : ℕ) (bs : List ℕ) → length (encode_utf8_all (map (λ p. or_replacement p.char) (pieces_from n bs))) ≤ 3 * length bs
+bounded : (n : ℕ) (bs : List ℕ) → length (encode_utf8_all (map (λ p. or_replacement p.char) (pieces_from n bs))) ≤ 3 *
+    length bs
 unfolding pieces_from
 bounded zero bs = omega arith
 bounded (suc n) [] = omega arith
@@ -22,7 +26,8 @@ bounded (suc n) (b ∷ rest) =
     let first = one_char (b ∷ rest) p.char refl (omega (arith, fits)) in
     let left = length-drop p.size (b ∷ rest) in
     let later = bounded n (drop p.size (b ∷ rest)) in
-    let both = length-append (encode_utf8 (or_replacement p.char)) (encode_utf8_all (map (λ q. or_replacement q.char) (pieces_from n (drop p.size (b ∷ rest))))) in
+    let both = length-append (encode_utf8 (or_replacement p.char))
+    (encode_utf8_all (map (λ q. or_replacement q.char) (pieces_from n (drop p.size (b ∷ rest))))) in
     omega (arith, fits, first, left, later, both)
 
 -- the text has at most three bytes for each byte

@@ -1,7 +1,15 @@
 -- The pieces of a value are its leftmost encoded words, and no other words are.
-use Rattle.header_text.proofs.Words.{◌≡◌, ◌∙◌, ◌==◌, ◌&&◌, ◌||◌, ◌≤◌, ◌++◌, ℕ, zero, suc, Bool, true, false, nat_lt, nat_le, List, [], ◌∷◌, Option, Some, None, length, refl, sym, ap, subst, arith, length-append, append-nil, not, option_map, unwrap_or, list_all, eqb-true, and_parts, not-true, ne_eqb, EncodedWord, spelled, is_charset_byte, is_text_byte, is_q, is_b, is_well_formed, question, equals_sign, word_and_later, word_at, WordAfter, Pieces, pieces, BeginsWord, NoneBegins, AreLeftmost, no_word, word_first}
+use Rattle.header_text.proofs.Words.{◌≡◌, ◌∙◌, ◌==◌, ◌&&◌, ◌||◌, ◌≤◌, ◌++◌, ℕ, zero, suc, Bool, true, false, nat_lt}
+use Rattle.header_text.proofs.Words.{nat_le, List, [], ◌∷◌, Option, Some, None, length, refl, sym, ap, subst, arith}
+use Rattle.header_text.proofs.Words.{length-append, append-nil, not, option_map, unwrap_or, list_all, eqb-true}
+use Rattle.header_text.proofs.Words.{and_parts, not-true, ne_eqb, EncodedWord, spelled, is_charset_byte, is_text_byte}
+use Rattle.header_text.proofs.Words.{is_q, is_b, is_well_formed, question, equals_sign, word_and_later, word_at}
+use Rattle.header_text.proofs.Words.{WordAfter, Pieces, pieces, BeginsWord, NoneBegins, AreLeftmost, no_word}
+use Rattle.header_text.proofs.Words.{word_first}
 use Rattle.header_text.proofs.CutLemmas.{Lacks, cut_at-is}
-use Rattle.header_text.proofs.WordLaws.WordLemmas.{spells, spelled-append, chain, with_charset, with_encoding, with_text, with_front, in_front, pieces-none, pieces-some, word_at-equals, word_at-other, in_front-append}
+use Rattle.header_text.proofs.WordLaws.WordLemmas.{spells, spelled-append, chain, with_charset, with_encoding}
+use Rattle.header_text.proofs.WordLaws.WordLemmas.{with_text, with_front, in_front, pieces-none, pieces-some}
+use Rattle.header_text.proofs.WordLaws.WordLemmas.{word_at-equals, word_at-other, in_front-append}
 
 -- ---- a word that begins is found
 
@@ -17,8 +25,10 @@ parts w h = grind (arith, and_parts)
 Lacks-charset : (bs : List ℕ) → list_all is_charset_byte bs ≡ true → Lacks question bs
 Lacks-charset [] h = tt
 Lacks-charset (b ∷ bs) h =
-    let p = and_parts (is_charset_byte b) (list_all is_charset_byte bs) h in
-    (not-true (b == question) (and_parts (nat_le 33 b && nat_le b 126) (not (b == question)) p.0).1, Lacks-charset bs p.1)
+    let p = and_parts (is_charset_byte b) (list_all is_charset_byte bs) h in (
+      not-true (b == question) (and_parts (nat_le 33 b && nat_le b 126) (not (b == question)) p.0).1,
+      Lacks-charset bs p.1,
+    )
 
 Lacks-text : (bs : List ℕ) → list_all is_text_byte bs ≡ true → Lacks question bs
 Lacks-text [] h = tt
@@ -30,8 +40,20 @@ letter : (e : ℕ) → (is_q e || is_b e) ≡ true → (e == question) ≡ false
 letter e h = ne_eqb e question (λ same. absurd (cc (rw same at h)))
 
 found : (w : EncodedWord) (later : List ℕ) → is_well_formed w ≡ true
-    → word_and_later (question ∷ (w.charset ++ question ∷ w.encoding ∷ question ∷ (w.text ++ question ∷ equals_sign ∷ later))) ≡ Some (w, later)
-found w later h = grind (arith, parts, cut_at-is, Lacks-charset, letter, Lacks-text, chain, with_charset, with_encoding, with_text)
+    → word_and_later (question ∷ (w.charset ++ question ∷ w.encoding ∷ question ∷
+    (w.text ++ question ∷ equals_sign ∷ later))) ≡ Some (w, later)
+found w later h = grind (
+  arith,
+  parts,
+  cut_at-is,
+  Lacks-charset,
+  letter,
+  Lacks-text,
+  chain,
+  with_charset,
+  with_encoding,
+  with_text,
+)
 
 -- at most one word begins at a place, and it is found
 pub word_at-begins : (bytes : List ℕ) (w : EncodedWord) → BeginsWord bytes w → word_at bytes ≡ Some w
@@ -50,7 +72,8 @@ unfolding word_at
 begins [] w h = absurd (cc)
 begins (b ∷ bs) w h = go (b == equals_sign) refl
   where
-    at_equals : b ≡ equals_sign → (o : Option (EncodedWord × List ℕ)) → word_and_later bs ≡ o → word_at (b ∷ bs) ≡ option_map (λ (f : EncodedWord × List ℕ). f.0) o → Begins (b ∷ bs) w
+    at_equals : b ≡ equals_sign → (o : Option (EncodedWord × List ℕ)) → word_and_later bs ≡ o → word_at (b ∷ bs)
+        ≡ option_map (λ (f : EncodedWord × List ℕ). f.0) o → Begins (b ∷ bs) w
     at_equals e None f g = absurd (cc (sym g ∙ h))
     at_equals e (Some (v, later)) f g =
         let same : v ≡ w = ap (λ (o : Option EncodedWord). unwrap_or o w) (sym g ∙ h) in
@@ -73,7 +96,8 @@ none_begins bytes e w h = absurd (cc (sym (word_at-begins bytes w h) ∙ e))
 -- ---- the pieces are the leftmost words
 
 -- one more byte at the front, at which no word begins
-more_in_front : (b : ℕ) (bs : List ℕ) (ws : List WordAfter) (rest : List ℕ) → word_at (b ∷ bs) ≡ None → AreLeftmost bs ws rest
+more_in_front : (b : ℕ) (bs : List ℕ) (ws : List WordAfter) (rest : List ℕ) → word_at (b ∷ bs) ≡ None
+    → AreLeftmost bs ws rest
     → AreLeftmost (b ∷ bs) (with_front (b ∷ []) ws rest).words (with_front (b ∷ []) ws rest).rest
 more_in_front b bs [] rest e h = grind (arith, rest, append-nil, none_begins)
 more_in_front b bs (v ∷ ws) rest e h = grind (arith, none_begins)
@@ -83,18 +107,23 @@ within n [] le = (refl, tt)
 within zero (b ∷ bs) le = absurd (omega arith)
 within (suc n) (b ∷ bs) le = go (word_at (b ∷ bs)) refl (within n)
   where
-    go : (o : Option EncodedWord) → word_at (b ∷ bs) ≡ o → ((value : List ℕ) → length value ≤ n → AreLeftmost value (pieces value).words (pieces value).rest)
+    go : (o : Option EncodedWord) → word_at (b ∷ bs) ≡ o
+        → ((value : List ℕ) → length value ≤ n → AreLeftmost value (pieces value).words (pieces value).rest)
         → AreLeftmost (b ∷ bs) (pieces (b ∷ bs)).words (pieces (b ∷ bs)).rest
     go None e each =
-        subst (λ (p : Pieces). AreLeftmost (b ∷ bs) p.words p.rest) (sym (pieces-none b bs e)) (more_in_front b bs (pieces bs).words (pieces bs).rest e (each bs (omega arith)))
+        subst (λ (p : Pieces). AreLeftmost (b ∷ bs) p.words p.rest) (sym (pieces-none b bs e))
+        (more_in_front b bs (pieces bs).words (pieces bs).rest e (each bs (omega arith)))
     go (Some w) e each =
         let is = begins (b ∷ bs) w e in
         let here : word_at (equals_sign ∷ is.rest) ≡ Some w = ap word_at (sym is.equals) ∙ e in
-        let first : pieces (b ∷ bs) ≡ word_first (record { between = []; word = w }) is.later = ap pieces is.equals ∙ pieces-some is.rest is.later w here (sym is.equals ∙ is.joined) in
+        let first : pieces (b ∷ bs) ≡ word_first (record { between = []; word = w }) is.later = ap pieces is.equals
+        ∙ pieces-some is.rest is.later w here (sym is.equals ∙ is.joined) in
         let sizes = ap length is.joined ∙ ap length (spelled-append w is.later) in
-        let a = length-append w.charset (question ∷ w.encoding ∷ question ∷ (w.text ++ question ∷ equals_sign ∷ is.later)) in
+        let a = length-append w.charset (question ∷ w.encoding ∷ question ∷
+        (w.text ++ question ∷ equals_sign ∷ is.later)) in
         let c = length-append w.text (question ∷ equals_sign ∷ is.later) in
-        subst (λ (p : Pieces). AreLeftmost (b ∷ bs) p.words p.rest) (sym first) (is.later, is.joined, is.well, tt, each is.later (omega (arith, sizes, a, c)))
+        subst (λ (p : Pieces). AreLeftmost (b ∷ bs) p.words p.rest) (sym first)
+        (is.later, is.joined, is.well, tt, each is.later (omega (arith, sizes, a, c)))
 
 pub are_leftmost : (value : List ℕ) → AreLeftmost value (pieces value).words (pieces value).rest
 are_leftmost value = within (length value) value (omega arith)
@@ -112,14 +141,19 @@ past : (front later : List ℕ) → NoneBegins front later → pieces (front ++ 
 past [] later h = grind arith
 past (b ∷ front) later h = grind (arith, pieces-none, later, nowhere, in_front, in_front-append, past front later h.1)
 
-pub only_leftmost : (value : List ℕ) (ws : List WordAfter) (rest : List ℕ) → AreLeftmost value ws rest → pieces value ≡ record { words = ws; rest = rest }
-only_leftmost value [] rest h = ap pieces (h.0 ∙ sym (append-nil rest)) ∙ past rest [] h.1 ∙ ap no_word (append-nil rest)
+pub only_leftmost : (value : List ℕ) (ws : List WordAfter) (rest : List ℕ) → AreLeftmost value ws rest → pieces value
+    ≡ record { words = ws; rest = rest }
+only_leftmost value [] rest h = ap pieces (h.0 ∙ sym (append-nil rest)) ∙ past rest [] h.1
+    ∙ ap no_word (append-nil rest)
 only_leftmost value (w ∷ ws) rest h =
     let later : List ℕ = h.0 in
-    let spelling : List ℕ = question ∷ (w.word.charset ++ question ∷ w.word.encoding ∷ question ∷ (w.word.text ++ question ∷ equals_sign ∷ later)) in
+    let spelling : List ℕ = question ∷ (w.word.charset ++ question ∷ w.word.encoding ∷ question ∷
+    (w.word.text ++ question ∷ equals_sign ∷ later)) in
     let written : spelled w.word ++ later ≡ equals_sign ∷ spelling = spelled-append w.word later in
-    let here : word_at (equals_sign ∷ spelling) ≡ Some w.word = ap word_at (sym written) ∙ word_at-begins (spelled w.word ++ later) w.word (h.2, (later, refl)) in
-    let first : pieces (spelled w.word ++ later) ≡ word_first (record { between = []; word = w.word }) later = ap pieces written ∙ pieces-some spelling later w.word here (sym written) in
+    let here : word_at (equals_sign ∷ spelling) ≡ Some w.word = ap word_at (sym written)
+    ∙ word_at-begins (spelled w.word ++ later) w.word (h.2, (later, refl)) in
+    let first : pieces (spelled w.word ++ later) ≡ word_first (record { between = []; word = w.word }) later =
+    ap pieces written ∙ pieces-some spelling later w.word here (sym written) in
     ap pieces h.1 ∙ past w.between (spelled w.word ++ later) h.3 ∙ ap (in_front w.between) first
     ∙ ap (λ (l : List ℕ). word_first (record { between = l; word = w.word }) later) (append-nil w.between)
     ∙ ap (λ (p : Pieces). record { words = w ∷ p.words; rest = p.rest }) (only_leftmost later ws rest h.4)

@@ -1,5 +1,9 @@
 -- Reading base64 piece by piece gives the bytes of the whole text.
-use Rattle.header_text.proofs.Words.{◌≡◌, ◌∙◌, ◌==◌, ◌<◌, ◌≤◌, ◌+◌, ◌-◌, ◌++◌, ℕ, zero, suc, Bool, true, false, List, [], ◌∷◌, Some, None, length, slice_index, take, drop, refl, sym, ap, ap₂, arith, length-append, append_assoc, append-nil, not, if◌then◌else◌, get_or-take, split_while, cut_at, sextet, bytes_of_sextets, bytes_of_symbols, base64_bytes, is_symbol, filter_map}
+use Rattle.header_text.proofs.Words.{◌≡◌, ◌∙◌, ◌==◌, ◌<◌, ◌≤◌, ◌+◌, ◌-◌, ◌++◌, ℕ, zero, suc, Bool, true, false, List}
+use Rattle.header_text.proofs.Words.{[], ◌∷◌, Some, None, length, slice_index, take, drop, refl, sym, ap, ap₂, arith}
+use Rattle.header_text.proofs.Words.{length-append, append_assoc, append-nil, not, if◌then◌else◌, get_or-take}
+use Rattle.header_text.proofs.Words.{split_while, cut_at, sextet, bytes_of_sextets, bytes_of_symbols, base64_bytes}
+use Rattle.header_text.proofs.Words.{is_symbol, filter_map}
 use Rattle.std.proofs.lemmas.List.{length-take}
 use Rattle.header_text.proofs.CutLemmas.{Lacks, IsCut-from, Lacks-from, split_while-lacks}
 use Rattle.header_text.proofs.Fronts.{split_while-joined}
@@ -12,36 +16,47 @@ text_in text = (split_while (λ b. not (b == 0x3D)) text).0
 
 Lacks-symbols : (s : List ℕ) → AreSymbols s → Lacks 0x3D s
 Lacks-symbols [] h = tt
-Lacks-symbols (x ∷ s) h = ((symbol x (below x (h 0 (omega arith))) (h 0 (omega arith))).padding, Lacks-symbols s (λ k lt. h (suc k) (omega arith)))
+Lacks-symbols (x ∷ s) h = (
+  (symbol x (below x (h 0 (omega arith))) (h 0 (omega arith))).padding,
+  Lacks-symbols s (λ k lt. h (suc k) (omega arith)),
+)
 
 text_in-front : (s later : List ℕ) → Lacks 0x3D s → text_in (s ++ later) ≡ s ++ text_in later
 text_in-front [] later free = refl
-text_in-front (b ∷ s) later free = rw (free.0, text_in, split_while) (ap (λ (l : List ℕ). b ∷ l) (text_in-front s later free.1))
+text_in-front (b ∷ s) later free = rw (free.0, text_in, split_while)
+    (ap (λ (l : List ℕ). b ∷ l) (text_in-front s later free.1))
 
-base64_bytes-front : (s later : List ℕ) → AreSymbols s → base64_bytes (s ++ later) ≡ bytes_of_symbols (s ++ text_in later)
+base64_bytes-front : (s later : List ℕ) → AreSymbols s → base64_bytes (s ++ later)
+    ≡ bytes_of_symbols (s ++ text_in later)
 unfolding base64_bytes
 base64_bytes-front s later h = ap bytes_of_symbols (text_in-front s later (Lacks-symbols s h))
 
 module _ (old new before after : List ℕ) (piece : List ℕ) (held : AreSymbols before) (holds : AreSymbols after) where
   -- a piece with `=`
   pub read-ended : (text rest : List ℕ) → cut_at 0x3D piece ≡ Some (text, rest)
-      → ((later : List ℕ) → new ++ bytes_of_symbols (after ++ later) ≡ old ++ bytes_of_symbols (before ++ (text ++ later)))
+      → ((later : List ℕ) → new ++ bytes_of_symbols (after ++ later)
+      ≡ old ++ bytes_of_symbols (before ++ (text ++ later)))
       → (later : List ℕ) → new ++ bytes_of_symbols after ≡ old ++ base64_bytes (before ++ (piece ++ later))
   read-ended text rest e h later =
       let cut = IsCut-from 0x3D piece text rest e in
       let split : text_in (piece ++ later) ≡ text =
-      ap (λ (l : List ℕ). text_in (l ++ later)) cut.joined ∙ ap text_in (append_assoc text (0x3D ∷ rest) later) ∙ ap (λ (p : List ℕ × List ℕ). p.0) (split_while-lacks 0x3D text (rest ++ later) cut.free) in
-      ap (λ (l : List ℕ). new ++ bytes_of_symbols l) (sym (append-nil after)) ∙ h [] ∙ ap (λ (l : List ℕ). old ++ bytes_of_symbols (before ++ l)) (append-nil text ∙ sym split)
+      ap (λ (l : List ℕ). text_in (l ++ later)) cut.joined ∙ ap text_in (append_assoc text (0x3D ∷ rest) later)
+      ∙ ap (λ (p : List ℕ × List ℕ). p.0) (split_while-lacks 0x3D text (rest ++ later) cut.free) in
+      ap (λ (l : List ℕ). new ++ bytes_of_symbols l) (sym (append-nil after)) ∙ h []
+      ∙ ap (λ (l : List ℕ). old ++ bytes_of_symbols (before ++ l)) (append-nil text ∙ sym split)
       ∙ ap (λ (l : List ℕ). old ++ l) (sym (base64_bytes-front before (piece ++ later) held))
 
   -- a piece without `=`
-  pub read-on : cut_at 0x3D piece ≡ None → ((later : List ℕ) → new ++ bytes_of_symbols (after ++ later) ≡ old ++ bytes_of_symbols (before ++ (piece ++ later)))
+  pub read-on : cut_at 0x3D piece ≡ None →
+      ((later : List ℕ) → new ++ bytes_of_symbols (after ++ later)
+      ≡ old ++ bytes_of_symbols (before ++ (piece ++ later)))
       → (later : List ℕ) → new ++ base64_bytes (after ++ later) ≡ old ++ base64_bytes (before ++ (piece ++ later))
   read-on e h later = grind (arith, Lacks-from, base64_bytes-front, text_in-front)
 
 -- ---- the end
 
-pub to_come-end : (held : List ℕ) → AreSymbols held → (ended : Bool) → (if ended then bytes_of_symbols held else base64_bytes (held ++ [])) ≡ bytes_of_symbols held
+pub to_come-end : (held : List ℕ) → AreSymbols held → (ended : Bool)
+    → (if ended then bytes_of_symbols held else base64_bytes (held ++ [])) ≡ bytes_of_symbols held
 to_come-end held h true = refl
 to_come-end held h false = base64_bytes-front held [] h ∙ ap bytes_of_symbols (append-nil held)
 
@@ -67,7 +82,8 @@ sextet-A : sextet 65 ≡ Some 0
 unfolding sextet
 sextet-A = refl
 
-pub filled-bytes : (h : List ℕ) → AreSymbols h → 2 ≤ length h → length h ≤ 3 → take (length h - 1) (bytes_of_symbols (h ++ drop (length h) fill)) ≡ bytes_of_symbols h
+pub filled-bytes : (h : List ℕ) → AreSymbols h → 2 ≤ length h → length h ≤ 3
+    → take (length h - 1) (bytes_of_symbols (h ++ drop (length h) fill)) ≡ bytes_of_symbols h
 unfolding bytes_of_sextets
 filled-bytes [] are low high = absurd (omega arith)
 filled-bytes (a ∷ []) are low high = absurd (omega arith)
@@ -83,14 +99,16 @@ filled-bytes (a ∷ b ∷ c ∷ []) are low high =
 filled-bytes (a ∷ b ∷ c ∷ d ∷ h) are low high = absurd (omega arith)
 
 -- the bytes that are kept of the last group
-pub kept : (old new : List ℕ) (held : List ℕ) (count end : ℕ) → AreSymbols held → length held ≡ count → 2 ≤ count → count ≤ 3 → end ≡ length old + count - 1
+pub kept : (old new : List ℕ) (held : List ℕ) (count end : ℕ) → AreSymbols held → length held ≡ count → 2 ≤ count
+    → count ≤ 3 → end ≡ length old + count - 1
     → new ≡ old ++ bytes_of_symbols (held ++ drop count fill) → take end new ≡ old ++ bytes_of_symbols held
 kept old new held count end h size low high e f =
     let at : end ≡ length old + (length held - 1) = omega arith in
     let group : List ℕ = bytes_of_symbols (held ++ drop count fill) in
     let same : drop count fill ≡ drop (length held) fill = ap (λ (n : ℕ). drop n fill) (sym size) in
     ap₂ (λ (n : ℕ) (l : List ℕ). take n l) at f ∙ take-append-add old group (length held - 1)
-    ∙ ap (λ (l : List ℕ). old ++ l) (ap (λ (l : List ℕ). take (length held - 1) (bytes_of_symbols (held ++ l))) same ∙ filled-bytes held h (omega arith) (omega arith))
+    ∙ ap (λ (l : List ℕ). old ++ l) (ap (λ (l : List ℕ). take (length held - 1) (bytes_of_symbols (held ++ l))) same
+    ∙ filled-bytes held h (omega arith) (omega arith))
 
 -- fewer than two symbols give nothing
 pub short-bytes : (h : List ℕ) → length h < 2 → bytes_of_symbols h ≡ []
@@ -100,7 +118,8 @@ short-bytes (a ∷ []) lt = grind arith
 short-bytes (a ∷ b ∷ h) lt = absurd (omega arith)
 
 -- the held symbols are symbols
-pub held-symbols : (symbols : List ℕ) (count : ℕ) → ((k : ℕ) → k < count → is_symbol (slice_index symbols k) ≡ true) → AreSymbols (take count symbols)
+pub held-symbols : (symbols : List ℕ) (count : ℕ) → ((k : ℕ) → k < count → is_symbol (slice_index symbols k) ≡ true)
+    → AreSymbols (take count symbols)
 held-symbols symbols count all k lt = grind (arith, length-take, get_or-take)
 
 -- ---- the bytes are no more than those of the text
@@ -122,4 +141,10 @@ unfolding base64_bytes
 length-base64_bytes text =
     let front = text_in text in
     let joined = split_while-joined (λ b. not (b == 0x3D)) text in
-    omega (arith, length-bytes_of_sextets (filter_map sextet front), length-sextets front, length-append front (split_while (λ b. not (b == 0x3D)) text).1, ap length joined)
+    omega (
+      arith,
+      length-bytes_of_sextets (filter_map sextet front),
+      length-sextets front,
+      length-append front (split_while (λ b. not (b == 0x3D)) text).1,
+      ap length joined,
+    )

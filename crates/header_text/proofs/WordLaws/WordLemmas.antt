@@ -1,5 +1,9 @@
 -- Searching for encoded words one after another gives the pieces of a value.
-use Rattle.header_text.proofs.Words.{◌≡◌, ◌∙◌, ◌==◌, ◌<◌, ◌+◌, ◌-◌, ◌++◌, ℕ, zero, suc, true, false, List, [], ◌∷◌, Option, Some, None, length, take, drop, refl, sym, ap, ap₂, arith, length-append, append_assoc, append-nil, option_map, take_at, cut_at, EncodedWord, spelled, is_well_formed, question, equals_sign, after, word_of, ◌>>=◌, word_and_later, word_at, WordAfter, Pieces, onto_front, pieces_behind, pieces, no_word, word_first}
+use Rattle.header_text.proofs.Words.{◌≡◌, ◌∙◌, ◌==◌, ◌<◌, ◌+◌, ◌-◌, ◌++◌, ℕ, zero, suc, true, false, List, [], ◌∷◌}
+use Rattle.header_text.proofs.Words.{Option, Some, None, length, take, drop, refl, sym, ap, ap₂, arith, length-append}
+use Rattle.header_text.proofs.Words.{append_assoc, append-nil, option_map, take_at, cut_at, EncodedWord, spelled}
+use Rattle.header_text.proofs.Words.{is_well_formed, question, equals_sign, after, word_of, ◌>>=◌, word_and_later}
+use Rattle.header_text.proofs.Words.{word_at, WordAfter, Pieces, onto_front, pieces_behind, pieces, no_word, word_first}
 use Rattle.header_text.proofs.CutLemmas.{Lacks, IsCut-from, Lacks-from}
 
 -- ---- the bytes of a word
@@ -17,7 +21,8 @@ record IsWordOf (charset encoding text : List ℕ) (w : EncodedWord) : Type 0 wh
   text_is : text ≡ w.text
   well : is_well_formed w ≡ true
 
-word_of-is : (charset encoding text : List ℕ) (w : EncodedWord) → word_of charset encoding text ≡ Some w → IsWordOf charset encoding text w
+word_of-is : (charset encoding text : List ℕ) (w : EncodedWord) → word_of charset encoding text ≡ Some w
+    → IsWordOf charset encoding text w
 word_of-is charset encoding text w h = grind arith
 
 abbrev pub Parts : Type 0
@@ -27,7 +32,8 @@ abbrev pub Found : Type 0
 Found = EncodedWord × List ℕ
 
 abbrev pub with_later : Parts → Parts → Parts → List ℕ → Option Found
-with_later charset encoding text later = option_map (λ (w : EncodedWord). (w, later)) (word_of charset.0 encoding.0 text.0)
+with_later charset encoding text later =
+    option_map (λ (w : EncodedWord). (w, later)) (word_of charset.0 encoding.0 text.0)
 
 abbrev pub with_text : Parts → Parts → Parts → Option Found
 with_text charset encoding text = after (equals_sign ∷ []) text.1 >>= with_later charset encoding text
@@ -54,23 +60,31 @@ record Passed {A B : Type 0} (o : Option A) (f : A → Option B) (y : B) : Type 
 passed : {A B : Type 0} (o : Option A) (f : A → Option B) (y : B) → (o >>= f) ≡ Some y → Passed o f y
 passed o f y h = grind arith
 
-word_made : (o : Option EncodedWord) (later : List ℕ) (f : EncodedWord × List ℕ) → option_map (λ (w : EncodedWord). (w, later)) o ≡ Some f → (o ≡ Some f.0) × (later ≡ f.1)
+word_made : (o : Option EncodedWord) (later : List ℕ) (f : EncodedWord × List ℕ)
+    → option_map (λ (w : EncodedWord). (w, later)) o ≡ Some f → (o ≡ Some f.0) × (later ≡ f.1)
 word_made o later f h = grind arith
 
 -- an encoded word and what follows it, written out
 pub spelled-append : (w : EncodedWord) (later : List ℕ)
-    → spelled w ++ later ≡ equals_sign ∷ question ∷ (w.charset ++ question ∷ w.encoding ∷ question ∷ (w.text ++ question ∷ equals_sign ∷ later))
+    → spelled w ++ later ≡ equals_sign ∷ question ∷
+    (w.charset ++ question ∷ w.encoding ∷ question ∷ (w.text ++ question ∷ equals_sign ∷ later))
 spelled-append w later = grind (arith, append_assoc)
 
-joined_parts : (bytes a b0 b1 c0 c1 d0 d1 e later : List ℕ) (w : EncodedWord) → bytes ≡ question ∷ a → a ≡ b0 ++ question ∷ b1 → b1 ≡ c0 ++ question ∷ c1 → c1 ≡ d0 ++ question ∷ d1
+joined_parts : (bytes a b0 b1 c0 c1 d0 d1 e later : List ℕ) (w : EncodedWord) → bytes ≡ question ∷ a → a
+    ≡ b0 ++ question ∷ b1 → b1 ≡ c0 ++ question ∷ c1 → c1 ≡ d0 ++ question ∷ d1
     → d1 ≡ equals_sign ∷ e → e ≡ later → IsWordOf b0 c0 d0 w → equals_sign ∷ bytes ≡ spelled w ++ later
 joined_parts bytes a b0 b1 c0 c1 d0 d1 e later w r0 r1 r2 r3 r4 r5 is =
-    let text : c1 ≡ w.text ++ question ∷ equals_sign ∷ later = r3 ∙ ap₂ (λ (x y : List ℕ). x ++ question ∷ y) is.text_is (r4 ∙ ap (λ (l : List ℕ). equals_sign ∷ l) r5) in
+    let text : c1 ≡ w.text ++ question ∷ equals_sign ∷ later = r3
+    ∙ ap₂ (λ (x y : List ℕ). x ++ question ∷ y) is.text_is (r4 ∙ ap (λ (l : List ℕ). equals_sign ∷ l) r5) in
     let encoding : b1 ≡ w.encoding ∷ question ∷ c1 = r2 ∙ ap (λ (l : List ℕ). l ++ question ∷ c1) is.encoding_is in
-    ap (λ (l : List ℕ). equals_sign ∷ l) (r0 ∙ ap (λ (l : List ℕ). question ∷ l) (r1 ∙ ap₂ (λ (x y : List ℕ). x ++ question ∷ y) is.charset_is (encoding ∙ ap (λ (l : List ℕ). w.encoding ∷ question ∷ l) text)))
+    ap (λ (l : List ℕ). equals_sign ∷ l) (r0
+    ∙ ap (λ (l : List ℕ). question ∷ l) (r1
+    ∙ ap₂ (λ (x y : List ℕ). x ++ question ∷ y) is.charset_is
+    (encoding ∙ ap (λ (l : List ℕ). w.encoding ∷ question ∷ l) text)))
     ∙ sym (spelled-append w later)
 
-pub spells : (bytes : List ℕ) (w : EncodedWord) (later : List ℕ) → word_and_later bytes ≡ Some (w, later) → Spells bytes w later
+pub spells : (bytes : List ℕ) (w : EncodedWord) (later : List ℕ) → word_and_later bytes ≡ Some (w, later)
+    → Spells bytes w later
 spells bytes w later h =
     let found : Found = (w, later) in
     let a = passed (after (question ∷ []) bytes) with_rest found (sym (chain bytes) ∙ h) in
@@ -81,18 +95,29 @@ spells bytes w later h =
     let made_is = word_made (word_of b.value.0 c.value.0 d.value.0) e.value found e.next in
     let is = word_of-is b.value.0 c.value.0 d.value.0 w made_is.0 in
     let r0 : bytes ≡ question ∷ a.value = after-one question bytes a.value a.was in
-    let r1 : a.value ≡ b.value.0 ++ question ∷ b.value.1 = (IsCut-from question a.value b.value.0 b.value.1 b.was).joined in
-    let r2 : b.value.1 ≡ c.value.0 ++ question ∷ c.value.1 = (IsCut-from question b.value.1 c.value.0 c.value.1 c.was).joined in
-    let r3 : c.value.1 ≡ d.value.0 ++ question ∷ d.value.1 = (IsCut-from question c.value.1 d.value.0 d.value.1 d.was).joined in
+    let r1 : a.value ≡ b.value.0 ++ question ∷ b.value.1 =
+    (IsCut-from question a.value b.value.0 b.value.1 b.was).joined in
+    let r2 : b.value.1 ≡ c.value.0 ++ question ∷ c.value.1 =
+    (IsCut-from question b.value.1 c.value.0 c.value.1 c.was).joined in
+    let r3 : c.value.1 ≡ d.value.0 ++ question ∷ d.value.1 =
+    (IsCut-from question c.value.1 d.value.0 d.value.1 d.was).joined in
     let r4 : d.value.1 ≡ equals_sign ∷ e.value = after-one equals_sign d.value.1 e.value e.was in
-    record { joined = joined_parts bytes a.value b.value.0 b.value.1 c.value.0 c.value.1 d.value.0 d.value.1 e.value later w r0 r1 r2 r3 r4 made_is.1 is; well = is.well }
+    record {
+      joined = joined_parts bytes a.value b.value.0 b.value.1 c.value.0 c.value.1 d.value.0 d.value.1 e.value
+          later w r0 r1 r2 r3 r4 made_is.1 is;
+      well = is.well;
+    }
 
 -- ---- pieces
 
 -- the pieces with a text at the front, before the first word
 abbrev pub with_front : List ℕ → List WordAfter → List ℕ → Pieces
 with_front seen [] rest = record { words = []; rest = seen ++ rest }
-with_front seen (w ∷ ws) rest = record { words = record { between = seen ++ w.between; word = w.word } ∷ ws; rest = rest }
+with_front seen (w ∷ ws) rest = record {
+  words = record { between = seen ++ w.between; word = w.word } ∷ ws;
+  rest =
+      rest;
+}
 
 abbrev pub in_front : List ℕ → Pieces → Pieces
 in_front seen p = with_front seen p.words p.rest
@@ -105,7 +130,8 @@ in_front-append seen more p = grind (arith, append_assoc)
 
 judged : ℕ → List ℕ → Option EncodedWord → Pieces
 judged b bs o = elim o [
-  | Some w ↦ let later : Pieces = pieces_behind (length (spelled w) - 1) bs in record { words = record { between = []; word = w } ∷ later.words; rest = later.rest }
+  | Some w ↦ let later : Pieces = pieces_behind (length (spelled w) - 1) bs
+      in record { words = record { between = []; word = w } ∷ later.words; rest = later.rest }
   | None ↦ let later : Pieces = pieces_behind zero bs in onto_front b later.words later.rest
 ]
 
@@ -123,28 +149,35 @@ pieces_behind-skip [] [] = refl
 pieces_behind-skip [] (b ∷ later) = refl
 pieces_behind-skip (b ∷ front) later = pieces_behind-skip front later
 
-pub pieces-some : (bytes later : List ℕ) (w : EncodedWord) → word_at (equals_sign ∷ bytes) ≡ Some w → equals_sign ∷ bytes ≡ spelled w ++ later
+pub pieces-some : (bytes later : List ℕ) (w : EncodedWord) → word_at (equals_sign ∷ bytes) ≡ Some w
+    → equals_sign ∷ bytes ≡ spelled w ++ later
     → pieces (equals_sign ∷ bytes) ≡ word_first (record { between = []; word = w }) later
 unfolding judged
 pieces-some bytes later w e joined =
-    let front : List ℕ = question ∷ (w.charset ++ question ∷ w.encoding ∷ question ∷ (w.text ++ question ∷ equals_sign ∷ [])) in
+    let front : List ℕ = question ∷ (w.charset ++ question ∷ w.encoding ∷ question ∷
+    (w.text ++ question ∷ equals_sign ∷ [])) in
     let rest : bytes ≡ front ++ later = ap (λ (l : List ℕ). drop 1 l) joined in
     let size : length (spelled w) - 1 ≡ length front = omega arith in
-    let skipped : pieces_behind (length (spelled w) - 1) bytes ≡ pieces later = rw (size, rest) (pieces_behind-skip front later) in
-    pieces-cons equals_sign bytes ∙ ap (judged equals_sign bytes) e ∙ ap (λ (p : Pieces). record { words = record { between = []; word = w } ∷ p.words; rest = p.rest }) skipped
+    let skipped : pieces_behind (length (spelled w) - 1) bytes ≡ pieces later =
+    rw (size, rest) (pieces_behind-skip front later) in
+    pieces-cons equals_sign bytes ∙ ap (judged equals_sign bytes) e
+    ∙ ap (λ (p : Pieces). record { words = record { between = []; word = w } ∷ p.words; rest = p.rest }) skipped
 
 -- no word begins at a byte other than `=`
 pub word_at-other : (b : ℕ) (bs : List ℕ) → (b == equals_sign) ≡ false → word_at (b ∷ bs) ≡ None
 unfolding word_at
 word_at-other b bs e = rw (e, after) refl
 
-pub word_at-equals : (bs : List ℕ) → word_at (equals_sign ∷ bs) ≡ option_map (λ (found : EncodedWord × List ℕ). found.0) (word_and_later bs)
+pub word_at-equals : (bs : List ℕ) → word_at (equals_sign ∷ bs)
+    ≡ option_map (λ (found : EncodedWord × List ℕ). found.0) (word_and_later bs)
 unfolding word_at
 word_at-equals bs = refl
 
-pub pieces-plain : (plain later : List ℕ) → Lacks equals_sign plain → pieces (plain ++ later) ≡ in_front plain (pieces later)
+pub pieces-plain : (plain later : List ℕ) → Lacks equals_sign plain → pieces (plain ++ later)
+    ≡ in_front plain (pieces later)
 pieces-plain [] later free = sym (in_front-nil (pieces later))
-pieces-plain (b ∷ plain) later free = grind (arith, pieces-none, word_at-other, in_front-append, pieces-plain plain later free.1)
+pieces-plain (b ∷ plain) later free = grind
+    (arith, pieces-none, word_at-other, in_front-append, pieces-plain plain later free.1)
 
 -- ---- searching for the first word
 
@@ -155,37 +188,53 @@ pub record Seen (value rest : List ℕ) : Type 0 where
   pub found : pieces value ≡ in_front seen (pieces rest)
 
 -- an `=` at which no word begins
-pub seen-more : (value rest plain behind : List ℕ) → Seen value rest → Some (plain, behind) ≡ cut_at equals_sign rest → word_and_later behind ≡ None → Seen value behind
+pub seen-more : (value rest plain behind : List ℕ) → Seen value rest → Some (plain, behind) ≡ cut_at equals_sign rest
+    → word_and_later behind ≡ None → Seen value behind
 seen-more value rest plain behind s h e =
     let cut = IsCut-from equals_sign rest plain behind (sym h) in
-    let none : word_at (equals_sign ∷ behind) ≡ None = word_at-equals behind ∙ ap (option_map (λ (found : EncodedWord × List ℕ). found.0)) e in
+    let none : word_at (equals_sign ∷ behind) ≡ None = word_at-equals behind
+    ∙ ap (option_map (λ (found : EncodedWord × List ℕ). found.0)) e in
     let passed : pieces rest ≡ in_front (plain ++ equals_sign ∷ []) (pieces behind) =
-    ap pieces cut.joined ∙ pieces-plain plain (equals_sign ∷ behind) cut.free ∙ ap (in_front plain) (pieces-none equals_sign behind none) ∙ sym (in_front-append plain (equals_sign ∷ []) (pieces behind)) in
+    ap pieces cut.joined ∙ pieces-plain plain (equals_sign ∷ behind) cut.free
+    ∙ ap (in_front plain) (pieces-none equals_sign behind none)
+    ∙ sym (in_front-append plain (equals_sign ∷ []) (pieces behind)) in
     record {
       seen = s.seen ++ (plain ++ equals_sign ∷ []);
-      joined = s.joined ∙ ap (λ (l : List ℕ). s.seen ++ l) (cut.joined ∙ sym (append_assoc plain (equals_sign ∷ []) behind)) ∙ sym (append_assoc s.seen (plain ++ equals_sign ∷ []) behind);
-      found = s.found ∙ ap (in_front s.seen) passed ∙ sym (in_front-append s.seen (plain ++ equals_sign ∷ []) (pieces behind));
+      joined = s.joined ∙ ap (λ (l : List ℕ). s.seen ++ l)
+          (cut.joined ∙ sym (append_assoc plain (equals_sign ∷ []) behind))
+          ∙ sym (append_assoc s.seen (plain ++ equals_sign ∷ []) behind);
+      found = s.found ∙ ap (in_front s.seen) passed
+          ∙ sym (in_front-append s.seen (plain ++ equals_sign ∷ []) (pieces behind));
     }
 
 -- an `=` at which a word begins
 pub record First (value behind later : List ℕ) (w : EncodedWord) : Type 0 where
-  pub found : pieces value ≡ word_first (record { between = take (length value - length behind - 1) value; word = w }) later
+  pub found : pieces value ≡ word_first (record { between = take (length value - length behind - 1) value; word = w })
+      later
   pub size : length (take (length value - length behind - 1) value) + length w.text + length later < length value
 
-pub seen-first : (value rest plain behind later : List ℕ) (w : EncodedWord) → Seen value rest → Some (plain, behind) ≡ cut_at equals_sign rest → word_and_later behind ≡ Some (w, later) → First value behind later w
+pub seen-first : (value rest plain behind later : List ℕ) (w : EncodedWord) → Seen value rest → Some (plain, behind)
+    ≡ cut_at equals_sign rest → word_and_later behind ≡ Some (w, later) → First value behind later w
 seen-first value rest plain behind later w s h e =
     let cut = IsCut-from equals_sign rest plain behind (sym h) in
     let is = spells behind w later e in
-    let here : word_at (equals_sign ∷ behind) ≡ Some w = word_at-equals behind ∙ ap (option_map (λ (found : EncodedWord × List ℕ). found.0)) e in
+    let here : word_at (equals_sign ∷ behind) ≡ Some w = word_at-equals behind
+    ∙ ap (option_map (λ (found : EncodedWord × List ℕ). found.0)) e in
     let front : List ℕ = s.seen ++ plain in
-    let split : value ≡ front ++ equals_sign ∷ behind = s.joined ∙ ap (λ (l : List ℕ). s.seen ++ l) cut.joined ∙ sym (append_assoc s.seen plain (equals_sign ∷ behind)) in
-    let sizes : length value ≡ length front + suc (length behind) = ap length split ∙ length-append front (equals_sign ∷ behind) in
+    let split : value ≡ front ++ equals_sign ∷ behind = s.joined ∙ ap (λ (l : List ℕ). s.seen ++ l) cut.joined
+    ∙ sym (append_assoc s.seen plain (equals_sign ∷ behind)) in
+    let sizes : length value ≡ length front + suc (length behind) = ap length split
+    ∙ length-append front (equals_sign ∷ behind) in
     let n : length front ≡ length value - length behind - 1 = omega arith in
-    let taken : take (length value - length behind - 1) value ≡ front = ap (λ (l : List ℕ). take (length value - length behind - 1) l) split ∙ take_at front (equals_sign ∷ behind) (length value - length behind - 1) n in
+    let taken : take (length value - length behind - 1) value ≡ front =
+    ap (λ (l : List ℕ). take (length value - length behind - 1) l) split
+    ∙ take_at front (equals_sign ∷ behind) (length value - length behind - 1) n in
     let first : pieces rest ≡ in_front plain (word_first (record { between = []; word = w }) later) =
-    ap pieces cut.joined ∙ pieces-plain plain (equals_sign ∷ behind) cut.free ∙ ap (in_front plain) (pieces-some behind later w here is.joined) in
+    ap pieces cut.joined ∙ pieces-plain plain (equals_sign ∷ behind) cut.free
+    ∙ ap (in_front plain) (pieces-some behind later w here is.joined) in
     let all : pieces value ≡ word_first (record { between = front; word = w }) later =
-    s.found ∙ ap (in_front s.seen) first ∙ ap (λ (l : List ℕ). word_first (record { between = l; word = w }) later) (ap (λ (l : List ℕ). s.seen ++ l) (append-nil plain)) in
+    s.found ∙ ap (in_front s.seen) first ∙ ap (λ (l : List ℕ). word_first (record { between = l; word = w }) later)
+    (ap (λ (l : List ℕ). s.seen ++ l) (append-nil plain)) in
     let written = ap length (is.joined ∙ spelled-append w later) in
     let a = length-append w.charset (question ∷ w.encoding ∷ question ∷ (w.text ++ question ∷ equals_sign ∷ later)) in
     let b = length-append w.text (question ∷ equals_sign ∷ later) in
@@ -198,11 +247,19 @@ seen-first value rest plain behind later w s h e =
 pub seen-end : (value rest : List ℕ) → Seen value rest → cut_at equals_sign rest ≡ None → pieces value ≡ no_word value
 seen-end value rest s e =
     let free = Lacks-from equals_sign rest e in
-    let alone : pieces rest ≡ no_word rest = ap pieces (sym (append-nil rest)) ∙ pieces-plain rest [] free ∙ ap no_word (append-nil rest) in
+    let alone : pieces rest ≡ no_word rest = ap pieces (sym (append-nil rest)) ∙ pieces-plain rest [] free
+    ∙ ap no_word (append-nil rest) in
     s.found ∙ ap (in_front s.seen) alone ∙ ap no_word (sym s.joined)
 
 -- what is after an `=` is shorter
-pub seen-shorter : (value rest plain behind : List ℕ) → Seen value rest → Some (plain, behind) ≡ cut_at equals_sign rest → length behind < length value
+pub seen-shorter : (value rest plain behind : List ℕ) → Seen value rest → Some (plain, behind) ≡ cut_at equals_sign rest
+    → length behind < length value
 seen-shorter value rest plain behind s h =
     let cut = IsCut-from equals_sign rest plain behind (sym h) in
-    omega (arith, ap length s.joined, length-append s.seen rest, ap length cut.joined, length-append plain (equals_sign ∷ behind))
+    omega (
+      arith,
+      ap length s.joined,
+      length-append s.seen rest,
+      ap length cut.joined,
+      length-append plain (equals_sign ∷ behind),
+    )

@@ -16,7 +16,8 @@ closed_texts (b ∷ bs) = elim (b == close_sign) [ true ↦ [] ∷ closed_texts 
 -- what is after the last `<`, if there is one
 abbrev pub after_last_open : List ℕ → Option (List ℕ)
 after_last_open [] = None
-after_last_open (b ∷ bs) = elim (after_last_open bs) [ Some id ↦ Some id | None ↦ elim (b == open_sign) [ true ↦ Some bs | false ↦ None ] ]
+after_last_open (b ∷ bs) = elim (after_last_open bs)
+    [ Some id ↦ Some id | None ↦ elim (b == open_sign) [ true ↦ Some bs | false ↦ None ] ]
 
 -- the ids of texts that end at a `>`
 abbrev pub ids_in : List (List ℕ) → List (List ℕ)

@@ -26,4 +26,5 @@ pub record AreKept (bytes : List ℕ) (places : List FieldPlace) : Type 0 where
 abbrev pub fields_at : List ℕ → List FieldPlace → List HeaderField
 fields_at bytes [] = []
 fields_at bytes (p ∷ ps) =
-    record { name = slice_range bytes p.name p.body; body = slice_range bytes p.body (next_start ps (length bytes)) } ∷ fields_at bytes ps
+    record { name = slice_range bytes p.name p.body; body = slice_range bytes p.body (next_start ps (length bytes)) } ∷
+    fields_at bytes ps

@@ -1,16 +1,23 @@
 -- The second that a Date field names fits in 64 bits.
-use Rattle.index_job.proofs.Words.{◌≡◌, ℕ, ◌+◌, ◌*◌, ◌≤◌, ℤ, pos, neg_ℤ, ◌+ℤ◌, ◌-ℤ◌, Bool, cond, nat_le, ◌&&◌, ◌==◌, List, [], ◌∷◌, Option, Some, None, IfSome, FitsSigned, w64, refl, sym, subst, arith, AllByRecursion, find, slice_split, option_map_or, bytes_eq, str_to_ascii_lowercase, unwrap_or, and_parts, leb-true, date_told}
+use Rattle.index_job.proofs.Words.{◌≡◌, ℕ, ◌+◌, ◌*◌, ◌≤◌, ℤ, pos, neg_ℤ, ◌+ℤ◌, ◌-ℤ◌, Bool, cond, nat_le, ◌&&◌, ◌==◌}
+use Rattle.index_job.proofs.Words.{List, [], ◌∷◌, Option, Some, None, IfSome, FitsSigned, w64, refl, sym, subst, arith}
+use Rattle.index_job.proofs.Words.{AllByRecursion, find, slice_split, option_map_or, bytes_eq, str_to_ascii_lowercase}
+use Rattle.index_job.proofs.Words.{unwrap_or, and_parts, leb-true, date_told}
 use Rattle.std.specs.Option.{option_map}
 use Rattle.jiff_core.specs.Calendar.{IsEpochDay, IsWithin, days_from_civil}
 use Rattle.jiff_core.proofs.CalendarLemmas.{days_from_civil-day_count, day_count_bounds}
 use Rattle.jiff_core.proofs.SignedLemmas.{signed_arith, fits_between}
 use Rattle.mail_dates.specs.Calendar.{day_number, month_of, start_of_day}
 use Rattle.mail_dates.specs.Numbers.{number_in, ◌>>=◌}
-use Rattle.mail_dates.specs.HeaderDates.{zones, hours_west, offset_size, numeric_offset, offset_of, zone_offset, second_of_day, time_by, time_of_parts, is_colon, time_of, year_of, date_of_parts_by, date_of_tokens_by, date_of, tokens, without_comments, without_day_name}
+use Rattle.mail_dates.specs.HeaderDates.{zones, hours_west, offset_size, numeric_offset, offset_of, zone_offset}
+use Rattle.mail_dates.specs.HeaderDates.{second_of_day, time_by, time_of_parts, is_colon, time_of, year_of}
+use Rattle.mail_dates.specs.HeaderDates.{date_of_parts_by, date_of_tokens_by, date_of, tokens, without_comments}
+use Rattle.mail_dates.specs.HeaderDates.{without_day_name}
 use Rattle.mail_dates.proofs.CivilDays.{IsCivilDay, numbered, year_within}
 
 -- if the condition is true of all values, it is true of the result
-bound : {A B : Type 0} (Q : A → Type 0) (P : B → Type 0) (o : Option A) (f : A → Option B) → IfSome o Q → ((a : A) → Q a → IfSome (f a) P) → IfSome (o >>= f) P
+bound : {A B : Type 0} (Q : A → Type 0) (P : B → Type 0) (o : Option A) (f : A → Option B) → IfSome o Q
+    → ((a : A) → Q a → IfSome (f a) P) → IfSome (o >>= f) P
 bound Q P o f h h2 = grind arith
 
 any-of : {A : Type 0} (o : Option A) → IfSome o (λ _. Unit {0})
@@ -32,25 +39,35 @@ numeric_offset-small : (token : List ℕ) → IfSome (numeric_offset token) IsOf
 numeric_offset-small [] = tt
 numeric_offset-small (sign ∷ digits) = go (sign == 0x2B) (sign == 0x2D)
   where
-    go : (plus minus : Bool) → IfSome (cond plus (option_map pos (offset_size digits)) (cond minus (option_map (λ n. neg_ℤ (pos n)) (offset_size digits)) None)) IsOffset
+    go : (plus minus : Bool) → IfSome (cond plus (option_map pos (offset_size digits))
+        (cond minus (option_map (λ n. neg_ℤ (pos n)) (offset_size digits)) None)) IsOffset
     go plus minus = grind arith
 
-found-small : (p : List ℕ × ℕ → Bool) (zs : List (List ℕ × ℕ)) → AllByRecursion (λ z. z.1 ≤ 24) zs → option_map_or (λ (z : List ℕ × ℕ). z.1) (find p zs) 0 ≤ 24
+found-small : (p : List ℕ × ℕ → Bool) (zs : List (List ℕ × ℕ)) → AllByRecursion (λ z. z.1 ≤ 24) zs
+    → option_map_or (λ (z : List ℕ × ℕ). z.1) (find p zs) 0 ≤ 24
 found-small p [] all = omega arith
 found-small p (z ∷ zs) all = go (p z) (found-small p zs all.1)
   where
-    go : (b : Bool) → option_map_or (λ (z : List ℕ × ℕ). z.1) (find p zs) 0 ≤ 24 → option_map_or (λ (z : List ℕ × ℕ). z.1) (cond b (Some z) (find p zs)) 0 ≤ 24
+    go : (b : Bool) → option_map_or (λ (z : List ℕ × ℕ). z.1) (find p zs) 0 ≤ 24
+        → option_map_or (λ (z : List ℕ × ℕ). z.1) (cond b (Some z) (find p zs)) 0 ≤ 24
     go b h = grind arith
 
 zones-small : AllByRecursion (λ z. z.1 ≤ 24) zones
-zones-small = (omega arith, (omega arith, (omega arith, (omega arith, (omega arith, (omega arith, (omega arith, (omega arith, tt))))))))
+zones-small = (
+  omega arith,
+  (
+    omega arith,
+    (omega arith, (omega arith, (omega arith, (omega arith, (omega arith, (omega arith, tt)))))),
+  ),
+)
 
 hours_west-small : (token : List ℕ) → hours_west token ≤ 24
 unfolding hours_west
 hours_west-small [] = omega arith
 hours_west-small (a ∷ []) = omega arith
 hours_west-small (a ∷ b ∷ []) = omega arith
-hours_west-small (a ∷ b ∷ c ∷ []) = found-small (λ zone. bytes_eq zone.0 (str_to_ascii_lowercase (a ∷ b ∷ c ∷ []))) zones zones-small
+hours_west-small (a ∷ b ∷ c ∷ []) = found-small (λ zone. bytes_eq zone.0 (str_to_ascii_lowercase (a ∷ b ∷ c ∷ [])))
+    zones zones-small
 hours_west-small (a ∷ b ∷ c ∷ d ∷ rest) = omega arith
 
 offset_of-small : (token : List ℕ) → IsOffset (offset_of token)
@@ -73,7 +90,8 @@ zone_offset-small (token ∷ rest) = offset_of-small token
 second_of_day-small : (hour minute second : ℕ) → IfSome (second_of_day hour minute second) (λ n. n ≤ 86400)
 second_of_day-small hour minute second = go (nat_le hour 23 && nat_le minute 59 && nat_le second 60) refl
   where
-    go : (ok : Bool) → (nat_le hour 23 && nat_le minute 59 && nat_le second 60) ≡ ok → IfSome (cond ok (Some (hour * 3600 + minute * 60 + second)) None) (λ n. n ≤ 86400)
+    go : (ok : Bool) → (nat_le hour 23 && nat_le minute 59 && nat_le second 60) ≡ ok
+        → IfSome (cond ok (Some (hour * 3600 + minute * 60 + second)) None) (λ n. n ≤ 86400)
     go ok h = grind (arith, and_parts, leb-true)
 
 time_by-small : (hour minute : List ℕ) (second : Option ℕ) → IfSome (time_by hour minute second) (λ n. n ≤ 86400)
@@ -90,26 +108,39 @@ time_of-small token = time_of_parts-small (slice_split is_colon token)
 
 civil-small : (year : ℤ) (month day : ℕ) → IsCivilDay year month day → IsEpochDay (days_from_civil year month day)
 civil-small year month day h =
-    omega (arith, signed_arith, days_from_civil-day_count, day_count_bounds year month day (year_within year h.year_in, (h.month_low, h.month_high), (h.day_low, h.day_high)))
+    omega (
+      arith,
+      signed_arith,
+      days_from_civil-day_count,
+      day_count_bounds year month day (
+        year_within year h.year_in,
+        (h.month_low, h.month_high),
+        (h.day_low, h.day_high),
+      ),
+    )
 
 day_number-small : (year : ℤ) (month day : ℕ) → IfSome (day_number year month day) IsEpochDay
 day_number-small year month day = go (day_number year month day) refl
   where
     go : (o : Option ℤ) → day_number year month day ≡ o → IfSome o IsEpochDay
     go None e = tt
-    go (Some number) e = let is = numbered year month day number e in subst IsEpochDay (sym is.is) (civil-small year month day is.civil)
+    go (Some number) e = let is = numbered year month day number e
+        in subst IsEpochDay (sym is.is) (civil-small year month day is.civil)
 
 -- no sum leaves 64 bits
-fits : (date offset : ℤ) (second : ℕ) → IsEpochDay date → second ≤ 86400 → IsOffset offset → FitsSigned w64 ((start_of_day date +ℤ pos second) -ℤ offset)
+fits : (date offset : ℤ) (second : ℕ) → IsEpochDay date → second ≤ 86400 → IsOffset offset
+    → FitsSigned w64 ((start_of_day date +ℤ pos second) -ℤ offset)
 fits date offset second day few small = fits_between w64 _ (omega (arith, signed_arith))
 
-parts-fit : (day month year time : List ℕ) (offset : ℤ) → IsOffset offset → IfSome (date_of_parts_by day_number day month year time offset) (FitsSigned w64)
+parts-fit : (day month year time : List ℕ) (offset : ℤ) → IsOffset offset
+    → IfSome (date_of_parts_by day_number day month year time offset) (FitsSigned w64)
 parts-fit day month year time offset small =
     bound (λ _. Unit {0}) (FitsSigned w64) (number_in 1 2 day) _ (any-of (number_in 1 2 day)) (λ d _.
     bound (λ _. Unit {0}) (FitsSigned w64) (month_of month) _ (any-of (month_of month)) (λ m _.
     bound (λ _. Unit {0}) (FitsSigned w64) (year_of year) _ (any-of (year_of year)) (λ y _.
     bound IsEpochDay (FitsSigned w64) (day_number (pos y) m d) _ (day_number-small (pos y) m d) (λ date is.
-    bound (λ n. n ≤ 86400) (FitsSigned w64) (time_of time) _ (time_of-small time) (λ second few. fits date offset second is few small)))))
+    bound (λ n. n ≤ 86400) (FitsSigned w64) (time_of time) _ (time_of-small time)
+    (λ second few. fits date offset second is few small)))))
 
 tokens-fit : (ts : List (List ℕ)) → IfSome (date_of_tokens_by day_number ts) (FitsSigned w64)
 tokens-fit ts = grind (arith, parts-fit, zone_offset-small)

@@ -1,5 +1,8 @@
 -- The records of archives are those of a well-formed table.
-use Rattle.index_job.proofs.Words.{◌≡◌, ◌∙◌, ◌⊎◌, inl, inr, ℕ, suc, ◌+◌, ◌<◌, ◌≤◌, ◌++◌, List, [], ◌∷◌, length, map, refl, sym, ap, subst, arith, append_assoc, length-append, AllByRecursion, length-map, Record, Archive, archive_length, IsMessage, Follows, AllNext, Message, span_length, Mbox, messages_in, record_of, records_from, entry_of}
+use Rattle.index_job.proofs.Words.{◌≡◌, ◌∙◌, ◌⊎◌, inl, inr, ℕ, suc, ◌+◌, ◌<◌, ◌≤◌, ◌++◌, List, [], ◌∷◌, length, map}
+use Rattle.index_job.proofs.Words.{refl, sym, ap, subst, arith, append_assoc, length-append, AllByRecursion, length-map}
+use Rattle.index_job.proofs.Words.{Record, Archive, archive_length, IsMessage, Follows, AllNext, Message, span_length}
+use Rattle.index_job.proofs.Words.{Mbox, messages_in, record_of, records_from, entry_of}
 use Rattle.index_job.proofs.SoundTables.Dates.{told-fits}
 use Rattle.index_job.proofs.SoundTables.Spans.{AreSpanned, messages-spanned}
 
@@ -20,53 +23,76 @@ each-next archive at (r ∷ []) h = tt
 each-next archive at (r ∷ s ∷ rs) h = (h.1.0, each-next r.archive (r.offset + r.length) (s ∷ rs) h.1)
 
 -- the records of one archive's messages, and then those of later archives
-one-behind : (n at end : ℕ) (ms : List Message) (rest : List Record) → AreSpanned at end ms → ((place : ℕ) → AreBehind n place rest) → AreBehind n at (map (record_of n) ms ++ rest)
+one-behind : (n at end : ℕ) (ms : List Message) (rest : List Record) → AreSpanned at end ms
+    → ((place : ℕ) → AreBehind n place rest) → AreBehind n at (map (record_of n) ms ++ rest)
 one-behind n at end [] rest spanned later = later at
-one-behind n at end (m ∷ ms) rest spanned later = (inr (refl, spanned.0), one-behind n (m.offset + span_length m) end ms rest spanned.3 later)
+one-behind n at end (m ∷ ms) rest spanned later =
+    (inr (refl, spanned.0), one-behind n (m.offset + span_length m) end ms rest spanned.3 later)
 
 -- the records of archives with numbers from n on, after a place in an earlier archive or at the beginning
-all-behind : (n : ℕ) (archives : List Mbox) (archive at : ℕ) → (archive < n) ⊎ ((archive ≡ n) × (at ≡ 0)) → AreBehind archive at (records_from n archives)
+all-behind : (n : ℕ) (archives : List Mbox) (archive at : ℕ) → (archive < n) ⊎ ((archive ≡ n) × (at ≡ 0))
+    → AreBehind archive at (records_from n archives)
 all-behind n [] archive at before = tt
 all-behind n (a ∷ archives) archive at before =
-    go (messages_in a.bytes) (messages-spanned a.bytes) (λ k place low. all-behind (suc n) archives k place (inl (omega (arith, low)))) before
+    go (messages_in a.bytes) (messages-spanned a.bytes)
+    (λ k place low. all-behind (suc n) archives k place (inl (omega (arith, low)))) before
   where
-    go : (ms : List Message) → AreSpanned 0 (length a.bytes) ms → ((k place : ℕ) → k ≤ n → AreBehind k place (records_from (suc n) archives)) → (archive < n) ⊎ ((archive ≡ n) × (at ≡ 0))
+    go : (ms : List Message) → AreSpanned 0 (length a.bytes) ms
+        → ((k place : ℕ) → k ≤ n → AreBehind k place (records_from (suc n) archives)) → (archive < n)
+        ⊎ ((archive ≡ n) × (at ≡ 0))
         → AreBehind archive at (map (record_of n) ms ++ records_from (suc n) archives)
     go [] spanned later (inl low) = later archive at (omega (arith, low))
     go [] spanned later (inr same) = later archive at (omega (arith, same.0))
-    go (m ∷ ms) spanned later (inl low) =
-        (inl low, one-behind n (m.offset + span_length m) (length a.bytes) ms (records_from (suc n) archives) spanned.3 (λ place. later n place (omega arith)))
-    go (m ∷ ms) spanned later (inr same) =
-        (inr (same.0, omega (arith, same.1)), one-behind n (m.offset + span_length m) (length a.bytes) ms (records_from (suc n) archives) spanned.3 (λ place. later n place (omega arith)))
+    go (m ∷ ms) spanned later (inl low) = (
+      inl low,
+      one-behind n (m.offset + span_length m) (length a.bytes) ms (records_from (suc n) archives) spanned.3
+          (λ place. later n place (omega arith)),
+    )
+    go (m ∷ ms) spanned later (inr same) = (
+      inr (same.0, omega (arith, same.1)),
+      one-behind n (m.offset + span_length m) (length a.bytes) ms (records_from (suc n) archives) spanned.3
+          (λ place. later n place (omega arith)),
+    )
 
 pub records-in-order : (archives : List Mbox) → AllNext Follows (records_from 0 archives)
 records-in-order archives = each-next 0 0 (records_from 0 archives) (all-behind 0 archives 0 0 (inr (refl, refl)))
 
 -- ---- within their archives
 
-joined-records : (P : Record → Type 0) (rs ss : List Record) → AllByRecursion P rs → AllByRecursion P ss → AllByRecursion P (rs ++ ss)
+joined-records : (P : Record → Type 0) (rs ss : List Record) → AllByRecursion P rs → AllByRecursion P ss
+    → AllByRecursion P (rs ++ ss)
 joined-records P [] ss here there = there
 joined-records P (r ∷ rs) ss here there = (here.0, joined-records P rs ss here.1 there)
 
-length-of : (before : List Mbox) (a : Mbox) (archives : List Mbox) → archive_length (map entry_of (before ++ a ∷ archives)) (length before) ≡ length a.bytes
+length-of : (before : List Mbox) (a : Mbox) (archives : List Mbox)
+    → archive_length (map entry_of (before ++ a ∷ archives)) (length before) ≡ length a.bytes
 length-of [] a archives = refl
 length-of (b ∷ before) a archives = length-of before a archives
 
-one-placed : (named : List Archive) (n end : ℕ) → n < length named → archive_length named n ≡ end → (at : ℕ) (ms : List Message) → AreSpanned at end ms → AllByRecursion (IsMessage named) (map (record_of n) ms)
+one-placed : (named : List Archive) (n end : ℕ) → n < length named → archive_length named n ≡ end
+    → (at : ℕ) (ms : List Message) → AreSpanned at end ms → AllByRecursion (IsMessage named) (map (record_of n) ms)
 one-placed named n end there long at [] spanned = tt
-one-placed named n end there long at (m ∷ ms) spanned = grind (arith, told-fits, one-placed named n end there long (m.offset + span_length m) ms spanned.3)
+one-placed named n end there long at (m ∷ ms) spanned =
+    grind (arith, told-fits, one-placed named n end there long (m.offset + span_length m) ms spanned.3)
 
-all-placed : (n : ℕ) (before archives : List Mbox) → length before ≡ n → AllByRecursion (IsMessage (map entry_of (before ++ archives))) (records_from n archives)
+all-placed : (n : ℕ) (before archives : List Mbox) → length before ≡ n
+    → AllByRecursion (IsMessage (map entry_of (before ++ archives))) (records_from n archives)
 all-placed n before [] long = tt
 all-placed n before (a ∷ archives) long =
     let all : List Mbox = before ++ a ∷ archives in
-    let there : n < length (map entry_of all) = omega (arith, length-map all entry_of, length-append before (a ∷ archives), long) in
-    let ends : archive_length (map entry_of all) n ≡ length a.bytes = ap (archive_length (map entry_of all)) (sym long) ∙ length-of before a archives in
-    let rest : AllByRecursion (IsMessage (map entry_of ((before ++ a ∷ []) ++ archives))) (records_from (suc n) archives) =
+    let there : n < length (map entry_of all) =
+    omega (arith, length-map all entry_of, length-append before (a ∷ archives), long) in
+    let ends : archive_length (map entry_of all) n ≡ length a.bytes = ap (archive_length (map entry_of all)) (sym long)
+    ∙ length-of before a archives in
+    let rest : AllByRecursion (IsMessage (map entry_of ((before ++ a ∷ []) ++ archives)))
+    (records_from (suc n) archives) =
     all-placed (suc n) (before ++ a ∷ []) archives (omega (arith, length-append before (a ∷ []), long)) in
-    joined-records (IsMessage (map entry_of all)) (map (record_of n) (messages_in a.bytes)) (records_from (suc n) archives)
+    joined-records (IsMessage (map entry_of all)) (map (record_of n) (messages_in a.bytes))
+    (records_from (suc n) archives)
     (one-placed (map entry_of all) n (length a.bytes) there ends 0 (messages_in a.bytes) (messages-spanned a.bytes))
-    (subst (λ (l : List Mbox). AllByRecursion (IsMessage (map entry_of l)) (records_from (suc n) archives)) (append_assoc before (a ∷ []) archives) rest)
+    (subst (λ (l : List Mbox). AllByRecursion (IsMessage (map entry_of l)) (records_from (suc n) archives))
+    (append_assoc before (a ∷ []) archives) rest)
 
-pub records-placed : (archives : List Mbox) → AllByRecursion (IsMessage (map entry_of archives)) (records_from 0 archives)
+pub records-placed : (archives : List Mbox)
+    → AllByRecursion (IsMessage (map entry_of archives)) (records_from 0 archives)
 records-placed archives = all-placed 0 [] archives refl

@@ -14,14 +14,16 @@ abbrev pub with_texts : List Pair → Option Draft → Option Draft
 with_texts ps d = option_map (draft_with_terms (flat_map text_terms ps)) d
 
 -- the reader was given these lines, and the texts that they have so far were added to the draft
-pub record HasGathered (text : MessageText) (builder : Option Draft) (draft : Option Draft) (ls : List (List ℕ)) : Type 0 where
+pub record HasGathered (text : MessageText) (builder : Option Draft) (draft : Option Draft) (ls : List (List ℕ)) : Type
+    0 where
   pub pairs : List Pair
   pub fed : Fed text ls pairs
   pub added : builder ≡ with_texts pairs draft
 
 -- lines of a message were gathered, and this message of the archive with this number is open, at this place or after it
 abbrev pub IsGathering : ℕ → ℕ → MessageText → Option Draft → Type 0
-IsGathering archive place text builder = (d : Draft) × (ls : List (List ℕ)) × HasGathered text builder (Some d) ls × IsOpenAt archive place d
+IsGathering archive place text builder = (d : Draft) × (ls : List (List ℕ)) × HasGathered text builder (Some d) ls
+    × IsOpenAt archive place d
 
 -- a fault of gathering; `whole` is the draft with all that is gathered, and None if an earlier call has failed
 abbrev pub IsGatherFault : Option Draft → JobFault → Type 0

@@ -1,5 +1,8 @@
 -- A search for a text within another finds it exactly if it begins at some place, byte by byte.
-use Rattle.mail_answer.proofs.Words.{◌≡◌, ◌∙◌, ◌+◌, ◌<◌, ◌≤◌, ℕ, zero, suc, true, false, List, [], ◌∷◌, length, take, Option, Some, None, sym, ap, arith, nat_eq, is_some, starts_with, slice_index, ext_get_or, get_or-take, false_from_ne_true, or_left, or_right, or_from, bytes_eq-Decides, contains_text}
+use Rattle.mail_answer.proofs.Words.{◌≡◌, ◌∙◌, ◌+◌, ◌<◌, ◌≤◌, ℕ, zero, suc, true, false, List, [], ◌∷◌, length, take}
+use Rattle.mail_answer.proofs.Words.{Option, Some, None, sym, ap, arith, nat_eq, is_some, starts_with, slice_index}
+use Rattle.mail_answer.proofs.Words.{ext_get_or, get_or-take, false_from_ne_true, or_left, or_right, or_from}
+use Rattle.mail_answer.proofs.Words.{bytes_eq-Decides, contains_text}
 use Rattle.std.proofs.lemmas.List.{length-take-le, length-take}
 use Rattle.memchr.specs.Find.{OccursAt, FindsNeedle}
 
@@ -26,11 +29,15 @@ earlier b hay needle k at = grind arith
 contained : (text hay : List ℕ) (k : ℕ) → OccursAt hay text k → contains_text text hay ≡ true
 contained text [] zero at = begins_from [] text at
 contained text [] (suc k) at = absurd (omega (arith, at.fits))
-contained text (b ∷ hay) zero at = or_left (starts_with nat_eq (b ∷ hay) text) (contains_text text hay) (begins_from (b ∷ hay) text at)
-contained text (b ∷ hay) (suc k) at = or_right (starts_with nat_eq (b ∷ hay) text) (contains_text text hay) (contained text hay k (earlier b hay text k at))
+contained text (b ∷ hay) zero at = or_left (starts_with nat_eq (b ∷ hay) text) (contains_text text hay)
+    (begins_from (b ∷ hay) text at)
+contained text (b ∷ hay) (suc k) at = or_right (starts_with nat_eq (b ∷ hay) text) (contains_text text hay)
+    (contained text hay k (earlier b hay text k at))
 
-not_contained : (text hay : List ℕ) → ((k : ℕ) → k < length hay + 1 → ¬ OccursAt hay text k) → contains_text text hay ≡ false
-not_contained text [] none = false_from_ne_true (starts_with nat_eq [] text) (λ e. none 0 (omega arith) (begins_at [] text e))
+not_contained : (text hay : List ℕ) → ((k : ℕ) → k < length hay + 1 → ¬ OccursAt hay text k) → contains_text text hay
+    ≡ false
+not_contained text [] none = false_from_ne_true (starts_with nat_eq [] text)
+    (λ e. none 0 (omega arith) (begins_at [] text e))
 not_contained text (b ∷ hay) none =
     or_from (starts_with nat_eq (b ∷ hay) text) (contains_text text hay)
     (false_from_ne_true (starts_with nat_eq (b ∷ hay) text) (λ e. none 0 (omega arith) (begins_at (b ∷ hay) text e)))

@@ -1,5 +1,7 @@
 -- Walks that are joined group by group have the messages of all of them, and each round leaves fewer walks.
-use Rattle.mail_answer.proofs.Words.{◌≡◌, ◌∙◌, ◌+◌, ◌-◌, ◌*◌, ◌<◌, ◌≤◌, ℕ, Bool, ◌||◌, List, [], ◌∷◌, ◌++◌, length, take, drop, refl, sym, ap, arith, length-append, take-append-drop, or_assoc, truth_at, Ahead, united, left_in, some_has}
+use Rattle.mail_answer.proofs.Words.{◌≡◌, ◌∙◌, ◌+◌, ◌-◌, ◌*◌, ◌<◌, ◌≤◌, ℕ, Bool, ◌||◌, List, [], ◌∷◌, ◌++◌, length}
+use Rattle.mail_answer.proofs.Words.{take, drop, refl, sym, ap, arith, length-append, take-append-drop, or_assoc}
+use Rattle.mail_answer.proofs.Words.{truth_at, Ahead, united, left_in, some_has}
 use Rattle.std.proofs.lemmas.List.{length-take-le}
 use Rattle.mail_answer.proofs.CursorLaws.Members.{united-at, some-append}
 use Rattle.mail_answer.proofs.CursorLaws.Texts.{left-append}
@@ -9,7 +11,8 @@ or_swap a b c = grind arith
 
 some-joined : (m : ℕ) (xs ys : List Ahead) → some_has m (xs ++ ys) ≡ (some_has m xs || some_has m ys)
 some-joined m [] ys = refl
-some-joined m (x ∷ xs) ys = ap (λ (b : Bool). truth_at x.truths m || b) (some-joined m xs ys) ∙ sym (or_assoc (truth_at x.truths m) (some_has m xs) (some_has m ys))
+some-joined m (x ∷ xs) ys = ap (λ (b : Bool). truth_at x.truths m || b) (some-joined m xs ys)
+    ∙ sym (or_assoc (truth_at x.truths m) (some_has m xs) (some_has m ys))
 
 left-joined : (xs ys : List Ahead) → left_in (xs ++ ys) ≡ left_in xs + left_in ys
 left-joined [] ys = omega arith
@@ -23,7 +26,8 @@ pub record HaveGrouped (all groups walks : List Ahead) : Type 0 where
   pub whole : 0 < length walks → 4 * length groups + length walks ≤ length all
 
 pub grouped_more : (all groups walks : List Ahead) (at : ℕ) (w : Ahead) → at ≡ length walks - 4 → 0 < length walks
-    → w.truths ≡ united (drop at walks) → w.left ≡ left_in (drop at walks) → HaveGrouped all groups walks → HaveGrouped all (groups ++ w ∷ []) (take at walks)
+    → w.truths ≡ united (drop at walks) → w.left ≡ left_in (drop at walks) → HaveGrouped all groups walks
+    → HaveGrouped all (groups ++ w ∷ []) (take at walks)
 grouped_more all groups walks at w is some told left have =
     let parts : take at walks ++ drop at walks ≡ walks = take-append-drop at walks in
     let long : length (take at walks) ≡ at = length-take-le at walks (omega (arith, is)) in
@@ -31,11 +35,21 @@ grouped_more all groups walks at w is some told left have =
     let before : 4 * length groups + length walks ≤ length all = have.whole some in
     record {
       each = λ m.
-          ap (λ (b : Bool). b || some_has m (take at walks)) (some-append m groups w ∙ ap (λ (b : Bool). some_has m groups || b) (ap (λ (xs : List Bool). truth_at xs m) told ∙ united-at m (drop at walks)))
+          ap (λ (b : Bool). b || some_has m (take at walks))
+          (some-append m groups w ∙ ap (λ (b : Bool). some_has m groups || b)
+          (ap (λ (xs : List Bool). truth_at xs m) told ∙ united-at m (drop at walks)))
           ∙ or_swap (some_has m groups) (some_has m (take at walks)) (some_has m (drop at walks))
-          ∙ ap (λ (b : Bool). some_has m groups || b) (sym (some-joined m (take at walks) (drop at walks)) ∙ ap (some_has m) parts)
+          ∙ ap (λ (b : Bool). some_has m groups || b)
+          (sym (some-joined m (take at walks) (drop at walks)) ∙ ap (some_has m) parts)
           ∙ have.each m;
-      left = omega (arith, left-append groups w, left, left-joined (take at walks) (drop at walks), ap left_in parts, have.left);
+      left = omega (
+        arith,
+        left-append groups w,
+        left,
+        left-joined (take at walks) (drop at walks),
+        ap left_in parts,
+        have.left,
+      );
       few = omega (arith, long, more, before, is, some);
       whole = λ still. omega (arith, long, more, before, is, some, still);
     }
@@ -43,8 +57,11 @@ grouped_more all groups walks at w is some told left have =
 pub swap_last : (a b c : Bool) → ((a || c) || b) ≡ (a || (b || c))
 swap_last a b c = grind arith
 
-pub alone_each : (m : ℕ) (ws ws' ls ls' : List Ahead) (l w : Ahead) → ws' ≡ ws ++ w ∷ [] → ls ≡ ls' ++ l ∷ [] → w.truths ≡ l.truths → (some_has m ws' || some_has m ls') ≡ (some_has m ws || some_has m ls)
+pub alone_each : (m : ℕ) (ws ws' ls ls' : List Ahead) (l w : Ahead) → ws' ≡ ws ++ w ∷ [] → ls ≡ ls' ++ l ∷ [] → w.truths
+    ≡ l.truths → (some_has m ws' || some_has m ls') ≡ (some_has m ws || some_has m ls)
 alone_each m ws ws' ls ls' l w more less same = grind (arith, some-append, swap_last)
 
-pub alone_left : (ws ws' ls ls' : List Ahead) (l w : Ahead) → ws' ≡ ws ++ w ∷ [] → ls ≡ ls' ++ l ∷ [] → w.left ≡ l.left → left_in ws' + left_in ls' ≡ left_in ws + left_in ls
-alone_left ws ws' ls ls' l w more less same = omega (arith, ap left_in more, ap left_in less, left-append ws w, left-append ls' l, same)
+pub alone_left : (ws ws' ls ls' : List Ahead) (l w : Ahead) → ws' ≡ ws ++ w ∷ [] → ls ≡ ls' ++ l ∷ [] → w.left ≡ l.left
+    → left_in ws' + left_in ls' ≡ left_in ws + left_in ls
+alone_left ws ws' ls ls' l w more less same =
+    omega (arith, ap left_in more, ap left_in less, left-append ws w, left-append ls' l, same)

@@ -1,5 +1,7 @@
 -- The steps of look-ups are exactly the comparisons of their binary searches, kind by kind and member by member.
-use Rattle.mail_answer.proofs.Words.{◌≡◌, ◌∙◌, ◌+◌, ◌<◌, ◌≤◌, ℕ, true, false, List, [], ◌∷◌, ◌++◌, length, map, drop, get_or, sym, ap, arith, Result, Ok, Err, IfOk, filter, Kind, Text, OwnId, text_kinds, Query, members_of, Kinds, is_in, compared_in_all, add_steps}
+use Rattle.mail_answer.proofs.Words.{◌≡◌, ◌∙◌, ◌+◌, ◌<◌, ◌≤◌, ℕ, true, false, List, [], ◌∷◌, ◌++◌, length, map, drop}
+use Rattle.mail_answer.proofs.Words.{get_or, sym, ap, arith, Result, Ok, Err, IfOk, filter, Kind, Text, OwnId}
+use Rattle.mail_answer.proofs.Words.{text_kinds, Query, members_of, Kinds, is_in, compared_in_all, add_steps}
 use Rattle.mail_query.specs.Query.{Queries, End, More}
 use Rattle.mail_index.proofs.ViewLaws.StepLemmas.{add_steps-none, add_steps-both}
 use Rattle.mail_answer.proofs.CursorLaws.Texts.{coming_at}
@@ -26,22 +28,26 @@ steps_of (Ok a) counts q p old new n is same taken =
 -- ---- kind by kind
 
 module _ (compared : Kind → ℕ) (kinds : Kinds) (items : List Kind) (i : ℕ) (d : Kind) (start old new total : ℕ) where
-  pub compared_more : i < length items → is_in kinds (get_or items i d) ≡ true → new ≡ add_steps old (compared (get_or items i d))
+  pub compared_more : i < length items → is_in kinds (get_or items i d) ≡ true → new
+      ≡ add_steps old (compared (get_or items i d))
       → add_steps old (compared_in_all compared (filter (is_in kinds) (drop i items))) ≡ add_steps start total
       → add_steps new (compared_in_all compared (filter (is_in kinds) (drop (i + 1) items))) ≡ add_steps start total
   compared_more lt e taken before =
       let rest : ℕ = compared_in_all compared (filter (is_in kinds) (drop (i + 1) items)) in
       ap (λ (n : ℕ). add_steps n rest) taken ∙ add_steps-both old (compared (get_or items i d)) rest
-      ∙ ap (λ (ks : List Kind). add_steps old (compared_in_all compared ks)) (sym (coming_at kinds items i d true lt e)) ∙ before
+      ∙ ap (λ (ks : List Kind). add_steps old (compared_in_all compared ks)) (sym (coming_at kinds items i d true lt e))
+      ∙ before
 
   pub compared_skip : i < length items → is_in kinds (get_or items i d) ≡ false
       → add_steps old (compared_in_all compared (filter (is_in kinds) (drop i items))) ≡ add_steps start total
       → add_steps old (compared_in_all compared (filter (is_in kinds) (drop (i + 1) items))) ≡ add_steps start total
-  compared_skip lt e before = ap (λ (ks : List Kind). add_steps old (compared_in_all compared ks)) (sym (coming_at kinds items i d false lt e)) ∙ before
+  compared_skip lt e before = ap (λ (ks : List Kind). add_steps old (compared_in_all compared ks))
+      (sym (coming_at kinds items i d false lt e)) ∙ before
 
 -- after the last kind
 pub all_compared : (compared : Kind → ℕ) (i : ℕ) (kinds : Kinds) (start old total : ℕ) → 8 ≤ i → i ≤ 8
-    → add_steps old (compared_in_all compared (filter (is_in kinds) (drop i (map Text text_kinds ++ OwnId ∷ [])))) ≡ add_steps start total → old ≡ add_steps start total
+    → add_steps old (compared_in_all compared (filter (is_in kinds) (drop i (map Text text_kinds ++ OwnId ∷ []))))
+    ≡ add_steps start total → old ≡ add_steps start total
 all_compared compared i kinds start old total from to before =
     let last : i ≡ 8 = omega (arith, from, to) in
     let all = rw last at before in

@@ -1,5 +1,6 @@
 -- The query of a node, by its kind.
-use Rattle.mail_answer.proofs.Words.{◌≡◌, ℕ, List, Vec, Global, rules, Kinds, Node, the_lemmas, Any, Word, Part, Prefix, Either, query_of, queries_of, members_of}
+use Rattle.mail_answer.proofs.Words.{◌≡◌, ℕ, List, Vec, Global, rules, Kinds, Node, the_lemmas, Any, Word, Part, Prefix}
+use Rattle.mail_answer.proofs.Words.{Either, query_of, queries_of, members_of}
 use Rattle.mail_query.specs.declared.node.Node as node
 
 pub query_of-Any : query_of node.Any ≡ Any
@@ -14,5 +15,6 @@ query_of-Part kinds text = search (rules, the_lemmas)
 pub query_of-Prefix : (kinds : Kinds) (text : List ℕ) → query_of (node.Prefix kinds text) ≡ Prefix kinds text
 query_of-Prefix kinds text = search (rules, the_lemmas)
 
-pub query_of-Either : (members : Vec Node Global) → query_of (node.Either members) ≡ Either (members_of (queries_of members.items))
+pub query_of-Either : (members : Vec Node Global) → query_of (node.Either members)
+    ≡ Either (members_of (queries_of members.items))
 query_of-Either members = search (rules, the_lemmas)

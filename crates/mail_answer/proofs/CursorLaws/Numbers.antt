@@ -1,26 +1,37 @@
 -- A cursor returns the numbers of its walk in order, because it goes on past each number that it returned.
-use Rattle.mail_answer.proofs.Words.{◌≡◌, ◌∙◌, ◌+◌, ◌<◌, ◌≤◌, ℕ, zero, suc, Bool, true, false, cond, ◌&&◌, max, List, [], ◌∷◌, ◌++◌, Option, Some, None, refl, sym, ap, subst, arith, inl, inr, nat_le, filter, range_with_len, AllByRecursion, cases_lt, lt-leb, both_ways, truth_at, Drops, IsFirst, numbers_from, AreWithin, TakesFirst, TakesFrom}
+use Rattle.mail_answer.proofs.Words.{◌≡◌, ◌∙◌, ◌+◌, ◌<◌, ◌≤◌, ℕ, zero, suc, Bool, true, false, cond, ◌&&◌, max, List}
+use Rattle.mail_answer.proofs.Words.{[], ◌∷◌, ◌++◌, Option, Some, None, refl, sym, ap, subst, arith, inl, inr, nat_le}
+use Rattle.mail_answer.proofs.Words.{filter, range_with_len, AllByRecursion, cases_lt, lt-leb, both_ways, truth_at}
+use Rattle.mail_answer.proofs.Words.{Drops, IsFirst, numbers_from, AreWithin, TakesFirst, TakesFrom}
 use Rattle.std.proofs.lemmas.List.{append-nil}
 use Rattle.std.proofs.lemmas.Bool.{le-leb}
 use Rattle.mail_answer.proofs.CursorLaws.Turns.{first_from}
 
-pub filter_alike : (f g : ℕ → Bool) (a n : ℕ) → ((k : ℕ) → a ≤ k → k < a + n → f k ≡ g k) → filter f (range_with_len a n) ≡ filter g (range_with_len a n)
+pub filter_alike : (f g : ℕ → Bool) (a n : ℕ) → ((k : ℕ) → a ≤ k → k < a + n → f k ≡ g k)
+    → filter f (range_with_len a n) ≡ filter g (range_with_len a n)
 filter_alike f g a zero same = refl
 filter_alike f g a (suc n) same =
-    ap (λ (b : Bool). cond b (a ∷ filter f (range_with_len (a + 1) n)) (filter f (range_with_len (a + 1) n))) (same a (omega arith) (omega arith))
-    ∙ ap (λ (ns : List ℕ). cond (g a) (a ∷ ns) ns) (filter_alike f g (a + 1) n (λ k le lt. same k (omega (arith, le)) (omega (arith, lt))))
+    ap (λ (b : Bool). cond b (a ∷ filter f (range_with_len (a + 1) n)) (filter f (range_with_len (a + 1) n)))
+    (same a (omega arith) (omega arith))
+    ∙ ap (λ (ns : List ℕ). cond (g a) (a ∷ ns) ns)
+    (filter_alike f g (a + 1) n (λ k le lt. same k (omega (arith, le)) (omega (arith, lt))))
 
 none_pass : (f : ℕ → Bool) (a n : ℕ) → ((k : ℕ) → a ≤ k → k < a + n → f k ≡ false) → filter f (range_with_len a n) ≡ []
 none_pass f a zero none = refl
 none_pass f a (suc n) none =
-    ap (λ (b : Bool). cond b (a ∷ filter f (range_with_len (a + 1) n)) (filter f (range_with_len (a + 1) n))) (none a (omega arith) (omega arith))
+    ap (λ (b : Bool). cond b (a ∷ filter f (range_with_len (a + 1) n)) (filter f (range_with_len (a + 1) n)))
+    (none a (omega arith) (omega arith))
     ∙ none_pass f (a + 1) n (λ k le lt. none k (omega (arith, le)) (omega (arith, lt)))
 
-skips : (f : ℕ → Bool) (a n : ℕ) → f a ≡ false → filter f (range_with_len a (suc n)) ≡ filter f (range_with_len (a + 1) n)
-skips f a n fails = ap (λ (b : Bool). cond b (a ∷ filter f (range_with_len (a + 1) n)) (filter f (range_with_len (a + 1) n))) fails
+skips : (f : ℕ → Bool) (a n : ℕ) → f a ≡ false → filter f (range_with_len a (suc n))
+    ≡ filter f (range_with_len (a + 1) n)
+skips f a n fails = ap (λ (b : Bool). cond b (a ∷ filter f (range_with_len (a + 1) n))
+    (filter f (range_with_len (a + 1) n))) fails
 
-takes : (f : ℕ → Bool) (a n : ℕ) → f a ≡ true → filter f (range_with_len a (suc n)) ≡ a ∷ filter f (range_with_len (a + 1) n)
-takes f a n holds = ap (λ (b : Bool). cond b (a ∷ filter f (range_with_len (a + 1) n)) (filter f (range_with_len (a + 1) n))) holds
+takes : (f : ℕ → Bool) (a n : ℕ) → f a ≡ true → filter f (range_with_len a (suc n))
+    ≡ a ∷ filter f (range_with_len (a + 1) n)
+takes f a n holds = ap (λ (b : Bool). cond b (a ∷ filter f (range_with_len (a + 1) n))
+    (filter f (range_with_len (a + 1) n))) holds
 
 -- whether a number passes and isn't below `low`
 abbrev from : ℕ → (ℕ → Bool) → ℕ → Bool
@@ -32,23 +43,31 @@ from-before low f n lt = ap (λ (b : Bool). b && f n) (lt-leb low n lt)
 from-behind : (low : ℕ) (f : ℕ → Bool) (n : ℕ) → low ≤ n → from low f n ≡ f n
 from-behind low f n le = ap (λ (b : Bool). b && f n) (le-leb low n le)
 
-first_of_range : (f : ℕ → Bool) (k a n : ℕ) → a ≤ k → k < a + n → f k ≡ true → ((m : ℕ) → m < k → f m ≡ false) → filter f (range_with_len a n) ≡ k ∷ filter (from (suc k) f) (range_with_len a n)
+first_of_range : (f : ℕ → Bool) (k a n : ℕ) → a ≤ k → k < a + n → f k ≡ true → ((m : ℕ) → m < k → f m ≡ false)
+    → filter f (range_with_len a n) ≡ k ∷ filter (from (suc k) f) (range_with_len a n)
 first_of_range f k a zero le lt holds none = absurd (omega (arith, le, lt))
 first_of_range f k a (suc n) le lt holds none =
     elim (cases_lt a k) [
       | inl before ↦
-          let skip : filter (from (suc k) f) (range_with_len a (suc n)) ≡ filter (from (suc k) f) (range_with_len (a + 1) n) = skips (from (suc k) f) a n (from-before (suc k) f a (omega (arith, before))) in
-          skips f a n (none a before) ∙ first_of_range f k (a + 1) n (omega (arith, before)) (omega (arith, lt)) holds none ∙ ap (λ (ns : List ℕ). k ∷ ns) (sym skip)
+          let skip : filter (from (suc k) f) (range_with_len a (suc n))
+          ≡ filter (from (suc k) f) (range_with_len (a + 1) n) =
+          skips (from (suc k) f) a n (from-before (suc k) f a (omega (arith, before))) in
+          skips f a n (none a before) ∙ first_of_range f k (a + 1) n (omega (arith, before)) (omega (arith, lt)) holds
+          none ∙ ap (λ (ns : List ℕ). k ∷ ns) (sym skip)
       | inr behind ↦
           let same : a ≡ k = omega (arith, le, behind) in
           let here : f a ≡ true = ap f same ∙ holds in
-          let skip : filter (from (suc k) f) (range_with_len a (suc n)) ≡ filter (from (suc k) f) (range_with_len (a + 1) n) = skips (from (suc k) f) a n (from-before (suc k) f a (omega (arith, same))) in
+          let skip : filter (from (suc k) f) (range_with_len a (suc n))
+          ≡ filter (from (suc k) f) (range_with_len (a + 1) n) =
+          skips (from (suc k) f) a n (from-before (suc k) f a (omega (arith, same))) in
           takes f a n here ∙ ap (λ (m : ℕ). m ∷ filter f (range_with_len (a + 1) n)) same
-          ∙ ap (λ (ns : List ℕ). k ∷ ns) (filter_alike f (from (suc k) f) (a + 1) n (λ m above below. sym (from-behind (suc k) f m (omega (arith, above, same)))) ∙ sym skip)
+          ∙ ap (λ (ns : List ℕ). k ∷ ns) (filter_alike f (from (suc k) f) (a + 1) n
+          (λ m above below. sym (from-behind (suc k) f m (omega (arith, above, same)))) ∙ sym skip)
     ]
 
 -- dropping the numbers below n leaves exactly the numbers from n on
-same_from : (n count : ℕ) (old new : List Bool) → Drops n old new → numbers_from n count old ≡ filter (truth_at new) (range_with_len 0 count)
+same_from : (n count : ℕ) (old new : List Bool) → Drops n old new → numbers_from n count old
+    ≡ filter (truth_at new) (range_with_len 0 count)
 same_from n count old new drops = grind (arith, filter_alike, cases_lt, from-before, from-behind)
 
 pub within_still : (n count : ℕ) (old new : List Bool) → Drops n old new → AreWithin count old → AreWithin count new
@@ -66,7 +85,9 @@ split_range n low f a zero = record { dropped = []; below = tt; split = refl }
 split_range n low f a (suc k) = elim (cases_lt a n) [
   | inl before ↦
       let rest : Split n low f (range_with_len (a + 1) k) = split_range n low f (a + 1) k in
-      let gone : filter (from (max n low) f) (range_with_len a (suc k)) ≡ filter (from (max n low) f) (range_with_len (a + 1) k) = skips (from (max n low) f) a k (from-before (max n low) f a (omega (arith, before))) in
+      let gone : filter (from (max n low) f) (range_with_len a (suc k))
+      ≡ filter (from (max n low) f) (range_with_len (a + 1) k) =
+      skips (from (max n low) f) a k (from-before (max n low) f a (omega (arith, before))) in
       split_one n low f a k before rest gone (from low f a) refl
   | inr behind ↦ record {
     dropped = [];
@@ -78,12 +99,15 @@ split_range n low f a (suc k) = elim (cases_lt a n) [
   }
 ]
   where
-    split_one : (n low : ℕ) (f : ℕ → Bool) (a k : ℕ) → a < n → (rest : Split n low f (range_with_len (a + 1) k)) → filter (from (max n low) f) (range_with_len a (suc k)) ≡ filter (from (max n low) f) (range_with_len (a + 1) k)
+    split_one : (n low : ℕ) (f : ℕ → Bool) (a k : ℕ) → a < n → (rest : Split n low f (range_with_len (a + 1) k))
+        → filter (from (max n low) f) (range_with_len a (suc k))
+        ≡ filter (from (max n low) f) (range_with_len (a + 1) k)
         → (b : Bool) → from low f a ≡ b → Split n low f (range_with_len a (suc k))
     split_one n low f a k before rest gone true holds = record {
       dropped = a ∷ rest.dropped;
       below = (before, rest.below);
-      split = takes (from low f) a k holds ∙ ap (λ (ns : List ℕ). a ∷ ns) (rest.split ∙ ap (λ (ns : List ℕ). rest.dropped ++ ns) (sym gone));
+      split = takes (from low f) a k holds ∙ ap (λ (ns : List ℕ). a ∷ ns)
+          (rest.split ∙ ap (λ (ns : List ℕ). rest.dropped ++ ns) (sym gone));
     }
     split_one n low f a k before rest gone false fails = record {
       dropped = rest.dropped;
@@ -101,17 +125,27 @@ takes_first old new None h = (none_below old h.0, h.1)
 takes_first old new (Some m) h = h.1.2 ∙ ap (λ (ns : List ℕ). ns ++ m ∷ new) (none_below h.1.0 h.1.1)
 
 -- a walk from the greater of n and low gives the least number from n on
-pub takes_none : (n low start count : ℕ) (old new : List Bool) → start ≡ max n low → Drops start old new → IsFirst new None → TakesFrom n (numbers_from low count old) (numbers_from low count new) None
+pub takes_none : (n low start count : ℕ) (old new : List Bool) → start ≡ max n low → Drops start old new
+    → IsFirst new None → TakesFrom n (numbers_from low count old) (numbers_from low count new) None
 takes_none n low start count old new is drops none =
     let s : Split n low (truth_at old) (range_with_len 0 count) = split_range n low (truth_at old) 0 count in
-    let gone : numbers_from (max n low) count old ≡ [] = ap (λ (m : ℕ). numbers_from m count old) (sym is) ∙ same_from start count old new drops ∙ none_pass (truth_at new) 0 count (λ m a b. none m) in
-    let all : numbers_from low count old ≡ s.dropped = s.split ∙ ap (λ (ns : List ℕ). s.dropped ++ ns) gone ∙ append-nil s.dropped in
-    (subst (AllByRecursion (λ m. m < n)) (sym all) s.below, grind (arith, none_pass, cases_lt, from-before, from-behind))
+    let gone : numbers_from (max n low) count old ≡ [] = ap (λ (m : ℕ). numbers_from m count old) (sym is)
+    ∙ same_from start count old new drops ∙ none_pass (truth_at new) 0 count (λ m a b. none m) in
+    let all : numbers_from low count old ≡ s.dropped = s.split ∙ ap (λ (ns : List ℕ). s.dropped ++ ns) gone
+    ∙ append-nil s.dropped in (
+      subst (AllByRecursion (λ m. m < n)) (sym all) s.below,
+      grind (arith, none_pass, cases_lt, from-before, from-behind),
+    )
 
-pub takes_one : (n low start count k : ℕ) (old new : List Bool) → start ≡ max n low → Drops start old new → IsFirst new (Some k) → k < count
+pub takes_one : (n low start count k : ℕ) (old new : List Bool) → start ≡ max n low → Drops start old new
+    → IsFirst new (Some k) → k < count
     → TakesFrom n (numbers_from low count old) (numbers_from (k + 1) count new) (Some k)
 takes_one n low start count k old new is drops first lt =
     let s : Split n low (truth_at old) (range_with_len 0 count) = split_range n low (truth_at old) 0 count in
-    let one : numbers_from (max n low) count old ≡ k ∷ numbers_from (k + 1) count new = ap (λ (m : ℕ). numbers_from m count old) (sym is) ∙ same_from start count old new drops ∙ first_of_range (truth_at new) k 0 count (omega arith) (omega (arith, lt)) first.0 first.1
-    ∙ ap (λ (m : ℕ). k ∷ numbers_from m count new) (omega arith) in
-    (omega (arith, is, first_from start old new k drops first), (s.dropped, s.below, s.split ∙ ap (λ (ns : List ℕ). s.dropped ++ ns) one))
+    let one : numbers_from (max n low) count old ≡ k ∷ numbers_from (k + 1) count new =
+    ap (λ (m : ℕ). numbers_from m count old) (sym is) ∙ same_from start count old new drops
+    ∙ first_of_range (truth_at new) k 0 count (omega arith) (omega (arith, lt)) first.0 first.1
+    ∙ ap (λ (m : ℕ). k ∷ numbers_from m count new) (omega arith) in (
+      omega (arith, is, first_from start old new k drops first),
+      (s.dropped, s.below, s.split ∙ ap (λ (ns : List ℕ). s.dropped ++ ns) one),
+    )

@@ -1,5 +1,9 @@
 -- The numbers of a look-up are those of the messages that have the text, because sorted keys have it only once.
-use Rattle.mail_answer.proofs.Words.{◌≡◌, ◌∙◌, ℕ, Bool, true, false, ◌&&◌, List, [], ◌∷◌, map, refl, sym, ap, arith, bytes_eq, list_any, filter, AllByRecursion, and_left, and_right, and_from, and-false, and-true, Kind, Key, KeyBefore, AllNext, is_key, lies_to, numbers_at, AreSorted, text_and_numbers, bytes_turned, is_among, texts_with, some_key, any_text}
+use Rattle.mail_answer.proofs.Words.{◌≡◌, ◌∙◌, ℕ, Bool, true, false, ◌&&◌, List, [], ◌∷◌, map, refl, sym, ap, arith}
+use Rattle.mail_answer.proofs.Words.{bytes_eq, list_any, filter, AllByRecursion, and_left, and_right, and_from}
+use Rattle.mail_answer.proofs.Words.{and-false, and-true, Kind, Key, KeyBefore, AllNext, is_key, lies_to, numbers_at}
+use Rattle.mail_answer.proofs.Words.{AreSorted, text_and_numbers, bytes_turned, is_among, texts_with, some_key}
+use Rattle.mail_answer.proofs.Words.{any_text}
 use Rattle.std.specs.declared.cmp.Ordering.{Ordering}
 use Rattle.std.specs.declared.cmp.Ordering.TheVariants.{Less, Equal, Greater}
 use Rattle.std.specs.Ordering.{nat_cmp, is_eq, ordering_reverse}
@@ -14,22 +18,28 @@ use Rattle.mail_index.proofs.ViewLaws.LookUpLemmas.{key_bytes, is_key-greater}
 
 -- a key passes and has the number exactly if one of the texts of this number passes
 pub fitting_keys : (passes : List ℕ → Bool) (n : ℕ) (ks : List Key)
-    → list_any passes (map (λ (k : Key). k.text) (filter (λ k. is_among n k.numbers) ks)) ≡ list_any (λ k. passes k.0 && is_among n k.1) (map text_and_numbers ks)
+    → list_any passes (map (λ (k : Key). k.text) (filter (λ k. is_among n k.numbers) ks))
+    ≡ list_any (λ k. passes k.0 && is_among n k.1) (map text_and_numbers ks)
 fitting_keys passes n [] = refl
 fitting_keys passes n (k ∷ ks) = grind (arith, and-true, and-false, fitting_keys passes n ks)
 
 -- each of the keys that pass has a text that passes
-pub kept_keys : (passes : List ℕ → Bool) (n : ℕ) (ks : List Key) → some_key passes n (map text_and_numbers ks) ≡ some_key any_text n (map text_and_numbers (filter (λ k. passes k.text) ks))
+pub kept_keys : (passes : List ℕ → Bool) (n : ℕ) (ks : List Key) → some_key passes n (map text_and_numbers ks)
+    ≡ some_key any_text n (map text_and_numbers (filter (λ k. passes k.text) ks))
 kept_keys passes n [] = refl
 kept_keys passes n (k ∷ ks) = grind (arith, kept_keys passes n ks)
 
 -- ---- one key looked up
 
 -- keys in the order of a table are strictly sorted
-behind : (a b : Key) (ks : List Key) → slice_cmp nat_cmp (key_bytes a) (key_bytes b) ≡ Less → AllByRecursion (λ y. slice_cmp nat_cmp (key_bytes b) y ≡ Less) (map key_bytes ks)
+behind : (a b : Key) (ks : List Key) → slice_cmp nat_cmp (key_bytes a) (key_bytes b) ≡ Less
+    → AllByRecursion (λ y. slice_cmp nat_cmp (key_bytes b) y ≡ Less) (map key_bytes ks)
     → AllByRecursion (λ y. slice_cmp nat_cmp (key_bytes a) y ≡ Less) (map key_bytes ks)
 behind a b [] first rest = tt
-behind a b (k ∷ ks) first rest = (nat_list_cmp_total.trans (key_bytes a) (key_bytes b) (key_bytes k) first rest.0, behind a b ks first rest.1)
+behind a b (k ∷ ks) first rest = (
+  nat_list_cmp_total.trans (key_bytes a) (key_bytes b) (key_bytes k) first rest.0,
+  behind a b ks first rest.1,
+)
 
 pub sorted_keys : (ks : List Key) → AllNext KeyBefore ks → AreSorted ks
 unfolding IsStrictlySortedBy
@@ -44,26 +54,35 @@ equal_from : (o : Ordering) → is_eq o ≡ true → o ≡ Equal
 equal_from o h = grind arith
 
 -- no key after this one is the same
-no_second : (kind : Kind) (text : List ℕ) (k : Key) (ks : List Key) → is_key kind text k ≡ true → AllByRecursion (λ y. slice_cmp nat_cmp (key_bytes k) y ≡ Less) (map key_bytes ks) → numbers_at kind text ks ≡ []
+no_second : (kind : Kind) (text : List ℕ) (k : Key) (ks : List Key) → is_key kind text k ≡ true
+    → AllByRecursion (λ y. slice_cmp nat_cmp (key_bytes k) y ≡ Less) (map key_bytes ks) → numbers_at kind text ks ≡ []
 no_second kind text k [] this later = refl
 no_second kind text k (other ∷ ks) this later =
     let wanted : List ℕ = kind_number kind ∷ text in
-    let same : slice_cmp nat_cmp (key_bytes k) wanted ≡ Equal = equal_from (lies_to kind text k) (is_eq-slice_cmp (key_bytes k) wanted ∙ this) in
-    let here : slice_cmp nat_cmp wanted (key_bytes other) ≡ Less = sym (nat_list_cmp_total.congr (key_bytes k) wanted (key_bytes other) same) ∙ later.0 in
-    let greater : lies_to kind text other ≡ Greater = nat_list_cmp_total.antisymm (key_bytes other) wanted ∙ ap ordering_reverse here in
+    let same : slice_cmp nat_cmp (key_bytes k) wanted ≡ Equal =
+    equal_from (lies_to kind text k) (is_eq-slice_cmp (key_bytes k) wanted ∙ this) in
+    let here : slice_cmp nat_cmp wanted (key_bytes other) ≡ Less =
+    sym (nat_list_cmp_total.congr (key_bytes k) wanted (key_bytes other) same) ∙ later.0 in
+    let greater : lies_to kind text other ≡ Greater = nat_list_cmp_total.antisymm (key_bytes other) wanted
+    ∙ ap ordering_reverse here in
     rw (is_key-greater kind text other greater, numbers_at) (no_second kind text k ks this later.1)
 
 -- one more key: of another kind, of this kind without the number, or with it
-numbers_here : (kind : Kind) (text : List ℕ) (k : Key) (ks : List Key) (here : Bool) → is_key kind text k ≡ here → numbers_at kind text (k ∷ ks) ≡ (elim here [ true ↦ k.numbers | false ↦ numbers_at kind text ks ])
-numbers_here kind text k ks here e = ap (λ (b : Bool). elim b as (λ _. List ℕ) [ true ↦ k.numbers | false ↦ numbers_at kind text ks ]) e
+numbers_here : (kind : Kind) (text : List ℕ) (k : Key) (ks : List Key) (here : Bool) → is_key kind text k ≡ here
+    → numbers_at kind text (k ∷ ks) ≡ (elim here [ true ↦ k.numbers | false ↦ numbers_at kind text ks ])
+numbers_here kind text k ks here e = ap (λ (b : Bool). elim b as (λ _. List ℕ)
+    [ true ↦ k.numbers | false ↦ numbers_at kind text ks ]) e
 
-looked_up_more : (kind : Kind) (text : List ℕ) (n : ℕ) (k : Key) (ks : List Key) → AllByRecursion (λ y. slice_cmp nat_cmp (key_bytes k) y ≡ Less) (map key_bytes ks)
+looked_up_more : (kind : Kind) (text : List ℕ) (n : ℕ) (k : Key) (ks : List Key)
+    → AllByRecursion (λ y. slice_cmp nat_cmp (key_bytes k) y ≡ Less) (map key_bytes ks)
     → list_any (bytes_eq text) (texts_with kind n ks) ≡ is_among n (numbers_at kind text ks)
     → list_any (bytes_eq text) (texts_with kind n (k ∷ ks)) ≡ is_among n (numbers_at kind text (k ∷ ks))
-looked_up_more kind text n k ks later rest = grind (arith, and_left, numbers_here, and_right, bytes_turned, and_from, no_second)
+looked_up_more kind text n k ks later rest =
+    grind (arith, and_left, numbers_here, and_right, bytes_turned, and_from, no_second)
 
 -- the numbers of a look-up are those of the messages that have the text
-pub looked_up : (kind : Kind) (text : List ℕ) (n : ℕ) (ks : List Key) → AreSorted ks → list_any (bytes_eq text) (texts_with kind n ks) ≡ is_among n (numbers_at kind text ks)
+pub looked_up : (kind : Kind) (text : List ℕ) (n : ℕ) (ks : List Key) → AreSorted ks
+    → list_any (bytes_eq text) (texts_with kind n ks) ≡ is_among n (numbers_at kind text ks)
 unfolding IsStrictlySortedBy
 looked_up kind text n [] sorted = refl
 looked_up kind text n (k ∷ ks) sorted = looked_up_more kind text n k ks sorted.0 (looked_up kind text n ks sorted.1)

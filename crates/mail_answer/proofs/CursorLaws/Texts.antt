@@ -1,5 +1,13 @@
 -- The walks along the posting lists of a text have the messages with this text, kind by kind and list by list.
-use Rattle.mail_answer.proofs.Words.{◌≡◌, ◌∙◌, ◌+◌, ◌*◌, ◌^◌, ◌<◌, ◌≤◌, ℕ, suc, Bool, true, false, cond, ◌&&◌, ◌||◌, List, [], ◌∷◌, ◌++◌, length, map, drop, get_or, refl, sym, ap, subst, arith, Result, IfOk, bytes_eq, list_any, filter, AllByRecursion, add-mul, suc-mul, drop_more, or-false, or_assoc, Kind, Text, OwnId, Key, Table, IsKey, IsWellFormed, numbers_at, keys_of, keys_beginning, text_and_numbers, TakesDigits, bytes_turned, Kinds, has_kind, some_word, begins_with, text_kinds, is_among, texts_with, facts_at, is_in, kinds_in, numbers_of_keys, numbers_named, LooksUp, Ahead, left_in, AreNumbers, truths_among, some_has, HaveNumbers, numbers_passing, numbers_fitting, some_of_kinds, any_text}
+use Rattle.mail_answer.proofs.Words.{◌≡◌, ◌∙◌, ◌+◌, ◌*◌, ◌^◌, ◌<◌, ◌≤◌, ℕ, suc, Bool, true, false, cond, ◌&&◌, ◌||◌}
+use Rattle.mail_answer.proofs.Words.{List, [], ◌∷◌, ◌++◌, length, map, drop, get_or, refl, sym, ap, subst, arith}
+use Rattle.mail_answer.proofs.Words.{Result, IfOk, bytes_eq, list_any, filter, AllByRecursion, add-mul, suc-mul}
+use Rattle.mail_answer.proofs.Words.{drop_more, or-false, or_assoc, Kind, Text, OwnId, Key, Table, IsKey, IsWellFormed}
+use Rattle.mail_answer.proofs.Words.{numbers_at, keys_of, keys_beginning, text_and_numbers, TakesDigits, bytes_turned}
+use Rattle.mail_answer.proofs.Words.{Kinds, has_kind, some_word, begins_with, text_kinds, is_among, texts_with}
+use Rattle.mail_answer.proofs.Words.{facts_at, is_in, kinds_in, numbers_of_keys, numbers_named, LooksUp, Ahead, left_in}
+use Rattle.mail_answer.proofs.Words.{AreNumbers, truths_among, some_has, HaveNumbers, numbers_passing, numbers_fitting}
+use Rattle.mail_answer.proofs.Words.{some_of_kinds, any_text}
 use Rattle.mail_words.specs.declared.kind.TextKind.{TextKind}
 use Rattle.mail_answer.specs.Inside.CursorTexts.{Joins}
 use Rattle.mail_answer.proofs.CursorLaws.Lists.{among-at, past_all}
@@ -9,39 +17,52 @@ pub left-append : (ws : List Ahead) (w : Ahead) → left_in (ws ++ w ∷ []) ≡
 left-append [] w = omega arith
 left-append (v ∷ ws) w = omega (arith, left-append ws w)
 
-pub joins_list : (count : ℕ) (ns : List ℕ) (w : Ahead) (old new : List Ahead) → AreNumbers count ns → w.truths ≡ truths_among count ns → w.left ≡ length ns → new ≡ old ++ w ∷ []
+pub joins_list : (count : ℕ) (ns : List ℕ) (w : Ahead) (old new : List Ahead) → AreNumbers count ns → w.truths
+    ≡ truths_among count ns → w.left ≡ length ns → new ≡ old ++ w ∷ []
     → Joins (λ n. is_among n ns) (length ns) old new
 joins_list count ns w old new are told left is = grind (arith, some-append, among-at, left-append)
 
-pub joins_more : (f g : ℕ → Bool) (p q : ℕ) (ws bs cs : List Ahead) → Joins f p ws bs → Joins g q bs cs → Joins (λ n. f n || g n) (p + q) ws cs
+pub joins_more : (f g : ℕ → Bool) (p q : ℕ) (ws bs cs : List Ahead) → Joins f p ws bs → Joins g q bs cs
+    → Joins (λ n. f n || g n) (p + q) ws cs
 joins_more f g p q ws bs cs first then = grind (arith, or_assoc)
 
 -- ---- keys of a kind
 
-kind_numbers : (version count : ℕ) (kind : Kind) (ks : List Key) → AllByRecursion (IsKey version count) ks → HaveNumbers count (map text_and_numbers (keys_of kind ks))
+kind_numbers : (version count : ℕ) (kind : Kind) (ks : List Key) → AllByRecursion (IsKey version count) ks
+    → HaveNumbers count (map text_and_numbers (keys_of kind ks))
 kind_numbers version count kind [] all = tt
 kind_numbers version count kind (k ∷ ks) all = grind (arith, kind_numbers version count kind ks all.1)
 
-kept_numbers : (count : ℕ) (passes : List ℕ → Bool) (ks : List Key) → HaveNumbers count (map text_and_numbers ks) → HaveNumbers count (map text_and_numbers (filter (λ k. passes k.text) ks))
+kept_numbers : (count : ℕ) (passes : List ℕ → Bool) (ks : List Key) → HaveNumbers count (map text_and_numbers ks)
+    → HaveNumbers count (map text_and_numbers (filter (λ k. passes k.text) ks))
 kept_numbers count passes [] all = tt
 kept_numbers count passes (k ∷ ks) all = grind (arith, kept_numbers count passes ks all.1)
 
-pub beginning_numbers : (t : Table) (kind : Kind) (text : List ℕ) (keys : List (List ℕ × List ℕ)) → IsWellFormed t → keys ≡ map text_and_numbers (keys_beginning kind text t.keys)
+pub beginning_numbers : (t : Table) (kind : Kind) (text : List ℕ) (keys : List (List ℕ × List ℕ)) → IsWellFormed t
+    → keys ≡ map text_and_numbers (keys_beginning kind text t.keys)
     → HaveNumbers (length t.messages) keys
 beginning_numbers t kind text keys well is =
-    subst (HaveNumbers (length t.messages)) (sym is) (kept_numbers (length t.messages) (begins_with text) (keys_of kind t.keys) (kind_numbers t.version (length t.messages) kind t.keys well.keys))
+    subst (HaveNumbers (length t.messages)) (sym is)
+    (kept_numbers (length t.messages) (begins_with text) (keys_of kind t.keys)
+    (kind_numbers t.version (length t.messages) kind t.keys well.keys))
 
-pub keys_numbers : (t : Table) (kind : Kind) (keys : List (List ℕ × List ℕ)) → IsWellFormed t → keys ≡ map text_and_numbers (keys_of kind t.keys) → HaveNumbers (length t.messages) keys
-keys_numbers t kind keys well is = subst (HaveNumbers (length t.messages)) (sym is) (kind_numbers t.version (length t.messages) kind t.keys well.keys)
+pub keys_numbers : (t : Table) (kind : Kind) (keys : List (List ℕ × List ℕ)) → IsWellFormed t → keys
+    ≡ map text_and_numbers (keys_of kind t.keys) → HaveNumbers (length t.messages) keys
+keys_numbers t kind keys well is = subst (HaveNumbers (length t.messages)) (sym is)
+    (kind_numbers t.version (length t.messages) kind t.keys well.keys)
 
-found_numbers : (version count : ℕ) (kind : Kind) (text : List ℕ) (ks : List Key) → AllByRecursion (IsKey version count) ks → AreNumbers count (numbers_at kind text ks)
+found_numbers : (version count : ℕ) (kind : Kind) (text : List ℕ) (ks : List Key)
+    → AllByRecursion (IsKey version count) ks → AreNumbers count (numbers_at kind text ks)
 found_numbers version count kind text [] all = record { rises = tt; below = tt }
 found_numbers version count kind text (k ∷ ks) all = grind (arith, found_numbers version count kind text ks all.1)
 
-pub list_numbers : (t : Table) (kind : Kind) (text ns : List ℕ) → IsWellFormed t → ns ≡ numbers_at kind text t.keys → AreNumbers (length t.messages) ns
-list_numbers t kind text ns well is = subst (AreNumbers (length t.messages)) (sym is) (found_numbers t.version (length t.messages) kind text t.keys well.keys)
+pub list_numbers : (t : Table) (kind : Kind) (text ns : List ℕ) → IsWellFormed t → ns ≡ numbers_at kind text t.keys
+    → AreNumbers (length t.messages) ns
+list_numbers t kind text ns well is = subst (AreNumbers (length t.messages)) (sym is)
+    (found_numbers t.version (length t.messages) kind text t.keys well.keys)
 
-pub fitting_left : (passes : List ℕ → Bool) (ks : List Key) → numbers_passing passes (map text_and_numbers ks) ≡ numbers_of_keys (filter (λ k. passes k.text) ks)
+pub fitting_left : (passes : List ℕ → Bool) (ks : List Key) → numbers_passing passes (map text_and_numbers ks)
+    ≡ numbers_of_keys (filter (λ k. passes k.text) ks)
 fitting_left passes [] = refl
 fitting_left passes (k ∷ ks) = grind (arith, fitting_left passes ks)
 
@@ -50,7 +71,8 @@ all_left [] = refl
 all_left (k ∷ ks) = ap (λ (n : ℕ). length k.numbers + n) (all_left ks)
 
 -- the list of a look-up counts among those of the keys that fit
-pub found_left : (kind : Kind) (text : List ℕ) (ks : List Key) → length (numbers_at kind text ks) ≤ numbers_fitting (bytes_eq text) ks kind
+pub found_left : (kind : Kind) (text : List ℕ) (ks : List Key)
+    → length (numbers_at kind text ks) ≤ numbers_fitting (bytes_eq text) ks kind
 found_left kind text [] = omega arith
 found_left kind text (k ∷ ks) = grind (arith, bytes_turned, found_left kind text ks)
 
@@ -58,11 +80,13 @@ found_left kind text (k ∷ ks) = grind (arith, bytes_turned, found_left kind te
 
 some_filter : (kinds : Kinds) (passes : List ℕ → Bool) (t : Table) (m : ℕ) (ts : List TextKind)
     → some_of_kinds (filter (is_in kinds) (map Text ts ++ OwnId ∷ [])) passes t.keys m
-    ≡ (list_any (λ kind. has_kind kinds kind && list_any passes (texts_with (Text kind) m t.keys)) ts || (kinds.own_id && list_any passes (texts_with OwnId m t.keys)))
+    ≡ (list_any (λ kind. has_kind kinds kind && list_any passes (texts_with (Text kind) m t.keys)) ts ||
+    (kinds.own_id && list_any passes (texts_with OwnId m t.keys)))
 some_filter kinds passes t m [] = grind (arith, or-false)
 some_filter kinds passes t m (kind ∷ ts) = grind (arith, or_assoc, some_filter kinds passes t m ts)
 
-pub some_of_all : (kinds : Kinds) (passes : List ℕ → Bool) (t : Table) (m : ℕ) → some_of_kinds (kinds_in kinds) passes t.keys m ≡ some_word passes kinds (facts_at t m)
+pub some_of_all : (kinds : Kinds) (passes : List ℕ → Bool) (t : Table) (m : ℕ)
+    → some_of_kinds (kinds_in kinds) passes t.keys m ≡ some_word passes kinds (facts_at t m)
 some_of_all kinds passes t m = some_filter kinds passes t m text_kinds
 
 -- ---- steps of look-ups
@@ -79,11 +103,14 @@ pub looks_up_none : (keys old new : ℕ) → new ≡ old → LooksUp keys 0 old 
 looks_up_none keys old new same = record { rises = omega (arith, same); most = λ digits lt. omega (arith, same) }
 
 -- the walks so far, and those of the kinds that still come
-pub record HaveKinds (passes : List ℕ → Bool) (keys : List Key) (each_kind : ℕ) (all coming : List Kind) (old new : List Ahead) (steps_old steps_new : ℕ) : Type 0 where
-  pub each : (m : ℕ) → (some_has m new || some_of_kinds coming passes keys m) ≡ (some_has m old || some_of_kinds all passes keys m)
+pub record HaveKinds (passes : List ℕ → Bool) (keys : List Key) (each_kind : ℕ) (all coming : List Kind)
+    (old new : List Ahead) (steps_old steps_new : ℕ) : Type 0 where
+  pub each : (m : ℕ) → (some_has m new || some_of_kinds coming passes keys m)
+      ≡ (some_has m old || some_of_kinds all passes keys m)
   pub left : left_in new + numbers_named passes keys coming ≤ left_in old + numbers_named passes keys all
   pub rises : steps_old ≤ steps_new
-  pub most : (digits : ℕ) → length keys < 2 ^ digits → steps_new + (length coming * each_kind) * digits ≤ steps_old + (length all * each_kind) * digits
+  pub most : (digits : ℕ) → length keys < 2 ^ digits
+      → steps_new + (length coming * each_kind) * digits ≤ steps_old + (length all * each_kind) * digits
 
 times_suc : (n a d : ℕ) → (suc n * a) * d ≡ (n * a) * d + a * d
 times_suc n a d = ap (λ (x : ℕ). x * d) (suc-mul n a) ∙ add-mul (n * a) a d
@@ -92,18 +119,25 @@ more_times : (n a d : ℕ) → (suc n * a) * d ≡ a * d + (n * a) * d
 more_times n a d = omega (arith, times_suc n a d)
 
 module _ (passes : List ℕ → Bool) (keys : List Key) (a : ℕ) (all : List Kind) (old : List Ahead) (steps0 : ℕ) where
-  pub kinds_more : (kind : Kind) (coming : List Kind) (ws vs : List Ahead) (steps1 steps2 : ℕ) → HaveKinds passes keys a all (kind ∷ coming) old ws steps0 steps1
-      → Joins (λ n. list_any passes (texts_with kind n keys)) (numbers_fitting passes keys kind) ws vs → LooksUp (length keys) a steps1 steps2 → HaveKinds passes keys a all coming old vs steps0 steps2
+  pub kinds_more : (kind : Kind) (coming : List Kind) (ws vs : List Ahead) (steps1 steps2 : ℕ)
+      → HaveKinds passes keys a all (kind ∷ coming) old ws steps0 steps1
+      → Joins (λ n. list_any passes (texts_with kind n keys)) (numbers_fitting passes keys kind) ws vs
+      → LooksUp (length keys) a steps1 steps2 → HaveKinds passes keys a all coming old vs steps0 steps2
   kinds_more kind coming ws vs steps1 steps2 have joins looks = grind (arith, or_assoc, more_times)
 
-  pub kinds_steps : (kind : Kind) (coming : List Kind) (ws : List Ahead) (steps1 steps2 : ℕ) → HaveKinds passes keys a all (kind ∷ coming) old ws steps0 steps1
+  pub kinds_steps : (kind : Kind) (coming : List Kind) (ws : List Ahead) (steps1 steps2 : ℕ)
+      → HaveKinds passes keys a all (kind ∷ coming) old ws steps0 steps1
       → LooksUp (length keys) a steps1 steps2 → LooksUp (length keys) (length all * a) steps0 steps2
   kinds_steps kind coming ws steps1 steps2 have looks = grind (arith, more_times)
 
 -- after the last kind
-pub all_kinds : (passes : List ℕ → Bool) (keys : List Key) (a i : ℕ) (kinds : Kinds) (new : List Ahead) (steps0 steps : ℕ) → 8 ≤ i → i ≤ 8
-    → HaveKinds passes keys a (kinds_in kinds) (filter (is_in kinds) (drop i (map Text text_kinds ++ OwnId ∷ []))) [] new steps0 steps
-    → ((m : ℕ) → some_has m new ≡ some_of_kinds (kinds_in kinds) passes keys m) × (left_in new ≤ numbers_named passes keys (kinds_in kinds)) × LooksUp (length keys) (length (kinds_in kinds) * a) steps0 steps
+pub all_kinds : (passes : List ℕ → Bool) (keys : List Key) (a i : ℕ) (kinds : Kinds) (new : List Ahead)
+    (steps0 steps : ℕ) → 8 ≤ i → i ≤ 8
+    → HaveKinds passes keys a (kinds_in kinds) (filter (is_in kinds) (drop i (map Text text_kinds ++ OwnId ∷ []))) []
+    new steps0 steps
+    → ((m : ℕ) → some_has m new ≡ some_of_kinds (kinds_in kinds) passes keys m)
+    × (left_in new ≤ numbers_named passes keys (kinds_in kinds))
+    × LooksUp (length keys) (length (kinds_in kinds) * a) steps0 steps
 all_kinds passes keys a i kinds new steps0 steps from to have =
     let last : i ≡ 8 = omega (arith, from, to) in
     let all = rw last at have in (
@@ -112,35 +146,52 @@ all_kinds passes keys a i kinds new steps0 steps from to have =
       record { rises = all.rises; most = λ digits lt. omega (arith, all.most digits lt) },
     )
 
-pub next_kind : (kinds : Kinds) (kind : Kind) (rest : List Kind) (b : Bool) → is_in kinds kind ≡ b → filter (is_in kinds) (kind ∷ rest) ≡ cond b (kind ∷ filter (is_in kinds) rest) (filter (is_in kinds) rest)
-next_kind kinds kind rest b e = ap (λ (x : Bool). cond x (kind ∷ filter (is_in kinds) rest) (filter (is_in kinds) rest)) e
+pub next_kind : (kinds : Kinds) (kind : Kind) (rest : List Kind) (b : Bool) → is_in kinds kind ≡ b
+    → filter (is_in kinds) (kind ∷ rest) ≡ cond b (kind ∷ filter (is_in kinds) rest) (filter (is_in kinds) rest)
+next_kind kinds kind rest b e = ap (λ (x : Bool). cond x (kind ∷ filter (is_in kinds) rest) (filter (is_in kinds) rest))
+    e
 
-pub if_joins : {A E : Type 0} (r : Result A E) (f g : ℕ → Bool) (p q : ℕ) (ws bs : List Ahead) → IfOk r (λ _. Joins f p ws bs) → ((m : ℕ) → g m ≡ f m) → p ≤ q → IfOk r (λ _. Joins g q ws bs)
+pub if_joins : {A E : Type 0} (r : Result A E) (f g : ℕ → Bool) (p q : ℕ) (ws bs : List Ahead)
+    → IfOk r (λ _. Joins f p ws bs) → ((m : ℕ) → g m ≡ f m) → p ≤ q → IfOk r (λ _. Joins g q ws bs)
 if_joins r f g p q ws bs h h2 h3 = grind arith
 
 -- the next kind, in the set or not
-pub coming_at : (kinds : Kinds) (items : List Kind) (i : ℕ) (d : Kind) (b : Bool) → i < length items → is_in kinds (get_or items i d) ≡ b
-    → filter (is_in kinds) (drop i items) ≡ cond b (get_or items i d ∷ filter (is_in kinds) (drop (i + 1) items)) (filter (is_in kinds) (drop (i + 1) items))
-coming_at kinds items i d b lt e = ap (filter (is_in kinds)) (drop_more items i d lt) ∙ next_kind kinds (get_or items i d) (drop (i + 1) items) b e
+pub coming_at : (kinds : Kinds) (items : List Kind) (i : ℕ) (d : Kind) (b : Bool) → i < length items
+    → is_in kinds (get_or items i d) ≡ b
+    → filter (is_in kinds) (drop i items) ≡ cond b (get_or items i d ∷ filter (is_in kinds) (drop (i + 1) items))
+    (filter (is_in kinds) (drop (i + 1) items))
+coming_at kinds items i d b lt e = ap (filter (is_in kinds)) (drop_more items i d lt)
+    ∙ next_kind kinds (get_or items i d) (drop (i + 1) items) b e
 
-module _ (passes : List ℕ → Bool) (keys : List Key) (a : ℕ) (all : List Kind) (old : List Ahead) (steps0 : ℕ) (kinds : Kinds) (items : List Kind) (i : ℕ) (d : Kind) (ws : List Ahead) (steps : ℕ) where
-  pub kinds_next : i < length items → is_in kinds (get_or items i d) ≡ true → HaveKinds passes keys a all (filter (is_in kinds) (drop i items)) old ws steps0 steps
+module _ (passes : List ℕ → Bool) (keys : List Key) (a : ℕ) (all : List Kind) (old : List Ahead) (steps0 : ℕ)
+    (kinds : Kinds) (items : List Kind) (i : ℕ) (d : Kind) (ws : List Ahead) (steps : ℕ) where
+  pub kinds_next : i < length items → is_in kinds (get_or items i d) ≡ true
+      → HaveKinds passes keys a all (filter (is_in kinds) (drop i items)) old ws steps0 steps
       → HaveKinds passes keys a all (get_or items i d ∷ filter (is_in kinds) (drop (i + 1) items)) old ws steps0 steps
-  kinds_next lt e have = subst (λ (ks : List Kind). HaveKinds passes keys a all ks old ws steps0 steps) (coming_at kinds items i d true lt e) have
+  kinds_next lt e have = subst (λ (ks : List Kind). HaveKinds passes keys a all ks old ws steps0 steps)
+      (coming_at kinds items i d true lt e) have
 
-  pub kinds_skip : i < length items → is_in kinds (get_or items i d) ≡ false → HaveKinds passes keys a all (filter (is_in kinds) (drop i items)) old ws steps0 steps
+  pub kinds_skip : i < length items → is_in kinds (get_or items i d) ≡ false
+      → HaveKinds passes keys a all (filter (is_in kinds) (drop i items)) old ws steps0 steps
       → HaveKinds passes keys a all (filter (is_in kinds) (drop (i + 1) items)) old ws steps0 steps
-  kinds_skip lt e have = subst (λ (ks : List Kind). HaveKinds passes keys a all ks old ws steps0 steps) (coming_at kinds items i d false lt e) have
+  kinds_skip lt e have = subst (λ (ks : List Kind). HaveKinds passes keys a all ks old ws steps0 steps)
+      (coming_at kinds items i d false lt e) have
 
 -- ---- past the last message
 
-texts_past : (version count m : ℕ) (kind : Kind) (ks : List Key) → count ≤ m → AllByRecursion (IsKey version count) ks → texts_with kind m ks ≡ []
+texts_past : (version count m : ℕ) (kind : Kind) (ks : List Key) → count ≤ m → AllByRecursion (IsKey version count) ks
+    → texts_with kind m ks ≡ []
 texts_past version count m kind [] past all = refl
-texts_past version count m kind (k ∷ ks) past all = grind (arith, past_all, texts_past version count m kind ks past all.1)
+texts_past version count m kind (k ∷ ks) past all =
+    grind (arith, past_all, texts_past version count m kind ks past all.1)
 
-kinds_past : (version count m : ℕ) (kinds : List Kind) (passes : List ℕ → Bool) (ks : List Key) → count ≤ m → AllByRecursion (IsKey version count) ks → some_of_kinds kinds passes ks m ≡ false
+kinds_past : (version count m : ℕ) (kinds : List Kind) (passes : List ℕ → Bool) (ks : List Key) → count ≤ m
+    → AllByRecursion (IsKey version count) ks → some_of_kinds kinds passes ks m ≡ false
 kinds_past version count m [] passes ks past all = refl
-kinds_past version count m (kind ∷ kinds) passes ks past all = grind (arith, texts_past, kinds_past version count m kinds passes ks past all)
+kinds_past version count m (kind ∷ kinds) passes ks past all =
+    grind (arith, texts_past, kinds_past version count m kinds passes ks past all)
 
-pub word_past : (kinds : Kinds) (passes : List ℕ → Bool) (t : Table) (m : ℕ) → IsWellFormed t → length t.messages ≤ m → some_word passes kinds (facts_at t m) ≡ false
-word_past kinds passes t m well past = sym (some_of_all kinds passes t m) ∙ kinds_past t.version (length t.messages) m (kinds_in kinds) passes t.keys past well.keys
+pub word_past : (kinds : Kinds) (passes : List ℕ → Bool) (t : Table) (m : ℕ) → IsWellFormed t → length t.messages ≤ m
+    → some_word passes kinds (facts_at t m) ≡ false
+word_past kinds passes t m well past = sym (some_of_all kinds passes t m)
+    ∙ kinds_past t.version (length t.messages) m (kinds_in kinds) passes t.keys past well.keys

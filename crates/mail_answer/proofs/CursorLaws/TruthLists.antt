@@ -1,19 +1,26 @@
 -- Lists with a truth for each message, and the numbers of those that are true.
-use Rattle.mail_answer.proofs.Words.{◌≡◌, ◌∙◌, ◌+◌, ◌<◌, ℕ, zero, suc, Bool, true, false, cond, not, List, [], ◌∷◌, ◌++◌, length, map, Some, refl, sym, ap, arith, filter, range_with_len, slice_get, map-id, ext_get_or, length-map, get_or-map, filter_of_map_range_with_len_more, fill_by_all, Record, record_at, truth_at, each_number, replicate, get_or-replicate, length-replicate, Adds}
+use Rattle.mail_answer.proofs.Words.{◌≡◌, ◌∙◌, ◌+◌, ◌<◌, ℕ, zero, suc, Bool, true, false, cond, not, List, [], ◌∷◌}
+use Rattle.mail_answer.proofs.Words.{◌++◌, length, map, Some, refl, sym, ap, arith, filter, range_with_len, slice_get}
+use Rattle.mail_answer.proofs.Words.{map-id, ext_get_or, length-map, get_or-map, filter_of_map_range_with_len_more}
+use Rattle.mail_answer.proofs.Words.{fill_by_all, Record, record_at, truth_at, each_number, replicate, get_or-replicate}
+use Rattle.mail_answer.proofs.Words.{length-replicate, Adds}
 use Rattle.std.proofs.lemmas.List.{append-nil}
 
 -- the record that a list has at a number
-pub record_known : (messages : List Record) (n : ℕ) → n < length messages → slice_get messages n ≡ Some (record_at messages n)
+pub record_known : (messages : List Record) (n : ℕ) → n < length messages → slice_get messages n
+    ≡ Some (record_at messages n)
 record_known [] n lt = absurd (omega (arith, lt))
 record_known (m ∷ ms) zero lt = refl
 record_known (m ∷ ms) (suc n) lt = record_known ms n (omega (arith, lt))
 
 -- as many truths as messages, each given by the test
-pub told : (count : ℕ) (test : ℕ → Bool) (xs : List Bool) → length xs ≡ count → ((n : ℕ) → n < count → truth_at xs n ≡ test n) → xs ≡ each_number count test
+pub told : (count : ℕ) (test : ℕ → Bool) (xs : List Bool) → length xs ≡ count
+    → ((n : ℕ) → n < count → truth_at xs n ≡ test n) → xs ≡ each_number count test
 told count test xs long each = fill_by_all test xs count false long each
 
 -- each truth is negated
-pub turned : (xs ys : List Bool) → length ys ≡ length xs → ((n : ℕ) → n < length xs → truth_at ys n ≡ not (truth_at xs n)) → ys ≡ map not xs
+pub turned : (xs ys : List Bool) → length ys ≡ length xs
+    → ((n : ℕ) → n < length xs → truth_at ys n ≡ not (truth_at xs n)) → ys ≡ map not xs
 turned xs ys long each =
     ext_get_or false ys (map not xs) (long ∙ sym (length-map xs not)) (λ n lt.
     let within : n < length xs = omega (arith, long, lt) in
@@ -22,19 +29,24 @@ turned xs ys long each =
 -- ---- the numbers of the messages that are true
 
 -- one more number is tested
-pub filter_more : (test : ℕ → Bool) (n : ℕ) → filter test (range_with_len 0 (n + 1)) ≡ filter test (range_with_len 0 n) ++ cond (test n) (n ∷ []) []
+pub filter_more : (test : ℕ → Bool) (n : ℕ) → filter test (range_with_len 0 (n + 1))
+    ≡ filter test (range_with_len 0 n) ++ cond (test n) (n ∷ []) []
 filter_more test n =
-    sym (ap (filter test) (map-id (range_with_len 0 (n + 1)))) ∙ filter_of_map_range_with_len_more test (λ (m : ℕ). m) 0 n n (omega arith)
+    sym (ap (filter test) (map-id (range_with_len 0 (n + 1))))
+    ∙ filter_of_map_range_with_len_more test (λ (m : ℕ). m) 0 n n (omega arith)
     ∙ ap (λ (ms : List ℕ). filter test ms ++ cond (test n) (n ∷ []) []) (map-id (range_with_len 0 n))
 
 -- the number passes and is added
-pub filter_true : (test : ℕ → Bool) (n : ℕ) (xs ys : List ℕ) → xs ≡ filter test (range_with_len 0 n) → test n ≡ true → ys ≡ xs ++ n ∷ [] → ys ≡ filter test (range_with_len 0 (n + 1))
+pub filter_true : (test : ℕ → Bool) (n : ℕ) (xs ys : List ℕ) → xs ≡ filter test (range_with_len 0 n) → test n ≡ true
+    → ys ≡ xs ++ n ∷ [] → ys ≡ filter test (range_with_len 0 (n + 1))
 filter_true test n xs ys front here whole = grind (arith, filter_more)
 
 -- the number doesn't pass
-pub filter_false : (test : ℕ → Bool) (n : ℕ) (xs : List ℕ) → xs ≡ filter test (range_with_len 0 n) → test n ≡ false → xs ≡ filter test (range_with_len 0 (n + 1))
+pub filter_false : (test : ℕ → Bool) (n : ℕ) (xs : List ℕ) → xs ≡ filter test (range_with_len 0 n) → test n ≡ false → xs
+    ≡ filter test (range_with_len 0 (n + 1))
 filter_false test n xs front here = grind (arith, append-nil, filter_more)
 
 -- truths that were added to none
-pub adds_to_none : (f : ℕ → Bool) (count : ℕ) (xs ys : List Bool) → xs ≡ replicate count false → Adds f xs ys → ys ≡ each_number count f
+pub adds_to_none : (f : ℕ → Bool) (count : ℕ) (xs ys : List Bool) → xs ≡ replicate count false → Adds f xs ys → ys
+    ≡ each_number count f
 adds_to_none f count xs ys none adds = grind (arith, length-replicate, told, get_or-replicate)

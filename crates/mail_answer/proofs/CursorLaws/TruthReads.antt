@@ -1,11 +1,14 @@
 -- The truth of a number in lists that were made from others.
-use Rattle.mail_answer.proofs.Words.{◌≡◌, ◌<◌, ◌≤◌, ℕ, zero, suc, Bool, false, ◌&&◌, ◌||◌, List, [], ◌∷◌, refl, sym, arith, get_or_past, length-map-range_with_len, get_or-map-range_with_len, and-false, or-false, truth_at, each_number, both, one_or_other}
+use Rattle.mail_answer.proofs.Words.{◌≡◌, ◌<◌, ◌≤◌, ℕ, zero, suc, Bool, false, ◌&&◌, ◌||◌, List, [], ◌∷◌, refl, sym}
+use Rattle.mail_answer.proofs.Words.{arith, get_or_past, length-map-range_with_len, get_or-map-range_with_len}
+use Rattle.mail_answer.proofs.Words.{and-false, or-false, truth_at, each_number, both, one_or_other}
 
 pub each-at : (count : ℕ) (test : ℕ → Bool) (n : ℕ) → n < count → truth_at (each_number count test) n ≡ test n
 each-at count test n lt = get_or-map-range_with_len test 0 count n n false lt (omega arith)
 
 pub each-past : (count : ℕ) (test : ℕ → Bool) (n : ℕ) → count ≤ n → truth_at (each_number count test) n ≡ false
-each-past count test n past = get_or_past (each_number count test) n false (omega (arith, past, length-map-range_with_len test 0 count))
+each-past count test n past = get_or_past (each_number count test) n false
+    (omega (arith, past, length-map-range_with_len test 0 count))
 
 pub both-at : (xs ys : List Bool) (n : ℕ) → truth_at (both xs ys) n ≡ (truth_at xs n && truth_at ys n)
 both-at [] ys n = refl

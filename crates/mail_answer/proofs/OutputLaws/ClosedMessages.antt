@@ -1,6 +1,11 @@
 -- A closed message, without CR as its last byte, is still a message: its last line gets an LF if it has none, and an
 -- empty line follows it.
-use Rattle.mail_answer.proofs.Words.{◌≡◌, ◌∙◌, ℕ, ◌+◌, ◌<◌, Bool, true, false, cond, ◌&&◌, ◌||◌, nat_eq, List, [], ◌∷◌, ◌++◌, length, take, drop, refl, ap, sym, subst, arith, append_assoc, append-nil, length-append, concat, take-append_seam, drop-append_seam, nat_tests, lines, is_empty, first_length, length_before_feed, IsLine, AreCut, is_separator, length_before_feed-append_out, length_before_feed-le, first_length-le, lines-cons, feed, has_feed, next_text, behind_next, ends_in_return, closed}
+use Rattle.mail_answer.proofs.Words.{◌≡◌, ◌∙◌, ℕ, ◌+◌, ◌<◌, Bool, true, false, cond, ◌&&◌, ◌||◌, nat_eq, List, [], ◌∷◌}
+use Rattle.mail_answer.proofs.Words.{◌++◌, length, take, drop, refl, ap, sym, subst, arith, append_assoc, append-nil}
+use Rattle.mail_answer.proofs.Words.{length-append, concat, take-append_seam, drop-append_seam, nat_tests, lines}
+use Rattle.mail_answer.proofs.Words.{is_empty, first_length, length_before_feed, IsLine, AreCut, is_separator}
+use Rattle.mail_answer.proofs.Words.{length_before_feed-append_out, length_before_feed-le, first_length-le, lines-cons}
+use Rattle.mail_answer.proofs.Words.{feed, has_feed, next_text, behind_next, ends_in_return, closed}
 use Rattle.std.specs.Str.{bytes_eq}
 use Rattle.std.proofs.lemmas.List.{length-take-le}
 use Rattle.mail_answer.proofs.OutputLaws.ClosedLemmas.{closed_more, cr_line, has_feed-is, one_line}
@@ -24,18 +29,22 @@ first-is l ls c =
     let b : List ℕ = l ++ concat ls in
     let some : 0 < length l = (is_line l ls c).some in
     let long : length b ≡ length l + length (concat ls) = length-append l (concat ls) in
-    let e : l ∷ ls ≡ take (first_length b) b ∷ lines (drop (first_length b) b) = sym (lines-concat (l ∷ ls) c) ∙ lines-cons b (omega arith) in
+    let e : l ∷ ls ≡ take (first_length b) b ∷ lines (drop (first_length b) b) = sym (lines-concat (l ∷ ls) c)
+    ∙ lines-cons b (omega arith) in
     let head : l ≡ take (first_length b) b = cc e in
     sym (length-take-le (first_length b) b (first_length-le b)) ∙ sym (ap length head)
 
 -- ---- the bytes
 
-text-last : (l : List ℕ) → IsLine l → ends_in_return l ≡ false → closed (l ++ []) ≡ closed_first l [] ++ concat (closed_rest l [])
+text-last : (l : List ℕ) → IsLine l → ends_in_return l ≡ false → closed (l ++ [])
+    ≡ closed_first l [] ++ concat (closed_rest l [])
 text-last l c other =
     let first : first_length l ≡ length l = ap first_length (sym (append-nil l)) ∙ first-is l [] c in
-    ap closed (append-nil l) ∙ one_line l c.some first ∙ parts (is_empty l) (has_feed l) (bytes_eq l (13 ∷ [])) (return-alone l other)
+    ap closed (append-nil l) ∙ one_line l c.some first
+    ∙ parts (is_empty l) (has_feed l) (bytes_eq l (13 ∷ [])) (return-alone l other)
   where
-    parts : (v w r : Bool) → r ≡ false → l ++ cond v [] (cond (w || r) feed (feed ++ feed)) ≡ cond v l (cond w l (l ++ feed)) ++ concat (cond v [] (feed ∷ []))
+    parts : (v w r : Bool) → r ≡ false → l ++ cond v [] (cond (w || r) feed (feed ++ feed))
+        ≡ cond v l (cond w l (l ++ feed)) ++ concat (cond v [] (feed ∷ []))
     parts true w r e = refl
     parts false true r e = refl
     parts false false r e = rw e (sym (append_assoc l feed feed))
@@ -76,8 +85,20 @@ before-same : (l : List ℕ) (ls : List (List ℕ)) → length_before_feed (clos
 before-same l ls = grind (arith, no-feed, length_before_feed-append_out)
 
 pub cut-closed : (l : List ℕ) (ls : List (List ℕ)) → AreCut (l ∷ ls) → AreCut (closed_first l ls ∷ closed_rest l ls)
-cut-closed l [] c = grind (arith, some-feed, feed-line, no-feed, length_before_feed-append_out, length-append, line-feed)
-cut-closed l (m ∷ ls) c = (c.0, λ n. ((c.1 n).0, subst (λ (k : ℕ). 0 < k) (sym (before-same m ls)) (c.1 n).1), cut-closed m ls c.2)
+cut-closed l [] c = grind (
+  arith,
+  some-feed,
+  feed-line,
+  no-feed,
+  length_before_feed-append_out,
+  length-append,
+  line-feed,
+)
+cut-closed l (m ∷ ls) c = (
+  c.0,
+  λ n. ((c.1 n).0, subst (λ (k : ℕ). 0 < k) (sym (before-same m ls)) (c.1 n).1),
+  cut-closed m ls c.2,
+)
 
 -- ---- where messages start
 
@@ -92,13 +113,16 @@ module _ (l : List ℕ) (some : 0 < length l) (other : ends_in_return l ≡ fals
 last-no : (l : List ℕ) → ends_in_return (l ++ []) ≡ false → ends_in_return l ≡ false
 last-no l other = ap ends_in_return (sym (append-nil l)) ∙ other
 
-rest-no : (l m : List ℕ) (ls : List (List ℕ)) → AreCut (l ∷ m ∷ ls) → ends_in_return (concat (l ∷ m ∷ ls)) ≡ false → ends_in_return (concat (m ∷ ls)) ≡ false
+rest-no : (l m : List ℕ) (ls : List (List ℕ)) → AreCut (l ∷ m ∷ ls) → ends_in_return (concat (l ∷ m ∷ ls)) ≡ false
+    → ends_in_return (concat (m ∷ ls)) ≡ false
 rest-no l m ls c other = grind (arith, is_line, length-append, return-behind)
 
-pub separator-same : (l : List ℕ) (ls : List (List ℕ)) → AreCut (l ∷ ls) → ends_in_return (concat (l ∷ ls)) ≡ false → is_separator (closed_first l ls) ≡ is_separator l
+pub separator-same : (l : List ℕ) (ls : List (List ℕ)) → AreCut (l ∷ ls) → ends_in_return (concat (l ∷ ls)) ≡ false
+    → is_separator (closed_first l ls) ≡ is_separator l
 separator-same l ls h h2 = grind (arith, last-separates, last-no)
 
-pub empty-same : (l : List ℕ) (ls : List (List ℕ)) → AreCut (l ∷ ls) → ends_in_return (concat (l ∷ ls)) ≡ false → is_empty (closed_first l ls) ≡ is_empty l
+pub empty-same : (l : List ℕ) (ls : List (List ℕ)) → AreCut (l ∷ ls) → ends_in_return (concat (l ∷ ls)) ≡ false
+    → is_empty (closed_first l ls) ≡ is_empty l
 empty-same l ls h h2 = grind (arith, last-empty, last-no)
 
 -- no message starts after the first line

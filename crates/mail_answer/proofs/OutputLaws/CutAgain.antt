@@ -1,10 +1,13 @@
 -- Messages that were cut out of archives, closed and joined, are cut again into these, because no other line starts a
 -- message.
-use Rattle.mail_answer.proofs.Words.{◌≡◌, ℕ, suc, false, List, [], ◌∷◌, map, refl, arith, flat_map, concat_is, flat_map-map, AreCut, IsCutOut, IsCutInto, ends_in_return, closed}
+use Rattle.mail_answer.proofs.Words.{◌≡◌, ℕ, suc, false, List, [], ◌∷◌, map, refl, arith, flat_map, concat_is}
+use Rattle.mail_answer.proofs.Words.{flat_map-map, AreCut, IsCutOut, IsCutInto, ends_in_return, closed}
 use Rattle.std.specs.List.{All}
-use Rattle.mail_answer.proofs.OutputLaws.ClosedMessages.{closed_first, closed_rest, text-closed, cut-closed, separator-same, inside-closed, is-closed}
+use Rattle.mail_answer.proofs.OutputLaws.ClosedMessages.{closed_first, closed_rest, text-closed, cut-closed}
+use Rattle.mail_answer.proofs.OutputLaws.ClosedMessages.{separator-same, inside-closed, is-closed}
 use Rattle.mail_answer.proofs.OutputLaws.CutMessages.{IsText, cut-out}
-use Rattle.mail_answer.proofs.OutputLaws.MessageLines.{Each, Group, IsMessage, IsClosed, lines_of, text_of, messages-cut}
+use Rattle.mail_answer.proofs.OutputLaws.MessageLines.{Each, Group, IsMessage, IsClosed, lines_of, text_of}
+use Rattle.mail_answer.proofs.OutputLaws.MessageLines.{messages-cut}
 
 -- the closed texts are those of closed messages
 record AreMessages (gs : List Group) (texts : List (List ℕ)) : Type 0 where
@@ -16,15 +19,21 @@ record AreMessages (gs : List Group) (texts : List (List ℕ)) : Type 0 where
 abbrev closed_group : Group → Group
 closed_group g = (closed_first g.0 g.1, closed_rest g.0 g.1)
 
-one-more : (g : Group) (text : List ℕ) → IsText g text → ends_in_return text ≡ false → (gs : List Group) (texts : List (List ℕ)) → AreMessages gs texts → AreMessages (closed_group g ∷ gs) (text ∷ texts)
-one-more g text h other gs texts rest = grind (arith, text_of, text-closed, separator-same, inside-closed, is-closed, cut-closed)
+one-more : (g : Group) (text : List ℕ) → IsText g text → ends_in_return text ≡ false
+    → (gs : List Group) (texts : List (List ℕ)) → AreMessages gs texts
+    → AreMessages (closed_group g ∷ gs) (text ∷ texts)
+one-more g text h other gs texts rest = grind
+    (arith, text_of, text-closed, separator-same, inside-closed, is-closed, cut-closed)
 
-gathered : (texts : List (List ℕ)) → All IsCutOut texts → All (λ text. ends_in_return text ≡ false) texts → (gs : List Group) × AreMessages gs texts
+gathered : (texts : List (List ℕ)) → All IsCutOut texts → All (λ text. ends_in_return text ≡ false) texts
+    → (gs : List Group) × AreMessages gs texts
 gathered [] out other = ([], record { are = refl; messages = tt; closing = tt; each_line = tt })
 gathered (text ∷ texts) out other =
-    let rest : (gs : List Group) × AreMessages gs texts = gathered texts (λ k d h. out (suc k) d (omega arith)) (λ k d h. other (suc k) d (omega arith)) in
+    let rest : (gs : List Group) × AreMessages gs texts =
+    gathered texts (λ k d h. out (suc k) d (omega arith)) (λ k d h. other (suc k) d (omega arith)) in
     let here : (g : Group) × IsText g text = cut-out text (out 0 [] (omega arith)) in
     (closed_group here.0 ∷ rest.0, one-more here.0 text here.1 (other 0 [] (omega arith)) rest.0 texts rest.1)
 
-pub cut-again : (texts : List (List ℕ)) → All IsCutOut texts → All (λ text. ends_in_return text ≡ false) texts → IsCutInto (flat_map closed texts) (map closed texts)
+pub cut-again : (texts : List (List ℕ)) → All IsCutOut texts → All (λ text. ends_in_return text ≡ false) texts
+    → IsCutInto (flat_map closed texts) (map closed texts)
 cut-again texts out other = grind (arith, gathered, concat_is, flat_map-map, messages-cut)

@@ -1,7 +1,12 @@
 -- Each text that is cut out of an archive is a message: its first line starts a message, and no other line does.
-use Rattle.mail_answer.proofs.Words.{◌≡◌, ◌∙◌, ℕ, ◌+◌, Bool, true, cond, ◌&&◌, List, [], ◌∷◌, ◌++◌, Option, None, Some, length, take, drop, map, refl, ap, sym, subst, arith, concat, option_map, take-append_seam, drop-append_seam, drop-drop, concat-append, Message, messages, messages_from, marked, grouped, is_refused, total, span_length, lines, is_empty, AreCut, AreLines, IsCutOut}
+use Rattle.mail_answer.proofs.Words.{◌≡◌, ◌∙◌, ℕ, ◌+◌, Bool, true, cond, ◌&&◌, List, [], ◌∷◌, ◌++◌, Option, None, Some}
+use Rattle.mail_answer.proofs.Words.{length, take, drop, map, refl, ap, sym, subst, arith, concat, option_map}
+use Rattle.mail_answer.proofs.Words.{take-append_seam, drop-append_seam, drop-drop, concat-append, Message, messages}
+use Rattle.mail_answer.proofs.Words.{messages_from, marked, grouped, is_refused, total, span_length, lines, is_empty}
+use Rattle.mail_answer.proofs.Words.{AreCut, AreLines, IsCutOut}
 use Rattle.mbox_cutter.proofs.LinesAreCut.{lines-AreLines}
-use Rattle.mail_answer.proofs.OutputLaws.MessageLines.{Each, StartsNowhere, Group, IsMessage, lines_of, all_lines, text_of, span_of, total-length}
+use Rattle.mail_answer.proofs.OutputLaws.MessageLines.{Each, StartsNowhere, Group, IsMessage, lines_of, all_lines}
+use Rattle.mail_answer.proofs.OutputLaws.MessageLines.{text_of, span_of, total-length}
 
 -- the text is that of a message
 pub record IsText (g : Group) (text : List ℕ) : Type 0 where
@@ -42,17 +47,22 @@ cut-behind (l ∷ ls) ms c = cut-behind ls ms (rest-cut l (ls ++ ms) c)
 abbrev pub IsIn : List ℕ → Message → Type 0
 IsIn archive m = IsText (m.separator, m.after) (take (span_length m) (drop m.offset archive))
 
-messages-are : (archive : List ℕ) (offset : ℕ) (gs : List Group) → Each IsMessage gs → AreCut (all_lines gs) → drop offset archive ≡ concat (all_lines gs)
+messages-are : (archive : List ℕ) (offset : ℕ) (gs : List Group) → Each IsMessage gs → AreCut (all_lines gs)
+    → drop offset archive ≡ concat (all_lines gs)
     → Each (IsIn archive) (messages_from offset gs)
 messages-are archive offset [] is c e = tt
 messages-are archive offset (g ∷ gs) is c e =
     let n : ℕ = length g.0 + total g.1 in
     let long : n ≡ length (text_of g) = total-length (lines_of g) in
-    let whole : drop offset archive ≡ text_of g ++ concat (all_lines gs) = e ∙ concat-append (lines_of g) (all_lines gs) in
+    let whole : drop offset archive ≡ text_of g ++ concat (all_lines gs) = e ∙ concat-append (lines_of g) (all_lines gs)
+    in
     let here : take n (drop offset archive) ≡ text_of g =
-    ap (take n) whole ∙ ap (λ (k : ℕ). take k (text_of g ++ concat (all_lines gs))) long ∙ take-append_seam (text_of g) (concat (all_lines gs)) in
+    ap (take n) whole ∙ ap (λ (k : ℕ). take k (text_of g ++ concat (all_lines gs))) long
+    ∙ take-append_seam (text_of g) (concat (all_lines gs)) in
     let next : drop (offset + n) archive ≡ concat (all_lines gs) =
-    sym (drop-drop n offset archive) ∙ ap (drop n) whole ∙ ap (λ (k : ℕ). drop k (text_of g ++ concat (all_lines gs))) long ∙ drop-append_seam (text_of g) (concat (all_lines gs)) in (
+    sym (drop-drop n offset archive) ∙ ap (drop n) whole
+    ∙ ap (λ (k : ℕ). drop k (text_of g ++ concat (all_lines gs))) long
+    ∙ drop-append_seam (text_of g) (concat (all_lines gs)) in (
       record { message = is.0; each_line = cut-front g.0 g.1 (all_lines gs) c; is_text = here },
       messages-are archive (offset + n) gs is.1 (cut-behind (lines_of g) (all_lines gs) c) next,
     )
@@ -67,14 +77,18 @@ messages-in archive ms e =
     let whole : archive ≡ concat groups.0 ++ concat (all_lines groups.1) =
     sym are.joined ∙ ap concat (sym h.joined) ∙ concat-append groups.0 (all_lines groups.1) in
     let behind : drop (total groups.0) archive ≡ concat (all_lines groups.1) =
-    ap (λ (k : ℕ). drop k archive) (total-length groups.0) ∙ ap (drop (length (concat groups.0))) whole ∙ drop-append_seam (concat groups.0) (concat (all_lines groups.1)) in
-    let each : AreCut (all_lines groups.1) = cut-behind groups.0 (all_lines groups.1) (subst AreCut (sym h.joined) are.each) in
-    subst (Each (IsIn archive)) (accepted (is_refused (marked true (lines archive))) (messages_from (total groups.0) groups.1) e) (messages-are archive (total groups.0) groups.1 h.each each behind)
+    ap (λ (k : ℕ). drop k archive) (total-length groups.0) ∙ ap (drop (length (concat groups.0))) whole
+    ∙ drop-append_seam (concat groups.0) (concat (all_lines groups.1)) in
+    let each : AreCut (all_lines groups.1) =
+    cut-behind groups.0 (all_lines groups.1) (subst AreCut (sym h.joined) are.each) in
+    subst (Each (IsIn archive)) (accepted (is_refused (marked true (lines archive)))
+    (messages_from (total groups.0) groups.1) e) (messages-are archive (total groups.0) groups.1 h.each each behind)
   where
     accepted : (refused : Bool) (all : List Message) → cond refused None (Some all) ≡ Some ms → all ≡ ms
     accepted refused all h = grind arith
 
-found : (archive : List ℕ) (ms : List Message) (before : List (ℕ × ℕ)) (here : ℕ × ℕ) (behind : List (ℕ × ℕ)) → Each (IsIn archive) ms → map span_of ms ≡ before ++ here ∷ behind
+found : (archive : List ℕ) (ms : List Message) (before : List (ℕ × ℕ)) (here : ℕ × ℕ) (behind : List (ℕ × ℕ))
+    → Each (IsIn archive) ms → map span_of ms ≡ before ++ here ∷ behind
     → (g : Group) × IsText g (take here.1 (drop here.0 archive))
 found archive [] [] here behind each e = absurd (cc e)
 found archive [] (b ∷ before) here behind each e = absurd (cc e)
@@ -85,8 +99,10 @@ found archive (m ∷ ms) (b ∷ before) here behind each e = found archive ms be
 pub cut-out : (text : List ℕ) → IsCutOut text → (g : Group) × IsText g text
 cut-out text h = go (messages h.archive) refl h.is_cut
   where
-    go : (o : Option (List Message)) → messages h.archive ≡ o → option_map (map span_of) o ≡ Some (h.before ++ h.here ∷ h.behind) → (g : Group) × IsText g text
+    go : (o : Option (List Message)) → messages h.archive ≡ o → option_map (map span_of) o
+        ≡ Some (h.before ++ h.here ∷ h.behind) → (g : Group) × IsText g text
     go None e c = absurd (cc c)
     go (Some ms) e c =
-        let here : (g : Group) × IsText g (take h.here.1 (drop h.here.0 h.archive)) = found h.archive ms h.before h.here h.behind (messages-in h.archive ms e) (cc c) in
+        let here : (g : Group) × IsText g (take h.here.1 (drop h.here.0 h.archive)) =
+        found h.archive ms h.before h.here h.behind (messages-in h.archive ms e) (cc c) in
         (here.0, subst (IsText here.0) (sym h.is_text) here.1)

@@ -1,8 +1,16 @@
 -- The ending of bytes after one more byte is known from the ending before it, by the cases of the last line.
-use Rattle.mail_answer.proofs.Words.{◌≡◌, ◌∙◌, ℕ, zero, suc, ◌+◌, ◌<◌, ◌≤◌, Bool, true, false, cond, ◌||◌, ◌&&◌, ◌==◌, nat_lt, List, [], ◌∷◌, ◌++◌, length, refl, ap, sym, append_assoc, append-nil, arith, inl, inr, cases_lt, eqb-true, nat_tests, drop-append-le, drop_all, is_empty, lines, first_length, length_before_feed, line_end-more, first_length-le, first_length-positive, length_before_feed-le, length_before_feed-append_out, lines-cons, lines-nil, feed, has_feed, feeds_behind, behind_next, ending_of_line, ending_of, line_of, with_byte, feeds_of, last_of, Ending, Empty, Ended, Return, Open}
+use Rattle.mail_answer.proofs.Words.{◌≡◌, ◌∙◌, ℕ, zero, suc, ◌+◌, ◌<◌, ◌≤◌, Bool, true, false, cond, ◌||◌, ◌&&◌, ◌==◌}
+use Rattle.mail_answer.proofs.Words.{nat_lt, List, [], ◌∷◌, ◌++◌, length, refl, ap, sym, append_assoc, append-nil}
+use Rattle.mail_answer.proofs.Words.{arith, inl, inr, cases_lt, eqb-true, nat_tests, drop-append-le, drop_all, is_empty}
+use Rattle.mail_answer.proofs.Words.{lines, first_length, length_before_feed, line_end-more, first_length-le}
+use Rattle.mail_answer.proofs.Words.{first_length-positive, length_before_feed-le, length_before_feed-append_out}
+use Rattle.mail_answer.proofs.Words.{lines-cons, lines-nil, feed, has_feed, feeds_behind, behind_next, ending_of_line}
+use Rattle.mail_answer.proofs.Words.{ending_of, line_of, with_byte, feeds_of, last_of, Ending, Empty, Ended, Return}
+use Rattle.mail_answer.proofs.Words.{Open}
 use Rattle.std.specs.Str.{bytes_eq}
 use Rattle.std.proofs.lemmas.List.{length-append, length-drop, take_all}
-use Rattle.mail_answer.proofs.OutputLaws.ClosedLemmas.{last_behind, last-cons, whole_end, whole_feed, has_feed-is, cr_line}
+use Rattle.mail_answer.proofs.OutputLaws.ClosedLemmas.{last_behind, last-cons, whole_end, whole_feed, has_feed-is}
+use Rattle.mail_answer.proofs.OutputLaws.ClosedLemmas.{cr_line}
 
 -- ---- single lines
 
@@ -14,7 +22,8 @@ one_byte : (b : ℕ) → ending_of_line (b ∷ []) ≡ line_of b
 unfolding is_empty
 one_byte b = go (b == 10) (b == 13)
   where
-    go : (x y : Bool) → cond ((x && true) || (y && false)) Empty (cond (x || false) Ended (cond (y && true) Return (Open 1))) ≡ cond x Empty (cond y Return (Open 1))
+    go : (x y : Bool) → cond ((x && true) || (y && false)) Empty
+        (cond (x || false) Ended (cond (y && true) Return (Open 1))) ≡ cond x Empty (cond y Return (Open 1))
     go x y = grind arith
 
 pub lines_single : (b : List ℕ) → 0 < length b → first_length b ≡ length b → lines b ≡ b ∷ []
@@ -25,13 +34,15 @@ single_ending b h e = ap (λ (ls : List (List ℕ)). ending_of_line (last_of ls)
 
 one_length : (b : ℕ) → first_length (b ∷ []) ≡ 1
 unfolding first_length
-one_length b = elim (b == 10) as (λ v. cond (nat_lt 65536 (cond v 0 1)) 65536 (cond (nat_lt (cond v 0 1) 1) (cond v 0 1 + 1) 1) ≡ 1) [ true ↦ refl | false ↦ refl ]
+one_length b = elim (b == 10) as (λ v. cond (nat_lt 65536 (cond v 0 1)) 65536
+    (cond (nat_lt (cond v 0 1) 1) (cond v 0 1 + 1) 1) ≡ 1) [ true ↦ refl | false ↦ refl ]
 
 one_line_of : (b : ℕ) → ending_of (b ∷ []) ≡ line_of b
 one_line_of b = single_ending (b ∷ []) (omega arith) (one_length b) ∙ one_byte b
 
 -- a line that the next byte isn't part of
-cut_behind : (b x : List ℕ) → 0 < length b → 0 < length x → length b ≡ first_length (b ++ x) → last_of (lines (b ++ x)) ≡ last_of (lines x)
+cut_behind : (b x : List ℕ) → 0 < length b → 0 < length x → length b ≡ first_length (b ++ x) → last_of (lines (b ++ x))
+    ≡ last_of (lines x)
 cut_behind b x h some same = grind (arith, length-append, lines-cons, drop-append-le, drop_all, last-cons)
 
 not_empty : (b : List ℕ) → has_feed b ≡ false → is_empty b ≡ false
@@ -73,18 +84,31 @@ has_feed-append : (a b : List ℕ) → has_feed (a ++ b) ≡ (has_feed a || has_
 has_feed-append [] b = refl
 has_feed-append (x ∷ xs) b = go (x == 10) (has_feed-append xs b)
   where
-    go : (v : Bool) → has_feed (xs ++ b) ≡ (has_feed xs || has_feed b) → (v || has_feed (xs ++ b)) ≡ ((v || has_feed xs) || has_feed b)
+    go : (v : Bool) → has_feed (xs ++ b) ≡ (has_feed xs || has_feed b) → (v || has_feed (xs ++ b))
+        ≡ ((v || has_feed xs) || has_feed b)
     go true rest = refl
     go false rest = rest
 
 -- ---- one more byte
 
 -- a line without LF
-open_ending : (b : List ℕ) → has_feed b ≡ false → ending_of_line b ≡ cond (bytes_eq b (13 ∷ [])) Return (Open (length b))
+open_ending : (b : List ℕ) → has_feed b ≡ false → ending_of_line b
+    ≡ cond (bytes_eq b (13 ∷ [])) Return (Open (length b))
 open_ending b none = rw (not_empty b none, none) refl
 
-feed_more : (b : List ℕ) → 0 < length b → first_length b ≡ length b → has_feed b ≡ false → ending_of (b ++ feed) ≡ with_byte (ending_of_line b) 10
-feed_more b h e none = grind (arith, length-append, has_feed-append, single_ending, whole_feed, has_feed-is, cr_line, open_ending, nat_tests)
+feed_more : (b : List ℕ) → 0 < length b → first_length b ≡ length b → has_feed b ≡ false → ending_of (b ++ feed)
+    ≡ with_byte (ending_of_line b) 10
+feed_more b h e none = grind (
+  arith,
+  length-append,
+  has_feed-append,
+  single_ending,
+  whole_feed,
+  has_feed-is,
+  cr_line,
+  open_ending,
+  nat_tests,
+)
 
 at_most : (b : List ℕ) → first_length b ≡ length b → length_before_feed b ≡ length b → length b ≤ 65536
 unfolding first_length
@@ -98,12 +122,14 @@ cut_line : (b : List ℕ) → 65536 < length_before_feed b → first_length b �
 unfolding first_length
 cut_line b full = grind (arith, nat_tests)
 
-byte_more : (b : List ℕ) (x : ℕ) → 0 < length b → first_length b ≡ length b → has_feed b ≡ false → (x == 10) ≡ false → ending_of (b ++ x ∷ []) ≡ with_byte (ending_of_line b) x
+byte_more : (b : List ℕ) (x : ℕ) → 0 < length b → first_length b ≡ length b → has_feed b ≡ false → (x == 10) ≡ false
+    → ending_of (b ++ x ∷ []) ≡ with_byte (ending_of_line b) x
 byte_more b x h e none other =
     elim (cases_lt (length b) 65536) [
       | inl short ↦
           single_ending (b ++ x ∷ []) (omega (arith, long)) (whole (omega arith)) ∙ open_ending (b ++ x ∷ []) without
-          ∙ ap (λ (v : Bool). cond v Return (Open (length (b ++ x ∷ [])))) (not_return (b ++ x ∷ []) (omega (arith, long, h)))
+          ∙ ap (λ (v : Bool). cond v Return (Open (length (b ++ x ∷ []))))
+          (not_return (b ++ x ∷ []) (omega (arith, long, h)))
           ∙ ap Open long ∙ rw (open_ending b none) (parts (bytes_eq b (13 ∷ [])) refl short)
       | inr full ↦
           ap ending_of_line (cut_behind b (x ∷ []) h (omega arith) (cut (omega arith))) ∙ one_line_of x
@@ -114,7 +140,9 @@ byte_more b x h e none other =
     long = length-append b (x ∷ [])
 
     free : length_before_feed b ≡ length b
-    free = let le : length_before_feed b ≤ length b = length_before_feed-le b in let is : nat_lt (length_before_feed b) (length b) ≡ false = sym (has_feed-is b) ∙ none in grind (arith, nat_tests)
+    free = let le : length_before_feed b ≤ length b = length_before_feed-le b
+        in let is : nat_lt (length_before_feed b) (length b) ≡ false = sym (has_feed-is b) ∙ none
+        in grind (arith, nat_tests)
 
     without : has_feed (b ++ x ∷ []) ≡ false
     without = has_feed-append b (x ∷ []) ∙ rw (none, other) refl
@@ -131,7 +159,8 @@ byte_more b x h e none other =
     cut : 65536 ≤ length b → length b ≡ first_length (b ++ x ∷ [])
     cut full = sym (cut_line (b ++ x ∷ []) (omega (arith, free_more, full)) ∙ omega (arith, full, most))
 
-    parts : (v : Bool) → bytes_eq b (13 ∷ []) ≡ v → length b < 65536 → Open (length b + 1) ≡ with_byte (cond v Return (Open (length b))) x
+    parts : (v : Bool) → bytes_eq b (13 ∷ []) ≡ v → length b < 65536 → Open (length b + 1)
+        ≡ with_byte (cond v Return (Open (length b))) x
     parts true is short = let one : length b ≡ 1 = return_long b is in rw (one, other) refl
     parts false is short =
         let some : (length b == 0) ≡ false = grind (arith, nat_tests) in
@@ -145,18 +174,24 @@ byte_more b x h e none other =
         rw (some, other, fits) refl
 
 -- a line that has its LF
-ended_more : (b : List ℕ) (x : ℕ) → 0 < length b → first_length b ≡ length b → has_feed b ≡ true → ending_of (b ++ x ∷ []) ≡ with_byte (ending_of_line b) x
+ended_more : (b : List ℕ) (x : ℕ) → 0 < length b → first_length b ≡ length b → has_feed b ≡ true
+    → ending_of (b ++ x ∷ []) ≡ with_byte (ending_of_line b) x
 ended_more b x h e ended = grind (arith, line_end-more, whole_end, has_feed-is, cut_behind, one_line_of)
 
-single_more : (b : List ℕ) (x : ℕ) → 0 < length b → first_length b ≡ length b → ending_of (b ++ x ∷ []) ≡ with_byte (ending_of b) x
-single_more b x h e = go (has_feed b) refl (x == 10) refl ∙ ap (λ (a : Ending). with_byte a x) (sym (single_ending b h e))
+single_more : (b : List ℕ) (x : ℕ) → 0 < length b → first_length b ≡ length b → ending_of (b ++ x ∷ [])
+    ≡ with_byte (ending_of b) x
+single_more b x h e = go (has_feed b) refl (x == 10) refl
+    ∙ ap (λ (a : Ending). with_byte a x) (sym (single_ending b h e))
   where
-    go : (v : Bool) → has_feed b ≡ v → (w : Bool) → (x == 10) ≡ w → ending_of (b ++ x ∷ []) ≡ with_byte (ending_of_line b) x
+    go : (v : Bool) → has_feed b ≡ v → (w : Bool) → (x == 10) ≡ w → ending_of (b ++ x ∷ [])
+        ≡ with_byte (ending_of_line b) x
     go true ended w is = ended_more b x h e ended
-    go false none true is = let ten : x ≡ 10 = eqb-true x 10 is in ap (λ (y : ℕ). ending_of (b ++ y ∷ [])) ten ∙ feed_more b h e none ∙ ap (with_byte (ending_of_line b)) (sym ten)
+    go false none true is = let ten : x ≡ 10 = eqb-true x 10 is in ap (λ (y : ℕ). ending_of (b ++ y ∷ [])) ten
+        ∙ feed_more b h e none ∙ ap (with_byte (ending_of_line b)) (sym ten)
     go false none false is = byte_more b x h e none is
 
-ending_more-from : (most : ℕ) (b : List ℕ) (x : ℕ) → length b ≤ most → ending_of (b ++ x ∷ []) ≡ with_byte (ending_of b) x
+ending_more-from : (most : ℕ) (b : List ℕ) (x : ℕ) → length b ≤ most → ending_of (b ++ x ∷ [])
+    ≡ with_byte (ending_of b) x
 ending_more-from most [] x le = one_line_of x ∙ ap (λ (a : Ending). with_byte a x) (sym no_lines)
 ending_more-from zero (b ∷ bs) x le = absurd (omega arith)
 ending_more-from (suc most) (b ∷ bs) x le =
@@ -166,8 +201,11 @@ ending_more-from (suc most) (b ∷ bs) x le =
     elim (cases_lt (first_length all) (length all)) [
       | inl more ↦
           let rest : List ℕ = behind_next all in
-          let same : ending_of all ≡ ending_of rest = ap ending_of (sym (append-nil all)) ∙ ap ending_of_line (last_behind all [] more) ∙ ap ending_of (append-nil rest) in
-          ap ending_of_line (last_behind all (x ∷ []) more) ∙ ending_more-from most rest x (omega (arith, length-drop (first_length all) all, some, le)) ∙ ap (λ (a : Ending). with_byte a x) (sym same)
+          let same : ending_of all ≡ ending_of rest = ap ending_of (sym (append-nil all))
+          ∙ ap ending_of_line (last_behind all [] more) ∙ ap ending_of (append-nil rest) in
+          ap ending_of_line (last_behind all (x ∷ []) more)
+          ∙ ending_more-from most rest x (omega (arith, length-drop (first_length all) all, some, le))
+          ∙ ap (λ (a : Ending). with_byte a x) (sym same)
       | inr last ↦ single_more all x (omega arith) (omega arith)
     ]
 
@@ -184,14 +222,16 @@ endings_more : (b more : List ℕ) → ending_of (b ++ more) ≡ with_bytes (end
 unfolding with_bytes
 endings_more b [] = ap ending_of (append-nil b)
 endings_more b (x ∷ xs) =
-    ap ending_of (sym (append_assoc b (x ∷ []) xs)) ∙ endings_more (b ++ x ∷ []) xs ∙ ap (λ (e : Ending). with_bytes e xs) (ending_more b x)
+    ap ending_of (sym (append_assoc b (x ∷ []) xs)) ∙ endings_more (b ++ x ∷ []) xs
+    ∙ ap (λ (e : Ending). with_bytes e xs) (ending_more b x)
 
 -- what comes before an LF makes no difference to the ending of the bytes after it
 pub ending_behind : (b rest : List ℕ) → 0 < length rest → ending_of (b ++ 10 ∷ rest) ≡ ending_of rest
 unfolding with_bytes
 ending_behind b [] some = absurd (omega arith)
 ending_behind b (x ∷ xs) some =
-    endings_more b (10 ∷ x ∷ xs) ∙ ap (λ (e : Ending). with_bytes e xs) (begins (ending_of b)) ∙ sym (endings_more [] (x ∷ xs) ∙ ap (λ (e : Ending). with_bytes (with_byte e x) xs) no_lines)
+    endings_more b (10 ∷ x ∷ xs) ∙ ap (λ (e : Ending). with_bytes e xs) (begins (ending_of b))
+    ∙ sym (endings_more [] (x ∷ xs) ∙ ap (λ (e : Ending). with_bytes (with_byte e x) xs) no_lines)
   where
     begins : (e : Ending) → with_byte (with_byte e 10) x ≡ line_of x
     begins e = grind (arith, nat_tests)
@@ -201,7 +241,8 @@ ending_behind b (x ∷ xs) some =
 pub feeds_told : (line : List ℕ) → feeds_of (ending_of_line line) ≡ feeds_behind line
 feeds_told line = go (is_empty line) (has_feed line) (bytes_eq line (13 ∷ []))
   where
-    go : (e f r : Bool) → feeds_of (cond e Empty (cond f Ended (cond r Return (Open (length line))))) ≡ cond e [] (cond (f || r) feed (feed ++ feed))
+    go : (e f r : Bool) → feeds_of (cond e Empty (cond f Ended (cond r Return (Open (length line)))))
+        ≡ cond e [] (cond (f || r) feed (feed ++ feed))
     go true f r = refl
     go false true r = refl
     go false false true = refl

@@ -1,5 +1,9 @@
 -- Messages with a closing line that follow one another are cut into these messages, line by line.
-use Rattle.mail_answer.proofs.Words.{◌≡◌, ◌∙◌, ℕ, ◌+◌, Bool, true, false, cond, ◌&&◌, ◌||◌, ◌==◌, suc, List, [], ◌∷◌, ◌++◌, Some, length, map, refl, ap, sym, arith, append-nil, length-append, concat, eqb-true, concat-append, Message, cut, messages, messages_from, marked, grouped, is_refused, total, span_length, lines, is_empty, length_before_feed, AreCut, is_separator, places_from}
+use Rattle.mail_answer.proofs.Words.{◌≡◌, ◌∙◌, ℕ, ◌+◌, Bool, true, false, cond, ◌&&◌, ◌||◌, ◌==◌, suc, List, [], ◌∷◌}
+use Rattle.mail_answer.proofs.Words.{◌++◌, Some, length, map, refl, ap, sym, arith, append-nil, length-append, concat}
+use Rattle.mail_answer.proofs.Words.{eqb-true, concat-append, Message, cut, messages, messages_from, marked, grouped}
+use Rattle.mail_answer.proofs.Words.{is_refused, total, span_length, lines, is_empty, length_before_feed, AreCut}
+use Rattle.mail_answer.proofs.Words.{is_separator, places_from}
 use Rattle.mbox_cutter.proofs.OnlyLines.{only_lines}
 
 -- each element has the property
@@ -41,12 +45,16 @@ abbrev pub text_of : Group → List ℕ
 text_of g = concat (lines_of g)
 
 grouped-behind : (may : Bool) (ls rest : List (List ℕ)) → StartsNowhere may ls
-    → grouped (marked may (ls ++ rest)) ≡ (ls ++ (grouped (marked (may_behind may ls) rest)).0, (grouped (marked (may_behind may ls) rest)).1)
+    → grouped (marked may (ls ++ rest)) ≡ (
+      ls ++ (grouped (marked (may_behind may ls) rest)).0,
+      (grouped (marked (may_behind may ls) rest)).1,
+    )
 grouped-behind may [] rest h = refl
 grouped-behind may (l ∷ ls) rest h = grind (arith, grouped-behind (is_empty l) ls rest h.1)
 
 -- messages with a closing line are grouped again as they are
-grouped-messages : (gs : List Group) → Each IsMessage gs → Each IsClosed gs → grouped (marked true (all_lines gs)) ≡ ([], gs)
+grouped-messages : (gs : List Group) → Each IsMessage gs → Each IsClosed gs → grouped (marked true (all_lines gs))
+    ≡ ([], gs)
 grouped-messages [] is closed = refl
 grouped-messages (g ∷ gs) is closed = grind (arith, grouped-behind, append-nil, grouped-messages gs is.1 closed.1)
 
@@ -94,7 +102,8 @@ empty-feed (x ∷ []) e n = tests (x == 10) (x == 13) e n
     tests a b h h2 = grind arith
 empty-feed (x ∷ y ∷ []) e n = tests (x == 10) (x == 13) (y == 10) e n
   where
-    tests : (a b c : Bool) → ((a && false) || (b && (c && true))) ≡ true → ◌≡◌ {A = ℕ} (cond a 0 (suc (cond c 0 1))) 2 → ⊥
+    tests : (a b c : Bool) → ((a && false) || (b && (c && true))) ≡ true → ◌≡◌ {A = ℕ} (cond a 0 (suc (cond c 0 1))) 2
+        → ⊥
     tests a b c h h2 = grind arith
 empty-feed (x ∷ y ∷ z ∷ xs) e n = tests (x == 10) (x == 13) (y == 10) e
   where
@@ -102,7 +111,8 @@ empty-feed (x ∷ y ∷ z ∷ xs) e n = tests (x == 10) (x == 13) (y == 10) e
     tests a b c h = grind arith
 
 -- the lines after an empty one
-behind-closed : (l : List ℕ) (ls ms : List (List ℕ)) → AreCut (l ∷ ls) → may_behind (is_empty l) ls ≡ true → AreCut ms → AreCut (l ∷ (ls ++ ms))
+behind-closed : (l : List ℕ) (ls ms : List (List ℕ)) → AreCut (l ∷ ls) → may_behind (is_empty l) ls ≡ true → AreCut ms
+    → AreCut (l ∷ (ls ++ ms))
 behind-closed l [] [] c closed d = c
 behind-closed l [] (m ∷ ms) c closed d = (c, λ e. absurd (empty-feed l closed e), d)
 behind-closed l (k ∷ ls) ms c closed d = (c.0, c.1, behind-closed k ls ms c.2 closed d)
@@ -116,5 +126,6 @@ pub messages-cut : (gs : List Group) → Each IsMessage gs → Each IsClosed gs 
     → cut (concat (map text_of gs)) ≡ Some (places_from 0 (map text_of gs))
 unfolding messages
 messages-cut gs is closed each =
-    let all : lines (concat (map text_of gs)) ≡ all_lines gs = ap lines (sym (joined gs)) ∙ lines-concat (all_lines gs) (all-cut gs closed each) in
+    let all : lines (concat (map text_of gs)) ≡ all_lines gs = ap lines (sym (joined gs))
+    ∙ lines-concat (all_lines gs) (all-cut gs closed each) in
     rw (all, accepted gs is, grouped-messages gs is closed) (ap Some (spans 0 gs))

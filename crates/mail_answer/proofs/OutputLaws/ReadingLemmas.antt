@@ -1,41 +1,57 @@
 -- A read of an archive moves bytes from those that come to those that were read, and changes nothing else.
-use Rattle.mail_answer.proofs.Words.{◌≡◌, ℕ, ◌+◌, ◌-◌, ◌<◌, ◌≤◌, List, ◌++◌, Option, None, Some, IfSome, Result, IfOk, length, take, drop, refl, ap, sym, ◌∙◌, append_assoc, append-nil, arith, take-append-add, take-append-le, drop-drop, DeviceFault, line_end_of, first_length, line_end-more, line_end-whole, archive_at, IsRead, Reading, coming, ReadsBehind, ReadsTail, coming_count, IsInside}
+use Rattle.mail_answer.proofs.Words.{◌≡◌, ℕ, ◌+◌, ◌-◌, ◌<◌, ◌≤◌, List, ◌++◌, Option, None, Some, IfSome, Result, IfOk}
+use Rattle.mail_answer.proofs.Words.{length, take, drop, refl, ap, sym, ◌∙◌, append_assoc, append-nil, arith}
+use Rattle.mail_answer.proofs.Words.{take-append-add, take-append-le, drop-drop, DeviceFault, line_end_of, first_length}
+use Rattle.mail_answer.proofs.Words.{line_end-more, line_end-whole, archive_at, IsRead, Reading, coming, ReadsBehind}
+use Rattle.mail_answer.proofs.Words.{ReadsTail, coming_count, IsInside}
 use Rattle.std.proofs.Math.Seq.{take-add}
 use Rattle.std.proofs.lemmas.List.{length-take-le, length-append, length-drop}
 use borrow.Rule.Slice.PartMut.{put_mid}
 
-take_behind : (front into post : List ℕ) (held n : ℕ) → length front ≡ held → n ≤ length into → take (held + n) (front ++ (into ++ post)) ≡ front ++ take n into
-take_behind front into post held n e h = rw (← e) (take-append-add front (into ++ post) n ∙ ap (λ (s : List ℕ). front ++ s) (take-append-le n into post h))
+take_behind : (front into post : List ℕ) (held n : ℕ) → length front ≡ held → n ≤ length into
+    → take (held + n) (front ++ (into ++ post)) ≡ front ++ take n into
+take_behind front into post held n e h =
+    rw (← e) (take-append-add front (into ++ post) n ∙ ap (λ (s : List ℕ). front ++ s) (take-append-le n into post h))
 
-pub tail_read : (archive offset from n k : ℕ) (held : Option (List (List ℕ))) (old into : List ℕ) → from < length old → n ≤ length into → IsRead archive offset (take n into) held
+pub tail_read : (archive offset from n k : ℕ) (held : Option (List (List ℕ))) (old into : List ℕ) → from < length old
+    → n ≤ length into → IsRead archive offset (take n into) held
     → ReadsTail archive offset from n held old (put_mid from k old into)
 tail_read archive offset from n k held old into room bound r = grind (arith, take_behind, length-take-le)
 
-pub tail_result : (archive offset from k : ℕ) (held : Option (List (List ℕ))) (old into : List ℕ) (r : Result ℕ DeviceFault) → from < length old → IfOk r (λ n. n ≤ length into)
-    → IfOk r (λ n. IsRead archive offset (take n into) held) → IfOk r (λ n. ReadsTail archive offset from n held old (put_mid from k old into))
+pub tail_result : (archive offset from k : ℕ) (held : Option (List (List ℕ))) (old into : List ℕ)
+    (r : Result ℕ DeviceFault) → from < length old → IfOk r (λ n. n ≤ length into)
+    → IfOk r (λ n. IsRead archive offset (take n into) held)
+    → IfOk r (λ n. ReadsTail archive offset from n held old (put_mid from k old into))
 tail_result archive offset from k held old into r h h2 h3 = grind (arith, tail_read)
 
 -- the bytes that come are the same before and after a read
-pub coming_read : (archive next left n : ℕ) (held : Option (List (List ℕ))) (unread new : List ℕ) → ReadsBehind archive next n held unread new → n ≤ left
-    → coming held (record { archive = archive; unread = drop 0 new; next = next + n; left = left - n }) ≡ coming held (record { archive = archive; unread = unread; next = next; left = left })
+pub coming_read : (archive next left n : ℕ) (held : Option (List (List ℕ))) (unread new : List ℕ)
+    → ReadsBehind archive next n held unread new → n ≤ left
+    → coming held (record { archive = archive; unread = drop 0 new; next = next + n; left = left - n })
+    ≡ coming held (record { archive = archive; unread = unread; next = next; left = left })
 coming_read archive next left n None unread new r h = refl
 coming_read archive next left n (Some archives) unread new r h =
     let rest : List ℕ = drop next (archive_at archives archive) in
-    let parts : take left rest ≡ take n rest ++ take (left - n) (drop n rest) = ap (λ k. take k rest) (omega arith) ∙ take-add n (left - n) rest in
-    let further : drop (next + n) (archive_at archives archive) ≡ drop n rest = sym (drop-drop n next (archive_at archives archive)) in
+    let parts : take left rest ≡ take n rest ++ take (left - n) (drop n rest) = ap (λ k. take k rest) (omega arith)
+    ∙ take-add n (left - n) rest in
+    let further : drop (next + n) (archive_at archives archive) ≡ drop n rest =
+    sym (drop-drop n next (archive_at archives archive)) in
     ap Some (
-    ap (λ l. l ++ take (left - n) (drop (next + n) (archive_at archives archive))) (r.behind ∙ ap (λ l. unread ++ l) r.known)
+    ap (λ l. l ++ take (left - n) (drop (next + n) (archive_at archives archive)))
+    (r.behind ∙ ap (λ l. unread ++ l) r.known)
     ∙ append_assoc unread (take n rest) (take (left - n) (drop (next + n) (archive_at archives archive)))
     ∙ ap (λ l. unread ++ (take n rest ++ take (left - n) l)) further
     ∙ ap (λ l. unread ++ l) (sym parts)
     )
 
 -- the end of a line is found in what was read
-pub line_found : (n : ℕ) (held : Option (List (List ℕ))) (r : Reading) → Some n ≡ line_end_of r.unread → IfSome (coming held r) (λ bytes. n ≡ first_length bytes)
+pub line_found : (n : ℕ) (held : Option (List (List ℕ))) (r : Reading) → Some n ≡ line_end_of r.unread
+    → IfSome (coming held r) (λ bytes. n ≡ first_length bytes)
 line_found n held r h = grind (arith, line_end-more)
 
 -- no byte is left, so the bytes that were read are the line
-pub line_left : (held : Option (List (List ℕ))) (r : Reading) → None ≡ line_end_of r.unread → r.left ≡ 0 → IfSome (coming held r) (λ bytes. length r.unread ≡ first_length bytes)
+pub line_left : (held : Option (List (List ℕ))) (r : Reading) → None ≡ line_end_of r.unread → r.left ≡ 0
+    → IfSome (coming held r) (λ bytes. length r.unread ≡ first_length bytes)
 line_left held r h h2 = grind (arith, line_end-whole, append-nil)
 
 -- how many bytes come

@@ -1,5 +1,9 @@
 -- A line without LF, whose last byte isn't CR, is a separator with an LF exactly if it is one without: byte by byte.
-use Rattle.mail_answer.proofs.Words.{◌≡◌, ◌∙◌, ℕ, zero, suc, ◌+◌, ◌-◌, ◌<◌, Bool, true, false, ◌&&◌, ◌==◌, List, [], ◌∷◌, ◌++◌, length, take, drop, refl, ap, sym, arith, length-append, codes, take-append_seam, drop-append_seam, and_right, or_parts, false_from_ne_true, drop-append-le, bytes_eq-Decides, is_empty, is_separator, without_break, tokens, has_time_then_year, feed, has_feed, ends_in_return}
+use Rattle.mail_answer.proofs.Words.{◌≡◌, ◌∙◌, ℕ, zero, suc, ◌+◌, ◌-◌, ◌<◌, Bool, true, false, ◌&&◌, ◌==◌, List, []}
+use Rattle.mail_answer.proofs.Words.{◌∷◌, ◌++◌, length, take, drop, refl, ap, sym, arith, length-append, codes}
+use Rattle.mail_answer.proofs.Words.{take-append_seam, drop-append_seam, and_right, or_parts, false_from_ne_true}
+use Rattle.mail_answer.proofs.Words.{drop-append-le, bytes_eq-Decides, is_empty, is_separator, without_break, tokens}
+use Rattle.mail_answer.proofs.Words.{has_time_then_year, feed, has_feed, ends_in_return}
 use Rattle.std.specs.Str.{bytes_eq}
 
 pub feed_is_empty : is_empty feed ≡ true
@@ -43,13 +47,16 @@ feed-dropped (suc k) [] none = refl
 feed-dropped (suc k) (x ∷ l) none = feed-dropped k l (or_parts (x == 10) (has_feed l) none).1
 
 no-feed-in : (a b : List ℕ) → has_feed a ≡ false → has_feed b ≡ true → bytes_eq a b ≡ false
-no-feed-in a b none some = false_from_ne_true (bytes_eq a b) (λ e. absurd (cc (ap has_feed ((bytes_eq-Decides a b).0 e), none, some)))
+no-feed-in a b none some = false_from_ne_true (bytes_eq a b)
+    (λ e. absurd (cc (ap has_feed ((bytes_eq-Decides a b).0 e), none, some)))
 
 unbroken : (l : List ℕ) → has_feed l ≡ false → without_break l ≡ l
 unfolding without_break
 unbroken l none =
-    let two : bytes_eq (drop (length l - 2) l) (13 ∷ 10 ∷ []) ≡ false = no-feed-in (drop (length l - 2) l) (13 ∷ 10 ∷ []) (feed-dropped (length l - 2) l none) refl in
-    let one : bytes_eq (drop (length l - 1) l) (10 ∷ []) ≡ false = no-feed-in (drop (length l - 1) l) (10 ∷ []) (feed-dropped (length l - 1) l none) refl in
+    let two : bytes_eq (drop (length l - 2) l) (13 ∷ 10 ∷ []) ≡ false =
+    no-feed-in (drop (length l - 2) l) (13 ∷ 10 ∷ []) (feed-dropped (length l - 2) l none) refl in
+    let one : bytes_eq (drop (length l - 1) l) (10 ∷ []) ≡ false =
+    no-feed-in (drop (length l - 1) l) (10 ∷ []) (feed-dropped (length l - 1) l none) refl in
     rw (two, one) refl
 
 feed-broken : (l : List ℕ) → ends_in_return l ≡ false → without_break (l ++ feed) ≡ l
@@ -62,31 +69,41 @@ feed-broken (x ∷ xs) other =
     let less : length (l ++ feed) - 2 ≡ length l - 1 = omega arith in
     let same : length (l ++ feed) - 1 ≡ length l = omega arith in
     let two : drop (length (l ++ feed) - 2) (l ++ feed) ≡ last.byte ∷ feed =
-    ap (λ (n : ℕ). drop n (l ++ feed)) less ∙ drop-append-le (length l - 1) l feed (omega arith) ∙ ap (λ (r : List ℕ). r ++ feed) last.is in
-    let one : drop (length (l ++ feed) - 1) (l ++ feed) ≡ feed = ap (λ (n : ℕ). drop n (l ++ feed)) same ∙ drop-append_seam l feed in
-    let front : take (length (l ++ feed) - 1) (l ++ feed) ≡ l = ap (λ (n : ℕ). take n (l ++ feed)) same ∙ take-append_seam l feed in
-    let not_two : bytes_eq (drop (length (l ++ feed) - 2) (l ++ feed)) (13 ∷ 10 ∷ []) ≡ false = ap (λ (r : List ℕ). bytes_eq r (13 ∷ 10 ∷ [])) two ∙ rw last.other refl in
-    let is_one : bytes_eq (drop (length (l ++ feed) - 1) (l ++ feed)) (10 ∷ []) ≡ true = ap (λ (r : List ℕ). bytes_eq r (10 ∷ [])) one in
+    ap (λ (n : ℕ). drop n (l ++ feed)) less ∙ drop-append-le (length l - 1) l feed (omega arith)
+    ∙ ap (λ (r : List ℕ). r ++ feed) last.is in
+    let one : drop (length (l ++ feed) - 1) (l ++ feed) ≡ feed = ap (λ (n : ℕ). drop n (l ++ feed)) same
+    ∙ drop-append_seam l feed in
+    let front : take (length (l ++ feed) - 1) (l ++ feed) ≡ l = ap (λ (n : ℕ). take n (l ++ feed)) same
+    ∙ take-append_seam l feed in
+    let not_two : bytes_eq (drop (length (l ++ feed) - 2) (l ++ feed)) (13 ∷ 10 ∷ []) ≡ false =
+    ap (λ (r : List ℕ). bytes_eq r (13 ∷ 10 ∷ [])) two ∙ rw last.other refl in
+    let is_one : bytes_eq (drop (length (l ++ feed) - 1) (l ++ feed)) (10 ∷ []) ≡ true =
+    ap (λ (r : List ℕ). bytes_eq r (10 ∷ [])) one in
     rw (not_two, is_one) front
 
 -- ---- a separator
 
-return-dropped : (a b c d e : ℕ) (rest : List ℕ) → ends_in_return (a ∷ b ∷ c ∷ d ∷ e ∷ rest) ≡ false → ends_in_return rest ≡ false
+return-dropped : (a b c d e : ℕ) (rest : List ℕ) → ends_in_return (a ∷ b ∷ c ∷ d ∷ e ∷ rest) ≡ false
+    → ends_in_return rest ≡ false
 return-dropped a b c d e rest h = grind arith
 
 neither : (v t u : Bool) → v ≡ false → (v && t) ≡ (v && u)
 neither v t u e = rw e refl
 
-pub separator-feed : (l : List ℕ) → has_feed l ≡ false → ends_in_return l ≡ false → is_separator (l ++ feed) ≡ is_separator l
+pub separator-feed : (l : List ℕ) → has_feed l ≡ false → ends_in_return l ≡ false → is_separator (l ++ feed)
+    ≡ is_separator l
 unfolding is_separator
 separator-feed [] none other = refl
 separator-feed (a ∷ []) none other = neither ((a == 70) && false) _ _ (and_right (a == 70) false refl)
-separator-feed (a ∷ b ∷ []) none other = neither ((a == 70) && ((b == 114) && false)) _ _ (and_right (a == 70) _ (and_right (b == 114) false refl))
+separator-feed (a ∷ b ∷ []) none other =
+    neither ((a == 70) && ((b == 114) && false)) _ _ (and_right (a == 70) _ (and_right (b == 114) false refl))
 separator-feed (a ∷ b ∷ c ∷ []) none other =
-    neither ((a == 70) && ((b == 114) && ((c == 111) && false))) _ _ (and_right (a == 70) _ (and_right (b == 114) _ (and_right (c == 111) false refl)))
+    neither ((a == 70) && ((b == 114) && ((c == 111) && false))) _ _
+    (and_right (a == 70) _ (and_right (b == 114) _ (and_right (c == 111) false refl)))
 separator-feed (a ∷ b ∷ c ∷ d ∷ []) none other =
     neither ((a == 70) && ((b == 114) && ((c == 111) && ((d == 109) && false)))) _ _
     (and_right (a == 70) _ (and_right (b == 114) _ (and_right (c == 111) _ (and_right (d == 109) false refl))))
 separator-feed (a ∷ b ∷ c ∷ d ∷ e ∷ rest) none other =
     ap (λ (t : List ℕ). bytes_eq (a ∷ b ∷ c ∷ d ∷ e ∷ []) (codes "From ") && has_time_then_year (tokens t))
-    (feed-broken rest (return-dropped a b c d e rest other) ∙ sym (unbroken rest (feed-dropped 5 (a ∷ b ∷ c ∷ d ∷ e ∷ rest) none)))
+    (feed-broken rest (return-dropped a b c d e rest other)
+    ∙ sym (unbroken rest (feed-dropped 5 (a ∷ b ∷ c ∷ d ∷ e ∷ rest) none)))

@@ -1,5 +1,8 @@
 -- Texts that are added to an answer one after another are added as one text, whether they are gathered or sent.
-use Rattle.mail_answer.proofs.Words.{◌≡◌, ℕ, ◌+◌, ◌-◌, ◌^◌, min, List, [], ◌++◌, length, Option, None, Some, Result, Ok, Err, IsErr, refl, ap, sym, ◌∙◌, append_assoc, append-nil, length-append, take, drop, ◌≤◌, arith, take-append-drop, take_rest, Appends, Keeps, appends_join, appends-nil, Sheet, counted, Joins, JoinsFront, joined, Tells, Writes}
+use Rattle.mail_answer.proofs.Words.{◌≡◌, ℕ, ◌+◌, ◌-◌, ◌^◌, min, List, [], ◌++◌, length, Option, None, Some, Result, Ok}
+use Rattle.mail_answer.proofs.Words.{Err, IsErr, refl, ap, sym, ◌∙◌, append_assoc, append-nil, length-append, take}
+use Rattle.mail_answer.proofs.Words.{drop, ◌≤◌, arith, take-append-drop, take_rest, Appends, Keeps, appends_join}
+use Rattle.mail_answer.proofs.Words.{appends-nil, Sheet, counted, Joins, JoinsFront, joined, Tells, Writes}
 use Rattle.std.proofs.lemmas.List.{length-take}
 use Rattle.std.proofs.Math.Seq.{take-add}
 
@@ -7,15 +10,18 @@ counted-append : (n : ℕ) (a b : List ℕ) → counted (counted n a) b ≡ coun
 counted-append n a b = omega (arith, length-append a b)
 
 -- one text and then another
-pub joins_more : {t u v : Option (List ℕ)} {a b c : Sheet} {x y : List ℕ} → Joins t u a b x → Joins u v b c y → Joins t v a c (x ++ y)
+pub joins_more : {t u v : Option (List ℕ)} {a b c : Sheet} {x y : List ℕ} → Joins t u a b x → Joins u v b c y
+    → Joins t v a c (x ++ y)
 joins_more {t} {u} {v} {a} {b} {c} {x} {y} h k = grind (arith, append_assoc, appends_join, counted-append)
 
 -- one text and then a front of another
-pub joins_front : {t u v : Option (List ℕ)} {a b c : Sheet} {x y : List ℕ} → Joins t u a b x → JoinsFront u v b c y → JoinsFront t v a c (x ++ y)
+pub joins_front : {t u v : Option (List ℕ)} {a b c : Sheet} {x y : List ℕ} → Joins t u a b x → JoinsFront u v b c y
+    → JoinsFront t v a c (x ++ y)
 joins_front {t} {u} {v} {a} {b} {c} {x} {y} h k = grind (arith, append_assoc, appends_join, counted-append)
 
 -- a front of a text is a front of a longer text
-pub front_more : {t u : Option (List ℕ)} {a b : Sheet} {x : List ℕ} (y : List ℕ) → JoinsFront t u a b x → JoinsFront t u a b (x ++ y)
+pub front_more : {t u : Option (List ℕ)} {a b : Sheet} {x : List ℕ} (y : List ℕ) → JoinsFront t u a b x
+    → JoinsFront t u a b (x ++ y)
 front_more {t} {u} {a} {b} {x} y h = record {
   went = h.went;
   unsent = h.unsent ++ y;
@@ -26,18 +32,22 @@ front_more {t} {u} {a} {b} {x} y h = record {
 
 -- ---- while a sheet is sent, with `at` bytes sent so far
 
-take_step : (items : List ℕ) (at n : ℕ) → at + n ≤ length items → take at items ++ take n (take (length items - at) (drop at items)) ≡ take (at + n) items
+take_step : (items : List ℕ) (at n : ℕ) → at + n ≤ length items
+    → take at items ++ take n (take (length items - at) (drop at items)) ≡ take (at + n) items
 take_step items at n h = grind (arith, take_rest, take-add)
 
-pub appends_step : (t u v : Option (List ℕ)) (items : List ℕ) (at n : ℕ) → at + n ≤ length items → Appends t u (take at items)
+pub appends_step : (t u v : Option (List ℕ)) (items : List ℕ) (at n : ℕ) → at + n ≤ length items
+    → Appends t u (take at items)
     → Appends u v (take n (take (length items - at) (drop at items))) → Appends t v (take (at + n) items)
 appends_step t u v items at n h p q = rw (← take_step items at n h) (appends_join t u v _ _ p q)
 
-pub counted_step : (before : ℕ) (items : List ℕ) (sent at n sent' : ℕ) → at + n ≤ length items → sent ≡ counted before (take at items) → sent' ≡ min (sent + n) (2 ^ 64 - 1)
+pub counted_step : (before : ℕ) (items : List ℕ) (sent at n sent' : ℕ) → at + n ≤ length items → sent
+    ≡ counted before (take at items) → sent' ≡ min (sent + n) (2 ^ 64 - 1)
     → sent' ≡ counted before (take (at + n) items)
 counted_step before items sent at n sent' h p q = omega (arith, length-take at items, length-take (at + n) items)
 
-pub front_went : (t u v : Option (List ℕ)) (old new : Sheet) (at : ℕ) → Appends t u (take at old.text) → new.sent ≡ counted old.sent (take at old.text)
+pub front_went : (t u v : Option (List ℕ)) (old new : Sheet) (at : ℕ) → Appends t u (take at old.text) → new.sent
+    ≡ counted old.sent (take at old.text)
     → Keeps u v → JoinsFront t v old new []
 front_went t u v old new at p q e = record {
   went = take at old.text;
@@ -56,15 +66,18 @@ front_went t u v old new at p q e = record {
 -- ---- while bytes are pushed
 
 -- the bytes are gathered, and nothing is sent
-pub joins_gathered : (t : Option (List ℕ)) (old new : Sheet) (bytes : List ℕ) → new.text ≡ old.text ++ bytes → new.sent ≡ old.sent → Joins t t old new bytes
+pub joins_gathered : (t : Option (List ℕ)) (old new : Sheet) (bytes : List ℕ) → new.text ≡ old.text ++ bytes → new.sent
+    ≡ old.sent → Joins t t old new bytes
 joins_gathered t old new bytes e s = grind (arith, appends-nil)
 
 -- nothing changes
-pub nothing_went : (t : Option (List ℕ)) (old new : Sheet) (bytes : List ℕ) → new.sent ≡ old.sent → JoinsFront t t old new bytes
+pub nothing_went : (t : Option (List ℕ)) (old new : Sheet) (bytes : List ℕ) → new.sent ≡ old.sent
+    → JoinsFront t t old new bytes
 nothing_went t old new bytes s = grind (arith, appends-nil)
 
 -- the gathered bytes are sent
-pub gathered_went : {T E : Type 0} (t u : Option (List ℕ)) (old mid new : Sheet) (bytes : List ℕ) (r : Result T E) → mid.text ≡ old.text ++ bytes → mid.sent ≡ old.sent
+pub gathered_went : {T E : Type 0} (t u : Option (List ℕ)) (old mid new : Sheet) (bytes : List ℕ) (r : Result T E)
+    → mid.text ≡ old.text ++ bytes → mid.sent ≡ old.sent
     → Writes t u mid new (Some []) r → Writes t u old new (Some bytes) r
 gathered_went t u old mid new bytes r h h2 h3 = grind (arith, append-nil)
 
@@ -88,10 +101,12 @@ writes_next t u v a b c j k (Err e) h w = (h.0 ++ w.0, tells-joined j k h.0 w.0 
 pub writes_stop : {T E : Type 0} (t u : Option (List ℕ)) (a b : Sheet) (j k : Option (List ℕ)) (r : Result T E)
     → IsErr r → ((x : List ℕ) × Tells j x × JoinsFront t u a b x) → Writes t u a b (joined j k) r
 writes_stop t u a b j k (Ok y) err w = absurd (cc err)
-writes_stop t u a b j k (Err f) err w = let y = some_text k in (w.0 ++ y.0, tells-joined j k w.0 y.0 w.1 y.1, front_more y.0 w.2)
+writes_stop t u a b j k (Err f) err w = let y = some_text k
+    in (w.0 ++ y.0, tells-joined j k w.0 y.0 w.1 y.1, front_more y.0 w.2)
 
 -- a call that failed and wrote nothing
-pub writes_nothing : {T F : Type 0} (t : Option (List ℕ)) (a b : Sheet) (k : Option (List ℕ)) (r : Result T F) → IsErr r → b.sent ≡ a.sent → Writes t t a b k r
+pub writes_nothing : {T F : Type 0} (t : Option (List ℕ)) (a b : Sheet) (k : Option (List ℕ)) (r : Result T F) → IsErr r
+    → b.sent ≡ a.sent → Writes t t a b k r
 writes_nothing t a b k (Ok y) err s = absurd (cc err)
 writes_nothing t a b k (Err f) err s = let y = some_text k in (y.0, y.1, nothing_went t a b y.0 s)
 
@@ -101,7 +116,8 @@ pub writes_err : {T E : Type 0} (t u : Option (List ℕ)) (a b : Sheet) (k : Opt
 writes_err t u a b k r h h2 = grind arith
 
 -- less is known of the text
-pub writes_less : {T E : Type 0} (t u : Option (List ℕ)) (a b : Sheet) (k : Option (List ℕ)) (text : List ℕ) (r : Result T E) → Tells k text → Writes t u a b (Some text) r → Writes t u a b k r
+pub writes_less : {T E : Type 0} (t u : Option (List ℕ)) (a b : Sheet) (k : Option (List ℕ)) (text : List ℕ)
+    (r : Result T E) → Tells k text → Writes t u a b (Some text) r → Writes t u a b k r
 writes_less t u a b k text r h h2 = grind arith
 
 -- ---- if no byte was sent, none had been sent before
@@ -109,10 +125,12 @@ writes_less t u a b k text r h h2 = grind arith
 pub unsent_before : {t u : Option (List ℕ)} {a b : Sheet} {x : List ℕ} → Joins t u a b x → b.sent ≡ 0 → a.sent ≡ 0
 unsent_before {t} {u} {a} {b} {x} h unsent = omega (arith, h.count, unsent)
 
-pub unsent_before_front : {t u : Option (List ℕ)} {a b : Sheet} {x : List ℕ} → JoinsFront t u a b x → b.sent ≡ 0 → a.sent ≡ 0
+pub unsent_before_front : {t u : Option (List ℕ)} {a b : Sheet} {x : List ℕ} → JoinsFront t u a b x → b.sent ≡ 0
+    → a.sent ≡ 0
 unsent_before_front {t} {u} {a} {b} {x} h unsent = omega (arith, h.count, unsent)
 
-pub unsent_before_writes : {T E : Type 0} (t u : Option (List ℕ)) (a b : Sheet) (k : Option (List ℕ)) (r : Result T E) → Writes t u a b k r → b.sent ≡ 0 → a.sent ≡ 0
+pub unsent_before_writes : {T E : Type 0} (t u : Option (List ℕ)) (a b : Sheet) (k : Option (List ℕ)) (r : Result T E)
+    → Writes t u a b k r → b.sent ≡ 0 → a.sent ≡ 0
 unsent_before_writes t u a b k r h h2 = grind (arith, unsent_before, unsent_before_front)
 
 pub joined-nothing : (k : Option (List ℕ)) → k ≡ joined (Some []) k

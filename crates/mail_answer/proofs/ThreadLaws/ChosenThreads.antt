@@ -1,5 +1,10 @@
 -- The messages whose tree has a chosen message are exactly those of the threads, because the trees are the threads.
-use Rattle.mail_answer.proofs.Words.{◌≡◌, ◌∙◌, ◌+◌, ◌<◌, ◌≤◌, ℕ, zero, suc, Bool, true, false, cond, nat_eq, ◌⊎◌, List, [], ◌∷◌, length, get_or, inl, inr, refl, sym, ap, subst, arith, eq-eqb, add-one, Result, IfOk, AllByRecursion, filter, list_any, range_with_len, get_or-map-range_with_len, eqb-true, or_cases, or_left, or_right, eqb_tells, LinkId, Table, Key, RisesFrom, keys_of, is_among, truth_at, each_number, IsPath, IsInThreadOfSome, AreThreads, TellsThreads}
+use Rattle.mail_answer.proofs.Words.{◌≡◌, ◌∙◌, ◌+◌, ◌<◌, ◌≤◌, ℕ, zero, suc, Bool, true, false, cond, nat_eq, ◌⊎◌, List}
+use Rattle.mail_answer.proofs.Words.{[], ◌∷◌, length, get_or, inl, inr, refl, sym, ap, subst, arith, eq-eqb, add-one}
+use Rattle.mail_answer.proofs.Words.{Result, IfOk, AllByRecursion, filter, list_any, range_with_len}
+use Rattle.mail_answer.proofs.Words.{get_or-map-range_with_len, eqb-true, or_cases, or_left, or_right, eqb_tells}
+use Rattle.mail_answer.proofs.Words.{LinkId, Table, Key, RisesFrom, keys_of, is_among, truth_at, each_number, IsPath}
+use Rattle.mail_answer.proofs.Words.{IsInThreadOfSome, AreThreads, TellsThreads}
 use Rattle.mail_answer.proofs.ThreadLaws.ThreadLemmas.{itself}
 
 -- ---- membership
@@ -13,7 +18,8 @@ below P (m ∷ ns) n all among =
     ]
 
 -- one of the numbers has the value
-some_from_any : (value : ℕ → ℕ) (r : ℕ) (ns : List ℕ) → list_any (λ n. nat_eq r (value n)) ns ≡ true → (m : ℕ) × (is_among m ns ≡ true) × (r ≡ value m)
+some_from_any : (value : ℕ → ℕ) (r : ℕ) (ns : List ℕ) → list_any (λ n. nat_eq r (value n)) ns ≡ true → (m : ℕ)
+    × (is_among m ns ≡ true) × (r ≡ value m)
 some_from_any value r [] any = absurd (cc any)
 some_from_any value r (n ∷ ns) any =
     elim (or_cases (nat_eq r (value n)) (list_any (λ m. nat_eq r (value m)) ns) any) [
@@ -23,12 +29,15 @@ some_from_any value r (n ∷ ns) any =
           (later.0, or_right (nat_eq later.0 n) (is_among later.0 ns) later.1, later.2)
     ]
 
-any_from_some : (value : ℕ → ℕ) (r m : ℕ) (ns : List ℕ) → is_among m ns ≡ true → r ≡ value m → list_any (λ n. nat_eq r (value n)) ns ≡ true
+any_from_some : (value : ℕ → ℕ) (r m : ℕ) (ns : List ℕ) → is_among m ns ≡ true → r ≡ value m
+    → list_any (λ n. nat_eq r (value n)) ns ≡ true
 any_from_some value r m [] among same = absurd (cc among)
 any_from_some value r m (n ∷ ns) among same =
     elim (or_cases (nat_eq m n) (is_among m ns) among) [
-      | inl this ↦ or_left (nat_eq r (value n)) (list_any (λ k. nat_eq r (value k)) ns) (eq-eqb r (value n) (same ∙ ap value (eqb-true m n this)))
-      | inr behind ↦ or_right (nat_eq r (value n)) (list_any (λ k. nat_eq r (value k)) ns) (any_from_some value r m ns behind same)
+      | inl this ↦ or_left (nat_eq r (value n)) (list_any (λ k. nat_eq r (value k)) ns)
+          (eq-eqb r (value n) (same ∙ ap value (eqb-true m n this)))
+      | inr behind ↦ or_right (nat_eq r (value n)) (list_any (λ k. nat_eq r (value k)) ns)
+          (any_from_some value r m ns behind same)
     ]
 
 -- ---- the numbers that pass a test
@@ -41,29 +50,38 @@ pub passed_rise : (test : ℕ → Bool) (a count : ℕ) → RisesFrom a (filter 
 passed_rise test a zero = tt
 passed_rise test a (suc count) = grind (arith, add-one, lower, passed_rise test (a + 1) count)
 
-pub from_passed : (test : ℕ → Bool) (a count n : ℕ) → is_among n (filter test (range_with_len a count)) ≡ true → (n < a + count) × (test n ≡ true)
+pub from_passed : (test : ℕ → Bool) (a count n : ℕ) → is_among n (filter test (range_with_len a count)) ≡ true
+    → (n < a + count) × (test n ≡ true)
 from_passed test a zero n among = absurd (cc among)
 from_passed test a (suc count) n among = go (test a) refl (λ behind. from_passed test (a + 1) count n behind) among
   where
-    go : (passes : Bool) → test a ≡ passes → (is_among n (filter test (range_with_len (a + 1) count)) ≡ true → (n < a + 1 + count) × (test n ≡ true))
-        → is_among n (cond passes (a ∷ filter test (range_with_len (a + 1) count)) (filter test (range_with_len (a + 1) count))) ≡ true → (n < a + suc count) × (test n ≡ true)
+    go : (passes : Bool) → test a ≡ passes
+        → (is_among n (filter test (range_with_len (a + 1) count)) ≡ true → (n < a + 1 + count) × (test n ≡ true))
+        → is_among n (cond passes (a ∷ filter test (range_with_len (a + 1) count))
+        (filter test (range_with_len (a + 1) count))) ≡ true → (n < a + suc count) × (test n ≡ true)
     go true here rest given =
         elim (or_cases (nat_eq n a) (is_among n (filter test (range_with_len (a + 1) count))) given) [
           | inl this ↦ let same : n ≡ a = eqb-true n a this in (omega (arith, same), ap test same ∙ here)
-          | inr behind ↦ let later : (n < a + 1 + count) × (test n ≡ true) = rest behind in (omega (arith, later.0), later.1)
+          | inr behind ↦ let later : (n < a + 1 + count) × (test n ≡ true) = rest behind
+              in (omega (arith, later.0), later.1)
         ]
-    go false here rest given = let later : (n < a + 1 + count) × (test n ≡ true) = rest given in (omega (arith, later.0), later.1)
+    go false here rest given = let later : (n < a + 1 + count) × (test n ≡ true) = rest given
+        in (omega (arith, later.0), later.1)
 
-pub to_passed : (test : ℕ → Bool) (a count n : ℕ) → a ≤ n → n < a + count → test n ≡ true → is_among n (filter test (range_with_len a count)) ≡ true
+pub to_passed : (test : ℕ → Bool) (a count n : ℕ) → a ≤ n → n < a + count → test n ≡ true
+    → is_among n (filter test (range_with_len a count)) ≡ true
 to_passed test a zero n low high passes = absurd (omega (arith, low, high))
-to_passed test a (suc count) n low high passes = go (test a) refl (λ behind. to_passed test (a + 1) count n behind (omega (arith, high)) passes)
+to_passed test a (suc count) n low high passes =
+    go (test a) refl (λ behind. to_passed test (a + 1) count n behind (omega (arith, high)) passes)
   where
     go : (first : Bool) → test a ≡ first → (a + 1 ≤ n → is_among n (filter test (range_with_len (a + 1) count)) ≡ true)
-        → is_among n (cond first (a ∷ filter test (range_with_len (a + 1) count)) (filter test (range_with_len (a + 1) count))) ≡ true
+        → is_among n (cond first (a ∷ filter test (range_with_len (a + 1) count))
+        (filter test (range_with_len (a + 1) count))) ≡ true
     go true here rest =
         elim (eqb_tells n a) [
           | inl this ↦ or_left (nat_eq n a) (is_among n (filter test (range_with_len (a + 1) count))) this.0
-          | inr other ↦ or_right (nat_eq n a) (is_among n (filter test (range_with_len (a + 1) count))) (rest (omega (arith, other.1, low)))
+          | inr other ↦ or_right (nat_eq n a) (is_among n (filter test (range_with_len (a + 1) count)))
+              (rest (omega (arith, other.1, low)))
         ]
     go false here rest = rest (bigger low)
       where
@@ -75,15 +93,18 @@ to_passed test a (suc count) n low high passes = go (test a) refl (λ behind. to
 
 -- ---- the messages whose root is that of one of these are their threads
 
-pub chosen_threads : (t : Table) (numbers roots members : List ℕ) (test : ℕ → Bool) → TellsThreads t roots → AllByRecursion (λ n. n < length t.messages) numbers
+pub chosen_threads : (t : Table) (numbers roots members : List ℕ) (test : ℕ → Bool) → TellsThreads t roots
+    → AllByRecursion (λ n. n < length t.messages) numbers
     → ((r : ℕ) → r < length t.messages → test r ≡ list_any (λ n. nat_eq r (get_or roots n 0)) numbers)
     → members ≡ filter (λ n. test (get_or roots n 0)) (range_with_len 0 (length roots)) → AreThreads t numbers members
 chosen_threads t numbers roots members test tells within marked are =
     subst (AreThreads t numbers) (sym are) record {
       rises = passed_rise (λ n. test (get_or roots n 0)) 0 (length roots);
       each = λ n. (
-        λ (among : is_among n (filter (λ k. test (get_or roots k 0)) (range_with_len 0 (length roots))) ≡ true). forth n (from_passed (λ k. test (get_or roots k 0)) 0 (length roots) n among),
-        λ (given : (n < length t.messages) × IsInThreadOfSome t numbers n). to_passed (λ k. test (get_or roots k 0)) 0 (length roots) n (omega arith) (omega (arith, given.0, tells.long)) (back n given),
+        λ (among : is_among n (filter (λ k. test (get_or roots k 0)) (range_with_len 0 (length roots))) ≡ true). forth n
+            (from_passed (λ k. test (get_or roots k 0)) 0 (length roots) n among),
+        λ (given : (n < length t.messages) × IsInThreadOfSome t numbers n). to_passed (λ k. test (get_or roots k 0)) 0
+            (length roots) n (omega arith) (omega (arith, given.0, tells.long)) (back n given),
       );
     }
   where
@@ -93,16 +114,28 @@ chosen_threads t numbers roots members test tells within marked are =
     root_within : (n : ℕ) → n < length t.messages → root n < length t.messages
     root_within n lt = let low : root n ≤ n = tells.back n (omega (arith, lt, tells.long)) in omega (arith, lt, low)
 
-    forth : (n : ℕ) → (n < 0 + length roots) × (test (root n) ≡ true) → (n < length t.messages) × IsInThreadOfSome t numbers n
+    forth : (n : ℕ) → (n < 0 + length roots) × (test (root n) ≡ true) → (n < length t.messages)
+        × IsInThreadOfSome t numbers n
     forth n passed =
         let lt : n < length t.messages = omega (arith, passed.0, tells.long) in
-        let some : (m : ℕ) × (is_among m numbers ≡ true) × (root n ≡ root m) = some_from_any root (root n) numbers (sym (marked (root n) (root_within n lt)) ∙ passed.1) in
-        (lt, (some.0, some.1, (tells.same some.0 n (below (λ k. k < length t.messages) numbers some.0 within some.1) lt).0 (sym some.2)))
+        let some : (m : ℕ) × (is_among m numbers ≡ true) × (root n ≡ root m) =
+        some_from_any root (root n) numbers (sym (marked (root n) (root_within n lt)) ∙ passed.1) in (
+          lt,
+          (
+            some.0,
+            some.1,
+            (tells.same some.0 n (below (λ k. k < length t.messages) numbers some.0 within some.1)
+                lt).0 (sym some.2),
+          ),
+        )
 
     back : (n : ℕ) → (n < length t.messages) × IsInThreadOfSome t numbers n → test (root n) ≡ true
     back n given =
-        let m_within : given.1.0 < length t.messages = below (λ k. k < length t.messages) numbers given.1.0 within given.1.1 in
-        marked (root n) (root_within n given.0) ∙ any_from_some root (root n) given.1.0 numbers given.1.1 (sym ((tells.same given.1.0 n m_within given.0).1 given.1.2))
+        let m_within : given.1.0 < length t.messages =
+        below (λ k. k < length t.messages) numbers given.1.0 within given.1.1 in
+        marked (root n) (root_within n given.0)
+        ∙ any_from_some root (root n) given.1.0 numbers given.1.1
+        (sym ((tells.same given.1.0 n m_within given.0).1 given.1.2))
 
 -- ---- without links, or without numbers, the threads are the numbers themselves
 
@@ -110,7 +143,8 @@ path_without : (t : Table) (m n : ℕ) (path : List ℕ) → keys_of LinkId t.ke
 path_without t m n [] none here = here
 path_without t m n (l ∷ path) none given = grind arith
 
-pub threads_without : (t : Table) (numbers : List ℕ) → (keys_of LinkId t.keys ≡ []) ⊎ (numbers ≡ []) → RisesFrom 0 numbers → AllByRecursion (λ n. n < length t.messages) numbers → AreThreads t numbers numbers
+pub threads_without : (t : Table) (numbers : List ℕ) → (keys_of LinkId t.keys ≡ []) ⊎ (numbers ≡ [])
+    → RisesFrom 0 numbers → AllByRecursion (λ n. n < length t.messages) numbers → AreThreads t numbers numbers
 threads_without t numbers none rises within = grind (arith, below, itself, path_without)
 
 -- ---- what the calls returned
@@ -126,25 +160,34 @@ pub no_keys : (ks : List Key) → (0 < length ks → ⊥) → ks ≡ []
 no_keys [] none = refl
 no_keys (k ∷ ks) none = absurd (none (omega arith))
 
-pub chosen_by_marks : (t : Table) (numbers roots members : List ℕ) (marks : List Bool) → TellsThreads t roots → AllByRecursion (λ n. n < length t.messages) numbers
+pub chosen_by_marks : (t : Table) (numbers roots members : List ℕ) (marks : List Bool) → TellsThreads t roots
+    → AllByRecursion (λ n. n < length t.messages) numbers
     → marks ≡ each_number (length t.messages) (λ r. list_any (λ n. nat_eq r (get_or roots n 0)) numbers)
-    → members ≡ filter (λ n. truth_at marks (get_or roots n 0)) (range_with_len 0 (length roots)) → AreThreads t numbers members
+    → members ≡ filter (λ n. truth_at marks (get_or roots n 0)) (range_with_len 0 (length roots))
+    → AreThreads t numbers members
 chosen_by_marks t numbers roots members marks tells within marked are =
     chosen_threads t numbers roots members (truth_at marks) tells within
     (λ r lt.
-    ap (λ (xs : List Bool). truth_at xs r) marked ∙ get_or-map-range_with_len (λ k. list_any (λ n. nat_eq k (get_or roots n 0)) numbers) 0 (length t.messages) r r false lt (omega arith))
+    ap (λ (xs : List Bool). truth_at xs r) marked
+    ∙ get_or-map-range_with_len (λ k. list_any (λ n. nat_eq k (get_or roots n 0)) numbers) 0 (length t.messages) r r
+    false lt (omega arith))
     are
 
 -- ---- lists of numbers to choose from
 
 all_from_members : (P : ℕ → Type 0) (ns : List ℕ) → ((n : ℕ) → is_among n ns ≡ true → P n) → AllByRecursion P ns
 all_from_members P [] each = tt
-all_from_members P (n ∷ ns) each =
-    (each n (or_left (nat_eq n n) (is_among n ns) (eq-eqb n n refl)), all_from_members P ns (λ m among. each m (or_right (nat_eq m n) (is_among m ns) among)))
+all_from_members P (n ∷ ns) each = (
+  each n (or_left (nat_eq n n) (is_among n ns) (eq-eqb n n refl)),
+  all_from_members P ns (λ m among. each m (or_right (nat_eq m n) (is_among m ns) among)),
+)
 
 -- the numbers of messages that pass a test are below their count
-pub passed_below : (test : ℕ → Bool) (count : ℕ) → AllByRecursion (λ n. n < count) (filter test (range_with_len 0 count))
+pub passed_below : (test : ℕ → Bool) (count : ℕ)
+    → AllByRecursion (λ n. n < count) (filter test (range_with_len 0 count))
 passed_below test count = grind (arith, all_from_members, from_passed)
 
-pub threads_below : (t : Table) (numbers members : List ℕ) → AreThreads t numbers members → AllByRecursion (λ n. n < length t.messages) members
-threads_below t numbers members are = all_from_members (λ n. n < length t.messages) members (λ n among. ((are.each n).0 among).0)
+pub threads_below : (t : Table) (numbers members : List ℕ) → AreThreads t numbers members
+    → AllByRecursion (λ n. n < length t.messages) members
+threads_below t numbers members are = all_from_members (λ n. n < length t.messages) members
+    (λ n among. ((are.each n).0 among).0)

@@ -1,5 +1,7 @@
 -- Trees whose paths are made shorter have the same roots, because each step leads from a message to one of its tree.
-use Rattle.mail_answer.proofs.Words.{◌≡◌, ◌≢◌, ◌∙◌, ◌+◌, ◌<◌, ◌≤◌, ℕ, List, length, get_or, inl, inr, sym, ap, subst, arith, set, get_or-set_same, get_or-set_other, eqb_tells, Table, IsInThread, LeadsBack, StaysInThreads, LabelsTrees, Shortens}
+use Rattle.mail_answer.proofs.Words.{◌≡◌, ◌≢◌, ◌∙◌, ◌+◌, ◌<◌, ◌≤◌, ℕ, List, length, get_or, inl, inr, sym, ap, subst}
+use Rattle.mail_answer.proofs.Words.{arith, set, get_or-set_same, get_or-set_other, eqb_tells, Table, IsInThread}
+use Rattle.mail_answer.proofs.Words.{LeadsBack, StaysInThreads, LabelsTrees, Shortens}
 use Rattle.std.proofs.Math.ListN.{length-set}
 use Rattle.mail_answer.proofs.ThreadLaws.ThreadLemmas.{through}
 
@@ -9,31 +11,41 @@ same_there : (p : List ℕ) (i g n : ℕ) → i < length p → n ≡ i → get_o
 same_there p i g n lt same = ap (λ (k : ℕ). get_or (set p i g) k 0) same ∙ get_or-set_same p i g 0 lt
 
 -- what is true of the new parent at its place, and of the old ones at the others, is true of each
-pub each_parent : (P : ℕ → ℕ → Type 0) (p : List ℕ) (i g : ℕ) → i < length p → P i g → ((n : ℕ) → n < length p → n ≢ i → P n (get_or p n 0)) → (n : ℕ) → n < length p → P n (get_or (set p i g) n 0)
+pub each_parent : (P : ℕ → ℕ → Type 0) (p : List ℕ) (i g : ℕ) → i < length p → P i g
+    → ((n : ℕ) → n < length p → n ≢ i → P n (get_or p n 0)) → (n : ℕ) → n < length p → P n (get_or (set p i g) n 0)
 each_parent P p i g lt here elsewhere n within = grind (arith, eqb_tells, same_there, get_or-set_other)
 
 pub still_back : (p : List ℕ) (i g : ℕ) → i < length p → g ≤ i → LeadsBack p → LeadsBack (set p i g)
-still_back p i g lt before back = λ n within. each_parent (λ m r. r ≤ m) p i g lt before (λ m h ne. back m h) n (subst (λ (k : ℕ). n < k) (length-set p i g) within)
+still_back p i g lt before back = λ n within. each_parent (λ m r. r ≤ m) p i g lt before (λ m h ne. back m h) n
+    (subst (λ (k : ℕ). n < k) (length-set p i g) within)
 
-pub still_threads : (t : Table) (p : List ℕ) (i g : ℕ) → i < length p → IsInThread t i g → StaysInThreads t p → StaysInThreads t (set p i g)
-still_threads t p i g lt leads stays = λ n within. each_parent (IsInThread t) p i g lt leads (λ m h ne. stays m h) n (subst (λ (k : ℕ). n < k) (length-set p i g) within)
+pub still_threads : (t : Table) (p : List ℕ) (i g : ℕ) → i < length p → IsInThread t i g → StaysInThreads t p
+    → StaysInThreads t (set p i g)
+still_threads t p i g lt leads stays = λ n within. each_parent (IsInThread t) p i g lt leads (λ m h ne. stays m h) n
+    (subst (λ (k : ℕ). n < k) (length-set p i g) within)
 
 -- a label of the new trees is one of the old ones, if it is right at the exchanged place
-pub still_labels : (label : ℕ → ℕ) (p : List ℕ) (i g : ℕ) → i < length p → label (get_or p i 0) ≡ label i → LabelsTrees label (set p i g) → LabelsTrees label p
+pub still_labels : (label : ℕ → ℕ) (p : List ℕ) (i g : ℕ) → i < length p → label (get_or p i 0) ≡ label i
+    → LabelsTrees label (set p i g) → LabelsTrees label p
 still_labels label p i g lt here labels = grind (arith, eqb_tells, get_or-set_other, length-set)
 
-pub label_there : (label : ℕ → ℕ) (p : List ℕ) (i g : ℕ) → i < length p → LabelsTrees label (set p i g) → label g ≡ label i
-label_there label p i g lt labels = ap label (sym (get_or-set_same p i g 0 lt)) ∙ labels i (subst (λ (k : ℕ). i < k) (sym (length-set p i g)) lt)
+pub label_there : (label : ℕ → ℕ) (p : List ℕ) (i g : ℕ) → i < length p → LabelsTrees label (set p i g) → label g
+    ≡ label i
+label_there label p i g lt labels = ap label (sym (get_or-set_same p i g 0 lt))
+    ∙ labels i (subst (λ (k : ℕ). i < k) (sym (length-set p i g)) lt)
 
 -- ---- a message gets its parent's parent
 
 -- a label of the new trees is one of the old ones
-same_label : (label : ℕ → ℕ) (p : List ℕ) (i : ℕ) → i < length p → get_or p i 0 < length p → LabelsTrees label (set p i (get_or p (get_or p i 0) 0)) → label (get_or p i 0) ≡ label i
+same_label : (label : ℕ → ℕ) (p : List ℕ) (i : ℕ) → i < length p → get_or p i 0 < length p
+    → LabelsTrees label (set p i (get_or p (get_or p i 0) 0)) → label (get_or p i 0) ≡ label i
 same_label label p i lt parent labels =
     elim (eqb_tells (get_or p i 0) i) [
       | inl this ↦ ap label this.1
       | inr other ↦
-          sym (ap label (sym (get_or-set_other p i (get_or p i 0) (get_or p (get_or p i 0) 0) 0 other.1)) ∙ labels (get_or p i 0) (subst (λ (k : ℕ). get_or p i 0 < k) (sym (length-set p i (get_or p (get_or p i 0) 0))) parent))
+          sym (ap label (sym (get_or-set_other p i (get_or p i 0) (get_or p (get_or p i 0) 0) 0 other.1))
+          ∙ labels (get_or p i 0) (subst (λ (k : ℕ). get_or p i 0 < k)
+          (sym (length-set p i (get_or p (get_or p i 0) 0))) parent))
           ∙ label_there label p i (get_or p (get_or p i 0) 0) lt labels
     ]
 
@@ -54,25 +66,33 @@ lifted p i back lt =
             | inr other ↦ get_or-set_other p i n g 0 other.1 ∙ root
           ];
       labels = λ label labels. still_labels label p i g lt (same_label label p i lt parent labels) labels;
-      threads = λ t stays. still_threads t p i g lt (through t i (get_or p i 0) g (stays i lt) (stays (get_or p i 0) parent)) stays;
+      threads = λ t stays. still_threads t p i g lt
+          (through t i (get_or p i 0) g (stays i lt) (stays (get_or p i 0) parent)) stays;
     }
 
 -- the same, with the values that `lift` has
-pub lifted_to : (p q : List ℕ) (i r : ℕ) → LeadsBack p → i < length p → r ≡ get_or p (get_or p i 0) 0 → q ≡ set p i r → Shortens p q
+pub lifted_to : (p q : List ℕ) (i r : ℕ) → LeadsBack p → i < length p → r ≡ get_or p (get_or p i 0) 0 → q ≡ set p i r
+    → Shortens p q
 lifted_to p q i r back lt value after = subst (Shortens p) (sym (after ∙ ap (set p i) value)) (lifted p i back lt)
 
 parent_within : (p : List ℕ) (i : ℕ) → LeadsBack p → i < length p → get_or p i 0 < length p
 parent_within p i back lt = let low : get_or p i 0 ≤ i = back i lt in omega arith
 
-pub lifted_before : (p : List ℕ) (i r : ℕ) → LeadsBack p → i < length p → r ≡ get_or p (get_or p i 0) 0 → r ≤ get_or p i 0
-lifted_before p i r back lt value = let lower : get_or p (get_or p i 0) 0 ≤ get_or p i 0 = back (get_or p i 0) (parent_within p i back lt) in omega arith
+pub lifted_before : (p : List ℕ) (i r : ℕ) → LeadsBack p → i < length p → r ≡ get_or p (get_or p i 0) 0
+    → r ≤ get_or p i 0
+lifted_before p i r back lt value = let lower : get_or p (get_or p i 0) 0 ≤ get_or p i 0 =
+    back (get_or p i 0) (parent_within p i back lt) in omega arith
 
-pub lifted_label : (label : ℕ → ℕ) (p : List ℕ) (i r : ℕ) → LeadsBack p → i < length p → r ≡ get_or p (get_or p i 0) 0 → LabelsTrees label p → label i ≡ label r
-lifted_label label p i r back lt value labels = sym (ap label value ∙ labels (get_or p i 0) (parent_within p i back lt) ∙ labels i lt)
+pub lifted_label : (label : ℕ → ℕ) (p : List ℕ) (i r : ℕ) → LeadsBack p → i < length p → r ≡ get_or p (get_or p i 0) 0
+    → LabelsTrees label p → label i ≡ label r
+lifted_label label p i r back lt value labels =
+    sym (ap label value ∙ labels (get_or p i 0) (parent_within p i back lt) ∙ labels i lt)
 
-pub lifted_thread : (t : Table) (p : List ℕ) (i r : ℕ) → LeadsBack p → i < length p → r ≡ get_or p (get_or p i 0) 0 → StaysInThreads t p → IsInThread t i r
+pub lifted_thread : (t : Table) (p : List ℕ) (i r : ℕ) → LeadsBack p → i < length p → r ≡ get_or p (get_or p i 0) 0
+    → StaysInThreads t p → IsInThread t i r
 lifted_thread t p i r back lt value stays =
-    subst (IsInThread t i) (sym value) (through t i (get_or p i 0) (get_or p (get_or p i 0) 0) (stays i lt) (stays (get_or p i 0) (parent_within p i back lt)))
+    subst (IsInThread t i) (sym value) (through t i (get_or p i 0) (get_or p (get_or p i 0) 0) (stays i lt)
+    (stays (get_or p i 0) (parent_within p i back lt)))
 
 -- ---- steps one after another
 
@@ -89,5 +109,6 @@ shorter_still p q r first second = record {
 
 -- one more message
 pub flat_more : (p q : List ℕ) (i r : ℕ) → LeadsBack p → i < length p → r ≡ get_or p (get_or p i 0) 0 → q ≡ set p i r
-    → ((n : ℕ) → n < i → get_or p (get_or p n 0) 0 ≡ get_or p n 0) → (n : ℕ) → n < i + 1 → get_or q (get_or q n 0) 0 ≡ get_or q n 0
+    → ((n : ℕ) → n < i → get_or p (get_or p n 0) 0 ≡ get_or p n 0) → (n : ℕ) → n < i + 1 → get_or q (get_or q n 0) 0
+    ≡ get_or q n 0
 flat_more p q i r back lt value after flat n within = grind (arith, eqb_tells, set, same_there, get_or-set_other)

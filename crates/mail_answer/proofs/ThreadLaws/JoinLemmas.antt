@@ -1,11 +1,15 @@
 -- Trees are joined by hanging a root at an earlier root, message by message and key by key.
-use Rattle.mail_answer.proofs.Words.{◌≡◌, ◌∙◌, ◌<◌, ◌≤◌, ℕ, true, nat_eq, ◌&&◌, List, [], ◌∷◌, length, get_or, inl, inr, refl, sym, ap, eq-eqb, arith, list_any, set, eqb-true, or_cases, or_left, or_right, and_parts, and_from, Table, is_among, IsInThread, StaysInThreads, LabelsTrees, Shortens, Unites, AreBothAmong, ShareKey}
+use Rattle.mail_answer.proofs.Words.{◌≡◌, ◌∙◌, ◌<◌, ◌≤◌, ℕ, true, nat_eq, ◌&&◌, List, [], ◌∷◌, length, get_or, inl, inr}
+use Rattle.mail_answer.proofs.Words.{refl, sym, ap, eq-eqb, arith, list_any, set, eqb-true, or_cases, or_left, or_right}
+use Rattle.mail_answer.proofs.Words.{and_parts, and_from, Table, is_among, IsInThread, StaysInThreads, LabelsTrees}
+use Rattle.mail_answer.proofs.Words.{Shortens, Unites, AreBothAmong, ShareKey}
 use Rattle.std.proofs.Math.ListN.{length-set}
 use Rattle.mail_answer.proofs.ThreadLaws.ThreadLemmas.{through, back_again}
 use Rattle.mail_answer.proofs.ThreadLaws.ForestLemmas.{still_back, still_threads, still_labels, label_there}
 
 -- a root becomes a child of an earlier root
-pub hung : (p q : List ℕ) (number other high low : ℕ) → Shortens p q → high < length q → low ≤ high → get_or q high 0 ≡ high
+pub hung : (p q : List ℕ) (number other high low : ℕ) → Shortens p q → high < length q → low ≤ high → get_or q high 0
+    ≡ high
     → ((label : ℕ → ℕ) → LabelsTrees label q → label high ≡ label low → label number ≡ label other)
     → ((t : Table) → StaysInThreads t p → IsInThread t number other → IsInThread t high low)
     → Unites (λ m n. (m ≡ number) × (n ≡ other)) p (set q high low)
@@ -14,13 +18,17 @@ hung p q number other high low short lt before root joins leads = record {
   back = λ back. still_back q high low lt before (short.back back);
   labels = λ label labels. short.labels label (still_labels label q high low lt (ap label root) labels);
   united = λ m n pair label labels.
-      ap label pair.0 ∙ joins label (still_labels label q high low lt (ap label root) labels) (sym (label_there label q high low lt labels)) ∙ sym (ap label pair.1);
-  threads = λ t all stays. still_threads t q high low lt (leads t stays (all number other (refl, refl))) (short.threads t stays);
+      ap label pair.0 ∙ joins label (still_labels label q high low lt (ap label root) labels)
+      (sym (label_there label q high low lt labels)) ∙ sym (ap label pair.1);
+  threads = λ t all stays. still_threads t q high low lt (leads t stays (all number other (refl, refl)))
+      (short.threads t stays);
 }
 
 -- the roots of two messages of one thread are in it
-pub roots_linked : (t : Table) (number other first second : ℕ) → IsInThread t number first → IsInThread t other second → IsInThread t number other → IsInThread t first second
-roots_linked t number other first second one two linked = through t first number second (back_again t number first one) (through t number other second linked two)
+pub roots_linked : (t : Table) (number other first second : ℕ) → IsInThread t number first → IsInThread t other second
+    → IsInThread t number other → IsInThread t first second
+roots_linked t number other first second one two linked =
+    through t first number second (back_again t number first one) (through t number other second linked two)
 
 -- ---- all messages of a key
 
@@ -34,14 +42,16 @@ between : (first n x : ℕ) (ns : List ℕ) → is_among x (first ∷ ns) ≡ tr
 between first n x ns among = grind (arith, or_cases, one_of, eqb-true, behind_first)
 
 -- if one more number has the label of the first, all have it
-as_first : (label : ℕ → ℕ) (first n : ℕ) (ns : List ℕ) → label n ≡ label first → ((x : ℕ) → is_among x (first ∷ ns) ≡ true → label x ≡ label first)
+as_first : (label : ℕ → ℕ) (first n : ℕ) (ns : List ℕ) → label n ≡ label first
+    → ((x : ℕ) → is_among x (first ∷ ns) ≡ true → label x ≡ label first)
     → (x : ℕ) → is_among x (first ∷ n ∷ ns) ≡ true → label x ≡ label first
 as_first label first n ns second rest x among = grind (arith, or_cases, eqb-true, behind_first)
 
 pub united_one : (p : List ℕ) (first : ℕ) → Unites (AreBothAmong (first ∷ [])) p p
 united_one p first = grind (arith, or_cases, eqb-true)
 
-pub united_more : (p q r : List ℕ) (first n : ℕ) (ns : List ℕ) → Unites (λ x y. (x ≡ first) × (y ≡ n)) p q → Unites (AreBothAmong (first ∷ ns)) q r → Unites (AreBothAmong (first ∷ n ∷ ns)) p r
+pub united_more : (p q r : List ℕ) (first n : ℕ) (ns : List ℕ) → Unites (λ x y. (x ≡ first) × (y ≡ n)) p q
+    → Unites (AreBothAmong (first ∷ ns)) q r → Unites (AreBothAmong (first ∷ n ∷ ns)) p r
 united_more p q r first n ns one rest = record {
   long = rest.long ∙ one.long;
   back = λ back. rest.back (one.back back);
@@ -49,7 +59,10 @@ united_more p q r first n ns one rest = record {
   united = λ x y both label labels. all label labels x both.0 ∙ sym (all label labels y both.1);
   threads = λ t given stays.
       rest.threads t (λ x y both. given x y (between first n x ns both.0, between first n y ns both.1))
-      (one.threads t (λ x y pair. given x y (one_of first x (n ∷ ns) pair.0, behind_first first y (n ∷ ns) (one_of n y ns pair.1))) stays);
+      (one.threads t (λ x y pair. given x y (
+        one_of first x (n ∷ ns) pair.0,
+        behind_first first y (n ∷ ns) (one_of n y ns pair.1),
+      )) stays);
 }
   where
     all : (label : ℕ → ℕ) → LabelsTrees label r → (x : ℕ) → is_among x (first ∷ n ∷ ns) ≡ true → label x ≡ label first
@@ -59,17 +72,23 @@ united_more p q r first n ns one rest = record {
 
 -- ---- all keys
 
-pub keys_more : (p q r : List ℕ) (k : List ℕ × List ℕ) (ks : List (List ℕ × List ℕ)) → Unites (AreBothAmong k.1) p q → Unites (ShareKey ks) q r → Unites (ShareKey (k ∷ ks)) p r
+pub keys_more : (p q r : List ℕ) (k : List ℕ × List ℕ) (ks : List (List ℕ × List ℕ)) → Unites (AreBothAmong k.1) p q
+    → Unites (ShareKey ks) q r → Unites (ShareKey (k ∷ ks)) p r
 keys_more p q r k ks one rest = record {
   long = rest.long ∙ one.long;
   back = λ back. rest.back (one.back back);
   labels = λ label labels. one.labels label (rest.labels label labels);
   united = λ x y share label labels.
-      elim (or_cases (is_among x k.1 && is_among y k.1) (list_any (λ (key : List ℕ × List ℕ). is_among x key.1 && is_among y key.1) ks) share) [
+      elim (or_cases (is_among x k.1 && is_among y k.1)
+      (list_any (λ (key : List ℕ × List ℕ). is_among x key.1 && is_among y key.1) ks) share) [
         | inl here ↦ one.united x y (and_parts (is_among x k.1) (is_among y k.1) here) label (rest.labels label labels)
         | inr behind ↦ rest.united x y behind label labels
       ];
   threads = λ t given stays.
-      rest.threads t (λ x y share. given x y (or_right (is_among x k.1 && is_among y k.1) (list_any (λ (key : List ℕ × List ℕ). is_among x key.1 && is_among y key.1) ks) share))
-      (one.threads t (λ x y both. given x y (or_left (is_among x k.1 && is_among y k.1) (list_any (λ (key : List ℕ × List ℕ). is_among x key.1 && is_among y key.1) ks) (and_from (is_among x k.1) (is_among y k.1) both.0 both.1))) stays);
+      rest.threads t (λ x y share. given x y
+      (or_right (is_among x k.1 && is_among y k.1)
+      (list_any (λ (key : List ℕ × List ℕ). is_among x key.1 && is_among y key.1) ks) share))
+      (one.threads t (λ x y both. given x y (or_left (is_among x k.1 && is_among y k.1)
+      (list_any (λ (key : List ℕ × List ℕ). is_among x key.1 && is_among y key.1) ks)
+      (and_from (is_among x k.1) (is_among y k.1) both.0 both.1))) stays);
 }

@@ -1,5 +1,7 @@
 -- Lists of rising numbers of messages, and the text of an answer, number by number.
-use Rattle.mail_answer.proofs.Words.{◌≡◌, ℕ, suc, ◌+◌, ◌<◌, ◌≤◌, List, [], ◌∷◌, ◌++◌, length, Option, arith, AllByRecursion, flat_map-cons, Table, RisesFrom, Query, AreNumbers, known_answer, known_message, answer_text, message_text, joined, Tells, record_at, chosen_numbers}
+use Rattle.mail_answer.proofs.Words.{◌≡◌, ℕ, suc, ◌+◌, ◌<◌, ◌≤◌, List, [], ◌∷◌, ◌++◌, length, Option, arith}
+use Rattle.mail_answer.proofs.Words.{AllByRecursion, flat_map-cons, Table, RisesFrom, Query, AreNumbers, known_answer}
+use Rattle.mail_answer.proofs.Words.{known_message, answer_text, message_text, joined, Tells, record_at, chosen_numbers}
 use Rattle.mail_answer.specs.declared.format.Format.{Format}
 use Rattle.mail_answer.proofs.ThreadLaws.ChosenThreads.{passed_rise, passed_below, lower}
 
@@ -8,9 +10,11 @@ pub numbers_next : (count n : ℕ) (ns : List ℕ) → AreNumbers count (n ∷ n
 numbers_next count n ns are = record { rises = lower 0 (suc n) ns (omega arith) are.rises.1; below = are.below.1 }
 
 -- there are at most as many rising numbers between two as their difference
-pub few_numbers : (low high : ℕ) (ns : List ℕ) → low ≤ high → RisesFrom low ns → AllByRecursion (λ n. n < high) ns → low + length ns ≤ high
+pub few_numbers : (low high : ℕ) (ns : List ℕ) → low ≤ high → RisesFrom low ns → AllByRecursion (λ n. n < high) ns
+    → low + length ns ≤ high
 few_numbers low high [] le rises below = omega (arith, le)
-few_numbers low high (n ∷ ns) le rises below = grind (arith, few_numbers (suc n) high ns (omega (arith, below.0)) rises.1 below.1)
+few_numbers low high (n ∷ ns) le rises below =
+    grind (arith, few_numbers (suc n) high ns (omega (arith, below.0)) rises.1 below.1)
 
 -- ---- the chosen numbers are rising numbers of messages
 
@@ -20,14 +24,17 @@ numbers_chosen t q = grind (arith, passed_rise, passed_below)
 -- ---- the text of the first message, and of those after it
 
 text_first : (format : Format) (t : Table) (archives : List (List ℕ)) (n : ℕ) (ns : List ℕ)
-    → answer_text format t archives (n ∷ ns) ≡ message_text format t.archives archives (record_at t.messages n) ++ answer_text format t archives ns
-text_first format t archives n ns = flat_map-cons (λ k. message_text format t.archives archives (record_at t.messages k)) n ns
+    → answer_text format t archives (n ∷ ns)
+    ≡ message_text format t.archives archives (record_at t.messages n) ++ answer_text format t archives ns
+text_first format t archives n ns = flat_map-cons
+    (λ k. message_text format t.archives archives (record_at t.messages k)) n ns
 
 pub known_first : (format : Format) (t : Table) (held : Option (List (List ℕ))) (n : ℕ) (ns : List ℕ)
     → known_answer format t held (n ∷ ns) ≡ joined (known_message format t held n) (known_answer format t held ns)
 known_first format t held n ns = grind (arith, text_first)
 
-pub known_none : (format : Format) (t : Table) (held : Option (List (List ℕ))) → Tells (known_answer format t held []) []
+pub known_none : (format : Format) (t : Table) (held : Option (List (List ℕ)))
+    → Tells (known_answer format t held []) []
 known_none format t held = grind arith
 
 -- ---- a list of which some numbers were returned

@@ -1,5 +1,7 @@
 -- Messages have only one list of threads, because rising lists with the same members are the same.
-use Rattle.mail_answer.proofs.Words.{◌≡◌, ◌∙◌, ◌≤◌, ℕ, suc, true, nat_eq, List, [], ◌∷◌, inl, inr, refl, ap, subst, arith, eq-eqb, eqb-true, or_cases, or_left, or_right, Table, RisesFrom, is_among, AreThreads}
+use Rattle.mail_answer.proofs.Words.{◌≡◌, ◌∙◌, ◌≤◌, ℕ, suc, true, nat_eq, List, [], ◌∷◌, inl, inr, refl, ap, subst}
+use Rattle.mail_answer.proofs.Words.{arith, eq-eqb, eqb-true, or_cases, or_left, or_right, Table, RisesFrom, is_among}
+use Rattle.mail_answer.proofs.Words.{AreThreads}
 
 not_before : (low : ℕ) (ns : List ℕ) (n : ℕ) → RisesFrom low ns → is_among n ns ≡ true → low ≤ n
 not_before low [] n rises among = absurd (cc among)
@@ -17,7 +19,9 @@ first_of : (m : ℕ) (ns : List ℕ) → is_among m (m ∷ ns) ≡ true
 first_of m ns = or_left (nat_eq m m) (is_among m ns) (eq-eqb m m refl)
 
 -- rising lists with the same members are the same
-one_list : (low : ℕ) (xs ys : List ℕ) → RisesFrom low xs → RisesFrom low ys → ((n : ℕ) → is_among n xs ≡ true → is_among n ys ≡ true) → ((n : ℕ) → is_among n ys ≡ true → is_among n xs ≡ true) → xs ≡ ys
+one_list : (low : ℕ) (xs ys : List ℕ) → RisesFrom low xs → RisesFrom low ys
+    → ((n : ℕ) → is_among n xs ≡ true → is_among n ys ≡ true) → ((n : ℕ) → is_among n ys ≡ true → is_among n xs ≡ true)
+    → xs ≡ ys
 one_list low [] [] xs_rise ys_rise forth back = refl
 one_list low [] (y ∷ ys) xs_rise ys_rise forth back = absurd (cc (back y (first_of y ys)))
 one_list low (x ∷ xs) [] xs_rise ys_rise forth back = absurd (cc (forth x (first_of x xs)))
@@ -29,7 +33,8 @@ one_list low (x ∷ xs) (y ∷ ys) xs_rise ys_rise forth back =
     ap (λ (n : ℕ). n ∷ xs) same
     ∙ ap (λ (ns : List ℕ). y ∷ ns)
     (one_list (suc y) xs ys rest ys_rise.1
-    (λ n among. behind y n ys (not_before (suc y) xs n rest among) (forth n (or_right (nat_eq n x) (is_among n xs) among)))
+    (λ n among. behind y n ys (not_before (suc y) xs n rest among)
+    (forth n (or_right (nat_eq n x) (is_among n xs) among)))
     (λ n among.
     let later : suc y ≤ n = not_before (suc y) ys n ys_rise.1 among in
     behind x n xs (omega arith) (back n (or_right (nat_eq n y) (is_among n ys) among))))

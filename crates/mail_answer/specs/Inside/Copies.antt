@@ -9,7 +9,11 @@ use Rattle.mail_answer.specs.declared.output.sheet.Sheet.{Sheet}
 
 -- A front of what is to come was added to the answer, and the result is the ending with it; with a fault, a front of it
 -- was sent. `count` bytes were to come, and `left` are left.
-abbrev pub Copies : Option (List ℕ) → Option (List ℕ) → Sheet → Sheet → Option (List ℕ) → Option (List ℕ) → ℕ → ℕ → Ending → Result Ending AnswerFaultKind → Type 0
+abbrev pub Copies : Option (List ℕ) → Option (List ℕ) → Sheet → Sheet → Option (List ℕ) → Option (List ℕ) → ℕ → ℕ
+    → Ending → Result Ending AnswerFaultKind → Type 0
 Copies taken taken' old new coming rest count left before (Ok ending) =
-    (piece : List ℕ) × (coming ≡ option_map (λ bytes. piece ++ bytes) rest) × Joins taken taken' old new piece × ((text : List ℕ) → before ≡ ending_of text → ending ≡ ending_of (text ++ piece)) × (count ≡ length piece + left)
-Copies taken taken' old new coming rest count left before (Err _) = (text : List ℕ) × Tells coming text × JoinsFront taken taken' old new text × (length text ≡ count)
+    (piece : List ℕ) × (coming ≡ option_map (λ bytes. piece ++ bytes) rest) × Joins taken taken' old new piece
+    × ((text : List ℕ) → before ≡ ending_of text → ending ≡ ending_of (text ++ piece))
+    × (count ≡ length piece + left)
+Copies taken taken' old new coming rest count left before (Err _) = (text : List ℕ) × Tells coming text
+    × JoinsFront taken taken' old new text × (length text ≡ count)

@@ -1,5 +1,6 @@
 -- A window over the messages of some lists: the messages in it are marked, and the others are left in the lists.
-use Rattle.std.specs.Prelude.{◌≡◌, ℕ, ◌+◌, ◌^◌, ◌<◌, ◌≤◌, nat_le, Bool, true, false, ◌&&◌, List, ◌++◌, length, replicate, Option, MatchOption}
+use Rattle.std.specs.Prelude.{◌≡◌, ℕ, ◌+◌, ◌^◌, ◌<◌, ◌≤◌, nat_le, Bool, true, false, ◌&&◌, List, ◌++◌, length}
+use Rattle.std.specs.Prelude.{replicate, Option, MatchOption}
 use Rattle.mail_answer.specs.Marks.{truth_at, each_number}
 use Rattle.mail_answer.specs.CursorAhead.{Ahead, IsFirst, one_or_other, united}
 use Rattle.mail_answer.specs.declared.cursor.head.Head.{Head}
@@ -40,4 +41,5 @@ pub record HaveMarks (start : ℕ) (marks : List Bool) (lists : List Ahead) (ahe
 abbrev pub IsFirstMark : ℕ → ℕ → List Bool → Option ℕ → Type 0
 IsFirstMark start low marks number =
     MatchOption number ((k : ℕ) → low ≤ start + k → truth_at marks k ≡ false)
-    (λ n. (low ≤ n) × ((k : ℕ) × (n ≡ start + k) × (truth_at marks k ≡ true) × ((j : ℕ) → low ≤ start + j → j < k → truth_at marks j ≡ false)))
+    (λ n. (low ≤ n) × ((k : ℕ) × (n ≡ start + k) × (truth_at marks k ≡ true)
+    × ((j : ℕ) → low ≤ start + j → j < k → truth_at marks j ≡ false)))

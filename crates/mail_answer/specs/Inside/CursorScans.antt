@@ -1,5 +1,6 @@
 -- A walk along the records of the messages.
-use Rattle.std.specs.Prelude.{◌≡◌, ℕ, suc, ◌<◌, ◌≤◌, Bool, true, false, nat_le, ◌&&◌, ◌||◌, List, [], Option, IfSome, MatchOption}
+use Rattle.std.specs.Prelude.{◌≡◌, ℕ, suc, ◌<◌, ◌≤◌, Bool, true, false, nat_le, ◌&&◌, ◌||◌, List, [], Option, IfSome}
+use Rattle.std.specs.Prelude.{MatchOption}
 use Rattle.std.specs.Option.{option_to_list}
 use Rattle.mail_index.specs.declared.record.Record.{Record}
 use Rattle.mail_query.specs.Query as query
@@ -19,7 +20,8 @@ asked_query (Flag flag wanted) = query.HasFlag flag wanted
 
 -- Whether the record meets the condition. A condition depends on the record alone, not on its table or number.
 abbrev pub is_as_asked : Asked → Record → Bool
-is_as_asked asked m = is_true (asked_query asked) (facts_of_record (record { version = 0; archives = []; messages = []; keys = [] }) 0 m)
+is_as_asked asked m = is_true (asked_query asked)
+    (facts_of_record (record { version = 0; archives = []; messages = []; keys = [] }) 0 m)
 
 -- whether the record of the message of this number meets the condition
 abbrev pub satisfies : List Record → Asked → ℕ → Bool

@@ -38,7 +38,8 @@ HaveNumbers count keys = AllByRecursion (λ k. AreNumbers count k.1) keys
 -- whether a text of one of these kinds passes for the message
 abbrev pub some_of_kinds : List Kind → (List ℕ → Bool) → List Key → ℕ → Bool
 some_of_kinds [] passes keys m = false
-some_of_kinds (kind ∷ kinds) passes keys m = list_any passes (texts_with kind m keys) || some_of_kinds kinds passes keys m
+some_of_kinds (kind ∷ kinds) passes keys m =
+    list_any passes (texts_with kind m keys) || some_of_kinds kinds passes keys m
 
 -- how many numbers the keys of a kind have together whose texts pass
 abbrev pub numbers_fitting : (List ℕ → Bool) → List Key → Kind → ℕ

@@ -9,7 +9,8 @@ use Rattle.mail_answer.specs.declared.output.ending.Ending.TheVariants.{Empty, E
 
 -- the ending of a line: it is empty, or has LF, or is CR alone, or has this many other bytes
 abbrev pub ending_of_line : List ℕ → Ending
-ending_of_line line = if is_empty line then Empty else if has_feed line then Ended else if bytes_eq line (13 ∷ []) then Return else Open (length line)
+ending_of_line line = if is_empty line then Empty else if has_feed line then Ended else if bytes_eq line (13 ∷ [])
+    then Return else Open (length line)
 
 -- the ending of the last line of these bytes
 abbrev pub ending_of : List ℕ → Ending
@@ -24,7 +25,8 @@ abbrev pub with_byte : Ending → ℕ → Ending
 with_byte Empty b = line_of b
 with_byte Ended b = line_of b
 with_byte Return b = if b == 10 then Empty else Open 2
-with_byte (Open n) b = if n == 0 then line_of b else if b == 10 then Ended else if nat_lt n 65536 then Open (n + 1) else line_of b
+with_byte (Open n) b = if n == 0 then line_of b else if b == 10 then Ended else if nat_lt n 65536 then Open (n + 1)
+    else line_of b
 
 -- the line feeds after which the last line is empty
 abbrev pub feeds_of : Ending → List ℕ

@@ -49,4 +49,5 @@ ShareKey keys m n = IsTrue (list_any (λ k. is_among m k.1 && is_among n k.1) ke
 pub record TellsThreads (t : Table) (roots : List ℕ) : Type 0 where
   pub long : length roots ≡ length t.messages
   pub back : LeadsBack roots
-  pub same : (m n : ℕ) → m < length t.messages → n < length t.messages → (slice_index roots m ≡ slice_index roots n) ↔ IsInThread t m n
+  pub same : (m n : ℕ) → m < length t.messages → n < length t.messages
+      → (slice_index roots m ≡ slice_index roots n) ↔ IsInThread t m n

@@ -13,7 +13,8 @@ HasFields header fields = (ls : List (List ℕ)) × HasLines header ls × (field
 
 -- the header will have these fields once it is given the lines that are still to come
 abbrev pub WillHaveFields : Option (List ℕ) → Header → List HeaderField → Type 0
-WillHaveFields coming header fields = IfSome coming (λ bytes. (ls : List (List ℕ)) × HasLines header ls × (fields_of (ls ++ lines bytes) ≡ fields))
+WillHaveFields coming header fields = IfSome coming
+    (λ bytes. (ls : List (List ℕ)) × HasLines header ls × (fields_of (ls ++ lines bytes) ≡ fields))
 
 -- The header will have these fields; if it has ended, it has them already.
 abbrev pub HasFieldsAfter : Taken → Option (List ℕ) → Header → List HeaderField → Type 0

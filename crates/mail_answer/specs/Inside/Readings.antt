@@ -1,8 +1,8 @@
 -- What is read of a part of an archive, line by line.
 use Rattle.std.specs.Prelude.{◌≡◌, ℕ, ◌+◌, ◌<◌, ◌≤◌, ◌^◌, List, [], ◌++◌, length, take, drop, Option, IfSome}
 use Rattle.std.specs.Option.{option_map}
+use Rattle.contract_words.specs.Archives.{IsRead, archive_at}
 use Rattle.mail_index.specs.declared.record.Record.{Record}
-use Rattle.mail_answer.specs.Archives.{archive_at, IsRead}
 
 -- a reading: the archive, the bytes of the part that were read and not passed, and the offset and the number of those
 -- not read yet

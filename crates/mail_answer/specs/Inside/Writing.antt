@@ -35,28 +35,34 @@ pub record IsBegun (w : AnswerWriter) : Type 0 where
   pub sent : w.sheet.sent ≡ 0
 
 -- The message with this number was added to the answer; if the call fails, only a front of it.
-pub record WritesMessage {T : Type 0} (taken taken' : Option (List ℕ)) (held : Option (List (List ℕ))) (n : ℕ) (old new : AnswerWriter) (result : Result T AnswerFaultKind) : Type 0 where
+pub record WritesMessage {T : Type 0} (taken taken' : Option (List ℕ)) (held : Option (List (List ℕ))) (n : ℕ)
+    (old new : AnswerWriter) (result : Result T AnswerFaultKind) : Type 0 where
   -- its text is the known one, if there is a known one
   pub text : Writes taken taken' old.sheet new.sheet (known_message old.format old.places.table held n) result
   -- whatever bytes the archives have, an mbox answer has as many bytes of the message as were indexed, closed
-  pub span : old.format ≡ Mbox → WritesSpan taken taken' old.sheet new.sheet (record_at old.places.table.messages n).length result
+  pub span : old.format ≡ Mbox → WritesSpan taken taken' old.sheet new.sheet
+      (record_at old.places.table.messages n).length result
 
 -- The messages with these numbers were added to the answer; if the call fails, only a front of them.
-pub record WritesMessages {T : Type 0} (taken taken' : Option (List ℕ)) (held : Option (List (List ℕ))) (numbers : List ℕ) (old new : AnswerWriter) (result : Result T AnswerFaultKind) : Type 0 where
+pub record WritesMessages {T : Type 0} (taken taken' : Option (List ℕ)) (held : Option (List (List ℕ)))
+    (numbers : List ℕ) (old new : AnswerWriter) (result : Result T AnswerFaultKind) : Type 0 where
   pub text : Writes taken taken' old.sheet new.sheet (known_answer old.format old.places.table held numbers) result
   pub spans : old.format ≡ Mbox → WritesSpans taken taken' old.sheet new.sheet old.places.table numbers result
 
 -- The messages with these numbers were sent and counted; if the call fails, only a front of them was sent.
-pub record SendsMessages (taken taken' : Option (List ℕ)) (held : Option (List (List ℕ))) (numbers : List ℕ) (w : AnswerWriter) (result : Result ℕ AnswerFault) : Type 0 where
+pub record SendsMessages (taken taken' : Option (List ℕ)) (held : Option (List (List ℕ))) (numbers : List ℕ)
+    (w : AnswerWriter) (result : Result ℕ AnswerFault) : Type 0 where
   pub text : SendsKnown taken taken' (known_answer w.format w.places.table held numbers) (length numbers) result
   pub spans : w.format ≡ Mbox → SendsSpans taken taken' w.places.table numbers result
 
 -- A raw message reads nothing of the archives, and no fault is theirs.
 abbrev pub LeavesArchives : {A T : Type 0} → Format → A → A → Result T AnswerFaultKind → Type 0
-LeavesArchives format old new result = format ≡ Raw → (has_fault is_of_archives result ≡ false) × (has_fault is_stale result ≡ false) × (new ≡ old)
+LeavesArchives format old new result = format ≡ Raw → (has_fault is_of_archives result ≡ false)
+    × (has_fault is_stale result ≡ false) × (new ≡ old)
 
 -- what writing an answer does to archives that have the lengths that were indexed
-pub record AnswersOver {A : Type 0} (g : Ghosts A) (format : Format) (old new : A) (result : Result ℕ AnswerFault) : Type 0 where
+pub record AnswersOver {A : Type 0} (g : Ghosts A) (format : Format) (old new : A) (result : Result ℕ AnswerFault) :
+    Type 0 where
   pub keeps : KeepsArchives g old new
   -- none is stale, if their bytes are still known
   pub fresh : IfSome (g.held new) (λ _. fails_by is_stale result ≡ false)

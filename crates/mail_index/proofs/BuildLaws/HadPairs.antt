@@ -1,11 +1,14 @@
 -- A pair that is there already changes nothing, also after another pair was added: by the order of the two keys.
 use Rattle.std.proofs.Common.{arith}
-use Rattle.mail_index.proofs.Words.{◌≡◌, ℕ, List, [], ◌∷◌, length, drop, get_or, refl, sym, ap, ◌∙◌, subst, Ordering, Less, Equal, Greater, match_ordering, ordering_reverse, nat_cmp, slice_cmp, nat_list_cmp_total, Kind, kind_number, key_cmp, Key, with_pair}
+use Rattle.mail_index.proofs.Words.{◌≡◌, ℕ, List, [], ◌∷◌, length, drop, get_or, refl, sym, ap, ◌∙◌, subst, Ordering}
+use Rattle.mail_index.proofs.Words.{Less, Equal, Greater, match_ordering, ordering_reverse, nat_cmp, slice_cmp}
+use Rattle.mail_index.proofs.Words.{nat_list_cmp_total, Kind, kind_number, key_cmp, Key, with_pair}
 use Rattle.mail_index.specs.Inside.KeyMaps.{new_key, with_one}
 
 -- the keys with a pair, if its key compares with the first of them in this way
 abbrev step : Kind → List ℕ → ℕ → Key → List Key → Ordering → List Key
-step kind text n key ks o = match_ordering o (new_key kind text n ∷ key ∷ ks) (with_one key n ∷ ks) (key ∷ with_pair kind text n ks)
+step kind text n key ks o = match_ordering o (new_key kind text n ∷ key ∷ ks) (with_one key n ∷ ks)
+    (key ∷ with_pair kind text n ks)
 
 abbrev bytes_of : Kind → List ℕ → List ℕ
 bytes_of kind text = kind_number kind ∷ text
@@ -17,15 +20,20 @@ abbrev lies : Kind → List ℕ → Key → Ordering
 lies kind text key = key_cmp (kind_number kind) text (kind_number key.kind) key.text
 
 -- a key that isn't before a third one comes after each key that is
-behind : (xs ys zs : List ℕ) → slice_cmp nat_cmp ys zs ≡ Less → slice_cmp nat_cmp xs zs ≡ Equal → slice_cmp nat_cmp xs ys ≡ Greater
-behind xs ys zs less equal = nat_list_cmp_total.congr xs zs ys equal ∙ nat_list_cmp_total.antisymm zs ys ∙ ap ordering_reverse less
+behind : (xs ys zs : List ℕ) → slice_cmp nat_cmp ys zs ≡ Less → slice_cmp nat_cmp xs zs ≡ Equal
+    → slice_cmp nat_cmp xs ys ≡ Greater
+behind xs ys zs less equal = nat_list_cmp_total.congr xs zs ys equal ∙ nat_list_cmp_total.antisymm zs ys
+    ∙ ap ordering_reverse less
 
-further_behind : (xs ys zs : List ℕ) → slice_cmp nat_cmp ys zs ≡ Less → slice_cmp nat_cmp xs zs ≡ Greater → slice_cmp nat_cmp xs ys ≡ Greater
+further_behind : (xs ys zs : List ℕ) → slice_cmp nat_cmp ys zs ≡ Less → slice_cmp nat_cmp xs zs ≡ Greater
+    → slice_cmp nat_cmp xs ys ≡ Greater
 further_behind xs ys zs less greater =
     nat_list_cmp_total.antisymm xs ys
-    ∙ ap ordering_reverse (nat_list_cmp_total.trans ys zs xs less (nat_list_cmp_total.antisymm zs xs ∙ ap ordering_reverse greater))
+    ∙ ap ordering_reverse (nat_list_cmp_total.trans ys zs xs less
+    (nat_list_cmp_total.antisymm zs xs ∙ ap ordering_reverse greater))
 
-pub with_pair-had : (n : ℕ) (kind : Kind) (text : List ℕ) (ks : List Key) (k : Kind) (t : List ℕ) → with_pair k t n ks ≡ ks → with_pair k t n (with_pair kind text n ks) ≡ with_pair kind text n ks
+pub with_pair-had : (n : ℕ) (kind : Kind) (text : List ℕ) (ks : List Key) (k : Kind) (t : List ℕ) → with_pair k t n ks
+    ≡ ks → with_pair k t n (with_pair kind text n ks) ≡ with_pair kind text n ks
 with_pair-had n kind text [] k t had = absurd cc
 with_pair-had n kind text (key ∷ ks) k t had =
     go (lies k t key) refl (lies kind text key) refl (with_pair-had n kind text ks k t)
@@ -40,16 +48,21 @@ with_pair-had n kind text (key ∷ ks) k t had =
     first : lies k t new ≡ Greater → with_pair k t n (new ∷ key ∷ ks) ≡ new ∷ key ∷ ks
     first e = ap (step k t n new (key ∷ ks)) e ∙ ap (λ l. new ∷ l) had
 
-    at : (o : Ordering) → lies k t key ≡ o → (p : Ordering) → lies kind text key ≡ p → (with_pair k t n ks ≡ ks → with_pair k t n (with_pair kind text n ks) ≡ with_pair kind text n ks)
+    at : (o : Ordering) → lies k t key ≡ o → (p : Ordering) → lies kind text key ≡ p
+        → (with_pair k t n ks ≡ ks → with_pair k t n (with_pair kind text n ks) ≡ with_pair kind text n ks)
         → with_pair k t n (step kind text n key ks p) ≡ step kind text n key ks p
     at Less e p f rest = absurd (omega (arith, ap length (had-as Less e)))
     at Equal e Less f rest = first (behind (bytes_of k t) (bytes_of kind text) (key_bytes key) f e)
     at Equal e Equal f rest = subst (λ l. with_pair k t n l ≡ l) (sym (had-as Equal e)) had
-    at Equal e Greater f rest = ap (step k t n key (with_pair kind text n ks)) e ∙ ap (λ l. get_or l 0 key ∷ with_pair kind text n ks) (had-as Equal e)
+    at Equal e Greater f rest = ap (step k t n key (with_pair kind text n ks)) e
+        ∙ ap (λ l. get_or l 0 key ∷ with_pair kind text n ks) (had-as Equal e)
     at Greater e Less f rest = first (further_behind (bytes_of k t) (bytes_of kind text) (key_bytes key) f e)
-    at Greater e Equal f rest = ap (step k t n (with_one key n) ks) e ∙ ap (λ l. with_one key n ∷ drop 1 l) (had-as Greater e)
-    at Greater e Greater f rest = ap (step k t n key (with_pair kind text n ks)) e ∙ ap (λ l. key ∷ l) (rest (ap (drop 1) (had-as Greater e)))
+    at Greater e Equal f rest = ap (step k t n (with_one key n) ks) e
+        ∙ ap (λ l. with_one key n ∷ drop 1 l) (had-as Greater e)
+    at Greater e Greater f rest = ap (step k t n key (with_pair kind text n ks)) e
+        ∙ ap (λ l. key ∷ l) (rest (ap (drop 1) (had-as Greater e)))
 
-    go : (o : Ordering) → lies k t key ≡ o → (p : Ordering) → lies kind text key ≡ p → (with_pair k t n ks ≡ ks → with_pair k t n (with_pair kind text n ks) ≡ with_pair kind text n ks)
+    go : (o : Ordering) → lies k t key ≡ o → (p : Ordering) → lies kind text key ≡ p
+        → (with_pair k t n ks ≡ ks → with_pair k t n (with_pair kind text n ks) ≡ with_pair kind text n ks)
         → with_pair k t n (with_pair kind text n (key ∷ ks)) ≡ with_pair kind text n (key ∷ ks)
     go o e p f rest = subst (λ l. with_pair k t n l ≡ l) (sym (ap (step kind text n key ks) f)) (at o e p f rest)

@@ -1,5 +1,9 @@
 -- The order is kept in pages with a head between each two; reads, insertions and splits of pages are those of one list.
-use Rattle.mail_index.proofs.Words.{◌≡◌, ◌∙◌, ℕ, zero, suc, ◌+◌, ◌-◌, ◌<◌, ◌≤◌, List, [], ◌∷◌, ◌++◌, length, take, drop, set, get_or, Vec, refl, sym, ap, subst, arith, append-nil, length-append, Global, AllByRecursion, insert, length-map, get_or-map, append_assoc, get_or_append_left, get_or-append-add, take-map, drop-map, map-append, take-append-drop, get_or-append_seam, insert-append_left, insert-append_right}
+use Rattle.mail_index.proofs.Words.{◌≡◌, ◌∙◌, ℕ, zero, suc, ◌+◌, ◌-◌, ◌<◌, ◌≤◌, List, [], ◌∷◌, ◌++◌, length, take, drop}
+use Rattle.mail_index.proofs.Words.{set, get_or, Vec, refl, sym, ap, subst, arith, append-nil, length-append, Global}
+use Rattle.mail_index.proofs.Words.{AllByRecursion, insert, length-map, get_or-map, append_assoc, get_or_append_left}
+use Rattle.mail_index.proofs.Words.{get_or-append-add, take-map, drop-map, map-append, take-append-drop}
+use Rattle.mail_index.proofs.Words.{get_or-append_seam, insert-append_left, insert-append_right}
 use Rattle.mail_index.specs.declared.build.key_front.Fronted.{Fronted}
 use Rattle.mail_index.specs.Inside.KeyMaps.{rows, in_pages, position}
 
@@ -9,81 +13,106 @@ behind_page rest [] = []
 behind_page rest (head ∷ heads) = head ∷ in_pages rest heads
 
 -- the slots of the first page, and those after them
-pub in_pages-front : (row : List Fronted) (rest : List (List Fronted)) (heads : List Fronted) → in_pages (row ∷ rest) heads ≡ row ++ behind_page rest heads
+pub in_pages-front : (row : List Fronted) (rest : List (List Fronted)) (heads : List Fronted)
+    → in_pages (row ∷ rest) heads ≡ row ++ behind_page rest heads
 in_pages-front row rest heads = grind arith
 
 -- ---- an insertion
 
-insert-behind : (xs : List Fronted) (y : Fronted) (ys : List Fronted) (i : ℕ) (n : Fronted) → insert (xs ++ y ∷ ys) (length xs + suc i) n ≡ xs ++ y ∷ insert ys i n
+insert-behind : (xs : List Fronted) (y : Fronted) (ys : List Fronted) (i : ℕ) (n : Fronted)
+    → insert (xs ++ y ∷ ys) (length xs + suc i) n ≡ xs ++ y ∷ insert ys i n
 insert-behind xs y ys i n =
     let behind : length xs + suc i - length xs ≡ suc i = omega arith in
-    insert-append_right xs (y ∷ ys) (length xs) (length xs + suc i) n refl (omega arith) ∙ ap (λ k. xs ++ insert (y ∷ ys) k n) behind
+    insert-append_right xs (y ∷ ys) (length xs) (length xs + suc i) n refl (omega arith)
+    ∙ ap (λ k. xs ++ insert (y ∷ ys) k n) behind
 
-pub pages-insert : (pages : List (List Fronted)) (heads : List Fronted) (page at : ℕ) (n : Fronted) → length heads ≡ length pages - 1 → page < length pages → at ≤ length (get_or pages page [])
-    → in_pages (set pages page (insert (get_or pages page []) at n)) heads ≡ insert (in_pages pages heads) (position pages page at) n
+pub pages-insert : (pages : List (List Fronted)) (heads : List Fronted) (page at : ℕ) (n : Fronted) → length heads
+    ≡ length pages - 1 → page < length pages → at ≤ length (get_or pages page [])
+    → in_pages (set pages page (insert (get_or pages page []) at n)) heads
+    ≡ insert (in_pages pages heads) (position pages page at) n
 pages-insert [] heads page at n b h w = absurd (omega (arith, h))
 pages-insert (row ∷ rest) heads zero at n b h w = grind (arith, in_pages-front, insert, insert-append_left)
 pages-insert (row ∷ rest) [] (suc page) at n b h w = absurd (omega (arith, b, h))
-pages-insert (row ∷ rest) (head ∷ heads) (suc page) at n b h w = grind (arith, insert-behind, pages-insert rest heads page)
+pages-insert (row ∷ rest) (head ∷ heads) (suc page) at n b h w =
+    grind (arith, insert-behind, pages-insert rest heads page)
 
 -- ---- positions
 
-pub position-step : (pages : List (List Fronted)) (page at : ℕ) → position pages page (suc at) ≡ suc (position pages page at)
+pub position-step : (pages : List (List Fronted)) (page at : ℕ) → position pages page (suc at)
+    ≡ suc (position pages page at)
 position-step [] page at = refl
 position-step (row ∷ rest) zero at = refl
 position-step (row ∷ rest) (suc page) at = omega (arith, position-step rest page at)
 
-pub position-next : (pages : List (List Fronted)) (page : ℕ) → suc page < length pages → position pages (suc page) 0 ≡ suc (position pages page (length (get_or pages page [])))
+pub position-next : (pages : List (List Fronted)) (page : ℕ) → suc page < length pages → position pages (suc page) 0
+    ≡ suc (position pages page (length (get_or pages page [])))
 position-next [] page h = absurd (omega (arith, h))
 position-next (row ∷ []) page h = absurd (omega (arith, h))
 position-next (row ∷ next ∷ rest) zero h = omega arith
 position-next (row ∷ next ∷ rest) (suc page) h = omega (arith, position-next (next ∷ rest) page (omega (arith, h)))
 
-length-behind : (xs : List Fronted) (y : Fronted) (ys : List Fronted) → length (xs ++ y ∷ ys) ≡ length xs + suc (length ys)
+length-behind : (xs : List Fronted) (y : Fronted) (ys : List Fronted) → length (xs ++ y ∷ ys)
+    ≡ length xs + suc (length ys)
 length-behind xs y ys = length-append xs (y ∷ ys)
 
-pub position-last : (pages : List (List Fronted)) (heads : List Fronted) (page : ℕ) → length heads ≡ length pages - 1 → page < length pages → length heads ≤ page
+pub position-last : (pages : List (List Fronted)) (heads : List Fronted) (page : ℕ) → length heads ≡ length pages - 1
+    → page < length pages → length heads ≤ page
     → position pages page (length (get_or pages page [])) ≡ length (in_pages pages heads)
 position-last [] heads page b h l = absurd (omega (arith, h))
 position-last (row ∷ rest) [] zero b h l = ap length (sym (append-nil row))
 position-last (row ∷ rest) (head ∷ heads) zero b h l = absurd (omega (arith, l))
 position-last (row ∷ rest) [] (suc page) b h l = absurd (omega (arith, b, h))
-position-last (row ∷ rest) (head ∷ heads) (suc page) b h l = grind (arith, length-behind, position-last rest heads page (omega (arith, b, h)) (omega (arith, h)) (omega (arith, l)))
+position-last (row ∷ rest) (head ∷ heads) (suc page) b h l =
+    grind (
+      arith,
+      length-behind,
+      position-last rest heads page (omega (arith, b, h)) (omega (arith, h))
+          (omega (arith, l)),
+    )
 
-pub position-within : (pages : List (List Fronted)) (heads : List Fronted) (page at : ℕ) → length heads ≡ length pages - 1 → page < length pages → at ≤ length (get_or pages page [])
+pub position-within : (pages : List (List Fronted)) (heads : List Fronted) (page at : ℕ) → length heads
+    ≡ length pages - 1 → page < length pages → at ≤ length (get_or pages page [])
     → position pages page at ≤ length (in_pages pages heads)
 position-within [] heads page at b h w = absurd (omega (arith, h))
 position-within (row ∷ rest) heads zero at b h w = grind (arith, in_pages-front, length-append)
 position-within (row ∷ rest) [] (suc page) at b h w = absurd (omega (arith, b, h))
-position-within (row ∷ rest) (head ∷ heads) (suc page) at b h w = grind (arith, length-behind, position-within rest heads page)
+position-within (row ∷ rest) (head ∷ heads) (suc page) at b h w =
+    grind (arith, length-behind, position-within rest heads page)
 
 -- what comes after a head
-get_or-behind : (xs : List Fronted) (y : Fronted) (ys : List Fronted) (i : ℕ) (d : Fronted) → get_or (xs ++ y ∷ ys) (length xs + suc i) d ≡ get_or ys i d
+get_or-behind : (xs : List Fronted) (y : Fronted) (ys : List Fronted) (i : ℕ) (d : Fronted)
+    → get_or (xs ++ y ∷ ys) (length xs + suc i) d ≡ get_or ys i d
 get_or-behind xs y ys i d = get_or-append-add xs (y ∷ ys) (suc i) d
 
-pub at-page : (pages : List (List Fronted)) (heads : List Fronted) (page at : ℕ) (d : Fronted) → length heads ≡ length pages - 1 → page < length pages → at < length (get_or pages page [])
+pub at-page : (pages : List (List Fronted)) (heads : List Fronted) (page at : ℕ) (d : Fronted) → length heads
+    ≡ length pages - 1 → page < length pages → at < length (get_or pages page [])
     → get_or (in_pages pages heads) (position pages page at) d ≡ get_or (get_or pages page []) at d
 at-page [] heads page at d b h w = absurd (omega (arith, h))
-at-page (row ∷ rest) heads zero at d b h w = ap (λ (l : List Fronted). get_or l at d) (in_pages-front row rest heads) ∙ get_or_append_left row (behind_page rest heads) d at w
+at-page (row ∷ rest) heads zero at d b h w = ap (λ (l : List Fronted). get_or l at d) (in_pages-front row rest heads)
+    ∙ get_or_append_left row (behind_page rest heads) d at w
 at-page (row ∷ rest) [] (suc page) at d b h w = absurd (omega (arith, b, h))
 at-page (row ∷ rest) (head ∷ heads) (suc page) at d b h w = grind (arith, get_or-behind, at-page rest heads page)
 
-pub at-head : (pages : List (List Fronted)) (heads : List Fronted) (page : ℕ) (d : Fronted) → length heads ≡ length pages - 1 → page < length heads
+pub at-head : (pages : List (List Fronted)) (heads : List Fronted) (page : ℕ) (d : Fronted) → length heads
+    ≡ length pages - 1 → page < length heads
     → get_or (in_pages pages heads) (position pages page (length (get_or pages page []))) d ≡ get_or heads page d
 at-head [] heads page d b h = absurd (omega (arith, b, h))
 at-head (row ∷ rest) [] page d b h = absurd (omega (arith, h))
 at-head (row ∷ rest) (head ∷ heads) zero d b h = get_or-append_seam row head (in_pages rest heads) d
 at-head (row ∷ rest) (head ∷ heads) (suc page) d b h =
     let few : length heads ≡ length rest - 1 = omega (arith, b, h) in
-    get_or-behind row head (in_pages rest heads) (position rest page (length (get_or rest page []))) d ∙ at-head rest heads page d few (omega (arith, h))
+    get_or-behind row head (in_pages rest heads) (position rest page (length (get_or rest page []))) d
+    ∙ at-head rest heads page d few (omega (arith, h))
 
 -- ---- properties of all slots
 
-pub all-append : (P : Fronted → Type 0) (xs ys : List Fronted) → AllByRecursion P (xs ++ ys) → AllByRecursion P xs × AllByRecursion P ys
+pub all-append : (P : Fronted → Type 0) (xs ys : List Fronted) → AllByRecursion P (xs ++ ys) → AllByRecursion P xs
+    × AllByRecursion P ys
 all-append P [] ys all = (tt, all)
 all-append P (x ∷ xs) ys all = let both = all-append P xs ys all.1 in ((all.0, both.0), both.1)
 
-pub all-heads : (P : Fronted → Type 0) (pages : List (List Fronted)) (heads : List Fronted) → length heads ≡ length pages - 1 → AllByRecursion P (in_pages pages heads) → AllByRecursion P heads
+pub all-heads : (P : Fronted → Type 0) (pages : List (List Fronted)) (heads : List Fronted) → length heads
+    ≡ length pages - 1 → AllByRecursion P (in_pages pages heads) → AllByRecursion P heads
 all-heads P pages [] b all = tt
 all-heads P [] (head ∷ heads) b all = absurd (omega (arith, b))
 all-heads P (row ∷ []) (head ∷ heads) b all = absurd (omega (arith, b))
@@ -91,17 +120,28 @@ all-heads P (row ∷ next ∷ rest) (head ∷ heads) b all =
     let both = all-append P row (head ∷ in_pages (next ∷ rest) heads) all in
     (both.1.0, all-heads P (next ∷ rest) heads (omega (arith, b)) both.1.1)
 
-pub all-page : (P : Fronted → Type 0) (pages : List (List Fronted)) (heads : List Fronted) (page : ℕ) → length heads ≡ length pages - 1 → page < length pages → AllByRecursion P (in_pages pages heads)
+pub all-page : (P : Fronted → Type 0) (pages : List (List Fronted)) (heads : List Fronted) (page : ℕ) → length heads
+    ≡ length pages - 1 → page < length pages → AllByRecursion P (in_pages pages heads)
     → AllByRecursion P (get_or pages page [])
 all-page P [] heads page b h all = absurd (omega (arith, h))
-all-page P (row ∷ rest) heads zero b h all = (all-append P row (behind_page rest heads) (subst (AllByRecursion P) (in_pages-front row rest heads) all)).0
+all-page P (row ∷ rest) heads zero b h all =
+    (all-append P row (behind_page rest heads) (subst (AllByRecursion P) (in_pages-front row rest heads) all)).0
 all-page P (row ∷ rest) [] (suc page) b h all = absurd (omega (arith, b, h))
-all-page P (row ∷ rest) (head ∷ heads) (suc page) b h all = grind (arith, all-append, all-page P rest heads page (omega (arith, b, h)) (omega (arith, h)) (all-append P row (head ∷ in_pages rest heads) all).1.1)
+all-page P (row ∷ rest) (head ∷ heads) (suc page) b h all =
+    grind (
+      arith,
+      all-append,
+      all-page P rest heads page (omega (arith, b, h)) (omega (arith, h))
+          (all-append P row (head ∷ in_pages rest heads) all).1.1,
+    )
 
 -- ---- a split
 
-pub pages-split : (pages : List (List Fronted)) (heads : List Fronted) (page half : ℕ) (head : Fronted) (behind : List Fronted) → length heads ≡ length pages - 1 → page < length pages → head ∷ behind ≡ drop half (get_or pages page [])
-    → in_pages (set (insert pages (suc page) behind) page (take half (get_or (insert pages (suc page) behind) page []))) (insert heads page head) ≡ in_pages pages heads
+pub pages-split : (pages : List (List Fronted)) (heads : List Fronted) (page half : ℕ) (head : Fronted)
+    (behind : List Fronted) → length heads ≡ length pages - 1 → page < length pages → head ∷ behind
+    ≡ drop half (get_or pages page [])
+    → in_pages (set (insert pages (suc page) behind) page (take half (get_or (insert pages (suc page) behind) page [])))
+    (insert heads page head) ≡ in_pages pages heads
 pages-split [] heads page half head behind b h w = absurd (omega (arith, h))
 pages-split (row ∷ rest) heads zero half head behind b h w =
     ap (λ (l : List Fronted). take half row ++ head ∷ l) (in_pages-front behind rest heads)
@@ -110,32 +150,44 @@ pages-split (row ∷ rest) heads zero half head behind b h w =
     ∙ ap (λ (l : List Fronted). l ++ behind_page rest heads) (take-append-drop half row)
     ∙ sym (in_pages-front row rest heads)
 pages-split (row ∷ rest) [] (suc page) half head behind b h w = absurd (omega (arith, b, h))
-pages-split (row ∷ rest) (next ∷ heads) (suc page) half head behind b h w = grind (arith, pages-split rest heads page half head behind (omega (arith, b, h)) (omega (arith, h)) w)
+pages-split (row ∷ rest) (next ∷ heads) (suc page) half head behind b h w =
+    grind (arith, pages-split rest heads page half head behind (omega (arith, b, h)) (omega (arith, h)) w)
 
 -- ---- the pages' vectors
 
-pub rows-insert : (pages : List (Vec Fronted Global)) (page : ℕ) (v : Vec Fronted Global) → rows (insert pages page v) ≡ insert (rows pages) page v.items
+pub rows-insert : (pages : List (Vec Fronted Global)) (page : ℕ) (v : Vec Fronted Global) → rows (insert pages page v)
+    ≡ insert (rows pages) page v.items
 rows-insert pages page v = grind (arith, map-append, take-map, drop-map)
 
-pub inserted : (pages : List (Vec Fronted Global)) (heads : List Fronted) (page at : ℕ) (n : Fronted) → length heads ≡ length pages - 1 → page < length pages → at ≤ length (get_or (rows pages) page [])
-    → in_pages (set (rows pages) page (insert (get_or (rows pages) page []) at n)) heads ≡ insert (in_pages (rows pages) heads) (position (rows pages) page at) n
+pub inserted : (pages : List (Vec Fronted Global)) (heads : List Fronted) (page at : ℕ) (n : Fronted) → length heads
+    ≡ length pages - 1 → page < length pages → at ≤ length (get_or (rows pages) page [])
+    → in_pages (set (rows pages) page (insert (get_or (rows pages) page []) at n)) heads
+    ≡ insert (in_pages (rows pages) heads) (position (rows pages) page at) n
 inserted pages heads page at n b h w = grind (arith, length-map, pages-insert)
 
-pub parted : (pages : List (Vec Fronted Global)) (heads : List Fronted) (page half : ℕ) (row : List Fronted) (rest : Vec Fronted Global) (head : Fronted) → length heads ≡ length pages - 1 → page < length pages
+pub parted : (pages : List (Vec Fronted Global)) (heads : List Fronted) (page half : ℕ) (row : List Fronted)
+    (rest : Vec Fronted Global) (head : Fronted) → length heads ≡ length pages - 1 → page < length pages
     → row ≡ get_or (rows pages) page [] → head ∷ rest.items ≡ drop half row
-    → in_pages (set (rows (insert pages (page + 1) rest)) page (take half (get_or (rows (insert pages (page + 1) rest)) page []))) (insert heads page head) ≡ in_pages (rows pages) heads
+    → in_pages (set (rows (insert pages (page + 1) rest)) page
+    (take half (get_or (rows (insert pages (page + 1) rest)) page []))) (insert heads page head)
+    ≡ in_pages (rows pages) heads
 parted pages heads page half row rest head b h r s = grind (arith, length-map, insert, rows-insert, set, pages-split)
 
-pub row-is : (pages : List (Vec Fronted Global)) (page : ℕ) (v : Vec Fronted Global) → page < length pages → v ≡ get_or pages page v → v.items ≡ get_or (rows pages) page []
-row-is pages page v h e = ap (λ (p : Vec Fronted Global). p.items) e ∙ sym (get_or-map (λ (p : Vec Fronted Global). p.items) pages page v [] h)
+pub row-is : (pages : List (Vec Fronted Global)) (page : ℕ) (v : Vec Fronted Global) → page < length pages → v
+    ≡ get_or pages page v → v.items ≡ get_or (rows pages) page []
+row-is pages page v h e = ap (λ (p : Vec Fronted Global). p.items) e
+    ∙ sym (get_or-map (λ (p : Vec Fronted Global). p.items) pages page v [] h)
 
-pub heads-all : (P : Fronted → Type 0) (pages : List (Vec Fronted Global)) (heads : List Fronted) → length heads ≡ length pages - 1 → AllByRecursion P (in_pages (rows pages) heads) → AllByRecursion P heads
+pub heads-all : (P : Fronted → Type 0) (pages : List (Vec Fronted Global)) (heads : List Fronted) → length heads
+    ≡ length pages - 1 → AllByRecursion P (in_pages (rows pages) heads) → AllByRecursion P heads
 heads-all P pages heads b all = grind (arith, length-map, all-heads)
 
-pub row-all : (P : Fronted → Type 0) (pages : List (Vec Fronted Global)) (heads : List Fronted) (page : ℕ) (row : List Fronted) → length heads ≡ length pages - 1 → page < length pages → row ≡ get_or (rows pages) page []
+pub row-all : (P : Fronted → Type 0) (pages : List (Vec Fronted Global)) (heads : List Fronted) (page : ℕ)
+    (row : List Fronted) → length heads ≡ length pages - 1 → page < length pages → row ≡ get_or (rows pages) page []
     → AllByRecursion P (in_pages (rows pages) heads) → AllByRecursion P row
 row-all P pages heads page row b h r all =
     let long : length (rows pages) ≡ length pages = length-map pages (λ (p : Vec Fronted Global). p.items) in
-    subst (AllByRecursion P) (sym r) (all-page P (rows pages) heads page (omega (arith, b, long)) (omega (arith, h, long)) all)
+    subst (AllByRecursion P) (sym r) (all-page P (rows pages) heads page (omega (arith, b, long))
+    (omega (arith, h, long)) all)
 
 -- ---- a walk

@@ -1,57 +1,79 @@
 -- Messages that are added one after another are those of a well-formed table, because each begins after the one before.
-use Rattle.mail_index.proofs.Words.{◌≡◌, ℕ, zero, suc, ◌+◌, ◌^◌, ◌<◌, ◌≤◌, Bool, false, if◌then◌else◌, List, [], ◌∷◌, ◌++◌, length, Option, None, Some, IsSome, IfSome, FitsSigned, refl, sym, subst, length-append, arith, w64, AllByRecursion, nat_tests, Record, newest, Archive, archive_length, IsMessage, Follows, AllNext, IsPath, IsKey, IsWellFormed, Draft, end_of, IsNextMessage, IsInMessage, IsBetweenArchives}
+use Rattle.mail_index.proofs.Words.{◌≡◌, ℕ, zero, suc, ◌+◌, ◌^◌, ◌<◌, ◌≤◌, Bool, false, if◌then◌else◌, List, [], ◌∷◌}
+use Rattle.mail_index.proofs.Words.{◌++◌, length, Option, None, Some, IsSome, IfSome, FitsSigned, refl, sym, subst}
+use Rattle.mail_index.proofs.Words.{length-append, arith, w64, AllByRecursion, nat_tests, Record, newest, Archive}
+use Rattle.mail_index.proofs.Words.{archive_length, IsMessage, Follows, AllNext, IsPath, IsKey, IsWellFormed, Draft}
+use Rattle.mail_index.proofs.Words.{end_of, IsNextMessage, IsInMessage, IsBetweenArchives}
 use Rattle.mail_index.specs.Inside.Drafts.{with_open, IsDraft}
 use Rattle.mail_index.proofs.BuildLaws.DraftLemmas.{all-snoc, all-weaker, listed-weaker}
 
-archive_length-before : (archives : List Archive) (a : Archive) (n : ℕ) → n < length archives → archive_length (archives ++ a ∷ []) n ≡ archive_length archives n
+archive_length-before : (archives : List Archive) (a : Archive) (n : ℕ) → n < length archives
+    → archive_length (archives ++ a ∷ []) n ≡ archive_length archives n
 archive_length-before [] a n h = absurd (omega arith)
 archive_length-before (x ∷ archives) a zero h = refl
-archive_length-before (x ∷ archives) a (suc n) h = let low : n < length archives = omega arith in archive_length-before archives a n low
+archive_length-before (x ∷ archives) a (suc n) h = let low : n < length archives = omega arith
+    in archive_length-before archives a n low
 
-archive_length-last : (archives : List Archive) (a : Archive) → archive_length (archives ++ a ∷ []) (length archives) ≡ a.length
+archive_length-last : (archives : List Archive) (a : Archive) → archive_length (archives ++ a ∷ []) (length archives)
+    ≡ a.length
 archive_length-last [] a = refl
 archive_length-last (x ∷ archives) a = archive_length-last archives a
 
 -- a message stays valid if one more archive comes
-pub message-more : (archives : List Archive) (a : Archive) (m : Record) → IsMessage archives m → IsMessage (archives ++ a ∷ []) m
+pub message-more : (archives : List Archive) (a : Archive) (m : Record) → IsMessage archives m
+    → IsMessage (archives ++ a ∷ []) m
 message-more archives a m is = grind (arith, length-append, archive_length-before)
 
 -- a message of the last archive
-pub message-new : (archives : List Archive) (a : Archive) (m : Record) → m.archive ≡ length archives → m.offset + m.length ≤ a.length → m.size < m.length → IfSome m.date (FitsSigned w64) → IsMessage (archives ++ a ∷ []) m
+pub message-new : (archives : List Archive) (a : Archive) (m : Record) → m.archive ≡ length archives
+    → m.offset + m.length ≤ a.length → m.size < m.length → IfSome m.date (FitsSigned w64)
+    → IsMessage (archives ++ a ∷ []) m
 message-new archives a m last within size date = grind (arith, length-append, archive_length, archive_length-last)
 
 -- if the last archive gets another length, its messages stay valid as long as they end within it
-message-ended : (archives : List Archive) (a b : Archive) (m : Record) → (m.archive ≡ length archives → m.offset + m.length ≤ b.length) → IsMessage (archives ++ a ∷ []) m → IsMessage (archives ++ b ∷ []) m
-message-ended archives a b m ends is = grind (arith, length-append, nat_tests, message-more, archive_length-before, message-new)
+message-ended : (archives : List Archive) (a b : Archive) (m : Record)
+    → (m.archive ≡ length archives → m.offset + m.length ≤ b.length) → IsMessage (archives ++ a ∷ []) m
+    → IsMessage (archives ++ b ∷ []) m
+message-ended archives a b m ends is = grind
+    (arith, length-append, nat_tests, message-more, archive_length-before, message-new)
 
 -- each message of the open archive ends no later than the last one
-ends-within : (a end : ℕ) (ms : List Record) → AllNext Follows ms → AllByRecursion (λ m. m.archive ≤ a) ms → end_of a ms ≤ end → AllByRecursion (λ m. m.archive ≡ a → m.offset + m.length ≤ end) ms
+ends-within : (a end : ℕ) (ms : List Record) → AllNext Follows ms → AllByRecursion (λ m. m.archive ≤ a) ms
+    → end_of a ms ≤ end → AllByRecursion (λ m. m.archive ≡ a → m.offset + m.length ≤ end) ms
 ends-within a end [] f all h = tt
 ends-within a end (r ∷ []) f all h = grind (arith, nat_tests)
 ends-within a end (r ∷ s ∷ rs) f all h = grind (arith, ends-within a end (s ∷ rs) f.1 all.1 h)
 
-pub all-ended : (archives : List Archive) (a b : Archive) (ms : List Record) → AllNext Follows ms → AllByRecursion (IsMessage (archives ++ a ∷ [])) ms → end_of (length archives) ms ≤ b.length → AllByRecursion (IsMessage (archives ++ b ∷ [])) ms
+pub all-ended : (archives : List Archive) (a b : Archive) (ms : List Record) → AllNext Follows ms
+    → AllByRecursion (IsMessage (archives ++ a ∷ [])) ms → end_of (length archives) ms ≤ b.length
+    → AllByRecursion (IsMessage (archives ++ b ∷ [])) ms
 all-ended archives a b ms f all h =
     let count : length (archives ++ a ∷ []) ≡ suc (length archives) = omega (arith, length-append archives (a ∷ [])) in
-    let low = all-weaker (IsMessage (archives ++ a ∷ [])) (λ m. m.archive ≤ length archives) (λ m is. omega (arith, is.exists)) ms all in
+    let low = all-weaker (IsMessage (archives ++ a ∷ [])) (λ m. m.archive ≤ length archives)
+    (λ m is. omega (arith, is.exists)) ms all in
     go ms all (ends-within (length archives) b.length ms f low h)
   where
-    go : (ms : List Record) → AllByRecursion (IsMessage (archives ++ a ∷ [])) ms → AllByRecursion (λ m. m.archive ≡ length archives → m.offset + m.length ≤ b.length) ms → AllByRecursion (IsMessage (archives ++ b ∷ [])) ms
+    go : (ms : List Record) → AllByRecursion (IsMessage (archives ++ a ∷ [])) ms
+        → AllByRecursion (λ m. m.archive ≡ length archives → m.offset + m.length ≤ b.length) ms
+        → AllByRecursion (IsMessage (archives ++ b ∷ [])) ms
     go [] all ends = tt
     go (m ∷ ms) all ends = (message-ended archives a b m ends.0 all.0, go ms all.1 ends.1)
 
 -- the next message keeps the messages in order
-pub in_order-next : (ms : List Record) (r : Record) → AllNext Follows ms → AllByRecursion (λ m. m.archive ≤ r.archive) ms → end_of r.archive ms ≤ r.offset → AllNext Follows (ms ++ r ∷ [])
+pub in_order-next : (ms : List Record) (r : Record) → AllNext Follows ms
+    → AllByRecursion (λ m. m.archive ≤ r.archive) ms → end_of r.archive ms ≤ r.offset → AllNext Follows (ms ++ r ∷ [])
 in_order-next [] r f all h = tt
 in_order-next (m ∷ []) r f all h = grind (arith, nat_tests)
 in_order-next (m ∷ s ∷ ms) r f all h = (f.0, in_order-next (s ∷ ms) r f.1 all.1 h)
 
-pub archives-low : (archives : List Archive) (a : Archive) (ms : List Record) → AllByRecursion (IsMessage (archives ++ a ∷ [])) ms → AllByRecursion (λ m. m.archive ≤ length archives) ms
+pub archives-low : (archives : List Archive) (a : Archive) (ms : List Record)
+    → AllByRecursion (IsMessage (archives ++ a ∷ [])) ms → AllByRecursion (λ m. m.archive ≤ length archives) ms
 archives-low archives a ms all = grind (arith, length-append, all-weaker)
 
 -- ---- each call keeps a draft valid
 
-pub archive-opened : (d : Draft) (p : List ℕ) → IsDraft d → d.path ≡ None → length d.table.archives < d.most → IsPath p → IsDraft (record d { path = Some p })
+pub archive-opened : (d : Draft) (p : List ℕ) → IsDraft d → d.path ≡ None → length d.table.archives < d.most → IsPath p
+    → IsDraft (record d { path = Some p })
 archive-opened d p is closed room named = record {
   version = is.version;
   limit = is.limit;
@@ -61,31 +83,55 @@ archive-opened d p is closed room named = record {
   open_message = is.open_message;
   keys = is.keys;
   named = is.named;
-  placed = all-weaker (IsMessage d.table.archives) (IsMessage (d.table.archives ++ record { path = p; length = 2 ^ 40; digest = None } ∷ [])) (message-more d.table.archives (record { path = p; length = 2 ^ 40; digest = None })) d.table.messages
-      (subst (λ (q : Option (List ℕ)). AllByRecursion (IsMessage (with_open d.table.archives q)) d.table.messages) closed is.placed);
+  placed = all-weaker (IsMessage d.table.archives)
+      (IsMessage (d.table.archives ++ record { path = p; length = 2 ^ 40; digest = None } ∷ []))
+      (message-more d.table.archives (record { path = p; length = 2 ^ 40; digest = None })) d.table.messages
+      (subst (λ (q : Option (List ℕ)). AllByRecursion (IsMessage (with_open d.table.archives q)) d.table.messages)
+      closed is.placed);
   in_order = is.in_order;
   listed = is.listed;
   sorted = is.sorted;
 }
 
 -- a message of the open archive
-message-open : (archives : List Archive) (path : Option (List ℕ)) (m : Record) → IsSome path → m.archive ≡ length archives → m.offset + m.length ≤ 2 ^ 40 → m.size < m.length → IfSome m.date (FitsSigned w64) → IsMessage (with_open archives path) m
+message-open : (archives : List Archive) (path : Option (List ℕ)) (m : Record) → IsSome path → m.archive
+    ≡ length archives → m.offset + m.length ≤ 2 ^ 40 → m.size < m.length → IfSome m.date (FitsSigned w64)
+    → IsMessage (with_open archives path) m
 message-open archives None m some last within size date = absurd cc
-message-open archives (Some p) m some last within size date = message-new archives (record { path = p; length = 2 ^ 40; digest = None }) m last within size date
+message-open archives (Some p) m some last within size date =
+    message-new archives (record { path = p; length = 2 ^ 40; digest = None }) m last within size date
 
-archives-low_open : (archives : List Archive) (path : Option (List ℕ)) (ms : List Record) → AllByRecursion (IsMessage (with_open archives path)) ms → AllByRecursion (λ m. m.archive ≤ length archives) ms
+archives-low_open : (archives : List Archive) (path : Option (List ℕ)) (ms : List Record)
+    → AllByRecursion (IsMessage (with_open archives path)) ms → AllByRecursion (λ m. m.archive ≤ length archives) ms
 archives-low_open archives path ms h = grind (arith, all-weaker, archives-low)
 
-pub message-ended_draft : (d : Draft) (r : Record) → IsDraft d → IsInMessage d → IsNextMessage d r → IfSome r.date (FitsSigned w64)
-    → IsDraft (record { most = d.most; path = d.path; in_message = false; table = record { version = d.table.version; archives = d.table.archives; messages = d.table.messages ++ r ∷ []; keys = d.table.keys } })
+pub message-ended_draft : (d : Draft) (r : Record) → IsDraft d → IsInMessage d → IsNextMessage d r
+    → IfSome r.date (FitsSigned w64)
+    → IsDraft (record {
+      most = d.most;
+      path = d.path;
+      in_message = false;
+      table =
+          record {
+            version = d.table.version;
+            archives = d.table.archives;
+            messages = d.table.messages ++ r ∷ [];
+            keys =
+                d.table.keys;
+          };
+    })
 message-ended_draft d r is inside next date =
     let low : AllByRecursion (λ m. m.archive ≤ r.archive) d.table.messages =
-    subst (λ (n : ℕ). AllByRecursion (λ (m : Record). m.archive ≤ n) d.table.messages) (sym next.archive) (archives-low_open d.table.archives d.path d.table.messages is.placed) in
-    let behind : end_of r.archive d.table.messages ≤ r.offset = subst (λ (n : ℕ). end_of n d.table.messages ≤ r.offset) (sym next.archive) next.behind in
+    subst (λ (n : ℕ). AllByRecursion (λ (m : Record). m.archive ≤ n) d.table.messages) (sym next.archive)
+    (archives-low_open d.table.archives d.path d.table.messages is.placed) in
+    let behind : end_of r.archive d.table.messages ≤ r.offset =
+    subst (λ (n : ℕ). end_of n d.table.messages ≤ r.offset) (sym next.archive) next.behind in
     let room : length d.table.messages < d.most = is.open_message inside.1 in
     let listed : AllByRecursion (IsKey newest (suc (length d.table.messages))) d.table.keys =
-    subst (λ (b : Bool). AllByRecursion (IsKey newest (if b then suc (length d.table.messages) else length d.table.messages)) d.table.keys) inside.1 is.listed in
-    let count : suc (length d.table.messages) ≤ length (d.table.messages ++ r ∷ []) = omega (arith, length-append d.table.messages (r ∷ [])) in
+    subst (λ (b : Bool). AllByRecursion (IsKey newest
+    (if b then suc (length d.table.messages) else length d.table.messages)) d.table.keys) inside.1 is.listed in
+    let count : suc (length d.table.messages) ≤ length (d.table.messages ++ r ∷ []) =
+    omega (arith, length-append d.table.messages (r ∷ [])) in
     record {
       version = is.version;
       limit = is.limit;
@@ -95,14 +141,30 @@ message-ended_draft d r is inside next date =
       open_message = λ e. absurd cc;
       keys = is.keys;
       named = is.named;
-      placed = all-snoc (IsMessage (with_open d.table.archives d.path)) d.table.messages r is.placed (message-open d.table.archives d.path r inside.0 next.archive next.within next.size date);
+      placed = all-snoc (IsMessage (with_open d.table.archives d.path)) d.table.messages r is.placed
+          (message-open d.table.archives d.path r inside.0 next.archive next.within next.size date);
       in_order = in_order-next d.table.messages r is.in_order low behind;
-      listed = listed-weaker (suc (length d.table.messages)) (length (d.table.messages ++ r ∷ [])) count d.table.keys listed;
+      listed = listed-weaker (suc (length d.table.messages)) (length (d.table.messages ++ r ∷ [])) count d.table.keys
+          listed;
       sorted = is.sorted;
     }
 
-pub archive-ended_draft : (d : Draft) (p : List ℕ) (n : ℕ) (h : List ℕ) → IsDraft d → d.path ≡ Some p → n ≤ 2 ^ 40 → length h ≡ 32 → end_of (length d.table.archives) d.table.messages ≤ n
-    → IsDraft (record { most = d.most; path = None; in_message = d.in_message; table = record { version = d.table.version; archives = d.table.archives ++ record { path = p; length = n; digest = Some h } ∷ []; messages = d.table.messages; keys = d.table.keys } })
+pub archive-ended_draft : (d : Draft) (p : List ℕ) (n : ℕ) (h : List ℕ) → IsDraft d → d.path ≡ Some p → n ≤ 2 ^ 40
+    → length h ≡ 32 → end_of (length d.table.archives) d.table.messages ≤ n
+    → IsDraft (record {
+      most = d.most;
+      path = None;
+      in_message = d.in_message;
+      table =
+          record {
+            version = d.table.version;
+            archives =
+                d.table.archives ++ record { path = p; length = n; digest = Some h } ∷ [];
+            messages = d.table.messages;
+            keys =
+                d.table.keys;
+          };
+    })
 archive-ended_draft d p n h is open_now small size last = grind (arith, length-append, all-snoc, newest, all-ended)
 
 -- if nothing is open, the table of a draft is well-formed
@@ -110,7 +172,8 @@ pub well_formed : (d : Draft) → IsDraft d → IsBetweenArchives d → IsWellFo
 well_formed d is between = grind (arith, newest)
 
 -- no message belongs to the archive that comes next
-pub none-of-next : (archives : List Archive) (ms : List Record) → AllByRecursion (IsMessage archives) ms → end_of (length archives) ms ≡ 0
+pub none-of-next : (archives : List Archive) (ms : List Record) → AllByRecursion (IsMessage archives) ms
+    → end_of (length archives) ms ≡ 0
 none-of-next archives [] all = refl
 none-of-next archives (r ∷ []) all = grind (arith, nat_tests)
 none-of-next archives (r ∷ s ∷ rs) all = none-of-next archives (s ∷ rs) all.1

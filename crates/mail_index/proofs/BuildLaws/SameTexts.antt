@@ -1,8 +1,10 @@
 -- Lists are the same if they have the same first n and the same last n items, because these cover the whole list.
-use Rattle.mail_index.proofs.Words.{◌≡◌, ◌∙◌, ℕ, ◌+◌, ◌-◌, ◌≤◌, List, ◌++◌, length, take, drop, sym, ap₂, arith, take-append-drop, drop-drop}
+use Rattle.mail_index.proofs.Words.{◌≡◌, ◌∙◌, ℕ, ◌+◌, ◌-◌, ◌≤◌, List, ◌++◌, length, take, drop, sym, ap₂, arith}
+use Rattle.mail_index.proofs.Words.{take-append-drop, drop-drop}
 
 -- the items after the first n, of a list of n to 2 * n: they are among the last n
-behind-first : (n : ℕ) (l : List ℕ) → n ≤ length l → length l ≤ n + n → drop (n - (length l - n)) (drop (length l - n) l) ≡ drop n l
+behind-first : (n : ℕ) (l : List ℕ) → n ≤ length l → length l ≤ n + n
+    → drop (n - (length l - n)) (drop (length l - n) l) ≡ drop n l
 behind-first n l low high = grind (arith, drop-drop)
 
 -- lists of the same length, n to 2 * n, with the same first n and the same last n items are the same
@@ -12,5 +14,6 @@ same-by-ends n a b same low high first last =
     let low' : n ≤ length b = omega (arith, same, low) in
     let high' : length b ≤ n + n = omega (arith, same, high) in
     let behind : drop n a ≡ drop n b =
-    sym (behind-first n a low high) ∙ ap₂ (λ (k : ℕ) (l : List ℕ). drop (n - (k - n)) l) same last ∙ behind-first n b low' high' in
+    sym (behind-first n a low high) ∙ ap₂ (λ (k : ℕ) (l : List ℕ). drop (n - (k - n)) l) same last
+    ∙ behind-first n b low' high' in
     sym (take-append-drop n a) ∙ ap₂ (λ (x y : List ℕ). x ++ y) first behind ∙ take-append-drop n b

@@ -1,9 +1,19 @@
 -- The file of a table keeps every rule, so it has no fault: section by section.
-use Rattle.mail_index.proofs.Words.{◌≡◌, ℕ, suc, ◌+◌, ◌-◌, ◌*◌, ◌^◌, ◌<◌, List, [], ◌∷◌, ◌++◌, length, map, take, drop, refl, sym, ap, subst, ◌∙◌, arith, length-append, flat_map, slice_range, AllByRecursion, concat, take-append_seam, drop-append_seam, drop-drop, from_be_bytes-to_be_bytes_4, from_be_bytes-to_be_bytes_8, Record, IsVersion, u32_at, u64_at, magic, entry_of, entries, archive_bytes, archive_section, record_bytes, directory_from, texts_of, postings_of, counts, sections, body, index_file, Archive, Key, Table, IsWellFormed, IsArchive, IsKey, AllNext, KeyBefore, version_told, IsFirstFault, EntryBefore, IsEntry, records_start, directory_start, texts_start, postings_start, digest_start, HasDigest, IsSigned, HasArchives, HasRecords, HasDirectory, HasPostings, IsFileOf, read_archives, read_records}
+use Rattle.mail_index.proofs.Words.{◌≡◌, ℕ, suc, ◌+◌, ◌-◌, ◌*◌, ◌^◌, ◌<◌, List, [], ◌∷◌, ◌++◌, length, map, take, drop}
+use Rattle.mail_index.proofs.Words.{refl, sym, ap, subst, ◌∙◌, arith, length-append, flat_map, slice_range}
+use Rattle.mail_index.proofs.Words.{AllByRecursion, concat, take-append_seam, drop-append_seam, drop-drop}
+use Rattle.mail_index.proofs.Words.{from_be_bytes-to_be_bytes_4, from_be_bytes-to_be_bytes_8, Record, IsVersion, u32_at}
+use Rattle.mail_index.proofs.Words.{u64_at, magic, entry_of, entries, archive_bytes, archive_section, record_bytes}
+use Rattle.mail_index.proofs.Words.{directory_from, texts_of, postings_of, counts, sections, body, index_file, Archive}
+use Rattle.mail_index.proofs.Words.{Key, Table, IsWellFormed, IsArchive, IsKey, AllNext, KeyBefore, version_told}
+use Rattle.mail_index.proofs.Words.{IsFirstFault, EntryBefore, IsEntry, records_start, directory_start, texts_start}
+use Rattle.mail_index.proofs.Words.{postings_start, digest_start, HasDigest, IsSigned, HasArchives, HasRecords}
+use Rattle.mail_index.proofs.Words.{HasDirectory, HasPostings, IsFileOf, read_archives, read_records}
 use Rattle.sha2.specs.Sha256.{sha256}
 use Rattle.sha2.proofs.Facts256.{length-sha256}
 use Rattle.mail_index.specs.declared.view.fault.IndexFault.{IndexFault}
-use Rattle.mail_index.specs.declared.view.fault.IndexFault.TheVariants.{TooShort, BadMagic, BadVersion, BadDigest, BadLayout}
+use Rattle.mail_index.specs.declared.view.fault.IndexFault.TheVariants.{TooShort, BadMagic, BadVersion, BadDigest}
+use Rattle.mail_index.specs.declared.view.fault.IndexFault.TheVariants.{BadLayout}
 use Rattle.mail_index.specs.declared.view.fault.Section.TheVariants.{Counts, Archives, Records, Directory, Postings}
 use Rattle.mail_index.proofs.ViewLaws.ArchiveReads.{archives_back}
 use Rattle.mail_index.proofs.ViewLaws.RecordSections.{records_back}
@@ -16,12 +26,14 @@ record PartAt (bytes : List ℕ) (i j : ℕ) (mid post : List ℕ) : Type 0 wher
   is : slice_range bytes i j ≡ mid
   rest : drop j bytes ≡ post
 
-part_at : (bytes : List ℕ) (i j : ℕ) (mid post : List ℕ) → drop i bytes ≡ mid ++ post → j ≡ i + length mid → PartAt bytes i j mid post
+part_at : (bytes : List ℕ) (i j : ℕ) (mid post : List ℕ) → drop i bytes ≡ mid ++ post → j ≡ i + length mid
+    → PartAt bytes i j mid post
 part_at bytes i j mid post e n =
     let w : j - i ≡ length mid = omega (arith, n) in
     record {
       is = ap (λ (k : ℕ). take k (drop i bytes)) w ∙ ap (take (length mid)) e ∙ take-append_seam mid post;
-      rest = ap (λ (k : ℕ). drop k bytes) n ∙ sym (drop-drop (length mid) i bytes) ∙ ap (drop (length mid)) e ∙ drop-append_seam mid post;
+      rest = ap (λ (k : ℕ). drop k bytes) n ∙ sym (drop-drop (length mid) i bytes) ∙ ap (drop (length mid)) e
+          ∙ drop-append_seam mid post;
     }
 
 -- what the counts of a table's file say
@@ -35,8 +47,20 @@ pub record TellsCounts (bytes : List ℕ) (t : Table) : Type 0 where
   pub text_bytes : u64_at bytes 32 ≡ length (texts_of (entries t))
   pub posting_bytes : u64_at bytes 40 ≡ length (postings_of (entries t))
 
-tells : (t : Table) (rest : List ℕ) → IsWellFormed t → length (archive_section t) < 2 ^ 64 → length (texts_of (entries t)) < 2 ^ 64 → length (postings_of (entries t)) < 2 ^ 64 → TellsCounts (before (counts t) rest) t
-tells t rest w a x p = grind (arith, from_be_bytes-to_be_bytes_4, small_version, archive_bytes, from_be_bytes-to_be_bytes_8, archive_section, texts_of, entries, postings_of)
+tells : (t : Table) (rest : List ℕ) → IsWellFormed t → length (archive_section t) < 2 ^ 64
+    → length (texts_of (entries t)) < 2 ^ 64 → length (postings_of (entries t)) < 2 ^ 64
+    → TellsCounts (before (counts t) rest) t
+tells t rest w a x p = grind (
+  arith,
+  from_be_bytes-to_be_bytes_4,
+  small_version,
+  archive_bytes,
+  from_be_bytes-to_be_bytes_8,
+  archive_section,
+  texts_of,
+  entries,
+  postings_of,
+)
 
 count_entries_of : (ks : List Key) → length (map entry_of ks) ≡ length ks
 count_entries_of [] = refl
@@ -47,39 +71,86 @@ entries_in_order [] h = tt
 entries_in_order (k ∷ []) h = tt
 entries_in_order (k ∷ l ∷ ks) h = (h.0, entries_in_order (l ∷ ks) h.1)
 
-are_entries : (version count : ℕ) (ks : List Key) → AllByRecursion (IsKey version count) ks → AllByRecursion (IsEntry version) (map entry_of ks)
+are_entries : (version count : ℕ) (ks : List Key) → AllByRecursion (IsKey version count) ks
+    → AllByRecursion (IsEntry version) (map entry_of ks)
 are_entries version count [] h = tt
-are_entries version count (k ∷ ks) h = ((h.0.kind, h.0.some_text, h.0.short, some_postings k.numbers h.0.some_number), are_entries version count ks h.1)
+are_entries version count (k ∷ ks) h = (
+  (h.0.kind, h.0.some_text, h.0.short, some_postings k.numbers h.0.some_number),
+  are_entries version count ks h.1,
+)
 
-length_body : (t : Table) → length (body t) ≡ 48 + length (archive_section t) + 40 * length t.messages + 24 * length t.keys + length (texts_of (entries t)) + length (postings_of (entries t))
-length_body t = grind (arith, archive_section, flat_map, record_bytes, directory_from, entries, texts_of, postings_of, length-append, concat, counts, length_records, length_directory, count_entries_of)
+length_body : (t : Table) → length (body t)
+    ≡ 48 + length (archive_section t) + 40 * length t.messages + 24 * length t.keys + length (texts_of (entries t)) +
+    length (postings_of (entries t))
+length_body t = grind (
+  arith,
+  archive_section,
+  flat_map,
+  record_bytes,
+  directory_from,
+  entries,
+  texts_of,
+  postings_of,
+  length-append,
+  concat,
+  counts,
+  length_records,
+  length_directory,
+  count_entries_of,
+)
 
 -- the file of a table that fits in memory keeps all rules
-pub keeps_rules : (bytes : List ℕ) (t : Table) → length bytes < 2 ^ 64 → IsFileOf bytes t → HasPostings bytes t.archives t.messages t.keys
+pub keeps_rules : (bytes : List ℕ) (t : Table) → length bytes < 2 ^ 64 → IsFileOf bytes t
+    → HasPostings bytes t.archives t.messages t.keys
 unfolding index_file
 keeps_rules bytes t few f =
     let w = f.0 in
     let b = body t in
-    let size : length bytes ≡ length b + 32 = ap length f.1 ∙ length-append b (sha256 b) ∙ ap (λ (n : ℕ). length b + n) (length-sha256 b) in
+    let size : length bytes ≡ length b + 32 = ap length f.1 ∙ length-append b (sha256 b)
+    ∙ ap (λ (n : ℕ). length b + n) (length-sha256 b) in
     let n = length_body t in
-    let a = archive_section t in let r = flat_map record_bytes t.messages in let d = directory_from 0 0 (entries t) in let x = texts_of (entries t) in let p = postings_of (entries t) in
+    let a = archive_section t in let r = flat_map record_bytes t.messages in let d = directory_from 0 0 (entries t)
+    in let x = texts_of (entries t) in let p = postings_of (entries t) in
     let rest = a ++ (r ++ (d ++ (x ++ (p ++ sha256 b)))) in
-    let spelled : bytes ≡ before (counts t) rest = f.1 ∙ concat_then (sections t) (sha256 b) ∙ concat_then (counts t) rest in
-    let c : TellsCounts bytes t = subst (λ (y : List ℕ). TellsCounts y t) (sym spelled) (tells t rest w (omega (arith, size, n, few)) (omega (arith, size, n, few)) (omega (arith, size, n, few))) in
+    let spelled : bytes ≡ before (counts t) rest = f.1 ∙ concat_then (sections t) (sha256 b)
+    ∙ concat_then (counts t) rest in
+    let c : TellsCounts bytes t = subst (λ (y : List ℕ). TellsCounts y t) (sym spelled)
+    (tells t rest w (omega (arith, size, n, few)) (omega (arith, size, n, few)) (omega (arith, size, n, few))) in
     let d₀ : drop 48 bytes ≡ rest = ap (drop 48) spelled in
-    let p₁ = part_at bytes 48 (records_start bytes) a (r ++ (d ++ (x ++ (p ++ sha256 b)))) d₀ (omega (arith, c.archive_bytes)) in
-    let p₂ = part_at bytes (records_start bytes) (directory_start bytes) r (d ++ (x ++ (p ++ sha256 b))) p₁.rest (omega (arith, c.messages, length_records t.messages)) in
-    let p₃ = part_at bytes (directory_start bytes) (texts_start bytes) d (x ++ (p ++ sha256 b)) p₂.rest (omega (arith, c.keys, length_directory 0 0 (entries t), count_entries_of t.keys)) in
-    let p₄ = part_at bytes (texts_start bytes) (postings_start bytes) x (p ++ sha256 b) p₃.rest (omega (arith, c.text_bytes)) in
-    let p₅ = part_at bytes (postings_start bytes) (digest_start bytes) p (sha256 b) p₄.rest (omega (arith, c.posting_bytes)) in
-    let adds : digest_start bytes + 32 ≡ length bytes = omega (arith, size, n, c.archive_bytes, c.messages, c.keys, c.text_bytes, c.posting_bytes) in
+    let p₁ = part_at bytes 48 (records_start bytes) a (r ++ (d ++ (x ++ (p ++ sha256 b)))) d₀
+    (omega (arith, c.archive_bytes)) in
+    let p₂ = part_at bytes (records_start bytes) (directory_start bytes) r (d ++ (x ++ (p ++ sha256 b))) p₁.rest
+    (omega (arith, c.messages, length_records t.messages)) in
+    let p₃ = part_at bytes (directory_start bytes) (texts_start bytes) d (x ++ (p ++ sha256 b)) p₂.rest
+    (omega (arith, c.keys, length_directory 0 0 (entries t), count_entries_of t.keys)) in
+    let p₄ = part_at bytes (texts_start bytes) (postings_start bytes) x (p ++ sha256 b) p₃.rest
+    (omega (arith, c.text_bytes)) in
+    let p₅ = part_at bytes (postings_start bytes) (digest_start bytes) p (sha256 b) p₄.rest
+    (omega (arith, c.posting_bytes)) in
+    let adds : digest_start bytes + 32 ≡ length bytes =
+    omega (arith, size, n, c.archive_bytes, c.messages, c.keys, c.text_bytes, c.posting_bytes) in
     let before_digest : length bytes - 32 ≡ length b = omega (arith, size) in
     let digest : HasDigest bytes =
     ap (λ (k : ℕ). drop k bytes) before_digest ∙ ap (drop (length b)) f.1 ∙ drop-append_seam b (sha256 b)
-    ∙ ap sha256 (sym (ap (λ (k : ℕ). take k bytes) before_digest ∙ ap (take (length b)) f.1 ∙ take-append_seam b (sha256 b))) in
-    let signed : IsSigned bytes = record { long = omega (arith, size, n); marked = c.marked; known = subst IsVersion (sym c.known) w.version; digest = digest } in
-    let archives : HasArchives bytes t.archives = record { before = (signed, adds); spelled = p₁.is; counted = sym c.archives; each = subst (λ (v : ℕ). AllByRecursion (IsArchive v) t.archives) (sym c.known) w.archives } in
-    let records : HasRecords bytes t.archives t.messages = record { before = archives; spelled = p₂.is; each = w.messages; in_order = w.in_order } in
+    ∙ ap sha256 (sym (ap (λ (k : ℕ). take k bytes) before_digest ∙ ap (take (length b)) f.1
+    ∙ take-append_seam b (sha256 b))) in
+    let signed : IsSigned bytes = record {
+      long = omega (arith, size, n);
+      marked = c.marked;
+      known =
+          subst IsVersion (sym c.known) w.version;
+      digest = digest;
+    } in
+    let archives : HasArchives bytes t.archives =
+    record {
+      before = (signed, adds);
+      spelled = p₁.is;
+      counted = sym c.archives;
+      each =
+          subst (λ (v : ℕ). AllByRecursion (IsArchive v) t.archives) (sym c.known) w.archives;
+    } in
+    let records : HasRecords bytes t.archives t.messages =
+    record { before = archives; spelled = p₂.is; each = w.messages; in_order = w.in_order } in
     let keys = subst (λ (v : ℕ). AllByRecursion (IsKey v (length t.messages)) t.keys) (sym c.known) w.keys in
     let directory : HasDirectory bytes t.archives t.messages (map entry_of t.keys) = record {
       before = records;
@@ -96,16 +167,20 @@ keeps_rules bytes t few f =
 same_archives : (bytes : List ℕ) (as' bs : List Archive) → HasArchives bytes as' → HasArchives bytes bs → as' ≡ bs
 same_archives bytes as' bs a b = grind (arith, flat_map, archive_bytes, archives_back, version_told, read_archives)
 
-pub same_records : (bytes : List ℕ) (archives : List Archive) (ms ns : List Record) → length archives < 2 ^ 32 → HasRecords bytes archives ms → HasRecords bytes archives ns → ms ≡ ns
+pub same_records : (bytes : List ℕ) (archives : List Archive) (ms ns : List Record) → length archives < 2 ^ 32
+    → HasRecords bytes archives ms → HasRecords bytes archives ns → ms ≡ ns
 same_records bytes archives ms ns few a b =
     let e : flat_map record_bytes ms ≡ flat_map record_bytes ns = sym a.spelled ∙ b.spelled in
     let l : length ms ≡ length ns = omega (arith, ap length e, length_records ms, length_records ns) in
-    sym (records_back (version_told bytes) archives ms few a.before.each a.each) ∙ (λ i. read_records (l i) (e i)) ∙ records_back (version_told bytes) archives ns few b.before.each b.each
+    sym (records_back (version_told bytes) archives ms few a.before.each a.each) ∙ (λ i. read_records (l i) (e i))
+    ∙ records_back (version_told bytes) archives ns few b.before.each b.each
 
-pub no_fault : (bytes : List ℕ) (t : Table) → length bytes < 2 ^ 64 → IsFileOf bytes t → (f : IndexFault) → IsFirstFault bytes f → ⊥
+pub no_fault : (bytes : List ℕ) (t : Table) → length bytes < 2 ^ 64 → IsFileOf bytes t → (f : IndexFault)
+    → IsFirstFault bytes f → ⊥
 no_fault bytes t few w f h = go f h (keeps_rules bytes t few w) w.0.archive_count
   where
-    go : (f : IndexFault) → IsFirstFault bytes f → HasPostings bytes t.archives t.messages t.keys → length t.archives < 2 ^ 32 → ⊥
+    go : (f : IndexFault) → IsFirstFault bytes f → HasPostings bytes t.archives t.messages t.keys
+        → length t.archives < 2 ^ 32 → ⊥
     go TooShort h k n = omega (arith, h, k.before.before.before.before.0.long)
     go BadMagic h k n = h.1 k.before.before.before.before.0.marked
     go BadVersion h k n = h.2 k.before.before.before.before.0.known
@@ -120,4 +195,5 @@ no_fault bytes t few w f h = go f h (keeps_rules bytes t few w) w.0.archive_coun
         let a : t.archives ≡ h.0 = same_archives bytes t.archives h.0 k.before.before.before h.3.before.before in
         let r = subst (λ (x : List Archive). HasRecords bytes x t.messages) a k.before.before in
         let m : t.messages ≡ h.1 = same_records bytes h.0 t.messages h.1 (omega (arith, n, ap length a)) r h.3.before in
-        h.4 t.keys (subst (λ (y : List Record). HasPostings bytes h.0 y t.keys) m (subst (λ (x : List Archive). HasPostings bytes x t.messages t.keys) a k))
+        h.4 t.keys (subst (λ (y : List Record). HasPostings bytes h.0 y t.keys) m
+        (subst (λ (x : List Archive). HasPostings bytes x t.messages t.keys) a k))

@@ -1,5 +1,9 @@
 -- What each walk over a file finds is what the file has, and what a walk refuses is in no file.
-use Rattle.mail_index.proofs.Words.{◌≡◌, ℕ, ◌-◌, ◌*◌, ◌^◌, ◌<◌, ◌≤◌, List, length, drop, refl, sym, ap, subst, ◌∙◌, arith, length-drop, transport, flat_map, slice_range, AllByRecursion, Record, record_bytes, version_number, Archive, IsArchive, records_start, directory_start, texts_start, HasCounts, HasArchives, HasRecords, read_archives, SpellsArchives, AreRecords, read_records, IsLayout}
+use Rattle.mail_index.proofs.Words.{◌≡◌, ℕ, ◌-◌, ◌*◌, ◌^◌, ◌<◌, ◌≤◌, List, length, drop, refl, sym, ap, subst, ◌∙◌}
+use Rattle.mail_index.proofs.Words.{arith, length-drop, transport, flat_map, slice_range, AllByRecursion, Record}
+use Rattle.mail_index.proofs.Words.{record_bytes, version_number, Archive, IsArchive, records_start, directory_start}
+use Rattle.mail_index.proofs.Words.{texts_start, HasCounts, HasArchives, HasRecords, read_archives, SpellsArchives}
+use Rattle.mail_index.proofs.Words.{AreRecords, read_records, IsLayout}
 use Rattle.mail_index.specs.declared.view.layout.Layout.{Layout}
 use Rattle.mail_index.proofs.FileLaws.Bytes.{AreBytes, bytes_behind, bytes_before, length_part}
 use Rattle.mail_index.proofs.ViewLaws.ArchiveReads.{read_count}
@@ -22,11 +26,23 @@ section_length i j xs l m = length_part (j - i) (drop i xs) (omega (arith, l, m,
 pub section_bytes : (i j : ℕ) (xs ys : List ℕ) → ys ≡ slice_range xs i j → AreBytes xs → AreBytes ys
 section_bytes i j xs ys e b = subst AreBytes (sym e) (bytes_before (j - i) (drop i xs) (bytes_behind i xs b))
 
-pub has_archives : (bytes : List ℕ) (l : Layout) → IsLaidOut bytes l → SpellsArchives (version_number l.version) l.archive_count l.archives.now → HasArchives bytes (read_archives (version_number l.version) l.archive_count l.archives.now)
-has_archives bytes l f h = record { before = f.counts; spelled = sym f.layout.archives ∙ h.spelled; counted = read_count (version_number l.version) l.archive_count l.archives.now ∙ f.layout.archive_count; each = subst (λ (v : ℕ). AllByRecursion (IsArchive v) (read_archives (version_number l.version) l.archive_count l.archives.now)) f.layout.version h.each }
+pub has_archives : (bytes : List ℕ) (l : Layout) → IsLaidOut bytes l
+    → SpellsArchives (version_number l.version) l.archive_count l.archives.now
+    → HasArchives bytes (read_archives (version_number l.version) l.archive_count l.archives.now)
+has_archives bytes l f h = record {
+  before = f.counts;
+  spelled = sym f.layout.archives ∙ h.spelled;
+  counted =
+      read_count (version_number l.version) l.archive_count l.archives.now ∙ f.layout.archive_count;
+  each =
+      subst (λ (v : ℕ). AllByRecursion (IsArchive v)
+      (read_archives (version_number l.version) l.archive_count l.archives.now)) f.layout.version h.each;
+}
 
-pub these_archives : (bytes : List ℕ) (l : Layout) → IsLaidOut bytes l → (archives : List Archive) → HasArchives bytes archives
-    → (read_archives (version_number l.version) l.archive_count l.archives.now ≡ archives) × SpellsArchives (version_number l.version) l.archive_count l.archives.now
+pub these_archives : (bytes : List ℕ) (l : Layout) → IsLaidOut bytes l → (archives : List Archive)
+    → HasArchives bytes archives
+    → (read_archives (version_number l.version) l.archive_count l.archives.now ≡ archives)
+    × SpellsArchives (version_number l.version) l.archive_count l.archives.now
 these_archives bytes l f archives h = grind (arith, spells_these, version_number)
 
 pub record_section : (bytes : List ℕ) (l : Layout) → IsLaidOut bytes l → length l.records.now ≡ 40 * l.message_count
@@ -35,19 +51,33 @@ record_section bytes l f = grind (arith, section_length, records_start, director
 pub directory_section : (bytes : List ℕ) (l : Layout) → IsLaidOut bytes l → length l.directory.now ≡ 24 * l.key_count
 directory_section bytes l f = grind (arith, section_length, directory_start, texts_start)
 
-pub has_records : (bytes : List ℕ) (l : Layout) → IsLaidOut bytes l → SpellsArchives (version_number l.version) l.archive_count l.archives.now → AreRecords (version_number l.version) l.archive_count 0 0 l.archives.now l.message_count l.records.now
-    → HasRecords bytes (read_archives (version_number l.version) l.archive_count l.archives.now) (read_records l.message_count l.records.now)
+pub has_records : (bytes : List ℕ) (l : Layout) → IsLaidOut bytes l
+    → SpellsArchives (version_number l.version) l.archive_count l.archives.now
+    → AreRecords (version_number l.version) l.archive_count 0 0 l.archives.now l.message_count l.records.now
+    → HasRecords bytes (read_archives (version_number l.version) l.archive_count l.archives.now)
+    (read_records l.message_count l.records.now)
 has_records bytes l f a h =
-    let s = shows_records (version_number l.version) l.archive_count l.archives.now 0 0 l.archives.now l.message_count l.records.now refl
-    (section_bytes (records_start bytes) (directory_start bytes) bytes l.records.now f.layout.records f.are_bytes) (record_section bytes l f) h in
-    record { before = has_archives bytes l f a; spelled = sym f.layout.records ∙ s.spelled; each = s.each; in_order = in_order 0 0 (read_records l.message_count l.records.now) s.behind }
+    let s = shows_records (version_number l.version) l.archive_count l.archives.now 0 0 l.archives.now l.message_count
+    l.records.now refl
+    (section_bytes (records_start bytes) (directory_start bytes) bytes l.records.now f.layout.records f.are_bytes)
+    (record_section bytes l f) h in
+    record {
+      before = has_archives bytes l f a;
+      spelled = sym f.layout.records ∙ s.spelled;
+      each = s.each;
+      in_order =
+          in_order 0 0 (read_records l.message_count l.records.now) s.behind;
+    }
 
 -- only the records that are read can be those of the section
-pub these_records : (bytes : List ℕ) (l : Layout) → IsLaidOut bytes l → SpellsArchives (version_number l.version) l.archive_count l.archives.now
-    → (ms : List Record) → HasRecords bytes (read_archives (version_number l.version) l.archive_count l.archives.now) ms → AreRecords (version_number l.version) l.archive_count 0 0 l.archives.now l.message_count l.records.now
+pub these_records : (bytes : List ℕ) (l : Layout) → IsLaidOut bytes l
+    → SpellsArchives (version_number l.version) l.archive_count l.archives.now
+    → (ms : List Record) → HasRecords bytes (read_archives (version_number l.version) l.archive_count l.archives.now) ms
+    → AreRecords (version_number l.version) l.archive_count 0 0 l.archives.now l.message_count l.records.now
 these_records bytes l f a ms h =
     let e : l.records.now ≡ flat_map record_bytes ms = f.layout.records ∙ h.spelled in
     let n : length ms ≡ l.message_count = omega (arith, ap length e, length_records ms, record_section bytes l f) in
-    let r = are_records_of (version_number l.version) l.archive_count l.archives.now 0 0 l.archives.now ms f.few_archives a.each refl h.each (are_behind ms h.in_order) in
+    let r = are_records_of (version_number l.version) l.archive_count l.archives.now 0 0 l.archives.now ms
+    f.few_archives a.each refl h.each (are_behind ms h.in_order) in
     let e' : flat_map record_bytes ms ≡ l.records.now = sym e in
     transport (λ i. AreRecords (version_number l.version) l.archive_count 0 0 l.archives.now (n i) (e' i)) r

@@ -1,5 +1,8 @@
 -- Two equal lists of bytes begin with equal parts, if these have the same lengths.
-use Rattle.mail_index.proofs.Words.{◌≡◌, ℕ, ◌^◌, ◌<◌, List, [], ◌∷◌, ◌++◌, length, map, refl, sym, ap, ◌∙◌, append_assoc, arith, flat_map, unwrap_or, concat, AllByRecursion, w32, w64, from_be_bytes, from_be_bytes-to_be_bytes_4, from_be_bytes-to_be_bytes_8, Archive, IsArchive, be32, be64, archive_bytes}
+use Rattle.mail_index.proofs.Words.{◌≡◌, ℕ, ◌^◌, ◌<◌, List, [], ◌∷◌, ◌++◌, length, map, refl, sym, ap, ◌∙◌}
+use Rattle.mail_index.proofs.Words.{append_assoc, arith, flat_map, unwrap_or, concat, AllByRecursion, w32, w64}
+use Rattle.mail_index.proofs.Words.{from_be_bytes, from_be_bytes-to_be_bytes_4, from_be_bytes-to_be_bytes_8, Archive}
+use Rattle.mail_index.proofs.Words.{IsArchive, be32, be64, archive_bytes}
 use Rattle.mail_index.proofs.ViewLaws.DigestReads.{same_size, digest_is}
 
 pub split : (a b x y : List ℕ) → length a ≡ length b → a ++ x ≡ b ++ y → (a ≡ b) × (x ≡ y)
@@ -22,7 +25,8 @@ pub concat_then : (xs : List (List ℕ)) (x : List ℕ) → concat xs ++ x ≡ b
 concat_then [] x = refl
 concat_then (y ∷ ys) x = append_assoc y (concat ys) x ∙ ap (λ (t : List ℕ). y ++ t) (concat_then ys x)
 
-pub same_parts : (xs ys : List (List ℕ)) (x y : List ℕ) → map length xs ≡ map length ys → before xs x ≡ before ys y → (xs ≡ ys) × (x ≡ y)
+pub same_parts : (xs ys : List (List ℕ)) (x y : List ℕ) → map length xs ≡ map length ys → before xs x ≡ before ys y
+    → (xs ≡ ys) × (x ≡ y)
 same_parts [] [] x y h e = (refl, e)
 same_parts [] (b ∷ ys) x y h e = absurd cc
 same_parts (a ∷ xs) [] x y h e = absurd cc
@@ -36,10 +40,12 @@ same_parts (a ∷ xs) (b ∷ ys) x y h e =
     (cc, r.1)
 
 pub be32_is : (n m : ℕ) → n < 2 ^ 32 → m < 2 ^ 32 → be32 n ≡ be32 m → n ≡ m
-be32_is n m hn hm e = sym (from_be_bytes-to_be_bytes_4 n hn) ∙ ap (from_be_bytes w32) e ∙ from_be_bytes-to_be_bytes_4 m hm
+be32_is n m hn hm e = sym (from_be_bytes-to_be_bytes_4 n hn) ∙ ap (from_be_bytes w32) e
+    ∙ from_be_bytes-to_be_bytes_4 m hm
 
 pub be64_is : (n m : ℕ) → n < 2 ^ 64 → m < 2 ^ 64 → be64 n ≡ be64 m → n ≡ m
-be64_is n m hn hm e = sym (from_be_bytes-to_be_bytes_8 n hn) ∙ ap (from_be_bytes w64) e ∙ from_be_bytes-to_be_bytes_8 m hm
+be64_is n m hn hm e = sym (from_be_bytes-to_be_bytes_8 n hn) ∙ ap (from_be_bytes w64) e
+    ∙ from_be_bytes-to_be_bytes_8 m hm
 
 -- the bytes of as many items in both lists
 pub front_each : {A : Type 0} (f : A → List ℕ) (P : A → Type 0)
@@ -50,19 +56,27 @@ front_each f P front [] [] x y h p q e = (refl, e)
 front_each f P front [] (b ∷ ys) x y h p q e = absurd (omega (arith, h))
 front_each f P front (a ∷ xs) [] x y h p q e = absurd (omega (arith, h))
 front_each f P front (a ∷ xs) (b ∷ ys) x y h p q e =
-    let s = front a b (flat_map f xs ++ x) (flat_map f ys ++ y) p.0 q.0 (sym (append_assoc (f a) (flat_map f xs) x) ∙ e ∙ append_assoc (f b) (flat_map f ys) y) in
+    let s = front a b (flat_map f xs ++ x) (flat_map f ys ++ y) p.0 q.0
+    (sym (append_assoc (f a) (flat_map f xs) x) ∙ e ∙ append_assoc (f b) (flat_map f ys) y) in
     let r = front_each f P front xs ys x y (omega (arith, h)) p.1 q.1 s.1 in
     let c : a ≡ b = s.0 in
     let d : xs ≡ ys = r.0 in
     (cc, r.1)
 
-pub archive_front : (version : ℕ) (a b : Archive) (x y : List ℕ) → IsArchive version a → IsArchive version b → archive_bytes a ++ x ≡ archive_bytes b ++ y → (a ≡ b) × (x ≡ y)
+pub archive_front : (version : ℕ) (a b : Archive) (x y : List ℕ) → IsArchive version a → IsArchive version b
+    → archive_bytes a ++ x ≡ archive_bytes b ++ y → (a ≡ b) × (x ≡ y)
 archive_front version a b x y p q e =
-    let e' = sym (concat_then (be64 a.length ∷ be32 (length a.path) ∷ a.path ∷ unwrap_or a.digest [] ∷ []) x) ∙ e ∙ concat_then (be64 b.length ∷ be32 (length b.path) ∷ b.path ∷ unwrap_or b.digest [] ∷ []) y in
-    let s = same_parts (be64 a.length ∷ be32 (length a.path) ∷ []) (be64 b.length ∷ be32 (length b.path) ∷ []) (a.path ++ (unwrap_or a.digest [] ++ x)) (b.path ++ (unwrap_or b.digest [] ++ y)) refl e' in
-    let sizes : a.length ≡ b.length = be64_is a.length b.length (omega (arith, p.1)) (omega (arith, q.1)) (ap (λ (l : List (List ℕ)). Rattle.std.proofs.Common.get_or l 0 []) s.0) in
-    let lengths : length a.path ≡ length b.path = be32_is (length a.path) (length b.path) (omega (arith, p.0.most)) (omega (arith, q.0.most)) (ap (λ (l : List (List ℕ)). Rattle.std.proofs.Common.get_or l 1 []) s.0) in
+    let e' = sym (concat_then (be64 a.length ∷ be32 (length a.path) ∷ a.path ∷ unwrap_or a.digest [] ∷ []) x) ∙ e
+    ∙ concat_then (be64 b.length ∷ be32 (length b.path) ∷ b.path ∷ unwrap_or b.digest [] ∷ []) y in
+    let s = same_parts (be64 a.length ∷ be32 (length a.path) ∷ []) (be64 b.length ∷ be32 (length b.path) ∷ [])
+    (a.path ++ (unwrap_or a.digest [] ++ x)) (b.path ++ (unwrap_or b.digest [] ++ y)) refl e' in
+    let sizes : a.length ≡ b.length = be64_is a.length b.length (omega (arith, p.1)) (omega (arith, q.1))
+    (ap (λ (l : List (List ℕ)). Rattle.std.proofs.Common.get_or l 0 []) s.0) in
+    let lengths : length a.path ≡ length b.path =
+    be32_is (length a.path) (length b.path) (omega (arith, p.0.most)) (omega (arith, q.0.most))
+    (ap (λ (l : List (List ℕ)). Rattle.std.proofs.Common.get_or l 1 []) s.0) in
     let r = split a.path b.path (unwrap_or a.digest [] ++ x) (unwrap_or b.digest [] ++ y) lengths s.1 in
-    let t = split (unwrap_or a.digest []) (unwrap_or b.digest []) x y (same_size version a.digest b.digest p.2 q.2) r.1 in
+    let t = split (unwrap_or a.digest []) (unwrap_or b.digest []) x y (same_size version a.digest b.digest p.2 q.2) r.1
+    in
     let digest : a.digest ≡ b.digest = digest_is version a.digest b.digest p.2 q.2 t.0 in
     (λ i. record { path = r.0 i; length = sizes i; digest = digest i }, t.1)

@@ -1,5 +1,6 @@
 -- LEB128 is split byte by byte: each byte has seven bits, which are lower than those of the next byte.
-use Rattle.mail_index.proofs.Words.{◌≡◌, ◌≢◌, ℕ, zero, suc, ◌+◌, ◌-◌, ◌*◌, ◌/◌, ◌<◌, ◌≤◌, refl, arith, IsShort, leb128, [], ◌∷◌}
+use Rattle.mail_index.proofs.Words.{◌≡◌, ◌≢◌, ℕ, zero, suc, ◌+◌, ◌-◌, ◌*◌, ◌/◌, ◌<◌, ◌≤◌, refl, arith, IsShort, leb128}
+use Rattle.mail_index.proofs.Words.{[], ◌∷◌}
 
 -- a number of five groups has at most 35 bits
 pub IsShort-small : (groups n : ℕ) → groups ≤ 5 → IsShort groups n → n < 34359738368
@@ -21,7 +22,8 @@ IsShort-last zero b some h = absurd (some refl)
 IsShort-last (suc groups) b some h = let none : b / 128 ≡ 0 = omega (arith, h) in rw none (IsShort-zero groups)
 
 -- seven bits below a number make one group more
-pub IsShort-more : (groups b high : ℕ) → groups ≢ 0 → b < 128 → IsShort (groups - 1) high → IsShort groups (b + 128 * high)
+pub IsShort-more : (groups b high : ℕ) → groups ≢ 0 → b < 128 → IsShort (groups - 1) high
+    → IsShort groups (b + 128 * high)
 IsShort-more groups b high h h2 h3 = grind arith
 
 -- a number of two bytes

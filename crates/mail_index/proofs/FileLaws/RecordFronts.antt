@@ -1,5 +1,10 @@
 -- Two equal lists of bytes that begin with records, or with lists of numbers, begin with equal ones.
-use Rattle.mail_index.proofs.Words.{◌≡◌, ℕ, zero, suc, ◌+◌, ◌-◌, ◌/◌, ◌%◌, ◌^◌, ◌<◌, ◌≤◌, Bool, cond, ltb, List, [], ◌∷◌, ◌++◌, length, get_or, Option, refl, sym, ap, ◌∙◌, arith, ℤ, ltb-true, flat_map, IfSome, FitsSigned, is_some, AllByRecursion, w64, cast_unsigned, cast_signed, to_z-of_z, Fits-of_z, Fits-lt-pow, Record, Archive, IsMessage, RisesFrom, Key, IsKey, archive_length, leb128, differences_from, postings, zeros, be32, be64, bit, flags_byte, date_number, record_bytes}
+use Rattle.mail_index.proofs.Words.{◌≡◌, ℕ, zero, suc, ◌+◌, ◌-◌, ◌/◌, ◌%◌, ◌^◌, ◌<◌, ◌≤◌, Bool, cond, ltb, List, []}
+use Rattle.mail_index.proofs.Words.{◌∷◌, ◌++◌, length, get_or, Option, refl, sym, ap, ◌∙◌, arith, ℤ, ltb-true, flat_map}
+use Rattle.mail_index.proofs.Words.{IfSome, FitsSigned, is_some, AllByRecursion, w64, cast_unsigned, cast_signed}
+use Rattle.mail_index.proofs.Words.{to_z-of_z, Fits-of_z, Fits-lt-pow, Record, Archive, IsMessage, RisesFrom, Key}
+use Rattle.mail_index.proofs.Words.{IsKey, archive_length, leb128, differences_from, postings, zeros, be32, be64, bit}
+use Rattle.mail_index.proofs.Words.{flags_byte, date_number, record_bytes}
 use Rattle.mail_index.proofs.FileLaws.Fronts.{concat_then, same_parts, be32_is, be64_is}
 
 abbrev pub at : List (List ℕ) → ℕ → List ℕ
@@ -10,31 +15,52 @@ same_at xs ys i e = ap (λ (l : List (List ℕ)). at l i) e
 
 -- ---- records
 
-flags_is : (a b c d e f g h : Bool) → bit 1 a + bit 2 b + bit 4 c + bit 8 d ≡ bit 1 e + bit 2 f + bit 4 g + bit 8 h → (a ≡ e) × (b ≡ f) × (c ≡ g) × (d ≡ h)
+flags_is : (a b c d e f g h : Bool) → bit 1 a + bit 2 b + bit 4 c + bit 8 d ≡ bit 1 e + bit 2 f + bit 4 g + bit 8 h
+    → (a ≡ e) × (b ≡ f) × (c ≡ g) × (d ≡ h)
 flags_is a b c d e f g h s = grind (arith, bit)
 
-date_is : (a b : Option ℤ) → IfSome a (FitsSigned w64) → IfSome b (FitsSigned w64) → is_some a ≡ is_some b → be64 (date_number a) ≡ be64 (date_number b) → a ≡ b
+date_is : (a b : Option ℤ) → IfSome a (FitsSigned w64) → IfSome b (FitsSigned w64) → is_some a ≡ is_some b
+    → be64 (date_number a) ≡ be64 (date_number b) → a ≡ b
 date_is a b h h2 h3 h4 = grind (arith, cast_unsigned, w64, be64_is, Fits-lt-pow, Fits-of_z, to_z-of_z, cast_signed)
 
 record_list : Record → List (List ℕ)
-record_list m = be32 m.archive ∷ (flags_byte m ∷ zeros) ∷ be64 m.offset ∷ be64 m.length ∷ be64 m.size ∷ be64 (date_number m.date) ∷ []
+record_list m = be32 m.archive ∷ (flags_byte m ∷ zeros) ∷ be64 m.offset ∷ be64 m.length ∷ be64 m.size ∷ be64
+    (date_number m.date) ∷ []
 
 abbrev pub HasFew : List Archive → Record → Type 0
 HasFew archives m = IsMessage archives m × (length archives < 2 ^ 32) × (archive_length archives m.archive ≤ 2 ^ 40)
 
-pub message_front : (archives : List Archive) (a b : Record) (x y : List ℕ) → HasFew archives a → HasFew archives b → record_bytes a ++ x ≡ record_bytes b ++ y → (a ≡ b) × (x ≡ y)
+pub message_front : (archives : List Archive) (a b : Record) (x y : List ℕ) → HasFew archives a → HasFew archives b
+    → record_bytes a ++ x ≡ record_bytes b ++ y → (a ≡ b) × (x ≡ y)
 unfolding record_list
 message_front archives a b x y p q e =
     let e' = sym (concat_then (record_list a) x) ∙ e ∙ concat_then (record_list b) y in
     let s = same_parts (record_list a) (record_list b) x y refl e' in
-    let archive : a.archive ≡ b.archive = be32_is a.archive b.archive (omega (arith, p.0.exists, p.1)) (omega (arith, q.0.exists, q.1)) (same_at (record_list a) (record_list b) 0 s.0) in
-    let flags : flags_byte a ≡ flags_byte b = ap (λ (l : List ℕ). get_or l 0 0) (same_at (record_list a) (record_list b) 1 s.0) in
-    let f = flags_is a.flags.seen a.flags.replied a.flags.flagged (is_some a.date) b.flags.seen b.flags.replied b.flags.flagged (is_some b.date) flags in
-    let offset : a.offset ≡ b.offset = be64_is a.offset b.offset (omega (arith, p.0.within, p.2)) (omega (arith, q.0.within, q.2)) (same_at (record_list a) (record_list b) 2 s.0) in
-    let span : a.length ≡ b.length = be64_is a.length b.length (omega (arith, p.0.within, p.2)) (omega (arith, q.0.within, q.2)) (same_at (record_list a) (record_list b) 3 s.0) in
-    let size : a.size ≡ b.size = be64_is a.size b.size (omega (arith, p.0.within, p.2, p.0.size)) (omega (arith, q.0.within, q.2, q.0.size)) (same_at (record_list a) (record_list b) 4 s.0) in
-    let date : a.date ≡ b.date = date_is a.date b.date p.0.date q.0.date f.3 (same_at (record_list a) (record_list b) 5 s.0) in
-    (λ i. record { archive = archive i; offset = offset i; length = span i; size = size i; date = date i; flags = record { seen = f.0 i; replied = f.1 i; flagged = f.2 i } }, s.1)
+    let archive : a.archive ≡ b.archive = be32_is a.archive b.archive (omega (arith, p.0.exists, p.1))
+    (omega (arith, q.0.exists, q.1)) (same_at (record_list a) (record_list b) 0 s.0) in
+    let flags : flags_byte a ≡ flags_byte b =
+    ap (λ (l : List ℕ). get_or l 0 0) (same_at (record_list a) (record_list b) 1 s.0) in
+    let f = flags_is a.flags.seen a.flags.replied a.flags.flagged (is_some a.date) b.flags.seen b.flags.replied
+    b.flags.flagged (is_some b.date) flags in
+    let offset : a.offset ≡ b.offset = be64_is a.offset b.offset (omega (arith, p.0.within, p.2))
+    (omega (arith, q.0.within, q.2)) (same_at (record_list a) (record_list b) 2 s.0) in
+    let span : a.length ≡ b.length = be64_is a.length b.length (omega (arith, p.0.within, p.2))
+    (omega (arith, q.0.within, q.2)) (same_at (record_list a) (record_list b) 3 s.0) in
+    let size : a.size ≡ b.size = be64_is a.size b.size (omega (arith, p.0.within, p.2, p.0.size))
+    (omega (arith, q.0.within, q.2, q.0.size)) (same_at (record_list a) (record_list b) 4 s.0) in
+    let date : a.date ≡ b.date = date_is a.date b.date p.0.date q.0.date f.3
+    (same_at (record_list a) (record_list b) 5 s.0) in (
+      λ i. record {
+        archive = archive i;
+        offset = offset i;
+        length = span i;
+        size = size i;
+        date = date i;
+        flags =
+            record { seen = f.0 i; replied = f.1 i; flagged = f.2 i };
+      },
+      s.1,
+    )
 
 -- ---- postings
 
@@ -42,19 +68,24 @@ abbrev Small : ℕ → ℕ → Type 0
 Small zero n = n < 1
 Small (suc k) n = Small k (n / 128)
 
-pub leb_front : (k n m : ℕ) (x y : List ℕ) → Small k n → Small k m → leb128 k n ++ x ≡ leb128 k m ++ y → (n ≡ m) × (x ≡ y)
+pub leb_front : (k n m : ℕ) (x y : List ℕ) → Small k n → Small k m → leb128 k n ++ x ≡ leb128 k m ++ y → (n ≡ m)
+    × (x ≡ y)
 leb_front zero n m x y p q e = (omega (arith, p, q), e)
-leb_front (suc k) n m x y p q e = go (ltb n 128) refl (ltb m 128) refl e (λ x y. leb_front k (n / 128) (m / 128) x y p q)
+leb_front (suc k) n m x y p q e = go (ltb n 128) refl (ltb m 128) refl e
+    (λ x y. leb_front k (n / 128) (m / 128) x y p q)
   where
     go : (t : Bool) → ltb n 128 ≡ t → (u : Bool) → ltb m 128 ≡ u
-        → cond t (n ∷ []) ((128 + n % 128) ∷ leb128 k (n / 128)) ++ x ≡ cond u (m ∷ []) ((128 + m % 128) ∷ leb128 k (m / 128)) ++ y
-        → ((x y : List ℕ) → leb128 k (n / 128) ++ x ≡ leb128 k (m / 128) ++ y → (n / 128 ≡ m / 128) × (x ≡ y)) → (n ≡ m) × (x ≡ y)
+        → cond t (n ∷ []) ((128 + n % 128) ∷ leb128 k (n / 128)) ++ x
+        ≡ cond u (m ∷ []) ((128 + m % 128) ∷ leb128 k (m / 128)) ++ y
+        → ((x y : List ℕ) → leb128 k (n / 128) ++ x ≡ leb128 k (m / 128) ++ y → (n / 128 ≡ m / 128) × (x ≡ y)) → (n ≡ m)
+        × (x ≡ y)
     go t h u h2 h3 h4 = grind (arith, ltb-true, leb128)
 
 pub leb_some : (k n : ℕ) (x : List ℕ) → leb128 (suc k) n ++ x ≡ [] → ⊥
 leb_some k n x e = grind (arith, ltb, leb128)
 
-whole : (xs ys : List ℕ) → AllByRecursion (Small 5) xs → AllByRecursion (Small 5) ys → flat_map (leb128 5) xs ≡ flat_map (leb128 5) ys → xs ≡ ys
+whole : (xs ys : List ℕ) → AllByRecursion (Small 5) xs → AllByRecursion (Small 5) ys → flat_map (leb128 5) xs
+    ≡ flat_map (leb128 5) ys → xs ≡ ys
 whole [] [] p q e = refl
 whole [] (b ∷ ys) p q e = absurd (leb_some 4 b (flat_map (leb128 5) ys) (sym e))
 whole (a ∷ xs) [] p q e = absurd (leb_some 4 a (flat_map (leb128 5) xs) e)
@@ -64,7 +95,8 @@ whole (a ∷ xs) (b ∷ ys) p q e =
     let h : a ≡ b = s.0 in
     cc
 
-differences_is : (low : ℕ) (xs ys : List ℕ) → RisesFrom low xs → RisesFrom low ys → differences_from low xs ≡ differences_from low ys → xs ≡ ys
+differences_is : (low : ℕ) (xs ys : List ℕ) → RisesFrom low xs → RisesFrom low ys → differences_from low xs
+    ≡ differences_from low ys → xs ≡ ys
 differences_is low [] [] p q e = refl
 differences_is low [] (b ∷ ys) p q e = absurd cc
 differences_is low (a ∷ xs) [] p q e = absurd cc
@@ -75,9 +107,11 @@ differences_is low (a ∷ xs) (b ∷ ys) p q e =
     let r = differences_is (suc a) xs ys p.1 (rw h q.1) (t ∙ ap (λ (n : ℕ). differences_from n ys) (ap suc (sym h))) in
     cc
 
-small_differences : (count low : ℕ) (xs : List ℕ) → count < 2 ^ 32 → AllByRecursion (λ n. n < count) xs → AllByRecursion (Small 5) (differences_from low xs)
+small_differences : (count low : ℕ) (xs : List ℕ) → count < 2 ^ 32 → AllByRecursion (λ n. n < count) xs
+    → AllByRecursion (Small 5) (differences_from low xs)
 small_differences count low [] h p = tt
 small_differences count low (x ∷ xs) h p = (omega (arith, h, p.0), small_differences count (suc x) xs h p.1)
 
-pub numbers_are : (version count : ℕ) (a b : Key) → count < 2 ^ 32 → IsKey version count a → IsKey version count b → postings a.numbers ≡ postings b.numbers → a.numbers ≡ b.numbers
+pub numbers_are : (version count : ℕ) (a b : Key) → count < 2 ^ 32 → IsKey version count a → IsKey version count b
+    → postings a.numbers ≡ postings b.numbers → a.numbers ≡ b.numbers
 numbers_are version count a b h p q e = grind (arith, differences_is, whole, small_differences)

@@ -8,4 +8,5 @@ small-file : (bytes : List ℕ) (t : Table) → length bytes < 2 ^ 64 → IsFile
 small-file bytes t few f = grind (arith, length-index_file, length-body)
 
 pub same-table : (bytes : List ℕ) (t u : Table) → length bytes < 2 ^ 64 → IsFileOf bytes t → IsFileOf bytes u → u ≡ t
-same-table bytes t u few f h = one_file u t h.0 f.0 (small-file bytes u few h) (small-file bytes t few f) (sym h.1 ∙ f.1)
+same-table bytes t u few f h = one_file u t h.0 f.0 (small-file bytes u few h) (small-file bytes t few f)
+    (sym h.1 ∙ f.1)

@@ -1,13 +1,25 @@
 -- A file whose sections are those of a table is the file of that table: its sections are its parts in order.
-use Rattle.mail_index.proofs.Words.{◌≡◌, ℕ, ◌+◌, ◌-◌, ◌^◌, ◌<◌, ◌≤◌, List, [], ◌∷◌, ◌++◌, length, map, take, drop, refl, sym, ap, subst, ◌∙◌, arith, length-drop, length-append, length-map, transport, flat_map, slice_range, AllByRecursion, concat, take-append-drop, drop-drop, version_number, IsVersion, u32_at, u64_at, magic, be32, be64, Entry, entry_of, entries, archive_section, record_bytes, directory_from, texts_of, postings_of, counts, sections, body, index_file, Key, IsArchive, IsKey, IsWellFormed, IsEntry, version_told, IsSigned, records_start, directory_start, texts_start, postings_start, digest_start, HasDigest, HasDirectory, HasPostings, IsFileOf, SpellsArchives, AreRecords, AreEntries, read_entries, IsList, AreLists, IsLayout, IsChecked, table_of, key_of}
+use Rattle.mail_index.proofs.Words.{◌≡◌, ℕ, ◌+◌, ◌-◌, ◌^◌, ◌<◌, ◌≤◌, List, [], ◌∷◌, ◌++◌, length, map, take, drop, refl}
+use Rattle.mail_index.proofs.Words.{sym, ap, subst, ◌∙◌, arith, length-drop, length-append, length-map, transport}
+use Rattle.mail_index.proofs.Words.{flat_map, slice_range, AllByRecursion, concat, take-append-drop, drop-drop}
+use Rattle.mail_index.proofs.Words.{version_number, IsVersion, u32_at, u64_at, magic, be32, be64, Entry, entry_of}
+use Rattle.mail_index.proofs.Words.{entries, archive_section, record_bytes, directory_from, texts_of, postings_of}
+use Rattle.mail_index.proofs.Words.{counts, sections, body, index_file, Key, IsArchive, IsKey, IsWellFormed, IsEntry}
+use Rattle.mail_index.proofs.Words.{version_told, IsSigned, records_start, directory_start, texts_start, postings_start}
+use Rattle.mail_index.proofs.Words.{digest_start, HasDigest, HasDirectory, HasPostings, IsFileOf, SpellsArchives}
+use Rattle.mail_index.proofs.Words.{AreRecords, AreEntries, read_entries, IsList, AreLists, IsLayout, IsChecked}
+use Rattle.mail_index.proofs.Words.{table_of, key_of}
 use Rattle.sha2.specs.Sha256.{sha256}
 use Rattle.mail_index.specs.declared.view.layout.Layout.{Layout}
 use Rattle.mail_index.proofs.FileLaws.Fronts.{before, concat_then, split}
 use Rattle.mail_index.proofs.FileLaws.Bytes.{AreBytes, length_part, u32_back, u64_back}
 use Rattle.mail_index.proofs.ViewLaws.ArchiveReads.{read_count}
-use Rattle.mail_index.proofs.ViewLaws.DirectorySections.{u32_small, shows_entries, entries_back, are_entries_of, IsAhead, are_after, sorted}
-use Rattle.mail_index.proofs.ViewLaws.Opening.{length_directory, count_records, count_entries, reads_keys, lists_of, are_lists, lists_of_keys, keys_in_order}
-use Rattle.mail_index.proofs.FileLaws.FileLemmas.{IsLaidOut, section_length, section_bytes, record_section, directory_section, has_records}
+use Rattle.mail_index.proofs.ViewLaws.DirectorySections.{u32_small, shows_entries, entries_back, are_entries_of}
+use Rattle.mail_index.proofs.ViewLaws.DirectorySections.{IsAhead, are_after, sorted}
+use Rattle.mail_index.proofs.ViewLaws.Opening.{length_directory, count_records, count_entries, reads_keys, lists_of}
+use Rattle.mail_index.proofs.ViewLaws.Opening.{are_lists, lists_of_keys, keys_in_order}
+use Rattle.mail_index.proofs.FileLaws.FileLemmas.{IsLaidOut, section_length, section_bytes, record_section}
+use Rattle.mail_index.proofs.FileLaws.FileLemmas.{directory_section, has_records}
 
 pub laid_out : (bytes : List ℕ) (l : Layout) → IsSigned bytes → IsLayout bytes l → AreBytes bytes → IsLaidOut bytes l
 laid_out bytes l s y b = record {
@@ -28,75 +40,138 @@ pub record HoldsRecords (l : Layout) : Type 0 where
 abbrev pub entries_of : Layout → List Entry
 entries_of l = read_entries l.texts.now l.postings.now l.key_count l.directory.now
 
-pub has_directory : (bytes : List ℕ) (l : Layout) → IsLaidOut bytes l → HoldsRecords l → AreEntries (version_number l.version) l.texts.now (length l.postings.now) 0 0 0 [] l.key_count l.directory.now
+pub has_directory : (bytes : List ℕ) (l : Layout) → IsLaidOut bytes l → HoldsRecords l
+    → AreEntries (version_number l.version) l.texts.now (length l.postings.now) 0 0 0 [] l.key_count l.directory.now
     → HasDirectory bytes (table_of l).archives (table_of l).messages (entries_of l)
-has_directory bytes l f r h = grind (arith, shows_entries, version_number, section_bytes, directory_start, texts_start, directory_section, before, has_records, sorted)
+has_directory bytes l f r h = grind (
+  arith,
+  shows_entries,
+  version_number,
+  section_bytes,
+  directory_start,
+  texts_start,
+  directory_section,
+  before,
+  has_records,
+  sorted,
+)
 
-few_section : (i j : ℕ) (xs ys : List ℕ) → ys ≡ slice_range xs i j → i ≤ j → j ≤ length xs → length xs < 2 ^ 64 → length ys < 2 ^ 64
+few_section : (i j : ℕ) (xs ys : List ℕ) → ys ≡ slice_range xs i j → i ≤ j → j ≤ length xs → length xs < 2 ^ 64
+    → length ys < 2 ^ 64
 few_section i j xs ys e l m n = omega (arith, ap length e, section_length i j xs l m, l, m, n)
 
-ahead_of : (bytes : List ℕ) (l : Layout) → IsLaidOut bytes l → (es : List Entry) → HasDirectory bytes (table_of l).archives (table_of l).messages es → IsAhead l.texts.now l.postings.now 0 0 es
+ahead_of : (bytes : List ℕ) (l : Layout) → IsLaidOut bytes l → (es : List Entry)
+    → HasDirectory bytes (table_of l).archives (table_of l).messages es → IsAhead l.texts.now l.postings.now 0 0 es
 ahead_of bytes l f es h = grind (arith, few_section, texts_start, postings_start, digest_start)
 
-counted : (bytes : List ℕ) (l : Layout) → IsLaidOut bytes l → (es : List Entry) → HasDirectory bytes (table_of l).archives (table_of l).messages es → length es ≡ l.key_count
-counted bytes l f es h = omega (arith, ap length (f.layout.directory ∙ h.spelled), length_directory 0 0 es, directory_section bytes l f)
+counted : (bytes : List ℕ) (l : Layout) → IsLaidOut bytes l → (es : List Entry)
+    → HasDirectory bytes (table_of l).archives (table_of l).messages es → length es ≡ l.key_count
+counted bytes l f es h = omega (
+  arith,
+  ap length (f.layout.directory ∙ h.spelled),
+  length_directory 0 0 es,
+  directory_section bytes l f,
+)
 
-pub these_entries : (bytes : List ℕ) (l : Layout) → IsLaidOut bytes l → (es : List Entry) → HasDirectory bytes (table_of l).archives (table_of l).messages es
+pub these_entries : (bytes : List ℕ) (l : Layout) → IsLaidOut bytes l → (es : List Entry)
+    → HasDirectory bytes (table_of l).archives (table_of l).messages es
     → AreEntries (version_number l.version) l.texts.now (length l.postings.now) 0 0 0 [] l.key_count l.directory.now
 these_entries bytes l f es h =
     let e : directory_from 0 0 es ≡ l.directory.now = sym (f.layout.directory ∙ h.spelled) in
     let n = counted bytes l f es h in
     let each = subst (λ (v : ℕ). AllByRecursion (IsEntry v) es) (sym f.layout.version) h.each in
-    let a = are_entries_of (version_number l.version) l.texts.now l.postings.now 0 0 0 [] es each (ahead_of bytes l f es h) (are_after es h.sorted) in
+    let a = are_entries_of (version_number l.version) l.texts.now l.postings.now 0 0 0 [] es each
+    (ahead_of bytes l f es h) (are_after es h.sorted) in
     transport (λ i. AreEntries (version_number l.version) l.texts.now (length l.postings.now) 0 0 0 [] (n i) (e i)) a
 
-pub has_postings : (bytes : List ℕ) (l : Layout) → IsLaidOut bytes l → HoldsRecords l → AreEntries (version_number l.version) l.texts.now (length l.postings.now) 0 0 0 [] l.key_count l.directory.now
-    → AreLists l.message_count l.postings.now l.key_count l.directory.now → HasPostings bytes (table_of l).archives (table_of l).messages (table_of l).keys
+pub has_postings : (bytes : List ℕ) (l : Layout) → IsLaidOut bytes l → HoldsRecords l
+    → AreEntries (version_number l.version) l.texts.now (length l.postings.now) 0 0 0 [] l.key_count l.directory.now
+    → AreLists l.message_count l.postings.now l.key_count l.directory.now
+    → HasPostings bytes (table_of l).archives (table_of l).messages (table_of l).keys
 has_postings bytes l f r h p =
     let d = has_directory bytes l f r h in
-    let k = reads_keys (version_told bytes) l.message_count (entries_of l) f.few_messages d.each (lists_of l.message_count l.texts.now l.postings.now l.key_count l.directory.now p) in
+    let k = reads_keys (version_told bytes) l.message_count (entries_of l) f.few_messages d.each
+    (lists_of l.message_count l.texts.now l.postings.now l.key_count l.directory.now p) in
     record {
       before = subst (HasDirectory bytes (table_of l).archives (table_of l).messages) (sym k.spelled) d;
-      each = subst (λ (n : ℕ). AllByRecursion (IsKey (version_told bytes) n) (table_of l).keys) (sym (count_records l.message_count l.records.now)) k.each;
+      each = subst (λ (n : ℕ). AllByRecursion (IsKey (version_told bytes) n) (table_of l).keys)
+          (sym (count_records l.message_count l.records.now)) k.each;
     }
 
-pub these_lists : (bytes : List ℕ) (l : Layout) → IsLaidOut bytes l → (ks : List Key) → HasPostings bytes (table_of l).archives (table_of l).messages ks
+pub these_lists : (bytes : List ℕ) (l : Layout) → IsLaidOut bytes l → (ks : List Key)
+    → HasPostings bytes (table_of l).archives (table_of l).messages ks
     → AreLists l.message_count l.postings.now l.key_count l.directory.now
 these_lists bytes l f ks h =
     let es = map entry_of ks in
     let d = h.before in
     let e : l.directory.now ≡ directory_from 0 0 es = f.layout.directory ∙ d.spelled in
     let n : l.key_count ≡ length es = sym (counted bytes l f es d) in
-    let back : entries_of l ≡ es = (λ i. read_entries l.texts.now l.postings.now (n i) (e i)) ∙ entries_back (version_told bytes) l.texts.now l.postings.now 0 0 es d.each (ahead_of bytes l f es d) in
-    let each = subst (λ (m : ℕ). AllByRecursion (λ x. IsList m x.postings) es) (count_records l.message_count l.records.now) (lists_of_keys (version_told bytes) (length (table_of l).messages) ks h.each) in
-    are_lists l.message_count l.texts.now l.postings.now l.key_count l.directory.now (subst (AllByRecursion (λ x. IsList l.message_count x.postings)) (sym back) each)
+    let back : entries_of l ≡ es = (λ i. read_entries l.texts.now l.postings.now (n i) (e i))
+    ∙ entries_back (version_told bytes) l.texts.now l.postings.now 0 0 es d.each (ahead_of bytes l f es d) in
+    let each = subst (λ (m : ℕ). AllByRecursion (λ x. IsList m x.postings) es)
+    (count_records l.message_count l.records.now)
+    (lists_of_keys (version_told bytes) (length (table_of l).messages) ks h.each) in
+    are_lists l.message_count l.texts.now l.postings.now l.key_count l.directory.now
+    (subst (AllByRecursion (λ x. IsList l.message_count x.postings)) (sym back) each)
 
 -- ---- the whole
 
 then_rest : (i j : ℕ) (xs ys : List ℕ) → slice_range xs i j ≡ ys → i ≤ j → ys ++ drop j xs ≡ drop i xs
 then_rest i j xs ys e l =
     let k : i + (j - i) ≡ j = omega (arith, l) in
-    ap (λ (y : List ℕ). y ++ drop j xs) (sym e) ∙ ap (λ (y : List ℕ). take (j - i) (drop i xs) ++ y) (ap (λ (n : ℕ). drop n xs) (sym k) ∙ sym (drop-drop (j - i) i xs)) ∙ take-append-drop (j - i) (drop i xs)
+    ap (λ (y : List ℕ). y ++ drop j xs) (sym e)
+    ∙ ap (λ (y : List ℕ). take (j - i) (drop i xs) ++ y)
+    (ap (λ (n : ℕ). drop n xs) (sym k) ∙ sym (drop-drop (j - i) i xs)) ∙ take-append-drop (j - i) (drop i xs)
 
-counts_front : (bytes : List ℕ) (l : Layout) → IsLaidOut bytes l → HasPostings bytes (table_of l).archives (table_of l).messages (table_of l).keys → concat (counts (table_of l)) ++ drop 48 bytes ≡ bytes
+counts_front : (bytes : List ℕ) (l : Layout) → IsLaidOut bytes l
+    → HasPostings bytes (table_of l).archives (table_of l).messages (table_of l).keys
+    → concat (counts (table_of l)) ++ drop 48 bytes ≡ bytes
 counts_front bytes l f h =
     let t = table_of l in
     let b = f.are_bytes in
     let long : 80 ≤ length bytes = f.counts.0.long in
-    let archives : length t.archives ≡ u32_at bytes 12 = read_count (version_number l.version) l.archive_count l.archives.now ∙ f.layout.archive_count in
-    let messages : length t.messages ≡ u32_at bytes 16 = count_records l.message_count l.records.now ∙ f.layout.message_count in
-    let keys : length t.keys ≡ u32_at bytes 20 = length-map (entries_of l) key_of ∙ count_entries l.texts.now l.postings.now l.key_count l.directory.now ∙ f.layout.key_count in
-    let size₁ : length (archive_section t) ≡ u64_at bytes 24 = omega (arith, ap length h.before.before.before.spelled, section_length 48 (records_start bytes) bytes (omega arith) (omega (arith, f.layout.adds_up))) in
-    let size₂ : length (texts_of (entries t)) ≡ u64_at bytes 32 = omega (arith, ap length h.before.texts, section_length (texts_start bytes) (postings_start bytes) bytes (omega arith) (omega (arith, f.layout.adds_up))) in
-    let size₃ : length (postings_of (entries t)) ≡ u64_at bytes 40 = omega (arith, ap length h.before.postings, section_length (postings_start bytes) (digest_start bytes) bytes (omega arith) (omega (arith, f.layout.adds_up))) in
-    let c₇ : be64 (length (postings_of (entries t))) ++ drop 48 bytes ≡ drop 40 bytes = ap (λ (n : ℕ). be64 n ++ drop 48 bytes) size₃ ∙ u64_back bytes 40 48 b (omega (arith, long)) refl in
-    let c₆ : be64 (length (texts_of (entries t))) ++ drop 40 bytes ≡ drop 32 bytes = ap (λ (n : ℕ). be64 n ++ drop 40 bytes) size₂ ∙ u64_back bytes 32 40 b (omega (arith, long)) refl in
-    let c₅ : be64 (length (archive_section t)) ++ drop 32 bytes ≡ drop 24 bytes = ap (λ (n : ℕ). be64 n ++ drop 32 bytes) size₁ ∙ u64_back bytes 24 32 b (omega (arith, long)) refl in
-    let c₄ : be32 (length t.keys) ++ drop 24 bytes ≡ drop 20 bytes = ap (λ (n : ℕ). be32 n ++ drop 24 bytes) keys ∙ u32_back bytes 20 24 b (omega (arith, long)) refl in
-    let c₃ : be32 (length t.messages) ++ drop 20 bytes ≡ drop 16 bytes = ap (λ (n : ℕ). be32 n ++ drop 20 bytes) messages ∙ u32_back bytes 16 20 b (omega (arith, long)) refl in
-    let c₂ : be32 (length t.archives) ++ drop 16 bytes ≡ drop 12 bytes = ap (λ (n : ℕ). be32 n ++ drop 16 bytes) archives ∙ u32_back bytes 12 16 b (omega (arith, long)) refl in
-    let c₁ : be32 t.version ++ drop 12 bytes ≡ drop 8 bytes = ap (λ (n : ℕ). be32 n ++ drop 12 bytes) f.layout.version ∙ u32_back bytes 8 12 b (omega (arith, long)) refl in
-    let c₀ : magic ++ drop 8 bytes ≡ bytes = ap (λ (y : List ℕ). y ++ drop 8 bytes) (sym f.counts.0.marked) ∙ take-append-drop 8 bytes in
+    let archives : length t.archives ≡ u32_at bytes 12 =
+    read_count (version_number l.version) l.archive_count l.archives.now ∙ f.layout.archive_count in
+    let messages : length t.messages ≡ u32_at bytes 16 = count_records l.message_count l.records.now
+    ∙ f.layout.message_count in
+    let keys : length t.keys ≡ u32_at bytes 20 = length-map (entries_of l) key_of
+    ∙ count_entries l.texts.now l.postings.now l.key_count l.directory.now ∙ f.layout.key_count in
+    let size₁ : length (archive_section t) ≡ u64_at bytes 24 =
+    omega (
+      arith,
+      ap length h.before.before.before.spelled,
+      section_length 48 (records_start bytes) bytes (omega arith) (omega (arith, f.layout.adds_up)),
+    ) in
+    let size₂ : length (texts_of (entries t)) ≡ u64_at bytes 32 =
+    omega (
+      arith,
+      ap length h.before.texts,
+      section_length (texts_start bytes) (postings_start bytes) bytes (omega arith) (omega (arith, f.layout.adds_up)),
+    )
+    in
+    let size₃ : length (postings_of (entries t)) ≡ u64_at bytes 40 =
+    omega (
+      arith,
+      ap length h.before.postings,
+      section_length (postings_start bytes) (digest_start bytes) bytes (omega arith)
+          (omega (arith, f.layout.adds_up)),
+    ) in
+    let c₇ : be64 (length (postings_of (entries t))) ++ drop 48 bytes ≡ drop 40 bytes =
+    ap (λ (n : ℕ). be64 n ++ drop 48 bytes) size₃ ∙ u64_back bytes 40 48 b (omega (arith, long)) refl in
+    let c₆ : be64 (length (texts_of (entries t))) ++ drop 40 bytes ≡ drop 32 bytes =
+    ap (λ (n : ℕ). be64 n ++ drop 40 bytes) size₂ ∙ u64_back bytes 32 40 b (omega (arith, long)) refl in
+    let c₅ : be64 (length (archive_section t)) ++ drop 32 bytes ≡ drop 24 bytes =
+    ap (λ (n : ℕ). be64 n ++ drop 32 bytes) size₁ ∙ u64_back bytes 24 32 b (omega (arith, long)) refl in
+    let c₄ : be32 (length t.keys) ++ drop 24 bytes ≡ drop 20 bytes = ap (λ (n : ℕ). be32 n ++ drop 24 bytes) keys
+    ∙ u32_back bytes 20 24 b (omega (arith, long)) refl in
+    let c₃ : be32 (length t.messages) ++ drop 20 bytes ≡ drop 16 bytes =
+    ap (λ (n : ℕ). be32 n ++ drop 20 bytes) messages ∙ u32_back bytes 16 20 b (omega (arith, long)) refl in
+    let c₂ : be32 (length t.archives) ++ drop 16 bytes ≡ drop 12 bytes =
+    ap (λ (n : ℕ). be32 n ++ drop 16 bytes) archives ∙ u32_back bytes 12 16 b (omega (arith, long)) refl in
+    let c₁ : be32 t.version ++ drop 12 bytes ≡ drop 8 bytes = ap (λ (n : ℕ). be32 n ++ drop 12 bytes) f.layout.version
+    ∙ u32_back bytes 8 12 b (omega (arith, long)) refl in
+    let c₀ : magic ++ drop 8 bytes ≡ bytes = ap (λ (y : List ℕ). y ++ drop 8 bytes) (sym f.counts.0.marked)
+    ∙ take-append-drop 8 bytes in
     let na = be32 (length t.archives) in let nm = be32 (length t.messages) in let nk = be32 (length t.keys) in
     let la = be64 (length (archive_section t)) in let lt = be64 (length (texts_of (entries t))) in
     concat_then (counts t) (drop 48 bytes)
@@ -109,15 +184,25 @@ counts_front bytes l f h =
     ∙ ap (λ (y : List ℕ). before (magic ∷ []) y) c₁
     ∙ c₀
 
-body_front : (bytes : List ℕ) (l : Layout) → IsLaidOut bytes l → HasPostings bytes (table_of l).archives (table_of l).messages (table_of l).keys → body (table_of l) ++ drop (digest_start bytes) bytes ≡ bytes
+body_front : (bytes : List ℕ) (l : Layout) → IsLaidOut bytes l
+    → HasPostings bytes (table_of l).archives (table_of l).messages (table_of l).keys
+    → body (table_of l) ++ drop (digest_start bytes) bytes ≡ bytes
 body_front bytes l f h =
     let t = table_of l in
     let d = h.before in
-    let s₅ : postings_of (entries t) ++ drop (digest_start bytes) bytes ≡ drop (postings_start bytes) bytes = then_rest (postings_start bytes) (digest_start bytes) bytes (postings_of (entries t)) d.postings (omega arith) in
-    let s₄ : texts_of (entries t) ++ drop (postings_start bytes) bytes ≡ drop (texts_start bytes) bytes = then_rest (texts_start bytes) (postings_start bytes) bytes (texts_of (entries t)) d.texts (omega arith) in
-    let s₃ : directory_from 0 0 (entries t) ++ drop (texts_start bytes) bytes ≡ drop (directory_start bytes) bytes = then_rest (directory_start bytes) (texts_start bytes) bytes (directory_from 0 0 (entries t)) d.spelled (omega arith) in
-    let s₂ : flat_map record_bytes t.messages ++ drop (directory_start bytes) bytes ≡ drop (records_start bytes) bytes = then_rest (records_start bytes) (directory_start bytes) bytes (flat_map record_bytes t.messages) d.before.spelled (omega arith) in
-    let s₁ : archive_section t ++ drop (records_start bytes) bytes ≡ drop 48 bytes = then_rest 48 (records_start bytes) bytes (archive_section t) d.before.before.spelled (omega arith) in
+    let s₅ : postings_of (entries t) ++ drop (digest_start bytes) bytes ≡ drop (postings_start bytes) bytes =
+    then_rest (postings_start bytes) (digest_start bytes) bytes (postings_of (entries t)) d.postings (omega arith)
+    in
+    let s₄ : texts_of (entries t) ++ drop (postings_start bytes) bytes ≡ drop (texts_start bytes) bytes =
+    then_rest (texts_start bytes) (postings_start bytes) bytes (texts_of (entries t)) d.texts (omega arith) in
+    let s₃ : directory_from 0 0 (entries t) ++ drop (texts_start bytes) bytes ≡ drop (directory_start bytes) bytes =
+    then_rest (directory_start bytes) (texts_start bytes) bytes (directory_from 0 0 (entries t)) d.spelled
+    (omega arith) in
+    let s₂ : flat_map record_bytes t.messages ++ drop (directory_start bytes) bytes ≡ drop (records_start bytes) bytes =
+    then_rest (records_start bytes) (directory_start bytes) bytes (flat_map record_bytes t.messages)
+    d.before.spelled (omega arith) in
+    let s₁ : archive_section t ++ drop (records_start bytes) bytes ≡ drop 48 bytes =
+    then_rest 48 (records_start bytes) bytes (archive_section t) d.before.before.spelled (omega arith) in
     let head = concat (counts t) in
     let archives = archive_section t in
     let records = flat_map record_bytes t.messages in
@@ -130,21 +215,35 @@ body_front bytes l f h =
     ∙ ap (λ (y : List ℕ). before (head ∷ []) y) s₁
     ∙ counts_front bytes l f h
 
-signed_whole : (bytes b : List ℕ) (n : ℕ) → n + 32 ≡ length bytes → HasDigest bytes → b ++ drop n bytes ≡ bytes → bytes ≡ b ++ sha256 b
+signed_whole : (bytes b : List ℕ) (n : ℕ) → n + 32 ≡ length bytes → HasDigest bytes → b ++ drop n bytes ≡ bytes → bytes
+    ≡ b ++ sha256 b
 signed_whole bytes b n e s w =
     let same : length bytes - 32 ≡ n = omega (arith, e) in
-    let size : length b ≡ length (take n bytes) = omega (arith, ap length w, length-append b (drop n bytes), length-drop n bytes, length_part n bytes (omega (arith, e)), e) in
-    let front : b ≡ take n bytes = (split b (take n bytes) (drop n bytes) (drop n bytes) size (w ∙ sym (take-append-drop n bytes))).0 in
-    let digest : drop n bytes ≡ sha256 (take n bytes) = ap (λ (k : ℕ). drop k bytes) (sym same) ∙ s ∙ ap (λ (k : ℕ). sha256 (take k bytes)) same in
+    let size : length b ≡ length (take n bytes) =
+    omega (
+      arith,
+      ap length w,
+      length-append b (drop n bytes),
+      length-drop n bytes,
+      length_part n bytes (omega (arith, e)),
+      e,
+    ) in
+    let front : b ≡ take n bytes = (split b (take n bytes) (drop n bytes) (drop n bytes) size
+    (w ∙ sym (take-append-drop n bytes))).0 in
+    let digest : drop n bytes ≡ sha256 (take n bytes) = ap (λ (k : ℕ). drop k bytes) (sym same) ∙ s
+    ∙ ap (λ (k : ℕ). sha256 (take k bytes)) same in
     sym w ∙ ap (λ (y : List ℕ). b ++ y) (digest ∙ ap sha256 (sym front))
 
-pub is_file : (bytes : List ℕ) (l : Layout) → IsLaidOut bytes l → HasPostings bytes (table_of l).archives (table_of l).messages (table_of l).keys → IsFileOf bytes (table_of l)
+pub is_file : (bytes : List ℕ) (l : Layout) → IsLaidOut bytes l
+    → HasPostings bytes (table_of l).archives (table_of l).messages (table_of l).keys → IsFileOf bytes (table_of l)
 unfolding index_file
 is_file bytes l f h =
     let t = table_of l in
-    let archives : length t.archives ≡ l.archive_count = read_count (version_number l.version) l.archive_count l.archives.now in
+    let archives : length t.archives ≡ l.archive_count =
+    read_count (version_number l.version) l.archive_count l.archives.now in
     let messages : length t.messages ≡ l.message_count = count_records l.message_count l.records.now in
-    let keys : length t.keys ≡ l.key_count = length-map (entries_of l) key_of ∙ count_entries l.texts.now l.postings.now l.key_count l.directory.now in
+    let keys : length t.keys ≡ l.key_count = length-map (entries_of l) key_of
+    ∙ count_entries l.texts.now l.postings.now l.key_count l.directory.now in
     let told : version_told bytes ≡ t.version = sym f.layout.version in
     let w : IsWellFormed t = record {
       version = subst IsVersion told f.counts.0.known;
@@ -159,7 +258,8 @@ is_file bytes l f h =
     } in
     (w, signed_whole bytes (body t) (digest_start bytes) f.layout.adds_up f.counts.0.digest (body_front bytes l f h))
 
-pub checked : (bytes : List ℕ) (l : Layout) → IsLaidOut bytes l → HoldsRecords l → AreEntries (version_number l.version) l.texts.now (length l.postings.now) 0 0 0 [] l.key_count l.directory.now
+pub checked : (bytes : List ℕ) (l : Layout) → IsLaidOut bytes l → HoldsRecords l
+    → AreEntries (version_number l.version) l.texts.now (length l.postings.now) 0 0 0 [] l.key_count l.directory.now
     → AreLists l.message_count l.postings.now l.key_count l.directory.now → IsChecked l
 checked bytes l f r d p = record {
   archives = r.archives;

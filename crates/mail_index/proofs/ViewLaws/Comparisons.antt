@@ -1,5 +1,9 @@
 -- A search makes few comparisons, because each of them halves the keys; and without a match it makes many.
-use Rattle.mail_index.proofs.Words.{◌≡◌, ◌∙◌, ℕ, zero, suc, ◌+◌, ◌-◌, ◌/◌, ◌^◌, ◌<◌, ◌≤◌, List, [], ◌∷◌, length, take, drop, get_or, refl, ap, arith, length-drop, length-take-le, take-take, drop-drop, Ordering, Less, Equal, Greater, drop-take, drop_more, Kind, Key, lies_to, comparisons, comparisons_within, is_key, is_eq, sym, AllByRecursion, Bool, true, false, nat_lt, ordering_index, nat_tests, bisections_within}
+use Rattle.mail_index.proofs.Words.{◌≡◌, ◌∙◌, ℕ, zero, suc, ◌+◌, ◌-◌, ◌/◌, ◌^◌, ◌<◌, ◌≤◌, List, [], ◌∷◌, length, take}
+use Rattle.mail_index.proofs.Words.{drop, get_or, refl, ap, arith, length-drop, length-take-le, take-take, drop-drop}
+use Rattle.mail_index.proofs.Words.{Ordering, Less, Equal, Greater, drop-take, drop_more, Kind, Key, lies_to}
+use Rattle.mail_index.proofs.Words.{comparisons, comparisons_within, is_key, is_eq, sym, AllByRecursion, Bool, true}
+use Rattle.mail_index.proofs.Words.{false, nat_lt, ordering_index, nat_tests, bisections_within}
 use Rattle.mail_index.specs.Inside.KeyRuns.{keys_between}
 use Rattle.mail_index.proofs.ViewLaws.LookUpLemmas.{halves, half_digits, is_key-as}
 use Rattle.mail_index.proofs.Items.{all-at, all-take, all-drop}
@@ -13,7 +17,8 @@ left most kind text Less before behind = comparisons_within most kind text behin
 left most kind text Equal before behind = 0
 left most kind text Greater before behind = comparisons_within most kind text before
 
-comparisons-more : (most : ℕ) (kind : Kind) (text : List ℕ) (ks : List Key) (k : Key) (before behind : List Key) (o : Ordering)
+comparisons-more : (most : ℕ) (kind : Kind) (text : List ℕ) (ks : List Key) (k : Key) (before behind : List Key)
+    (o : Ordering)
     → drop (length ks / 2) ks ≡ k ∷ behind → take (length ks / 2) ks ≡ before → lies_to kind text k ≡ o
     → comparisons_within (suc most) kind text ks ≡ suc (left most kind text o before behind)
 comparisons-more most kind text ks k before behind o h h2 h3 = grind (arith, comparisons_within)
@@ -21,10 +26,12 @@ comparisons-more most kind text ks k before behind o h h2 h3 = grind (arith, com
 -- ---- there are few comparisons
 
 left-few : (most : ℕ) (kind : Kind) (text : List ℕ) (o : Ordering) (before behind : List Key) (few : ℕ)
-    → comparisons_within most kind text before ≤ few → comparisons_within most kind text behind ≤ few → left most kind text o before behind ≤ few
+    → comparisons_within most kind text before ≤ few → comparisons_within most kind text behind ≤ few
+    → left most kind text o before behind ≤ few
 left-few most kind text o before behind few h h2 = grind arith
 
-pub comparisons-few : (most : ℕ) (kind : Kind) (text : List ℕ) (ks : List Key) (digits : ℕ) → length ks < 2 ^ digits → comparisons_within most kind text ks ≤ digits
+pub comparisons-few : (most : ℕ) (kind : Kind) (text : List ℕ) (ks : List Key) (digits : ℕ) → length ks < 2 ^ digits
+    → comparisons_within most kind text ks ≤ digits
 comparisons-few zero kind text ks digits h = omega arith
 comparisons-few (suc most) kind text [] digits h = omega arith
 comparisons-few (suc most) kind text (k ∷ ks) digits h =
@@ -33,22 +40,29 @@ comparisons-few (suc most) kind text (k ∷ ks) digits h =
     let within : n < length keys = omega arith in
     let half = halves (length keys) digits (omega arith) h in
     let met : Key = get_or keys n k in
-    let counted = comparisons-more most kind text keys met (take n keys) (drop (n + 1) keys) (lies_to kind text met) (drop_more keys n k within) refl refl in
+    let counted = comparisons-more most kind text keys met (take n keys) (drop (n + 1) keys) (lies_to kind text met)
+    (drop_more keys n k within) refl refl in
     let few = left-few most kind text (lies_to kind text met) (take n keys) (drop (n + 1) keys) half.fewer
-    (comparisons-few most kind text (take n keys) half.fewer (omega (arith, half.lower, length-take-le n keys (omega (arith, within)))))
-    (comparisons-few most kind text (drop (n + 1) keys) half.fewer (omega (arith, half.upper, length-drop (n + 1) keys))) in
+    (comparisons-few most kind text (take n keys) half.fewer
+    (omega (arith, half.lower, length-take-le n keys (omega (arith, within)))))
+    (comparisons-few most kind text (drop (n + 1) keys) half.fewer
+    (omega (arith, half.upper, length-drop (n + 1) keys))) in
     omega (arith, counted, few, half.digits_are)
 
 -- ---- there are many if no key is the searched one
 
-left-many : (most : ℕ) (kind : Kind) (text : List ℕ) (o : Ordering) (before behind : List Key) (many : ℕ) → is_eq o ≡ false
-    → many ≤ comparisons_within most kind text before → many ≤ comparisons_within most kind text behind → many ≤ left most kind text o before behind
+left-many : (most : ℕ) (kind : Kind) (text : List ℕ) (o : Ordering) (before behind : List Key) (many : ℕ) → is_eq o
+    ≡ false
+    → many ≤ comparisons_within most kind text before → many ≤ comparisons_within most kind text behind
+    → many ≤ left most kind text o before behind
 left-many most kind text o before behind many other h h2 = grind arith
 
-pub comparisons-many : (most : ℕ) (kind : Kind) (text : List ℕ) (ks : List Key) (digits : ℕ) → length ks ≤ most → AllByRecursion (λ k. is_key kind text k ≡ false) ks
+pub comparisons-many : (most : ℕ) (kind : Kind) (text : List ℕ) (ks : List Key) (digits : ℕ) → length ks ≤ most
+    → AllByRecursion (λ k. is_key kind text k ≡ false) ks
     → 2 ^ digits ≤ suc (length ks) → digits ≤ comparisons_within most kind text ks
 comparisons-many most kind text ks zero enough none h = omega arith
-comparisons-many zero kind text ks (suc fewer) enough none h = absurd (omega (arith, enough, half_digits (length ks) fewer h))
+comparisons-many zero kind text ks (suc fewer) enough none h =
+    absurd (omega (arith, enough, half_digits (length ks) fewer h))
 comparisons-many (suc most) kind text [] (suc fewer) enough none h = absurd (omega (arith, half_digits 0 fewer h))
 comparisons-many (suc most) kind text (k ∷ ks) (suc fewer) enough none h =
     let keys : List Key = k ∷ ks in
@@ -56,12 +70,17 @@ comparisons-many (suc most) kind text (k ∷ ks) (suc fewer) enough none h =
     let within : n < length keys = omega arith in
     let half = half_digits (length keys) fewer h in
     let met : Key = get_or keys n k in
-    let counted = comparisons-more most kind text keys met (take n keys) (drop (n + 1) keys) (lies_to kind text met) (drop_more keys n k within) refl refl in
+    let counted = comparisons-more most kind text keys met (take n keys) (drop (n + 1) keys) (lies_to kind text met)
+    (drop_more keys n k within) refl refl in
     let other : is_key kind text met ≡ false = all-at (λ key. is_key kind text key ≡ false) keys n k none within in
-    let many = left-many most kind text (lies_to kind text met) (take n keys) (drop (n + 1) keys) fewer (sym (is_key-as kind text met (lies_to kind text met) refl) ∙ other)
-    (comparisons-many most kind text (take n keys) fewer (omega (arith, enough, length-take-le n keys (omega (arith, within)))) (all-take (λ key. is_key kind text key ≡ false) n keys none)
+    let many = left-many most kind text (lies_to kind text met) (take n keys) (drop (n + 1) keys) fewer
+    (sym (is_key-as kind text met (lies_to kind text met) refl) ∙ other)
+    (comparisons-many most kind text (take n keys) fewer
+    (omega (arith, enough, length-take-le n keys (omega (arith, within))))
+    (all-take (λ key. is_key kind text key ≡ false) n keys none)
     (omega (arith, half.1, length-take-le n keys (omega (arith, within)))))
-    (comparisons-many most kind text (drop (n + 1) keys) fewer (omega (arith, enough, length-drop (n + 1) keys)) (all-drop (λ key. is_key kind text key ≡ false) (n + 1) keys none)
+    (comparisons-many most kind text (drop (n + 1) keys) fewer (omega (arith, enough, length-drop (n + 1) keys))
+    (all-drop (λ key. is_key kind text key ≡ false) (n + 1) keys none)
     (omega (arith, half.2, length-drop (n + 1) keys))) in
     omega (arith, counted, many)
 
@@ -72,32 +91,39 @@ comparisons-some kind text (k ∷ ks) h =
     let n : ℕ = length keys / 2 in
     let within : n < length keys = omega arith in
     let met : Key = get_or keys n k in
-    let counted = comparisons-more (length ks) kind text keys met (take n keys) (drop (n + 1) keys) (lies_to kind text met) (drop_more keys n k within) refl refl in
+    let counted = comparisons-more (length ks) kind text keys met (take n keys) (drop (n + 1) keys)
+    (lies_to kind text met) (drop_more keys n k within) refl refl in
     omega (arith, counted)
 
 -- ---- keys from one number to another
 
 length-between : (low high : ℕ) (ks : List Key) → high ≤ length ks → length (keys_between low high ks) ≡ high - low
-length-between low high ks within = length-take-le (high - low) (drop low ks) (omega (arith, within, length-drop low ks))
+length-between low high ks within = length-take-le (high - low) (drop low ks)
+    (omega (arith, within, length-drop low ks))
 
 from_place : (low high n : ℕ) (ks : List Key) (d : Key) → low + n < high → high ≤ length ks
     → drop n (keys_between low high ks) ≡ get_or ks (low + n) d ∷ keys_between (low + n + 1) high ks
 from_place low high n ks d less within =
     let rest : high - low ≡ n + (high - (low + n)) = omega (arith, less) in
-    ap (λ (m : ℕ). drop n (take m (drop low ks))) rest ∙ drop-take n (high - (low + n)) (drop low ks) ∙ ap (take (high - (low + n))) (drop-drop n low ks)
+    ap (λ (m : ℕ). drop n (take m (drop low ks))) rest ∙ drop-take n (high - (low + n)) (drop low ks)
+    ∙ ap (take (high - (low + n))) (drop-drop n low ks)
     ∙ between-next (low + n) high ks d less within
 
-before_place : (low high n : ℕ) (ks : List Key) → low + n < high → take n (keys_between low high ks) ≡ keys_between low (low + n) ks
+before_place : (low high n : ℕ) (ks : List Key) → low + n < high → take n (keys_between low high ks)
+    ≡ keys_between low (low + n) ks
 before_place low high n ks less = grind (arith, take-take)
 
 -- how a search goes on after the key in the middle compared in this way
-pub record Compared (most : ℕ) (kind : Kind) (text : List ℕ) (ks : List Key) (low high : ℕ) (o : Ordering) : Type 0 where
-  pub fewer : ℕ
-  pub enough : high - low ≤ suc fewer
-  pub counted : comparisons_within most kind text (keys_between low high ks)
-      ≡ suc (left fewer kind text o (keys_between low (low + (high - low) / 2) ks) (keys_between (low + (high - low) / 2 + 1) high ks))
+pub record Compared (most : ℕ) (kind : Kind) (text : List ℕ) (ks : List Key) (low high : ℕ) (o : Ordering) : Type 0
+  where
+    pub fewer : ℕ
+    pub enough : high - low ≤ suc fewer
+    pub counted : comparisons_within most kind text (keys_between low high ks)
+        ≡ suc (left fewer kind text o (keys_between low (low + (high - low) / 2) ks)
+        (keys_between (low + (high - low) / 2 + 1) high ks))
 
-pub compared : (most : ℕ) (kind : Kind) (text : List ℕ) (ks : List Key) (low high : ℕ) (d : Key) (o : Ordering) → low < high → high ≤ length ks → high - low ≤ most
+pub compared : (most : ℕ) (kind : Kind) (text : List ℕ) (ks : List Key) (low high : ℕ) (d : Key) (o : Ordering)
+    → low < high → high ≤ length ks → high - low ≤ most
     → lies_to kind text (get_or ks (low + (high - low) / 2) d) ≡ o → Compared most kind text ks low high o
 compared zero kind text ks low high d o some within enough lies = absurd (omega (arith, some, enough))
 compared (suc most) kind text ks low high d o some within enough lies =
@@ -108,8 +134,10 @@ compared (suc most) kind text ks low high d o some within enough lies =
     record {
       fewer = most;
       enough = enough;
-      counted = comparisons-more most kind text row (get_or ks (low + n) d) (keys_between low (low + n) ks) (keys_between (low + n + 1) high ks) o
-          (ap (λ (k : ℕ). drop k row) half ∙ from_place low high n ks d inside within) (ap (λ (k : ℕ). take k row) half ∙ before_place low high n ks inside) lies;
+      counted = comparisons-more most kind text row (get_or ks (low + n) d) (keys_between low (low + n) ks)
+          (keys_between (low + n + 1) high ks) o
+          (ap (λ (k : ℕ). drop k row) half ∙ from_place low high n ks d inside within)
+          (ap (λ (k : ℕ). take k row) half ∙ before_place low high n ks inside) lies;
     }
 
 -- ---- where the keys that pass a test end
@@ -132,9 +160,11 @@ pub record Bisected (most : ℕ) (passes : Key → Bool) (ks : List Key) (low hi
   pub fewer : ℕ
   pub enough : high - low ≤ suc fewer
   pub counted : bisections_within most passes (keys_between low high ks)
-      ≡ suc (left_of fewer passes b (keys_between low (low + (high - low) / 2) ks) (keys_between (low + (high - low) / 2 + 1) high ks))
+      ≡ suc (left_of fewer passes b (keys_between low (low + (high - low) / 2) ks)
+      (keys_between (low + (high - low) / 2 + 1) high ks))
 
-pub bisected : (most : ℕ) (passes : Key → Bool) (ks : List Key) (low high : ℕ) (d : Key) (b : Bool) → low < high → high ≤ length ks → high - low ≤ most
+pub bisected : (most : ℕ) (passes : Key → Bool) (ks : List Key) (low high : ℕ) (d : Key) (b : Bool) → low < high
+    → high ≤ length ks → high - low ≤ most
     → passes (get_or ks (low + (high - low) / 2) d) ≡ b → Bisected most passes ks low high b
 bisected zero passes ks low high d b some within enough lies = absurd (omega (arith, some, enough))
 bisected (suc most) passes ks low high d b some within enough lies =
@@ -145,25 +175,32 @@ bisected (suc most) passes ks low high d b some within enough lies =
     record {
       fewer = most;
       enough = enough;
-      counted = bisections-more most passes row (get_or ks (low + n) d) (keys_between low (low + n) ks) (keys_between (low + n + 1) high ks) b
-          (ap (λ (k : ℕ). drop k row) half ∙ from_place low high n ks d inside within) (ap (λ (k : ℕ). take k row) half ∙ before_place low high n ks inside) lies;
+      counted = bisections-more most passes row (get_or ks (low + n) d) (keys_between low (low + n) ks)
+          (keys_between (low + n + 1) high ks) b
+          (ap (λ (k : ℕ). drop k row) half ∙ from_place low high n ks d inside within)
+          (ap (λ (k : ℕ). take k row) half ∙ before_place low high n ks inside) lies;
     }
 
-pub lies_so : (o p : Ordering) → ordering_index o < ordering_index p → nat_lt (ordering_index o) (ordering_index p) ≡ true
+pub lies_so : (o p : Ordering) → ordering_index o < ordering_index p → nat_lt (ordering_index o) (ordering_index p)
+    ≡ true
 lies_so o p h = grind (arith, nat_tests)
 
-pub lies_not : (o p : Ordering) → ordering_index p ≤ ordering_index o → nat_lt (ordering_index o) (ordering_index p) ≡ false
+pub lies_not : (o p : Ordering) → ordering_index p ≤ ordering_index o → nat_lt (ordering_index o) (ordering_index p)
+    ≡ false
 lies_not o p h = grind (arith, nat_tests)
 
 left_of-few : (most : ℕ) (passes : Key → Bool) (b : Bool) (before behind : List Key) (few : ℕ)
-    → bisections_within most passes before ≤ few → bisections_within most passes behind ≤ few → left_of most passes b before behind ≤ few
+    → bisections_within most passes before ≤ few → bisections_within most passes behind ≤ few
+    → left_of most passes b before behind ≤ few
 left_of-few most passes b before behind few h h2 = grind arith
 
 left_of-many : (most : ℕ) (passes : Key → Bool) (b : Bool) (before behind : List Key) (many : ℕ)
-    → many ≤ bisections_within most passes before → many ≤ bisections_within most passes behind → many ≤ left_of most passes b before behind
+    → many ≤ bisections_within most passes before → many ≤ bisections_within most passes behind
+    → many ≤ left_of most passes b before behind
 left_of-many most passes b before behind many h h2 = grind arith
 
-pub bisections-few : (most : ℕ) (passes : Key → Bool) (ks : List Key) (digits : ℕ) → length ks < 2 ^ digits → bisections_within most passes ks ≤ digits
+pub bisections-few : (most : ℕ) (passes : Key → Bool) (ks : List Key) (digits : ℕ) → length ks < 2 ^ digits
+    → bisections_within most passes ks ≤ digits
 bisections-few zero passes ks digits h = omega arith
 bisections-few (suc most) passes [] digits h = omega arith
 bisections-few (suc most) passes (k ∷ ks) digits h =
@@ -172,13 +209,16 @@ bisections-few (suc most) passes (k ∷ ks) digits h =
     let within : n < length keys = omega arith in
     let half = halves (length keys) digits (omega arith) h in
     let met : Key = get_or keys n k in
-    let counted = bisections-more most passes keys met (take n keys) (drop (n + 1) keys) (passes met) (drop_more keys n k within) refl refl in
+    let counted = bisections-more most passes keys met (take n keys) (drop (n + 1) keys) (passes met)
+    (drop_more keys n k within) refl refl in
     let few = left_of-few most passes (passes met) (take n keys) (drop (n + 1) keys) half.fewer
-    (bisections-few most passes (take n keys) half.fewer (omega (arith, half.lower, length-take-le n keys (omega (arith, within)))))
+    (bisections-few most passes (take n keys) half.fewer
+    (omega (arith, half.lower, length-take-le n keys (omega (arith, within)))))
     (bisections-few most passes (drop (n + 1) keys) half.fewer (omega (arith, half.upper, length-drop (n + 1) keys))) in
     omega (arith, counted, few, half.digits_are)
 
-pub bisections-many : (most : ℕ) (passes : Key → Bool) (ks : List Key) (digits : ℕ) → length ks ≤ most → 2 ^ digits ≤ suc (length ks) → digits ≤ bisections_within most passes ks
+pub bisections-many : (most : ℕ) (passes : Key → Bool) (ks : List Key) (digits : ℕ) → length ks ≤ most
+    → 2 ^ digits ≤ suc (length ks) → digits ≤ bisections_within most passes ks
 bisections-many most passes ks zero enough h = omega arith
 bisections-many zero passes ks (suc fewer) enough h = absurd (omega (arith, enough, half_digits (length ks) fewer h))
 bisections-many (suc most) passes [] (suc fewer) enough h = absurd (omega (arith, half_digits 0 fewer h))
@@ -188,8 +228,12 @@ bisections-many (suc most) passes (k ∷ ks) (suc fewer) enough h =
     let within : n < length keys = omega arith in
     let half = half_digits (length keys) fewer h in
     let met : Key = get_or keys n k in
-    let counted = bisections-more most passes keys met (take n keys) (drop (n + 1) keys) (passes met) (drop_more keys n k within) refl refl in
+    let counted = bisections-more most passes keys met (take n keys) (drop (n + 1) keys) (passes met)
+    (drop_more keys n k within) refl refl in
     let many = left_of-many most passes (passes met) (take n keys) (drop (n + 1) keys) fewer
-    (bisections-many most passes (take n keys) fewer (omega (arith, enough, length-take-le n keys (omega (arith, within)))) (omega (arith, half.1, length-take-le n keys (omega (arith, within)))))
-    (bisections-many most passes (drop (n + 1) keys) fewer (omega (arith, enough, length-drop (n + 1) keys)) (omega (arith, half.2, length-drop (n + 1) keys))) in
+    (bisections-many most passes (take n keys) fewer
+    (omega (arith, enough, length-take-le n keys (omega (arith, within))))
+    (omega (arith, half.1, length-take-le n keys (omega (arith, within)))))
+    (bisections-many most passes (drop (n + 1) keys) fewer (omega (arith, enough, length-drop (n + 1) keys))
+    (omega (arith, half.2, length-drop (n + 1) keys))) in
     omega (arith, counted, many)

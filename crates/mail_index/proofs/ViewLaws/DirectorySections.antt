@@ -1,15 +1,25 @@
 -- The walk over a directory accepts exactly the directories of tables: what it reads has the section's bytes, entry by
 -- entry.
-use Rattle.mail_index.proofs.Words.{◌≡◌, ℕ, zero, suc, ◌+◌, ◌-◌, ◌*◌, ◌^◌, ◌<◌, ◌≤◌, Bool, true, false, cond, ◌&&◌, List, [], ◌∷◌, ◌++◌, length, take, drop, refl, sym, ap, subst, ◌∙◌, arith, length-drop, length-append, nat_eq, Less, AllByRecursion, transport, take-append_seam, drop-append_seam, take-append-drop, drop-drop, nat_tests, from_be_bytes-to_be_bytes_4, from_be_bytes-to_be_bytes_8, kind_number, kind_of_number, is_kind_number, last_kind, byte_at, u32_at, u64_at, zeros, be32, be64, Entry, entry_bytes, directory_from, texts_of, postings_of, AllNext, IsEntry, EntryBefore, key_cmp, is_entry, end_before, text_at, read_entry, read_entries, IsEntryAt, AreEntries}
+use Rattle.mail_index.proofs.Words.{◌≡◌, ℕ, zero, suc, ◌+◌, ◌-◌, ◌*◌, ◌^◌, ◌<◌, ◌≤◌, Bool, true, false, cond, ◌&&◌}
+use Rattle.mail_index.proofs.Words.{List, [], ◌∷◌, ◌++◌, length, take, drop, refl, sym, ap, subst, ◌∙◌, arith}
+use Rattle.mail_index.proofs.Words.{length-drop, length-append, nat_eq, Less, AllByRecursion, transport}
+use Rattle.mail_index.proofs.Words.{take-append_seam, drop-append_seam, take-append-drop, drop-drop, nat_tests}
+use Rattle.mail_index.proofs.Words.{from_be_bytes-to_be_bytes_4, from_be_bytes-to_be_bytes_8, kind_number}
+use Rattle.mail_index.proofs.Words.{kind_of_number, is_kind_number, last_kind, byte_at, u32_at, u64_at, zeros, be32}
+use Rattle.mail_index.proofs.Words.{be64, Entry, entry_bytes, directory_from, texts_of, postings_of, AllNext, IsEntry}
+use Rattle.mail_index.proofs.Words.{EntryBefore, key_cmp, is_entry, end_before, text_at, read_entry, read_entries}
+use Rattle.mail_index.proofs.Words.{IsEntryAt, AreEntries}
 use Rattle.mail_index.proofs.Items.{empty_list}
 use Rattle.mail_index.proofs.FileLaws.Fronts.{before, concat_then}
-use Rattle.mail_index.proofs.FileLaws.Bytes.{AreBytes, bytes_behind, bytes_before, u32_back, u64_back, byte_back, both, length_part}
+use Rattle.mail_index.proofs.FileLaws.Bytes.{AreBytes, bytes_behind, bytes_before, u32_back, u64_back, byte_back, both}
+use Rattle.mail_index.proofs.FileLaws.Bytes.{length_part}
 use Rattle.mail_index.proofs.ViewLaws.KindNumbers.{kind_of-number, kind_passes, kind_kept, few_kinds, first_less}
 
 -- each entry comes after the one before it, and the first entry comes after this key
 abbrev pub AreAfter : ℕ → List ℕ → List Entry → Type 0
 AreAfter number text [] = Unit {0}
-AreAfter number text (e ∷ es) = (key_cmp number text (kind_number e.kind) e.text ≡ Less) × AreAfter (kind_number e.kind) e.text es
+AreAfter number text (e ∷ es) = (key_cmp number text (kind_number e.kind) e.text ≡ Less)
+    × AreAfter (kind_number e.kind) e.text es
 
 pub sorted : (number : ℕ) (text : List ℕ) (es : List Entry) → AreAfter number text es → AllNext EntryBefore es
 sorted number text [] h = tt
@@ -26,7 +36,8 @@ are_after (e ∷ es) h = (first_less [] e.kind e.text, after_first e es h)
 
 -- ---- what the walk finds
 
-pub record ShowsEntries (version : ℕ) (texts postings : List ℕ) (tp pp number : ℕ) (text : List ℕ) (n : ℕ) (d : List ℕ) : Type 0 where
+pub record ShowsEntries (version : ℕ) (texts postings : List ℕ) (tp pp number : ℕ) (text : List ℕ) (n : ℕ) (d : List ℕ)
+    : Type 0 where
   pub spelled : d ≡ directory_from tp pp (read_entries texts postings n d)
   pub texts_spelled : drop tp texts ≡ texts_of (read_entries texts postings n d)
   pub postings_spelled : drop pp postings ≡ postings_of (read_entries texts postings n d)
@@ -38,21 +49,26 @@ u32_small d i h =
     let t = bytes_before 4 (drop i d) (bytes_behind i d h) in
     omega (arith, t.below 0, t.below 1, t.below 2, t.below 3)
 
-entry_kept : (version : ℕ) (d : List ℕ) (tp pp : ℕ) (e : Entry) → AreBytes d → 24 ≤ length d → is_entry version d ≡ true → e.kind ≡ kind_of_number (byte_at d 0) → length e.text ≡ u32_at d 4
+entry_kept : (version : ℕ) (d : List ℕ) (tp pp : ℕ) (e : Entry) → AreBytes d → 24 ≤ length d → is_entry version d ≡ true
+    → e.kind ≡ kind_of_number (byte_at d 0) → length e.text ≡ u32_at d 4
     → tp ≡ u64_at d 8 → pp ≡ u64_at d 16 → entry_bytes tp pp e ++ drop 24 d ≡ d
 unfolding is_entry
 entry_kept version d tp pp e h l t ek et etp epp =
     let k = byte_at d 0 in
-    let t₃ = both (is_kind_number (last_kind version) k && nat_eq (byte_at d 1) 0 && nat_eq (byte_at d 2) 0) (nat_eq (byte_at d 3) 0) t in
+    let t₃ = both (is_kind_number (last_kind version) k && nat_eq (byte_at d 1) 0 && nat_eq (byte_at d 2) 0)
+    (nat_eq (byte_at d 3) 0) t in
     let t₂ = both (is_kind_number (last_kind version) k && nat_eq (byte_at d 1) 0) (nat_eq (byte_at d 2) 0) t₃.0 in
     let t₁ = both (is_kind_number (last_kind version) k) (nat_eq (byte_at d 1) 0) t₂.0 in
     let kind : kind_number e.kind ≡ k = ap kind_number ek ∙ kind_kept (last_kind version) k (few_kinds version) t₁.0 in
     let zero₁ : byte_at d 1 ≡ 0 = grind (arith, nat_tests, t₁.1) in
     let zero₂ : byte_at d 2 ≡ 0 = grind (arith, nat_tests, t₂.1) in
     let zero₃ : byte_at d 3 ≡ 0 = grind (arith, nat_tests, t₃.1) in
-    let s₃ : be64 pp ++ drop 24 d ≡ drop 16 d = ap (λ (n : ℕ). be64 n ++ drop 24 d) epp ∙ u64_back d 16 24 h (omega (arith, l)) refl in
-    let s₂ : be64 tp ++ drop 16 d ≡ drop 8 d = ap (λ (n : ℕ). be64 n ++ drop 16 d) etp ∙ u64_back d 8 16 h (omega (arith, l)) refl in
-    let s₁ : be32 (length e.text) ++ drop 8 d ≡ drop 4 d = ap (λ (n : ℕ). be32 n ++ drop 8 d) et ∙ u32_back d 4 8 h (omega (arith, l)) refl in
+    let s₃ : be64 pp ++ drop 24 d ≡ drop 16 d = ap (λ (n : ℕ). be64 n ++ drop 24 d) epp
+    ∙ u64_back d 16 24 h (omega (arith, l)) refl in
+    let s₂ : be64 tp ++ drop 16 d ≡ drop 8 d = ap (λ (n : ℕ). be64 n ++ drop 16 d) etp
+    ∙ u64_back d 8 16 h (omega (arith, l)) refl in
+    let s₁ : be32 (length e.text) ++ drop 8 d ≡ drop 4 d = ap (λ (n : ℕ). be32 n ++ drop 8 d) et
+    ∙ u32_back d 4 8 h (omega (arith, l)) refl in
     let b₃ : byte_at d 3 ∷ drop 4 d ≡ drop 3 d = byte_back d 3 4 (omega (arith, l)) refl in
     let b₂ : byte_at d 2 ∷ drop 3 d ≡ drop 2 d = byte_back d 2 3 (omega (arith, l)) refl in
     let b₁ : byte_at d 1 ∷ drop 2 d ≡ drop 1 d = byte_back d 1 2 (omega (arith, l)) refl in
@@ -65,25 +81,37 @@ entry_kept version d tp pp e h l t ek et etp epp =
     ∙ s₀
 
 part_then : (a b c : ℕ) (xs : List ℕ) → a + b ≡ c → take b (drop a xs) ++ drop c xs ≡ drop a xs
-part_then a b c xs e = ap (λ (k : List ℕ). take b (drop a xs) ++ k) (ap (λ (n : ℕ). drop n xs) (sym e) ∙ sym (drop-drop b a xs)) ∙ take-append-drop b (drop a xs)
+part_then a b c xs e = ap (λ (k : List ℕ). take b (drop a xs) ++ k)
+    (ap (λ (n : ℕ). drop n xs) (sym e) ∙ sym (drop-drop b a xs)) ∙ take-append-drop b (drop a xs)
 
 past_all : (n : ℕ) (xs : List ℕ) → n ≡ length xs → drop n xs ≡ []
 past_all n xs e = empty_list (drop n xs) (omega (arith, e, length-drop n xs))
 
-pub entry_kind : (version : ℕ) (d : List ℕ) → is_entry version d ≡ true → is_kind_number (last_kind version) (byte_at d 0) ≡ true
+pub entry_kind : (version : ℕ) (d : List ℕ) → is_entry version d ≡ true
+    → is_kind_number (last_kind version) (byte_at d 0) ≡ true
 unfolding is_entry
 entry_kind version d t =
     let k = byte_at d 0 in
-    let t₃ = both (is_kind_number (last_kind version) k && nat_eq (byte_at d 1) 0 && nat_eq (byte_at d 2) 0) (nat_eq (byte_at d 3) 0) t in
+    let t₃ = both (is_kind_number (last_kind version) k && nat_eq (byte_at d 1) 0 && nat_eq (byte_at d 2) 0)
+    (nat_eq (byte_at d 3) 0) t in
     let t₂ = both (is_kind_number (last_kind version) k && nat_eq (byte_at d 1) 0) (nat_eq (byte_at d 2) 0) t₃.0 in
     let t₁ = both (is_kind_number (last_kind version) k) (nat_eq (byte_at d 1) 0) t₂.0 in
     t₁.0
 
-pub shows_entries : (version : ℕ) (texts postings : List ℕ) (tp pp number : ℕ) (text : List ℕ) (n : ℕ) (d : List ℕ) → AreBytes d → length d ≡ 24 * n
-    → AreEntries version texts (length postings) tp pp number text n d → ShowsEntries version texts postings tp pp number text n d
+pub shows_entries : (version : ℕ) (texts postings : List ℕ) (tp pp number : ℕ) (text : List ℕ) (n : ℕ) (d : List ℕ)
+    → AreBytes d → length d ≡ 24 * n
+    → AreEntries version texts (length postings) tp pp number text n d
+    → ShowsEntries version texts postings tp pp number text n d
 unfolding read_entry
 shows_entries version texts postings tp pp number text zero d b l h =
-    record { spelled = empty_list d (omega (arith, l)); texts_spelled = past_all tp texts h.0; postings_spelled = past_all pp postings h.1; each = tt; after = tt }
+    record {
+      spelled = empty_list d (omega (arith, l));
+      texts_spelled = past_all tp texts h.0;
+      postings_spelled =
+          past_all pp postings h.1;
+      each = tt;
+      after = tt;
+    }
 shows_entries version texts postings tp pp number text (suc n) d b l h =
     let x = h.0 in
     let e = read_entry texts postings d in
@@ -91,34 +119,63 @@ shows_entries version texts postings tp pp number text (suc n) d b l h =
     let size = u32_at d 4 in
     let end = end_before (drop 24 d) (length postings) in
     let long : 24 ≤ length d = omega (arith, l) in
-    let size_text : length e.text ≡ size = length_part size (drop (u64_at d 8) texts) (omega (arith, x.within, x.text_begins, length-drop (u64_at d 8) texts)) in
+    let size_text : length e.text ≡ size =
+    length_part size (drop (u64_at d 8) texts)
+    (omega (arith, x.within, x.text_begins, length-drop (u64_at d 8) texts)) in
     let size_postings : length e.postings ≡ end - pp =
-    length_part (end - u64_at d 16) (drop (u64_at d 16) postings) (omega (arith, x.end, x.begins, length-drop (u64_at d 16) postings)) ∙ ap (λ (k : ℕ). end - k) x.begins in
-    let kind : kind_number e.kind ≡ byte_at d 0 = kind_kept (last_kind version) (byte_at d 0) (few_kinds version) (entry_kind version d x.spelled) in
-    let few_kind : kind_number e.kind ≤ last_kind version = let t = entry_kind version d x.spelled in grind (arith, nat_tests, t, kind) in
-    let front : entry_bytes tp pp e ++ drop 24 d ≡ d = entry_kept version d tp pp e b long x.spelled refl size_text (sym x.text_begins) (sym x.begins) in
-    let more = shows_entries version texts postings (tp + size) end (byte_at d 0) (text_at texts d) n (drop 24 d) (bytes_behind 24 d b) (omega (arith, l, length-drop 24 d)) h.1 in
+    length_part (end - u64_at d 16) (drop (u64_at d 16) postings)
+    (omega (arith, x.end, x.begins, length-drop (u64_at d 16) postings)) ∙ ap (λ (k : ℕ). end - k) x.begins in
+    let kind : kind_number e.kind ≡ byte_at d 0 =
+    kind_kept (last_kind version) (byte_at d 0) (few_kinds version) (entry_kind version d x.spelled) in
+    let few_kind : kind_number e.kind ≤ last_kind version = let t = entry_kind version d x.spelled
+    in grind (arith, nat_tests, t, kind) in
+    let front : entry_bytes tp pp e ++ drop 24 d ≡ d =
+    entry_kept version d tp pp e b long x.spelled refl size_text (sym x.text_begins) (sym x.begins) in
+    let more = shows_entries version texts postings (tp + size) end (byte_at d 0) (text_at texts d) n (drop 24 d)
+    (bytes_behind 24 d b) (omega (arith, l, length-drop 24 d)) h.1 in
     let tp' : tp + size ≡ tp + length e.text = omega (arith, size_text) in
     let pp' : end ≡ pp + length e.postings = omega (arith, size_postings, x.some) in
     let its_text : take size (drop tp texts) ≡ e.text = ap (λ (k : ℕ). take size (drop k texts)) (sym x.text_begins) in
-    let its_postings : take (end - pp) (drop pp postings) ≡ e.postings = ap (λ (k : ℕ). take (end - k) (drop k postings)) (sym x.begins) in
+    let its_postings : take (end - pp) (drop pp postings) ≡ e.postings =
+    ap (λ (k : ℕ). take (end - k) (drop k postings)) (sym x.begins) in
     record {
-      spelled = sym front ∙ ap (λ (y : List ℕ). entry_bytes tp pp e ++ y) (more.spelled ∙ ap (λ (k : ℕ). directory_from k end es) tp' ∙ ap (λ (k : ℕ). directory_from (tp + length e.text) k es) pp');
-      texts_spelled = sym (part_then tp size (tp + size) texts refl) ∙ ap (λ (y : List ℕ). y ++ drop (tp + size) texts) its_text ∙ ap (λ (y : List ℕ). e.text ++ y) more.texts_spelled;
-      postings_spelled = sym (part_then pp (end - pp) end postings (omega (arith, x.some))) ∙ ap (λ (y : List ℕ). y ++ drop end postings) its_postings ∙ ap (λ (y : List ℕ). e.postings ++ y) more.postings_spelled;
-      each = ((few_kind, omega (arith, size_text, x.some_text), omega (arith, size_text, u32_small d 4 b), omega (arith, size_postings, x.some)), more.each);
-      after = (ap (λ (k : ℕ). key_cmp number text k (text_at texts d)) kind ∙ x.after, subst (λ (k : ℕ). AreAfter k (text_at texts d) es) (sym kind) more.after);
+      spelled = sym front ∙ ap (λ (y : List ℕ). entry_bytes tp pp e ++ y)
+          (more.spelled ∙ ap (λ (k : ℕ). directory_from k end es) tp'
+          ∙ ap (λ (k : ℕ). directory_from (tp + length e.text) k es) pp');
+      texts_spelled = sym (part_then tp size (tp + size) texts refl)
+          ∙ ap (λ (y : List ℕ). y ++ drop (tp + size) texts) its_text
+          ∙ ap (λ (y : List ℕ). e.text ++ y) more.texts_spelled;
+      postings_spelled = sym (part_then pp (end - pp) end postings (omega (arith, x.some)))
+          ∙ ap (λ (y : List ℕ). y ++ drop end postings) its_postings
+          ∙ ap (λ (y : List ℕ). e.postings ++ y) more.postings_spelled;
+      each = (
+        (
+          few_kind,
+          omega (arith, size_text, x.some_text),
+          omega (arith, size_text, u32_small d 4 b),
+          omega (arith, size_postings, x.some),
+        ),
+        more.each,
+      );
+      after = (
+        ap (λ (k : ℕ). key_cmp number text k (text_at texts d)) kind ∙ x.after,
+        subst (λ (k : ℕ). AreAfter k (text_at texts d) es) (sym kind) more.after,
+      );
     }
 
 -- ---- the walk accepts the directory of a table
 
 some_length : (x : ℕ) (xs : List ℕ) (total n : ℕ) → cond (nat_eq (length (x ∷ xs)) 0) total n ≡ n
-some_length x xs total n = let e : nat_eq (suc (length xs)) 0 ≡ false = grind (arith, nat_tests) in ap (λ (b : Bool). cond b total n) e
+some_length x xs total n = let e : nat_eq (suc (length xs)) 0 ≡ false = grind (arith, nat_tests)
+    in ap (λ (b : Bool). cond b total n) e
 
 -- where the postings of an entry end
-end_of : (tp pp total : ℕ) (es : List Entry) → pp < 2 ^ 64 → total ≡ pp + length (postings_of es) → end_before (directory_from tp pp es) total ≡ pp
+end_of : (tp pp total : ℕ) (es : List Entry) → pp < 2 ^ 64 → total ≡ pp + length (postings_of es)
+    → end_before (directory_from tp pp es) total ≡ pp
 end_of tp pp total [] l e = omega (arith, e)
-end_of tp pp total (f ∷ fs) l e = some_length (kind_number f.kind) (zeros ++ (be32 (length f.text) ++ (be64 tp ++ (be64 pp ++ []))) ++ directory_from (tp + length f.text) (pp + length f.postings) fs) total (u64_at (directory_from tp pp (f ∷ fs)) 16) ∙ from_be_bytes-to_be_bytes_8 pp l
+end_of tp pp total (f ∷ fs) l e = some_length (kind_number f.kind)
+    (zeros ++ (be32 (length f.text) ++ (be64 tp ++ (be64 pp ++ []))) ++ directory_from (tp + length f.text)
+    (pp + length f.postings) fs) total (u64_at (directory_from tp pp (f ∷ fs)) 16) ∙ from_be_bytes-to_be_bytes_8 pp l
 
 -- the rest of the texts and of the postings is that of these entries
 pub record IsAhead (texts postings : List ℕ) (tp pp : ℕ) (es : List Entry) : Type 0 where
@@ -129,7 +186,8 @@ pub record IsAhead (texts postings : List ℕ) (tp pp : ℕ) (es : List Entry) :
   pub few_texts : length texts < 2 ^ 64
   pub few_postings : length postings < 2 ^ 64
 
-pub record FrontOf (version : ℕ) (texts postings : List ℕ) (tp pp : ℕ) (e : Entry) (es : List Entry) (d : List ℕ) : Type 0 where
+pub record FrontOf (version : ℕ) (texts postings : List ℕ) (tp pp : ℕ) (e : Entry) (es : List Entry) (d : List ℕ) : Type
+    0 where
   pub passes : is_entry version d ≡ true
   pub size : u32_at d 4 ≡ length e.text
   pub text_begins : u64_at d 8 ≡ tp
@@ -144,29 +202,46 @@ pub record FrontOf (version : ℕ) (texts postings : List ℕ) (tp pp : ℕ) (e 
 few_tests : (k : Bool) → k ≡ true → (((k && true) && true) && true) ≡ true
 few_tests k e = rw e refl
 
-front_entry : (version : ℕ) (texts postings : List ℕ) (tp pp : ℕ) (e : Entry) (es : List Entry) → IsEntry version e → IsAhead texts postings tp pp (e ∷ es) → FrontOf version texts postings tp pp e es (directory_from tp pp (e ∷ es))
+front_entry : (version : ℕ) (texts postings : List ℕ) (tp pp : ℕ) (e : Entry) (es : List Entry) → IsEntry version e
+    → IsAhead texts postings tp pp (e ∷ es) → FrontOf version texts postings tp pp e es (directory_from tp pp (e ∷ es))
 unfolding is_entry
 front_entry version texts postings tp pp e es h a =
     let d = directory_from tp pp (e ∷ es) in
-    let n₁ : length texts - tp ≡ length e.text + length (texts_of es) = sym (length-drop tp texts) ∙ ap length a.texts_spelled ∙ length-append e.text (texts_of es) in
-    let n₂ : length postings - pp ≡ length e.postings + length (postings_of es) = sym (length-drop pp postings) ∙ ap length a.postings_spelled ∙ length-append e.postings (postings_of es) in
+    let n₁ : length texts - tp ≡ length e.text + length (texts_of es) = sym (length-drop tp texts)
+    ∙ ap length a.texts_spelled ∙ length-append e.text (texts_of es) in
+    let n₂ : length postings - pp ≡ length e.postings + length (postings_of es) = sym (length-drop pp postings)
+    ∙ ap length a.postings_spelled ∙ length-append e.postings (postings_of es) in
     let size : u32_at d 4 ≡ length e.text = from_be_bytes-to_be_bytes_4 (length e.text) h.2 in
     let text_begins : u64_at d 8 ≡ tp = from_be_bytes-to_be_bytes_8 tp (omega (arith, a.text_bound, a.few_texts)) in
     let begins : u64_at d 16 ≡ pp = from_be_bytes-to_be_bytes_8 pp (omega (arith, a.bound, a.few_postings)) in
     let end : end_before (drop 24 d) (length postings) ≡ pp + length e.postings =
-    end_of (tp + length e.text) (pp + length e.postings) (length postings) es (omega (arith, n₂, a.bound, a.few_postings)) (omega (arith, n₂, a.bound)) in
-    let width : end_before (drop 24 d) (length postings) - u64_at d 16 ≡ length e.postings = omega (arith, end, begins) in
-    let text : text_at texts d ≡ e.text = ap (λ (k : ℕ). take k (drop (u64_at d 8) texts)) size ∙ ap (λ (k : ℕ). take (length e.text) (drop k texts)) text_begins
+    end_of (tp + length e.text) (pp + length e.postings) (length postings) es
+    (omega (arith, n₂, a.bound, a.few_postings)) (omega (arith, n₂, a.bound)) in
+    let width : end_before (drop 24 d) (length postings) - u64_at d 16 ≡ length e.postings = omega (arith, end, begins)
+    in
+    let text : text_at texts d ≡ e.text = ap (λ (k : ℕ). take k (drop (u64_at d 8) texts)) size
+    ∙ ap (λ (k : ℕ). take (length e.text) (drop k texts)) text_begins
     ∙ ap (take (length e.text)) a.texts_spelled ∙ take-append_seam e.text (texts_of es) in
     let its : take (end_before (drop 24 d) (length postings) - u64_at d 16) (drop (u64_at d 16) postings) ≡ e.postings =
-    ap (λ (k : ℕ). take k (drop (u64_at d 16) postings)) width ∙ ap (λ (k : ℕ). take (length e.postings) (drop k postings)) begins
+    ap (λ (k : ℕ). take k (drop (u64_at d 16) postings)) width
+    ∙ ap (λ (k : ℕ). take (length e.postings) (drop k postings)) begins
     ∙ ap (take (length e.postings)) a.postings_spelled ∙ take-append_seam e.postings (postings_of es) in
-    let t₂ : drop (tp + length e.text) texts ≡ texts_of es = sym (drop-drop (length e.text) tp texts) ∙ ap (drop (length e.text)) a.texts_spelled ∙ drop-append_seam e.text (texts_of es) in
-    let p₂ : drop (pp + length e.postings) postings ≡ postings_of es = sym (drop-drop (length e.postings) pp postings) ∙ ap (drop (length e.postings)) a.postings_spelled ∙ drop-append_seam e.postings (postings_of es) in
+    let t₂ : drop (tp + length e.text) texts ≡ texts_of es = sym (drop-drop (length e.text) tp texts)
+    ∙ ap (drop (length e.text)) a.texts_spelled ∙ drop-append_seam e.text (texts_of es) in
+    let p₂ : drop (pp + length e.postings) postings ≡ postings_of es = sym (drop-drop (length e.postings) pp postings)
+    ∙ ap (drop (length e.postings)) a.postings_spelled ∙ drop-append_seam e.postings (postings_of es) in
     let ahead : IsAhead texts postings (tp + length e.text) (pp + length e.postings) es =
-    record { text_bound = omega (arith, n₁, a.text_bound); bound = omega (arith, n₂, a.bound); texts_spelled = t₂; postings_spelled = p₂; few_texts = a.few_texts; few_postings = a.few_postings } in
     record {
-      passes = few_tests (is_kind_number (last_kind version) (kind_number e.kind)) (kind_passes (last_kind version) e.kind h.0);
+      text_bound = omega (arith, n₁, a.text_bound);
+      bound = omega (arith, n₂, a.bound);
+      texts_spelled = t₂;
+      postings_spelled = p₂;
+      few_texts = a.few_texts;
+      few_postings = a.few_postings;
+    } in
+    record {
+      passes = few_tests (is_kind_number (last_kind version) (kind_number e.kind))
+          (kind_passes (last_kind version) e.kind h.0);
       size = size;
       text_begins = text_begins;
       begins = begins;
@@ -178,7 +253,8 @@ front_entry version texts postings tp pp e es h a =
       ahead = ahead;
     }
 
-entry_back : (version : ℕ) (texts postings : List ℕ) (tp pp : ℕ) (e : Entry) (es : List Entry) (d : List ℕ) → FrontOf version texts postings tp pp e es d → byte_at d 0 ≡ kind_number e.kind → read_entry texts postings d ≡ e
+entry_back : (version : ℕ) (texts postings : List ℕ) (tp pp : ℕ) (e : Entry) (es : List Entry) (d : List ℕ)
+    → FrontOf version texts postings tp pp e es d → byte_at d 0 ≡ kind_number e.kind → read_entry texts postings d ≡ e
 unfolding read_entry
 entry_back version texts postings tp pp e es d f k =
     let kind : kind_of_number (byte_at d 0) ≡ e.kind = ap kind_of_number k ∙ kind_of-number e.kind in
@@ -186,18 +262,25 @@ entry_back version texts postings tp pp e es d f k =
     let its = f.its in
     λ i. record { kind = kind i; text = text i; postings = its i }
 
-pub entries_back : (version : ℕ) (texts postings : List ℕ) (tp pp : ℕ) (es : List Entry) → AllByRecursion (IsEntry version) es → IsAhead texts postings tp pp es → read_entries texts postings (length es) (directory_from tp pp es) ≡ es
+pub entries_back : (version : ℕ) (texts postings : List ℕ) (tp pp : ℕ) (es : List Entry)
+    → AllByRecursion (IsEntry version) es → IsAhead texts postings tp pp es
+    → read_entries texts postings (length es) (directory_from tp pp es) ≡ es
 entries_back version texts postings tp pp [] h a = refl
 entries_back version texts postings tp pp (e ∷ es) h a =
     let f = front_entry version texts postings tp pp e es h.0 a in
-    let head : read_entry texts postings (directory_from tp pp (e ∷ es)) ≡ e = entry_back version texts postings tp pp e es (directory_from tp pp (e ∷ es)) f refl in
-    let tail : read_entries texts postings (length es) (directory_from (tp + length e.text) (pp + length e.postings) es) ≡ es = entries_back version texts postings (tp + length e.text) (pp + length e.postings) es h.1 f.ahead in
+    let head : read_entry texts postings (directory_from tp pp (e ∷ es)) ≡ e =
+    entry_back version texts postings tp pp e es (directory_from tp pp (e ∷ es)) f refl in
+    let tail : read_entries texts postings (length es) (directory_from (tp + length e.text) (pp + length e.postings) es)
+    ≡ es = entries_back version texts postings (tp + length e.text) (pp + length e.postings) es h.1 f.ahead in
     λ i. head i ∷ tail i
 
-moved : (version : ℕ) (texts : List ℕ) (total a a' b b' c : ℕ) (t t' : List ℕ) (n : ℕ) (d : List ℕ) → a ≡ a' → b ≡ b' → t ≡ t' → AreEntries version texts total a b c t n d → AreEntries version texts total a' b' c t' n d
-moved version texts total a a' b b' c t t' n d p q r h = transport (λ i. AreEntries version texts total (p i) (q i) c (r i) n d) h
+moved : (version : ℕ) (texts : List ℕ) (total a a' b b' c : ℕ) (t t' : List ℕ) (n : ℕ) (d : List ℕ) → a ≡ a' → b ≡ b'
+    → t ≡ t' → AreEntries version texts total a b c t n d → AreEntries version texts total a' b' c t' n d
+moved version texts total a a' b b' c t t' n d p q r h =
+    transport (λ i. AreEntries version texts total (p i) (q i) c (r i) n d) h
 
-pub are_entries_of : (version : ℕ) (texts postings : List ℕ) (tp pp number : ℕ) (text : List ℕ) (es : List Entry) → AllByRecursion (IsEntry version) es → IsAhead texts postings tp pp es → AreAfter number text es
+pub are_entries_of : (version : ℕ) (texts postings : List ℕ) (tp pp number : ℕ) (text : List ℕ) (es : List Entry)
+    → AllByRecursion (IsEntry version) es → IsAhead texts postings tp pp es → AreAfter number text es
     → AreEntries version texts (length postings) tp pp number text (length es) (directory_from tp pp es)
 are_entries_of version texts postings tp pp number text [] h a s =
     let n₁ : length texts - tp ≡ 0 = sym (length-drop tp texts) ∙ ap length a.texts_spelled in
@@ -216,9 +299,12 @@ are_entries_of version texts postings tp pp number text (e ∷ es) h a s =
       end = omega (arith, f.end, f.room);
       after = ap (λ (y : List ℕ). key_cmp number text (kind_number e.kind) y) f.text ∙ s.0;
     } in
-    let more = are_entries_of version texts postings (tp + length e.text) (pp + length e.postings) (kind_number e.kind) e.text es h.1 f.ahead s.1 in
+    let more = are_entries_of version texts postings (tp + length e.text) (pp + length e.postings) (kind_number e.kind)
+    e.text es h.1 f.ahead s.1 in
     let same : tp + length e.text ≡ tp + u32_at d 4 = omega (arith, f.size) in (
       x,
-      moved version texts (length postings) (tp + length e.text) (tp + u32_at d 4) (pp + length e.postings) (end_before (drop 24 d) (length postings)) (kind_number e.kind) e.text (text_at texts d)
-          (length es) (directory_from (tp + length e.text) (pp + length e.postings) es) same (sym f.end) (sym f.text) more,
+      moved version texts (length postings) (tp + length e.text) (tp + u32_at d 4) (pp + length e.postings)
+          (end_before (drop 24 d) (length postings)) (kind_number e.kind) e.text (text_at texts d)
+          (length es) (directory_from (tp + length e.text) (pp + length e.postings) es) same (sym f.end) (sym f.text)
+          more,
     )

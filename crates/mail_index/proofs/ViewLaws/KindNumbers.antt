@@ -1,5 +1,7 @@
 -- A kind and its number determine each other, and the newest version has each kind.
-use Rattle.mail_index.proofs.Words.{◌≡◌, ℕ, ◌<◌, ◌≤◌, true, List, sym, ap, ◌∙◌, arith, Ordering, Less, Equal, nat_cmp, ordering_then, slice_cmp, nat_tests, Kind, kind_number, kind_of_number, is_kind_number, key_cmp, last_kind}
+use Rattle.mail_index.proofs.Words.{◌≡◌, ℕ, ◌<◌, ◌≤◌, true, List, sym, ap, ◌∙◌, arith, Ordering, Less, Equal, nat_cmp}
+use Rattle.mail_index.proofs.Words.{ordering_then, slice_cmp, nat_tests, Kind, kind_number, kind_of_number}
+use Rattle.mail_index.proofs.Words.{is_kind_number, key_cmp, last_kind}
 
 pub kind_of-number : (k : Kind) → kind_of_number (kind_number k) ≡ k
 kind_of-number k = grind arith
@@ -30,4 +32,5 @@ tied x y h = grind (arith, nat_tests)
 
 -- a key comes after kind 0
 pub first_less : (xs : List ℕ) (k : Kind) (ys : List ℕ) → key_cmp 0 xs (kind_number k) ys ≡ Less
-first_less xs k ys = ap (λ (o : Ordering). ordering_then o (slice_cmp nat_cmp xs ys)) (lower 0 (kind_number k) (kind_some k))
+first_less xs k ys = ap (λ (o : Ordering). ordering_then o (slice_cmp nat_cmp xs ys))
+    (lower 0 (kind_number k) (kind_some k))

@@ -1,21 +1,28 @@
 -- Each step of the walk over posting lists keeps the question the same: whether the rest of the directory has such
 -- lists.
-use Rattle.mail_index.proofs.Words.{◌≡◌, ◌↔◌, ℕ, suc, ◌+◌, ◌-◌, ◌<◌, Bool, true, false, List, length, take, drop, sym, subst, arith, u64_at, end_before, list_at, IsList, AreLists}
+use Rattle.mail_index.proofs.Words.{◌≡◌, ◌↔◌, ℕ, suc, ◌+◌, ◌-◌, ◌<◌, Bool, true, false, List, length, take, drop, sym}
+use Rattle.mail_index.proofs.Words.{subst, arith, u64_at, end_before, list_at, IsList, AreLists}
 
-lists_first : (messages : ℕ) (postings : List ℕ) (n i : ℕ) (d : List ℕ) → i < n → AreLists messages postings (n - i) d → AreLists messages postings (suc (n - (i + 1))) d
-lists_first messages postings n i d l h = let e : n - i ≡ suc (n - (i + 1)) = omega (arith, l) in subst (λ (k : ℕ). AreLists messages postings k d) e h
+lists_first : (messages : ℕ) (postings : List ℕ) (n i : ℕ) (d : List ℕ) → i < n → AreLists messages postings (n - i) d
+    → AreLists messages postings (suc (n - (i + 1))) d
+lists_first messages postings n i d l h = let e : n - i ≡ suc (n - (i + 1)) = omega (arith, l)
+    in subst (λ (k : ℕ). AreLists messages postings k d) e h
 
-pub lists_step : (P : Type 0) (messages : ℕ) (postings : List ℕ) (n i : ℕ) (d behind list : List ℕ) (b : Bool) → i < n → (P ↔ AreLists messages postings (n - i) d) → behind ≡ drop 24 d → list ≡ list_at postings d
+pub lists_step : (P : Type 0) (messages : ℕ) (postings : List ℕ) (n i : ℕ) (d behind list : List ℕ) (b : Bool) → i < n
+    → (P ↔ AreLists messages postings (n - i) d) → behind ≡ drop 24 d → list ≡ list_at postings d
     → ((b ≡ true) ↔ IsList messages list) → b ≡ true → P ↔ AreLists messages postings (n - (i + 1)) behind
 lists_step P messages postings n i d behind list b l h eb el s t =
     let e : n - i ≡ suc (n - (i + 1)) = omega (arith, l) in (
       λ q. subst (AreLists messages postings (n - (i + 1))) (sym eb) (lists_first messages postings n i d l (h.0 q)).1,
-      λ q. h.1 (subst (λ (k : ℕ). AreLists messages postings k d) (sym e) (subst (IsList messages) el (s.0 t), subst (AreLists messages postings (n - (i + 1))) eb q)),
+      λ q. h.1 (subst (λ (k : ℕ). AreLists messages postings k d) (sym e)
+          (subst (IsList messages) el (s.0 t), subst (AreLists messages postings (n - (i + 1))) eb q)),
     )
 
-pub lists_stop : (P : Type 0) (messages : ℕ) (postings : List ℕ) (n i : ℕ) (d list : List ℕ) (b : Bool) → i < n → (P ↔ AreLists messages postings (n - i) d) → list ≡ list_at postings d
+pub lists_stop : (P : Type 0) (messages : ℕ) (postings : List ℕ) (n i : ℕ) (d list : List ℕ) (b : Bool) → i < n
+    → (P ↔ AreLists messages postings (n - i) d) → list ≡ list_at postings d
     → ((b ≡ true) ↔ IsList messages list) → b ≡ false → P → ⊥
 lists_stop P messages postings n i d list b l h el s f q = grind (arith, lists_first)
 
-pub list_is : (list postings d behind : List ℕ) (p e : ℕ) → list ≡ take (e - p) (drop p postings) → p ≡ u64_at d 16 → e ≡ end_before behind (length postings) → behind ≡ drop 24 d → list ≡ list_at postings d
+pub list_is : (list postings d behind : List ℕ) (p e : ℕ) → list ≡ take (e - p) (drop p postings) → p ≡ u64_at d 16 → e
+    ≡ end_before behind (length postings) → behind ≡ drop 24 d → list ≡ list_at postings d
 list_is list postings d behind p e h q r b = grind (arith, end_before)

@@ -1,5 +1,9 @@
 -- A look-up among sorted keys finds the key if it is there, because all keys before a lower one are lower.
-use Rattle.mail_index.proofs.Words.{◌≡◌, ◌∙◌, ℕ, zero, suc, ◌+◌, ◌-◌, ◌^◌, ◌<◌, ◌≤◌, Bool, true, false, List, [], ◌∷◌, ◌/◌, length, map, get_or, refl, sym, ap, ap₂, arith, nat_eq, Ordering, Less, Equal, Greater, nat_cmp, is_eq, ordering_reverse, slice_cmp, length-map, get_or-map, nat_tests, pow-suc, nat_list_cmp_total, is_eq-slice_cmp, Less-from_sorted, Kind, kind_number, Key, is_key, lies_to, numbers_at, AreSorted}
+use Rattle.mail_index.proofs.Words.{◌≡◌, ◌∙◌, ℕ, zero, suc, ◌+◌, ◌-◌, ◌^◌, ◌<◌, ◌≤◌, Bool, true, false, List, [], ◌∷◌}
+use Rattle.mail_index.proofs.Words.{◌/◌, length, map, get_or, refl, sym, ap, ap₂, arith, nat_eq, Ordering, Less, Equal}
+use Rattle.mail_index.proofs.Words.{Greater, nat_cmp, is_eq, ordering_reverse, slice_cmp, length-map, get_or-map}
+use Rattle.mail_index.proofs.Words.{nat_tests, pow-suc, nat_list_cmp_total, is_eq-slice_cmp, Less-from_sorted, Kind}
+use Rattle.mail_index.proofs.Words.{kind_number, Key, is_key, lies_to, numbers_at, AreSorted}
 
 -- a key's bytes, by which keys are sorted
 abbrev pub key_bytes : Key → List ℕ
@@ -9,43 +13,53 @@ key_bytes k = kind_number k.kind ∷ k.text
 is_key-lies : (kind : Kind) (text : List ℕ) (k : Key) → is_eq (lies_to kind text k) ≡ is_key kind text k
 is_key-lies kind text k = is_eq-slice_cmp (key_bytes k) (kind_number kind ∷ text)
 
-pub is_key-as : (kind : Kind) (text : List ℕ) (k : Key) (o : Ordering) → lies_to kind text k ≡ o → is_key kind text k ≡ is_eq o
+pub is_key-as : (kind : Kind) (text : List ℕ) (k : Key) (o : Ordering) → lies_to kind text k ≡ o → is_key kind text k
+    ≡ is_eq o
 is_key-as kind text k o h = sym (is_key-lies kind text k) ∙ ap is_eq h
 
-pub is_key-greater : (kind : Kind) (text : List ℕ) (k : Key) → lies_to kind text k ≡ Greater → is_key kind text k ≡ false
+pub is_key-greater : (kind : Kind) (text : List ℕ) (k : Key) → lies_to kind text k ≡ Greater → is_key kind text k
+    ≡ false
 is_key-greater kind text k h = is_key-as kind text k Greater h
 
 -- if the first key isn't the searched one, the numbers are those of the rest
-numbers_at-other : (kind : Kind) (text : List ℕ) (k : Key) (ks : List Key) → is_key kind text k ≡ false → numbers_at kind text (k ∷ ks) ≡ numbers_at kind text ks
+numbers_at-other : (kind : Kind) (text : List ℕ) (k : Key) (ks : List Key) → is_key kind text k ≡ false
+    → numbers_at kind text (k ∷ ks) ≡ numbers_at kind text ks
 numbers_at-other kind text k ks e = rw (e, numbers_at) refl
 
-numbers_at-this : (kind : Kind) (text : List ℕ) (k : Key) (ks : List Key) → is_key kind text k ≡ true → numbers_at kind text (k ∷ ks) ≡ k.numbers
+numbers_at-this : (kind : Kind) (text : List ℕ) (k : Key) (ks : List Key) → is_key kind text k ≡ true
+    → numbers_at kind text (k ∷ ks) ≡ k.numbers
 numbers_at-this kind text k ks e = rw (e, numbers_at) refl
 
 -- the first keys aren't the searched one, and the next is
 pub numbers_at-found : (kind : Kind) (text : List ℕ) (ks : List Key) (i : ℕ) (d : Key) → i < length ks
-    → ((j : ℕ) → j < i → lies_to kind text (get_or ks j d) ≡ Less) → lies_to kind text (get_or ks i d) ≡ Equal → numbers_at kind text ks ≡ (get_or ks i d).numbers
+    → ((j : ℕ) → j < i → lies_to kind text (get_or ks j d) ≡ Less) → lies_to kind text (get_or ks i d) ≡ Equal
+    → numbers_at kind text ks ≡ (get_or ks i d).numbers
 numbers_at-found kind text [] i d h below here = absurd (omega (arith, h))
-numbers_at-found kind text (k ∷ ks) zero d h below here = numbers_at-this kind text k ks (is_key-as kind text k Equal here)
+numbers_at-found kind text (k ∷ ks) zero d h below here =
+    numbers_at-this kind text k ks (is_key-as kind text k Equal here)
 numbers_at-found kind text (k ∷ ks) (suc i) d h below here =
     numbers_at-other kind text k ks (is_key-as kind text k Less (below 0 (omega arith)))
     ∙ numbers_at-found kind text ks i d (omega (arith, h)) (λ j lt. below (suc j) (omega (arith, lt))) here
 
 -- the first keys are before the searched one, and all others after it
 pub numbers_at-none : (kind : Kind) (text : List ℕ) (ks : List Key) (i : ℕ) (d : Key)
-    → ((j : ℕ) → j < i → lies_to kind text (get_or ks j d) ≡ Less) → ((j : ℕ) → i ≤ j → j < length ks → lies_to kind text (get_or ks j d) ≡ Greater) → numbers_at kind text ks ≡ []
+    → ((j : ℕ) → j < i → lies_to kind text (get_or ks j d) ≡ Less)
+    → ((j : ℕ) → i ≤ j → j < length ks → lies_to kind text (get_or ks j d) ≡ Greater) → numbers_at kind text ks ≡ []
 numbers_at-none kind text [] i d below above = refl
 numbers_at-none kind text (k ∷ ks) zero d below above =
     numbers_at-other kind text k ks (is_key-greater kind text k (above 0 (omega arith) (omega arith)))
-    ∙ numbers_at-none kind text ks 0 d (λ j lt. absurd (omega (arith, lt))) (λ j le lt. above (suc j) (omega arith) (omega (arith, lt)))
+    ∙ numbers_at-none kind text ks 0 d (λ j lt. absurd (omega (arith, lt)))
+    (λ j le lt. above (suc j) (omega arith) (omega (arith, lt)))
 numbers_at-none kind text (k ∷ ks) (suc i) d below above =
     numbers_at-other kind text k ks (is_key-as kind text k Less (below 0 (omega arith)))
-    ∙ numbers_at-none kind text ks i d (λ j lt. below (suc j) (omega (arith, lt))) (λ j le lt. above (suc j) (omega (arith, le)) (omega (arith, lt)))
+    ∙ numbers_at-none kind text ks i d (λ j lt. below (suc j) (omega (arith, lt)))
+    (λ j le lt. above (suc j) (omega (arith, le)) (omega (arith, lt)))
 
 -- ---- among sorted keys
 
 -- keys before a lower key are lower too
-pub before-less : (kind : Kind) (text : List ℕ) (ks : List Key) (d : Key) (m j : ℕ) → AreSorted ks → m < length ks → lies_to kind text (get_or ks m d) ≡ Less → j < suc m
+pub before-less : (kind : Kind) (text : List ℕ) (ks : List Key) (d : Key) (m j : ℕ) → AreSorted ks → m < length ks
+    → lies_to kind text (get_or ks m d) ≡ Less → j < suc m
     → lies_to kind text (get_or ks j d) ≡ Less
 before-less kind text ks d m j sorted within less le = go (nat_eq j m) refl
   where
@@ -55,30 +69,37 @@ before-less kind text ks d m j sorted within less le = go (nat_eq j m) refl
         let lower : j < m = grind (arith, nat_tests) in
         let inside : m < length (map key_bytes ks) = omega (arith, within, length-map ks key_bytes) in
         let here : slice_cmp nat_cmp (key_bytes (get_or ks j d)) (key_bytes (get_or ks m d)) ≡ Less =
-        ap₂ (slice_cmp nat_cmp) (sym (get_or-map key_bytes ks j d (key_bytes d) (omega (arith, lower, within)))) (sym (get_or-map key_bytes ks m d (key_bytes d) within))
+        ap₂ (slice_cmp nat_cmp) (sym (get_or-map key_bytes ks j d (key_bytes d) (omega (arith, lower, within))))
+        (sym (get_or-map key_bytes ks m d (key_bytes d) within))
         ∙ Less-from_sorted (slice_cmp nat_cmp) (map key_bytes ks) j m (key_bytes d) sorted lower inside in
-        nat_list_cmp_total.trans (key_bytes (get_or ks j d)) (key_bytes (get_or ks m d)) (kind_number kind ∷ text) here less
+        nat_list_cmp_total.trans (key_bytes (get_or ks j d)) (key_bytes (get_or ks m d)) (kind_number kind ∷ text) here
+        less
 
 reversed : (o : Ordering) → o ≡ Greater → ordering_reverse o ≡ Less
 reversed o h = grind arith
 
 -- keys after a higher key are higher too
-pub behind-greater : (kind : Kind) (text : List ℕ) (ks : List Key) (d : Key) (m j : ℕ) → AreSorted ks → lies_to kind text (get_or ks m d) ≡ Greater → m ≤ j → j < length ks
+pub behind-greater : (kind : Kind) (text : List ℕ) (ks : List Key) (d : Key) (m j : ℕ) → AreSorted ks
+    → lies_to kind text (get_or ks m d) ≡ Greater → m ≤ j → j < length ks
     → lies_to kind text (get_or ks j d) ≡ Greater
 behind-greater kind text ks d m j sorted greater le within = go (nat_eq j m) refl
   where
     go : (t : Bool) → nat_eq j m ≡ t → lies_to kind text (get_or ks j d) ≡ Greater
-    go true e = let same : j ≡ m = grind (arith, nat_tests) in ap (λ i. lies_to kind text (get_or ks i d)) same ∙ greater
+    go true e = let same : j ≡ m = grind (arith, nat_tests) in ap (λ i. lies_to kind text (get_or ks i d)) same
+        ∙ greater
     go false e =
         let wanted : List ℕ = kind_number kind ∷ text in
         let higher : m < j = grind (arith, nat_tests) in
         let inside : j < length (map key_bytes ks) = omega (arith, within, length-map ks key_bytes) in
         let here : slice_cmp nat_cmp (key_bytes (get_or ks m d)) (key_bytes (get_or ks j d)) ≡ Less =
-        ap₂ (slice_cmp nat_cmp) (sym (get_or-map key_bytes ks m d (key_bytes d) (omega (arith, higher, within)))) (sym (get_or-map key_bytes ks j d (key_bytes d) within))
+        ap₂ (slice_cmp nat_cmp) (sym (get_or-map key_bytes ks m d (key_bytes d) (omega (arith, higher, within))))
+        (sym (get_or-map key_bytes ks j d (key_bytes d) within))
         ∙ Less-from_sorted (slice_cmp nat_cmp) (map key_bytes ks) m j (key_bytes d) sorted higher inside in
         let first : slice_cmp nat_cmp wanted (key_bytes (get_or ks m d)) ≡ Less =
-        nat_list_cmp_total.antisymm wanted (key_bytes (get_or ks m d)) ∙ reversed (lies_to kind text (get_or ks m d)) greater in
-        let all : slice_cmp nat_cmp wanted (key_bytes (get_or ks j d)) ≡ Less = nat_list_cmp_total.trans wanted (key_bytes (get_or ks m d)) (key_bytes (get_or ks j d)) first here in
+        nat_list_cmp_total.antisymm wanted (key_bytes (get_or ks m d))
+        ∙ reversed (lies_to kind text (get_or ks m d)) greater in
+        let all : slice_cmp nat_cmp wanted (key_bytes (get_or ks j d)) ≡ Less =
+        nat_list_cmp_total.trans wanted (key_bytes (get_or ks m d)) (key_bytes (get_or ks j d)) first here in
         nat_list_cmp_total.antisymm (key_bytes (get_or ks j d)) wanted ∙ ap ordering_reverse all
 
 -- ---- steps
@@ -98,15 +119,21 @@ pow_some : (n : ℕ) → 0 < 2 ^ n
 pow_some zero = omega arith
 pow_some (suc n) = let before = pow_some n in omega (arith, before, pow-suc 2 n)
 
-pub half_digits : (keys fewer : ℕ) → 2 ^ suc fewer ≤ suc keys → (0 < keys) × (2 ^ fewer ≤ suc (keys / 2)) × (2 ^ fewer ≤ suc (keys - (keys / 2 + 1)))
+pub half_digits : (keys fewer : ℕ) → 2 ^ suc fewer ≤ suc keys → (0 < keys) × (2 ^ fewer ≤ suc (keys / 2))
+    × (2 ^ fewer ≤ suc (keys - (keys / 2 + 1)))
 half_digits keys fewer h =
     let twice = pow-suc 2 fewer in
-    let some = pow_some fewer in (omega (arith, twice, some, h), omega (arith, twice, some, h), omega (arith, twice, some, h))
+    let some = pow_some fewer in (
+      omega (arith, twice, some, h),
+      omega (arith, twice, some, h),
+      omega (arith, twice, some, h),
+    )
 
 -- ---- a key that is found
 
 -- the searched key is found here: the keys before it are lower
-pub numbers_at-met : (kind : Kind) (text : List ℕ) (ks : List Key) (m : ℕ) (d : Key) → AreSorted ks → m < length ks → lies_to kind text (get_or ks m d) ≡ Equal
+pub numbers_at-met : (kind : Kind) (text : List ℕ) (ks : List Key) (m : ℕ) (d : Key) → AreSorted ks → m < length ks
+    → lies_to kind text (get_or ks m d) ≡ Equal
     → numbers_at kind text ks ≡ (get_or ks m d).numbers
 numbers_at-met kind text ks m d sorted within equal =
     let wanted : List ℕ = kind_number kind ∷ text in
@@ -114,7 +141,8 @@ numbers_at-met kind text ks m d sorted within equal =
     (λ j lt.
     let inside : m < length (map key_bytes ks) = omega (arith, within, length-map ks key_bytes) in
     let here : slice_cmp nat_cmp (key_bytes (get_or ks j d)) (key_bytes (get_or ks m d)) ≡ Less =
-    ap₂ (slice_cmp nat_cmp) (sym (get_or-map key_bytes ks j d (key_bytes d) (omega (arith, lt, within)))) (sym (get_or-map key_bytes ks m d (key_bytes d) within))
+    ap₂ (slice_cmp nat_cmp) (sym (get_or-map key_bytes ks j d (key_bytes d) (omega (arith, lt, within))))
+    (sym (get_or-map key_bytes ks m d (key_bytes d) within))
     ∙ Less-from_sorted (slice_cmp nat_cmp) (map key_bytes ks) j m (key_bytes d) sorted lt inside in
     let behind : slice_cmp nat_cmp wanted (key_bytes (get_or ks j d)) ≡ Greater =
     sym (nat_list_cmp_total.congr (key_bytes (get_or ks m d)) wanted (key_bytes (get_or ks j d)) equal)

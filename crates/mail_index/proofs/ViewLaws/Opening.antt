@@ -1,5 +1,10 @@
 -- What the walks over the sections find in a file is what its table has, and they refuse nothing of a table's file.
-use Rattle.mail_index.proofs.Words.{◌≡◌, ℕ, zero, suc, ◌+◌, ◌*◌, ◌^◌, ◌<◌, List, [], ◌∷◌, length, map, drop, refl, ap, ◌∙◌, arith, length-append, flat_map, AllByRecursion, Some, slice_get, drop-drop, Record, Entry, entry_of, entry_bytes, archive_bytes, record_bytes, directory_from, Archive, Key, IsArchive, IsKey, AllNext, KeyBefore, RisesFrom, postings, postings_from, IsEntry, EntryBefore, read_archives, SpellsArchives, read_record, read_records, read_entry, read_entries, numbers_read, IsList, AreLists, key_of}
+use Rattle.mail_index.proofs.Words.{◌≡◌, ℕ, zero, suc, ◌+◌, ◌*◌, ◌^◌, ◌<◌, List, [], ◌∷◌, length, map, drop, refl, ap}
+use Rattle.mail_index.proofs.Words.{◌∙◌, arith, length-append, flat_map, AllByRecursion, Some, slice_get, drop-drop}
+use Rattle.mail_index.proofs.Words.{Record, Entry, entry_of, entry_bytes, archive_bytes, record_bytes, directory_from}
+use Rattle.mail_index.proofs.Words.{Archive, Key, IsArchive, IsKey, AllNext, KeyBefore, RisesFrom, postings}
+use Rattle.mail_index.proofs.Words.{postings_from, IsEntry, EntryBefore, read_archives, SpellsArchives, read_record}
+use Rattle.mail_index.proofs.Words.{read_records, read_entry, read_entries, numbers_read, IsList, AreLists, key_of}
 use Rattle.mail_index.proofs.Items.{all-weaker}
 use Rattle.mail_index.proofs.ViewLaws.ArchiveReads.{archives_back}
 use Rattle.mail_index.proofs.FileLaws.RecordFronts.{leb_some}
@@ -7,7 +12,8 @@ use Rattle.mail_index.proofs.ViewLaws.PostingReadLemmas.{read-posted}
 
 -- ---- archives
 
-pub spells_these : (version count : ℕ) (s : List ℕ) (archives : List Archive) → s ≡ flat_map archive_bytes archives → length archives ≡ count → AllByRecursion (IsArchive version) archives
+pub spells_these : (version count : ℕ) (s : List ℕ) (archives : List Archive) → s ≡ flat_map archive_bytes archives
+    → length archives ≡ count → AllByRecursion (IsArchive version) archives
     → (read_archives version count s ≡ archives) × SpellsArchives version count s
 spells_these version count s archives e l h = grind (arith, read_archives, archives_back, flat_map, archive_bytes)
 
@@ -19,7 +25,13 @@ length_records (m ∷ ms) = omega (arith, length-append (record_bytes m) (flat_m
 
 pub length_directory : (tp pp : ℕ) (es : List Entry) → length (directory_from tp pp es) ≡ 24 * length es
 length_directory tp pp [] = refl
-length_directory tp pp (e ∷ es) = grind (arith, directory_from, length-append, entry_bytes, length_directory (tp + length e.text) (pp + length e.postings) es)
+length_directory tp pp (e ∷ es) = grind (
+  arith,
+  directory_from,
+  length-append,
+  entry_bytes,
+  length_directory (tp + length e.text) (pp + length e.postings) es,
+)
 
 pub count_records : (n : ℕ) (r : List ℕ) → length (read_records n r) ≡ n
 count_records zero r = refl
@@ -50,21 +62,38 @@ pub record ReadsKeys (version messages : ℕ) (es : List Entry) : Type 0 where
   pub spelled : map entry_of (map key_of es) ≡ es
   pub each : AllByRecursion (IsKey version messages) (map key_of es)
 
-pub reads_keys : (version messages : ℕ) (es : List Entry) → messages < 2 ^ 32 → AllByRecursion (IsEntry version) es → AllByRecursion (λ e. IsList messages e.postings) es → ReadsKeys version messages es
+pub reads_keys : (version messages : ℕ) (es : List Entry) → messages < 2 ^ 32 → AllByRecursion (IsEntry version) es
+    → AllByRecursion (λ e. IsList messages e.postings) es → ReadsKeys version messages es
 reads_keys version messages [] l h p = record { spelled = refl; each = tt }
 reads_keys version messages (e ∷ es) l h p =
     let r = reads_list messages e.postings l p.0 in
     let more = reads_keys version messages es l h.1 p.1 in
     let head : entry_of (key_of e) ≡ e = λ i. record { kind = e.kind; text = e.text; postings = r.spelled i } in
     let tail : map entry_of (map key_of es) ≡ es = more.spelled in
-    record { spelled = λ i. head i ∷ tail i; each = (record { kind = h.0.0; some_text = h.0.1; short = h.0.2; some_number = r.some; rises = r.rises; below = r.below }, more.each) }
+    record {
+      spelled = λ i. head i ∷ tail i;
+      each = (
+        record {
+          kind = h.0.0;
+          some_text = h.0.1;
+          short = h.0.2;
+          some_number = r.some;
+          rises = r.rises;
+          below =
+              r.below;
+        },
+        more.each,
+      );
+    }
 
-pub lists_of : (messages : ℕ) (texts ps : List ℕ) (n : ℕ) (d : List ℕ) → AreLists messages ps n d → AllByRecursion (λ e. IsList messages e.postings) (read_entries texts ps n d)
+pub lists_of : (messages : ℕ) (texts ps : List ℕ) (n : ℕ) (d : List ℕ) → AreLists messages ps n d
+    → AllByRecursion (λ e. IsList messages e.postings) (read_entries texts ps n d)
 unfolding read_entry
 lists_of messages texts ps zero d h = tt
 lists_of messages texts ps (suc n) d h = (h.0, lists_of messages texts ps n (drop 24 d) h.1)
 
-pub are_lists : (messages : ℕ) (texts ps : List ℕ) (n : ℕ) (d : List ℕ) → AllByRecursion (λ e. IsList messages e.postings) (read_entries texts ps n d) → AreLists messages ps n d
+pub are_lists : (messages : ℕ) (texts ps : List ℕ) (n : ℕ) (d : List ℕ)
+    → AllByRecursion (λ e. IsList messages e.postings) (read_entries texts ps n d) → AreLists messages ps n d
 unfolding read_entry
 are_lists messages texts ps zero d h = tt
 are_lists messages texts ps (suc n) d h = (h.0, are_lists messages texts ps n (drop 24 d) h.1)
@@ -73,7 +102,8 @@ pub some_postings : (ns : List ℕ) → 0 < length ns → 0 < length (postings n
 some_postings [] l = absurd (omega (arith, l))
 some_postings (n ∷ ns) l = grind (arith, postings, leb_some, postings_from)
 
-pub lists_of_keys : (version messages : ℕ) (ks : List Key) → AllByRecursion (IsKey version messages) ks → AllByRecursion (λ e. IsList messages e.postings) (map entry_of ks)
+pub lists_of_keys : (version messages : ℕ) (ks : List Key) → AllByRecursion (IsKey version messages) ks
+    → AllByRecursion (λ e. IsList messages e.postings) (map entry_of ks)
 lists_of_keys version messages [] h = tt
 lists_of_keys version messages (k ∷ ks) h = grind (arith, some_postings, lists_of_keys version messages ks h.1)
 
@@ -82,9 +112,11 @@ keys_in_order [] h = tt
 keys_in_order (k ∷ []) h = tt
 keys_in_order (k ∷ l ∷ ks) h = (h.0, keys_in_order (l ∷ ks) h.1)
 
-pub message_at : (count n : ℕ) (r : List ℕ) → n < count → slice_get (read_records count r) n ≡ Some (read_record (drop (40 * n) r))
+pub message_at : (count n : ℕ) (r : List ℕ) → n < count → slice_get (read_records count r) n
+    ≡ Some (read_record (drop (40 * n) r))
 message_at zero n r l = absurd (omega (arith, l))
 message_at (suc count) zero r l = ap (λ (k : ℕ). Some (read_record (drop k r))) (let e : 0 ≡ 40 * 0 = omega arith in e)
 message_at (suc count) (suc n) r l =
     let e : 40 + 40 * n ≡ 40 * suc n = omega arith in
-    message_at count n (drop 40 r) (omega (arith, l)) ∙ ap (λ (x : List ℕ). Some (read_record x)) (drop-drop (40 * n) 40 r ∙ ap (λ (k : ℕ). drop k r) e)
+    message_at count n (drop 40 r) (omega (arith, l))
+    ∙ ap (λ (x : List ℕ). Some (read_record x)) (drop-drop (40 * n) 40 r ∙ ap (λ (k : ℕ). drop k r) e)

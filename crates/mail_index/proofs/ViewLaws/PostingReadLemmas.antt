@@ -1,5 +1,9 @@
 -- Postings are read back: the bytes of rising numbers give these numbers, difference by difference.
-use Rattle.mail_index.proofs.Words.{◌≡◌, ◌∙◌, ℕ, zero, suc, ◌+◌, ◌-◌, ◌*◌, ◌/◌, ◌%◌, ◌^◌, ◌<◌, ◌≤◌, Bool, true, false, cond, nat_lt, List, [], ◌∷◌, ◌++◌, length, Option, Some, None, refl, sym, ap, ap₂, subst, arith, length-append, AllByRecursion, is_some, false≢true, nat_tests, add-mul, mul_assoc, RisesFrom, leb128, postings_from, IsShort, numbers_behind, numbers_read, ArePostings, ArePosted}
+use Rattle.mail_index.proofs.Words.{◌≡◌, ◌∙◌, ℕ, zero, suc, ◌+◌, ◌-◌, ◌*◌, ◌/◌, ◌%◌, ◌^◌, ◌<◌, ◌≤◌, Bool, true, false}
+use Rattle.mail_index.proofs.Words.{cond, nat_lt, List, [], ◌∷◌, ◌++◌, length, Option, Some, None, refl, sym, ap, ap₂}
+use Rattle.mail_index.proofs.Words.{subst, arith, length-append, AllByRecursion, is_some, false≢true, nat_tests}
+use Rattle.mail_index.proofs.Words.{add-mul, mul_assoc, RisesFrom, leb128, postings_from, IsShort, numbers_behind}
+use Rattle.mail_index.proofs.Words.{numbers_read, ArePostings, ArePosted}
 use Rattle.mail_index.proofs.FileLaws.RecordFronts.{leb_front, leb_some}
 
 -- ---- a difference
@@ -8,28 +12,36 @@ use Rattle.mail_index.proofs.FileLaws.RecordFronts.{leb_front, leb_some}
 weights : (k p w : ℕ) → (p + (128 + k % 128 - 128) * w) + (k / 128) * (128 * w) ≡ p + k * w
 weights k p w = grind (arith, mul_assoc, add-mul)
 
-behind-last : (low p w b : ℕ) (bs : List ℕ) → b < 128 → numbers_behind low p w (b ∷ bs) ≡ (low + (p + b * w) - 1) ∷ numbers_behind (low + (p + b * w)) 0 1 bs
+behind-last : (low p w b : ℕ) (bs : List ℕ) → b < 128 → numbers_behind low p w (b ∷ bs)
+    ≡ (low + (p + b * w) - 1) ∷ numbers_behind (low + (p + b * w)) 0 1 bs
 behind-last low p w b bs h = let e : nat_lt b 128 ≡ true = grind (arith, nat_tests) in rw (e, numbers_behind) refl
 
-behind-more : (low p w b : ℕ) (bs : List ℕ) → 128 ≤ b → numbers_behind low p w (b ∷ bs) ≡ numbers_behind low (p + (b - 128) * w) (128 * w) bs
+behind-more : (low p w b : ℕ) (bs : List ℕ) → 128 ≤ b → numbers_behind low p w (b ∷ bs)
+    ≡ numbers_behind low (p + (b - 128) * w) (128 * w) bs
 behind-more low p w b bs h = let e : nat_lt b 128 ≡ false = grind (arith, nat_tests) in rw (e, numbers_behind) refl
 
 -- the numbers after a difference k has been read to its end
 abbrev told : ℕ → ℕ → List ℕ → List ℕ
 told low difference bs = (low + difference - 1) ∷ numbers_behind (low + difference) 0 1 bs
 
-numbers_behind-leb128 : (groups low p w k : ℕ) (bs : List ℕ) → IsShort (suc groups) k → numbers_behind low p w (leb128 (suc groups) k ++ bs) ≡ told low (p + k * w) bs
+numbers_behind-leb128 : (groups low p w k : ℕ) (bs : List ℕ) → IsShort (suc groups) k
+    → numbers_behind low p w (leb128 (suc groups) k ++ bs) ≡ told low (p + k * w) bs
 numbers_behind-leb128 zero low p w k bs h = grind (arith, nat_tests, behind-last)
-numbers_behind-leb128 (suc groups) low p w k bs h = go (nat_lt k 128) refl (numbers_behind-leb128 groups low (p + (128 + k % 128 - 128) * w) (128 * w) (k / 128) bs h)
+numbers_behind-leb128 (suc groups) low p w k bs h =
+    go (nat_lt k 128) refl (numbers_behind-leb128 groups low (p + (128 + k % 128 - 128) * w) (128 * w) (k / 128) bs h)
   where
     go : (t : Bool) → nat_lt k 128 ≡ t
-        → numbers_behind low (p + (128 + k % 128 - 128) * w) (128 * w) (leb128 (suc groups) (k / 128) ++ bs) ≡ told low ((p + (128 + k % 128 - 128) * w) + (k / 128) * (128 * w)) bs
-        → numbers_behind low p w (cond t (k ∷ []) ((128 + k % 128) ∷ leb128 (suc groups) (k / 128)) ++ bs) ≡ told low (p + k * w) bs
+        → numbers_behind low (p + (128 + k % 128 - 128) * w) (128 * w) (leb128 (suc groups) (k / 128) ++ bs)
+        ≡ told low ((p + (128 + k % 128 - 128) * w) + (k / 128) * (128 * w)) bs
+        → numbers_behind low p w (cond t (k ∷ []) ((128 + k % 128) ∷ leb128 (suc groups) (k / 128)) ++ bs)
+        ≡ told low (p + k * w) bs
     go true e later = let small : k < 128 = grind (arith, nat_tests, e) in behind-last low p w k bs small
     go false e later =
-        behind-more low p w (128 + k % 128) (leb128 (suc groups) (k / 128) ++ bs) (omega arith) ∙ later ∙ ap (λ d. told low d bs) (weights k p w)
+        behind-more low p w (128 + k % 128) (leb128 (suc groups) (k / 128) ++ bs) (omega arith) ∙ later
+        ∙ ap (λ d. told low d bs) (weights k p w)
 
-pub numbers_read-first : (low k : ℕ) (bs : List ℕ) → IsShort 5 k → numbers_read low (leb128 5 k ++ bs) ≡ (low + k - 1) ∷ numbers_read (low + k) bs
+pub numbers_read-first : (low k : ℕ) (bs : List ℕ) → IsShort 5 k → numbers_read low (leb128 5 k ++ bs)
+    ≡ (low + k - 1) ∷ numbers_read (low + k) bs
 unfolding numbers_read
 numbers_read-first low k bs h =
     let same : 0 + k * 1 ≡ k = omega arith in
@@ -40,7 +52,8 @@ numbers_read-first low k bs h =
 short-difference : (n low : ℕ) → n < 2 ^ 32 → IsShort 5 (suc n - low)
 short-difference n low h = omega (arith, h)
 
-pub numbers_read-postings : (low : ℕ) (ns : List ℕ) → RisesFrom low ns → AllByRecursion (λ n. n < 2 ^ 32) ns → numbers_read low (postings_from low ns) ≡ ns
+pub numbers_read-postings : (low : ℕ) (ns : List ℕ) → RisesFrom low ns → AllByRecursion (λ n. n < 2 ^ 32) ns
+    → numbers_read low (postings_from low ns) ≡ ns
 unfolding numbers_read
 numbers_read-postings low [] rises below = refl
 numbers_read-postings low (n ∷ ns) rises below =
@@ -57,9 +70,11 @@ read-posted low bytes ns h = ap (numbers_read low) h.spelled ∙ numbers_read-po
 
 -- no number
 pub posted-none : (limit low : ℕ) (bytes ns : List ℕ) (r : Option (ℕ × List ℕ)) → limit ≤ 2 ^ 32
-    → ((k : ℕ) (rest : List ℕ) → IsShort 5 k → bytes ≡ leb128 5 k ++ rest → r ≡ Some (k, rest)) → r ≡ None → ArePostings limit low bytes ns → ns ≡ []
+    → ((k : ℕ) (rest : List ℕ) → IsShort 5 k → bytes ≡ leb128 5 k ++ rest → r ≡ Some (k, rest)) → r ≡ None
+    → ArePostings limit low bytes ns → ns ≡ []
 posted-none limit low bytes [] r le only none h = refl
-posted-none limit low bytes (n ∷ ns) r le only none h = grind (arith, postings_from, short-difference, false≢true, is_some)
+posted-none limit low bytes (n ∷ ns) r le only none h =
+    grind (arith, postings_from, short-difference, false≢true, is_some)
 
 -- a number, and the numbers after it
 pub record Front (limit low difference : ℕ) (behind ns : List ℕ) : Type 0 where
@@ -69,12 +84,14 @@ pub record Front (limit low difference : ℕ) (behind ns : List ℕ) : Type 0 wh
   pub numbers : ns ≡ (low + difference - 1) ∷ later
   pub posted : ArePostings limit (low + difference) behind later
 
-pub posted-front : (limit low difference : ℕ) (bytes behind ns : List ℕ) → limit ≤ 2 ^ 32 → IsShort 5 difference → bytes ≡ leb128 5 difference ++ behind
+pub posted-front : (limit low difference : ℕ) (bytes behind ns : List ℕ) → limit ≤ 2 ^ 32 → IsShort 5 difference → bytes
+    ≡ leb128 5 difference ++ behind
     → ArePostings limit low bytes ns → Front limit low difference behind ns
 posted-front limit low d bytes behind [] le short split h = grind (arith, leb128, leb_some)
 posted-front limit low d bytes behind (n ∷ ns) le short split h =
     let small : n < 2 ^ 32 = omega (arith, le, h.below.0) in
-    let same = leb_front 5 d (suc n - low) behind (postings_from (suc n) ns) short (short-difference n low small) (sym split ∙ h.spelled) in
+    let same = leb_front 5 d (suc n - low) behind (postings_from (suc n) ns) short (short-difference n low small)
+    (sym split ∙ h.spelled) in
     let next : suc n ≡ low + d = omega (arith, same.0, h.rises.0) in
     let here : n ≡ low + d - 1 = omega (arith, next) in
     record {
@@ -90,7 +107,8 @@ posted-front limit low d bytes behind (n ∷ ns) le short split h =
     }
 
 -- a number before others
-pub posted-back : (limit low difference : ℕ) (bytes behind : List ℕ) → 0 < difference → low + difference ≤ limit → bytes ≡ leb128 5 difference ++ behind
+pub posted-back : (limit low difference : ℕ) (bytes behind : List ℕ) → 0 < difference → low + difference ≤ limit → bytes
+    ≡ leb128 5 difference ++ behind
     → ArePosted limit (low + difference) behind → ArePosted limit low bytes
 posted-back limit low d bytes behind some below split h =
     let n : ℕ = low + d - 1 in
@@ -100,17 +118,20 @@ posted-back limit low d bytes behind some below split h =
       record {
         rises = (omega (arith, some), subst (λ (m : ℕ). RisesFrom m h.0) next h.1.rises);
         below = (omega (arith, some, below), h.1.below);
-        spelled = split ∙ ap₂ (λ (k : ℕ) (l : List ℕ). leb128 5 k ++ l) again (h.1.spelled ∙ ap (λ (m : ℕ). postings_from m h.0) next);
+        spelled = split ∙ ap₂ (λ (k : ℕ) (l : List ℕ). leb128 5 k ++ l) again
+            (h.1.spelled ∙ ap (λ (m : ℕ). postings_from m h.0) next);
       },
     )
 
 -- a difference has at least one byte
-pub posted-shorter : (difference : ℕ) (bytes behind : List ℕ) → bytes ≡ leb128 5 difference ++ behind → length behind < length bytes
+pub posted-shorter : (difference : ℕ) (bytes behind : List ℕ) → bytes ≡ leb128 5 difference ++ behind
+    → length behind < length bytes
 posted-shorter d bytes behind split = grind (arith, leb128, length-append)
 
 -- bytes that aren't empty and begin with no difference are no postings
 pub posted-refused : (limit low : ℕ) (bytes : List ℕ) (r : Option (ℕ × List ℕ)) → limit ≤ 2 ^ 32
-    → ((k : ℕ) (rest : List ℕ) → IsShort 5 k → bytes ≡ leb128 5 k ++ rest → r ≡ Some (k, rest)) → r ≡ None → 0 < length bytes → ArePosted limit low bytes → ⊥
+    → ((k : ℕ) (rest : List ℕ) → IsShort 5 k → bytes ≡ leb128 5 k ++ rest → r ≡ Some (k, rest)) → r ≡ None
+    → 0 < length bytes → ArePosted limit low bytes → ⊥
 posted-refused limit low bytes r le only none some h =
     let nothing : h.0 ≡ [] = posted-none limit low bytes h.0 r le only none h.1 in
     let bare : bytes ≡ [] = h.1.spelled ∙ ap (postings_from low) nothing in

@@ -1,5 +1,11 @@
 -- A record that is written and read is the same, and so are its bytes if they are read and written.
-use Rattle.mail_index.proofs.Words.{◌≡◌, ℕ, zero, suc, ◌+◌, ◌^◌, ◌<◌, ◌≤◌, Bool, true, false, cond, ◌&&◌, ◌||◌, List, [], ◌∷◌, ◌++◌, length, drop, Option, Some, None, refl, ap, ◌∙◌, arith, ℤ, IfSome, FitsSigned, is_some, nat_eq, nat_le, w64, cast_signed, to_z-of_z, Fits-of_z, Fits-lt-pow, from_be_bytes-to_be_bytes_4, from_be_bytes-to_be_bytes_8, Record, byte_at, u32_at, u64_at, be32, be64, zeros, bit, flags_byte, date_number, record_bytes, has_bit, read_flags, read_date, read_record, is_record, of_z-to_z, leb-true, nat_tests}
+use Rattle.mail_index.proofs.Words.{◌≡◌, ℕ, zero, suc, ◌+◌, ◌^◌, ◌<◌, ◌≤◌, Bool, true, false, cond, ◌&&◌, ◌||◌, List}
+use Rattle.mail_index.proofs.Words.{[], ◌∷◌, ◌++◌, length, drop, Option, Some, None, refl, ap, ◌∙◌, arith, ℤ, IfSome}
+use Rattle.mail_index.proofs.Words.{FitsSigned, is_some, nat_eq, nat_le, w64, cast_signed, to_z-of_z, Fits-of_z}
+use Rattle.mail_index.proofs.Words.{Fits-lt-pow, from_be_bytes-to_be_bytes_4, from_be_bytes-to_be_bytes_8, Record}
+use Rattle.mail_index.proofs.Words.{byte_at, u32_at, u64_at, be32, be64, zeros, bit, flags_byte, date_number}
+use Rattle.mail_index.proofs.Words.{record_bytes, has_bit, read_flags, read_date, read_record, is_record, of_z-to_z}
+use Rattle.mail_index.proofs.Words.{leb-true, nat_tests}
 use Rattle.mail_index.proofs.FileLaws.Fronts.{before, concat_then}
 use Rattle.mail_index.proofs.FileLaws.Bytes.{AreBytes, u32_back, u64_back, byte_back, both, bytes_behind, bytes_before}
 
@@ -11,10 +17,12 @@ pub record HasSmallFields (m : Record) : Type 0 where
   pub size : m.size < 2 ^ 64
   pub date : IfSome m.date (FitsSigned w64)
 
-bits_back : (a b c d : Bool) → (read_flags (bit 1 a + bit 2 b + bit 4 c + bit 8 d) ≡ record { seen = a; replied = b; flagged = c }) × (has_bit (bit 1 a + bit 2 b + bit 4 c + bit 8 d) 8 ≡ d)
+bits_back : (a b c d : Bool) → (read_flags (bit 1 a + bit 2 b + bit 4 c + bit 8 d)
+    ≡ record { seen = a; replied = b; flagged = c }) × (has_bit (bit 1 a + bit 2 b + bit 4 c + bit 8 d) 8 ≡ d)
 bits_back a b c d = grind arith
 
-date_back : (f : ℕ) (date : Option ℤ) → IfSome date (FitsSigned w64) → has_bit f 8 ≡ is_some date → (n : ℕ) → n ≡ date_number date → read_date f n ≡ date
+date_back : (f : ℕ) (date : Option ℤ) → IfSome date (FitsSigned w64) → has_bit f 8 ≡ is_some date → (n : ℕ) → n
+    ≡ date_number date → read_date f n ≡ date
 date_back f date h h2 n h3 = grind (arith, to_z-of_z, w64)
 
 date_small : (date : Option ℤ) → IfSome date (FitsSigned w64) → date_number date < 2 ^ 64
@@ -30,8 +38,17 @@ record_back m x h =
     let size = from_be_bytes-to_be_bytes_8 m.size h.size in
     let bits = bits_back m.flags.seen m.flags.replied m.flags.flagged (is_some m.date) in
     let flags = bits.0 in
-    let date = date_back (flags_byte m) m.date h.date bits.1 _ (from_be_bytes-to_be_bytes_8 (date_number m.date) (date_small m.date h.date)) in
-    λ i. record { archive = archive i; offset = offset i; length = span i; size = size i; date = date i; flags = flags i }
+    let date = date_back (flags_byte m) m.date h.date bits.1 _
+    (from_be_bytes-to_be_bytes_8 (date_number m.date) (date_small m.date h.date)) in
+    λ i. record {
+      archive = archive i;
+      offset = offset i;
+      length = span i;
+      size = size i;
+      date = date i;
+      flags =
+          flags i;
+    }
 
 pub behind_record : (m : Record) (x : List ℕ) → drop 40 (record_bytes m ++ x) ≡ x
 behind_record m x = refl
@@ -58,12 +75,14 @@ flags_kept (suc (suc (suc (suc (suc (suc (suc (suc (suc (suc (suc (suc zero)))))
 flags_kept (suc (suc (suc (suc (suc (suc (suc (suc (suc (suc (suc (suc (suc zero))))))))))))) h = refl
 flags_kept (suc (suc (suc (suc (suc (suc (suc (suc (suc (suc (suc (suc (suc (suc zero)))))))))))))) h = refl
 flags_kept (suc (suc (suc (suc (suc (suc (suc (suc (suc (suc (suc (suc (suc (suc (suc zero))))))))))))))) h = refl
-flags_kept (suc (suc (suc (suc (suc (suc (suc (suc (suc (suc (suc (suc (suc (suc (suc (suc n)))))))))))))))) h = absurd (omega (arith, h))
+flags_kept (suc (suc (suc (suc (suc (suc (suc (suc (suc (suc (suc (suc (suc (suc (suc (suc n)))))))))))))))) h =
+    absurd (omega (arith, h))
 
 some_date : (b : Bool) (z : ℤ) → is_some (cond b (Some z) None) ≡ b
 some_date b z = grind arith
 
-date_kept : (b : Bool) (n : ℕ) → n < 2 ^ 64 → (b || nat_eq n 0) ≡ true → date_number (cond b (Some (cast_signed w64 n)) None) ≡ n
+date_kept : (b : Bool) (n : ℕ) → n < 2 ^ 64 → (b || nat_eq n 0) ≡ true
+    → date_number (cond b (Some (cast_signed w64 n)) None) ≡ n
 date_kept b n h h2 = grind (arith, of_z-to_z, w64, nat_tests)
 
 u64_small : (r : List ℕ) (i : ℕ) → AreBytes r → i + 8 ≤ length r → u64_at r i < 2 ^ 64
@@ -72,11 +91,13 @@ u64_small r i h l =
     omega (arith, t.below 0, t.below 1, t.below 2, t.below 3, t.below 4, t.below 5, t.below 6, t.below 7)
 
 -- the bytes of a record that was read are those that it was read from
-pub record_kept : (r : List ℕ) → AreBytes r → 40 ≤ length r → is_record r ≡ true → record_bytes (read_record r) ++ drop 40 r ≡ r
+pub record_kept : (r : List ℕ) → AreBytes r → 40 ≤ length r → is_record r ≡ true
+    → record_bytes (read_record r) ++ drop 40 r ≡ r
 unfolding read_record is_record rebuilt
 record_kept r h l e =
     let f = byte_at r 4 in
-    let t₄ = both (nat_le f 15 && nat_eq (byte_at r 5) 0 && nat_eq (byte_at r 6) 0 && nat_eq (byte_at r 7) 0) (has_bit f 8 || nat_eq (u64_at r 32) 0) e in
+    let t₄ = both (nat_le f 15 && nat_eq (byte_at r 5) 0 && nat_eq (byte_at r 6) 0 && nat_eq (byte_at r 7) 0)
+    (has_bit f 8 || nat_eq (u64_at r 32) 0) e in
     let t₃ = both (nat_le f 15 && nat_eq (byte_at r 5) 0 && nat_eq (byte_at r 6) 0) (nat_eq (byte_at r 7) 0) t₄.0 in
     let t₂ = both (nat_le f 15 && nat_eq (byte_at r 5) 0) (nat_eq (byte_at r 6) 0) t₃.0 in
     let t₁ = both (nat_le f 15) (nat_eq (byte_at r 5) 0) t₂.0 in
@@ -84,9 +105,13 @@ record_kept r h l e =
     let zero₅ : byte_at r 5 ≡ 0 = grind (arith, nat_tests, t₁.1) in
     let zero₆ : byte_at r 6 ≡ 0 = grind (arith, nat_tests, t₂.1) in
     let zero₇ : byte_at r 7 ≡ 0 = grind (arith, nat_tests, t₃.1) in
-    let d : date_number (read_date f (u64_at r 32)) ≡ u64_at r 32 = date_kept (has_bit f 8) (u64_at r 32) (u64_small r 32 h (omega (arith, l))) t₄.1 in
-    let flags : flags_byte (read_record r) ≡ f = ap (λ (b : Bool). bit 1 (has_bit f 1) + bit 2 (has_bit f 2) + bit 4 (has_bit f 4) + bit 8 b) (some_date (has_bit f 8) (cast_signed w64 (u64_at r 32))) ∙ flags_kept f small in
-    let s₅ : be64 (date_number (read_date f (u64_at r 32))) ++ drop 40 r ≡ drop 32 r = ap (λ (n : ℕ). be64 n ++ drop 40 r) d ∙ u64_back r 32 40 h (omega (arith, l)) refl in
+    let d : date_number (read_date f (u64_at r 32)) ≡ u64_at r 32 =
+    date_kept (has_bit f 8) (u64_at r 32) (u64_small r 32 h (omega (arith, l))) t₄.1 in
+    let flags : flags_byte (read_record r) ≡ f =
+    ap (λ (b : Bool). bit 1 (has_bit f 1) + bit 2 (has_bit f 2) + bit 4 (has_bit f 4) + bit 8 b)
+    (some_date (has_bit f 8) (cast_signed w64 (u64_at r 32))) ∙ flags_kept f small in
+    let s₅ : be64 (date_number (read_date f (u64_at r 32))) ++ drop 40 r ≡ drop 32 r =
+    ap (λ (n : ℕ). be64 n ++ drop 40 r) d ∙ u64_back r 32 40 h (omega (arith, l)) refl in
     let s₄ : be64 (u64_at r 24) ++ drop 32 r ≡ drop 24 r = u64_back r 24 32 h (omega (arith, l)) refl in
     let s₃ : be64 (u64_at r 16) ++ drop 24 r ≡ drop 16 r = u64_back r 16 24 h (omega (arith, l)) refl in
     let s₂ : be64 (u64_at r 8) ++ drop 16 r ≡ drop 8 r = u64_back r 8 16 h (omega (arith, l)) refl in
@@ -96,16 +121,22 @@ record_kept r h l e =
     let b₄ : byte_at r 4 ∷ drop 5 r ≡ drop 4 r = byte_back r 4 5 (omega (arith, l)) refl in
     let s₁ : flags_byte (read_record r) ∷ 0 ∷ 0 ∷ 0 ∷ drop 8 r ≡ drop 4 r = cc in
     let s₀ : be32 (u32_at r 0) ++ drop 4 r ≡ r = u32_back r 0 4 h (omega (arith, l)) refl in
-    let fields = be32 (u32_at r 0) ∷ (flags_byte (read_record r) ∷ zeros) ∷ be64 (u64_at r 8) ∷ be64 (u64_at r 16) ∷ be64 (u64_at r 24) ∷ be64 (date_number (read_date f (u64_at r 32))) ∷ [] in
+    let fields = be32 (u32_at r 0) ∷ (flags_byte (read_record r) ∷ zeros) ∷ be64 (u64_at r 8) ∷ be64 (u64_at r 16) ∷
+    be64 (u64_at r 24) ∷ be64 (date_number (read_date f (u64_at r 32))) ∷ [] in
     concat_then fields (drop 40 r)
-    ∙ ap (λ (x : List ℕ). before (be32 (u32_at r 0) ∷ (flags_byte (read_record r) ∷ zeros) ∷ be64 (u64_at r 8) ∷ be64 (u64_at r 16) ∷ be64 (u64_at r 24) ∷ []) x) s₅
-    ∙ ap (λ (x : List ℕ). before (be32 (u32_at r 0) ∷ (flags_byte (read_record r) ∷ zeros) ∷ be64 (u64_at r 8) ∷ be64 (u64_at r 16) ∷ []) x) s₄
-    ∙ ap (λ (x : List ℕ). before (be32 (u32_at r 0) ∷ (flags_byte (read_record r) ∷ zeros) ∷ be64 (u64_at r 8) ∷ []) x) s₃
+    ∙ ap (λ (x : List ℕ). before (be32 (u32_at r 0) ∷ (flags_byte (read_record r) ∷ zeros) ∷ be64 (u64_at r 8) ∷ be64
+    (u64_at r 16) ∷ be64 (u64_at r 24) ∷ []) x) s₅
+    ∙ ap (λ (x : List ℕ). before (be32 (u32_at r 0) ∷ (flags_byte (read_record r) ∷ zeros) ∷ be64 (u64_at r 8) ∷ be64
+    (u64_at r 16) ∷ []) x) s₄
+    ∙ ap (λ (x : List ℕ). before (be32 (u32_at r 0) ∷ (flags_byte (read_record r) ∷ zeros) ∷ be64 (u64_at r 8) ∷ []) x)
+    s₃
     ∙ ap (λ (x : List ℕ). before (be32 (u32_at r 0) ∷ (flags_byte (read_record r) ∷ zeros) ∷ []) x) s₂
     ∙ ap (λ (x : List ℕ). be32 (u32_at r 0) ++ x) s₁
     ∙ s₀
 
-few_flags : (a b c d : Bool) (n : ℕ) → (d ≡ false → n ≡ 0) → ((((nat_le (bit 1 a + bit 2 b + bit 4 c + bit 8 d) 15 && true) && true) && true) && (has_bit (bit 1 a + bit 2 b + bit 4 c + bit 8 d) 8 || nat_eq n 0)) ≡ true
+few_flags : (a b c d : Bool) (n : ℕ) → (d ≡ false → n ≡ 0)
+    → ((((nat_le (bit 1 a + bit 2 b + bit 4 c + bit 8 d) 15 && true) && true) && true) &&
+    (has_bit (bit 1 a + bit 2 b + bit 4 c + bit 8 d) 8 || nat_eq n 0)) ≡ true
 few_flags a b c d n h = grind arith
 
 no_date : (date : Option ℤ) → is_some date ≡ false → date_number date ≡ 0
@@ -115,4 +146,5 @@ no_date date h = grind arith
 pub record_passes : (m : Record) (x : List ℕ) → HasSmallFields m → is_record (record_bytes m ++ x) ≡ true
 unfolding is_record
 record_passes m x h =
-    few_flags m.flags.seen m.flags.replied m.flags.flagged (is_some m.date) _ (λ e. from_be_bytes-to_be_bytes_8 (date_number m.date) (date_small m.date h.date) ∙ no_date m.date e)
+    few_flags m.flags.seen m.flags.replied m.flags.flagged (is_some m.date) _
+    (λ e. from_be_bytes-to_be_bytes_8 (date_number m.date) (date_small m.date h.date) ∙ no_date m.date e)

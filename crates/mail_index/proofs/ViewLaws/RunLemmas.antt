@@ -1,6 +1,12 @@
 -- The keys of a kind whose texts begin with a text follow one another, because sorted keys compare with them in rising
 -- order.
-use Rattle.mail_index.proofs.Words.{◌≡◌, ◌∙◌, ℕ, zero, suc, ◌+◌, ◌-◌, ◌<◌, ◌≤◌, Bool, true, false, cond, ◌&&◌, List, [], ◌∷◌, length, map, take, drop, get_or, refl, sym, ap, ap₂, subst, arith, length-drop, nat_eq, bytes_eq, Ordering, Less, Equal, Greater, nat_cmp, is_eq, is_lt, ordering_index, ordering_then, slice_cmp, filter, starts_with, length-map, get_or-map, get_or-drop, drop_more, nat_tests, same_from_decides, Decides-like, ranked, is_eq-slice_cmp, Less-from_sorted, bytes_eq-Decides, Kind, kind_number, Key, is_of_kind, AreSorted, keys_of, keys_beginning}
+use Rattle.mail_index.proofs.Words.{◌≡◌, ◌∙◌, ℕ, zero, suc, ◌+◌, ◌-◌, ◌<◌, ◌≤◌, Bool, true, false, cond, ◌&&◌, List, []}
+use Rattle.mail_index.proofs.Words.{◌∷◌, length, map, take, drop, get_or, refl, sym, ap, ap₂, subst, arith, length-drop}
+use Rattle.mail_index.proofs.Words.{nat_eq, bytes_eq, Ordering, Less, Equal, Greater, nat_cmp, is_eq, is_lt}
+use Rattle.mail_index.proofs.Words.{ordering_index, ordering_then, slice_cmp, filter, starts_with, length-map}
+use Rattle.mail_index.proofs.Words.{get_or-map, get_or-drop, drop_more, nat_tests, same_from_decides, Decides-like}
+use Rattle.mail_index.proofs.Words.{ranked, is_eq-slice_cmp, Less-from_sorted, bytes_eq-Decides, Kind, kind_number, Key}
+use Rattle.mail_index.proofs.Words.{is_of_kind, AreSorted, keys_of, keys_beginning}
 use Rattle.mail_index.specs.Inside.KeyRuns.{lies_to_run, keys_between}
 use Rattle.mail_index.proofs.ViewLaws.KindNumbers.{tied}
 use Rattle.mail_index.proofs.ViewLaws.LookUpLemmas.{key_bytes}
@@ -11,7 +17,8 @@ use Rattle.mail_index.proofs.ViewLaws.LookUpLemmas.{key_bytes}
 abbrev front_lies : List ℕ → List ℕ → Ordering
 front_lies wanted bytes = slice_cmp nat_cmp (take (length wanted) bytes) wanted
 
-fronts-rise : (wanted a b : List ℕ) → slice_cmp nat_cmp a b ≡ Less → ordering_index (front_lies wanted a) ≤ ordering_index (front_lies wanted b)
+fronts-rise : (wanted a b : List ℕ) → slice_cmp nat_cmp a b ≡ Less
+    → ordering_index (front_lies wanted a) ≤ ordering_index (front_lies wanted b)
 fronts-rise [] a b h = omega arith
 fronts-rise (w ∷ ws) [] b h = omega arith
 fronts-rise (w ∷ ws) (x ∷ xs) [] h = absurd cc
@@ -19,44 +26,53 @@ fronts-rise (w ∷ ws) (x ∷ xs) (y ∷ ys) h = go (nat_cmp x y) (nat_cmp x w) 
   where
     go : (o p : Ordering) → nat_cmp x y ≡ o → nat_cmp x w ≡ p → ordering_then o (slice_cmp nat_cmp xs ys) ≡ Less
         → (slice_cmp nat_cmp xs ys ≡ Less → ordering_index (front_lies ws xs) ≤ ordering_index (front_lies ws ys))
-        → ordering_index (ordering_then p (front_lies ws xs)) ≤ ordering_index (ordering_then (nat_cmp y w) (front_lies ws ys))
+        → ordering_index (ordering_then p (front_lies ws xs)) ≤ ordering_index
+        (ordering_then (nat_cmp y w) (front_lies ws ys))
     go o p h h2 h3 h4 = grind (arith, ranked, tied)
 
 pub runs-rise : (kind : Kind) (text : List ℕ) (ks : List Key) (d : Key) (i j : ℕ) → AreSorted ks → i ≤ j → j < length ks
     → ordering_index (lies_to_run kind text (get_or ks i d)) ≤ ordering_index (lies_to_run kind text (get_or ks j d))
 runs-rise kind text ks d i j sorted le within = go (nat_eq i j) refl
   where
-    go : (t : Bool) → nat_eq i j ≡ t → ordering_index (lies_to_run kind text (get_or ks i d)) ≤ ordering_index (lies_to_run kind text (get_or ks j d))
+    go : (t : Bool) → nat_eq i j ≡ t → ordering_index (lies_to_run kind text (get_or ks i d)) ≤ ordering_index
+        (lies_to_run kind text (get_or ks j d))
     go true e = grind (arith, nat_tests, ordering_index)
     go false e =
         let lower : i < j = grind (arith, nat_tests) in
         let inside : j < length (map key_bytes ks) = omega (arith, within, length-map ks key_bytes) in
         fronts-rise (kind_number kind ∷ text) (key_bytes (get_or ks i d)) (key_bytes (get_or ks j d))
-        (ap₂ (slice_cmp nat_cmp) (sym (get_or-map key_bytes ks i d (key_bytes d) (omega (arith, lower, within)))) (sym (get_or-map key_bytes ks j d (key_bytes d) within))
+        (ap₂ (slice_cmp nat_cmp) (sym (get_or-map key_bytes ks i d (key_bytes d) (omega (arith, lower, within))))
+        (sym (get_or-map key_bytes ks j d (key_bytes d) within))
         ∙ Less-from_sorted (slice_cmp nat_cmp) (map key_bytes ks) i j (key_bytes d) sorted lower inside)
 
 -- what a comparison of two orderings says about them
-pub less_index : (o p : Ordering) → is_lt (nat_cmp (ordering_index o) (ordering_index p)) ≡ true → ordering_index o < ordering_index p
+pub less_index : (o p : Ordering) → is_lt (nat_cmp (ordering_index o) (ordering_index p)) ≡ true
+    → ordering_index o < ordering_index p
 less_index o p h = grind (arith, nat_cmp, ordering_index, is_lt, ranked)
 
-pub no_less_index : (o p : Ordering) → is_lt (nat_cmp (ordering_index o) (ordering_index p)) ≡ false → ordering_index p ≤ ordering_index o
+pub no_less_index : (o p : Ordering) → is_lt (nat_cmp (ordering_index o) (ordering_index p)) ≡ false
+    → ordering_index p ≤ ordering_index o
 no_less_index o p h = grind (arith, nat_cmp, ordering_index, is_lt, ranked)
 
 -- ---- the keys of a run
 
 pub bytes_turned : (xs ys : List ℕ) → bytes_eq xs ys ≡ bytes_eq ys xs
-bytes_turned xs ys = same_from_decides (bytes_eq xs ys) (bytes_eq ys xs) (bytes_eq-Decides xs ys) (Decides-like (bytes_eq ys xs) sym sym (bytes_eq-Decides ys xs))
+bytes_turned xs ys = same_from_decides (bytes_eq xs ys) (bytes_eq ys xs) (bytes_eq-Decides xs ys)
+    (Decides-like (bytes_eq ys xs) sym sym (bytes_eq-Decides ys xs))
 
 -- a key compares as equal with a run exactly if it is one of its keys
-in_run : (kind : Kind) (text : List ℕ) (k : Key) → (is_of_kind kind k && starts_with nat_eq k.text text) ≡ is_eq (lies_to_run kind text k)
+in_run : (kind : Kind) (text : List ℕ) (k : Key) → (is_of_kind kind k && starts_with nat_eq k.text text)
+    ≡ is_eq (lies_to_run kind text k)
 in_run kind text k = grind (arith, is_of_kind, bytes_turned, is_eq-slice_cmp, kind_number)
 
-beginning-more : (kind : Kind) (text : List ℕ) (k : Key) (ks : List Key) (b : Bool) → is_eq (lies_to_run kind text k) ≡ b
+beginning-more : (kind : Kind) (text : List ℕ) (k : Key) (ks : List Key) (b : Bool) → is_eq (lies_to_run kind text k)
+    ≡ b
     → keys_beginning kind text (k ∷ ks) ≡ cond b (k ∷ keys_beginning kind text ks) (keys_beginning kind text ks)
 beginning-more kind text k ks b e = go (is_of_kind kind k) (in_run kind text k ∙ e)
   where
     go : (of : Bool) → (of && starts_with nat_eq k.text text) ≡ b
-        → filter (λ key. starts_with nat_eq key.text text) (cond of (k ∷ keys_of kind ks) (keys_of kind ks)) ≡ cond b (k ∷ keys_beginning kind text ks) (keys_beginning kind text ks)
+        → filter (λ key. starts_with nat_eq key.text text) (cond of (k ∷ keys_of kind ks) (keys_of kind ks))
+        ≡ cond b (k ∷ keys_beginning kind text ks) (keys_beginning kind text ks)
     go of h = grind (arith, keys_beginning)
 
 lies_before : (o : Ordering) → ordering_index o < ordering_index Equal → is_eq o ≡ false
@@ -65,43 +81,56 @@ lies_before o h = grind arith
 lies_behind : (o : Ordering) → ordering_index Greater ≤ ordering_index o → is_eq o ≡ false
 lies_behind o h = grind arith
 
-lies_among : (o : Ordering) → ordering_index Equal ≤ ordering_index o → ordering_index o < ordering_index Greater → is_eq o ≡ true
+lies_among : (o : Ordering) → ordering_index Equal ≤ ordering_index o → ordering_index o < ordering_index Greater
+    → is_eq o ≡ true
 lies_among o h h2 = grind arith
 
 -- no key of the run comes before the run's first key
 beginning-behind : (kind : Kind) (text : List ℕ) (ks : List Key) (n : ℕ) (d : Key) → n ≤ length ks
-    → ((j : ℕ) → j < n → is_eq (lies_to_run kind text (get_or ks j d)) ≡ false) → keys_beginning kind text ks ≡ keys_beginning kind text (drop n ks)
+    → ((j : ℕ) → j < n → is_eq (lies_to_run kind text (get_or ks j d)) ≡ false) → keys_beginning kind text ks
+    ≡ keys_beginning kind text (drop n ks)
 beginning-behind kind text ks zero d within before = refl
 beginning-behind kind text [] (suc n) d within before = absurd (omega (arith, within))
 beginning-behind kind text (k ∷ ks) (suc n) d within before =
-    beginning-more kind text k ks false (before 0 (omega arith)) ∙ beginning-behind kind text ks n d (omega (arith, within)) (λ j lt. before (suc j) (omega (arith, lt)))
+    beginning-more kind text k ks false (before 0 (omega arith))
+    ∙ beginning-behind kind text ks n d (omega (arith, within)) (λ j lt. before (suc j) (omega (arith, lt)))
 
 -- the first keys are the run
-beginning-first : (kind : Kind) (text : List ℕ) (ks : List Key) (n : ℕ) (d : Key) → ((j : ℕ) → j < n → j < length ks → is_eq (lies_to_run kind text (get_or ks j d)) ≡ true)
-    → ((j : ℕ) → n ≤ j → j < length ks → is_eq (lies_to_run kind text (get_or ks j d)) ≡ false) → keys_beginning kind text ks ≡ take n ks
+beginning-first : (kind : Kind) (text : List ℕ) (ks : List Key) (n : ℕ) (d : Key)
+    → ((j : ℕ) → j < n → j < length ks → is_eq (lies_to_run kind text (get_or ks j d)) ≡ true)
+    → ((j : ℕ) → n ≤ j → j < length ks → is_eq (lies_to_run kind text (get_or ks j d)) ≡ false)
+    → keys_beginning kind text ks ≡ take n ks
 beginning-first kind text [] zero d among behind = refl
 beginning-first kind text [] (suc n) d among behind = refl
 beginning-first kind text (k ∷ ks) zero d among behind =
     beginning-more kind text k ks false (behind 0 (omega arith) (omega arith))
-    ∙ beginning-first kind text ks zero d (λ j lt. absurd (omega (arith, lt))) (λ j le lt. behind (suc j) (omega arith) (omega (arith, lt)))
+    ∙ beginning-first kind text ks zero d (λ j lt. absurd (omega (arith, lt)))
+    (λ j le lt. behind (suc j) (omega arith) (omega (arith, lt)))
 beginning-first kind text (k ∷ ks) (suc n) d among behind =
     beginning-more kind text k ks true (among 0 (omega arith) (omega arith))
-    ∙ ap (λ (l : List Key). k ∷ l) (beginning-first kind text ks n d (λ j lt less. among (suc j) (omega (arith, lt)) (omega (arith, less))) (λ j le lt. behind (suc j) (omega (arith, le)) (omega (arith, lt))))
+    ∙ ap (λ (l : List Key). k ∷ l) (beginning-first kind text ks n d
+    (λ j lt less. among (suc j) (omega (arith, lt)) (omega (arith, less)))
+    (λ j le lt. behind (suc j) (omega (arith, le)) (omega (arith, lt))))
 
 -- the run begins at the first key that isn't before it and ends at the first key after it
 pub keys_beginning-between : (kind : Kind) (text : List ℕ) (ks : List Key) (low high : ℕ) (d : Key) → low ≤ length ks
     → ((j : ℕ) → j < low → ordering_index (lies_to_run kind text (get_or ks j d)) < ordering_index Equal)
-    → ((j : ℕ) → low ≤ j → j < length ks → ordering_index Equal ≤ ordering_index (lies_to_run kind text (get_or ks j d)))
+    → ((j : ℕ) → low ≤ j → j < length ks → ordering_index Equal ≤ ordering_index
+    (lies_to_run kind text (get_or ks j d)))
     → ((j : ℕ) → j < high → ordering_index (lies_to_run kind text (get_or ks j d)) < ordering_index Greater)
-    → ((j : ℕ) → high ≤ j → j < length ks → ordering_index Greater ≤ ordering_index (lies_to_run kind text (get_or ks j d)))
+    → ((j : ℕ) → high ≤ j → j < length ks → ordering_index Greater ≤ ordering_index
+    (lies_to_run kind text (get_or ks j d)))
     → keys_beginning kind text ks ≡ keys_between low high ks
 keys_beginning-between kind text ks low high d within before from until behind =
-    beginning-behind kind text ks low d within (λ j lt. lies_before (lies_to_run kind text (get_or ks j d)) (before j lt))
+    beginning-behind kind text ks low d within
+    (λ j lt. lies_before (lies_to_run kind text (get_or ks j d)) (before j lt))
     ∙ beginning-first kind text (drop low ks) (high - low) d
     (λ j lt less. at j (λ k. is_eq (lies_to_run kind text k) ≡ true)
-    (lies_among (lies_to_run kind text (get_or ks (low + j) d)) (from (low + j) (omega arith) (omega (arith, less, length-drop low ks))) (until (low + j) (omega (arith, lt)))))
+    (lies_among (lies_to_run kind text (get_or ks (low + j) d))
+    (from (low + j) (omega arith) (omega (arith, less, length-drop low ks))) (until (low + j) (omega (arith, lt)))))
     (λ j le less. at j (λ k. is_eq (lies_to_run kind text k) ≡ false)
-    (lies_behind (lies_to_run kind text (get_or ks (low + j) d)) (behind (low + j) (omega (arith, le)) (omega (arith, less, length-drop low ks)))))
+    (lies_behind (lies_to_run kind text (get_or ks (low + j) d))
+    (behind (low + j) (omega (arith, le)) (omega (arith, less, length-drop low ks)))))
   where
     at : (j : ℕ) (P : Key → Type 0) → P (get_or ks (low + j) d) → P (get_or (drop low ks) j d)
     at j P p = subst P (sym (get_or-drop low ks j d)) p
@@ -120,5 +149,6 @@ keys_beginning-none kind ks = all-kept (keys_of kind ks)
 pub between-none : (low high : ℕ) (ks : List Key) → high ≤ low → keys_between low high ks ≡ []
 between-none low high ks le = let none : high - low ≡ 0 = omega (arith, le) in ap (λ n. take n (drop low ks)) none
 
-pub between-next : (low high : ℕ) (ks : List Key) (d : Key) → low < high → high ≤ length ks → keys_between low high ks ≡ get_or ks low d ∷ keys_between (low + 1) high ks
+pub between-next : (low high : ℕ) (ks : List Key) (d : Key) → low < high → high ≤ length ks → keys_between low high ks
+    ≡ get_or ks low d ∷ keys_between (low + 1) high ks
 between-next low high ks d less within = grind (arith, drop_more)

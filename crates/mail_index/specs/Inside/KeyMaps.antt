@@ -1,5 +1,6 @@
 -- The keys of a builder: entries in the order in which they came, and their numbers in the order of their keys.
-use Rattle.std.specs.Prelude.{◌≡◌, ℕ, zero, suc, ◌+◌, ◌-◌, ◌<◌, ◌≤◌, ◌⊎◌, nat_le, if◌then◌else◌, List, [], ◌∷◌, ◌++◌, length, map, take, drop, Vec}
+use Rattle.std.specs.Prelude.{◌≡◌, ℕ, zero, suc, ◌+◌, ◌-◌, ◌<◌, ◌≤◌, ◌⊎◌, nat_le, if◌then◌else◌, List, [], ◌∷◌, ◌++◌}
+use Rattle.std.specs.Prelude.{length, map, take, drop, Vec}
 use Rattle.std.specs.Global.{Global}
 use Rattle.std.specs.declared.cmp.Ordering.TheVariants.{Less, Equal, Greater}
 use Rattle.std.specs.List.{AllByRecursion, slice_index, slice_index_or}
@@ -35,7 +36,12 @@ with_one k n = record { kind = k.kind; text = k.text; numbers = with_number k.nu
 
 -- the key with these postings, from a front: the number of its kind and its text
 abbrev pub key_in : List ℕ → List ℕ → Key
-key_in front postings = record { kind = kind_of_number (slice_index front 0); text = drop 1 front; numbers = numbers_of postings }
+key_in front postings = record {
+  kind = kind_of_number (slice_index front 0);
+  text = drop 1 front;
+  numbers =
+      numbers_of postings;
+}
 
 -- the key of an entry's bytes, if this many bytes come before its postings
 abbrev pub key_of_bytes : List ℕ → ℕ → Key
@@ -44,7 +50,8 @@ key_of_bytes bytes front = key_in (take front bytes) (drop front bytes)
 -- this many of the bytes are the number of a kind and a text, and the others are postings of numbers below `next`
 pub record AreEntryBytes (bytes : List ℕ) (front next : ℕ) : Type 0 where
   pub long : front ≤ length bytes
-  pub kind : kind_number (kind_of_number (slice_index (take front bytes) 0)) ∷ drop 1 (take front bytes) ≡ take front bytes
+  pub kind : kind_number (kind_of_number (slice_index (take front bytes) 0)) ∷ drop 1 (take front bytes)
+      ≡ take front bytes
   pub posted : IsPosted (drop front bytes) next
 
 -- what is kept apart of a front with this many bytes: all of it if it is short, otherwise the number of the kind
@@ -172,10 +179,11 @@ pub record IsPlaceIn (pages : List (Vec Fronted Global)) (place : Place) : Type 
   pub at : place.at ≤ length (row_at pages place.page)
 
 -- the wanted key is that of no entry and would come at this place, which has its front
-pub record IsPlaceFor (kind : Kind) (text : List ℕ) (entries : List Key) (order : KeyOrder) (place : Place) : Type 0 where
-  pub inside : IsPlaceIn order.pages.items place
-  pub gap : IsGap kind text (keys_in entries order) (place_in order place)
-  pub front : IsFrontOf kind text place.front
+pub record IsPlaceFor (kind : Kind) (text : List ℕ) (entries : List Key) (order : KeyOrder) (place : Place) : Type 0
+  where
+    pub inside : IsPlaceIn order.pages.items place
+    pub gap : IsGap kind text (keys_in entries order) (place_in order place)
+    pub front : IsFrontOf kind text place.front
 
 -- ---- faults
 

@@ -1,7 +1,8 @@
 -- What is written of each key in the sections about keys.
 use Rattle.std.specs.Prelude.{ℕ, List}
 use Rattle.mail_index.specs.declared.build.key_sections.KeyPart.{KeyPart}
-use Rattle.mail_index.specs.declared.build.key_sections.KeyPart.TheVariants.{Entry as InEntry, Text as InText, Postings as InPostings}
+use Rattle.mail_index.specs.declared.build.key_sections.KeyPart.TheVariants.{Entry as InEntry, Text as InText}
+use Rattle.mail_index.specs.declared.build.key_sections.KeyPart.TheVariants.{Postings as InPostings}
 use Rattle.mail_index.specs.Files.{Entry, entry_bytes, directory_from, texts_of, postings_of}
 
 -- the part of one key, whose text and postings have these places

@@ -5,14 +5,17 @@ use Rattle.mail_index.specs.declared.build.sections.Counts.{Counts}
 use Rattle.mail_index.specs.Tables.{Table}
 use Rattle.mail_index.specs.Versions.{newest}
 use Rattle.mail_index.specs.declared.build.sections.FileSection.{FileSection}
-use Rattle.mail_index.specs.declared.build.sections.FileSection.TheVariants.{Counts as CountSection, Archives, Records, Keys}
-use Rattle.mail_index.specs.Files.{magic, be32, be64, archive_section, record_bytes, texts_of, postings_of, entries, counts}
+use Rattle.mail_index.specs.declared.build.sections.FileSection.TheVariants.{Counts as CountSection, Archives, Records}
+use Rattle.mail_index.specs.declared.build.sections.FileSection.TheVariants.{Keys}
+use Rattle.mail_index.specs.Files.{magic, be32, be64, archive_section, record_bytes, texts_of, postings_of, entries}
+use Rattle.mail_index.specs.Files.{counts}
 use Rattle.mail_index.specs.Inside.KeyParts.{keys_from}
 
 -- the counts as fields of the file
 abbrev pub counted : Counts → List (List ℕ)
 counted c =
-    magic ∷ be32 newest ∷ be32 c.archives ∷ be32 c.messages ∷ be32 c.keys ∷ be64 c.archive_bytes ∷ be64 c.text_bytes ∷ be64 c.posting_bytes ∷ []
+    magic ∷ be32 newest ∷ be32 c.archives ∷ be32 c.messages ∷ be32 c.keys ∷ be64 c.archive_bytes ∷ be64 c.text_bytes ∷
+    be64 c.posting_bytes ∷ []
 
 -- these are the counts of the table
 pub record IsCountOf (t : Table) (c : Counts) : Type 0 where

@@ -14,7 +14,8 @@ MayFollow version count p m = IsNextRecord version count p.archive p.offset p.ar
 -- q is the place after this message
 abbrev pub IsBehindMessage : ℕ → ℕ → RecordPlace → Record → RecordPlace → Type 0
 IsBehindMessage version count p m q =
-    (q.archive ≡ m.archive) × (q.offset ≡ m.offset + m.length) × (q.archives.now ≡ behind_archives version (m.archive - p.archive) p.archives.now)
+    (q.archive ≡ m.archive) × (q.offset ≡ m.offset + m.length)
+    × (q.archives.now ≡ behind_archives version (m.archive - p.archive) p.archives.now)
     × SpellsArchives version (count - q.archive) q.archives.now
 
 -- the first entry of the directory may come at this place
@@ -24,4 +25,5 @@ MayStandAt version texts total p d = IsEntryAt version texts total p.text_place 
 -- q is the place after this entry
 abbrev pub IsBehindEntry : List ℕ → ℕ → EntryPlace → List ℕ → EntryPlace → Type 0
 IsBehindEntry texts total p d q =
-    (q.text_place ≡ p.text_place + u32_at d 4) × (q.place ≡ end_before (drop 24 d) total) × (q.number ≡ byte_at d 0) × (q.text.now ≡ text_at texts d)
+    (q.text_place ≡ p.text_place + u32_at d 4) × (q.place ≡ end_before (drop 24 d) total) × (q.number ≡ byte_at d 0)
+    × (q.text.now ≡ text_at texts d)

@@ -1,5 +1,10 @@
 -- The queries of the boolean language have at most 63 levels, because at most 30 `(` and `not` are open.
-use Rattle.mail_query.proofs.Words.{◌≡◌, ℕ, suc, ◌+◌, ◌*◌, ◌-◌, ◌<◌, ◌≤◌, Bool, true, cond, ltb, ltb-true, List, [], ◌∷◌, map, Option, Result, Err, subst, arith, Fields, QueryFaultKind, Phrase, Query, depth, all_of, either_of, Lexicon, Token, Parts, parts_of, no_fields, is_phrase, cut_query, Link, Beside, ByAnd, ByOr, Item, NotOf, Group, Leaf, Chain, Last, Then, linked, query_or_any, seen_behind, item_query, chain_queries, is_fine_item, is_fine_chain, Reads}
+use Rattle.mail_query.proofs.Words.{◌≡◌, ℕ, suc, ◌+◌, ◌*◌, ◌-◌, ◌<◌, ◌≤◌, Bool, true, cond, ltb, ltb-true, List, []}
+use Rattle.mail_query.proofs.Words.{◌∷◌, map, Option, Result, Err, subst, arith, Fields, QueryFaultKind, Phrase, Query}
+use Rattle.mail_query.proofs.Words.{depth, all_of, either_of, Lexicon, Token, Parts, parts_of, no_fields, is_phrase}
+use Rattle.mail_query.proofs.Words.{cut_query, Link, Beside, ByAnd, ByOr, Item, NotOf, Group, Leaf, Chain, Last, Then}
+use Rattle.mail_query.proofs.Words.{linked, query_or_any, seen_behind, item_query, chain_queries, is_fine_item}
+use Rattle.mail_query.proofs.Words.{is_fine_chain, Reads}
 use Rattle.mail_query.specs.BooleanTerms.{term_query}
 use Rattle.mail_query.proofs.BooleanLaws.BooleanComplete.{and_left, and_right}
 use Rattle.mail_query.proofs.MairixLaws.DepthLemmas.{AreShallow, depth-all_of, depth-either_of}
@@ -31,7 +36,8 @@ unfolding AreShallow AllShallow
 eaches_shallow m [] h = tt
 eaches_shallow m (qs ∷ qss) h = (depth-all_of m qs h.0, eaches_shallow m qss h.1)
 
-linked_shallow : (m : ℕ) (l : Link) (q : Query) (qss : List (List Query)) → depth q ≤ m → AllShallow m qss → AllShallow m (linked l q qss)
+linked_shallow : (m : ℕ) (l : Link) (q : Query) (qss : List (List Query)) → depth q ≤ m → AllShallow m qss
+    → AllShallow m (linked l q qss)
 unfolding AreShallow AllShallow
 linked_shallow m Beside q [] h k = ((h, tt), tt)
 linked_shallow m Beside q (qs ∷ qss) h k = ((h, k.0), k.1)
@@ -40,28 +46,43 @@ linked_shallow m ByAnd q (qs ∷ qss) h k = ((h, k.0), k.1)
 linked_shallow m ByOr q qss h k = ((h, tt), k)
 
 -- members of an alternative have at most 61 levels, less two for each open `(` or `not`; a group has two more
-made_depth : (n : ℕ) (qss : List (List Query)) → n ≤ 30 → AllShallow (61 - 2 * n) qss → depth (either_of (map all_of qss)) ≤ 63 - 2 * n
-made_depth n qss few h = omega (arith, few, depth-either_of (suc (61 - 2 * n)) (map all_of qss) (eaches_shallow (61 - 2 * n) qss h))
+made_depth : (n : ℕ) (qss : List (List Query)) → n ≤ 30 → AllShallow (61 - 2 * n) qss
+    → depth (either_of (map all_of qss)) ≤ 63 - 2 * n
+made_depth n qss few h = omega (
+  arith,
+  few,
+  depth-either_of (suc (61 - 2 * n)) (map all_of qss) (eaches_shallow (61 - 2 * n) qss h),
+)
 
 module _ (lexicon : Lexicon) where
   mutual
     unfolding IsFlat AreShallow AllShallow
 
-    item_depth : (i : Item) (n : ℕ) (seen : Fields) → n ≤ 30 → is_fine_item lexicon i n seen ≡ true → depth (item_query lexicon i) ≤ 61 - 2 * n
+    item_depth : (i : Item) (n : ℕ) (seen : Fields) → n ≤ 30 → is_fine_item lexicon i n seen ≡ true
+        → depth (item_query lexicon i) ≤ 61 - 2 * n
     item_depth (Leaf t) n seen few h = omega (arith, few, term_flat lexicon t)
     item_depth (NotOf i) n seen few h =
         let room : n < 30 = ltb-true n 30 (and_left (ltb n 30) _ h) in
         omega (arith, room, item_depth i (n + 1) no_fields (omega (arith, room)) (and_right (ltb n 30) _ h))
     item_depth (Group c) n seen few h =
         let room : n < 30 = ltb-true n 30 (and_left (ltb n 30) _ h) in
-        omega (arith, room, made_depth (n + 1) (chain_queries lexicon c) (omega (arith, room)) (chain_shallow c (n + 1) no_fields (omega (arith, room)) (and_right (ltb n 30) _ h)))
+        omega (
+          arith,
+          room,
+          made_depth (n + 1) (chain_queries lexicon c) (omega (arith, room))
+              (chain_shallow c (n + 1) no_fields (omega (arith, room)) (and_right (ltb n 30) _ h)),
+        )
 
-    chain_shallow : (c : Chain) (n : ℕ) (seen : Fields) → n ≤ 30 → is_fine_chain lexicon c n seen ≡ true → AllShallow (61 - 2 * n) (chain_queries lexicon c)
+    chain_shallow : (c : Chain) (n : ℕ) (seen : Fields) → n ≤ 30 → is_fine_chain lexicon c n seen ≡ true
+        → AllShallow (61 - 2 * n) (chain_queries lexicon c)
     chain_shallow (Last i) n seen few h = ((item_depth i n seen few h, tt), tt)
     chain_shallow (Then i l c) n seen few h =
-        linked_shallow (61 - 2 * n) l (item_query lexicon i) (chain_queries lexicon c) (item_depth i n seen few (and_left (is_fine_item lexicon i n seen) _ h))
+        linked_shallow (61 - 2 * n) l (item_query lexicon i) (chain_queries lexicon c)
+        (item_depth i n seen few (and_left (is_fine_item lexicon i n seen) _ h))
         (chain_shallow c n (seen_behind i l seen) few (and_right (is_fine_item lexicon i n seen) _ h))
 
   -- each query that the grammar gives has at most 63 levels
   pub reads_depth : (ts : List Token) (q : Query) → Reads lexicon ts q → depth q ≤ 63
-  reads_depth ts q r = subst (λ (asked : Query). depth asked ≤ 63) r.asked (made_depth 0 (chain_queries lexicon r.tree) (omega arith) (chain_shallow r.tree 0 no_fields (omega arith) r.fine))
+  reads_depth ts q r = subst (λ (asked : Query). depth asked ≤ 63) r.asked
+      (made_depth 0 (chain_queries lexicon r.tree) (omega arith)
+      (chain_shallow r.tree 0 no_fields (omega arith) r.fine))

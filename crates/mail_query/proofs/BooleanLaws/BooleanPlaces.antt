@@ -1,7 +1,22 @@
 -- The reader's fault is the first fault, because the tokens before a place determine the state there.
-use Rattle.mail_query.proofs.Words.{◌≡◌, ℕ, zero, suc, ◌+◌, Bool, true, false, not, cond, eqb, List, [], ◌∷◌, ◌++◌, length, Option, None, Some, Result, Ok, Err, refl, sym, ap, subst, ◌∙◌, append-nil, arith, is_none, ◌>>=◌, fault_as, Field, Fields, QueryFault, QueryFaultKind, NeedsOperator, MissingTerm, Lexicon, Query, Token, Open, Close, AndSign, OrSign, NotSign, no_fields, with_field, parts_query, Link, Beside, ByAnd, ByOr, Item, NotOf, Group, Leaf, Chain, Last, Then, link_tokens, item_tokens, chain_tokens, plain_prefix, seen_behind, Reads, is_wanted, open_count, waiting_count, is_not, fields_before, needs_operator, err_of, deep_fault, operator_fault, close_fault, end_fault, first_some, term_fault, token_fault, first_fault_from, first_fault, Level, Waiting, State, is_negated, has_open, deeper, closed, ended, cut_term_step, term_step, step, run_from, tokens_query}
+use Rattle.mail_query.proofs.Words.{◌≡◌, ℕ, zero, suc, ◌+◌, Bool, true, false, not, cond, eqb, List, [], ◌∷◌, ◌++◌}
+use Rattle.mail_query.proofs.Words.{length, Option, None, Some, Result, Ok, Err, refl, sym, ap, subst, ◌∙◌, append-nil}
+use Rattle.mail_query.proofs.Words.{arith, is_none, ◌>>=◌, fault_as, Field, Fields, QueryFault, QueryFaultKind}
+use Rattle.mail_query.proofs.Words.{NeedsOperator, MissingTerm, Lexicon, Query, Token, Open, Close, AndSign, OrSign}
+use Rattle.mail_query.proofs.Words.{NotSign, no_fields, with_field, parts_query, Link, Beside, ByAnd, ByOr, Item, NotOf}
+use Rattle.mail_query.proofs.Words.{Group, Leaf, Chain, Last, Then, link_tokens, item_tokens, chain_tokens}
+use Rattle.mail_query.proofs.Words.{plain_prefix, seen_behind, Reads, is_wanted, open_count, waiting_count, is_not}
+use Rattle.mail_query.proofs.Words.{fields_before, needs_operator, err_of, deep_fault, operator_fault, close_fault}
+use Rattle.mail_query.proofs.Words.{end_fault, first_some, term_fault, token_fault, first_fault_from, first_fault}
+use Rattle.mail_query.proofs.Words.{Level, Waiting, State, is_negated, has_open, deeper, closed, ended, cut_term_step}
+use Rattle.mail_query.proofs.Words.{term_step, step, run_from, tokens_query}
 use Rattle.mail_query.proofs.BooleanLaws.BooleanComplete.{reading_answered}
-use Rattle.mail_query.proofs.BooleanLaws.BooleanTrees.{Front, Nothing, Behind, Part, Wait, WaitNot, WaitClose, nothing_read, front_tokens, last_tokens, part_tokens, spelled, seen_front, last_prefix, seen_of, wanted_of, waits_not, wanted_behind, front_wanted, is_closed, level_of, waiting_of, state_of, length-waiting_of, negated-waiting_of, Fine, reach, answer_read}
+use Rattle.mail_query.proofs.BooleanLaws.BooleanTrees.{Front, Nothing, Behind, Part, Wait, WaitNot, WaitClose}
+use Rattle.mail_query.proofs.BooleanLaws.BooleanTrees.{nothing_read, front_tokens, last_tokens, part_tokens, spelled}
+use Rattle.mail_query.proofs.BooleanLaws.BooleanTrees.{seen_front, last_prefix, seen_of, wanted_of, waits_not}
+use Rattle.mail_query.proofs.BooleanLaws.BooleanTrees.{wanted_behind, front_wanted, is_closed, level_of, waiting_of}
+use Rattle.mail_query.proofs.BooleanLaws.BooleanTrees.{state_of, length-waiting_of, negated-waiting_of, Fine, reach}
+use Rattle.mail_query.proofs.BooleanLaws.BooleanTrees.{answer_read}
 
 -- tokens after those before them, the nearest first
 abbrev behind : List Token → List Token → List Token
@@ -39,10 +54,12 @@ linked_back ByOr back = OrSign ∷ back
 link_behind : (l : Link) (back : List Token) → behind (link_tokens l) back ≡ linked_back l back
 link_behind l back = grind arith
 
-passes_on : (l : Link) (back middle after : List Token) → Passes back middle → Passes (linked_back l middle) after → Passes back after
+passes_on : (l : Link) (back middle after : List Token) → Passes back middle → Passes (linked_back l middle) after
+    → Passes back after
 passes_on l back middle after h h2 = grind arith
 
-chain_behind : (i : Item) (l : Link) (c : Chain) (back : List Token) → behind (chain_tokens (Then i l c)) back ≡ behind (chain_tokens c) (linked_back l (behind (item_tokens i) back))
+chain_behind : (i : Item) (l : Link) (c : Chain) (back : List Token) → behind (chain_tokens (Then i l c)) back
+    ≡ behind (chain_tokens c) (linked_back l (behind (item_tokens i) back))
 chain_behind i l c back = grind (arith, behind-append, link_behind)
 
 mutual
@@ -50,10 +67,19 @@ mutual
   item_leaves (NotOf i) back = grind (arith, not_passed, cond_same, item_leaves i (NotSign ∷ back))
   item_leaves (Group c) back =
       let r = chain_passes c (Open ∷ back) in
-      let e : behind (chain_tokens c ++ Close ∷ []) (Open ∷ back) ≡ Close ∷ behind (chain_tokens c) (Open ∷ back) = behind-append (chain_tokens c) (Close ∷ []) (Open ∷ back) in
+      let e : behind (chain_tokens c ++ Close ∷ []) (Open ∷ back) ≡ Close ∷ behind (chain_tokens c) (Open ∷ back) =
+      behind-append (chain_tokens c) (Close ∷ []) (Open ∷ back) in
       subst (Leaves (Group c) back) (sym e) (record {
-        passes = record { wanted = refl; plain = refl; opens = λ k. r.opens (suc k); waits = λ f k. r.waits false (suc k); inside = λ k. r.inside (suc k) };
-        run = r.inside zero ∙ ap (λ (o : Option Field). with_field o (fields_before zero back)) (sym (cond_same (is_not back) None));
+        passes = record {
+          wanted = refl;
+          plain = refl;
+          opens = λ k. r.opens (suc k);
+          waits =
+              λ f k. r.waits false (suc k);
+          inside = λ k. r.inside (suc k);
+        };
+        run = r.inside zero ∙ ap (λ (o : Option Field). with_field o (fields_before zero back))
+            (sym (cond_same (is_not back) None));
       })
   item_leaves (Leaf t) back = grind arith
 
@@ -61,7 +87,8 @@ mutual
   chain_passes (Last i) back = (item_leaves i back).passes
   chain_passes (Then i l c) back =
       subst (Passes back) (sym (chain_behind i l c back))
-      (passes_on l back (behind (item_tokens i) back) _ (item_leaves i back).passes (chain_passes c (linked_back l (behind (item_tokens i) back))))
+      (passes_on l back (behind (item_tokens i) back) _ (item_leaves i back).passes
+      (chain_passes c (linked_back l (behind (item_tokens i) back))))
 
 -- ---- what is open after a part, at the front of all or after a `(`
 
@@ -87,42 +114,61 @@ record Stands (back after : List Token) (wanted : Bool) (seen : Fields) : Type 0
 plain_field : (b : Bool) (o : Option Field) → b ≡ false → cond b None o ≡ o
 plain_field b o e = ap (λ (x : Bool). cond x None o) e
 
-item_stands : (i : Item) (back before : List Token) (w : Bool) (seen : Fields) → Stands back before w seen → Stands back (behind (item_tokens i) before) false (with_field (plain_prefix i) seen)
+item_stands : (i : Item) (back before : List Token) (w : Bool) (seen : Fields) → Stands back before w seen
+    → Stands back (behind (item_tokens i) before) false (with_field (plain_prefix i) seen)
 item_stands i back before w seen s =
     let l = item_leaves i before in
     record {
       is_so = l.passes.wanted;
       plain = l.passes.plain;
-      fields = l.run ∙ ap (λ (o : Option Field). with_field o (fields_before zero before)) (plain_field (is_not before) (plain_prefix i) s.plain) ∙ ap (with_field (plain_prefix i)) s.fields;
+      fields = l.run ∙ ap (λ (o : Option Field). with_field o (fields_before zero before))
+          (plain_field (is_not before) (plain_prefix i) s.plain) ∙ ap (with_field (plain_prefix i)) s.fields;
       opens = λ k. l.passes.opens k ∙ s.opens k;
       waits = λ f k. l.passes.waits f k ∙ s.waits false k;
     }
 
-link_stands : (i : Item) (l : Link) (back before : List Token) (seen : Fields) → Stands back before false (with_field (plain_prefix i) seen)
+link_stands : (i : Item) (l : Link) (back before : List Token) (seen : Fields)
+    → Stands back before false (with_field (plain_prefix i) seen)
     → Stands back (linked_back l before) (wanted_behind l) (seen_behind i l seen)
 link_stands i l back before seen h = grind arith
 
-front_stands : (f : Front) (back : List Token) → Opens back → Stands back (behind (front_tokens f) back) (front_wanted f) (seen_front f)
-front_stands Nothing back o = record { is_so = o.wanted; plain = o.plain; fields = o.fields; opens = λ k. refl; waits = o.waits }
+front_stands : (f : Front) (back : List Token) → Opens back
+    → Stands back (behind (front_tokens f) back) (front_wanted f) (seen_front f)
+front_stands Nothing back o = record {
+  is_so = o.wanted;
+  plain = o.plain;
+  fields = o.fields;
+  opens = λ k. refl;
+  waits =
+      o.waits;
+}
 front_stands (Behind f i l) back o =
-    let e : behind (front_tokens f ++ (item_tokens i ++ link_tokens l)) back ≡ linked_back l (behind (item_tokens i) (behind (front_tokens f) back)) =
-    behind-append (front_tokens f) (item_tokens i ++ link_tokens l) back ∙ behind-append (item_tokens i) (link_tokens l) (behind (front_tokens f) back)
+    let e : behind (front_tokens f ++ (item_tokens i ++ link_tokens l)) back
+    ≡ linked_back l (behind (item_tokens i) (behind (front_tokens f) back)) =
+    behind-append (front_tokens f) (item_tokens i ++ link_tokens l) back
+    ∙ behind-append (item_tokens i) (link_tokens l) (behind (front_tokens f) back)
     ∙ link_behind l (behind (item_tokens i) (behind (front_tokens f) back)) in
     subst (λ (after : List Token). Stands back after (wanted_behind l) (seen_behind i l (seen_front f))) (sym e)
-    (link_stands i l back (behind (item_tokens i) (behind (front_tokens f) back)) (seen_front f) (item_stands i back (behind (front_tokens f) back) (front_wanted f) (seen_front f) (front_stands f back o)))
+    (link_stands i l back (behind (item_tokens i) (behind (front_tokens f) back)) (seen_front f)
+    (item_stands i back (behind (front_tokens f) back) (front_wanted f) (seen_front f) (front_stands f back o)))
 
-part_stands : (p : Part) (back : List Token) → is_closed p.front p.last ≡ true → Opens back → Stands back (behind (part_tokens p) back) (is_none p.last) (seen_of p)
+part_stands : (p : Part) (back : List Token) → is_closed p.front p.last ≡ true → Opens back
+    → Stands back (behind (part_tokens p) back) (is_none p.last) (seen_of p)
 part_stands p back c o = go p.last c
   where
     go : (last : Option Item) → is_closed p.front last ≡ true
-        → Stands back (behind (front_tokens p.front ++ last_tokens last) back) (is_none last) (with_field (last_prefix last) (seen_front p.front))
+        → Stands back (behind (front_tokens p.front ++ last_tokens last) back) (is_none last)
+        (with_field (last_prefix last) (seen_front p.front))
     go None c =
         let s = front_stands p.front back o in
-        subst (λ (ts : List Token). Stands back (behind ts back) true (seen_front p.front)) (sym (append-nil (front_tokens p.front)))
+        subst (λ (ts : List Token). Stands back (behind ts back) true (seen_front p.front))
+        (sym (append-nil (front_tokens p.front)))
         (record { is_so = s.is_so ∙ c; plain = s.plain; fields = s.fields; opens = s.opens; waits = s.waits })
     go (Some i) c =
-        subst (λ (after : List Token). Stands back after false (with_field (plain_prefix i) (seen_front p.front))) (sym (behind-append (front_tokens p.front) (item_tokens i) back))
-        (item_stands i back (behind (front_tokens p.front) back) (front_wanted p.front) (seen_front p.front) (front_stands p.front back o))
+        subst (λ (after : List Token). Stands back after false (with_field (plain_prefix i) (seen_front p.front)))
+        (sym (behind-append (front_tokens p.front) (item_tokens i) back))
+        (item_stands i back (behind (front_tokens p.front) back) (front_wanted p.front) (seen_front p.front)
+        (front_stands p.front back o))
 
 -- ---- what the tokens so far say
 
@@ -146,7 +192,8 @@ abbrev pub fault_of : {T E : Type 0} → Result T E → Option E
 fault_of (Ok x) = None
 fault_of (Err e) = Some e
 
-guarded : {T E : Type 0} (b : Bool) (fault : E) (r : Result T E) → fault_of (cond b (Err fault) r) ≡ cond b (Some fault) (fault_of r)
+guarded : {T E : Type 0} (b : Bool) (fault : E) (r : Result T E) → fault_of (cond b (Err fault) r)
+    ≡ cond b (Some fault) (fault_of r)
 guarded b fault r = grind arith
 
 module _ (lexicon : Lexicon) where
@@ -163,7 +210,14 @@ module _ (lexicon : Lexicon) where
       let before = shows ws outer fine.0 in
       let s = part_stands p (Open ∷ back_of ws outer) fine.2.closed (opens_group (back_of ws outer)) in
       subst (Shows (WaitClose outer ∷ ws) p) (sym (behind-append (spelled ws outer) (Open ∷ part_tokens p) []))
-      (record { wanted = s.is_so; plain = s.plain; fields = s.fields; opens = s.opens zero ∙ ap suc before.opens; waits = s.waits true zero ∙ ap suc before.waits })
+      (record {
+        wanted = s.is_so;
+        plain = s.plain;
+        fields = s.fields;
+        opens = s.opens zero ∙ ap suc before.opens;
+        waits
+            = s.waits true zero ∙ ap suc before.waits;
+      })
 
   open-has_open : (ws : List Wait) → eqb (open_of ws) 0 ≡ not (has_open (waiting_of lexicon ws))
   open-has_open [] = refl
@@ -172,51 +226,77 @@ module _ (lexicon : Lexicon) where
 
   -- ---- the fault at a token
 
-  same_deep : (ws : List Wait) (p : Part) (back : List Token) (what : Waiting) (level : Level) → Shows ws p back → deep_fault back ≡ fault_of (deeper (waiting_of lexicon ws) what level)
+  same_deep : (ws : List Wait) (p : Part) (back : List Token) (what : Waiting) (level : Level) → Shows ws p back
+      → deep_fault back ≡ fault_of (deeper (waiting_of lexicon ws) what level)
   same_deep ws p back what level s = grind (arith, length-waiting_of, guarded, waiting_of)
 
   same_operator : (ws : List Wait) (p : Part) (back : List Token) (next : State) → Shows ws p back
       → operator_fault back ≡ fault_of {T = State} (cond (wanted_of ws p) (Err MissingTerm) (Ok next))
-  same_operator ws p back next s = ap (λ b. cond b (Some MissingTerm) None) s.wanted ∙ sym (guarded {T = State} (wanted_of ws p) MissingTerm (Ok next))
+  same_operator ws p back next s = ap (λ b. cond b (Some MissingTerm) None) s.wanted
+      ∙ sym (guarded {T = State} (wanted_of ws p) MissingTerm (Ok next))
 
-  same_close : (ws : List Wait) (p : Part) (back : List Token) → Shows ws p back → close_fault back ≡ fault_of (closed (state_of lexicon ws p))
+  same_close : (ws : List Wait) (p : Part) (back : List Token) → Shows ws p back → close_fault back
+      ≡ fault_of (closed (state_of lexicon ws p))
   same_close ws p back s = grind (arith, open-has_open, waiting_of, waits_not, level_of)
 
-  same_end : (ws : List Wait) (p : Part) (back : List Token) → Shows ws p back → end_fault back ≡ fault_of (ended (state_of lexicon ws p))
+  same_end : (ws : List Wait) (p : Part) (back : List Token) → Shows ws p back → end_fault back
+      ≡ fault_of (ended (state_of lexicon ws p))
   same_end ws p back s = grind (arith, open-has_open, wanted_of, waiting_of, level_of)
 
-  same_parts : (s : State) (back : List Token) (prefix : Option Field) (rest : List ℕ) → is_not back ≡ is_negated s.waiting → fields_before zero back ≡ s.level.seen
-      → cond (needs_operator back prefix) (Some NeedsOperator) (err_of (parts_query lexicon prefix rest)) ≡ fault_of (cut_term_step lexicon s prefix rest)
+  same_parts : (s : State) (back : List Token) (prefix : Option Field) (rest : List ℕ) → is_not back
+      ≡ is_negated s.waiting → fields_before zero back ≡ s.level.seen
+      → cond (needs_operator back prefix) (Some NeedsOperator) (err_of (parts_query lexicon prefix rest))
+      ≡ fault_of (cut_term_step lexicon s prefix rest)
   same_parts s back prefix rest e h = grind arith
 
-  same_term : (s : State) (back : List Token) (t : List ℕ) → is_not back ≡ is_negated s.waiting → fields_before zero back ≡ s.level.seen → term_fault lexicon back t ≡ fault_of (term_step lexicon s t)
+  same_term : (s : State) (back : List Token) (t : List ℕ) → is_not back ≡ is_negated s.waiting
+      → fields_before zero back ≡ s.level.seen → term_fault lexicon back t ≡ fault_of (term_step lexicon s t)
   same_term s back t e h = grind (arith, same_parts)
 
-  same_fault : (ws : List Wait) (p : Part) (back : List Token) (t : Token) → Shows ws p back → token_fault lexicon back t ≡ fault_of (step lexicon (state_of lexicon ws p) t)
-  same_fault ws p back t h = grind (arith, same_term, state_of, negated-waiting_of, same_deep, level_of, same_close, same_operator, waiting_of)
+  same_fault : (ws : List Wait) (p : Part) (back : List Token) (t : Token) → Shows ws p back
+      → token_fault lexicon back t ≡ fault_of (step lexicon (state_of lexicon ws p) t)
+  same_fault ws p back t h = grind (
+    arith,
+    same_term,
+    state_of,
+    negated-waiting_of,
+    same_deep,
+    level_of,
+    same_close,
+    same_operator,
+    waiting_of,
+  )
 
   -- ---- the first fault of all
 
   abbrev at_number : ℕ → QueryFaultKind → QueryFault
   at_number n kind = record { number = n; kind = kind }
 
-  same_first : (n : ℕ) (ws : List Wait) (p : Part) (ts : List Token) → Fine lexicon ws p → first_fault_from lexicon n (back_of ws p) ts ≡ fault_of (run_from lexicon n (state_of lexicon ws p) ts)
-  same_first n ws p [] fine = ap (λ (o : Option QueryFaultKind). first_some (at_number n) o None) (same_end ws p (back_of ws p) (shows ws p fine)) ∙ go (ended (state_of lexicon ws p))
+  same_first : (n : ℕ) (ws : List Wait) (p : Part) (ts : List Token) → Fine lexicon ws p
+      → first_fault_from lexicon n (back_of ws p) ts ≡ fault_of (run_from lexicon n (state_of lexicon ws p) ts)
+  same_first n ws p [] fine = ap (λ (o : Option QueryFaultKind). first_some (at_number n) o None)
+      (same_end ws p (back_of ws p) (shows ws p fine)) ∙ go (ended (state_of lexicon ws p))
     where
-      go : (r : Result Query QueryFaultKind) → first_some (at_number n) (fault_of r) None ≡ fault_of (fault_as (at_number n) r)
+      go : (r : Result Query QueryFaultKind) → first_some (at_number n) (fault_of r) None
+          ≡ fault_of (fault_as (at_number n) r)
       go r = grind arith
   same_first n ws p (t ∷ ts) fine =
-      ap (λ (o : Option QueryFaultKind). first_some (at_number n) o (first_fault_from lexicon (n + 1) (t ∷ back_of ws p) ts)) (same_fault ws p (back_of ws p) t (shows ws p fine))
+      ap (λ (o : Option QueryFaultKind). first_some (at_number n) o
+      (first_fault_from lexicon (n + 1) (t ∷ back_of ws p) ts)) (same_fault ws p (back_of ws p) t (shows ws p fine))
       ∙ go (step lexicon (state_of lexicon ws p) t) refl (λ vs r h. same_first (n + 1) vs r ts h)
     where
       go : (r : Result State QueryFaultKind) → step lexicon (state_of lexicon ws p) t ≡ r
-          → ((vs : List Wait) (q : Part) → Fine lexicon vs q → first_fault_from lexicon (n + 1) (back_of vs q) ts ≡ fault_of (run_from lexicon (n + 1) (state_of lexicon vs q) ts))
-          → first_some (at_number n) (fault_of r) (first_fault_from lexicon (n + 1) (t ∷ back_of ws p) ts) ≡ fault_of (fault_as (at_number n) r >>= (λ next. run_from lexicon (n + 1) next ts))
+          → ((vs : List Wait) (q : Part) → Fine lexicon vs q → first_fault_from lexicon (n + 1) (back_of vs q) ts
+          ≡ fault_of (run_from lexicon (n + 1) (state_of lexicon vs q) ts))
+          → first_some (at_number n) (fault_of r) (first_fault_from lexicon (n + 1) (t ∷ back_of ws p) ts)
+          ≡ fault_of (fault_as (at_number n) r >>= (λ next. run_from lexicon (n + 1) next ts))
       go (Err kind) e h = refl
       go (Ok next) e h =
           let reached = reach lexicon ws p t next fine e in
-          let back : back_of reached.waits reached.part ≡ t ∷ back_of ws p = ap (λ (xs : List Token). behind xs []) reached.tokens ∙ behind-append (spelled ws p) (t ∷ []) [] in
-          ap (λ (b : List Token). first_fault_from lexicon (n + 1) b ts) (sym back) ∙ h reached.waits reached.part reached.fine
+          let back : back_of reached.waits reached.part ≡ t ∷ back_of ws p =
+          ap (λ (xs : List Token). behind xs []) reached.tokens ∙ behind-append (spelled ws p) (t ∷ []) [] in
+          ap (λ (b : List Token). first_fault_from lexicon (n + 1) b ts) (sym back)
+          ∙ h reached.waits reached.part reached.fine
           ∙ ap (λ s. fault_of (run_from lexicon (n + 1) s ts)) (sym reached.shown)
 
   -- the reader's fault is the first fault
@@ -225,13 +305,15 @@ module _ (lexicon : Lexicon) where
   first_fault_is [] = refl
   first_fault_is (t ∷ ts) = same_first 1 [] nothing_read (t ∷ ts) (record { front = refl; last = refl; closed = refl })
 
-  pub fault_answered : (ts : List Token) (f : QueryFault) → first_fault lexicon ts ≡ Some f → tokens_query lexicon ts ≡ Err f
+  pub fault_answered : (ts : List Token) (f : QueryFault) → first_fault lexicon ts ≡ Some f → tokens_query lexicon ts
+      ≡ Err f
   fault_answered ts f e = go (tokens_query lexicon ts) (sym (first_fault_is ts) ∙ e)
     where
       go : (r : Result Query QueryFault) → fault_of r ≡ Some f → r ≡ Err f
       go r h = grind arith
 
-  pub answer_faulty : (ts : List Token) (f : QueryFault) → tokens_query lexicon ts ≡ Err f → first_fault lexicon ts ≡ Some f
+  pub answer_faulty : (ts : List Token) (f : QueryFault) → tokens_query lexicon ts ≡ Err f → first_fault lexicon ts
+      ≡ Some f
   answer_faulty ts f e = first_fault_is ts ∙ ap fault_of e
 
   -- tokens that are read have no fault
@@ -242,6 +324,7 @@ module _ (lexicon : Lexicon) where
   pub faultless_read : (ts : List Token) → first_fault lexicon ts ≡ None → (q : Query) × Reads lexicon ts q
   faultless_read ts e = go (tokens_query lexicon ts) refl (sym (first_fault_is ts) ∙ e)
     where
-      go : (r : Result Query QueryFault) → tokens_query lexicon ts ≡ r → fault_of r ≡ None → (q : Query) × Reads lexicon ts q
+      go : (r : Result Query QueryFault) → tokens_query lexicon ts ≡ r → fault_of r ≡ None → (q : Query)
+          × Reads lexicon ts q
       go (Ok q) i e = (q, answer_read lexicon ts q i)
       go (Err f) i e = absurd cc

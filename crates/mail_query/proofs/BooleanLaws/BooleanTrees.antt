@@ -1,7 +1,21 @@
 -- The grammar gives each query that the reader returns, because after each token its state is that of a partial tree.
-use Rattle.mail_query.proofs.Words.{◌≡◌, ℕ, suc, ◌+◌, ◌<◌, Bool, true, false, not, cond, leb, List, [], ◌∷◌, ◌++◌, length, map, Option, None, Some, Result, Ok, Err, refl, sym, ap, subst, ◌∙◌, append_assoc, append-nil, arith, add-one, ◌&&◌, ◌||◌, is_ok, is_none, option_and_then, and_from, or_parts, or_right, leb-false, lt-ltb, ◌>>=◌, fault_as, Field, Fields, QueryFault, QueryFaultKind, Phrase, NeedsOperator, TooDeep, MissingTerm, BadParenthesis, Lexicon, Query, all_of, either_of, Token, Open, Close, AndSign, OrSign, NotSign, Term, Parts, parts_of, no_fields, has_field, with_field, is_phrase, cut_query, Link, Beside, ByAnd, ByOr, Item, NotOf, Group, Leaf, Chain, Last, Then, link_tokens, item_tokens, chain_tokens, term_prefix, plain_prefix, seen_behind, item_query, chain_queries, tree_query, is_fine_item, is_fine_chain, Reads, Level, Waiting, ForNot, ForClose, State, start, empty_level, with_member, noted, run_ended, each_ended, level_query, is_negated, has_open, placed, deeper, joined, parted, popped, closed, ended, parts_step, term_step, step, run_from, tokens_query}
+use Rattle.mail_query.proofs.Words.{◌≡◌, ℕ, suc, ◌+◌, ◌<◌, Bool, true, false, not, cond, leb, List, [], ◌∷◌, ◌++◌}
+use Rattle.mail_query.proofs.Words.{length, map, Option, None, Some, Result, Ok, Err, refl, sym, ap, subst, ◌∙◌}
+use Rattle.mail_query.proofs.Words.{append_assoc, append-nil, arith, add-one, ◌&&◌, ◌||◌, is_ok, is_none}
+use Rattle.mail_query.proofs.Words.{option_and_then, and_from, or_parts, or_right, leb-false, lt-ltb, ◌>>=◌, fault_as}
+use Rattle.mail_query.proofs.Words.{Field, Fields, QueryFault, QueryFaultKind, Phrase, NeedsOperator, TooDeep}
+use Rattle.mail_query.proofs.Words.{MissingTerm, BadParenthesis, Lexicon, Query, all_of, either_of, Token, Open, Close}
+use Rattle.mail_query.proofs.Words.{AndSign, OrSign, NotSign, Term, Parts, parts_of, no_fields, has_field, with_field}
+use Rattle.mail_query.proofs.Words.{is_phrase, cut_query, Link, Beside, ByAnd, ByOr, Item, NotOf, Group, Leaf, Chain}
+use Rattle.mail_query.proofs.Words.{Last, Then, link_tokens, item_tokens, chain_tokens, term_prefix, plain_prefix}
+use Rattle.mail_query.proofs.Words.{seen_behind, item_query, chain_queries, tree_query, is_fine_item, is_fine_chain}
+use Rattle.mail_query.proofs.Words.{Reads, Level, Waiting, ForNot, ForClose, State, start, empty_level, with_member}
+use Rattle.mail_query.proofs.Words.{noted, run_ended, each_ended, level_query, is_negated, has_open, placed, deeper}
+use Rattle.mail_query.proofs.Words.{joined, parted, popped, closed, ended, parts_step, term_step, step, run_from}
+use Rattle.mail_query.proofs.Words.{tokens_query}
 use Rattle.mail_query.specs.BooleanTerms.{term_query}
-use Rattle.mail_query.proofs.BooleanLaws.BooleanComplete.{noted-none, state, seen_at, term_fine, with_first, with_first-one, with_first-none}
+use Rattle.mail_query.proofs.BooleanLaws.BooleanComplete.{noted-none, state, seen_at, term_fine, with_first}
+use Rattle.mail_query.proofs.BooleanLaws.BooleanComplete.{with_first-one, with_first-none}
 
 -- ---- partial trees
 
@@ -84,14 +98,17 @@ put_part (WaitNot ∷ ws) p i = put_part ws p (NotOf i)
 put_part (WaitClose outer ∷ ws) p i = put p i
 
 -- if no term must follow, an operand comes last, and no `not` is directly before the place
-where_ended : (ws : List Wait) (p : Part) (P : Part → Type 0) → wanted_of ws p ≡ false → (waits_not ws ≡ false → (f : Front) (i : Item) → P (ended_by f i)) → P p
+where_ended : (ws : List Wait) (p : Part) (P : Part → Type 0) → wanted_of ws p ≡ false
+    → (waits_not ws ≡ false → (f : Front) (i : Item) → P (ended_by f i)) → P p
 where_ended ws p P e h = let parts = or_parts (waits_not ws) (is_none p.last) e in go p.front p.last parts.1 (h parts.0)
   where
-    go : (f : Front) (last : Option Item) → is_none last ≡ false → ((g : Front) (i : Item) → P (ended_by g i)) → P (record { front = f; last = last })
+    go : (f : Front) (last : Option Item) → is_none last ≡ false → ((g : Front) (i : Item) → P (ended_by g i))
+        → P (record { front = f; last = last })
     go f last h h2 = grind arith
 
 -- a result that isn't the test's fault has passed the test
-unguarded : {A E : Type 0} (b : Bool) (fault : E) (r : Result A E) (x : A) → cond b (Err fault) r ≡ Ok x → (b ≡ false) × (r ≡ Ok x)
+unguarded : {A E : Type 0} (b : Bool) (fault : E) (r : Result A E) (x : A) → cond b (Err fault) r ≡ Ok x → (b ≡ false)
+    × (r ≡ Ok x)
 unguarded b fault r x h = grind arith
 
 -- ---- its tokens
@@ -99,7 +116,8 @@ unguarded b fault r x h = grind arith
 part_tokens-put : (p : Part) (i : Item) → part_tokens (put p i) ≡ part_tokens p ++ item_tokens i
 part_tokens-put p i = go p.last
   where
-    go : (last : Option Item) → front_tokens (beside p.front last) ++ item_tokens i ≡ (front_tokens p.front ++ last_tokens last) ++ item_tokens i
+    go : (last : Option Item) → front_tokens (beside p.front last) ++ item_tokens i
+        ≡ (front_tokens p.front ++ last_tokens last) ++ item_tokens i
     go last = grind (arith, append-nil)
 
 -- whether a term must follow
@@ -121,13 +139,17 @@ operator_wanted : (l : Link) (t : Token) → link_tokens l ≡ t ∷ [] → want
 operator_wanted l t h = grind arith
 
 -- tokens after the innermost part are after the whole, if no `not` is directly before them
-spelled-more : (ws : List Wait) (p next : Part) (ts : List Token) → waits_not ws ≡ false → part_tokens next ≡ part_tokens p ++ ts → spelled ws next ≡ spelled ws p ++ ts
+spelled-more : (ws : List Wait) (p next : Part) (ts : List Token) → waits_not ws ≡ false → part_tokens next
+    ≡ part_tokens p ++ ts → spelled ws next ≡ spelled ws p ++ ts
 spelled-more ws p next ts h h2 = grind (arith, append_assoc)
 
-spelled-put : (ws : List Wait) (p : Part) (i : Item) → spelled (put_waits ws) (put_part ws p i) ≡ spelled ws p ++ item_tokens i
+spelled-put : (ws : List Wait) (p : Part) (i : Item) → spelled (put_waits ws) (put_part ws p i)
+    ≡ spelled ws p ++ item_tokens i
 spelled-put [] p i = part_tokens-put p i
-spelled-put (WaitNot ∷ ws) p i = spelled-put ws p (NotOf i) ∙ sym (append_assoc (spelled ws p) (NotSign ∷ []) (item_tokens i))
-spelled-put (WaitClose outer ∷ ws) p i = spelled-more (WaitClose outer ∷ ws) p (put p i) (item_tokens i) refl (part_tokens-put p i)
+spelled-put (WaitNot ∷ ws) p i = spelled-put ws p (NotOf i)
+    ∙ sym (append_assoc (spelled ws p) (NotSign ∷ []) (item_tokens i))
+spelled-put (WaitClose outer ∷ ws) p i =
+    spelled-more (WaitClose outer ∷ ws) p (put p i) (item_tokens i) refl (part_tokens-put p i)
 
 chain_tokens-onto : (f : Front) (c : Chain) → chain_tokens (onto f c) ≡ front_tokens f ++ chain_tokens c
 chain_tokens-onto Nothing c = refl
@@ -156,7 +178,12 @@ module _ (lexicon : Lexicon) where
   last_query (Some i) = item_query lexicon i ∷ []
 
   abbrev pub level_of : Part → Level
-  level_of p = record { eaches = eaches_front p.front; members = members_front p.front ++ last_query p.last; seen = seen_of p }
+  level_of p = record {
+    eaches = eaches_front p.front;
+    members = members_front p.front ++ last_query p.last;
+    seen =
+        seen_of p;
+  }
 
   abbrev pub waiting_of : List Wait → List Waiting
   waiting_of [] = []
@@ -174,19 +201,25 @@ module _ (lexicon : Lexicon) where
   pub negated-waiting_of : (ws : List Wait) → is_negated (waiting_of ws) ≡ waits_not ws
   negated-waiting_of ws = grind arith
 
-  level_of-put : (p : Part) (i : Item) → level_of (put p i) ≡ with_member (noted false (plain_prefix i) (level_of p)) (item_query lexicon i)
+  level_of-put : (p : Part) (i : Item) → level_of (put p i)
+      ≡ with_member (noted false (plain_prefix i) (level_of p)) (item_query lexicon i)
   level_of-put p i = go p.front p.last
     where
-      go : (f : Front) (last : Option Item) → level_of (put (record { front = f; last = last }) i) ≡ with_member (noted false (plain_prefix i) (level_of (record { front = f; last = last }))) (item_query lexicon i)
+      go : (f : Front) (last : Option Item) → level_of (put (record { front = f; last = last }) i)
+          ≡ with_member (noted false (plain_prefix i) (level_of (record { front = f; last = last })))
+          (item_query lexicon i)
       go f last = grind (arith, append-nil)
 
   placed_is : (ws : List Wait) (p : Part) (i : Item)
-      → placed (waiting_of ws) (noted (is_negated (waiting_of ws)) (plain_prefix i) (level_of p)) (item_query lexicon i) ≡ state_of (put_waits ws) (put_part ws p i)
-  placed_is [] p i = ap (λ (l : Level). let s : State = record { waiting = []; level = l; wanted = false } in s) (sym (level_of-put p i))
+      → placed (waiting_of ws) (noted (is_negated (waiting_of ws)) (plain_prefix i) (level_of p)) (item_query lexicon i)
+      ≡ state_of (put_waits ws) (put_part ws p i)
+  placed_is [] p i = ap (λ (l : Level). let s : State = record { waiting = []; level = l; wanted = false } in s)
+      (sym (level_of-put p i))
   placed_is (WaitNot ∷ ws) p i = grind (arith, noted-none, placed_is ws p (NotOf i))
   placed_is (WaitClose outer ∷ ws) p i = grind (arith, level_of-put)
 
-  eaches-onto : (f : Front) (c : Chain) → map all_of (chain_queries lexicon (onto f c)) ≡ eaches_front f ++ map all_of (with_first (members_front f) (chain_queries lexicon c))
+  eaches-onto : (f : Front) (c : Chain) → map all_of (chain_queries lexicon (onto f c))
+      ≡ eaches_front f ++ map all_of (with_first (members_front f) (chain_queries lexicon c))
   eaches-onto Nothing c = ap (map all_of) (sym (with_first-none lexicon c))
   eaches-onto (Behind f i Beside) c = grind (arith, with_first-one, eaches-onto f (Then i Beside c))
   eaches-onto (Behind f i ByAnd) c = grind (arith, with_first-one, eaches-onto f (Then i ByAnd c))
@@ -216,27 +249,37 @@ module _ (lexicon : Lexicon) where
   Fine (WaitNot ∷ ws) p = Fine ws p × (length ws < 30)
   Fine (WaitClose outer ∷ ws) p = Fine ws outer × (length ws < 30) × FinePart p (suc (length ws))
 
-  fine-onto : (f : Front) (c : Chain) (n : ℕ) → is_fine_chain lexicon (onto f c) n no_fields ≡ (is_fine_front f n && is_fine_chain lexicon c n (seen_front f))
+  fine-onto : (f : Front) (c : Chain) (n : ℕ) → is_fine_chain lexicon (onto f c) n no_fields
+      ≡ (is_fine_front f n && is_fine_chain lexicon c n (seen_front f))
   fine-onto Nothing c n = refl
-  fine-onto (Behind f i l) c n = fine-onto f (Then i l c) n ∙ sym (and_assoc (is_fine_front f n) (is_fine_item lexicon i n (seen_front f)) (is_fine_chain lexicon c n (seen_behind i l (seen_front f))))
+  fine-onto (Behind f i l) c n = fine-onto f (Then i l c) n
+      ∙ sym (and_assoc (is_fine_front f n) (is_fine_item lexicon i n (seen_front f))
+      (is_fine_chain lexicon c n (seen_behind i l (seen_front f))))
 
-  fine_put : (p : Part) (i : Item) (n : ℕ) → FinePart p n → is_fine_item lexicon i n (seen_of p) ≡ true → FinePart (put p i) n
+  fine_put : (p : Part) (i : Item) (n : ℕ) → FinePart p n → is_fine_item lexicon i n (seen_of p) ≡ true
+      → FinePart (put p i) n
   fine_put p i n h k = go p.front p.last h.front h.last k
     where
-      go : (f : Front) (last : Option Item) → is_fine_front f n ≡ true → is_fine_last f last n ≡ true → is_fine_item lexicon i n (with_field (last_prefix last) (seen_front f)) ≡ true
+      go : (f : Front) (last : Option Item) → is_fine_front f n ≡ true → is_fine_last f last n ≡ true
+          → is_fine_item lexicon i n (with_field (last_prefix last) (seen_front f)) ≡ true
           → FinePart (put (record { front = f; last = last }) i) n
       go f last h h2 h3 = grind (arith, and_from)
 
-  negate_fine : (i : Item) (n : ℕ) (seen : Fields) → n < 30 → is_fine_item lexicon i (suc n) no_fields ≡ true → is_fine_item lexicon (NotOf i) n seen ≡ true
+  negate_fine : (i : Item) (n : ℕ) (seen : Fields) → n < 30 → is_fine_item lexicon i (suc n) no_fields ≡ true
+      → is_fine_item lexicon (NotOf i) n seen ≡ true
   negate_fine i n seen room h = grind (arith, lt-ltb, add-one)
 
-  put_fine : (ws : List Wait) (p : Part) (i : Item) → Fine ws p → is_fine_item lexicon i (length ws) (cond (waits_not ws) no_fields (seen_of p)) ≡ true → Fine (put_waits ws) (put_part ws p i)
+  put_fine : (ws : List Wait) (p : Part) (i : Item) → Fine ws p
+      → is_fine_item lexicon i (length ws) (cond (waits_not ws) no_fields (seen_of p)) ≡ true
+      → Fine (put_waits ws) (put_part ws p i)
   unfolding Fine
   put_fine [] p i h k = fine_put p i 0 h k
-  put_fine (WaitNot ∷ ws) p i h k = put_fine ws p (NotOf i) h.0 (negate_fine i (length ws) (cond (waits_not ws) no_fields (seen_of p)) h.1 k)
+  put_fine (WaitNot ∷ ws) p i h k = put_fine ws p (NotOf i) h.0
+      (negate_fine i (length ws) (cond (waits_not ws) no_fields (seen_of p)) h.1 k)
   put_fine (WaitClose outer ∷ ws) p i h k = (h.0, h.1, fine_put p i (suc (length ws)) h.2 k)
 
-  part_fine : (ws : List Wait) (p next : Part) → waits_not ws ≡ false → ((n : ℕ) → FinePart p n → FinePart next n) → Fine ws p → Fine ws next
+  part_fine : (ws : List Wait) (p next : Part) → waits_not ws ≡ false → ((n : ℕ) → FinePart p n → FinePart next n)
+      → Fine ws p → Fine ws next
   unfolding Fine
   part_fine [] p next e h k = h 0 k
   part_fine (WaitNot ∷ ws) p next e h k = absurd cc
@@ -255,7 +298,8 @@ module _ (lexicon : Lexicon) where
   no_fields-have : (prefix : Option Field) → has_field no_fields prefix ≡ false
   no_fields-have prefix = grind arith
 
-  new_prefix : (negated : Bool) (seen : Fields) (prefix : Option Field) → (not negated && has_field seen prefix) ≡ false → not (has_field (cond negated no_fields seen) prefix) ≡ true
+  new_prefix : (negated : Bool) (seen : Fields) (prefix : Option Field) → (not negated && has_field seen prefix) ≡ false
+      → not (has_field (cond negated no_fields seen) prefix) ≡ true
   new_prefix negated seen prefix h = grind (arith, no_fields-have)
 
   -- a term that the reader takes is allowed in its place
@@ -264,23 +308,30 @@ module _ (lexicon : Lexicon) where
   unfolding seen_at
   term_ok s next t e = go (is_phrase t) (parts_of t) e
     where
-      cut_ok : (prefix : Option Field) (b : Bool) → (not (is_negated s.waiting) && has_field s.level.seen prefix) ≡ b → (r : Result Query QueryFaultKind)
-          → cond b (Err NeedsOperator) (r >>= (λ q. Ok (placed s.waiting (noted (is_negated s.waiting) prefix s.level) q))) ≡ Ok next
+      cut_ok : (prefix : Option Field) (b : Bool) → (not (is_negated s.waiting) && has_field s.level.seen prefix) ≡ b
+          → (r : Result Query QueryFaultKind)
+          → cond b (Err NeedsOperator) (r >>= (λ q. Ok
+          (placed s.waiting (noted (is_negated s.waiting) prefix s.level) q))) ≡ Ok next
           → (not (has_field (cond (is_negated s.waiting) no_fields s.level.seen) prefix) && is_ok r) ≡ true
       cut_ok prefix b h r h2 = grind (arith, and_from, new_prefix)
 
       go : (b : Bool) (o : Option Parts) → cond b (Err Phrase) (parts_step lexicon s o) ≡ Ok next
-          → (not (has_field (cond (is_negated s.waiting) no_fields s.level.seen) (option_and_then (λ (p : Parts). p.prefix) o)) && is_ok {T = Query} (cond b (Err Phrase) (cut_query lexicon o))) ≡ true
+          → (not (has_field (cond (is_negated s.waiting) no_fields s.level.seen)
+          (option_and_then (λ (p : Parts). p.prefix) o)) && is_ok {T = Query}
+          (cond b (Err Phrase) (cut_query lexicon o))) ≡ true
       go b o h = grind (arith, cut_ok)
 
-  reach_term : (ws : List Wait) (p : Part) (t : List ℕ) (s : State) → Fine ws p → term_step lexicon (state_of ws p) t ≡ Ok s → Reaches ws p (Term t) s
+  reach_term : (ws : List Wait) (p : Part) (t : List ℕ) (s : State) → Fine ws p → term_step lexicon (state_of ws p) t
+      ≡ Ok s → Reaches ws p (Term t) s
   unfolding seen_at
   reach_term ws p t s fine e =
       let ok = term_ok (state_of ws p) s t e in
-      let is : s ≡ placed (waiting_of ws) (noted (is_negated (waiting_of ws)) (term_prefix t) (level_of p)) (item_query lexicon (Leaf t)) =
+      let is : s ≡ placed (waiting_of ws) (noted (is_negated (waiting_of ws)) (term_prefix t) (level_of p))
+      (item_query lexicon (Leaf t)) =
       let both = sym e ∙ term_fine lexicon (state_of ws p) t ok in cc in
       let leaf : is_fine_item lexicon (Leaf t) (length ws) (cond (waits_not ws) no_fields (seen_of p)) ≡ true =
-      ap (λ (b : Bool). not (has_field (cond b no_fields (seen_of p)) (term_prefix t)) && is_ok (term_query lexicon t)) (sym (negated-waiting_of ws)) ∙ ok in
+      ap (λ (b : Bool). not (has_field (cond b no_fields (seen_of p)) (term_prefix t)) && is_ok (term_query lexicon t))
+      (sym (negated-waiting_of ws)) ∙ ok in
       record {
         waits = put_waits ws;
         part = put_part ws p (Leaf t);
@@ -289,30 +340,43 @@ module _ (lexicon : Lexicon) where
         fine = put_fine ws p (Leaf t) fine leaf;
       }
 
-  reach_deeper : (ws : List Wait) (s : State) (what : Waiting) (level : Level) → deeper (waiting_of ws) what level ≡ Ok s
+  reach_deeper : (ws : List Wait) (s : State) (what : Waiting) (level : Level) → deeper (waiting_of ws) what level
+      ≡ Ok s
       → (length ws < 30) × (s ≡ state (what ∷ waiting_of ws) level true)
   unfolding state
   reach_deeper ws s what level e =
-      let room = unguarded (leb 30 (length (waiting_of ws))) TooDeep (Ok (record { waiting = what ∷ waiting_of ws; level = level; wanted = true })) s e in
+      let room = unguarded (leb 30 (length (waiting_of ws))) TooDeep
+      (Ok (record { waiting = what ∷ waiting_of ws; level = level; wanted = true })) s e in
       let few = leb-false 30 (length (waiting_of ws)) room.0 in
       let same = room.1 in
       (omega (arith, few, length-waiting_of ws), cc)
 
-  reach_not : (ws : List Wait) (p : Part) (s : State) → Fine ws p → deeper (waiting_of ws) ForNot (level_of p) ≡ Ok s → Reaches ws p NotSign s
+  reach_not : (ws : List Wait) (p : Part) (s : State) → Fine ws p → deeper (waiting_of ws) ForNot (level_of p) ≡ Ok s
+      → Reaches ws p NotSign s
   unfolding Fine state
   reach_not ws p s fine e =
       let d = reach_deeper ws s ForNot (level_of p) e in
       record { waits = WaitNot ∷ ws; part = p; shown = d.1; tokens = refl; fine = (fine, d.0) }
 
-  reach_open : (ws : List Wait) (p : Part) (s : State) → Fine ws p → deeper (waiting_of ws) (ForClose (level_of p)) empty_level ≡ Ok s → Reaches ws p Open s
+  reach_open : (ws : List Wait) (p : Part) (s : State) → Fine ws p
+      → deeper (waiting_of ws) (ForClose (level_of p)) empty_level ≡ Ok s → Reaches ws p Open s
   unfolding Fine state
   reach_open ws p s fine e =
       let d = reach_deeper ws s (ForClose (level_of p)) empty_level e in
-      record { waits = WaitClose p ∷ ws; part = nothing_read; shown = d.1; tokens = refl; fine = (fine, d.0, record { front = refl; last = refl; closed = refl }) }
+      record {
+        waits = WaitClose p ∷ ws;
+        part = nothing_read;
+        shown = d.1;
+        tokens = refl;
+        fine =
+            (fine, d.0, record { front = refl; last = refl; closed = refl });
+      }
 
   -- an operator comes after the last operand
-  reach_operator : (ws : List Wait) (f : Front) (i : Item) (l : Link) (t : Token) (s : State) → waits_not ws ≡ false → Fine ws (ended_by f i) → link_tokens l ≡ t ∷ []
-      → s ≡ state (waiting_of ws) (level_of (record { front = Behind f i l; last = None })) true → Reaches ws (ended_by f i) t s
+  reach_operator : (ws : List Wait) (f : Front) (i : Item) (l : Link) (t : Token) (s : State) → waits_not ws ≡ false
+      → Fine ws (ended_by f i) → link_tokens l ≡ t ∷ []
+      → s ≡ state (waiting_of ws) (level_of (record { front = Behind f i l; last = None })) true
+      → Reaches ws (ended_by f i) t s
   unfolding state
   reach_operator ws f i l t s no_not fine spelled_so shown =
       let next : Part = record { front = Behind f i l; last = None } in
@@ -321,41 +385,61 @@ module _ (lexicon : Lexicon) where
         part = next;
         shown = shown ∙ ap (state (waiting_of ws) (level_of next)) (sym (or_right (waits_not ws) true refl));
         tokens = spelled-more ws (ended_by f i) next (t ∷ []) no_not
-            (append-nil (front_tokens f ++ (item_tokens i ++ link_tokens l)) ∙ ap (λ (ts : List Token). front_tokens f ++ (item_tokens i ++ ts)) spelled_so
+            (append-nil (front_tokens f ++ (item_tokens i ++ link_tokens l))
+            ∙ ap (λ (ts : List Token). front_tokens f ++ (item_tokens i ++ ts)) spelled_so
             ∙ sym (append_assoc (front_tokens f) (item_tokens i) (t ∷ [])));
-        fine = part_fine ws (ended_by f i) next no_not (λ n h. record { front = and_from (is_fine_front f n) _ h.front h.last; last = refl; closed = operator_wanted l t spelled_so }) fine;
+        fine = part_fine ws (ended_by f i) next no_not
+            (λ n h. record {
+              front = and_from (is_fine_front f n) _ h.front h.last;
+              last = refl;
+              closed =
+                  operator_wanted l t spelled_so;
+            }) fine;
       }
 
-  reach_and : (ws : List Wait) (p : Part) (s : State) → Fine ws p → joined (state_of ws p) ≡ Ok s → Reaches ws p AndSign s
+  reach_and : (ws : List Wait) (p : Part) (s : State) → Fine ws p → joined (state_of ws p) ≡ Ok s
+      → Reaches ws p AndSign s
   unfolding state
   reach_and ws p s fine e =
-      let passed = unguarded (wanted_of ws p) MissingTerm (Ok (state (waiting_of ws) (run_ended (level_of p)) true)) s e in
-      where_ended ws p (λ r. Fine ws r → state (waiting_of ws) (run_ended (level_of r)) true ≡ s → Reaches ws r AndSign s) passed.0
+      let passed = unguarded (wanted_of ws p) MissingTerm (Ok (state (waiting_of ws) (run_ended (level_of p)) true)) s e
+      in
+      where_ended ws p (λ r. Fine ws r → state (waiting_of ws) (run_ended (level_of r)) true ≡ s
+      → Reaches ws r AndSign s) passed.0
       (λ no_not f i h same. reach_operator ws f i ByAnd AndSign s no_not h refl
-      (sym same ∙ ap (λ (ms : List Query). let l : Level = record { eaches = eaches_front f; members = ms; seen = no_fields } in state (waiting_of ws) l true) (sym (append-nil (members_front f ++ item_query lexicon i ∷ [])))))
+      (sym same ∙ ap (λ (ms : List Query). let l : Level =
+      record { eaches = eaches_front f; members = ms; seen = no_fields } in state (waiting_of ws) l true)
+      (sym (append-nil (members_front f ++ item_query lexicon i ∷ [])))))
       fine (let same = passed.1 in cc)
 
   reach_or : (ws : List Wait) (p : Part) (s : State) → Fine ws p → parted (state_of ws p) ≡ Ok s → Reaches ws p OrSign s
   unfolding state
   reach_or ws p s fine e =
-      let passed = unguarded (wanted_of ws p) MissingTerm (Ok (state (waiting_of ws) (each_ended (level_of p)) true)) s e in
-      where_ended ws p (λ r. Fine ws r → state (waiting_of ws) (each_ended (level_of r)) true ≡ s → Reaches ws r OrSign s) passed.0
-      (λ no_not f i h same. reach_operator ws f i ByOr OrSign s no_not h refl (sym same)) fine (let same = passed.1 in cc)
+      let passed = unguarded (wanted_of ws p) MissingTerm (Ok (state (waiting_of ws) (each_ended (level_of p)) true)) s
+      e in
+      where_ended ws p (λ r. Fine ws r → state (waiting_of ws) (each_ended (level_of r)) true ≡ s
+      → Reaches ws r OrSign s) passed.0
+      (λ no_not f i h same. reach_operator ws f i ByOr OrSign s no_not h refl (sym same)) fine
+      (let same = passed.1 in cc)
 
   -- a group is closed
-  group_fine : (f : Front) (i : Item) (n : ℕ) (seen : Fields) → n < 30 → FinePart (ended_by f i) (suc n) → is_fine_item lexicon (Group (onto f (Last i))) n seen ≡ true
+  group_fine : (f : Front) (i : Item) (n : ℕ) (seen : Fields) → n < 30 → FinePart (ended_by f i) (suc n)
+      → is_fine_item lexicon (Group (onto f (Last i))) n seen ≡ true
   group_fine f i n seen room h = grind (arith, lt-ltb, add-one, fine-onto, and_from)
 
-  reach_close : (ws : List Wait) (p : Part) (s : State) → Fine ws p → closed (state_of ws p) ≡ Ok s → Reaches ws p Close s
+  reach_close : (ws : List Wait) (p : Part) (s : State) → Fine ws p → closed (state_of ws p) ≡ Ok s
+      → Reaches ws p Close s
   unfolding Fine
   reach_close ws p s fine e =
       let passed = closed_is (wanted_of ws p) (has_open (waiting_of ws)) (popped (waiting_of ws) (level_of p)) e in
-      where_ended ws p (λ r. Fine ws r → popped (waiting_of ws) (level_of r) ≡ Ok s → Reaches ws r Close s) passed.0 (λ no_not f i. go ws f i) fine passed.1
+      where_ended ws p (λ r. Fine ws r → popped (waiting_of ws) (level_of r) ≡ Ok s → Reaches ws r Close s) passed.0
+      (λ no_not f i. go ws f i) fine passed.1
     where
-      closed_is : (b o : Bool) (r : Result State QueryFaultKind) → cond b (cond o (Err MissingTerm) (Err BadParenthesis)) r ≡ Ok s → (b ≡ false) × (r ≡ Ok s)
+      closed_is : (b o : Bool) (r : Result State QueryFaultKind)
+          → cond b (cond o (Err MissingTerm) (Err BadParenthesis)) r ≡ Ok s → (b ≡ false) × (r ≡ Ok s)
       closed_is b o r h = grind arith
 
-      go : (vs : List Wait) (f : Front) (i : Item) → Fine vs (ended_by f i) → popped (waiting_of vs) (level_of (ended_by f i)) ≡ Ok s → Reaches vs (ended_by f i) Close s
+      go : (vs : List Wait) (f : Front) (i : Item) → Fine vs (ended_by f i)
+          → popped (waiting_of vs) (level_of (ended_by f i)) ≡ Ok s → Reaches vs (ended_by f i) Close s
       go [] f i h e = absurd cc
       go (WaitNot ∷ vs) f i h e = absurd cc
       go (WaitClose outer ∷ vs) f i h e =
@@ -365,14 +449,19 @@ module _ (lexicon : Lexicon) where
             waits = put_waits vs;
             part = put_part vs outer (Group c);
             shown = sym popped_so ∙ ap (placed (waiting_of vs) (level_of outer)) (level_asks f i)
-                ∙ ap (λ (l : Level). placed (waiting_of vs) l (item_query lexicon (Group c))) (sym (noted-none (is_negated (waiting_of vs)) (level_of outer)))
+                ∙ ap (λ (l : Level). placed (waiting_of vs) l (item_query lexicon (Group c)))
+                (sym (noted-none (is_negated (waiting_of vs)) (level_of outer)))
                 ∙ placed_is vs outer (Group c);
-            tokens = spelled-put vs outer (Group c) ∙ ap (λ (ts : List Token). spelled vs outer ++ (Open ∷ (ts ++ Close ∷ []))) (chain_tokens-onto f (Last i))
+            tokens = spelled-put vs outer (Group c)
+                ∙ ap (λ (ts : List Token). spelled vs outer ++ (Open ∷ (ts ++ Close ∷ [])))
+                (chain_tokens-onto f (Last i))
                 ∙ sym (append_assoc (spelled vs outer) (Open ∷ part_tokens (ended_by f i)) (Close ∷ []));
-            fine = put_fine vs outer (Group c) h.0 (group_fine f i (length vs) (cond (waits_not vs) no_fields (seen_of outer)) h.1 h.2);
+            fine = put_fine vs outer (Group c) h.0
+                (group_fine f i (length vs) (cond (waits_not vs) no_fields (seen_of outer)) h.1 h.2);
           }
 
-  pub reach : (ws : List Wait) (p : Part) (t : Token) (s : State) → Fine ws p → step lexicon (state_of ws p) t ≡ Ok s → Reaches ws p t s
+  pub reach : (ws : List Wait) (p : Part) (t : Token) (s : State) → Fine ws p → step lexicon (state_of ws p) t ≡ Ok s
+      → Reaches ws p t s
   reach ws p (Term t) s fine e = reach_term ws p t s fine e
   reach ws p NotSign s fine e = reach_not ws p s fine e
   reach ws p Open s fine e = reach_open ws p s fine e
@@ -382,32 +471,44 @@ module _ (lexicon : Lexicon) where
 
   -- ---- the whole
 
-  end_reads : (ws : List Wait) (p : Part) (q : Query) → Fine ws p → ended (state_of ws p) ≡ Ok q → Reads lexicon (spelled ws p) q
+  end_reads : (ws : List Wait) (p : Part) (q : Query) → Fine ws p → ended (state_of ws p) ≡ Ok q
+      → Reads lexicon (spelled ws p) q
   unfolding Fine
   end_reads ws p q fine e =
-      let passed = unguarded (wanted_of ws p) MissingTerm (cond (has_open (waiting_of ws)) (Err BadParenthesis) (Ok (level_query (level_of p)))) q e in
+      let passed = unguarded (wanted_of ws p) MissingTerm
+      (cond (has_open (waiting_of ws)) (Err BadParenthesis) (Ok (level_query (level_of p)))) q e in
       let shut = unguarded (has_open (waiting_of ws)) BadParenthesis (Ok (level_query (level_of p))) q passed.1 in
-      where_ended ws p (λ r. Fine ws r → level_query (level_of r) ≡ q → Reads lexicon (spelled ws r) q) passed.0 (λ no_not f i. go ws f i no_not shut.0) fine (let same = shut.1 in cc)
+      where_ended ws p (λ r. Fine ws r → level_query (level_of r) ≡ q → Reads lexicon (spelled ws r) q) passed.0
+      (λ no_not f i. go ws f i no_not shut.0) fine (let same = shut.1 in cc)
     where
-      go : (vs : List Wait) (f : Front) (i : Item) → waits_not vs ≡ false → has_open (waiting_of vs) ≡ false → Fine vs (ended_by f i) → level_query (level_of (ended_by f i)) ≡ q
+      go : (vs : List Wait) (f : Front) (i : Item) → waits_not vs ≡ false → has_open (waiting_of vs) ≡ false
+          → Fine vs (ended_by f i) → level_query (level_of (ended_by f i)) ≡ q
           → Reads lexicon (spelled vs (ended_by f i)) q
       go vs f i h h2 h3 h4 = grind (arith, chain_tokens-onto, fine-onto, and_from, level_asks)
 
-  run_reads : (n : ℕ) (ws : List Wait) (p : Part) (ts : List Token) (q : Query) → Fine ws p → run_from lexicon n (state_of ws p) ts ≡ Ok q → Reads lexicon (spelled ws p ++ ts) q
-  run_reads n ws p [] q fine e = subst (λ (xs : List Token). Reads lexicon xs q) (sym (append-nil (spelled ws p))) (end_reads ws p q fine (unnumbered (ended (state_of ws p)) e))
+  run_reads : (n : ℕ) (ws : List Wait) (p : Part) (ts : List Token) (q : Query) → Fine ws p
+      → run_from lexicon n (state_of ws p) ts ≡ Ok q → Reads lexicon (spelled ws p ++ ts) q
+  run_reads n ws p [] q fine e = subst (λ (xs : List Token). Reads lexicon xs q) (sym (append-nil (spelled ws p)))
+      (end_reads ws p q fine (unnumbered (ended (state_of ws p)) e))
     where
-      unnumbered : (r : Result Query QueryFaultKind) → fault_as (λ kind. let f : QueryFault = record { number = n; kind = kind } in f) r ≡ Ok q → r ≡ Ok q
+      unnumbered : (r : Result Query QueryFaultKind)
+          → fault_as (λ kind. let f : QueryFault = record { number = n; kind = kind } in f) r ≡ Ok q → r ≡ Ok q
       unnumbered r h = grind arith
-  run_reads n ws p (t ∷ ts) q fine e = go (step lexicon (state_of ws p) t) refl e (λ vs r h k. run_reads (n + 1) vs r ts q h k)
+  run_reads n ws p (t ∷ ts) q fine e = go (step lexicon (state_of ws p) t) refl e
+      (λ vs r h k. run_reads (n + 1) vs r ts q h k)
     where
       go : (r : Result State QueryFaultKind) → step lexicon (state_of ws p) t ≡ r
-          → (fault_as (λ kind. let f : QueryFault = record { number = n; kind = kind } in f) r >>= (λ next. run_from lexicon (n + 1) next ts)) ≡ Ok q
-          → ((vs : List Wait) (r : Part) → Fine vs r → run_from lexicon (n + 1) (state_of vs r) ts ≡ Ok q → Reads lexicon (spelled vs r ++ ts) q) → Reads lexicon (spelled ws p ++ t ∷ ts) q
+          → (fault_as (λ kind. let f : QueryFault = record { number = n; kind = kind } in f) r >>=
+          (λ next. run_from lexicon (n + 1) next ts)) ≡ Ok q
+          → ((vs : List Wait) (r : Part) → Fine vs r → run_from lexicon (n + 1) (state_of vs r) ts ≡ Ok q
+          → Reads lexicon (spelled vs r ++ ts) q) → Reads lexicon (spelled ws p ++ t ∷ ts) q
       go (Err kind) i e k = absurd cc
       go (Ok next) i e k =
           let reached = reach ws p t next fine i in
-          let rest = k reached.waits reached.part reached.fine (ap (λ s. run_from lexicon (n + 1) s ts) (sym reached.shown) ∙ e) in
-          subst (λ (xs : List Token). Reads lexicon xs q) (ap (λ (xs : List Token). xs ++ ts) reached.tokens ∙ append_assoc (spelled ws p) (t ∷ []) ts) rest
+          let rest = k reached.waits reached.part reached.fine
+          (ap (λ s. run_from lexicon (n + 1) s ts) (sym reached.shown) ∙ e) in
+          subst (λ (xs : List Token). Reads lexicon xs q)
+          (ap (λ (xs : List Token). xs ++ ts) reached.tokens ∙ append_assoc (spelled ws p) (t ∷ []) ts) rest
 
   -- the grammar gives what the reader returns
   pub start_read : (ts : List Token) (q : Query) → run_from lexicon 1 start ts ≡ Ok q → Reads lexicon ts q

@@ -1,33 +1,45 @@
 -- Laws of what is open, the innermost first.
-use Rattle.mail_query.proofs.Words.{◌≡◌, ℕ, ◌+◌, ◌-◌, ◌<◌, ◌≤◌, Bool, true, false, ◌||◌, Ok, Err, List, [], ◌∷◌, ◌++◌, length, take, drop, get_or, drop-cons, refl, sym, ap, ◌∙◌, arith, IsLastAndRest, drop_all, or-false, or_right, le-leb, lt-leb, TooDeep, BadParenthesis, Query, Not, shown_level, shown_waiting, nearest_first, shown_stack, Level, Waiting, ForNot, ForClose, with_member, is_negated, has_open, placed, deeper, popped, level_query}
+use Rattle.mail_query.proofs.Words.{◌≡◌, ℕ, ◌+◌, ◌-◌, ◌<◌, ◌≤◌, Bool, true, false, ◌||◌, Ok, Err, List, [], ◌∷◌, ◌++◌}
+use Rattle.mail_query.proofs.Words.{length, take, drop, get_or, drop-cons, refl, sym, ap, ◌∙◌, arith, IsLastAndRest}
+use Rattle.mail_query.proofs.Words.{drop_all, or-false, or_right, le-leb, lt-leb, TooDeep, BadParenthesis, Query, Not}
+use Rattle.mail_query.proofs.Words.{shown_level, shown_waiting, nearest_first, shown_stack, Level, Waiting, ForNot}
+use Rattle.mail_query.proofs.Words.{ForClose, with_member, is_negated, has_open, placed, deeper, popped, level_query}
 use Rattle.mail_query.specs.declared.boolean.reader.Level.{Level as CodeLevel}
 use Rattle.mail_query.specs.declared.boolean.reader.Waiting.{Waiting as CodeWaiting}
 use Rattle.mail_query.specs.declared.boolean.reader.Waiting.TheVariants as code_waiting
 use Rattle.mail_query.proofs.PieceLemmas.{last_of, before_last}
 
-nearest_first-push : (ws : List CodeWaiting) (w : CodeWaiting) (behind : List Waiting) → nearest_first (ws ++ w ∷ []) behind ≡ shown_waiting w ∷ nearest_first ws behind
+nearest_first-push : (ws : List CodeWaiting) (w : CodeWaiting) (behind : List Waiting)
+    → nearest_first (ws ++ w ∷ []) behind ≡ shown_waiting w ∷ nearest_first ws behind
 nearest_first-push [] w behind = refl
 nearest_first-push (v ∷ ws) w behind = nearest_first-push ws w (shown_waiting v ∷ behind)
 
 -- the last of the list is the innermost
-pub shown_stack-push : (ws : List CodeWaiting) (w : CodeWaiting) → shown_stack (ws ++ w ∷ []) ≡ shown_waiting w ∷ shown_stack ws
+pub shown_stack-push : (ws : List CodeWaiting) (w : CodeWaiting) → shown_stack (ws ++ w ∷ [])
+    ≡ shown_waiting w ∷ shown_stack ws
 shown_stack-push ws w = nearest_first-push ws w []
 
-length-nearest_first : (ws : List CodeWaiting) (behind : List Waiting) → length (nearest_first ws behind) ≡ length ws + length behind
+length-nearest_first : (ws : List CodeWaiting) (behind : List Waiting) → length (nearest_first ws behind)
+    ≡ length ws + length behind
 length-nearest_first [] behind = omega arith
 length-nearest_first (w ∷ ws) behind = omega (arith, length-nearest_first ws (shown_waiting w ∷ behind))
 
 pub length-shown_stack : (ws : List CodeWaiting) → length (shown_stack ws) ≡ length ws
 length-shown_stack ws = omega (arith, length-nearest_first ws [])
 
-pub negated_last : (ws front : List CodeWaiting) → IsLastAndRest ws code_waiting.ForNot front → is_negated (shown_stack ws) ≡ true
-negated_last ws front h = ap (λ xs. is_negated (shown_stack xs)) h.0 ∙ ap is_negated (shown_stack-push front code_waiting.ForNot)
+pub negated_last : (ws front : List CodeWaiting) → IsLastAndRest ws code_waiting.ForNot front
+    → is_negated (shown_stack ws) ≡ true
+negated_last ws front h = ap (λ xs. is_negated (shown_stack xs)) h.0
+    ∙ ap is_negated (shown_stack-push front code_waiting.ForNot)
 
-pub open_last : (ws front : List CodeWaiting) (w : CodeWaiting) (level : Level) → IsLastAndRest ws w front → shown_waiting w ≡ ForClose level → is_negated (shown_stack ws) ≡ false
-open_last ws front w level h e = ap (λ xs. is_negated (shown_stack xs)) h.0 ∙ ap is_negated (shown_stack-push front w) ∙ ap (λ v. is_negated (v ∷ shown_stack front)) e
+pub open_last : (ws front : List CodeWaiting) (w : CodeWaiting) (level : Level) → IsLastAndRest ws w front
+    → shown_waiting w ≡ ForClose level → is_negated (shown_stack ws) ≡ false
+open_last ws front w level h e = ap (λ xs. is_negated (shown_stack xs)) h.0 ∙ ap is_negated (shown_stack-push front w)
+    ∙ ap (λ v. is_negated (v ∷ shown_stack front)) e
 
 -- an operand without a `not` directly before it is a member as it is
-pub placed-settled : (ws : List Waiting) (level : Level) (q : Query) → is_negated ws ≡ false → placed ws level q ≡ record { waiting = ws; level = with_member level q; wanted = false }
+pub placed-settled : (ws : List Waiting) (level : Level) (q : Query) → is_negated ws ≡ false → placed ws level q
+    ≡ record { waiting = ws; level = with_member level q; wanted = false }
 placed-settled ws level q h = grind arith
 
 -- ---- whether a `(` is open
@@ -37,20 +49,25 @@ has_open_code [] = false
 has_open_code (code_waiting.ForNot ∷ ws) = has_open_code ws
 has_open_code (code_waiting.ForClose level ∷ ws) = true
 
-has_open-nearest_first : (ws : List CodeWaiting) (behind : List Waiting) → has_open (nearest_first ws behind) ≡ (has_open_code ws || has_open behind)
+has_open-nearest_first : (ws : List CodeWaiting) (behind : List Waiting) → has_open (nearest_first ws behind)
+    ≡ (has_open_code ws || has_open behind)
 has_open-nearest_first [] behind = refl
 has_open-nearest_first (code_waiting.ForNot ∷ ws) behind = has_open-nearest_first ws (ForNot ∷ behind)
-has_open-nearest_first (code_waiting.ForClose level ∷ ws) behind = has_open-nearest_first ws (shown_waiting (code_waiting.ForClose level) ∷ behind) ∙ or_right (has_open_code ws) true refl
+has_open-nearest_first (code_waiting.ForClose level ∷ ws) behind =
+    has_open-nearest_first ws (shown_waiting (code_waiting.ForClose level) ∷ behind)
+    ∙ or_right (has_open_code ws) true refl
 
 pub has_open-shown_stack : (ws : List CodeWaiting) → has_open (shown_stack ws) ≡ has_open_code ws
 has_open-shown_stack ws = has_open-nearest_first ws [] ∙ or-false (has_open_code ws)
 
 -- ---- whether one more may be open
 
-pub deeper-full : (waiting : List Waiting) (what : Waiting) (level : Level) → 30 ≤ length waiting → deeper waiting what level ≡ Err TooDeep
+pub deeper-full : (waiting : List Waiting) (what : Waiting) (level : Level) → 30 ≤ length waiting
+    → deeper waiting what level ≡ Err TooDeep
 deeper-full waiting what level h = rw (le-leb 30 (length waiting) h) refl
 
-pub deeper-room : (waiting : List Waiting) (what : Waiting) (level : Level) → length waiting < 30 → deeper waiting what level ≡ Ok (record { waiting = what ∷ waiting; level = level; wanted = true })
+pub deeper-room : (waiting : List Waiting) (what : Waiting) (level : Level) → length waiting < 30
+    → deeper waiting what level ≡ Ok (record { waiting = what ∷ waiting; level = level; wanted = true })
 deeper-room waiting what level h = rw (lt-leb 30 (length waiting) h) refl
 
 -- ---- all but the last
@@ -59,21 +76,28 @@ pub negated_some : (ws : List CodeWaiting) → is_negated (shown_stack ws) ≡ t
 negated_some [] e = absurd cc
 negated_some (w ∷ ws) e = omega arith
 
-pub placed-not : (ws : List CodeWaiting) (level : Level) (q : Query) → is_negated (shown_stack ws) ≡ true → placed (shown_stack ws) level q ≡ placed (shown_stack (take (length ws - 1) ws)) level (Not q)
+pub placed-not : (ws : List CodeWaiting) (level : Level) (q : Query) → is_negated (shown_stack ws) ≡ true
+    → placed (shown_stack ws) level q ≡ placed (shown_stack (take (length ws - 1) ws)) level (Not q)
 placed-not ws level q e = grind (arith, last_of, negated_some, shown_stack-push, before_last)
 
-pub pops-close : (ws rest : List CodeWaiting) (outer : CodeLevel) (level : Level) → ws ≡ rest ++ code_waiting.ForClose outer ∷ []
+pub pops-close : (ws rest : List CodeWaiting) (outer : CodeLevel) (level : Level) → ws
+    ≡ rest ++ code_waiting.ForClose outer ∷ []
     → popped (shown_stack ws) level ≡ Ok (placed (shown_stack rest) (shown_level outer) (level_query level))
-pops-close ws rest outer level e = ap (λ xs. popped (shown_stack xs) level) e ∙ ap (λ xs. popped xs level) (shown_stack-push rest (code_waiting.ForClose outer))
+pops-close ws rest outer level e = ap (λ xs. popped (shown_stack xs) level) e
+    ∙ ap (λ xs. popped xs level) (shown_stack-push rest (code_waiting.ForClose outer))
 
-pub pops-not : (ws rest : List CodeWaiting) (level : Level) → ws ≡ rest ++ code_waiting.ForNot ∷ [] → popped (shown_stack ws) level ≡ Err BadParenthesis
-pops-not ws rest level e = ap (λ xs. popped (shown_stack xs) level) e ∙ ap (λ xs. popped xs level) (shown_stack-push rest code_waiting.ForNot)
+pub pops-not : (ws rest : List CodeWaiting) (level : Level) → ws ≡ rest ++ code_waiting.ForNot ∷ []
+    → popped (shown_stack ws) level ≡ Err BadParenthesis
+pops-not ws rest level e = ap (λ xs. popped (shown_stack xs) level) e
+    ∙ ap (λ xs. popped xs level) (shown_stack-push rest code_waiting.ForNot)
 
 -- ---- an open `(`, found from the front
 
-pub open_here : (ws : List CodeWaiting) (i : ℕ) (item : CodeWaiting) (level : CodeLevel) → i < length ws → item ≡ get_or ws i item → item ≡ code_waiting.ForClose level
+pub open_here : (ws : List CodeWaiting) (i : ℕ) (item : CodeWaiting) (level : CodeLevel) → i < length ws → item
+    ≡ get_or ws i item → item ≡ code_waiting.ForClose level
     → has_open_code (drop i ws) ≡ has_open_code ws → true ≡ has_open (shown_stack ws)
 open_here ws i item level below here is h = grind (arith, drop-cons, has_open-shown_stack)
 
-pub none_open : (ws : List CodeWaiting) (i : ℕ) → length ws ≤ i → has_open_code (drop i ws) ≡ has_open_code ws → false ≡ has_open (shown_stack ws)
+pub none_open : (ws : List CodeWaiting) (i : ℕ) → length ws ≤ i → has_open_code (drop i ws) ≡ has_open_code ws → false
+    ≡ has_open (shown_stack ws)
 none_open ws i past h = sym (ap has_open_code (drop_all i ws past)) ∙ h ∙ sym (has_open-shown_stack ws)

@@ -1,5 +1,6 @@
 -- Taking one token after another from the front of a text gives its tokens.
-use Rattle.std.proofs.Common.{◌≡◌, ℕ, zero, suc, ◌<◌, ◌≤◌, Bool, true, false, not, ◌||◌, cond, eqb, List, [], ◌∷◌, length, take, drop, get_or, None, Some, refl, sym, ap, subst, ◌∙◌, arith, add-one}
+use Rattle.std.proofs.Common.{◌≡◌, ℕ, zero, suc, ◌<◌, ◌≤◌, Bool, true, false, not, ◌||◌, cond, eqb, List, [], ◌∷◌}
+use Rattle.std.proofs.Common.{length, take, drop, get_or, None, Some, refl, sym, ap, subst, ◌∙◌, arith, add-one}
 use Rattle.std.proofs.lemmas.Bool.Decides.{nat_tests}
 use Rattle.std.proofs.lemmas.Option.{cond_some}
 use Rattle.std.specs.List.{prefix_len}
@@ -23,7 +24,8 @@ pub tokens-blanks : (text : List ℕ) → tokens (drop (blank_count text) text) 
 tokens-blanks [] = refl
 tokens-blanks (b ∷ bs) = go (is_blank b) refl (tokens-blanks bs)
   where
-    go : (t : Bool) → is_blank b ≡ t → tokens (drop (blank_count bs) bs) ≡ tokens bs → tokens (drop (cond t (suc (blank_count bs)) 0) (b ∷ bs)) ≡ tokens (b ∷ bs)
+    go : (t : Bool) → is_blank b ≡ t → tokens (drop (blank_count bs) bs) ≡ tokens bs
+        → tokens (drop (cond t (suc (blank_count bs)) 0) (b ∷ bs)) ≡ tokens (b ∷ bs)
     go true e h = h ∙ sym (tokens-blank b bs e)
     go false e h = refl
 
@@ -31,7 +33,8 @@ pub no_blank_left : (text : List ℕ) → blank_count (drop (blank_count text) t
 no_blank_left [] = refl
 no_blank_left (b ∷ bs) = go (is_blank b) refl (no_blank_left bs)
   where
-    go : (t : Bool) → is_blank b ≡ t → blank_count (drop (blank_count bs) bs) ≡ 0 → blank_count (drop (cond t (suc (blank_count bs)) 0) (b ∷ bs)) ≡ 0
+    go : (t : Bool) → is_blank b ≡ t → blank_count (drop (blank_count bs) bs) ≡ 0
+        → blank_count (drop (cond t (suc (blank_count bs)) 0) (b ∷ bs)) ≡ 0
     go t h h2 = grind arith
 
 blank_is_ascii : (b : ℕ) → is_blank b ≡ true → b < 128
@@ -43,7 +46,8 @@ last_blank [] n e = absurd (omega (arith, e))
 last_blank (b ∷ bs) n e = go (is_blank b) refl e n refl (λ m h. last_blank bs m h)
   where
     go : (t : Bool) → is_blank b ≡ t → cond t (suc (blank_count bs)) 0 ≡ suc n → (m : ℕ) → m ≡ n
-        → ((k : ℕ) → blank_count bs ≡ suc k → (k < length bs) × (get_or bs k 0 < 128)) → (m < length (b ∷ bs)) × (get_or (b ∷ bs) m 0 < 128)
+        → ((k : ℕ) → blank_count bs ≡ suc k → (k < length bs) × (get_or bs k 0 < 128)) → (m < length (b ∷ bs))
+        × (get_or (b ∷ bs) m 0 < 128)
     go false f e m i h = absurd (omega (arith, e))
     go true f e zero i h = (omega arith, blank_is_ascii b f)
     go true f e (suc m) i h =
@@ -66,7 +70,8 @@ pub run_counted : (text : List ℕ) → prefix_len (λ b. not (ends_run b)) text
 run_counted [] = refl
 run_counted (b ∷ bs) = grind (arith, run_counted bs)
 
-pub cut-run : (text : List ℕ) → cut_tokens text ≡ record { run = take (run_length text) text; behind = tokens (drop (run_length text) text) }
+pub cut-run : (text : List ℕ) → cut_tokens text
+    ≡ record { run = take (run_length text) text; behind = tokens (drop (run_length text) text) }
 unfolding tokens
 cut-run [] = refl
 cut-run (b ∷ bs) = go (is_blank b) (eqb b 0x28) (eqb b 0x29) refl refl refl (cut-run bs)
@@ -75,24 +80,29 @@ cut-run (b ∷ bs) = go (is_blank b) (eqb b 0x28) (eqb b 0x29) refl refl refl (c
     cut_at t o c rest =
         cond t (record { run = []; behind = all_tokens rest })
         (cond o (record { run = []; behind = Open ∷ all_tokens rest })
-        (cond c (record { run = []; behind = Close ∷ all_tokens rest }) (record { run = b ∷ rest.run; behind = rest.behind })))
+        (cond c (record { run = []; behind = Close ∷ all_tokens rest })
+        (record { run = b ∷ rest.run; behind = rest.behind })))
 
     count : Bool → Bool → Bool → ℕ
     count t o c = cond (t || (o || c)) 0 (suc (run_length bs))
 
     go : (t o c : Bool) → is_blank b ≡ t → eqb b 0x28 ≡ o → eqb b 0x29 ≡ c
         → cut_tokens bs ≡ record { run = take (run_length bs) bs; behind = tokens (drop (run_length bs) bs) }
-        → cut_at t o c (cut_tokens bs) ≡ record { run = take (count t o c) (b ∷ bs); behind = tokens (drop (count t o c) (b ∷ bs)) }
+        → cut_at t o c (cut_tokens bs) ≡ record
+        { run = take (count t o c) (b ∷ bs); behind = tokens (drop (count t o c) (b ∷ bs)) }
     go true o c e f g h = rw e refl
     go false true c e f g h = rw (e, f) refl
     go false false true e f g h = rw (e, f, g) refl
-    go false false false e f g h = ap (λ (rest : Cut). let r : Cut = record { run = b ∷ rest.run; behind = rest.behind } in r) h
+    go false false false e f g h = ap (λ (rest : Cut). let r : Cut = record { run = b ∷ rest.run; behind = rest.behind }
+        in r) h
 
-pub tokens-run : (text : List ℕ) → 0 < run_length text → 0 < length text → tokens text ≡ token_of (take (run_length text) text) ∷ tokens (drop (run_length text) text)
+pub tokens-run : (text : List ℕ) → 0 < run_length text → 0 < length text → tokens text
+    ≡ token_of (take (run_length text) text) ∷ tokens (drop (run_length text) text)
 unfolding tokens
 tokens-run text some nonempty = ap all_tokens (cut-run text) ∙ go (run_length text) text some nonempty
   where
-    go : (n : ℕ) (t : List ℕ) → 0 < n → 0 < length t → closed_run (take n t) (tokens (drop (run_length text) text)) ≡ token_of (take n t) ∷ tokens (drop (run_length text) text)
+    go : (n : ℕ) (t : List ℕ) → 0 < n → 0 < length t → closed_run (take n t) (tokens (drop (run_length text) text))
+        ≡ token_of (take n t) ∷ tokens (drop (run_length text) text)
     go n t h h2 = grind arith
 
 -- a run ends at a boundary of characters
@@ -106,15 +116,18 @@ run_end text = go (run_place text)
     run_place [] = (omega arith, λ h. absurd (omega (arith, h)))
     run_place (b ∷ bs) = grind (arith, ascii, run_place bs)
 
-    go : (run_length text ≤ length text) × (run_length text < length text → get_or text (run_length text) 0 < 128) → IsCharBoundary text (run_length text)
+    go : (run_length text ≤ length text) × (run_length text < length text → get_or text (run_length text) 0 < 128)
+        → IsCharBoundary text (run_length text)
     go h = (h.0, λ below high. absurd (omega (arith, h.1 below, high)))
 
 -- a text that begins with no blank and no parenthesis begins with a run
-pub begins_run : (text : List ℕ) → 0 < length text → blank_count text ≡ 0 → without_first 0x28 text ≡ None → without_first 0x29 text ≡ None → 0 < run_length text
+pub begins_run : (text : List ℕ) → 0 < length text → blank_count text ≡ 0 → without_first 0x28 text ≡ None
+    → without_first 0x29 text ≡ None → 0 < run_length text
 begins_run [] h e f g = absurd (omega (arith, h))
 begins_run (b ∷ bs) h e f g = go (is_blank b) (eqb b 0x28) (eqb b 0x29) e f g
   where
-    go : (t o c : Bool) → cond t (suc (blank_count bs)) 0 ≡ 0 → cond o (Some bs) None ≡ None → cond c (Some bs) None ≡ None → 0 < cond (t || (o || c)) 0 (suc (run_length bs))
+    go : (t o c : Bool) → cond t (suc (blank_count bs)) 0 ≡ 0 → cond o (Some bs) None ≡ None → cond c (Some bs) None
+        ≡ None → 0 < cond (t || (o || c)) 0 (suc (run_length bs))
     go t o c h h2 h3 = grind arith
 
 -- ---- parentheses at the front

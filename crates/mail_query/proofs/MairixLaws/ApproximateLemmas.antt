@@ -1,11 +1,14 @@
 -- The test for approximate matching is right after each byte of a text, so it is right at the end.
-use Rattle.mail_query.proofs.Words.{◌≡◌, ℕ, suc, ◌≤◌, Bool, true, false, ◌||◌, ◌&&◌, eqb, List, [], ◌∷◌, ◌++◌, length, refl, sym, subst, arith, list_all, is_ascii_digit, eqb-true, and_parts, and_from, or_left, or_right, is_nonempty, is_approximate, IsApproximate, Digits}
+use Rattle.mail_query.proofs.Words.{◌≡◌, ℕ, suc, ◌≤◌, Bool, true, false, ◌||◌, ◌&&◌, eqb, List, [], ◌∷◌, ◌++◌, length}
+use Rattle.mail_query.proofs.Words.{refl, sym, subst, arith, list_all, is_ascii_digit, eqb-true, and_parts, and_from}
+use Rattle.mail_query.proofs.Words.{or_left, or_right, is_nonempty, is_approximate, IsApproximate, Digits}
 
 -- What the test says of the whole text, given the rest. `marked`: only digits came since the last `=`. `counted`: at
 -- least one of them did.
 abbrev pub approximate_behind : Bool → Bool → List ℕ → Bool
 approximate_behind marked counted rest =
-    ((counted && list_all is_ascii_digit rest) || (marked && (is_nonempty rest && list_all is_ascii_digit rest))) || is_approximate rest
+    ((counted && list_all is_ascii_digit rest) || (marked && (is_nonempty rest && list_all is_ascii_digit rest))) ||
+    is_approximate rest
 
 nonempty : (b : ℕ) (bs : List ℕ) → is_nonempty (b ∷ bs) ≡ true
 nonempty b bs = let e : eqb (suc (length bs)) 0 ≡ false = grind arith in rw e refl
@@ -25,16 +28,20 @@ pub approximate_is : (text : List ℕ) → is_approximate text ≡ true → IsAp
 approximate_is [] e = absurd cc
 approximate_is (b ∷ bs) e = go (eqb b 0x3D && (is_nonempty bs && list_all is_ascii_digit bs)) refl e (approximate_is bs)
   where
-    go : (t : Bool) → (eqb b 0x3D && (is_nonempty bs && list_all is_ascii_digit bs)) ≡ t → (t || is_approximate bs) ≡ true → (is_approximate bs ≡ true → IsApproximate bs)
+    go : (t : Bool) → (eqb b 0x3D && (is_nonempty bs && list_all is_ascii_digit bs)) ≡ t → (t || is_approximate bs)
+        ≡ true → (is_approximate bs ≡ true → IsApproximate bs)
         → IsApproximate (b ∷ bs)
     go true h e behind =
         let mark = and_parts (eqb b 0x3D) (is_nonempty bs && list_all is_ascii_digit bs) h in
         let rest = and_parts (is_nonempty bs) (list_all is_ascii_digit bs) mark.1 in
-        subst (λ (c : ℕ). IsApproximate (c ∷ bs)) (sym (eqb-true b 0x3D mark.0)) (Digits [] bs (filled bs rest.0) rest.1)
+        subst (λ (c : ℕ). IsApproximate (c ∷ bs)) (sym (eqb-true b 0x3D mark.0))
+        (Digits [] bs (filled bs rest.0) rest.1)
     go false h e behind = marked_behind b bs (behind e)
 
-marked : (front digits : List ℕ) → 1 ≤ length digits → list_all is_ascii_digit digits ≡ true → is_approximate (front ++ 0x3D ∷ digits) ≡ true
-marked [] digits some only = or_left (is_nonempty digits && list_all is_ascii_digit digits) (is_approximate digits) (and_from (is_nonempty digits) (list_all is_ascii_digit digits) (nonempty_of digits some) only)
+marked : (front digits : List ℕ) → 1 ≤ length digits → list_all is_ascii_digit digits ≡ true
+    → is_approximate (front ++ 0x3D ∷ digits) ≡ true
+marked [] digits some only = or_left (is_nonempty digits && list_all is_ascii_digit digits) (is_approximate digits)
+    (and_from (is_nonempty digits) (list_all is_ascii_digit digits) (nonempty_of digits some) only)
 marked (b ∷ front) digits some only = grind (arith, or_right, marked front digits some only)
 
 pub is_marked : (text : List ℕ) → IsApproximate text → is_approximate text ≡ true

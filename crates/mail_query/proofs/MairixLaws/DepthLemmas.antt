@@ -1,5 +1,8 @@
 -- The queries of patterns have at most five levels, counted production by production.
-use Rattle.mail_query.proofs.Words.{ℕ, suc, ◌≤◌, List, [], ◌∷◌, arith, Query, depth, deepest, members_of, all_of, either_of, IsSizes, Between, AreFlags, IsFlags, EachFlag, Lexicon, Forms, Separated, Alone, Before, IsAtom, IsTerm, IsAll, EachTerm, IsRest, SomeAll, IsPattern, ArePatterns, Only, AndAlso, IsAsked, EachPattern}
+use Rattle.mail_query.proofs.Words.{ℕ, suc, ◌≤◌, List, [], ◌∷◌, arith, Query, depth, deepest, members_of, all_of}
+use Rattle.mail_query.proofs.Words.{either_of, IsSizes, Between, AreFlags, IsFlags, EachFlag, Lexicon, Forms, Separated}
+use Rattle.mail_query.proofs.Words.{Alone, Before, IsAtom, IsTerm, IsAll, EachTerm, IsRest, SomeAll, IsPattern}
+use Rattle.mail_query.proofs.Words.{ArePatterns, Only, AndAlso, IsAsked, EachPattern}
 use Rattle.mail_query.specs.FlagGrammar as flags
 
 -- each query has at most n levels
@@ -26,11 +29,13 @@ depth-either_of n (q ∷ r ∷ qs) h = omega (arith, deepest_le n (q ∷ r ∷ q
 
 -- ---- each production
 
-separated_shallow : (n sign : ℕ) (Asks : List ℕ → Query → Type 0) → ((text : List ℕ) (q : Query) → Asks text q → depth q ≤ n)
+separated_shallow : (n sign : ℕ) (Asks : List ℕ → Query → Type 0)
+    → ((text : List ℕ) (q : Query) → Asks text q → depth q ≤ n)
     → (text : List ℕ) (qs : List Query) → Separated sign Asks text qs → AreShallow n qs
 unfolding AreShallow
 separated_shallow n sign Asks one text qs (Alone t q a) = (one t q a, tt)
-separated_shallow n sign Asks one text qs (Before t rest q more a s) = (one t q a, separated_shallow n sign Asks one rest more s)
+separated_shallow n sign Asks one text qs (Before t rest q more a s) =
+    (one t q a, separated_shallow n sign Asks one rest more s)
 
 module _ (forms : Forms) where
   atom_depth : (text : List ℕ) (q : Query) → IsAtom forms text q → depth q ≤ 1
@@ -55,7 +60,8 @@ flags_shallow text qs (flags.Wanted letter flag rest more e f) = (omega arith, f
 flags_shallow text qs (flags.Unwanted letter flag rest more e f) = (omega arith, flags_shallow rest more f)
 
 flag_depth : (text : List ℕ) (q : Query) → IsFlags text q → depth q ≤ 4
-flag_depth text q (EachFlag t first more f) = omega (arith, depth-all_of 1 (first ∷ more) (flags_shallow t (first ∷ more) f))
+flag_depth text q (EachFlag t first more f) =
+    omega (arith, depth-all_of 1 (first ∷ more) (flags_shallow t (first ∷ more) f))
 
 module _ (lexicon : Lexicon) where
   pattern_depth : (text : List ℕ) (q : Query) → IsPattern lexicon text q → depth q ≤ 4
@@ -64,7 +70,8 @@ module _ (lexicon : Lexicon) where
   patterns_shallow : (patterns : List (List ℕ)) (qs : List Query) → ArePatterns lexicon patterns qs → AreShallow 4 qs
   unfolding AreShallow
   patterns_shallow patterns qs (Only pattern q a) = (pattern_depth pattern q a, tt)
-  patterns_shallow patterns qs (AndAlso pattern rest q more a s) = (pattern_depth pattern q a, patterns_shallow rest more s)
+  patterns_shallow patterns qs (AndAlso pattern rest q more a s) =
+      (pattern_depth pattern q a, patterns_shallow rest more s)
 
   -- the query of a list of patterns has at most five levels
   pub asked_depth : (patterns : List (List ℕ)) (q : Query) → IsAsked lexicon patterns q → depth q ≤ 5

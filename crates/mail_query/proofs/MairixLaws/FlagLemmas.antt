@@ -1,5 +1,10 @@
 -- Flags are read as their grammar says, by induction over the letters.
-use Rattle.mail_query.proofs.Words.{◌≡◌, ℕ, ◌+◌, ◌<◌, Bool, true, false, eqb, List, [], ◌∷◌, ◌++◌, length, get_or, drop, Option, None, Some, Ok, Err, option_map, refl, sym, ap, ◌∙◌, append_assoc, append-nil, arith, add-one, drop-cons, inl, inr, not, cond, subst, option_and_then, ◌⊎◌, drop_all, Flag, BadFlag, Query, HasFlag, all_of, flag_of, with_flag, flags_behind, flags_of, some_of, flags_query, eqb-true, false_from_ne_true, none-some, option_and_then_some, AreFlags, NoFlag, IsFlags, EachFlag}
+use Rattle.mail_query.proofs.Words.{◌≡◌, ℕ, ◌+◌, ◌<◌, Bool, true, false, eqb, List, [], ◌∷◌, ◌++◌, length, get_or, drop}
+use Rattle.mail_query.proofs.Words.{Option, None, Some, Ok, Err, option_map, refl, sym, ap, ◌∙◌, append_assoc}
+use Rattle.mail_query.proofs.Words.{append-nil, arith, add-one, drop-cons, inl, inr, not, cond, subst, option_and_then}
+use Rattle.mail_query.proofs.Words.{◌⊎◌, drop_all, Flag, BadFlag, Query, HasFlag, all_of, flag_of, with_flag}
+use Rattle.mail_query.proofs.Words.{flags_behind, flags_of, some_of, flags_query, eqb-true, false_from_ne_true}
+use Rattle.mail_query.proofs.Words.{none-some, option_and_then_some, AreFlags, NoFlag, IsFlags, EachFlag}
 use Rattle.mail_query.proofs.MairixLaws.SignLemmas.{map_some}
 use Rattle.mail_query.specs.FlagGrammar.{Wanted, Unwanted}
 
@@ -18,18 +23,23 @@ pub reads_none : (text : List ℕ) (qs : List Query) → qs ≡ [] → HasRead t
 reads_none text qs e = grind arith
 
 -- a dash comes next
-at_dash : (text : List ℕ) (qs : List Query) (wanted w : Bool) (i : ℕ) → HasRead text qs wanted i → wanted ≡ w → i < length text → get_or text i 0 ≡ 0x2D
+at_dash : (text : List ℕ) (qs : List Query) (wanted w : Bool) (i : ℕ) → HasRead text qs wanted i → wanted ≡ w
+    → i < length text → get_or text i 0 ≡ 0x2D
     → with_flags qs (flags_behind w (0x2D ∷ drop (i + 1) text)) ≡ flags_behind true text
 at_dash text qs wanted w i h e below is = grind (arith, next)
 
-pub dash_read : (text : List ℕ) (qs : List Query) (wanted : Bool) (i : ℕ) → HasRead text qs wanted i → wanted ≡ true → i < length text → get_or text i 0 ≡ 0x2D → HasRead text qs false (i + 1)
+pub dash_read : (text : List ℕ) (qs : List Query) (wanted : Bool) (i : ℕ) → HasRead text qs wanted i → wanted ≡ true
+    → i < length text → get_or text i 0 ≡ 0x2D → HasRead text qs false (i + 1)
 dash_read text qs wanted i h e below is = record { whole = at_dash text qs wanted true i h e below is }
 
-at_letter : (wanted : Bool) (b : ℕ) (bs : List ℕ) → eqb b 0x2D ≡ false → flags_behind wanted (b ∷ bs) ≡ with_flag wanted b (flags_behind true bs)
+at_letter : (wanted : Bool) (b : ℕ) (bs : List ℕ) → eqb b 0x2D ≡ false → flags_behind wanted (b ∷ bs)
+    ≡ with_flag wanted b (flags_behind true bs)
 at_letter wanted b bs e = rw e refl
 
-pub reads_letter : (text : List ℕ) (qs : List Query) (wanted : Bool) (i : ℕ) (flag : Flag) → HasRead text qs wanted i → i < length text
-    → eqb (get_or text i 0) 0x2D ≡ false → flag_of (get_or text i 0) ≡ Some flag → HasRead text (qs ++ HasFlag flag wanted ∷ []) true (i + 1)
+pub reads_letter : (text : List ℕ) (qs : List Query) (wanted : Bool) (i : ℕ) (flag : Flag) → HasRead text qs wanted i
+    → i < length text
+    → eqb (get_or text i 0) 0x2D ≡ false → flag_of (get_or text i 0) ≡ Some flag
+    → HasRead text (qs ++ HasFlag flag wanted ∷ []) true (i + 1)
 reads_letter text qs wanted i flag h below other is = grind (arith, option_map, at_letter, next, append_assoc)
 
 pub no_letter : (text : List ℕ) (qs : List Query) (wanted : Bool) (i : ℕ) → HasRead text qs wanted i → i < length text
@@ -39,10 +49,12 @@ no_letter text qs wanted i h below other is = grind (arith, next, at_letter, opt
 at_end : (text : List ℕ) (i : ℕ) → length text ≡ i → drop i text ≡ []
 at_end text i e = drop_all i text (omega (arith, e))
 
-pub reads_all : (text : List ℕ) (qs : List Query) (i : ℕ) → HasRead text qs true i → length text ≡ i → flags_behind true text ≡ Some qs
+pub reads_all : (text : List ℕ) (qs : List Query) (i : ℕ) → HasRead text qs true i → length text ≡ i
+    → flags_behind true text ≡ Some qs
 reads_all text qs i h e = grind (arith, at_end, append-nil)
 
-pub no_last_letter : (text : List ℕ) (qs : List Query) (i : ℕ) → HasRead text qs false i → length text ≡ i → flags_behind true text ≡ None
+pub no_last_letter : (text : List ℕ) (qs : List Query) (i : ℕ) → HasRead text qs false i → length text ≡ i
+    → flags_behind true text ≡ None
 no_last_letter text qs i h e = grind (arith, at_end)
 
 -- ---- the whole text
@@ -55,28 +67,33 @@ pub none_refused : (text : List ℕ) → flags_behind true text ≡ Some [] → 
 unfolding flags_of
 none_refused text e = rw e refl
 
-pub asked : (text : List ℕ) (q : Query) (qs : List Query) → flags_behind true text ≡ Some (q ∷ qs) → flags_query text ≡ Ok (all_of (q ∷ qs))
+pub asked : (text : List ℕ) (q : Query) (qs : List Query) → flags_behind true text ≡ Some (q ∷ qs) → flags_query text
+    ≡ Ok (all_of (q ∷ qs))
 unfolding flags_of
 asked text q qs e = rw e refl
 
-pub asked_all : (text : List ℕ) (qs : List Query) (i : ℕ) → HasRead text qs true i → length text ≡ i → 0 < length qs → flags_query text ≡ Ok (all_of qs)
+pub asked_all : (text : List ℕ) (qs : List Query) (i : ℕ) → HasRead text qs true i → length text ≡ i → 0 < length qs
+    → flags_query text ≡ Ok (all_of qs)
 asked_all text [] i h e some = absurd (omega (arith, some))
 asked_all text (q ∷ qs) i h e some = asked text q qs (reads_all text (q ∷ qs) i h e)
 
-pub refused_at_end : (text : List ℕ) (qs : List Query) (wanted : Bool) (i : ℕ) → HasRead text qs wanted i → length text ≡ i → (wanted ≡ false) ⊎ (length qs ≡ 0) → flags_query text ≡ Err BadFlag
+pub refused_at_end : (text : List ℕ) (qs : List Query) (wanted : Bool) (i : ℕ) → HasRead text qs wanted i → length text
+    ≡ i → (wanted ≡ false) ⊎ (length qs ≡ 0) → flags_query text ≡ Err BadFlag
 refused_at_end text qs false i h e why = refused text (no_last_letter text qs i h e)
 refused_at_end text qs true i h e (inl unwanted) = absurd cc
 refused_at_end text [] true i h e (inr none) = none_refused text (reads_all text [] i h e)
 refused_at_end text (q ∷ qs) true i h e (inr none) = absurd (omega (arith, none))
 
-pub dash_refused : (text : List ℕ) (qs : List Query) (wanted : Bool) (i : ℕ) → HasRead text qs wanted i → wanted ≡ false → i < length text → get_or text i 0 ≡ 0x2D → flags_query text ≡ Err BadFlag
+pub dash_refused : (text : List ℕ) (qs : List Query) (wanted : Bool) (i : ℕ) → HasRead text qs wanted i → wanted ≡ false
+    → i < length text → get_or text i 0 ≡ 0x2D → flags_query text ≡ Err BadFlag
 dash_refused text qs wanted i h e below is = refused text (sym (at_dash text qs wanted false i h e below is))
 
 -- ---- the grammar
 
 -- a letter of a flag isn't a dash
 no_dash : (letter : ℕ) (flag : Flag) → flag_of letter ≡ Some flag → eqb letter 0x2D ≡ false
-no_dash letter flag e = false_from_ne_true (eqb letter 0x2D) (λ h. none-some flag (ap flag_of (sym (eqb-true letter 0x2D h)) ∙ e))
+no_dash letter flag e = false_from_ne_true (eqb letter 0x2D)
+    (λ h. none-some flag (ap flag_of (sym (eqb-true letter 0x2D h)) ∙ e))
 
 are_read : (text : List ℕ) (qs : List Query) → AreFlags text qs → flags_behind true text ≡ Some qs
 are_read text qs NoFlag = refl
@@ -105,7 +122,8 @@ record Named (wanted : Bool) (letter : ℕ) (rest : Option (List Query)) (qs : L
   behind : rest ≡ Some more
   queries : qs ≡ HasFlag flag wanted ∷ more
 
-with_flag_is : (wanted : Bool) (letter : ℕ) (rest : Option (List Query)) (qs : List Query) → with_flag wanted letter rest ≡ Some qs → Named wanted letter rest qs
+with_flag_is : (wanted : Bool) (letter : ℕ) (rest : Option (List Query)) (qs : List Query)
+    → with_flag wanted letter rest ≡ Some qs → Named wanted letter rest qs
 with_flag_is wanted letter rest qs e = grind (arith, option_and_then_some, option_map, map_some)
 
 record Read (text : List ℕ) : Type 0 where
@@ -113,19 +131,33 @@ record Read (text : List ℕ) : Type 0 where
   unwanted : (qs : List Query) → flags_behind false text ≡ Some qs → Behind text qs
 
 read_are : (text : List ℕ) → Read text
-read_are [] = record { wanted = λ qs e. let none : [] ≡ qs = cc in subst (AreFlags []) none NoFlag; unwanted = λ qs e. absurd cc }
-read_are (b ∷ bs) = record { wanted = λ qs e. first qs (eqb b 0x2D) refl e (read_are bs); unwanted = λ qs e. behind qs (eqb b 0x2D) refl e (read_are bs) }
+read_are [] = record {
+  wanted = λ qs e. let none : [] ≡ qs = cc in subst (AreFlags []) none NoFlag;
+  unwanted =
+      λ qs e. absurd cc;
+}
+read_are (b ∷ bs) = record {
+  wanted = λ qs e. first qs (eqb b 0x2D) refl e (read_are bs);
+  unwanted =
+      λ qs e. behind qs (eqb b 0x2D) refl e (read_are bs);
+}
   where
-    first : (qs : List Query) (t : Bool) → eqb b 0x2D ≡ t → cond t (flags_behind (not t) bs) (with_flag true b (flags_behind (not t) bs)) ≡ Some qs → Read bs → AreFlags (b ∷ bs) qs
+    first : (qs : List Query) (t : Bool) → eqb b 0x2D ≡ t
+        → cond t (flags_behind (not t) bs) (with_flag true b (flags_behind (not t) bs)) ≡ Some qs → Read bs
+        → AreFlags (b ∷ bs) qs
     first qs true h e r =
         let d = r.unwanted qs e in
         let text : 0x2D ∷ d.letter ∷ d.rest ≡ b ∷ bs = let dash = eqb-true b 0x2D h in let rest = d.text_is in cc in
-        subst (λ (t : List ℕ). AreFlags t qs) text (subst (AreFlags (0x2D ∷ d.letter ∷ d.rest)) (sym d.queries) (Unwanted d.letter d.flag d.rest d.more d.named d.flags))
+        subst (λ (t : List ℕ). AreFlags t qs) text
+        (subst (AreFlags (0x2D ∷ d.letter ∷ d.rest)) (sym d.queries)
+        (Unwanted d.letter d.flag d.rest d.more d.named d.flags))
     first qs false h e r =
         let n = with_flag_is true b (flags_behind true bs) qs e in
         subst (AreFlags (b ∷ bs)) (sym n.queries) (Wanted b n.flag bs n.more n.named (r.wanted n.more n.behind))
 
-    behind : (qs : List Query) (t : Bool) → eqb b 0x2D ≡ t → cond {A = Option (List Query)} t None (with_flag false b (flags_behind (not t) bs)) ≡ Some qs → Read bs → Behind (b ∷ bs) qs
+    behind : (qs : List Query) (t : Bool) → eqb b 0x2D ≡ t
+        → cond {A = Option (List Query)} t None (with_flag false b (flags_behind (not t) bs)) ≡ Some qs → Read bs
+        → Behind (b ∷ bs) qs
     behind qs t h h2 h3 = grind arith
 
 pub read_flags : (text : List ℕ) (q : Query) → flags_of text ≡ Some q → IsFlags text q
@@ -136,4 +168,5 @@ read_flags text q e = go (flags_behind true text) refl e
     go None h e = absurd cc
     go (Some []) h e = absurd cc
     go (Some (first ∷ qs)) h e =
-        let same : all_of (first ∷ qs) ≡ q = cc in let r = read_are text in subst (IsFlags text) same (EachFlag text first qs (r.wanted (first ∷ qs) h))
+        let same : all_of (first ∷ qs) ≡ q = cc in let r = read_are text
+        in subst (IsFlags text) same (EachFlag text first qs (r.wanted (first ∷ qs) h))

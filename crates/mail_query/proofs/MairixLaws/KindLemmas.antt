@@ -1,33 +1,44 @@
 -- The letters of a prefix name the kinds that the grammar says, letter by letter.
-use Rattle.mail_query.proofs.Words.{◌≡◌, ℕ, Bool, true, false, cond, List, [], ◌∷◌, None, Some, refl, sym, ap, ◌∙◌, arith, ◌||◌, ◌&&◌, codes, option_and_then, list_all, or-false, eqb_tells, cond_some, Kinds, no_kinds, union, kinds_of_letter, kinds_with, kinds_of, is_among, kinds_named, AreLetters}
+use Rattle.mail_query.proofs.Words.{◌≡◌, ℕ, Bool, true, false, cond, List, [], ◌∷◌, None, Some, refl, sym, ap, ◌∙◌}
+use Rattle.mail_query.proofs.Words.{arith, ◌||◌, ◌&&◌, codes, option_and_then, list_all, or-false, eqb_tells, cond_some}
+use Rattle.mail_query.proofs.Words.{Kinds, no_kinds, union, kinds_of_letter, kinds_with, kinds_of, is_among}
+use Rattle.mail_query.proofs.Words.{kinds_named, AreLetters}
 
 abbrev are_letters : List ℕ → Bool
 are_letters letters = list_all (is_among (codes "tcfsban")) letters
 
-letter_named : (letter : ℕ) → kinds_of_letter letter ≡ cond (is_among (codes "tcfsban") letter) (Some (kinds_named (letter ∷ []))) None
+letter_named : (letter : ℕ) → kinds_of_letter letter
+    ≡ cond (is_among (codes "tcfsban") letter) (Some (kinds_named (letter ∷ []))) None
 letter_named letter = grind (arith, eqb_tells)
 
 or_steps : (k a b : Bool) → ((k || (a || false)) || b) ≡ (k || (a || b))
 or_steps k a b = grind arith
 
-union-named : (kinds : Kinds) (letter : ℕ) (letters : List ℕ) → union (union kinds (kinds_named (letter ∷ []))) (kinds_named letters) ≡ union kinds (kinds_named (letter ∷ letters))
+union-named : (kinds : Kinds) (letter : ℕ) (letters : List ℕ)
+    → union (union kinds (kinds_named (letter ∷ []))) (kinds_named letters)
+    ≡ union kinds (kinds_named (letter ∷ letters))
 union-named kinds letter letters = grind (arith, or_steps)
 
 union-none : (kinds : Kinds) → union kinds no_kinds ≡ kinds
 union-none kinds = grind (arith, or-false)
 
-with_named : (kinds : Kinds) (letters : List ℕ) → kinds_with kinds letters ≡ cond (are_letters letters) (Some (union kinds (kinds_named letters))) None
+with_named : (kinds : Kinds) (letters : List ℕ) → kinds_with kinds letters
+    ≡ cond (are_letters letters) (Some (union kinds (kinds_named letters))) None
 with_named kinds [] = ap Some (sym (union-none kinds))
 with_named kinds (letter ∷ letters) =
     ap (option_and_then (λ more. kinds_with (union kinds more) letters)) (letter_named letter)
     ∙ go (is_among (codes "tcfsban") letter) (with_named (union kinds (kinds_named (letter ∷ []))) letters)
   where
-    go : (t : Bool) → kinds_with (union kinds (kinds_named (letter ∷ []))) letters ≡ cond (are_letters letters) (Some (union (union kinds (kinds_named (letter ∷ []))) (kinds_named letters))) None
-        → option_and_then (λ more. kinds_with (union kinds more) letters) (cond t (Some (kinds_named (letter ∷ []))) None) ≡ cond (t && are_letters letters) (Some (union kinds (kinds_named (letter ∷ letters)))) None
+    go : (t : Bool) → kinds_with (union kinds (kinds_named (letter ∷ []))) letters
+        ≡ cond (are_letters letters) (Some (union (union kinds (kinds_named (letter ∷ []))) (kinds_named letters))) None
+        → option_and_then (λ more. kinds_with (union kinds more) letters)
+        (cond t (Some (kinds_named (letter ∷ []))) None)
+        ≡ cond (t && are_letters letters) (Some (union kinds (kinds_named (letter ∷ letters)))) None
     go true h = h ∙ ap (λ (k : Kinds). cond (are_letters letters) (Some k) None) (union-named kinds letter letters)
     go false h = refl
 
-some_named : (letter : ℕ) (letters : List ℕ) → kinds_of (letter ∷ letters) ≡ cond (are_letters (letter ∷ letters)) (Some (kinds_named (letter ∷ letters))) None
+some_named : (letter : ℕ) (letters : List ℕ) → kinds_of (letter ∷ letters)
+    ≡ cond (are_letters (letter ∷ letters)) (Some (kinds_named (letter ∷ letters))) None
 some_named letter letters = with_named no_kinds (letter ∷ letters)
 
 -- letters of the grammar name their kinds
@@ -42,5 +53,6 @@ pub record Named (letters : List ℕ) (kinds : Kinds) : Type 0 where
 pub read_letters : (letters : List ℕ) (kinds : Kinds) → kinds_of letters ≡ Some kinds → Named letters kinds
 read_letters [] kinds e = absurd cc
 read_letters (letter ∷ letters) kinds e =
-    let named = cond_some (are_letters (letter ∷ letters)) (kinds_named (letter ∷ letters)) kinds (sym (some_named letter letters) ∙ e) in
+    let named = cond_some (are_letters (letter ∷ letters)) (kinds_named (letter ∷ letters)) kinds
+    (sym (some_named letter letters) ∙ e) in
     record { letters_are = record { some = omega arith; letters = named.0 }; kinds_are = named.1 }

@@ -1,11 +1,19 @@
 -- Texts without a byte, and texts that a byte cuts in two.
-use Rattle.mail_query.proofs.Words.{◌≡◌, ℕ, ◌+◌, ◌<◌, Bool, true, false, cond, eqb, List, [], ◌∷◌, ◌++◌, length, get_or, Option, None, Some, refl, ap, subst, ◌∙◌, arith, length-append, IsUtf8, option_map, list_any, slice_split, onto_first, get_or-append_seam, take-append_seam, drop-append-add, eqb-true, or_parts, or_from, or_left, or_right, both_ways, false_from_ne_true, cond_some, IsCharBoundary-before_ascii, IsCharBoundary-after_ascii, IsUtf8-take, IsUtf8-drop, is_byte, cut, without_first, without_last, is_sign, is_approximate}
+use Rattle.mail_query.proofs.Words.{◌≡◌, ℕ, ◌+◌, ◌<◌, Bool, true, false, cond, eqb, List, [], ◌∷◌, ◌++◌, length, get_or}
+use Rattle.mail_query.proofs.Words.{Option, None, Some, refl, ap, subst, ◌∙◌, arith, length-append, IsUtf8, option_map}
+use Rattle.mail_query.proofs.Words.{list_any, slice_split, onto_first, get_or-append_seam, take-append_seam}
+use Rattle.mail_query.proofs.Words.{drop-append-add, eqb-true, or_parts, or_from, or_left, or_right, both_ways}
+use Rattle.mail_query.proofs.Words.{false_from_ne_true, cond_some, IsCharBoundary-before_ascii}
+use Rattle.mail_query.proofs.Words.{IsCharBoundary-after_ascii, IsUtf8-take, IsUtf8-drop, is_byte, cut, without_first}
+use Rattle.mail_query.proofs.Words.{without_last, is_sign, is_approximate}
 use Rattle.mail_query.proofs.PieceLemmas.{same_byte, Free}
 
-pub any-append : (p : ℕ → Bool) (xs ys : List ℕ) → list_any p xs ≡ false → list_any p ys ≡ false → list_any p (xs ++ ys) ≡ false
+pub any-append : (p : ℕ → Bool) (xs ys : List ℕ) → list_any p xs ≡ false → list_any p ys ≡ false → list_any p (xs ++ ys)
+    ≡ false
 any-append p [] ys h k = k
 any-append p (x ∷ xs) ys h k =
-    let parts = or_parts (p x) (list_any p xs) h in or_from (p x) (list_any p (xs ++ ys)) parts.0 (any-append p xs ys parts.1 k)
+    let parts = or_parts (p x) (list_any p xs) h
+    in or_from (p x) (list_any p (xs ++ ys)) parts.0 (any-append p xs ys parts.1 k)
 
 pub any-behind : (p : ℕ → Bool) (xs ys : List ℕ) (y : ℕ) → p y ≡ true → list_any p (xs ++ y ∷ ys) ≡ true
 any-behind p [] ys y h = or_left (p y) (list_any p ys) h
@@ -26,31 +34,38 @@ free_of c (b ∷ bs) h k =
 pub not_approximate : (text : List ℕ) → list_any is_sign text ≡ false → is_approximate text ≡ false
 not_approximate [] h = refl
 not_approximate (b ∷ bs) h =
-    let parts = or_parts (is_sign b) (list_any is_sign bs) h in rw (other_sign 0x3D b refl parts.0) (not_approximate bs parts.1)
+    let parts = or_parts (is_sign b) (list_any is_sign bs) h
+    in rw (other_sign 0x3D b refl parts.0) (not_approximate bs parts.1)
 
-pub not_approximate-marked : (text : List ℕ) → list_any is_sign text ≡ false → is_approximate (text ++ 0x3D ∷ []) ≡ false
+pub not_approximate-marked : (text : List ℕ) → list_any is_sign text ≡ false → is_approximate (text ++ 0x3D ∷ [])
+    ≡ false
 not_approximate-marked [] h = refl
 not_approximate-marked (b ∷ bs) h =
-    let parts = or_parts (is_sign b) (list_any is_sign bs) h in rw (other_sign 0x3D b refl parts.0) (not_approximate-marked bs parts.1)
+    let parts = or_parts (is_sign b) (list_any is_sign bs) h
+    in rw (other_sign 0x3D b refl parts.0) (not_approximate-marked bs parts.1)
 
 -- ---- cutting at a byte
 
 pub split_none : (c : ℕ) (text : List ℕ) → Free c text → slice_split (is_byte c) text ≡ text ∷ []
 split_none c [] h = refl
 split_none c (b ∷ bs) h =
-    let parts = or_parts (eqb b c) (list_any (is_byte c) bs) h in rw parts.0 (ap (onto_first b) (split_none c bs parts.1))
+    let parts = or_parts (eqb b c) (list_any (is_byte c) bs) h
+    in rw parts.0 (ap (onto_first b) (split_none c bs parts.1))
 
-pub split_at : (c : ℕ) (text rest : List ℕ) → Free c text → slice_split (is_byte c) (text ++ c ∷ rest) ≡ text ∷ slice_split (is_byte c) rest
+pub split_at : (c : ℕ) (text rest : List ℕ) → Free c text → slice_split (is_byte c) (text ++ c ∷ rest)
+    ≡ text ∷ slice_split (is_byte c) rest
 split_at c [] rest h = rw same_byte refl
 split_at c (b ∷ bs) rest h =
-    let parts = or_parts (eqb b c) (list_any (is_byte c) bs) h in rw parts.0 (ap (onto_first b) (split_at c bs rest parts.1))
+    let parts = or_parts (eqb b c) (list_any (is_byte c) bs) h
+    in rw parts.0 (ap (onto_first b) (split_at c bs rest parts.1))
 
 pub first_free : (c : ℕ) (text : List ℕ) → Free c text → without_first c text ≡ None
 first_free c text h = grind (arith, or_parts)
 
 -- ---- a text that was cut
 
-pub map_some : {A B : Type 0} (f : A → B) (o : Option A) (y : B) → option_map f o ≡ Some y → (x : A) × (o ≡ Some x) × (f x ≡ y)
+pub map_some : {A B : Type 0} (f : A → B) (o : Option A) (y : B) → option_map f o ≡ Some y → (x : A) × (o ≡ Some x)
+    × (f x ≡ y)
 map_some f o y h = grind arith
 
 pub last_is : (c : ℕ) (text sub : List ℕ) → without_last c text ≡ Some sub → text ≡ sub ++ c ∷ []
@@ -63,12 +78,15 @@ last_is c (b ∷ d ∷ bs) sub e =
 pub first_is : (c : ℕ) (text sub : List ℕ) → without_first c text ≡ Some sub → text ≡ c ∷ sub
 first_is c text sub h = grind (arith, cond_some, eqb-true)
 
-pub cut_parts : (c : ℕ) (text : List ℕ) (p : List ℕ × List ℕ) → cut c text ≡ Some p → (text ≡ p.0 ++ c ∷ p.1) × Free c p.0
+pub cut_parts : (c : ℕ) (text : List ℕ) (p : List ℕ × List ℕ) → cut c text ≡ Some p → (text ≡ p.0 ++ c ∷ p.1)
+    × Free c p.0
 cut_parts c [] p e = absurd cc
 cut_parts c (b ∷ bs) p e = go (eqb b c) refl e (λ r h. cut_parts c bs r h)
   where
-    go : (t : Bool) → eqb b c ≡ t → cond t (Some ([], bs)) (option_map (λ (r : List ℕ × List ℕ). (b ∷ r.0, r.1)) (cut c bs)) ≡ Some p
-        → ((r : List ℕ × List ℕ) → cut c bs ≡ Some r → (bs ≡ r.0 ++ c ∷ r.1) × Free c r.0) → (b ∷ bs ≡ p.0 ++ c ∷ p.1) × Free c p.0
+    go : (t : Bool) → eqb b c ≡ t → cond t (Some ([], bs))
+        (option_map (λ (r : List ℕ × List ℕ). (b ∷ r.0, r.1)) (cut c bs)) ≡ Some p
+        → ((r : List ℕ × List ℕ) → cut c bs ≡ Some r → (bs ≡ r.0 ++ c ∷ r.1) × Free c r.0) → (b ∷ bs ≡ p.0 ++ c ∷ p.1)
+        × Free c p.0
     go t h h2 h3 = grind (arith, eqb-true, or_from)
 
 pub uncut_free : (c : ℕ) (text : List ℕ) → cut c text ≡ None → list_any (is_byte c) text ≡ false
@@ -83,7 +101,8 @@ utf8_before text rest c below utf8 =
     let here : get_or whole (length text) 0 ≡ c = get_or-append_seam text c rest 0 in
     let inside : length text < length whole = omega (arith, length-append text (c ∷ rest)) in
     subst IsUtf8 (take-append_seam text (c ∷ rest))
-    (IsUtf8-take whole (length text) utf8 (IsCharBoundary-before_ascii whole (length text) inside (omega (arith, here, below))))
+    (IsUtf8-take whole (length text) utf8 (IsCharBoundary-before_ascii whole (length text) inside
+    (omega (arith, here, below))))
 
 pub utf8_behind : (text rest : List ℕ) (c : ℕ) → c < 128 → IsUtf8 (text ++ c ∷ rest) → IsUtf8 rest
 utf8_behind text rest c below utf8 =
@@ -91,4 +110,5 @@ utf8_behind text rest c below utf8 =
     let here : get_or whole (length text) 0 ≡ c = get_or-append_seam text c rest 0 in
     let inside : length text < length whole = omega (arith, length-append text (c ∷ rest)) in
     subst IsUtf8 (drop-append-add text (c ∷ rest) 1)
-    (IsUtf8-drop whole (length text + 1) utf8 (IsCharBoundary-after_ascii whole (length text) utf8 inside (omega (arith, here, below))))
+    (IsUtf8-drop whole (length text + 1) utf8
+    (IsCharBoundary-after_ascii whole (length text) utf8 inside (omega (arith, here, below))))

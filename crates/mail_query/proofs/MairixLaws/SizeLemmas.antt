@@ -1,5 +1,12 @@
 -- Sizes are read as their grammar says.
-use Rattle.mail_query.proofs.Words.{◌≡◌, ℕ, ◌-◌, ◌<◌, List, [], ◌∷◌, ◌++◌, length, Option, Some, None, refl, sym, ap, ◌∙◌, arith, length-append, ◌*◌, ◌≤◌, true, false, eqb, option_map, subst, slice_get, option_and_then, ◌&&◌, IsLastAndRest, list_all, list_any, get_or-append_seam, slice_get-get_or, cond_some, option_and_then_some, last_byte, before_last_byte, factor_of, scaled, size_with, size_of, size_limit, low_of, high_of, sizes_between, sizes_of, is_ascii_digit, leb-true, le-leb, and_parts, and_from, or_from, Query, Size, is_byte, cut, IsNumber, IsSize, InBytes, InUnits, IsLow, FromZero, FromSize, IsHigh, Unbounded, ToSize, IsSizes, Between}
+use Rattle.mail_query.proofs.Words.{◌≡◌, ℕ, ◌-◌, ◌<◌, List, [], ◌∷◌, ◌++◌, length, Option, Some, None, refl, sym, ap}
+use Rattle.mail_query.proofs.Words.{◌∙◌, arith, length-append, ◌*◌, ◌≤◌, true, false, eqb, option_map, subst, slice_get}
+use Rattle.mail_query.proofs.Words.{option_and_then, ◌&&◌, IsLastAndRest, list_all, list_any, get_or-append_seam}
+use Rattle.mail_query.proofs.Words.{slice_get-get_or, cond_some, option_and_then_some, last_byte, before_last_byte}
+use Rattle.mail_query.proofs.Words.{factor_of, scaled, size_with, size_of, size_limit, low_of, high_of, sizes_between}
+use Rattle.mail_query.proofs.Words.{sizes_of, is_ascii_digit, leb-true, le-leb, and_parts, and_from, or_from, Query}
+use Rattle.mail_query.proofs.Words.{Size, is_byte, cut, IsNumber, IsSize, InBytes, InUnits, IsLow, FromZero, FromSize}
+use Rattle.mail_query.proofs.Words.{IsHigh, Unbounded, ToSize, IsSizes, Between}
 use Rattle.std.specs.Str.Parse.{digits_value}
 use Rattle.mail_query.proofs.PieceLemmas.{last_of, before_last, other_byte, Free, cut_at}
 use Rattle.mail_query.proofs.MairixLaws.SignLemmas.{any-append, cut_parts, map_some}
@@ -10,23 +17,27 @@ last_place front letter = omega (arith, length-append front (letter ∷ []))
 last_byte-last : (front : List ℕ) (letter : ℕ) → last_byte (front ++ letter ∷ []) ≡ Some letter
 last_byte-last front letter =
     let below : length front < length (front ++ letter ∷ []) = omega (arith, length-append front (letter ∷ [])) in
-    ap (slice_get (front ++ letter ∷ [])) (last_place front letter) ∙ slice_get-get_or (front ++ letter ∷ []) (length front) 0 below
+    ap (slice_get (front ++ letter ∷ [])) (last_place front letter)
+    ∙ slice_get-get_or (front ++ letter ∷ []) (length front) 0 below
     ∙ ap Some (get_or-append_seam front letter [] 0)
 
 before_last_byte-last : (front : List ℕ) (letter : ℕ) → before_last_byte (front ++ letter ∷ []) ≡ front
 before_last_byte-last front letter = before_last front letter
 
-with_last : (front : List ℕ) (letter : ℕ) (o : Option ℕ) → factor_of letter ≡ o → size_of (front ++ letter ∷ []) ≡ size_with o (front ++ letter ∷ [])
+with_last : (front : List ℕ) (letter : ℕ) (o : Option ℕ) → factor_of letter ≡ o → size_of (front ++ letter ∷ [])
+    ≡ size_with o (front ++ letter ∷ [])
 unfolding size_of
 with_last front letter o e =
     ap (λ last. size_with (option_and_then factor_of last) (front ++ letter ∷ [])) (last_byte-last front letter)
     ∙ ap (λ factor. size_with factor (front ++ letter ∷ [])) e
 
-pub size_of-letter : (text front : List ℕ) (letter factor : ℕ) → IsLastAndRest text letter front → factor_of letter ≡ Some factor → size_of text ≡ scaled factor front
+pub size_of-letter : (text front : List ℕ) (letter factor : ℕ) → IsLastAndRest text letter front → factor_of letter
+    ≡ Some factor → size_of text ≡ scaled factor front
 size_of-letter text front letter factor h e =
     ap size_of h.0 ∙ with_last front letter (Some factor) e ∙ ap (scaled factor) (before_last_byte-last front letter)
 
-pub size_of-digits : (text front : List ℕ) (letter : ℕ) → IsLastAndRest text letter front → factor_of letter ≡ None → size_of text ≡ scaled 1 text
+pub size_of-digits : (text front : List ℕ) (letter : ℕ) → IsLastAndRest text letter front → factor_of letter ≡ None
+    → size_of text ≡ scaled 1 text
 size_of-digits text front letter h e = ap size_of h.0 ∙ with_last front letter None e ∙ sym (ap (scaled 1) h.0)
 
 pub size_of-nothing : (text : List ℕ) → length text ≡ 0 → size_of text ≡ scaled 1 text
@@ -49,7 +60,8 @@ record Scaled (factor : ℕ) (digits : List ℕ) (size : ℕ) : Type 0 where
 scaled_is : (factor : ℕ) (digits : List ℕ) (size : ℕ) → scaled factor digits ≡ Some size → Scaled factor digits size
 scaled_is factor digits size e = grind (arith, cond_some, and_parts, leb-true)
 
-number_scaled : (factor : ℕ) (digits : List ℕ) → IsNumber digits → worth digits * factor ≤ size_limit → scaled factor digits ≡ Some (worth digits * factor)
+number_scaled : (factor : ℕ) (digits : List ℕ) → IsNumber digits → worth digits * factor ≤ size_limit
+    → scaled factor digits ≡ Some (worth digits * factor)
 number_scaled factor digits n small = grind (arith, and_from, le-leb)
 
 -- ---- the last byte
@@ -57,15 +69,22 @@ number_scaled factor digits n small = grind (arith, and_from, le-leb)
 last_and_rest : (text front : List ℕ) (last : ℕ) → text ≡ front ++ last ∷ [] → IsLastAndRest text last front
 last_and_rest text front last e = (e, omega (arith, ap length e, length-append front (last ∷ [])))
 
-last_digit : (front : List ℕ) (last : ℕ) → list_all is_ascii_digit (front ++ last ∷ []) ≡ true → is_ascii_digit last ≡ true
+last_digit : (front : List ℕ) (last : ℕ) → list_all is_ascii_digit (front ++ last ∷ []) ≡ true → is_ascii_digit last
+    ≡ true
 last_digit [] last h = let parts = and_parts (is_ascii_digit last) true h in parts.0
-last_digit (b ∷ bs) last h = let parts = and_parts (is_ascii_digit b) (list_all is_ascii_digit (bs ++ last ∷ [])) h in last_digit bs last parts.1
+last_digit (b ∷ bs) last h = let parts = and_parts (is_ascii_digit b) (list_all is_ascii_digit (bs ++ last ∷ [])) h
+    in last_digit bs last parts.1
 
 digit_differs : (b c : ℕ) → is_ascii_digit b ≡ true → is_ascii_digit c ≡ false → eqb b c ≡ false
 digit_differs b c h k = other_byte b c (λ e. let same = ap is_ascii_digit e in cc)
 
 no_unit : (b : ℕ) → is_ascii_digit b ≡ true → factor_of b ≡ None
-no_unit b h = rw (digit_differs b 0x6B h refl, digit_differs b 0x4B h refl, digit_differs b 0x6D h refl, digit_differs b 0x4D h refl) refl
+no_unit b h = rw (
+  digit_differs b 0x6B h refl,
+  digit_differs b 0x4B h refl,
+  digit_differs b 0x6D h refl,
+  digit_differs b 0x4D h refl,
+) refl
 
 -- ---- sizes
 
@@ -73,7 +92,8 @@ same_worth : (digits : List ℕ) → worth digits * 1 ≡ worth digits
 same_worth digits = omega arith
 
 in_bytes : (digits : List ℕ) (size : ℕ) → Scaled 1 digits size → IsSize digits size
-in_bytes digits size s = subst (IsSize digits) (sym (same_worth digits) ∙ s.size_is) (InBytes digits s.number (omega (arith, same_worth digits, s.small)))
+in_bytes digits size s = subst (IsSize digits) (sym (same_worth digits) ∙ s.size_is)
+    (InBytes digits s.number (omega (arith, same_worth digits, s.small)))
 
 read_size : (text : List ℕ) (size : ℕ) → size_of text ≡ Some size → IsSize text size
 read_size [] size e = let none : scaled 1 [] ≡ Some size = sym (size_of-nothing [] refl) ∙ e in absurd cc
@@ -86,17 +106,21 @@ read_size (b ∷ bs) size e = go (last_of (b ∷ bs) (omega arith))
         split = last_and_rest (b ∷ bs) s.0 s.1 s.2
 
         unit : (o : Option ℕ) → factor_of s.1 ≡ o → IsSize (b ∷ bs) size
-        unit None h = in_bytes (b ∷ bs) size (scaled_is 1 (b ∷ bs) size (sym (size_of-digits (b ∷ bs) s.0 s.1 split h) ∙ e))
+        unit None h = in_bytes (b ∷ bs) size (scaled_is 1 (b ∷ bs) size
+            (sym (size_of-digits (b ∷ bs) s.0 s.1 split h) ∙ e))
         unit (Some factor) h =
             let d = scaled_is factor s.0 size (sym (size_of-letter (b ∷ bs) s.0 s.1 factor split h) ∙ e) in
-            subst (λ (t : List ℕ). IsSize t size) (sym s.2) (subst (IsSize (s.0 ++ s.1 ∷ [])) d.size_is (InUnits s.0 s.1 factor d.number h d.small))
+            subst (λ (t : List ℕ). IsSize t size) (sym s.2)
+            (subst (IsSize (s.0 ++ s.1 ∷ [])) d.size_is (InUnits s.0 s.1 factor d.number h d.small))
 
 digits_read : (digits : List ℕ) → IsNumber digits → size_of digits ≡ scaled 1 digits
 digits_read digits h = grind (arith, last_of, size_of-digits, last_and_rest, no_unit, last_digit)
 
 size_read : (text : List ℕ) (size : ℕ) → IsSize text size → size_of text ≡ Some size
 size_read text size (InBytes digits n small) = grind (arith, digits_read, number_scaled, same_worth)
-size_read text size (InUnits digits letter factor n e small) = size_of-letter (digits ++ letter ∷ []) digits letter factor (last_and_rest (digits ++ letter ∷ []) digits letter refl) e ∙ number_scaled factor digits n small
+size_read text size (InUnits digits letter factor n e small) =
+    size_of-letter (digits ++ letter ∷ []) digits letter factor
+    (last_and_rest (digits ++ letter ∷ []) digits letter refl) e ∙ number_scaled factor digits n small
 
 -- ---- both ends
 
@@ -107,7 +131,8 @@ digits_free (b ∷ bs) h =
     or_from (eqb b 0x2D) (list_any (is_byte 0x2D) bs) (digit_differs b 0x2D parts.0 refl) (digits_free bs parts.1)
 
 unit_differs : (letter factor : ℕ) → factor_of letter ≡ Some factor → eqb letter 0x2D ≡ false
-unit_differs letter factor e = other_byte letter 0x2D (λ h. let none : None ≡ Some factor = ap factor_of (sym h) ∙ e in cc)
+unit_differs letter factor e = other_byte letter 0x2D
+    (λ h. let none : None ≡ Some factor = ap factor_of (sym h) ∙ e in cc)
 
 size_free : (text : List ℕ) (size : ℕ) → IsSize text size → Free 0x2D text
 size_free text size h = grind (arith, digits_free, any-append, or_from, unit_differs)
@@ -129,13 +154,15 @@ low_read text least h = grind (arith, nonempty_low, size_read)
 high_read : (text : List ℕ) (most : Option ℕ) → IsHigh text most → high_of text ≡ Some most
 high_read text most h = grind (arith, nonempty_high, size_read)
 
-between_read : (low high : List ℕ) (least : ℕ) (most : Option ℕ) → low_of low ≡ Some least → high_of high ≡ Some most → sizes_between low high ≡ Some (Size least most)
+between_read : (low high : List ℕ) (least : ℕ) (most : Option ℕ) → low_of low ≡ Some least → high_of high ≡ Some most
+    → sizes_between low high ≡ Some (Size least most)
 between_read low high least most h k = rw (h, k) refl
 
 pub sizes_read : (text : List ℕ) (q : Query) → IsSizes text q → sizes_of text ≡ Some q
 unfolding sizes_of
 sizes_read text q (Between low high least most l h) =
-    rw (cut_at 0x2D low high (low_free low least l), sizes_of) (between_read low high least most (low_read low least l) (high_read high most h))
+    rw (cut_at 0x2D low high (low_free low least l), sizes_of)
+    (between_read low high least most (low_read low least l) (high_read high most h))
 
 read_low : (text : List ℕ) (least : ℕ) → low_of text ≡ Some least → IsLow text least
 read_low [] least e = let zero : 0 ≡ least = cc in subst (IsLow []) zero FromZero
@@ -143,18 +170,23 @@ read_low (b ∷ bs) least e = FromSize (b ∷ bs) least (read_size (b ∷ bs) le
 
 read_high : (text : List ℕ) (most : Option ℕ) → high_of text ≡ Some most → IsHigh text most
 read_high [] most e = let none : None ≡ most = cc in subst (IsHigh []) none Unbounded
-read_high (b ∷ bs) most e = let m = map_some Some (size_of (b ∷ bs)) most e in subst (IsHigh (b ∷ bs)) m.2 (ToSize (b ∷ bs) m.0 (read_size (b ∷ bs) m.0 m.1))
+read_high (b ∷ bs) most e = let m = map_some Some (size_of (b ∷ bs)) most e
+    in subst (IsHigh (b ∷ bs)) m.2 (ToSize (b ∷ bs) m.0 (read_size (b ∷ bs) m.0 m.1))
 
 read_between : (low high : List ℕ) (q : Query) → sizes_between low high ≡ Some q → IsSizes (low ++ 0x2D ∷ high) q
 read_between low high q e =
     option_and_then_some (λ least. option_map (λ most. Size least most) (high_of high)) (low_of low) q e (λ least i k.
     let m = map_some (λ most. Size least most) (high_of high) q k in
-    subst (IsSizes (low ++ 0x2D ∷ high)) m.2 (Between low high least m.0 (read_low low least i) (read_high high m.0 m.1)))
+    subst (IsSizes (low ++ 0x2D ∷ high)) m.2
+    (Between low high least m.0 (read_low low least i) (read_high high m.0 m.1)))
 
 pub read_sizes : (text : List ℕ) (q : Query) → sizes_of text ≡ Some q → IsSizes text q
 unfolding sizes_of
 read_sizes text q e = go (cut 0x2D text) refl e
   where
-    go : (o : Option (List ℕ × List ℕ)) → cut 0x2D text ≡ o → (let r : Option Query = elim o [ None ↦ None | Some p ↦ sizes_between p.0 p.1 ] in r) ≡ Some q → IsSizes text q
+    go : (o : Option (List ℕ × List ℕ)) → cut 0x2D text ≡ o
+        → (let r : Option Query = elim o [ None ↦ None | Some p ↦ sizes_between p.0 p.1 ] in r) ≡ Some q
+        → IsSizes text q
     go None h e = absurd cc
-    go (Some p) h e = subst (λ (t : List ℕ). IsSizes t q) (sym (let parts = cut_parts 0x2D text p h in parts.0)) (read_between p.0 p.1 q e)
+    go (Some p) h e = subst (λ (t : List ℕ). IsSizes t q) (sym (let parts = cut_parts 0x2D text p h in parts.0))
+        (read_between p.0 p.1 q e)

@@ -37,7 +37,12 @@ run_length (b ∷ bs) = if ends_run b then 0 else suc (run_length bs)
 
 -- a group so far
 abbrev pub shown_level : CodeLevel → Level
-shown_level level = record { eaches = queries_of level.eaches.items; members = queries_of level.members.items; seen = level.seen }
+shown_level level = record {
+  eaches = queries_of level.eaches.items;
+  members = queries_of level.members.items;
+  seen =
+      level.seen;
+}
 
 -- an open `not` or `(`
 abbrev pub shown_waiting : CodeWaiting → Waiting
@@ -55,4 +60,9 @@ shown_stack ws = nearest_first ws []
 
 -- the state of the reader
 abbrev pub shown : Reader → State
-shown reader = record { waiting = shown_stack reader.waiting.items; level = shown_level reader.level; wanted = reader.wanted }
+shown reader = record {
+  waiting = shown_stack reader.waiting.items;
+  level = shown_level reader.level;
+  wanted =
+      reader.wanted;
+}

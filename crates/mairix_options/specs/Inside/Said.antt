@@ -1,7 +1,8 @@
 -- What the settings so far say of each option.
 use Rattle.std.specs.Prelude.{◌≡◌, ℕ, List, Result}
 use Rattle.std.specs.List.{filter_map}
-use Rattle.mairix_options.specs.Rcfile.{base_in, archives_in, database_in, mfolder_in, format_in, last_of, lines_in, settings_from, rc_from}
+use Rattle.mairix_options.specs.Rcfile.{base_in, archives_in, database_in, mfolder_in, format_in, last_of, lines_in}
+use Rattle.mairix_options.specs.Rcfile.{settings_from, rc_from}
 use Rattle.contract_words.specs.Answers.{◌>>=◌}
 use Rattle.mairix_options.specs.declared.rcfile.Rc.{Rc}
 use Rattle.mairix_options.specs.declared.rcfile.RcFault.{RcFault}

@@ -1,5 +1,9 @@
 -- Bytes have only one first fault, because all rules before a first fault are kept and its own is broken.
-use Rattle.mairix_tool.proofs.Words.{◌≡◌, ◌∙◌, ℕ, zero, suc, ◌<◌, ◌≤◌, ◌^◌, ◌+◌, List, length, take, flat_map, sym, ap, subst, arith, inl, inr, ◌⊎◌, ⊤, leb_tells, eqb_tells, IndexFault, TooShort, BadMagic, BadVersion, BadDigest, BadLayout, Record, IsFirstFault, HasDigest, IsSigned, HasCounts, HasArchives, HasRecords, HasDirectory, digest_start, version_told, IsVersion, magic, record_bytes, Entry, Archive, AreBytes}
+use Rattle.mairix_tool.proofs.Words.{◌≡◌, ◌∙◌, ℕ, zero, suc, ◌<◌, ◌≤◌, ◌^◌, ◌+◌, List, length, take, flat_map, sym, ap}
+use Rattle.mairix_tool.proofs.Words.{subst, arith, inl, inr, ◌⊎◌, ⊤, leb_tells, eqb_tells, IndexFault, TooShort}
+use Rattle.mairix_tool.proofs.Words.{BadMagic, BadVersion, BadDigest, BadLayout, Record, IsFirstFault, HasDigest}
+use Rattle.mairix_tool.proofs.Words.{IsSigned, HasCounts, HasArchives, HasRecords, HasDirectory, digest_start}
+use Rattle.mairix_tool.proofs.Words.{version_told, IsVersion, magic, record_bytes, Entry, Archive, AreBytes}
 use Rattle.mail_index.specs.declared.view.fault.Section.TheVariants.{Counts, Archives, Records, Directory, Postings}
 use Rattle.mail_index.specs.Records.{read_records}
 use Rattle.mail_index.proofs.ViewLaws.ArchiveReads.{archives_back}
@@ -39,12 +43,14 @@ module _ (bytes : List ℕ) (are : AreBytes bytes) where
   same-archives : (as' bs : List Archive) → HasArchives bytes as' → HasArchives bytes bs → as' ≡ bs
   same-archives as' bs a b = grind (arith, flat_map, archives_back)
 
-  same-records : (archives : List Archive) (ms ns : List Record) → HasRecords bytes archives ms → HasRecords bytes archives ns → ms ≡ ns
+  same-records : (archives : List Archive) (ms ns : List Record) → HasRecords bytes archives ms
+      → HasRecords bytes archives ns → ms ≡ ns
   same-records archives ms ns a b =
       let few : length archives < 2 ^ 32 = omega (arith, a.before.counted, u32_small bytes 12 are) in
       let e : flat_map record_bytes ms ≡ flat_map record_bytes ns = sym a.spelled ∙ b.spelled in
       let l : length ms ≡ length ns = omega (arith, ap length e, length_records ms, length_records ns) in
-      sym (records_back (version_told bytes) archives ms few a.before.each a.each) ∙ (λ i. read_records (l i) (e i)) ∙ records_back (version_told bytes) archives ns few b.before.each b.each
+      sym (records_back (version_told bytes) archives ms few a.before.each a.each) ∙ (λ i. read_records (l i) (e i))
+      ∙ records_back (version_told bytes) archives ns few b.before.each b.each
 
   -- ---- each rule, as kept
 
@@ -55,8 +61,10 @@ module _ (bytes : List ℕ) (are : AreBytes bytes) where
   IsKept (suc (suc (suc zero))) = HasDigest bytes
   IsKept (suc (suc (suc (suc zero)))) = digest_start bytes + 32 ≡ length bytes
   IsKept (suc (suc (suc (suc (suc zero))))) = (archives : List Archive) × HasArchives bytes archives
-  IsKept (suc (suc (suc (suc (suc (suc zero)))))) = (archives : List Archive) × (ms : List Record) × HasRecords bytes archives ms
-  IsKept (suc (suc (suc (suc (suc (suc (suc zero))))))) = (archives : List Archive) × (ms : List Record) × (es : List Entry) × HasDirectory bytes archives ms es
+  IsKept (suc (suc (suc (suc (suc (suc zero)))))) = (archives : List Archive) × (ms : List Record)
+      × HasRecords bytes archives ms
+  IsKept (suc (suc (suc (suc (suc (suc (suc zero))))))) = (archives : List Archive) × (ms : List Record)
+      × (es : List Entry) × HasDirectory bytes archives ms es
   IsKept _ = ⊤
 
   -- all rules before this number are kept
@@ -102,7 +110,8 @@ module _ (bytes : List ℕ) (are : AreBytes bytes) where
   not-kept (BadLayout Counts) last h k = h.1 k
   not-kept (BadLayout Archives) last h k = h.1 k.0 k.1
   not-kept (BadLayout Records) last h k =
-      h.2 k.1 (subst (λ (archives : List Archive). HasRecords bytes archives k.1) (same-archives k.0 h.0 k.2.before h.1) k.2)
+      h.2 k.1 (subst (λ (archives : List Archive). HasRecords bytes archives k.1) (same-archives k.0 h.0 k.2.before h.1)
+      k.2)
   not-kept (BadLayout Directory) last h k = grind (arith, same-archives, same-records)
   not-kept (BadLayout Postings) last h k = absurd (omega (arith, last))
 

@@ -1,18 +1,24 @@
 -- The first archive with another path than was indexed is found by going from one archive to the next.
-use Rattle.mairix_tool.proofs.Words.{◌≡◌, ◌∙◌, ◌+◌, ◌<◌, ℕ, zero, suc, cond, List, [], ◌∷◌, length, drop, drop-cons, get_or, Some, ap, arith, add-one, Archive, first_renamed}
+use Rattle.mairix_tool.proofs.Words.{◌≡◌, ◌∙◌, ◌+◌, ◌<◌, ℕ, zero, suc, cond, List, [], ◌∷◌, length, drop, drop-cons}
+use Rattle.mairix_tool.proofs.Words.{get_or, Some, ap, arith, add-one, Archive, first_renamed}
 use Rattle.std.specs.Str.{bytes_eq}
 use Rattle.std.proofs.lemmas.List.{length-drop}
 
 -- the archives after an indexed one
-pub behind : (named : List Archive) (n : ℕ) (a : Archive) (rest : List Archive) → drop n named ≡ a ∷ rest → drop (n + 1) named ≡ rest
+pub behind : (named : List Archive) (n : ℕ) (a : Archive) (rest : List Archive) → drop n named ≡ a ∷ rest
+    → drop (n + 1) named ≡ rest
 behind [] zero a rest e = absurd cc
 behind [] (suc n) a rest e = absurd cc
 behind (b ∷ named) zero a rest e = cc
-behind (b ∷ named) (suc n) a rest e = let more : suc n + 1 ≡ suc (n + 1) = omega arith in ap (λ (k : ℕ). drop k (b ∷ named)) more ∙ behind named n a rest e
+behind (b ∷ named) (suc n) a rest e = let more : suc n + 1 ≡ suc (n + 1) = omega arith
+    in ap (λ (k : ℕ). drop k (b ∷ named)) more ∙ behind named n a rest e
 
 -- the result at an archive
-pub at-archive : (named : List Archive) (paths : List (List ℕ)) (n : ℕ) (a : Archive) (rest : List Archive) → drop n named ≡ a ∷ rest → n < length paths
-    → first_renamed n (drop n named) (drop n paths) ≡ cond (bytes_eq a.path (get_or paths n [])) (first_renamed (n + 1) (drop (n + 1) named) (drop (n + 1) paths)) (Some n)
+pub at-archive : (named : List Archive) (paths : List (List ℕ)) (n : ℕ) (a : Archive) (rest : List Archive)
+    → drop n named ≡ a ∷ rest → n < length paths
+    → first_renamed n (drop n named) (drop n paths)
+    ≡ cond (bytes_eq a.path (get_or paths n [])) (first_renamed (n + 1) (drop (n + 1) named) (drop (n + 1) paths))
+    (Some n)
 at-archive named paths n a rest here below = grind (arith, drop-cons, behind, add-one)
 
 pub still-named : (named : List Archive) (n : ℕ) → n < length named → drop n named ≡ [] → ⊥

@@ -1,6 +1,13 @@
 -- Two replies of one run are the same, unless an archive is refused twice, because the first faulty archive is
 -- determined.
-use Rattle.mairix_tool.proofs.Words.{◌≡◌, ◌∙◌, ◌^◌, ◌<◌, ◌++◌, ◌&&◌, ◌⊎◌, ℕ, Bool, true, false, cond, nat_le, List, [], ◌∷◌, map, length, Some, None, Option, Result, Ok, Err, unwrap_or, refl, sym, ap, ap₂, subst, arith, inl, inr, append-nil, length-append, length-map, IndexFault, AreBytes, Table, Search, answer_text, AreSound, Mbox, table, all_messages, messages_in, with_messages, Refuses, mboxes, Fault, Wanted, Answer, refused, answered, IsAnswer, IsFoundIn, IsTold, IsToldOf, IsProvedAndTold, IsStaleOr, IsOldOr, IsReply, IsOnceReply, IsStoredReply, stale_archive, renamed_archive, unproved_archive, is_too_old, sound-not-refused}
+use Rattle.mairix_tool.proofs.Words.{◌≡◌, ◌∙◌, ◌^◌, ◌<◌, ◌++◌, ◌&&◌, ◌⊎◌, ℕ, Bool, true, false, cond, nat_le, List, []}
+use Rattle.mairix_tool.proofs.Words.{◌∷◌, map, length, Some, None, Option, Result, Ok, Err, unwrap_or, refl, sym, ap}
+use Rattle.mairix_tool.proofs.Words.{ap₂, subst, arith, inl, inr, append-nil, length-append, length-map, IndexFault}
+use Rattle.mairix_tool.proofs.Words.{AreBytes, Table, Search, answer_text, AreSound, Mbox, table, all_messages}
+use Rattle.mairix_tool.proofs.Words.{messages_in, with_messages, Refuses, mboxes, Fault, Wanted, Answer, refused}
+use Rattle.mairix_tool.proofs.Words.{answered, IsAnswer, IsFoundIn, IsTold, IsToldOf, IsProvedAndTold, IsStaleOr}
+use Rattle.mairix_tool.proofs.Words.{IsOldOr, IsReply, IsOnceReply, IsStoredReply, stale_archive, renamed_archive}
+use Rattle.mairix_tool.proofs.Words.{unproved_archive, is_too_old, sound-not-refused}
 use Rattle.std.proofs.lemmas.Grind.{flat_map-append}
 use Rattle.std.specs.Prelude.{nat_lt}
 use Rattle.index_job.specs.ArchiveRefusals.{IsCutOff, IsOneTooMany}
@@ -32,7 +39,8 @@ module _ (t : Table) (s : Search) (held : List (List ℕ)) (a b : Answer) where
   one-found : IsFoundIn t s held a → IsFoundIn t s held b → a ≡ b
   one-found (xs, first, is) (ys, second, other) =
       is
-      ∙ ap (λ (ns : List ℕ). answered (answer_text s.format t held ns) (length ns)) (one-choice t s.threads s.query xs ys first second)
+      ∙ ap (λ (ns : List ℕ). answered (answer_text s.format t held ns) (length ns))
+      (one-choice t s.threads s.query xs ys first second)
       ∙ sym other
 
   one-told : IsTold t s held a → IsTold t s held b → a ≡ b
@@ -40,7 +48,8 @@ module _ (t : Table) (s : Search) (held : List (List ℕ)) (a b : Answer) where
 
 one-answer : (archives : List Mbox) (s : Search) (a b : Answer) → IsAnswer archives s a → IsAnswer archives s b → a ≡ b
 one-answer archives s a b is other =
-    one-told (table archives) s (map (λ (m : Mbox). m.bytes) archives) a b (answer-told archives s a is) (answer-told archives s b other)
+    one-told (table archives) s (map (λ (m : Mbox). m.bytes) archives) a b (answer-told archives s a is)
+    (answer-told archives s b other)
 
 -- ---- the first faulty archive
 
@@ -83,7 +92,8 @@ sound-before before a f h = grind arith
 never-later : (before more ys : List Mbox) (a b : Mbox) (f g : Fault) → ys ≡ before ++ a ∷ more
     → IsRefusedAfter before a f → IsRefusedAfter ys b g → ⊥
 never-later before more ys a b f g whole h k =
-    sound-not-refused ys f (sound-before ys b g k) (refused-so ys before a f (record { behind = more; whole = whole }) h)
+    sound-not-refused ys f (sound-before ys b g k)
+    (refused-so ys before a f (record { behind = more; whole = whole }) h)
 
 -- ---- an archive that isn't an mbox has no messages, so it doesn't have too many
 
@@ -120,12 +130,14 @@ module _ (bytes : List ℕ) where
   unfolding refusal_of
   cut-so f h = cut-by (starts-late && ends-early) is-long f h
 
-none-more : (before : List Mbox) (a : Mbox) → messages_in a.bytes ≡ [] → all_messages (before ++ a ∷ []) ≡ all_messages before
+none-more : (before : List Mbox) (a : Mbox) → messages_in a.bytes ≡ [] → all_messages (before ++ a ∷ [])
+    ≡ all_messages before
 none-more before a none = grind (arith, flat_map-append, append-nil)
 
 no-mbox-few : (before : List Mbox) (a : Mbox) → IsCutOff before a NotAnMbox → IsOneTooMany before a → ⊥
 no-mbox-few before a cut many =
-    let same : all_messages (before ++ a ∷ []) ≡ all_messages before = none-more before a (none-in a.bytes cut.refused) in
+    let same : all_messages (before ++ a ∷ []) ≡ all_messages before = none-more before a (none-in a.bytes cut.refused)
+    in
     let keys : length (table (before ++ a ∷ [])).keys ≡ length (table before).keys =
     ap (λ ms. length (with_messages 0 ms [])) same in
     grind (arith, length-map, length-append, records-count, keys, same)
@@ -152,8 +164,10 @@ module _ (archives before : List Mbox) (a : Mbox) (parted : Parted archives befo
   here : (f g : Fault) → IsRefusedAfter before a f → IsRefusedAfter before a g → AreAlike archives f g
   here (of.Archive n x) (of.Archive m y) h k = inl (ap₂ (λ i z. of.Archive i z) (h.0 ∙ sym k.0) cc)
   here of.TooMany of.TooMany h k = inl refl
-  here (of.Archive n x) of.TooMany h k = let t = twice n x h.0 h.1 k in inr (n, t.0, inl (ap (of.Archive n) t.1), inr refl)
-  here of.TooMany (of.Archive n x) h k = let t = twice n x k.0 k.1 h in inr (n, t.0, inr refl, inl (ap (of.Archive n) t.1))
+  here (of.Archive n x) of.TooMany h k = let t = twice n x h.0 h.1 k
+      in inr (n, t.0, inl (ap (of.Archive n) t.1), inr refl)
+  here of.TooMany (of.Archive n x) h k = let t = twice n x k.0 k.1 h
+      in inr (n, t.0, inr refl, inl (ap (of.Archive n) t.1))
   here f g h k = grind arith
 
 alike : (archives : List Mbox) (f g : Fault) → Refuses archives f → Refuses archives g → AreAlike archives f g
@@ -180,21 +194,24 @@ module _ (archives : List Mbox) (a b : Answer) where
       go (inr (n, t, x, y)) = grind arith
 
   -- the archives are sound and there is an answer, or they are refused
-  one-of : (IsFound : Answer → Type 0) → (IsFound a → IsFound b → a ≡ b) → (AreSound archives × IsFound a) ⊎ IsRefusedBy archives a
+  one-of : (IsFound : Answer → Type 0) → (IsFound a → IsFound b → a ≡ b) → (AreSound archives × IsFound a)
+      ⊎ IsRefusedBy archives a
       → (AreSound archives × IsFound b) ⊎ IsRefusedBy archives b → (a ≡ b) ⊎ AreOfOneArchive archives a b
   one-of IsFound same (inl h) (inl k) = inl (same h.1 k.1)
   one-of IsFound same (inl h) (inr k) = absurd (sound-not-refused archives k.0 h.0 k.1)
   one-of IsFound same (inr h) (inl k) = absurd (sound-not-refused archives h.0 k.0 h.1)
   one-of IsFound same (inr h) (inr k) = one-refusal h k
 
-pub one-reply : (asked : Result Wanted Fault) (bytes : List (List ℕ)) (a b : Answer) → IsReply asked bytes a → IsReply asked bytes b
+pub one-reply : (asked : Result Wanted Fault) (bytes : List (List ℕ)) (a b : Answer) → IsReply asked bytes a
+    → IsReply asked bytes b
     → AreOneReply asked bytes a b
 one-reply (Err fault) bytes a b h k = h ∙ sym k
 one-reply (Ok w) bytes a b h k =
     let archives = mboxes w.paths bytes in
     one-of archives a b (IsAnswer archives w.search) (one-answer archives w.search a b) h k
 
-pub one-once : (asked : Result Wanted Fault) (bytes held : List (List ℕ)) (a b : Answer) → IsOnceReply asked bytes held a
+pub one-once : (asked : Result Wanted Fault) (bytes held : List (List ℕ)) (a b : Answer)
+    → IsOnceReply asked bytes held a
     → IsOnceReply asked bytes held b → AreOneReply asked bytes a b
 one-once (Err fault) bytes held a b h k = h ∙ sym k
 one-once (Ok w) bytes held a b h k =
@@ -202,7 +219,8 @@ one-once (Ok w) bytes held a b h k =
     one-of archives a b (IsTold (table archives) w.search held) (one-told (table archives) w.search held a b) h k
 
 -- if an archive is refused twice, each of the two refusals is allowed
-either-refuses : (archives : List Mbox) (number : ℕ) (answer : Answer) → IsRefusedTwice archives number → IsEither number answer
+either-refuses : (archives : List Mbox) (number : ℕ) (answer : Answer) → IsRefusedTwice archives number
+    → IsEither number answer
     → IsRefusedBy archives answer
 either-refuses archives number answer t (inl is) =
     (of.Archive number ArchiveTooLong, (t.before, t.last, t.parted, t.numbered, t.long), is)
@@ -221,19 +239,23 @@ one-old : (old : Bool) (IsFound : Answer → Type 0) (a b : Answer) → (IsFound
 one-old true IsFound a b same h k = h ∙ sym k
 one-old false IsFound a b same h k = same h k
 
-one-told-of : (w : Wanted) (t : Table) (held : List (List ℕ)) (a b : Answer) → IsToldOf w t held a → IsToldOf w t held b → a ≡ b
+one-told-of : (w : Wanted) (t : Table) (held : List (List ℕ)) (a b : Answer) → IsToldOf w t held a → IsToldOf w t held b
+    → a ≡ b
 one-told-of w t held a b =
     let named = renamed_archive t.archives w.paths in
     one-old (is_too_old t w) (IsStaleOr named (IsProvedAndTold w t held)) a b
     (one-stale named (IsProvedAndTold w t held) a b
     (one-stale (unproved_archive w.verify t.archives held) (IsTold t w.search held) a b (one-told t w.search held a b)))
 
-module _ (index : List ℕ) (are : AreBytes index) (few : length index < 2 ^ 64) (held : List (List ℕ)) (a b : Answer) where
-  pub one-stored : (asked : Result Wanted Fault) → IsStoredReply asked index held a → IsStoredReply asked index held b → a ≡ b
-  one-stored (Err fault) h k = h ∙ sym k
-  one-stored (Ok w) (inl (f, h, is)) (inl (g, k, other)) =
-      is ∙ ap (λ (e : IndexFault). refused (of.Index e)) (one-first-fault index are f g h k) ∙ sym other
-  one-stored (Ok w) (inl (f, h, is)) (inr (t, file, told)) = absurd (no_fault index t few file f h)
-  one-stored (Ok w) (inr (t, file, told)) (inl (f, h, is)) = absurd (no_fault index t few file f h)
-  one-stored (Ok w) (inr (t, file, told)) (inr (u, other, so)) =
-      one-told-of w t held a b told (subst (λ (v : Table). IsToldOf w v held b) (same-table index t u few file other) so)
+module _ (index : List ℕ) (are : AreBytes index) (few : length index < 2 ^ 64) (held : List (List ℕ)) (a b : Answer)
+  where
+    pub one-stored : (asked : Result Wanted Fault) → IsStoredReply asked index held a → IsStoredReply asked index held b
+        → a ≡ b
+    one-stored (Err fault) h k = h ∙ sym k
+    one-stored (Ok w) (inl (f, h, is)) (inl (g, k, other)) =
+        is ∙ ap (λ (e : IndexFault). refused (of.Index e)) (one-first-fault index are f g h k) ∙ sym other
+    one-stored (Ok w) (inl (f, h, is)) (inr (t, file, told)) = absurd (no_fault index t few file f h)
+    one-stored (Ok w) (inr (t, file, told)) (inl (f, h, is)) = absurd (no_fault index t few file f h)
+    one-stored (Ok w) (inr (t, file, told)) (inr (u, other, so)) =
+        one-told-of w t held a b told (subst (λ (v : Table). IsToldOf w v held b) (same-table index t u few file other)
+        so)

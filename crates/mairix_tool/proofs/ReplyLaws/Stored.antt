@@ -1,5 +1,15 @@
 -- A run over a stored index replies what its table says; over the indexed archives this is what their own messages say.
-use Rattle.mairix_tool.proofs.Words.{◌≡◌, ◌∙◌, ◌<◌, ◌^◌, ◌+◌, ◌++◌, ℕ, Bool, true, false, cond, All, IfSome, IfOk, IfErr, List, [], ◌∷◌, map, length, None, Some, Option, Result, Ok, Err, refl, sym, ap, subst, arith, inl, inr, eq-eqb, ◌||◌, false≢true, length-map, bytes_eq-Decides, option_map, option_or, stale_archive, unverified_archive, IndexFault, IsFileOf, IsFirstFault, AreBytes, Archive, IsPath, Table, IsVersion, uses_names, AreSound, Mbox, table, entry_of, Fault, Reply, mboxes, Wanted, refusal_of, is_failure, IsOfAnswer, AreToldApart, altered_archive, ServesFor, but_digests, old_table, Answer, refused, IsTold, IsToldOf, IsProvedAndTold, unproved_archive, TellsProved, IsStaleOr, IsOldOr, is_too_old, IsReply, IsStoredReply, IsForNoOtherCause, IsIndexRefusal, IsRefusedAs, RepliesBy, reply_of, renamed_archive, first_renamed, IsCountedWhere, WereVerified, sound-not-refused}
+use Rattle.mairix_tool.proofs.Words.{◌≡◌, ◌∙◌, ◌<◌, ◌^◌, ◌+◌, ◌++◌, ℕ, Bool, true, false, cond, All, IfSome, IfOk}
+use Rattle.mairix_tool.proofs.Words.{IfErr, List, [], ◌∷◌, map, length, None, Some, Option, Result, Ok, Err, refl, sym}
+use Rattle.mairix_tool.proofs.Words.{ap, subst, arith, inl, inr, eq-eqb, ◌||◌, false≢true, length-map, bytes_eq-Decides}
+use Rattle.mairix_tool.proofs.Words.{option_map, option_or, stale_archive, unverified_archive, IndexFault, IsFileOf}
+use Rattle.mairix_tool.proofs.Words.{IsFirstFault, AreBytes, Archive, IsPath, Table, IsVersion, uses_names, AreSound}
+use Rattle.mairix_tool.proofs.Words.{Mbox, table, entry_of, Fault, Reply, mboxes, Wanted, refusal_of, is_failure}
+use Rattle.mairix_tool.proofs.Words.{IsOfAnswer, AreToldApart, altered_archive, ServesFor, but_digests, old_table}
+use Rattle.mairix_tool.proofs.Words.{Answer, refused, IsTold, IsToldOf, IsProvedAndTold, unproved_archive, TellsProved}
+use Rattle.mairix_tool.proofs.Words.{IsStaleOr, IsOldOr, is_too_old, IsReply, IsStoredReply, IsForNoOtherCause}
+use Rattle.mairix_tool.proofs.Words.{IsIndexRefusal, IsRefusedAs, RepliesBy, reply_of, renamed_archive, first_renamed}
+use Rattle.mairix_tool.proofs.Words.{IsCountedWhere, WereVerified, sound-not-refused}
 use Rattle.mail_index.proofs.FileLaws.Accepts.{no_fault}
 use Rattle.mail_index.proofs.FileLaws.SameTable.{same-table}
 use Rattle.run_faults.specs.Faults.{fault_in}
@@ -10,44 +20,54 @@ use Rattle.mairix_tool.proofs.TableLaws.Formed.{before-file, indexed-file, other
 use Rattle.mairix_tool.proofs.TableLaws.OldTables.{told-old, old-told, told-same, same-told, renamed-old}
 use Rattle.mairix_tool.proofs.ArchiveLaws.Unaltered.{own-verified, the-same}
 use Rattle.mairix_tool.proofs.ArchiveLaws.FirstFaults.{one-first-fault}
-use Rattle.mairix_tool.proofs.ReplyLaws.Once.{replies-as, some-told, unanswered, once-reply, reply-once, bytes-of-mboxes}
+use Rattle.mairix_tool.proofs.ReplyLaws.Once.{replies-as, some-told, unanswered, once-reply, reply-once}
+use Rattle.mairix_tool.proofs.ReplyLaws.Once.{bytes-of-mboxes}
 
 -- ---- the table of archives has their paths
 
-first-named : (n : ℕ) (paths bytes : List (List ℕ)) → length paths ≡ length bytes → first_renamed n (map entry_of (mboxes paths bytes)) paths ≡ None
+first-named : (n : ℕ) (paths bytes : List (List ℕ)) → length paths ≡ length bytes
+    → first_renamed n (map entry_of (mboxes paths bytes)) paths ≡ None
 first-named n [] bytes same = refl
 first-named n (p ∷ paths) [] same = absurd (omega (arith, same))
 first-named n (p ∷ paths) (b ∷ bytes) same =
     let rest : length paths ≡ length bytes = omega (arith, same) in
-    ap (λ (t : Bool). cond t (first_renamed (n + 1) (map entry_of (mboxes paths bytes)) paths) (Some n)) ((bytes_eq-Decides p p).1 refl) ∙ first-named (n + 1) paths bytes rest
+    ap (λ (t : Bool). cond t (first_renamed (n + 1) (map entry_of (mboxes paths bytes)) paths) (Some n))
+    ((bytes_eq-Decides p p).1 refl) ∙ first-named (n + 1) paths bytes rest
 
-named-as : (paths bytes : List (List ℕ)) → length paths ≡ length bytes → renamed_archive (table (mboxes paths bytes)).archives paths ≡ None
+named-as : (paths bytes : List (List ℕ)) → length paths ≡ length bytes
+    → renamed_archive (table (mboxes paths bytes)).archives paths ≡ None
 named-as paths bytes same = grind (arith, length-map, mboxes-length, eq-eqb, first-named)
 
 -- and their bytes have its digests
-proved-as : (verify : Bool) (paths bytes : List (List ℕ)) → length paths ≡ length bytes → unproved_archive verify (table (mboxes paths bytes)).archives bytes ≡ None
+proved-as : (verify : Bool) (paths bytes : List (List ℕ)) → length paths ≡ length bytes
+    → unproved_archive verify (table (mboxes paths bytes)).archives bytes ≡ None
 proved-as false paths bytes same = refl
 proved-as true paths bytes same =
-    subst (λ (held : List (List ℕ)). unverified_archive (table (mboxes paths bytes)).archives held ≡ None) (bytes-of-mboxes paths bytes same) (own-verified (mboxes paths bytes))
+    subst (λ (held : List (List ℕ)). unverified_archive (table (mboxes paths bytes)).archives held ≡ None)
+    (bytes-of-mboxes paths bytes same) (own-verified (mboxes paths bytes))
 
 -- ---- what the table says
 
 -- of two archives that aren't as they were indexed, the first is reported
-join : (o p : Option ℕ) (IsFound : Answer → Type 0) (answer : Answer) → IsStaleOr o (IsStaleOr p IsFound) answer → IsStaleOr (option_or o p) IsFound answer
+join : (o p : Option ℕ) (IsFound : Answer → Type 0) (answer : Answer) → IsStaleOr o (IsStaleOr p IsFound) answer
+    → IsStaleOr (option_or o p) IsFound answer
 join o p IsFound answer h = grind arith
 
-part : (o p : Option ℕ) (IsFound : Answer → Type 0) (answer : Answer) → IsStaleOr (option_or o p) IsFound answer → IsStaleOr o (IsStaleOr p IsFound) answer
+part : (o p : Option ℕ) (IsFound : Answer → Type 0) (answer : Answer) → IsStaleOr (option_or o p) IsFound answer
+    → IsStaleOr o (IsStaleOr p IsFound) answer
 part o p IsFound answer h = grind arith
 
 neither : {o p : Option ℕ} → o ≡ None → p ≡ None → option_or o p ≡ None
 neither {o} {p} first second = ap (λ q. option_or q p) first ∙ second
 
 -- archives that are as they were indexed
-pub none-altered : (paths bytes : List (List ℕ)) → length paths ≡ length bytes → altered_archive (mboxes paths bytes) paths bytes ≡ None
+pub none-altered : (paths bytes : List (List ℕ)) → length paths ≡ length bytes
+    → altered_archive (mboxes paths bytes) paths bytes ≡ None
 none-altered paths bytes same = neither (named-as paths bytes same) (proved-as true paths bytes same)
 
 -- an index that isn't too old has the digests that a run needs
-pub has-digests : (w : Wanted) (t : Table) → IsVersion t.version → is_too_old t w ≡ false → w.verify ≡ true → t.version ≡ 2
+pub has-digests : (w : Wanted) (t : Table) → IsVersion t.version → is_too_old t w ≡ false → w.verify ≡ true → t.version
+    ≡ 2
 has-digests w t h h2 h3 = grind (arith, false≢true)
 
 module _ (w : Wanted) (index : List ℕ) (few : length index < 2 ^ 64) (t : Table) (file : IsFileOf index t) where
@@ -60,38 +80,52 @@ module _ (w : Wanted) (index : List ℕ) (few : length index < 2 ^ 64) (t : Tabl
     abbrev altered : Option ℕ
     altered = option_or (renamed_archive t.archives w.paths) (unproved_archive w.verify t.archives held)
 
-    stored-by : (answer : Answer) → IsStaleOr altered (IsTold t w.search held) answer → IsStoredReply (Ok w) index held answer
+    stored-by : (answer : Answer) → IsStaleOr altered (IsTold t w.search held) answer
+        → IsStoredReply (Ok w) index held answer
     stored-by answer is = grind (arith, part)
 
-    told-by : (answer : Answer) → IsStoredReply (Ok w) index held answer → IsStaleOr altered (IsTold t w.search held) answer
+    told-by : (answer : Answer) → IsStoredReply (Ok w) index held answer
+        → IsStaleOr altered (IsTold t w.search held) answer
     told-by answer (inl bad) = absurd (no_fault index t few file bad.0 bad.1)
     told-by answer (inr (u, f, told)) =
         let here = subst (λ (v : Table). IsToldOf w v held answer) (sym (one-table u f)) told in
-        let both = subst (λ (b : Bool). IsOldOr b (IsStaleOr (renamed_archive t.archives w.paths) (IsProvedAndTold w t held)) answer) fresh here in
-        join (renamed_archive t.archives w.paths) (unproved_archive w.verify t.archives held) (IsTold t w.search held) answer both
+        let both = subst (λ (b : Bool). IsOldOr b
+        (IsStaleOr (renamed_archive t.archives w.paths) (IsProvedAndTold w t held)) answer) fresh here in
+        join (renamed_archive t.archives w.paths) (unproved_archive w.verify t.archives held) (IsTold t w.search held)
+        answer both
 
     -- the index has these paths
-    pub stored-told : renamed_archive t.archives w.paths ≡ None → (reply : Reply) (old new : Option (List ℕ)) → RepliesBy (IsProvedAndTold w t held) reply old new
+    pub stored-told : renamed_archive t.archives w.paths ≡ None → (reply : Reply) (old new : Option (List ℕ))
+        → RepliesBy (IsProvedAndTold w t held) reply old new
         → RepliesBy (IsStoredReply (Ok w) index held) reply old new
     stored-told none reply old new given =
         replies-as (IsProvedAndTold w t held) (IsStoredReply (Ok w) index held)
-        (λ answer is. stored-by answer (subst (λ (o : Option ℕ). IsStaleOr (option_or o (unproved_archive w.verify t.archives held)) (IsTold t w.search held) answer) (sym none) is))
-        (λ answer is. subst (λ (o : Option ℕ). IsStaleOr (option_or o (unproved_archive w.verify t.archives held)) (IsTold t w.search held) answer) none (told-by answer is))
+        (λ answer is. stored-by answer (subst
+        (λ (o : Option ℕ). IsStaleOr (option_or o (unproved_archive w.verify t.archives held))
+        (IsTold t w.search held) answer) (sym none) is))
+        (λ answer is. subst (λ (o : Option ℕ). IsStaleOr (option_or o (unproved_archive w.verify t.archives held))
+        (IsTold t w.search held) answer) none (told-by answer is))
         reply old new given
 
-  pub stored-counted : (u : Table) (held : Option (List (List ℕ))) (fault : Option Fault) (reply : Reply) (old new : Option (List ℕ)) → IsFileOf index u
+  pub stored-counted : (u : Table) (held : Option (List (List ℕ))) (fault : Option Fault) (reply : Reply)
+      (old new : Option (List ℕ)) → IsFileOf index u
       → IsCountedWhere t w.search held fault reply old new → IsCountedWhere u w.search held fault reply old new
-  stored-counted u held fault reply old new f given = subst (λ (v : Table). IsCountedWhere v w.search held fault reply old new) (one-table u f) given
+  stored-counted u held fault reply old new f given =
+      subst (λ (v : Table). IsCountedWhere v w.search held fault reply old new) (one-table u f) given
 
-  pub stored-read : (u : Table) (fault : Option Fault) → IsFileOf index u → WereVerified t.archives w.verify fault → WereVerified u.archives w.verify fault
+  pub stored-read : (u : Table) (fault : Option Fault) → IsFileOf index u → WereVerified t.archives w.verify fault
+      → WereVerified u.archives w.verify fault
   stored-read u fault f given = subst (λ (v : Table). WereVerified v.archives w.verify fault) (one-table u f) given
 
 -- archives that were verified before an answer were verified, whatever its result
-pub still-verified : (named : List Archive) (verify : Bool) (fault : Option Fault) → WereVerified named verify None → WereVerified named verify fault
-still-verified named verify fault given = elim fault as (λ o. WereVerified named verify o) [ None ↦ given | Some _ ↦ tt ]
+pub still-verified : (named : List Archive) (verify : Bool) (fault : Option Fault) → WereVerified named verify None
+    → WereVerified named verify fault
+still-verified named verify fault given =
+    elim fault as (λ o. WereVerified named verify o) [ None ↦ given | Some _ ↦ tt ]
 
 -- over the archives that were indexed
-module _ (w : Wanted) (index : List ℕ) (few : length index < 2 ^ 64) (bytes : List (List ℕ)) (many : length w.paths ≡ length bytes) (sound : AreSound (mboxes w.paths bytes)) where
+module _ (w : Wanted) (index : List ℕ) (few : length index < 2 ^ 64) (bytes : List (List ℕ))
+    (many : length w.paths ≡ length bytes) (sound : AreSound (mboxes w.paths bytes)) where
   abbrev whole : Table
   whole = table (mboxes w.paths bytes)
 
@@ -106,96 +140,138 @@ module _ (w : Wanted) (index : List ℕ) (few : length index < 2 ^ 64) (bytes : 
       ]
 
   -- through a table that says the same
-  stored-alike : (t : Table) → IsFileOf index t → is_too_old t w ≡ false → renamed_archive t.archives w.paths ≡ None → unproved_archive w.verify t.archives bytes ≡ None
-      → ((answer : Answer) → IsTold t w.search bytes answer → IsTold whole w.search bytes answer) → ((answer : Answer) → IsTold whole w.search bytes answer → IsTold t w.search bytes answer)
-      → (reply : Reply) (old new : Option (List ℕ)) → RepliesBy (IsStoredReply (Ok w) index bytes) reply old new → RepliesBy (IsReply (Ok w) bytes) reply old new
+  stored-alike : (t : Table) → IsFileOf index t → is_too_old t w ≡ false → renamed_archive t.archives w.paths ≡ None
+      → unproved_archive w.verify t.archives bytes ≡ None
+      → ((answer : Answer) → IsTold t w.search bytes answer → IsTold whole w.search bytes answer)
+      → ((answer : Answer) → IsTold whole w.search bytes answer → IsTold t w.search bytes answer)
+      → (reply : Reply) (old new : Option (List ℕ)) → RepliesBy (IsStoredReply (Ok w) index bytes) reply old new
+      → RepliesBy (IsReply (Ok w) bytes) reply old new
   stored-alike t file fresh named proved forth back reply old new given =
-      let none : option_or (renamed_archive t.archives w.paths) (unproved_archive w.verify t.archives bytes) ≡ None = neither named proved in
+      let none : option_or (renamed_archive t.archives w.paths) (unproved_archive w.verify t.archives bytes) ≡ None =
+      neither named proved in
       replies-as (IsStoredReply (Ok w) index bytes) (IsReply (Ok w) bytes)
-      (λ answer is. once-told answer (forth answer (subst (λ (o : Option ℕ). IsStaleOr o (IsTold t w.search bytes) answer) none (told-by w index few t file bytes fresh answer is))))
-      (λ answer is. stored-by w index few t file bytes fresh answer (subst (λ (o : Option ℕ). IsStaleOr o (IsTold t w.search bytes) answer) (sym none) (back answer (told-once answer is))))
+      (λ answer is. once-told answer (forth answer
+      (subst (λ (o : Option ℕ). IsStaleOr o (IsTold t w.search bytes) answer) none
+      (told-by w index few t file bytes fresh answer is))))
+      (λ answer is. stored-by w index few t file bytes fresh answer
+      (subst (λ (o : Option ℕ). IsStaleOr o (IsTold t w.search bytes) answer) (sym none)
+      (back answer (told-once answer is))))
       reply old new given
 
   -- with an index of the newest version
-  stored-indexed : IsFileOf index whole → (reply : Reply) (old new : Option (List ℕ)) → RepliesBy (IsStoredReply (Ok w) index bytes) reply old new → RepliesBy (IsReply (Ok w) bytes) reply old new
+  stored-indexed : IsFileOf index whole → (reply : Reply) (old new : Option (List ℕ))
+      → RepliesBy (IsStoredReply (Ok w) index bytes) reply old new → RepliesBy (IsReply (Ok w) bytes) reply old new
   stored-indexed file =
-      stored-alike whole file refl (named-as w.paths bytes many) (proved-as w.verify w.paths bytes many) (λ answer told. told) (λ answer told. told)
+      stored-alike whole file refl (named-as w.paths bytes many) (proved-as w.verify w.paths bytes many)
+      (λ answer told. told) (λ answer told. told)
 
   -- with an index that has other digests
-  stored-otherwise : (t : Table) → w.verify ≡ false → but_digests t ≡ but_digests whole → IsFileOf index t → (reply : Reply) (old new : Option (List ℕ)) → RepliesBy (IsStoredReply (Ok w) index bytes) reply old new
+  stored-otherwise : (t : Table) → w.verify ≡ false → but_digests t ≡ but_digests whole → IsFileOf index t
+      → (reply : Reply) (old new : Option (List ℕ)) → RepliesBy (IsStoredReply (Ok w) index bytes) reply old new
       → RepliesBy (IsReply (Ok w) bytes) reply old new
   stored-otherwise t off same file =
       let fresh : is_too_old t w ≡ false = ap (λ (u : Table). is_too_old u w) same in
       let named : renamed_archive t.archives w.paths ≡ None =
-      sym (renamed-old t.archives w.paths) ∙ ap (λ (u : Table). renamed_archive u.archives w.paths) same ∙ renamed-old whole.archives w.paths ∙ named-as w.paths bytes many in
-      stored-alike t file fresh named (ap (λ (b : Bool). unproved_archive b t.archives bytes) off) (λ answer. told-same t whole same w.search bytes answer) (λ answer. same-told t whole same w.search bytes answer)
+      sym (renamed-old t.archives w.paths) ∙ ap (λ (u : Table). renamed_archive u.archives w.paths) same
+      ∙ renamed-old whole.archives w.paths ∙ named-as w.paths bytes many in
+      stored-alike t file fresh named (ap (λ (b : Bool). unproved_archive b t.archives bytes) off)
+      (λ answer. told-same t whole same w.search bytes answer)
+      (λ answer. same-told t whole same w.search bytes answer)
 
   -- with an index of version 1
-  stored-before : w.verify ≡ false → IsFileOf index (old_table whole) → uses_names w.search.query ≡ false → (reply : Reply) (old new : Option (List ℕ)) → RepliesBy (IsStoredReply (Ok w) index bytes) reply old new
+  stored-before : w.verify ≡ false → IsFileOf index (old_table whole) → uses_names w.search.query ≡ false
+      → (reply : Reply) (old new : Option (List ℕ)) → RepliesBy (IsStoredReply (Ok w) index bytes) reply old new
       → RepliesBy (IsReply (Ok w) bytes) reply old new
   stored-before off file none =
-      let fresh : is_too_old (old_table whole) w ≡ false = ap (λ (b : Bool). b || uses_names w.search.query) off ∙ none in
+      let fresh : is_too_old (old_table whole) w ≡ false = ap (λ (b : Bool). b || uses_names w.search.query) off ∙ none
+      in
       stored-alike (old_table whole) file fresh (renamed-old whole.archives w.paths ∙ named-as w.paths bytes many)
       (ap (λ (b : Bool). unproved_archive b (old_table whole).archives bytes) off)
-      (λ answer told. told-old whole w.search bytes answer none told) (λ answer told. old-told whole w.search bytes answer none told)
+      (λ answer told. told-old whole w.search bytes answer none told)
+      (λ answer told. old-told whole w.search bytes answer none told)
 
   -- with an index that serves for these archives
-  pub stored-serving : All IsPath w.paths → ServesFor w whole index → (reply : Reply) (old new : Option (List ℕ)) → RepliesBy (IsStoredReply (Ok w) index bytes) reply old new
+  pub stored-serving : All IsPath w.paths → ServesFor w whole index → (reply : Reply) (old new : Option (List ℕ))
+      → RepliesBy (IsStoredReply (Ok w) index bytes) reply old new
       → RepliesBy (IsReply (Ok w) bytes) reply old new
-  stored-serving h h2 = grind (arith, stored-indexed, indexed-file, stored-otherwise, otherwise-file, stored-before, before-file)
+  stored-serving h h2 = grind (
+    arith,
+    stored-indexed,
+    indexed-file,
+    stored-otherwise,
+    otherwise-file,
+    stored-before,
+    before-file,
+  )
 
 -- if they are verified, with the index of any archives
-module _ (w : Wanted) (index : List ℕ) (few : length index < 2 ^ 64) (before : List Mbox) (bytes : List (List ℕ)) (verify : w.verify ≡ true) (sound : AreSound before) (file : IsFileOf index (table before))
+module _ (w : Wanted) (index : List ℕ) (few : length index < 2 ^ 64) (before : List Mbox) (bytes : List (List ℕ))
+    (verify : w.verify ≡ true) (sound : AreSound before) (file : IsFileOf index (table before))
     (apart : AreToldApart (map (λ a. a.bytes) before ++ bytes)) where
-  stale-or : (o : Option ℕ) (IsFound IsOther : Answer → Type 0) → (o ≡ None → (answer : Answer) → IsFound answer → IsOther answer) → (answer : Answer) → IsStaleOr o IsFound answer → IsStaleOr o IsOther answer
+  stale-or : (o : Option ℕ) (IsFound IsOther : Answer → Type 0)
+      → (o ≡ None → (answer : Answer) → IsFound answer → IsOther answer) → (answer : Answer)
+      → IsStaleOr o IsFound answer → IsStaleOr o IsOther answer
   stale-or o IsFound IsOther h answer h2 = grind arith
 
   -- the bytes of archives that are verified are those that were indexed
-  unaltered : altered_archive before w.paths bytes ≡ None → (length w.paths ≡ length bytes) × (before ≡ mboxes w.paths bytes)
+  unaltered : altered_archive before w.paths bytes ≡ None → (length w.paths ≡ length bytes)
+      × (before ≡ mboxes w.paths bytes)
   unaltered none = the-same before w.paths bytes apart none
 
-  replied : altered_archive before w.paths bytes ≡ None → (answer : Answer) → IsTold (table before) w.search bytes answer → IsReply (Ok w) bytes answer
+  replied : altered_archive before w.paths bytes ≡ None → (answer : Answer)
+      → IsTold (table before) w.search bytes answer → IsReply (Ok w) bytes answer
   replied none answer told = grind (arith, unaltered, once-told)
 
-  told-again : altered_archive before w.paths bytes ≡ None → (answer : Answer) → IsReply (Ok w) bytes answer → IsTold (table before) w.search bytes answer
+  told-again : altered_archive before w.paths bytes ≡ None → (answer : Answer) → IsReply (Ok w) bytes answer
+      → IsTold (table before) w.search bytes answer
   told-again none answer is = grind (arith, unaltered, told-once)
 
   abbrev by-tables : Bool → Option ℕ
-  by-tables b = option_or (renamed_archive (table before).archives w.paths) (unproved_archive b (table before).archives bytes)
+  by-tables b = option_or (renamed_archive (table before).archives w.paths)
+      (unproved_archive b (table before).archives bytes)
 
-  pub stored-verified : (reply : Reply) (old new : Option (List ℕ)) → RepliesBy (IsStoredReply (Ok w) index bytes) reply old new
+  pub stored-verified : (reply : Reply) (old new : Option (List ℕ))
+      → RepliesBy (IsStoredReply (Ok w) index bytes) reply old new
       → RepliesBy (IsStaleOr (altered_archive before w.paths bytes) (IsReply (Ok w) bytes)) reply old new
   stored-verified reply old new given =
-      replies-as (IsStoredReply (Ok w) index bytes) (IsStaleOr (altered_archive before w.paths bytes) (IsReply (Ok w) bytes))
+      replies-as (IsStoredReply (Ok w) index bytes)
+      (IsStaleOr (altered_archive before w.paths bytes) (IsReply (Ok w) bytes))
       (λ answer is.
-      stale-or (altered_archive before w.paths bytes) (IsTold (table before) w.search bytes) (IsReply (Ok w) bytes) replied answer
-      (subst (λ (b : Bool). IsStaleOr (by-tables b) (IsTold (table before) w.search bytes) answer) verify (told-by w index few (table before) file bytes refl answer is)))
+      stale-or (altered_archive before w.paths bytes) (IsTold (table before) w.search bytes) (IsReply (Ok w) bytes)
+      replied answer
+      (subst (λ (b : Bool). IsStaleOr (by-tables b) (IsTold (table before) w.search bytes) answer) verify
+      (told-by w index few (table before) file bytes refl answer is)))
       (λ answer is.
       stored-by w index few (table before) file bytes refl answer
       (subst (λ (b : Bool). IsStaleOr (by-tables b) (IsTold (table before) w.search bytes) answer) (sym verify)
-      (stale-or (altered_archive before w.paths bytes) (IsReply (Ok w) bytes) (IsTold (table before) w.search bytes) told-again answer is)))
+      (stale-or (altered_archive before w.paths bytes) (IsReply (Ok w) bytes) (IsTold (table before) w.search bytes)
+      told-again answer is)))
       reply old new given
 
 -- ---- each run has a reply
 
-some-stale : (o : Option ℕ) (IsFound : Answer → Type 0) → (answer : Answer) × IsFound answer → (answer : Answer) × IsStaleOr o IsFound answer
+some-stale : (o : Option ℕ) (IsFound : Answer → Type 0) → (answer : Answer) × IsFound answer → (answer : Answer)
+    × IsStaleOr o IsFound answer
 some-stale (Some n) IsFound found = (refused (of.Stale n), refl)
 some-stale None IsFound found = found
 
 -- an index that is too old is refused, and any other one answers
-some-old : (old : Bool) (IsFound : Answer → Type 0) → (answer : Answer) × IsFound answer → (answer : Answer) × IsOldOr old IsFound answer
+some-old : (old : Bool) (IsFound : Answer → Type 0) → (answer : Answer) × IsFound answer → (answer : Answer)
+    × IsOldOr old IsFound answer
 some-old true IsFound found = (refused of.OldIndex, refl)
 some-old false IsFound found = found
 
 -- by the result of reading the index
-pub some-stored-reply : (index : List ℕ) (read : Result Table IndexFault) → IfOk read (IsFileOf index) → IfErr read (IsFirstFault index)
+pub some-stored-reply : (index : List ℕ) (read : Result Table IndexFault) → IfOk read (IsFileOf index)
+    → IfErr read (IsFirstFault index)
     → (asked : Result Wanted Fault) (held : List (List ℕ)) → (answer : Answer) × IsStoredReply asked index held answer
 some-stored-reply index read file bad (Err fault) held = (refused fault, refl)
 some-stored-reply index (Ok t) file bad (Ok w) held =
     let told = some-told t w.search held (stale_archive t.archives held) in
     let proved = some-stale (unproved_archive w.verify t.archives held) (IsTold t w.search held) told in
     let named = some-stale (renamed_archive t.archives w.paths) (IsProvedAndTold w t held) proved in
-    let some = some-old (is_too_old t w) (IsStaleOr (renamed_archive t.archives w.paths) (IsProvedAndTold w t held)) named in
+    let some = some-old (is_too_old t w) (IsStaleOr (renamed_archive t.archives w.paths) (IsProvedAndTold w t held))
+    named in
     (some.0, inr (t, file, some.1))
 some-stored-reply index (Err f) file bad (Ok w) held = (refused (of.Index f), inl (f, bad, refl))
 
@@ -205,32 +281,39 @@ some-stored-reply index (Err f) file bad (Ok w) held = (refused (of.Index f), in
 refusal-known : (f : Fault) → is_failure (Some f) ≡ false → refusal_of f ≡ Some f
 refusal-known f h = grind arith
 
-stored-refusal : (asked : Result Wanted Fault) (index : List ℕ) (held : List (List ℕ)) (f : Fault) → IsRefusedAs asked index f → IsStoredReply asked index held (refused f)
+stored-refusal : (asked : Result Wanted Fault) (index : List ℕ) (held : List (List ℕ)) (f : Fault)
+    → IsRefusedAs asked index f → IsStoredReply asked index held (refused f)
 stored-refusal asked index held f h = grind arith
 
-pub refused-stored : (asked : Result Wanted Fault) (index : List ℕ) (held : List (List ℕ)) (f : Fault) (old : Option (List ℕ)) → IfSome (refusal_of f) (IsRefusedAs asked index)
+pub refused-stored : (asked : Result Wanted Fault) (index : List ℕ) (held : List (List ℕ)) (f : Fault)
+    (old : Option (List ℕ)) → IfSome (refusal_of f) (IsRefusedAs asked index)
     → RepliesBy (IsStoredReply asked index held) (reply_of (Err f)) old old
 refused-stored asked index held f old is = grind (arith, unanswered, stored-refusal, refusal-known)
 
 -- the reply if an archive isn't the indexed one, or couldn't be read to find out
-pub unproved-replied : (unproved : Option ℕ) (IsFound : Answer → Type 0) (f : Fault) (old : Option (List ℕ)) → TellsProved {T = Unit {0}} unproved (Err f)
+pub unproved-replied : (unproved : Option ℕ) (IsFound : Answer → Type 0) (f : Fault) (old : Option (List ℕ))
+    → TellsProved {T = Unit {0}} unproved (Err f)
     → RepliesBy (IsStaleOr unproved IsFound) (reply_of (Err f)) old old
 unproved-replied unproved IsFound f old tells = grind (arith, unanswered)
 
 -- ---- a refusal has no other cause
 
-pub refused-for : (asked : Result Wanted Fault) (index : List ℕ) (f : Fault) → IfSome (refusal_of f) (IsRefusedAs asked index) → IsForNoOtherCause asked index f
+pub refused-for : (asked : Result Wanted Fault) (index : List ℕ) (f : Fault)
+    → IfSome (refusal_of f) (IsRefusedAs asked index) → IsForNoOtherCause asked index f
 refused-for asked index f h = grind arith
 
 -- a fault of an answer isn't one of these
-pub answered-for : (asked : Result Wanted Fault) (index : List ℕ) (r : Result ℕ Fault) → IfErr r IsOfAnswer → IfSome (reply_of r).fault (IsForNoOtherCause asked index)
+pub answered-for : (asked : Result Wanted Fault) (index : List ℕ) (r : Result ℕ Fault) → IfErr r IsOfAnswer
+    → IfSome (reply_of r).fault (IsForNoOtherCause asked index)
 answered-for asked index r h = grind arith
 
 -- ---- an index is refused in one way
 
 module _ (w : Wanted) (index : List ℕ) (few : length index < 2 ^ 64) where
-  pub one-bad-index : {V U : Type 0} → (told : Result U Fault) (r : Result V IndexFault) → MatchResult r (λ _. ⊥) (λ f. IsErrAnd told (λ e. e ≡ of.Index f))
-      → AreBytes index → IfErr r (IsFirstFault index) → (fault : Fault) → IsIndexRefusal w index fault → fault_in told ≡ Some fault
+  pub one-bad-index : {V U : Type 0} → (told : Result U Fault) (r : Result V IndexFault)
+      → MatchResult r (λ _. ⊥) (λ f. IsErrAnd told (λ e. e ≡ of.Index f))
+      → AreBytes index → IfErr r (IsFirstFault index) → (fault : Fault) → IsIndexRefusal w index fault → fault_in told
+      ≡ Some fault
   one-bad-index told (Ok v) same h h2 fault h3 = absurd same
   one-bad-index (Ok u) (Err f) same h h2 fault h3 = absurd same
   one-bad-index (Err e) (Err f) same h h2 fault h3 = grind (arith, one-first-fault, no_fault)
@@ -240,9 +323,11 @@ module _ (w : Wanted) (index : List ℕ) (few : length index < 2 ^ 64) where
     one-age : (u : Table) → IsFileOf index u → is_too_old t w ≡ is_too_old u w
     one-age u f = ap (λ (v : Table). is_too_old v w) (same-table index u t few f file)
 
-    pub one-too-old : is_too_old t w ≡ true → (fault : Fault) → IsIndexRefusal w index fault → Some of.OldIndex ≡ Some fault
+    pub one-too-old : is_too_old t w ≡ true → (fault : Fault) → IsIndexRefusal w index fault → Some of.OldIndex
+        ≡ Some fault
     one-too-old h fault h2 = grind (arith, no_fault, false≢true, one-age)
 
-    pub one-renamed : is_too_old t w ≡ false → (o : Option ℕ) → renamed_archive t.archives w.paths ≡ o → (fault : Fault) → IsIndexRefusal w index fault
+    pub one-renamed : is_too_old t w ≡ false → (o : Option ℕ) → renamed_archive t.archives w.paths ≡ o → (fault : Fault)
+        → IsIndexRefusal w index fault
         → option_map (λ n. of.Stale n) o ≡ Some fault
     one-renamed h o h2 fault h3 = grind (arith, no_fault, false≢true, one-age, same-table)

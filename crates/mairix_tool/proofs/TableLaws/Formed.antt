@@ -1,6 +1,12 @@
 -- The tables that an index of sound archives may have are well-formed: theirs, one with other digests, and that of
 -- version 1.
-use Rattle.mairix_tool.proofs.Words.{◌≡◌, ◌∙◌, ℕ, zero, suc, ◌+◌, ◌<◌, ◌≤◌, Bool, true, false, not, cond, All, List, [], ◌∷◌, length, map, refl, sym, ap, subst, arith, inl, inr, AllByRecursion, nat_tests, length-map, All-nil, All-cons, All-head, All-tail, recursion_from_All, Name, Text, Record, IsFileOf, index_file, is_of_kind, Archive, Key, Table, archive_length, IsPath, IsArchive, IsMessage, IsKey, IsWellFormed, Follows, KeyBefore, AllNext, newest, IsDigest, AreSound, Mbox, table, mboxes, without_digest, keys_but_names, but_digests, old_table, HasDigests}
+use Rattle.mairix_tool.proofs.Words.{◌≡◌, ◌∙◌, ℕ, zero, suc, ◌+◌, ◌<◌, ◌≤◌, Bool, true, false, not, cond, All, List, []}
+use Rattle.mairix_tool.proofs.Words.{◌∷◌, length, map, refl, sym, ap, subst, arith, inl, inr, AllByRecursion, nat_tests}
+use Rattle.mairix_tool.proofs.Words.{length-map, All-nil, All-cons, All-head, All-tail, recursion_from_All, Name, Text}
+use Rattle.mairix_tool.proofs.Words.{Record, IsFileOf, index_file, is_of_kind, Archive, Key, Table, archive_length}
+use Rattle.mairix_tool.proofs.Words.{IsPath, IsArchive, IsMessage, IsKey, IsWellFormed, Follows, KeyBefore, AllNext}
+use Rattle.mairix_tool.proofs.Words.{newest, IsDigest, AreSound, Mbox, table, mboxes, without_digest, keys_but_names}
+use Rattle.mairix_tool.proofs.Words.{but_digests, old_table, HasDigests}
 use Rattle.mail_index.specs.Limits.{most_in_archive}
 use Rattle.mail_index.proofs.BuildLaws.DraftLemmas.{all-weaker}
 use Rattle.index_job.proofs.SoundTables.Whole.{sound-table}
@@ -8,21 +14,26 @@ use Rattle.mairix_tool.proofs.TableLaws.ThreadLinks.{BeforeAll, below-all, rest-
 
 -- ---- archives without digests
 
-named-old : (archives : List Archive) → AllByRecursion (IsArchive newest) archives → AllByRecursion (IsArchive 1) (map without_digest archives)
+named-old : (archives : List Archive) → AllByRecursion (IsArchive newest) archives
+    → AllByRecursion (IsArchive 1) (map without_digest archives)
 named-old [] all = tt
 named-old (a ∷ archives) all = ((all.0.0, all.0.1, refl), named-old archives all.1)
 
-length-old : (archives : List Archive) (n : ℕ) → archive_length (map without_digest archives) n ≡ archive_length archives n
+length-old : (archives : List Archive) (n : ℕ) → archive_length (map without_digest archives) n
+    ≡ archive_length archives n
 length-old [] n = refl
 length-old (a ∷ archives) zero = refl
 length-old (a ∷ archives) (suc n) = length-old archives n
 
 -- messages of archives are also messages of archives that differ only in their digests
-placed-same : (xs ys : List Archive) → map without_digest xs ≡ map without_digest ys → (m : Record) → IsMessage xs m → IsMessage ys m
+placed-same : (xs ys : List Archive) → map without_digest xs ≡ map without_digest ys → (m : Record) → IsMessage xs m
+    → IsMessage ys m
 placed-same xs ys same m is =
-    let many : length xs ≡ length ys = sym (length-map xs without_digest) ∙ ap length same ∙ length-map ys without_digest in
+    let many : length xs ≡ length ys = sym (length-map xs without_digest) ∙ ap length same
+    ∙ length-map ys without_digest in
     let long : archive_length xs m.archive ≡ archive_length ys m.archive =
-    sym (length-old xs m.archive) ∙ ap (λ (l : List Archive). archive_length l m.archive) same ∙ length-old ys m.archive in
+    sym (length-old xs m.archive) ∙ ap (λ (l : List Archive). archive_length l m.archive) same ∙ length-old ys m.archive
+    in
     record {
       exists = subst (λ (n : ℕ). m.archive < n) many is.exists;
       within = subst (λ (n : ℕ). m.offset + m.length ≤ n) long is.within;
@@ -30,12 +41,14 @@ placed-same xs ys same m is =
       date = is.date;
     }
 
-without-twice : (archives : List Archive) → map without_digest archives ≡ map without_digest (map without_digest archives)
+without-twice : (archives : List Archive) → map without_digest archives
+    ≡ map without_digest (map without_digest archives)
 without-twice [] = refl
 without-twice (a ∷ archives) = ap (λ (l : List Archive). without_digest a ∷ l) (without-twice archives)
 
 -- archives with digests that differ from valid ones only in these are valid too
-named-otherwise : (xs ys : List Archive) → map without_digest xs ≡ map without_digest ys → AllByRecursion (IsArchive newest) xs → AllByRecursion (λ (a : Archive). IsDigest newest a.digest) ys
+named-otherwise : (xs ys : List Archive) → map without_digest xs ≡ map without_digest ys
+    → AllByRecursion (IsArchive newest) xs → AllByRecursion (λ (a : Archive). IsDigest newest a.digest) ys
     → AllByRecursion (IsArchive newest) ys
 named-otherwise [] [] same all digests = tt
 named-otherwise [] (y ∷ ys) same all digests = absurd cc
@@ -44,8 +57,10 @@ named-otherwise (x ∷ xs) (y ∷ ys) same all digests =
     let first : without_digest x ≡ without_digest y = cc in
     let rest : map without_digest xs ≡ map without_digest ys = cc in
     let path : x.path ≡ y.path = ap (λ (a : Archive). a.path) first in
-    let long : x.length ≡ y.length = ap (λ (a : Archive). a.length) first in
-    ((subst IsPath path all.0.0, subst (λ (n : ℕ). n ≤ most_in_archive) long all.0.1, digests.0), named-otherwise xs ys rest all.1 digests.1)
+    let long : x.length ≡ y.length = ap (λ (a : Archive). a.length) first in (
+      (subst IsPath path all.0.0, subst (λ (n : ℕ). n ≤ most_in_archive) long all.0.1, digests.0),
+      named-otherwise xs ys rest all.1 digests.1,
+    )
 
 -- ---- keys without names
 
@@ -53,10 +68,12 @@ few-kept : (ks : List Key) → length (keys_but_names ks) ≤ length ks
 few-kept [] = omega arith
 few-kept (k ∷ ks) = go (is_of_kind (Text Name) k) (few-kept ks)
   where
-    go : (named : Bool) → length (keys_but_names ks) ≤ length ks → length (cond (not named) (k ∷ keys_but_names ks) (keys_but_names ks)) ≤ length (k ∷ ks)
+    go : (named : Bool) → length (keys_but_names ks) ≤ length ks
+        → length (cond (not named) (k ∷ keys_but_names ks) (keys_but_names ks)) ≤ length (k ∷ ks)
     go named h = grind arith
 
-keys-old : (count : ℕ) (ks : List Key) → AllByRecursion (IsKey newest count) ks → AllByRecursion (IsKey 1 count) (keys_but_names ks)
+keys-old : (count : ℕ) (ks : List Key) → AllByRecursion (IsKey newest count) ks
+    → AllByRecursion (IsKey 1 count) (keys_but_names ks)
 keys-old count [] all = tt
 keys-old count (k ∷ ks) all = go (is_of_kind (Text Name) k) refl (keys-old count ks all.1)
   where
@@ -68,7 +85,8 @@ before-kept : (a : Key) (ks : List Key) → BeforeAll a ks → BeforeAll a (keys
 before-kept a [] before = tt
 before-kept a (k ∷ ks) before = go (is_of_kind (Text Name) k) (before-kept a ks before.1)
   where
-    go : (named : Bool) → BeforeAll a (keys_but_names ks) → BeforeAll a (cond (not named) (k ∷ keys_but_names ks) (keys_but_names ks))
+    go : (named : Bool) → BeforeAll a (keys_but_names ks)
+        → BeforeAll a (cond (not named) (k ∷ keys_but_names ks) (keys_but_names ks))
     go named h = grind arith
 
 next-sorted : (a : Key) (ks : List Key) → BeforeAll a ks → AllNext KeyBefore ks → AllNext KeyBefore (a ∷ ks)
@@ -78,7 +96,8 @@ sorted-old : (ks : List Key) → AllNext KeyBefore ks → AllNext KeyBefore (key
 sorted-old [] sorted = tt
 sorted-old (k ∷ ks) sorted = go (is_of_kind (Text Name) k) (sorted-old ks (rest-sorted k ks sorted))
   where
-    go : (named : Bool) → AllNext KeyBefore (keys_but_names ks) → AllNext KeyBefore (cond (not named) (k ∷ keys_but_names ks) (keys_but_names ks))
+    go : (named : Bool) → AllNext KeyBefore (keys_but_names ks)
+        → AllNext KeyBefore (cond (not named) (k ∷ keys_but_names ks) (keys_but_names ks))
     go true rest = rest
     go false rest = next-sorted k (keys_but_names ks) (before-kept k ks (below-all k ks sorted)) rest
 
@@ -98,7 +117,9 @@ module _ (archives : List Mbox) (paths : All (λ (a : Mbox). IsPath a.path) arch
     message_count = formed.message_count;
     key_count = omega (arith, few-kept whole.keys, formed.key_count);
     archives = named-old whole.archives formed.archives;
-    messages = all-weaker (IsMessage whole.archives) (IsMessage (map without_digest whole.archives)) (placed-same whole.archives (map without_digest whole.archives) (without-twice whole.archives)) whole.messages formed.messages;
+    messages = all-weaker (IsMessage whole.archives) (IsMessage (map without_digest whole.archives))
+        (placed-same whole.archives (map without_digest whole.archives) (without-twice whole.archives)) whole.messages
+        formed.messages;
     in_order = formed.in_order;
     keys = keys-old (length whole.messages) whole.keys formed.keys;
     sorted = sorted-old whole.keys formed.sorted;
@@ -109,23 +130,33 @@ module _ (archives : List Mbox) (paths : All (λ (a : Mbox). IsPath a.path) arch
   otherwise-formed t same digests =
       let back : but_digests whole ≡ but_digests t = sym same in
       let version : newest ≡ t.version = ap (λ (u : Table). u.version) back in
-      let named : map without_digest whole.archives ≡ map without_digest t.archives = ap (λ (u : Table). u.archives) back in
+      let named : map without_digest whole.archives ≡ map without_digest t.archives =
+      ap (λ (u : Table). u.archives) back in
       let messages : whole.messages ≡ t.messages = ap (λ (u : Table). u.messages) back in
       let keys : whole.keys ≡ t.keys = ap (λ (u : Table). u.keys) back in
       let listed : AllByRecursion (IsKey newest (length t.messages)) whole.keys =
       subst (λ (ms : List Record). AllByRecursion (IsKey newest (length ms)) whole.keys) messages formed.keys in
       let placed : AllByRecursion (IsMessage t.archives) whole.messages =
-      all-weaker (IsMessage whole.archives) (IsMessage t.archives) (placed-same whole.archives t.archives named) whole.messages formed.messages in
+      all-weaker (IsMessage whole.archives) (IsMessage t.archives) (placed-same whole.archives t.archives named)
+      whole.messages formed.messages in
       record {
         version = inr (sym version);
-        archive_count = omega (arith, length-map whole.archives without_digest, length-map t.archives without_digest, ap length named, formed.archive_count);
+        archive_count = omega (
+          arith,
+          length-map whole.archives without_digest,
+          length-map t.archives without_digest,
+          ap length named,
+          formed.archive_count,
+        );
         message_count = omega (arith, ap length messages, formed.message_count);
         key_count = omega (arith, ap length keys, formed.key_count);
         archives = subst (λ (v : ℕ). AllByRecursion (IsArchive v) t.archives) version
-            (named-otherwise whole.archives t.archives named formed.archives (recursion_from_All (λ (a : Archive). IsDigest newest a.digest) t.archives digests));
+            (named-otherwise whole.archives t.archives named formed.archives
+            (recursion_from_All (λ (a : Archive). IsDigest newest a.digest) t.archives digests));
         messages = subst (λ (ms : List Record). AllByRecursion (IsMessage t.archives) ms) messages placed;
         in_order = subst (λ (ms : List Record). AllNext Follows ms) messages formed.in_order;
-        keys = subst (λ (v : ℕ). AllByRecursion (IsKey v (length t.messages)) t.keys) version (subst (λ (ks : List Key). AllByRecursion (IsKey newest (length t.messages)) ks) keys listed);
+        keys = subst (λ (v : ℕ). AllByRecursion (IsKey v (length t.messages)) t.keys) version
+            (subst (λ (ks : List Key). AllByRecursion (IsKey newest (length t.messages)) ks) keys listed);
         sorted = subst (λ (ks : List Key). AllNext KeyBefore ks) keys formed.sorted;
       }
 
@@ -136,20 +167,28 @@ named-paths : (paths bytes : List (List ℕ)) → All IsPath paths → All (λ (
 named-paths [] bytes all = All-nil (λ (a : Mbox). IsPath a.path)
 named-paths (p ∷ paths) [] all = All-nil (λ (a : Mbox). IsPath a.path)
 named-paths (p ∷ paths) (b ∷ bytes) all =
-    All-cons (λ (a : Mbox). IsPath a.path) (record { path = p; bytes = b }) (mboxes paths bytes) (All-head IsPath p paths all) (named-paths paths bytes (All-tail IsPath p paths all))
+    All-cons (λ (a : Mbox). IsPath a.path) (record { path = p; bytes = b }) (mboxes paths bytes)
+    (All-head IsPath p paths all) (named-paths paths bytes (All-tail IsPath p paths all))
 
-pub whole-file : (archives : List Mbox) (index : List ℕ) → All (λ (a : Mbox). IsPath a.path) archives → AreSound archives → index ≡ index_file (table archives) → IsFileOf index (table archives)
+pub whole-file : (archives : List Mbox) (index : List ℕ) → All (λ (a : Mbox). IsPath a.path) archives
+    → AreSound archives → index ≡ index_file (table archives) → IsFileOf index (table archives)
 whole-file archives index paths sound is = (sound-table archives paths sound, is)
 
-module _ (paths bytes : List (List ℕ)) (index : List ℕ) (are : All IsPath paths) (sound : AreSound (mboxes paths bytes)) where
-  abbrev indexed : Table
-  indexed = table (mboxes paths bytes)
+module _ (paths bytes : List (List ℕ)) (index : List ℕ) (are : All IsPath paths) (sound : AreSound (mboxes paths bytes))
+  where
+    abbrev indexed : Table
+    indexed = table (mboxes paths bytes)
 
-  pub indexed-file : index ≡ index_file indexed → IsFileOf index indexed
-  indexed-file is = whole-file (mboxes paths bytes) index (named-paths paths bytes are) sound is
+    pub indexed-file : index ≡ index_file indexed → IsFileOf index indexed
+    indexed-file is = whole-file (mboxes paths bytes) index (named-paths paths bytes are) sound is
 
-  pub otherwise-file : (t : Table) → but_digests t ≡ but_digests indexed → HasDigests t → index ≡ index_file t → IsFileOf index t
-  otherwise-file t same digests is = (otherwise-formed (mboxes paths bytes) (named-paths paths bytes are) sound t same digests, is)
+    pub otherwise-file : (t : Table) → but_digests t ≡ but_digests indexed → HasDigests t → index ≡ index_file t
+        → IsFileOf index t
+    otherwise-file t same digests is = (
+      otherwise-formed (mboxes paths bytes) (named-paths paths bytes are) sound t same
+          digests,
+      is,
+    )
 
-  pub before-file : index ≡ index_file (old_table indexed) → IsFileOf index (old_table indexed)
-  before-file is = (old-formed (mboxes paths bytes) (named-paths paths bytes are) sound, is)
+    pub before-file : index ≡ index_file (old_table indexed) → IsFileOf index (old_table indexed)
+    before-file is = (old-formed (mboxes paths bytes) (named-paths paths bytes are) sound, is)

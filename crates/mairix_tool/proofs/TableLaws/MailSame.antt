@@ -1,5 +1,15 @@
 -- The table of archives says about their messages, threads and texts what these say themselves, number by number.
-use Rattle.mairix_tool.proofs.Words.{◌≡◌, ◌∙◌, ℕ, zero, suc, ◌+◌, ◌<◌, Bool, true, false, cond, nat_eq, ◌&&◌, ◌||◌, List, [], ◌∷◌, ◌++◌, map, flat_map, length, Option, None, Some, refl, sym, ap, subst, arith, eq-eqb, append_assoc, min, list_any, range_with_len, length-map, length_push, get_or_at, fields_of, Message, text, facts_of, texts_of_message, Pair, Facts, TextKind, words, folding, Text, LinkId, Record, kind_number, keys_of, Archive, Key, Table, Query, is_true, Format, Raw, Excerpt, Search, IsChain, IsLedToBySome, AreThreadsOf, AreChosen, AreChosenBy, satisfying, message_text, answer_text, first_changed, stale_archive, mail_told, facts_at, record_at, texts_with, is_among, are_linked, table, entry_of, with_messages, Term, text_terms, own_id_terms, link_terms, Numbered, numbered_messages, numbered_at, nobody, link_ids, share_id, mail_in, shape, shape_of}
+use Rattle.mairix_tool.proofs.Words.{◌≡◌, ◌∙◌, ℕ, zero, suc, ◌+◌, ◌<◌, Bool, true, false, cond, nat_eq, ◌&&◌, ◌||◌}
+use Rattle.mairix_tool.proofs.Words.{List, [], ◌∷◌, ◌++◌, map, flat_map, length, Option, None, Some, refl, sym, ap}
+use Rattle.mairix_tool.proofs.Words.{subst, arith, eq-eqb, append_assoc, min, list_any, range_with_len, length-map}
+use Rattle.mairix_tool.proofs.Words.{length_push, get_or_at, fields_of, Message, text, facts_of, texts_of_message, Pair}
+use Rattle.mairix_tool.proofs.Words.{Facts, TextKind, words, folding, Text, LinkId, Record, kind_number, keys_of}
+use Rattle.mairix_tool.proofs.Words.{Archive, Key, Table, Query, is_true, Format, Raw, Excerpt, Search, IsChain}
+use Rattle.mairix_tool.proofs.Words.{IsLedToBySome, AreThreadsOf, AreChosen, AreChosenBy, satisfying, message_text}
+use Rattle.mairix_tool.proofs.Words.{answer_text, first_changed, stale_archive, mail_told, facts_at, record_at}
+use Rattle.mairix_tool.proofs.Words.{texts_with, is_among, are_linked, table, entry_of, with_messages, Term, text_terms}
+use Rattle.mairix_tool.proofs.Words.{own_id_terms, link_terms, Numbered, numbered_messages, numbered_at, nobody}
+use Rattle.mairix_tool.proofs.Words.{link_ids, share_id, mail_in, shape, shape_of}
 use Rattle.std.specs.List.{filter}
 use Rattle.std.specs.Str.{bytes_eq}
 use Rattle.mail_answer.specs.declared.format.Format.TheVariants.{Mbox}
@@ -8,7 +18,8 @@ use Rattle.index_job.proofs.SoundTables.Keys.{messages-sorted}
 use Rattle.mairix_tool.proofs.TableLaws.Truth.{any-same}
 use Rattle.mairix_tool.proofs.TableLaws.Terms.{term_says, parts-say}
 use Rattle.mairix_tool.proofs.TableLaws.Messages.{keys-at, terms_at}
-use Rattle.mairix_tool.proofs.TableLaws.Numbers.{messages-numbered, records-numbered, message_in, record_in, passes_in, AllTell, tells-from}
+use Rattle.mairix_tool.proofs.TableLaws.Numbers.{messages-numbered, records-numbered, message_in, record_in, passes_in}
+use Rattle.mairix_tool.proofs.TableLaws.Numbers.{AllTell, tells-from}
 use Rattle.mairix_tool.proofs.TableLaws.ThreadLinks.{linked-by-texts}
 
 -- ---- the link ids of a message are those among its terms
@@ -17,28 +28,36 @@ text-no-link : (kind : TextKind) → nat_eq (kind_number (Text kind)) (kind_numb
 text-no-link kind = grind arith
 
 words-no-link : (j : TextKind) (passes : List ℕ → Bool) (ws : List (List ℕ)) (more : List Term)
-    → list_any (term_says LinkId passes) (map (λ w. (Text j, folding w)) ws ++ more) ≡ list_any (term_says LinkId passes) more
+    → list_any (term_says LinkId passes) (map (λ w. (Text j, folding w)) ws ++ more)
+    ≡ list_any (term_says LinkId passes) more
 words-no-link j passes [] more = refl
 words-no-link j passes (w ∷ ws) more =
-    ap (λ (b : Bool). (b && passes (folding w)) || list_any (term_says LinkId passes) (map (λ v. (Text j, folding v)) ws ++ more)) (text-no-link j) ∙ words-no-link j passes ws more
+    ap (λ (b : Bool). (b && passes (folding w)) || list_any (term_says LinkId passes)
+    (map (λ v. (Text j, folding v)) ws ++ more)) (text-no-link j) ∙ words-no-link j passes ws more
 
-texts-no-link : (passes : List ℕ → Bool) (texts : List Pair) → list_any (term_says LinkId passes) (flat_map text_terms texts) ≡ false
+texts-no-link : (passes : List ℕ → Bool) (texts : List Pair)
+    → list_any (term_says LinkId passes) (flat_map text_terms texts) ≡ false
 texts-no-link passes [] = refl
 texts-no-link passes (p ∷ ps) = words-no-link p.0 passes (words p.1) (flat_map text_terms ps) ∙ texts-no-link passes ps
 
-own-no-link : (passes : List ℕ → Bool) (own : Option (List ℕ)) → list_any (term_says LinkId passes) (own_id_terms own) ≡ false
+own-no-link : (passes : List ℕ → Bool) (own : Option (List ℕ)) → list_any (term_says LinkId passes) (own_id_terms own)
+    ≡ false
 own-no-link passes own = grind arith
 
-links-themselves : (passes : List ℕ → Bool) (ids : List (List ℕ)) → list_any (term_says LinkId passes) (link_terms ids) ≡ list_any passes ids
+links-themselves : (passes : List ℕ → Bool) (ids : List (List ℕ)) → list_any (term_says LinkId passes) (link_terms ids)
+    ≡ list_any passes ids
 links-themselves passes [] = refl
 links-themselves passes (id ∷ ids) = ap (λ (b : Bool). passes id || b) (links-themselves passes ids)
 
 terms-say-links : (passes : List ℕ → Bool) (texts : List Pair) (facts : Facts)
-    → list_any (term_says LinkId passes) (flat_map text_terms texts ++ (own_id_terms facts.own_id ++ link_terms facts.ids)) ≡ list_any passes facts.ids
+    → list_any (term_says LinkId passes) (flat_map text_terms texts ++
+    (own_id_terms facts.own_id ++ link_terms facts.ids)) ≡ list_any passes facts.ids
 terms-say-links passes texts facts =
     parts-say LinkId passes texts facts
-    ∙ ap (λ (b : Bool). b || (list_any (term_says LinkId passes) (own_id_terms facts.own_id) || list_any (term_says LinkId passes) (link_terms facts.ids))) (texts-no-link passes texts)
-    ∙ ap (λ (b : Bool). b || list_any (term_says LinkId passes) (link_terms facts.ids)) (own-no-link passes facts.own_id)
+    ∙ ap (λ (b : Bool). b || (list_any (term_says LinkId passes) (own_id_terms facts.own_id) || list_any
+    (term_says LinkId passes) (link_terms facts.ids))) (texts-no-link passes texts)
+    ∙ ap (λ (b : Bool). b || list_any (term_says LinkId passes) (link_terms facts.ids))
+    (own-no-link passes facts.own_id)
     ∙ links-themselves passes facts.ids
 
 -- ---- what the keys say about the message of a number
@@ -48,26 +67,32 @@ unfolding facts_of fields_of
 no-ids = refl
 
 links-at : (xs : List Numbered) (n : ℕ) (passes : List ℕ → Bool)
-    → list_any (term_says LinkId passes) (terms_at n (map message_in xs)) ≡ list_any passes (link_ids (numbered_at xs n).1)
+    → list_any (term_says LinkId passes) (terms_at n (map message_in xs))
+    ≡ list_any passes (link_ids (numbered_at xs n).1)
 links-at [] n passes = sym (ap (list_any passes) no-ids)
 links-at (x ∷ xs) zero passes = terms-say-links passes (texts_of_message (text x.1)) (facts_of (fields_of (text x.1)))
 links-at (x ∷ xs) (suc n) passes = links-at xs n passes
 
 keys-say-links : (xs : List Numbered) (n : ℕ) (passes : List ℕ → Bool)
-    → list_any passes (texts_with LinkId n (with_messages 0 (map message_in xs) [])) ≡ list_any passes (link_ids (numbered_at xs n).1)
+    → list_any passes (texts_with LinkId n (with_messages 0 (map message_in xs) []))
+    ≡ list_any passes (link_ids (numbered_at xs n).1)
 keys-say-links xs n passes = keys-at LinkId n passes (map message_in xs) ∙ links-at xs n passes
 
-share-same : (xs ys us vs : List (List ℕ)) → ((p : List ℕ → Bool) → list_any p xs ≡ list_any p us) → ((p : List ℕ → Bool) → list_any p ys ≡ list_any p vs) → share_id xs ys ≡ share_id us vs
+share-same : (xs ys us vs : List (List ℕ)) → ((p : List ℕ → Bool) → list_any p xs ≡ list_any p us)
+    → ((p : List ℕ → Bool) → list_any p ys ≡ list_any p vs) → share_id xs ys ≡ share_id us vs
 share-same xs ys us vs first second =
-    any-same (λ id. list_any (bytes_eq id) ys) (λ id. list_any (bytes_eq id) vs) (λ id. second (bytes_eq id)) xs ∙ first (λ id. list_any (bytes_eq id) vs)
+    any-same (λ id. list_any (bytes_eq id) ys) (λ id. list_any (bytes_eq id) vs) (λ id. second (bytes_eq id)) xs
+    ∙ first (λ id. list_any (bytes_eq id) vs)
 
 -- the table of archives links two messages exactly if they share a link id
 pub links-same : (archives : List Archived) (m n : ℕ) → are_linked (table archives) m n ≡ (mail_in archives).linked m n
 links-same archives m n =
     let xs : List Numbered = numbered_messages 0 archives in
-    ap (λ (ms : List Message). list_any (λ (k : Key). is_among m k.numbers && is_among n k.numbers) (keys_of LinkId (with_messages 0 ms []))) (messages-numbered 0 archives)
+    ap (λ (ms : List Message). list_any (λ (k : Key). is_among m k.numbers && is_among n k.numbers)
+    (keys_of LinkId (with_messages 0 ms []))) (messages-numbered 0 archives)
     ∙ linked-by-texts m n (with_messages 0 (map message_in xs) []) (messages-sorted 0 (map message_in xs) [] tt)
-    ∙ share-same (texts_with LinkId m (with_messages 0 (map message_in xs) [])) (texts_with LinkId n (with_messages 0 (map message_in xs) []))
+    ∙ share-same (texts_with LinkId m (with_messages 0 (map message_in xs) []))
+    (texts_with LinkId n (with_messages 0 (map message_in xs) []))
     (link_ids (numbered_at xs m).1) (link_ids (numbered_at xs n).1) (keys-say-links xs m) (keys-say-links xs n)
 
 -- ---- the messages that satisfy a query
@@ -76,22 +101,28 @@ count-same : (archives : List Archived) → length (table archives).messages ≡
 count-same archives = ap length (records-numbered 0 archives) ∙ length-map (numbered_messages 0 archives) record_in
 
 told-at : (test : ℕ → Bool) (q : Query) (all before xs : List Numbered) (n : ℕ) → all ≡ before ++ xs → length before ≡ n
-    → AllTell test q n xs → filter test (range_with_len n (length xs)) ≡ filter (λ i. passes_in q (numbered_at all i)) (range_with_len n (length xs))
+    → AllTell test q n xs → filter test (range_with_len n (length xs))
+    ≡ filter (λ i. passes_in q (numbered_at all i)) (range_with_len n (length xs))
 told-at test q all before [] n whole h tells = refl
 told-at test q all before (x ∷ xs) n whole h tells =
-    let here : numbered_at all n ≡ x = ap (λ (l : List Numbered). numbered_at l n) whole ∙ get_or_at before x xs nobody n h in
-    let rest = told-at test q all (before ++ x ∷ []) xs (n + 1) (whole ∙ sym (append_assoc before (x ∷ []) xs)) (length_push before x ∙ ap (λ (i : ℕ). i + 1) h) tells.1 in
+    let here : numbered_at all n ≡ x = ap (λ (l : List Numbered). numbered_at l n) whole
+    ∙ get_or_at before x xs nobody n h in
+    let rest = told-at test q all (before ++ x ∷ []) xs (n + 1) (whole ∙ sym (append_assoc before (x ∷ []) xs))
+    (length_push before x ∙ ap (λ (i : ℕ). i + 1) h) tells.1 in
     let agree : test n ≡ passes_in q (numbered_at all n) = tells.0 ∙ sym (ap (passes_in q) here) in
-    ap (λ (b : Bool). cond b (n ∷ filter test (range_with_len (n + 1) (length xs))) (filter test (range_with_len (n + 1) (length xs)))) agree
+    ap (λ (b : Bool). cond b (n ∷ filter test (range_with_len (n + 1) (length xs)))
+    (filter test (range_with_len (n + 1) (length xs)))) agree
     ∙ ap (λ (l : List ℕ). cond (passes_in q (numbered_at all n)) (n ∷ l) l) rest
 
-pub satisfying-same : (archives : List Archived) (q : Query) → satisfying (mail_told (table archives)) q ≡ satisfying (mail_in archives) q
+pub satisfying-same : (archives : List Archived) (q : Query) → satisfying (mail_told (table archives)) q
+    ≡ satisfying (mail_in archives) q
 satisfying-same archives q =
     let t : Table = table archives in
     let xs : List Numbered = numbered_messages 0 archives in
     ap (λ (count : ℕ). filter (λ i. is_true q (facts_at t i)) (range_with_len 0 count)) (count-same archives)
     ∙ told-at (λ i. is_true q (facts_at t i)) q xs [] xs 0 refl refl
-    (tells-from q t 0 [] xs refl (records-numbered 0 archives) (ap (λ (ms : List Message). with_messages 0 ms []) (messages-numbered 0 archives)))
+    (tells-from q t 0 [] xs refl (records-numbered 0 archives)
+    (ap (λ (ms : List Message). with_messages 0 ms []) (messages-numbered 0 archives)))
 
 -- ---- the messages that are chosen
 
@@ -103,39 +134,54 @@ module _ (linked other : ℕ → ℕ → Bool) (same : (m n : ℕ) → linked m 
   led-same : (numbers : List ℕ) (n : ℕ) → IsLedToBySome linked numbers n → IsLedToBySome other numbers n
   led-same numbers n given = (given.0, given.1, (given.2.0, chain-same given.0 n given.2.0 given.2.1))
 
-threads-same : (linked other : ℕ → ℕ → Bool) → ((m n : ℕ) → linked m n ≡ other m n) → (count : ℕ) (numbers members : List ℕ) → AreThreadsOf count linked numbers members → AreThreadsOf count other numbers members
+threads-same : (linked other : ℕ → ℕ → Bool) → ((m n : ℕ) → linked m n ≡ other m n)
+    → (count : ℕ) (numbers members : List ℕ) → AreThreadsOf count linked numbers members
+    → AreThreadsOf count other numbers members
 threads-same linked other same count numbers members are = record {
   rises = are.rises;
   each = λ n. (
-    λ (among : is_among n members ≡ true). let inside = (are.each n).0 among in (inside.0, led-same linked other same numbers n inside.1),
-    λ (given : (n < count) × IsLedToBySome other numbers n). (are.each n).1 (given.0, led-same other linked (λ m k. sym (same m k)) numbers n given.1),
+    λ (among : is_among n members ≡ true). let inside = (are.each n).0 among
+        in (inside.0, led-same linked other same numbers n inside.1),
+    λ (given : (n < count) × IsLedToBySome other numbers n). (are.each n).1
+        (given.0, led-same other linked (λ m k. sym (same m k)) numbers n given.1),
   );
 }
 
-chosen-by : (threads : Bool) (q : Query) (archives : List Archived) (numbers : List ℕ) → AreChosenBy threads (mail_told (table archives)) q numbers → AreChosenBy threads (mail_in archives) q numbers
+chosen-by : (threads : Bool) (q : Query) (archives : List Archived) (numbers : List ℕ)
+    → AreChosenBy threads (mail_told (table archives)) q numbers → AreChosenBy threads (mail_in archives) q numbers
 chosen-by false q archives numbers are = are ∙ satisfying-same archives q
 chosen-by true q archives numbers are =
-    subst (λ (ns : List ℕ). AreThreadsOf (mail_in archives).count (mail_in archives).linked ns numbers) (satisfying-same archives q)
-    (threads-same (are_linked (table archives)) (mail_in archives).linked (links-same archives) (mail_in archives).count (satisfying (mail_told (table archives)) q) numbers
-    (subst (λ (count : ℕ). AreThreadsOf count (are_linked (table archives)) (satisfying (mail_told (table archives)) q) numbers) (count-same archives) are))
+    subst (λ (ns : List ℕ). AreThreadsOf (mail_in archives).count (mail_in archives).linked ns numbers)
+    (satisfying-same archives q)
+    (threads-same (are_linked (table archives)) (mail_in archives).linked (links-same archives) (mail_in archives).count
+    (satisfying (mail_told (table archives)) q) numbers
+    (subst (λ (count : ℕ). AreThreadsOf count (are_linked (table archives)) (satisfying (mail_told (table archives)) q)
+    numbers) (count-same archives) are))
 
-chosen-back-by : (threads : Bool) (q : Query) (archives : List Archived) (numbers : List ℕ) → AreChosenBy threads (mail_in archives) q numbers → AreChosenBy threads (mail_told (table archives)) q numbers
+chosen-back-by : (threads : Bool) (q : Query) (archives : List Archived) (numbers : List ℕ)
+    → AreChosenBy threads (mail_in archives) q numbers → AreChosenBy threads (mail_told (table archives)) q numbers
 chosen-back-by false q archives numbers are = are ∙ sym (satisfying-same archives q)
 chosen-back-by true q archives numbers are =
-    subst (λ (count : ℕ). AreThreadsOf count (are_linked (table archives)) (satisfying (mail_told (table archives)) q) numbers) (sym (count-same archives))
-    (threads-same (mail_in archives).linked (are_linked (table archives)) (λ m n. sym (links-same archives m n)) (mail_in archives).count (satisfying (mail_told (table archives)) q) numbers
-    (subst (λ (ns : List ℕ). AreThreadsOf (mail_in archives).count (mail_in archives).linked ns numbers) (sym (satisfying-same archives q)) are))
+    subst (λ (count : ℕ). AreThreadsOf count (are_linked (table archives)) (satisfying (mail_told (table archives)) q)
+    numbers) (sym (count-same archives))
+    (threads-same (mail_in archives).linked (are_linked (table archives)) (λ m n. sym (links-same archives m n))
+    (mail_in archives).count (satisfying (mail_told (table archives)) q) numbers
+    (subst (λ (ns : List ℕ). AreThreadsOf (mail_in archives).count (mail_in archives).linked ns numbers)
+    (sym (satisfying-same archives q)) are))
 
-pub chosen-back : (archives : List Archived) (s : Search) (numbers : List ℕ) → AreChosen (mail_in archives) s numbers → AreChosen (mail_told (table archives)) s numbers
+pub chosen-back : (archives : List Archived) (s : Search) (numbers : List ℕ) → AreChosen (mail_in archives) s numbers
+    → AreChosen (mail_told (table archives)) s numbers
 chosen-back archives s numbers are = chosen-back-by s.threads s.query archives numbers are
 
-pub chosen-same : (archives : List Archived) (s : Search) (numbers : List ℕ) → AreChosen (mail_told (table archives)) s numbers → AreChosen (mail_in archives) s numbers
+pub chosen-same : (archives : List Archived) (s : Search) (numbers : List ℕ)
+    → AreChosen (mail_told (table archives)) s numbers → AreChosen (mail_in archives) s numbers
 chosen-same archives s numbers are = chosen-by s.threads s.query archives numbers are
 
 -- ---- how the messages are written
 
 shown-at : (format : Format) (named : List Archive) (held : List (List ℕ)) (xs : List Numbered) (n : ℕ)
-    → message_text format named held (record_at (map record_in xs) n) ≡ message_text format named held (record_in (numbered_at xs n))
+    → message_text format named held (record_at (map record_in xs) n)
+    ≡ message_text format named held (record_in (numbered_at xs n))
 shown-at Raw named held [] n = refl
 shown-at Excerpt named held [] n = refl
 shown-at Mbox named held [] n = refl
@@ -144,24 +190,36 @@ shown-at format named held (x ∷ xs) (suc n) = shown-at format named held xs n
 
 all-shown : (f g : ℕ → List ℕ) → ((n : ℕ) → f n ≡ g n) → (ns : List ℕ) → flat_map f ns ≡ flat_map g ns
 all-shown f g same [] = refl
-all-shown f g same (n ∷ ns) = ap (λ (l : List ℕ). l ++ flat_map f ns) (same n) ∙ ap (λ (l : List ℕ). g n ++ l) (all-shown f g same ns)
+all-shown f g same (n ∷ ns) = ap (λ (l : List ℕ). l ++ flat_map f ns) (same n)
+    ∙ ap (λ (l : List ℕ). g n ++ l) (all-shown f g same ns)
 
-pub shape-same : (archives : List Archived) (format : Format) (numbers : List ℕ) → answer_text format (table archives) (map (λ (a : Archived). a.bytes) archives) numbers ≡ shape archives format numbers
+pub shape-same : (archives : List Archived) (format : Format) (numbers : List ℕ)
+    → answer_text format (table archives) (map (λ (a : Archived). a.bytes) archives) numbers
+    ≡ shape archives format numbers
 shape-same archives format numbers =
-    all-shown (λ n. message_text format (map entry_of archives) (map (λ (a : Archived). a.bytes) archives) (record_at (table archives).messages n))
+    all-shown (λ n. message_text format (map entry_of archives) (map (λ (a : Archived). a.bytes) archives)
+    (record_at (table archives).messages n))
     (λ n. shape_of format archives (numbered_at (numbered_messages 0 archives) n))
-    (λ n. ap (λ (rs : List Record). message_text format (map entry_of archives) (map (λ (a : Archived). a.bytes) archives) (record_at rs n)) (records-numbered 0 archives)
-    ∙ shown-at format (map entry_of archives) (map (λ (a : Archived). a.bytes) archives) (numbered_messages 0 archives) n)
+    (λ n. ap (λ (rs : List Record). message_text format (map entry_of archives)
+    (map (λ (a : Archived). a.bytes) archives) (record_at rs n)) (records-numbered 0 archives)
+    ∙ shown-at format (map entry_of archives) (map (λ (a : Archived). a.bytes) archives) (numbered_messages 0 archives)
+    n)
     numbers
 
 -- ---- archives that are as they were indexed
 
-none-changed : (n : ℕ) (archives : List Archived) → first_changed n (map entry_of archives) (map (λ (a : Archived). a.bytes) archives) ≡ None
+none-changed : (n : ℕ) (archives : List Archived)
+    → first_changed n (map entry_of archives) (map (λ (a : Archived). a.bytes) archives) ≡ None
 none-changed n [] = refl
 none-changed n (a ∷ archives) =
-    ap (λ (b : Bool). cond b (first_changed (n + 1) (map entry_of archives) (map (λ (x : Archived). x.bytes) archives)) (Some n)) (eq-eqb (length a.bytes) (length a.bytes) refl) ∙ none-changed (n + 1) archives
+    ap (λ (b : Bool). cond b (first_changed (n + 1) (map entry_of archives) (map (λ (x : Archived). x.bytes) archives))
+    (Some n)) (eq-eqb (length a.bytes) (length a.bytes) refl) ∙ none-changed (n + 1) archives
 
-pub not-stale : (archives : List Archived) → stale_archive (table archives).archives (map (λ (a : Archived). a.bytes) archives) ≡ None
+pub not-stale : (archives : List Archived)
+    → stale_archive (table archives).archives (map (λ (a : Archived). a.bytes) archives) ≡ None
 not-stale archives =
-    let many : length (map (λ (a : Archived). a.bytes) archives) ≡ length (map entry_of archives) = length-map archives (λ (a : Archived). a.bytes) ∙ sym (length-map archives entry_of) in
-    ap (λ (b : Bool). cond b (first_changed 0 (map entry_of archives) (map (λ (a : Archived). a.bytes) archives)) (Some (min (length (map (λ (a : Archived). a.bytes) archives)) (length (map entry_of archives))))) (eq-eqb _ _ many) ∙ none-changed 0 archives
+    let many : length (map (λ (a : Archived). a.bytes) archives) ≡ length (map entry_of archives) =
+    length-map archives (λ (a : Archived). a.bytes) ∙ sym (length-map archives entry_of) in
+    ap (λ (b : Bool). cond b (first_changed 0 (map entry_of archives) (map (λ (a : Archived). a.bytes) archives))
+    (Some (min (length (map (λ (a : Archived). a.bytes) archives)) (length (map entry_of archives)))))
+    (eq-eqb _ _ many) ∙ none-changed 0 archives

@@ -1,5 +1,8 @@
 -- The keys of a table say about a message what its own terms say, because each term was added with its number.
-use Rattle.mairix_tool.proofs.Words.{◌≡◌, ◌∙◌, ℕ, zero, suc, ◌+◌, ◌<◌, Bool, true, false, cond, List, [], ◌∷◌, ◌++◌, length, map, filter, refl, ap, arith, ◌&&◌, ◌||◌, list_any, bytes_eq, bytes_eq-Decides, nat_tests, Kind, Key, KeyBefore, AllNext, is_of_kind, keys_of, is_among, texts_with, Message, text, Term, message_terms, with_messages}
+use Rattle.mairix_tool.proofs.Words.{◌≡◌, ◌∙◌, ℕ, zero, suc, ◌+◌, ◌<◌, Bool, true, false, cond, List, [], ◌∷◌, ◌++◌}
+use Rattle.mairix_tool.proofs.Words.{length, map, filter, refl, ap, arith, ◌&&◌, ◌||◌, list_any, bytes_eq}
+use Rattle.mairix_tool.proofs.Words.{bytes_eq-Decides, nat_tests, Kind, Key, KeyBefore, AllNext, is_of_kind, keys_of}
+use Rattle.mairix_tool.proofs.Words.{is_among, texts_with, Message, text, Term, message_terms, with_messages}
 use Rattle.std.specs.Cmp.{both_ways}
 use Rattle.mail_index.specs.LookUps.{is_key, numbers_at}
 use Rattle.index_job.specs.MessageTerms.{has_term}
@@ -26,9 +29,15 @@ terms-here (suc n) (x ∷ before) m after h = terms-here n before m after (omega
 module _ (kind : Kind) (term : List ℕ) where
   none-below : (n low : ℕ) (ms : List Message) → n < low → is_among n (numbers_from kind term low ms) ≡ false
   none-below n low [] h = refl
-  none-below n low (m ∷ ms) h = grind (arith, nat_tests, numbers-cons kind term low m ms, none-below n (suc low) ms (omega (arith, h)))
+  none-below n low (m ∷ ms) h = grind (
+    arith,
+    nat_tests,
+    numbers-cons kind term low m ms,
+    none-below n (suc low) ms (omega (arith, h)),
+  )
 
-  numbers-tell : (n low i : ℕ) (ms : List Message) → low + i ≡ n → is_among n (numbers_from kind term low ms) ≡ has_term kind term (terms_at i ms)
+  numbers-tell : (n low i : ℕ) (ms : List Message) → low + i ≡ n → is_among n (numbers_from kind term low ms)
+      ≡ has_term kind term (terms_at i ms)
   numbers-tell n low i [] h = refl
   numbers-tell n low zero (m ∷ ms) h =
       grind (arith, nat_tests, numbers-cons kind term low m ms, none-below n (suc low) ms (omega (arith, h)))
@@ -48,12 +57,15 @@ texts-say kind n passes [] = refl
 texts-say kind n passes (k ∷ ks) = go (is_of_kind kind k) (texts-say kind n passes ks)
   where
     with_number_too : (among : Bool) → list_any passes (texts_with kind n ks) ≡ list_any (says kind n passes) ks
-        → list_any passes (map (λ (key : Key). key.text) (cond among (k ∷ filter (λ key. is_among n key.numbers) (keys_of kind ks)) (filter (λ key. is_among n key.numbers) (keys_of kind ks))))
+        → list_any passes (map (λ (key : Key). key.text)
+        (cond among (k ∷ filter (λ key. is_among n key.numbers) (keys_of kind ks))
+        (filter (λ key. is_among n key.numbers) (keys_of kind ks))))
         ≡ ((among && passes k.text) || list_any (says kind n passes) ks)
     with_number_too among h = grind arith
 
     go : (of : Bool) → list_any passes (texts_with kind n ks) ≡ list_any (says kind n passes) ks
-        → list_any passes (map (λ (key : Key). key.text) (filter (λ key. is_among n key.numbers) (cond of (k ∷ keys_of kind ks) (keys_of kind ks))))
+        → list_any passes (map (λ (key : Key). key.text)
+        (filter (λ key. is_among n key.numbers) (cond of (k ∷ keys_of kind ks) (keys_of kind ks))))
         ≡ ((of && (is_among n k.numbers && passes k.text)) || list_any (says kind n passes) ks)
     go of h = grind (arith, with_number_too)
 
@@ -68,7 +80,8 @@ module _ (kind : Kind) (n : ℕ) (passes : List ℕ → Bool) where
   key-found [] sorted e = absurd cc
   key-found (k ∷ ks) sorted e = go (says kind n passes k) refl e (key-found ks (rest-sorted k ks sorted))
     where
-      other : (term : List ℕ) → is_among n (numbers_at kind term ks) ≡ true → is_among n (numbers_at kind term (k ∷ ks)) ≡ true
+      other : (term : List ℕ) → is_among n (numbers_at kind term ks) ≡ true → is_among n (numbers_at kind term (k ∷ ks))
+          ≡ true
       other term h = by_key (is_key kind term k) refl
         where
           by_key : (b : Bool) → is_key kind term k ≡ b → is_among n (numbers_at kind term (k ∷ ks)) ≡ true
@@ -89,13 +102,15 @@ module _ (kind : Kind) (n : ℕ) (passes : List ℕ → Bool) where
   key-says term h [] e = absurd cc
   key-says term h (k ∷ ks) e = go (is_key kind term k) refl (key-says term h ks)
     where
-      go : (b : Bool) → is_key kind term k ≡ b → (is_among n (numbers_at kind term ks) ≡ true → list_any (says kind n passes) ks ≡ true)
+      go : (b : Bool) → is_key kind term k ≡ b
+          → (is_among n (numbers_at kind term ks) ≡ true → list_any (says kind n passes) ks ≡ true)
           → list_any (says kind n passes) (k ∷ ks) ≡ true
       go true is rest = grind (arith, key-same kind term k is)
       go false is rest = grind (arith, rest)
 
   -- from the terms
-  term-found : (ts : List Term) → list_any (term_says kind passes) ts ≡ true → SomePasses passes (λ term. has_term kind term ts)
+  term-found : (ts : List Term) → list_any (term_says kind passes) ts ≡ true
+      → SomePasses passes (λ term. has_term kind term ts)
   term-found [] e = absurd cc
   term-found (t ∷ ts) e = go (term_says kind passes t) refl e (term-found ts)
     where
@@ -117,13 +132,15 @@ module _ (kind : Kind) (n : ℕ) (passes : List ℕ → Bool) where
   pub keys-at : (ms : List Message)
       → list_any passes (texts_with kind n (with_messages 0 ms [])) ≡ list_any (term_says kind passes) (terms_at n ms)
   keys-at ms =
-      texts-say kind n passes ks ∙ both_ways (list_any (says kind n passes) ks) (list_any (term_says kind passes) (terms_at n ms)) there back
+      texts-say kind n passes ks ∙ both_ways (list_any (says kind n passes) ks)
+      (list_any (term_says kind passes) (terms_at n ms)) there back
     where
       ks : List Key
       ks = with_messages 0 ms []
 
       same : (term : List ℕ) → is_among n (numbers_at kind term ks) ≡ has_term kind term (terms_at n ms)
-      same term = ap (is_among n) (messages-at kind term 0 ms [] tt (omega arith)) ∙ numbers-tell kind term n 0 n ms (omega arith)
+      same term = ap (is_among n) (messages-at kind term 0 ms [] tt (omega arith))
+          ∙ numbers-tell kind term n 0 n ms (omega arith)
 
       there : list_any (says kind n passes) ks ≡ true → list_any (term_says kind passes) (terms_at n ms) ≡ true
       there e =
@@ -135,5 +152,7 @@ module _ (kind : Kind) (n : ℕ) (passes : List ℕ → Bool) where
 
   -- one message between the others
   pub keys-say : (before : List Message) (m : Message) (after : List Message) → length before ≡ n
-      → list_any passes (texts_with kind n (with_messages 0 (before ++ m ∷ after) [])) ≡ list_any (term_says kind passes) (message_terms (text m))
-  keys-say before m after h = keys-at (before ++ m ∷ after) ∙ ap (list_any (term_says kind passes)) (terms-here n before m after h)
+      → list_any passes (texts_with kind n (with_messages 0 (before ++ m ∷ after) []))
+      ≡ list_any (term_says kind passes) (message_terms (text m))
+  keys-say before m after h = keys-at (before ++ m ∷ after)
+      ∙ ap (list_any (term_says kind passes)) (terms-here n before m after h)

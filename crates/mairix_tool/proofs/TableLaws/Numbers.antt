@@ -1,5 +1,10 @@
 -- The table of archives and the messages themselves give the same numbers for a query, message by message.
-use Rattle.mairix_tool.proofs.Words.{◌≡◌, ◌∙◌, ℕ, suc, ◌+◌, Bool, List, [], ◌∷◌, ◌++◌, length, map, refl, sym, ap, append_assoc, list_any, map-append, length-map, length_push, get_or_at, fields_of, Message, text, Text, OwnId, Record, Key, Table, texts_with, facts_at, record_at, no_record, Query, is_true, facts_of, texts_of_message, Mbox, messages_in, all_messages, record_of, records_from, with_messages, Numbered, numbered_messages, facts_of_message}
+use Rattle.mairix_tool.proofs.Words.{◌≡◌, ◌∙◌, ℕ, suc, ◌+◌, Bool, List, [], ◌∷◌, ◌++◌, length, map, refl, sym, ap}
+use Rattle.mairix_tool.proofs.Words.{append_assoc, list_any, map-append, length-map, length_push, get_or_at, fields_of}
+use Rattle.mairix_tool.proofs.Words.{Message, text, Text, OwnId, Record, Key, Table, texts_with, facts_at, record_at}
+use Rattle.mairix_tool.proofs.Words.{no_record, Query, is_true, facts_of, texts_of_message, Mbox, messages_in}
+use Rattle.mairix_tool.proofs.Words.{all_messages, record_of, records_from, with_messages, Numbered, numbered_messages}
+use Rattle.mairix_tool.proofs.Words.{facts_of_message}
 use Rattle.mairix_tool.proofs.TableLaws.Truth.{SaysTheSame, truth-same}
 use Rattle.mairix_tool.proofs.TableLaws.Terms.{terms-say-words, terms-say-own}
 use Rattle.mairix_tool.proofs.TableLaws.Messages.{keys-say}
@@ -17,11 +22,13 @@ passes_in q x = is_true q (facts_of_message x.1)
 -- ---- the archives as their numbered messages
 
 -- all messages are the numbered ones
-pub messages-numbered : (n : ℕ) (archives : List Mbox) → all_messages archives ≡ map message_in (numbered_messages n archives)
+pub messages-numbered : (n : ℕ) (archives : List Mbox) → all_messages archives
+    ≡ map message_in (numbered_messages n archives)
 messages-numbered n [] = refl
 messages-numbered n (a ∷ archives) =
     ap (λ (ms : List Message). messages_in a.bytes ++ ms) (messages-numbered (suc n) archives)
-    ∙ ap (λ (ms : List Message). ms ++ map message_in (numbered_messages (suc n) archives)) (alone (messages_in a.bytes))
+    ∙ ap (λ (ms : List Message). ms ++ map message_in (numbered_messages (suc n) archives))
+    (alone (messages_in a.bytes))
     ∙ sym (map-append message_in (map (λ m. (n, m)) (messages_in a.bytes)) (numbered_messages (suc n) archives))
   where
     alone : (ms : List Message) → ms ≡ map message_in (map (λ (m : Message). (n, m)) ms)
@@ -29,7 +36,8 @@ messages-numbered n (a ∷ archives) =
     alone (m ∷ ms) = ap (λ (rest : List Message). m ∷ rest) (alone ms)
 
 -- the records are those of the numbered messages
-pub records-numbered : (n : ℕ) (archives : List Mbox) → records_from n archives ≡ map record_in (numbered_messages n archives)
+pub records-numbered : (n : ℕ) (archives : List Mbox) → records_from n archives
+    ≡ map record_in (numbered_messages n archives)
 records-numbered n [] = refl
 records-numbered n (a ∷ archives) =
     ap (λ (rs : List Record). map (record_of n) (messages_in a.bytes) ++ rs) (records-numbered (suc n) archives)
@@ -50,11 +58,14 @@ AllTell test q n (x ∷ xs) = (test n ≡ passes_in q x) × AllTell test q (n + 
 -- ---- the table
 
 -- a table with the keys of these messages says about one of them what it says itself, if its record is at its number
-facts-told : (t : Table) (n archive : ℕ) (before : List Message) (x : Message) (after : List Message) → length before ≡ n
-    → t.keys ≡ with_messages 0 (before ++ x ∷ after) [] → record_at t.messages n ≡ record_of archive x → SaysTheSame (facts_at t n) (facts_of_message x)
+facts-told : (t : Table) (n archive : ℕ) (before : List Message) (x : Message) (after : List Message) → length before
+    ≡ n
+    → t.keys ≡ with_messages 0 (before ++ x ∷ after) [] → record_at t.messages n ≡ record_of archive x
+    → SaysTheSame (facts_at t n) (facts_of_message x)
 facts-told t n archive before x after h keys known = record {
   words = λ kind passes.
-      ap (λ (ks : List Key). list_any passes (texts_with (Text kind) n ks)) keys ∙ keys-say (Text kind) n passes before x after h
+      ap (λ (ks : List Key). list_any passes (texts_with (Text kind) n ks)) keys
+      ∙ keys-say (Text kind) n passes before x after h
       ∙ terms-say-words kind passes (texts_of_message (text x)) (facts_of (fields_of (text x)));
   own_ids = λ passes.
       ap (λ (ks : List Key). list_any passes (texts_with OwnId n ks)) keys ∙ keys-say OwnId n passes before x after h
@@ -72,12 +83,15 @@ tells-from q t n before [] h records keys = tt
 tells-from q t n before (x ∷ rest) h records keys =
     let known : record_at t.messages n ≡ record_in x =
     ap (λ (rs : List Record). record_at rs n) (records ∙ map-append record_in before (x ∷ rest))
-    ∙ get_or_at (map record_in before) (record_in x) (map record_in rest) no_record n (length-map before record_in ∙ h) in
+    ∙ get_or_at (map record_in before) (record_in x) (map record_in rest) no_record n (length-map before record_in ∙ h)
+    in
     let keys-here : t.keys ≡ with_messages 0 (map message_in before ++ message_in x ∷ map message_in rest) [] =
     keys ∙ ap (λ (ms : List Message). with_messages 0 ms []) (map-append message_in before (x ∷ rest)) in
     let regrouped : before ++ x ∷ rest ≡ (before ++ x ∷ []) ++ rest = sym (append_assoc before (x ∷ []) rest) in (
       truth-same q (facts_at t n) (facts_of_message (message_in x))
-          (facts-told t n x.0 (map message_in before) (message_in x) (map message_in rest) (length-map before message_in ∙ h) keys-here known),
+          (facts-told t n x.0 (map message_in before) (message_in x) (map message_in rest)
+          (length-map before message_in ∙ h) keys-here known),
       tells-from q t (n + 1) (before ++ x ∷ []) rest (length_push before x ∙ ap (λ (i : ℕ). i + 1) h)
-          (records ∙ ap (map record_in) regrouped) (keys ∙ ap (λ (xs : List Numbered). with_messages 0 (map message_in xs) []) regrouped),
+          (records ∙ ap (map record_in) regrouped)
+          (keys ∙ ap (λ (xs : List Numbered). with_messages 0 (map message_in xs) []) regrouped),
     )

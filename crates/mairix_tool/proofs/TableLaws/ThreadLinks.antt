@@ -1,5 +1,8 @@
 -- The table of archives links two messages exactly if they share a link id, because no two keys have the same id.
-use Rattle.mairix_tool.proofs.Words.{◌≡◌, ◌∙◌, ℕ, Bool, true, false, cond, ◌&&◌, ◌||◌, List, [], ◌∷◌, map, filter, refl, sym, ap, subst, arith, list_any, Less, Equal, eqb-true, bytes_eq-Decides, Kind, LinkId, kind_number, Key, KeyBefore, AllNext, is_of_kind, keys_of, is_among, texts_with, share_id}
+use Rattle.mairix_tool.proofs.Words.{◌≡◌, ◌∙◌, ℕ, Bool, true, false, cond, ◌&&◌, ◌||◌, List, [], ◌∷◌, map, filter, refl}
+use Rattle.mairix_tool.proofs.Words.{sym, ap, subst, arith, list_any, Less, Equal, eqb-true, bytes_eq-Decides, Kind}
+use Rattle.mairix_tool.proofs.Words.{LinkId, kind_number, Key, KeyBefore, AllNext, is_of_kind, keys_of, is_among}
+use Rattle.mairix_tool.proofs.Words.{texts_with, share_id}
 use Rattle.std.specs.Str.{bytes_eq}
 use Rattle.std.proofs.lemmas.Cmp.{nat_list_cmp_total, tied_itself}
 use Rattle.mail_index.specs.OrderOfKeys.{key_cmp}
@@ -40,12 +43,15 @@ new-of n text (k ∷ ks) new = go (is_among n k.numbers) (λ later. new-of n tex
     both = or-none (bytes_eq text k.text) (list_any (λ (j : Key). bytes_eq text j.text) ks) new
 
     go : (b : Bool) → (IsNew text ks → list_any (bytes_eq text) (texts_of n ks) ≡ false)
-        → list_any (bytes_eq text) (map (λ (j : Key). j.text) (cond b (k ∷ filter (λ (j : Key). is_among n j.numbers) ks) (filter (λ (j : Key). is_among n j.numbers) ks))) ≡ false
+        → list_any (bytes_eq text) (map (λ (j : Key). j.text)
+        (cond b (k ∷ filter (λ (j : Key). is_among n j.numbers) ks)
+        (filter (λ (j : Key). is_among n j.numbers) ks))) ≡ false
     go true rest = ap (λ (b : Bool). b || list_any (bytes_eq text) (texts_of n ks)) both.0 ∙ rest both.1
     go false rest = rest both.1
 
 -- the texts of these keys share a new text with no others
-without-new : (m : ℕ) (text : List ℕ) (others : List (List ℕ)) (ks : List Key) → IsNew text ks → share_id (texts_of m ks) (text ∷ others) ≡ share_id (texts_of m ks) others
+without-new : (m : ℕ) (text : List ℕ) (others : List (List ℕ)) (ks : List Key) → IsNew text ks
+    → share_id (texts_of m ks) (text ∷ others) ≡ share_id (texts_of m ks) others
 without-new m text others [] new = refl
 without-new m text others (k ∷ ks) new = go (is_among m k.numbers) (λ later. without-new m text others ks later)
   where
@@ -56,15 +62,18 @@ without-new m text others (k ∷ ks) new = go (is_among m k.numbers) (λ later. 
     rest = filter (λ (j : Key). is_among m j.numbers) ks
 
     go : (b : Bool) → (IsNew text ks → share_id (texts_of m ks) (text ∷ others) ≡ share_id (texts_of m ks) others)
-        → share_id (map (λ (j : Key). j.text) (cond b (k ∷ rest) rest)) (text ∷ others) ≡ share_id (map (λ (j : Key). j.text) (cond b (k ∷ rest) rest)) others
+        → share_id (map (λ (j : Key). j.text) (cond b (k ∷ rest) rest)) (text ∷ others)
+        ≡ share_id (map (λ (j : Key). j.text) (cond b (k ∷ rest) rest)) others
     go true later =
-        ap (λ (b : Bool). (b || list_any (bytes_eq k.text) others) || share_id (texts_of m ks) (text ∷ others)) (bytes-turned text k.text both.0)
+        ap (λ (b : Bool). (b || list_any (bytes_eq k.text) others) || share_id (texts_of m ks) (text ∷ others))
+        (bytes-turned text k.text both.0)
         ∙ ap (λ (b : Bool). list_any (bytes_eq k.text) others || b) (later both.1)
     go false later = later both.1
 
 -- ---- a key has both numbers exactly if both have a common text
 
-both-keys : (m n : ℕ) (ks : List Key) → AreApart ks → list_any (λ (k : Key). is_among m k.numbers && is_among n k.numbers) ks ≡ share_id (texts_of m ks) (texts_of n ks)
+both-keys : (m n : ℕ) (ks : List Key) → AreApart ks
+    → list_any (λ (k : Key). is_among m k.numbers && is_among n k.numbers) ks ≡ share_id (texts_of m ks) (texts_of n ks)
 both-keys m n [] apart = refl
 both-keys m n (k ∷ ks) apart = go (is_among m k.numbers) (is_among n k.numbers) (both-keys m n ks apart.1)
   where
@@ -74,18 +83,22 @@ both-keys m n (k ∷ ks) apart = go (is_among m k.numbers) (is_among n k.numbers
     ns : List Key
     ns = filter (λ (j : Key). is_among n j.numbers) ks
 
-    go : (a b : Bool) → list_any (λ (j : Key). is_among m j.numbers && is_among n j.numbers) ks ≡ share_id (texts_of m ks) (texts_of n ks)
+    go : (a b : Bool) → list_any (λ (j : Key). is_among m j.numbers && is_among n j.numbers) ks
+        ≡ share_id (texts_of m ks) (texts_of n ks)
         → ((a && b) || list_any (λ (j : Key). is_among m j.numbers && is_among n j.numbers) ks)
         ≡ share_id (map (λ (j : Key). j.text) (cond a (k ∷ ms) ms)) (map (λ (j : Key). j.text) (cond b (k ∷ ns) ns))
-    go true true e = sym (ap (λ (b : Bool). (b || list_any (bytes_eq k.text) (texts_of n ks)) || share_id (texts_of m ks) (k.text ∷ texts_of n ks)) (bytes-same k.text))
-    go true false e = e ∙ sym (ap (λ (b : Bool). b || share_id (texts_of m ks) (texts_of n ks)) (new-of n k.text ks apart.0))
+    go true true e = sym (ap (λ (b : Bool). (b || list_any (bytes_eq k.text) (texts_of n ks)) || share_id
+        (texts_of m ks) (k.text ∷ texts_of n ks)) (bytes-same k.text))
+    go true false e = e ∙ sym (ap (λ (b : Bool). b || share_id (texts_of m ks) (texts_of n ks))
+        (new-of n k.text ks apart.0))
     go false true e = e ∙ sym (without-new m k.text (texts_of n ks) ks apart.0)
     go false false e = e
 
 -- ---- sorted keys of a kind have different texts
 
 before-through : (a b c : Key) → KeyBefore a b → KeyBefore b c → KeyBefore a c
-before-through a b c one two = nat_list_cmp_total.trans (kind_number a.kind ∷ a.text) (kind_number b.kind ∷ b.text) (kind_number c.kind ∷ c.text) one two
+before-through a b c one two = nat_list_cmp_total.trans (kind_number a.kind ∷ a.text) (kind_number b.kind ∷ b.text)
+    (kind_number c.kind ∷ c.text) one two
 
 -- the key comes before each of these
 abbrev pub BeforeAll : Key → List Key → Type 0
@@ -102,39 +115,49 @@ below-all a ks h = grind (arith, before-all)
 pub rest-sorted : (a : Key) (ks : List Key) → AllNext KeyBefore (a ∷ ks) → AllNext KeyBefore ks
 rest-sorted a ks h = grind arith
 
-not-same-text : (kind : Kind) (a k : Key) → is_of_kind kind a ≡ true → is_of_kind kind k ≡ true → KeyBefore a k → bytes_eq a.text k.text ≡ false
+not-same-text : (kind : Kind) (a k : Key) → is_of_kind kind a ≡ true → is_of_kind kind k ≡ true → KeyBefore a k
+    → bytes_eq a.text k.text ≡ false
 not-same-text kind a k of_a of_k before = go (bytes_eq a.text k.text) refl
   where
     kinds : kind_number a.kind ≡ kind_number k.kind
-    kinds = eqb-true (kind_number a.kind) (kind_number kind) of_a ∙ sym (eqb-true (kind_number k.kind) (kind_number kind) of_k)
+    kinds = eqb-true (kind_number a.kind) (kind_number kind) of_a
+        ∙ sym (eqb-true (kind_number k.kind) (kind_number kind) of_k)
 
     -- a key doesn't come before itself
     never : KeyBefore a k → a.text ≡ k.text → ⊥
     never first same =
-        let itself : key_cmp (kind_number k.kind) k.text (kind_number k.kind) k.text ≡ Less = subst (λ (x : List ℕ). key_cmp (kind_number k.kind) x (kind_number k.kind) k.text ≡ Less) same (subst (λ (n : ℕ). key_cmp n a.text (kind_number k.kind) k.text ≡ Less) kinds first) in
-        let tie : key_cmp (kind_number k.kind) k.text (kind_number k.kind) k.text ≡ Equal = tied_itself nat_list_cmp_total (kind_number k.kind ∷ k.text) in
+        let itself : key_cmp (kind_number k.kind) k.text (kind_number k.kind) k.text ≡ Less =
+        subst (λ (x : List ℕ). key_cmp (kind_number k.kind) x (kind_number k.kind) k.text ≡ Less) same
+        (subst (λ (n : ℕ). key_cmp n a.text (kind_number k.kind) k.text ≡ Less) kinds first) in
+        let tie : key_cmp (kind_number k.kind) k.text (kind_number k.kind) k.text ≡ Equal =
+        tied_itself nat_list_cmp_total (kind_number k.kind ∷ k.text) in
         cc
 
     go : (b : Bool) → bytes_eq a.text k.text ≡ b → bytes_eq a.text k.text ≡ false
     go b h = grind (arith, never, bytes_eq-Decides)
 
-new-among : (kind : Kind) (a : Key) (ks : List Key) → is_of_kind kind a ≡ true → BeforeAll a ks → IsNew a.text (keys_of kind ks)
+new-among : (kind : Kind) (a : Key) (ks : List Key) → is_of_kind kind a ≡ true → BeforeAll a ks
+    → IsNew a.text (keys_of kind ks)
 new-among kind a [] of_a before = refl
 new-among kind a (k ∷ ks) of_a before = go (is_of_kind kind k) refl (new-among kind a ks of_a before.1)
   where
-    go : (b : Bool) → is_of_kind kind k ≡ b → IsNew a.text (keys_of kind ks) → list_any (λ (j : Key). bytes_eq a.text j.text) (cond b (k ∷ keys_of kind ks) (keys_of kind ks)) ≡ false
-    go true is later = ap (λ (b : Bool). b || list_any (λ (j : Key). bytes_eq a.text j.text) (keys_of kind ks)) (not-same-text kind a k of_a is before.0) ∙ later
+    go : (b : Bool) → is_of_kind kind k ≡ b → IsNew a.text (keys_of kind ks)
+        → list_any (λ (j : Key). bytes_eq a.text j.text) (cond b (k ∷ keys_of kind ks) (keys_of kind ks)) ≡ false
+    go true is later = ap (λ (b : Bool). b || list_any (λ (j : Key). bytes_eq a.text j.text) (keys_of kind ks))
+        (not-same-text kind a k of_a is before.0) ∙ later
     go false is later = later
 
 pub sorted-apart : (kind : Kind) (ks : List Key) → AllNext KeyBefore ks → AreApart (keys_of kind ks)
 sorted-apart kind [] sorted = tt
 sorted-apart kind (k ∷ ks) sorted = go (is_of_kind kind k) refl (λ rest. sorted-apart kind ks rest)
   where
-    go : (b : Bool) → is_of_kind kind k ≡ b → (AllNext KeyBefore ks → AreApart (keys_of kind ks)) → AreApart (cond b (k ∷ keys_of kind ks) (keys_of kind ks))
+    go : (b : Bool) → is_of_kind kind k ≡ b → (AllNext KeyBefore ks → AreApart (keys_of kind ks))
+        → AreApart (cond b (k ∷ keys_of kind ks) (keys_of kind ks))
     go true is later = (new-among kind k ks is (below-all k ks sorted), later (rest-sorted k ks sorted))
     go false is later = later (rest-sorted k ks sorted)
 
 -- a link id of sorted keys has both numbers exactly if both have a common link id
 pub linked-by-texts : (m n : ℕ) (ks : List Key) → AllNext KeyBefore ks
-    → list_any (λ (k : Key). is_among m k.numbers && is_among n k.numbers) (keys_of LinkId ks) ≡ share_id (texts_with LinkId m ks) (texts_with LinkId n ks)
+    → list_any (λ (k : Key). is_among m k.numbers && is_among n k.numbers) (keys_of LinkId ks)
+    ≡ share_id (texts_with LinkId m ks) (texts_with LinkId n ks)
 linked-by-texts m n ks sorted = both-keys m n (keys_of LinkId ks) (sorted-apart LinkId ks sorted)

@@ -9,7 +9,8 @@ use Rattle.run_faults.specs.Faults.{fault_in, is_failed_archives, is_failed_out,
 use Rattle.run_faults.specs.declared.fault.Fault.{Fault}
 
 -- an index was searched, over archives and into an output
-pub record AsksIndex {A O T : Type 0} (g : Ghosts A) (h : OutGhosts O) (search : Search) (old new : A) (before after : O) (result : Result T Fault) : Type 0 where
+pub record AsksIndex {A O T : Type 0} (g : Ghosts A) (h : OutGhosts O) (search : Search) (old new : A)
+    (before after : O) (result : Result T Fault) : Type 0 where
   -- only a fault of an answer is returned
   pub own : IfErr result IsOfAnswer
   pub raw : KeepsRawBack search (fault_in result) before after

@@ -1,5 +1,6 @@
 -- The state of a window on a source, and how its calls change it.
-use Rattle.std.specs.Prelude.{◌≡◌, ℕ, ◌++◌, ◌+◌, ◌<◌, ◌≤◌, Bool, List, Option, Some, IfSome, Result, MatchResult, length, take, drop}
+use Rattle.std.specs.Prelude.{◌≡◌, ℕ, ◌++◌, ◌+◌, ◌<◌, ◌≤◌, Bool, List, Option, Some, IfSome, Result, MatchResult}
+use Rattle.std.specs.Prelude.{length, take, drop}
 use Rattle.std.specs.Io.KnownBytes.{Consumes, Keeps, IsAtEnd, prepend_known}
 use Rattle.std.specs.Borrow.{MutBor}
 use Rattle.contract_words.specs.Devices.{Counted}
@@ -33,7 +34,8 @@ Extends old new = (more : List ℕ) × (new ≡ old ++ more)
 abbrev pub ReadsBehind : ℕ → Option (List ℕ) → Option (List ℕ) → Result ℕ DeviceFault → List ℕ → List ℕ → Type 0
 ReadsBehind held old new result before after =
     MatchResult result
-    (λ n. (got : List ℕ) × (held + n ≤ length before) × (length got ≡ n) × (take (held + n) after ≡ take held before ++ got) × Consumes old new got × (n ≡ 0 → IsAtEnd new))
+    (λ n. (got : List ℕ) × (held + n ≤ length before) × (length got ≡ n)
+    × (take (held + n) after ≡ take held before ++ got) × Consumes old new got × (n ≡ 0 → IsAtEnd new))
     (λ _. Keeps old new × (take held after ≡ take held before))
 
 -- how a call that takes no byte changes a window: it may read more

@@ -1,5 +1,6 @@
 -- The state of a scan, which finds the steps of a cutter, and how a step changes it.
-use Rattle.std.specs.Prelude.{◌≡◌, ℕ, ◌+◌, ◌<◌, ◌≤◌, Bool, ◌||◌, nat_eq, take, drop, List, Option, Result, Ok, Err, IfOk, IfErr, IfSome}
+use Rattle.std.specs.Prelude.{◌≡◌, ℕ, ◌+◌, ◌<◌, ◌≤◌, Bool, ◌||◌, nat_eq, take, drop, List, Option, Result, Ok, Err}
+use Rattle.std.specs.Prelude.{IfOk, IfErr, IfSome}
 use Rattle.std.specs.Io.KnownBytes.{IsAtEnd}
 use Rattle.contract_words.specs.Devices.{Counted}
 use Rattle.mbox_cutter.specs.declared.event.CutFault.{CutFault}
@@ -107,7 +108,8 @@ module _ {S : Type 0} (g : Ghosts S) where
     -- the limit stays
     pub most : new.most ≡ old.most
     -- if it is known what comes, the event is the first that comes, and a refusal is the archive's
-    pub answers : Answers (still_known (coming g.rest old) (g.rest new.window.source.now)) (told_result new.window.line result) (coming g.rest new)
+    pub answers : Answers (still_known (coming g.rest old) (g.rest new.window.source.now))
+        (told_result new.window.line result) (coming g.rest new)
     -- the place moves as the event says
     pub moves : IfOk result (λ step. Moves (told_at step new.window.line) (place_of old) (place_of new))
     -- the line of an event, if it has one, is a line

@@ -10,7 +10,8 @@ use Rattle.mime_text.specs.Sinks.{Pair, Coming, TakesAll, Breaks}
 abbrev pub IsOver : Coming → Type 0
 IsOver c = (ms : List (List ℕ)) → c ms ≡ []
 
-module _ {S : Type 0} (takes : S → TextKind → List ℕ → S → Type 0) (refuses : S → TextKind → List ℕ → SinkFault → S → Type 0) where
+module _ {S : Type 0} (takes : S → TextKind → List ℕ → S → Type 0)
+    (refuses : S → TextKind → List ℕ → SinkFault → S → Type 0) where
   -- the sink takes some pairs: whatever could come before the call, it is these pairs and then what can come after the
   -- call; `seen` says what the call has learned of the lines to come
   pub record Passed (before after : Coming → Type 0) (seen : Coming → Coming) (old new : S) : Type 0 where
@@ -19,11 +20,14 @@ module _ {S : Type 0} (takes : S → TextKind → List ℕ → S → Type 0) (re
     pub rest : (c : Coming) → before c → (d : Coming) × after d × ((ms : List (List ℕ)) → seen c ms ≡ pairs ++ d ms)
 
   -- the sink is given some pairs, and then a fault comes: whatever could come begins with these pairs
-  pub record Stopped (before : Coming → Type 0) (seen : Coming → Coming) (fault : TextFault) (old new : S) : Type 0 where
-    pub pairs : List Pair
-    pub broken : Breaks takes refuses fault pairs old new
-    pub front : (c : Coming) → before c → (ms : List (List ℕ)) → (later : List Pair) × (seen c ms ≡ pairs ++ later)
+  pub record Stopped (before : Coming → Type 0) (seen : Coming → Coming) (fault : TextFault) (old new : S) : Type 0
+    where
+      pub pairs : List Pair
+      pub broken : Breaks takes refuses fault pairs old new
+      pub front : (c : Coming) → before c → (ms : List (List ℕ)) → (later : List Pair) × (seen c ms ≡ pairs ++ later)
 
   -- a call passes some of what comes to the sink, as Passed says; at a fault as Stopped says
-  abbrev pub Passes : {T : Type 0} → (Coming → Type 0) → (Coming → Type 0) → (Coming → Coming) → Result T TextFault → S → S → Type 0
-  Passes before after seen result old new = MatchResult result (λ _. Passed before after seen old new) (λ fault. Stopped before seen fault old new)
+  abbrev pub Passes : {T : Type 0} → (Coming → Type 0) → (Coming → Type 0) → (Coming → Coming) → Result T TextFault → S
+      → S → Type 0
+  Passes before after seen result old new =
+      MatchResult result (λ _. Passed before after seen old new) (λ fault. Stopped before seen fault old new)

@@ -6,7 +6,8 @@ use Rattle.mime_text.specs.declared.fault.SinkFault.{SinkFault}
 use Rattle.mime_text.specs.declared.fault.TextFault.{TextFault}
 use Rattle.mime_text.specs.declared.fault.TextFault.TheVariants.{OutOfMemory, Sink, Failed}
 
-module _ {S : Type 0} (takes : S → TextKind → List ℕ → S → Type 0) (refuses : S → TextKind → List ℕ → SinkFault → S → Type 0) where
+module _ {S : Type 0} (takes : S → TextKind → List ℕ → S → Type 0)
+    (refuses : S → TextKind → List ℕ → SinkFault → S → Type 0) where
   -- no text was taken: memory ran out before it was given and the sink is as before, or the sink refused it
   abbrev pub Stops : TextFault → TextKind → List ℕ → S → S → Type 0
   Stops OutOfMemory kind text old new = new ≡ old
@@ -15,4 +16,5 @@ module _ {S : Type 0} (takes : S → TextKind → List ℕ → S → Type 0) (re
 
   -- the sink is given one text, which it takes if the call succeeds
   abbrev pub Shows : {T : Type 0} → TextKind → List ℕ → Result T TextFault → S → S → Type 0
-  Shows kind text result old new = MatchResult result (λ _. takes old kind text new) (λ fault. Stops fault kind text old new)
+  Shows kind text result old new = MatchResult result (λ _. takes old kind text new)
+      (λ fault. Stops fault kind text old new)

@@ -1,3 +1,4 @@
+-- All bytes so far are symbols, so each whole group before this place has only symbols.
 use Rattle.header_text.proofs.Words.{◌≡◌, ℕ, ◌<◌, true, slice_index, is_symbol}
 use Rattle.header_text.proofs.base64_groups.whole_groups.Given as goal
 

@@ -1,3 +1,5 @@
+-- `before_blanks` takes blanks off the end one by one, because the last byte that isn't a blank ends what the
+-- definition keeps.
 use Rattle.header_text.proofs.Words.{arith, nil_from_length}
 use Rattle.header_text.proofs.Fronts.{before_blanks-last, before_blanks-stops, before_blanks-nil}
 use Rattle.header_text.proofs.blanks.before_blanks.Goals as goal

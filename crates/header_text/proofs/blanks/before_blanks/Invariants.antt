@@ -1,3 +1,4 @@
+-- The rest has the same bytes before its blanks as the whole. The loop ends because each turn takes one blank away.
 use Rattle.header_text.proofs.Words.{◌≡◌, length}
 use Rattle.header_text.specs.Blanks.{before_blanks as before_blanks_of}
 use Rattle.header_text.proofs.blanks.before_blanks.Given as goal

@@ -1,3 +1,4 @@
+-- No label so far fits, so those that are left decide.
 use Rattle.header_text.proofs.Words.{◌≡◌, drop, charset_named}
 use Rattle.header_text.proofs.WordLaws.CharsetLemmas.{labelled}
 use Rattle.header_text.proofs.charset.charset_named.Given as goal

@@ -1,3 +1,4 @@
+-- All bytes are blanks exactly if nothing is left after the blanks at the front: induction over the bytes.
 use Rattle.header_text.proofs.Words.{◌≡◌, ◌==◌, ℕ, List, [], ◌∷◌, length, refl, arith}
 use Rattle.std.specs.List.{list_all}
 use Rattle.header_text.specs.Blanks.{is_blank, after_blanks}

@@ -1,3 +1,4 @@
+-- No word begins before the rest. The loop ends because each `=` that is passed makes the rest shorter.
 use Rattle.header_text.proofs.Words.{length}
 use Rattle.header_text.proofs.WordLaws.WordLemmas.{Seen}
 use Rattle.header_text.proofs.encoded_word.find_word.Given as goal

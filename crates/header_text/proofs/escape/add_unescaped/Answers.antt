@@ -1,4 +1,6 @@
-use Rattle.header_text.proofs.Words.{◌≡◌, ◌∙◌, ◌≤◌, ◌++◌, ℕ, List, [], ◌∷◌, length, sym, ap, arith, length-append, Extends-append, Extends-trans, unescaped, behind_equals}
+-- `add_unescaped` adds the bytes up to each `=` as they are, and then what the `=` and the bytes after it mean.
+use Rattle.header_text.proofs.Words.{◌≡◌, ◌∙◌, ◌≤◌, ◌++◌, ℕ, List, [], ◌∷◌, length, sym, ap, arith, length-append}
+use Rattle.header_text.proofs.Words.{Extends-append, Extends-trans, unescaped, behind_equals}
 use Rattle.header_text.proofs.CutLemmas.{IsCut, IsCut-from, Lacks-from}
 use Rattle.header_text.proofs.WordLaws.EscapeLemmas.{unescaped-step, unescaped-rest, written, length-behind_equals}
 use Rattle.header_text.proofs.escape.add_unescaped.Goals as goal
@@ -13,7 +15,8 @@ later c = ap (λ (p : ℕ × List ℕ). p.1) c.behind_equals-byte.ensures
 pub loop-plain-smaller : goal.loop-plain-smaller
 loop-plain-smaller c =
     let joined = (cut c).joined in
-    let fits : length c.behind_equals-byte.result.1.now ≤ length c.in-Some.behind.now = rw (later c) (length-behind_equals c.in-Some.behind.now) in
+    let fits : length c.behind_equals-byte.result.1.now ≤ length c.in-Some.behind.now =
+    rw (later c) (length-behind_equals c.in-Some.behind.now) in
     omega (arith, fits, ap length joined, length-append c.in-Some.plain.now (0x3D ∷ c.in-Some.behind.now))
 
 pub loop-plain-preserved : goal.loop-plain-preserved
@@ -24,9 +27,14 @@ loop-plain-preserved c =
     let behind = unescaped c.behind_equals-byte.result.1.now in
     let e : byte ≡ (behind_equals c.in-Some.behind.now).0 = ap (λ (p : ℕ × List ℕ). p.0) c.behind_equals-byte.ensures in
     record {
-      sofar = ap (λ (l : List ℕ). l ++ behind) (c.in_ok-push.ensures.items ∙ ap (λ (l : List ℕ). l ++ byte ∷ []) c.in_ok-add_plain.ensures.bytes) ∙ written items plain behind byte
-          ∙ ap (λ (l : List ℕ). items ++ l) (sym (unescaped-step c.loop-plain.rest.now plain c.in-Some.behind.now c.behind_equals-byte.result.1.now byte (cut c) e (later c))) ∙ c.loop-plain.invariant.sofar;
-      kept = Extends-append _ _ _ _ _ (Extends-trans _ _ _ c.loop-plain.invariant.kept c.add_plain.ensures.kept) c.push.ensures.items;
+      sofar = ap (λ (l : List ℕ). l ++ behind)
+          (c.in_ok-push.ensures.items ∙ ap (λ (l : List ℕ). l ++ byte ∷ []) c.in_ok-add_plain.ensures.bytes)
+          ∙ written items plain behind byte
+          ∙ ap (λ (l : List ℕ). items ++ l) (sym
+          (unescaped-step c.loop-plain.rest.now plain c.in-Some.behind.now c.behind_equals-byte.result.1.now byte
+          (cut c) e (later c))) ∙ c.loop-plain.invariant.sofar;
+      kept = Extends-append _ _ _ _ _ (Extends-trans _ _ _ c.loop-plain.invariant.kept c.add_plain.ensures.kept)
+          c.push.ensures.items;
     }
 
 pub returns-clause-bytes : goal.returns-clause-bytes

@@ -1,3 +1,4 @@
+-- What was added, with what the rest still gives, is the whole. The loop ends because each `=` makes the rest shorter.
 use Rattle.header_text.proofs.Words.{◌≡◌, ◌++◌, length, Extends, unescaped}
 use Rattle.header_text.proofs.escape.add_unescaped.Given as goal
 

@@ -1,4 +1,6 @@
-use Rattle.header_text.proofs.Words.{◌∙◌, ◌++◌, ℕ, List, [], ◌∷◌, length, sym, ap, arith, length-append, unescaped, q_bytes}
+-- `decode_q_into` adds the text between two `_` unescaped, and a space for each `_`, because no escape has a `_` in it.
+use Rattle.header_text.proofs.Words.{◌∙◌, ◌++◌, ℕ, List, [], ◌∷◌, length, sym, ap, arith, length-append, unescaped}
+use Rattle.header_text.proofs.Words.{q_bytes}
 use Rattle.header_text.proofs.CutLemmas.{IsCut, IsCut-from, Lacks-from}
 use Rattle.header_text.proofs.WordLaws.EscapeLemmas.{q_bytes-space, q_bytes-free, written, length-q_bytes}
 use Rattle.header_text.proofs.escape.decode_q_into.Goals as goal
@@ -8,16 +10,19 @@ cut : (c : In_ok-push) → IsCut 0x5F c.loop-stretch.rest.now c.in-Some.stretch.
 cut c = IsCut-from 0x5F c.loop-stretch.rest.now c.in-Some.stretch.now c.in-Some.behind.now (sym c.in-Some.ensures)
 
 pub loop-stretch-smaller : goal.loop-stretch-smaller
-loop-stretch-smaller c = let joined = (cut c).joined in omega (arith, ap length joined, length-append c.in-Some.stretch.now (0x5F ∷ c.in-Some.behind.now))
+loop-stretch-smaller c = let joined = (cut c).joined
+    in omega (arith, ap length joined, length-append c.in-Some.stretch.now (0x5F ∷ c.in-Some.behind.now))
 
 pub loop-stretch-preserved : goal.loop-stretch-preserved
 loop-stretch-preserved c =
     let stretch = c.in-Some.stretch.now in
     let behind = c.in-Some.behind.now in
     let items : List ℕ = c.loop-stretch.into.items in
-    ap (λ (l : List ℕ). l ++ q_bytes behind) (c.in_ok-push.ensures.items ∙ ap (λ (l : List ℕ). l ++ 0x20 ∷ []) c.in_ok-unescape_into.ensures.bytes)
+    ap (λ (l : List ℕ). l ++ q_bytes behind)
+    (c.in_ok-push.ensures.items ∙ ap (λ (l : List ℕ). l ++ 0x20 ∷ []) c.in_ok-unescape_into.ensures.bytes)
     ∙ written items (unescaped stretch) (q_bytes behind) 0x20
-    ∙ ap (λ (l : List ℕ). items ++ l) (sym (ap q_bytes (cut c).joined ∙ q_bytes-space stretch behind (cut c).free)) ∙ c.loop-stretch.invariant
+    ∙ ap (λ (l : List ℕ). items ++ l) (sym (ap q_bytes (cut c).joined ∙ q_bytes-space stretch behind (cut c).free))
+    ∙ c.loop-stretch.invariant
 
 pub returns-clause-bytes : goal.returns-clause-bytes
 returns-clause-bytes c = grind (arith, Lacks-from, q_bytes-free)

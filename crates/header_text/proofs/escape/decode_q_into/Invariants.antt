@@ -1,3 +1,4 @@
+-- What was added, with what the rest still gives, is the whole. The loop ends because each `_` makes the rest shorter.
 use Rattle.header_text.proofs.Words.{◌≡◌, ◌++◌, length, q_bytes}
 use Rattle.header_text.proofs.escape.decode_q_into.Given as goal
 

@@ -1,3 +1,5 @@
+-- `unescape_into` adds at most as many bytes as there are, because escapes only shorten. What a failed call added is
+-- taken back.
 use Rattle.header_text.proofs.Words.{arith, length-append}
 use Rattle.header_text.proofs.WordLaws.EscapeLemmas.{length-unescaped}
 use Rattle.header_text.proofs.TextFronts.{taken_back}

@@ -1,3 +1,5 @@
+-- The rest has the same bytes after its name as the line. The loop ends because each turn takes one byte of the name
+-- away.
 use Rattle.header_text.proofs.Words.{◌≡◌, length, split_while}
 use Rattle.header_text.specs.Headers.{is_field_name_byte as is_field_name_byte_of}
 use Rattle.header_text.proofs.field.after_name.Given as goal

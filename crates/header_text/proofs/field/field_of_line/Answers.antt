@@ -1,3 +1,4 @@
+-- `field_of_line` cuts a line as the definition does, because the name is all of the line before the bytes after it.
 use Rattle.header_text.proofs.Words.{arith, length-take, length-drop, is_field_name_byte}
 use Rattle.header_text.proofs.Fronts.{length-split_while, take-split_while}
 use Rattle.header_text.proofs.HeaderLaws.HeaderLemmas.{named-begins, length-after_blanks}

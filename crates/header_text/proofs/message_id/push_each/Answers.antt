@@ -1,4 +1,6 @@
-use Rattle.header_text.proofs.Words.{◌≡◌, ◌∙◌, ◌++◌, ℕ, List, [], ◌∷◌, length, map, sym, ap, arith, length-append, append_assoc, append-nil, ids_in, closed_texts}
+-- `push_each` adds the ids of a value text by text, because the text before each `>` has at most one.
+use Rattle.header_text.proofs.Words.{◌≡◌, ◌∙◌, ◌++◌, ℕ, List, [], ◌∷◌, length, map, sym, ap, arith, length-append}
+use Rattle.header_text.proofs.Words.{append_assoc, append-nil, ids_in, closed_texts}
 use Rattle.header_text.proofs.CutLemmas.{IsCut, IsCut-from, Lacks-from}
 use Rattle.header_text.proofs.HeaderLaws.IdLemmas.{closed_texts-cut, closed_texts-free}
 use Rattle.header_text.proofs.TextFronts.{front-refl, front-trans}
@@ -13,17 +15,21 @@ cut : (c : In_ok-push_id) → IsCut 0x3E c.loop-text.rest.now c.in-Some.text.now
 cut c = IsCut-from 0x3E c.loop-text.rest.now c.in-Some.text.now c.in-Some.behind.now (sym c.in-Some.ensures)
 
 pub loop-text-smaller : goal.loop-text-smaller
-loop-text-smaller c = let joined = (cut c).joined in omega (arith, ap length joined, length-append c.in-Some.text.now (0x3E ∷ c.in-Some.behind.now))
+loop-text-smaller c = let joined = (cut c).joined
+    in omega (arith, ap length joined, length-append c.in-Some.text.now (0x3E ∷ c.in-Some.behind.now))
 
 pub loop-text-preserved : goal.loop-text-preserved
 loop-text-preserved c =
     let text = c.in-Some.text.now in
     let behind = c.in-Some.behind.now in
-    let texts : closed_texts c.loop-text.rest.now ≡ text ∷ closed_texts behind = ap closed_texts (cut c).joined ∙ closed_texts-cut text behind (cut c).free in
+    let texts : closed_texts c.loop-text.rest.now ≡ text ∷ closed_texts behind = ap closed_texts (cut c).joined
+    ∙ closed_texts-cut text behind (cut c).free in
     let old = map (λ id. id.items) c.loop-text.ids.items in
     record {
-      sofar = ap (λ (ids : List (List ℕ)). ids ++ ids_in (closed_texts behind)) c.in_ok-push_id.ensures.ids ∙ append_assoc old (ids_in (text ∷ [])) (ids_in (closed_texts behind))
-          ∙ ap (λ (ids : List (List ℕ)). old ++ ids) (sym (ids_in-cons text (closed_texts behind)) ∙ ap ids_in (sym texts)) ∙ c.loop-text.invariant.sofar;
+      sofar = ap (λ (ids : List (List ℕ)). ids ++ ids_in (closed_texts behind)) c.in_ok-push_id.ensures.ids
+          ∙ append_assoc old (ids_in (text ∷ [])) (ids_in (closed_texts behind))
+          ∙ ap (λ (ids : List (List ℕ)). old ++ ids)
+          (sym (ids_in-cons text (closed_texts behind)) ∙ ap ids_in (sym texts)) ∙ c.loop-text.invariant.sofar;
       kept = front-trans _ _ _ c.loop-text.invariant.kept c.push_id.ensures.kept;
     }
 

@@ -1,3 +1,4 @@
+-- `push_ids` adds ids that fit into the value, because they are parts of it. What a failed call added is taken back.
 use Rattle.header_text.proofs.Words.{arith}
 use Rattle.header_text.proofs.HeaderLaws.IdLemmas.{ids_of-sized, ids_of-size}
 use Rattle.header_text.proofs.TextFronts.{taken_back}

@@ -1,3 +1,4 @@
+-- What was added, with what the rest still gives, is the whole. The loop ends because each line makes the rest shorter.
 use Rattle.header_text.proofs.Words.{length, Extends}
 use Rattle.header_text.proofs.HeaderLaws.UnfoldLemmas.{Unfolds}
 use Rattle.header_text.proofs.unfolding.add_lines.Given as goal

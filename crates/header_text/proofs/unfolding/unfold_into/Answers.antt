@@ -1,4 +1,7 @@
-use Rattle.header_text.proofs.Words.{◌≤◌, ◌≡◌, take_rest, ◌∙◌, ◌++◌, ℕ, length, take, drop, ap, arith, length-append, before_blanks}
+-- `unfold_into` adds the unfolded body, because the blanks at its end are cut off last. What a failed call added is
+-- taken back.
+use Rattle.header_text.proofs.Words.{◌≤◌, ◌≡◌, take_rest, ◌∙◌, ◌++◌, ℕ, length, take, drop, ap, arith, length-append}
+use Rattle.header_text.proofs.Words.{before_blanks}
 use Rattle.header_text.proofs.Fronts.{take-before_blanks}
 use Rattle.header_text.proofs.HeaderLaws.UnfoldSizes.{length-unfolded}
 use Rattle.header_text.proofs.HeaderLaws.UnfoldLemmas.{unfolded-trimmed}
@@ -12,7 +15,9 @@ pub returns-clause-text : goal.returns-clause-text
 returns-clause-text c =
     let items = c.add_lines.new.into.items in
     let within : c.len-start.result ≤ length items = grind (arith, length-append) in
-    let trimmed : c.truncate-2.new.self.items ≡ take c.len-start.result items ++ before_blanks (drop c.len-start.result items) = grind (arith, take_rest, take-before_blanks) in
+    let trimmed : c.truncate-2.new.self.items
+    ≡ take c.len-start.result items ++ before_blanks (drop c.len-start.result items) =
+    grind (arith, take_rest, take-before_blanks) in
     trimmed ∙ ap (λ (n : ℕ). take n items ++ before_blanks (drop n items)) (c.len-start.ensures ∙ c.args.into.now.ok.0)
     ∙ unfolded-trimmed c.args.into.now.items c.args.body.now items c.in_default.ensures.text
 

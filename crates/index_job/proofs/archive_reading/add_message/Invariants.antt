@@ -1,4 +1,6 @@
-use Rattle.index_job.proofs.Words.{still_known, false, ◌≡◌, ◌≤◌, ℕ, List, Some, Draft, text, left, Awaited, coming_inside, IsInside, IsReadingSome, ReadsSource, HasGathered, with_open_message}
+-- The message is open, and its first lines are gathered. The loop ends because each event leaves fewer to come.
+use Rattle.index_job.proofs.Words.{still_known, false, ◌≡◌, ◌≤◌, ℕ, List, Some, Draft, text, left, Awaited}
+use Rattle.index_job.proofs.Words.{coming_inside, IsInside, IsReadingSome, ReadsSource, HasGathered, with_open_message}
 use Rattle.index_job.proofs.archive_reading.add_message.Given as goal
 
 -- the message is still open, and its first lines are gathered; if it is known what is to come, they are a beginning of
@@ -10,9 +12,11 @@ invariant-lines g l = record {
   most : l.cutter.place.most ≡ l.initial.cutter.place.most;
   later : l.initial.cutter.place.offset ≤ l.cutter.place.offset;
   nearer : left l.cutter.place ≤ left l.initial.cutter.place;
-  gathers : (d : Draft) → l.fn.builder ≡ Some d → (ls : List (List ℕ)) × HasGathered l.text l.builder (Some (with_open_message d)) ls;
+  gathers : (d : Draft) → l.fn.builder ≡ Some d → (ls : List (List ℕ))
+      × HasGathered l.text l.builder (Some (with_open_message d)) ls;
   comes : (d : Draft) (w : Awaited) → l.fn.builder ≡ Some d
-      → still_known l.initial.cutter.coming (g.S.Source.rest l.cutter.source.now) ≡ Some (coming_inside w (text w.message))
+      → still_known l.initial.cutter.coming (g.S.Source.rest l.cutter.source.now)
+      ≡ Some (coming_inside w (text w.message))
       → IsReadingSome (Some (with_open_message d)) w l.text l.builder l.cutter.coming;
 }
 

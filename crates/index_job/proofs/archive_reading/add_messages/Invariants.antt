@@ -1,4 +1,6 @@
-use Rattle.index_job.proofs.Words.{still_known, false, ◌≡◌, ◌≤◌, ℕ, List, Option, Some, Draft, Message, CutFault, left, coming_ahead, HasDone, ReadsSource, IsBuilderReady}
+-- The messages so far are added, and none is open. The loop ends because each message leaves fewer events to come.
+use Rattle.index_job.proofs.Words.{still_known, false, ◌≡◌, ◌≤◌, ℕ, List, Option, Some, Draft, Message, CutFault, left}
+use Rattle.index_job.proofs.Words.{coming_ahead, HasDone, ReadsSource, IsBuilderReady}
 use Rattle.mbox_cutter.specs.declared.scan.Phase.TheVariants.{Between}
 use Rattle.index_job.proofs.archive_reading.add_messages.Given as goal
 

@@ -1,4 +1,7 @@
-use Rattle.index_job.proofs.Words.{◌≡◌, ◌∙◌, ◌∷◌, ◌++◌, ◌+◌, ℕ, List, arith, drop, get_or, option_map, sym, ap, ap₂, subst, AllByRecursion, err_from_is_err_and, draft_with_terms, cut, HasTermLength, word_terms}
+-- `add_cut_words` adds the words that the lengths cut off the bytes, because each turn cuts off the next one.
+use Rattle.index_job.proofs.Words.{◌≡◌, ◌∙◌, ◌∷◌, ◌++◌, ◌+◌, ℕ, List, arith, drop, get_or, option_map, sym, ap, ap₂}
+use Rattle.index_job.proofs.Words.{subst, AllByRecursion, err_from_is_err_and, draft_with_terms, cut, HasTermLength}
+use Rattle.index_job.proofs.Words.{word_terms}
 use Rattle.index_job.proofs.FoldedWords.{next-cut, next-sum}
 use Rattle.index_job.proofs.Terms.{fails-first, waits-next}
 use Rattle.index_job.proofs.folding_room.add_cut_words.Goals as goal
@@ -17,12 +20,21 @@ loop-length-preserved c =
     let behind : List ℕ = c.split_at.result.1.now in
     let left : List (List ℕ) = cut (drop (i + 1) lengths) behind in
     let next : cut (drop i lengths) rest ≡ word ∷ left =
-    next-cut lengths i rest c.loop-length-test.true ∙ ap₂ (λ (w b : List ℕ). w ∷ cut (drop (i + 1) lengths) b) (sym c.split_at.ensures.front) (sym c.split_at.ensures.back) in
+    next-cut lengths i rest c.loop-length-test.true
+    ∙ ap₂ (λ (w b : List ℕ). w ∷ cut (drop (i + 1) lengths) b) (sym c.split_at.ensures.front)
+    (sym c.split_at.ensures.back) in
     record {
       phase = c.push.ensures.phase;
-      within = omega (arith, c.loop-length.invariant.within, next-sum lengths i c.loop-length-test.true, c.split_at.ensures.back_len);
+      within = omega (
+        arith,
+        c.loop-length.invariant.within,
+        next-sum lengths i c.loop-length-test.true,
+        c.split_at.ensures.back_len,
+      );
       sizes = (subst (AllByRecursion HasTermLength) next c.loop-length.invariant.sizes).1;
       whole = c.loop-length.invariant.whole
-          ∙ ap (λ (l : List (List ℕ)). option_map (draft_with_terms (word_terms kind c.loop-length.batch ++ word_terms kind l)) c.loop-length.builder) next
-          ∙ waits-next kind c.loop-length.batch word c.push.new.self (word_terms kind left) c.loop-length.builder c.push.new.builder c.in_ok-push.ensures.ok;
+          ∙ ap (λ (l : List (List ℕ)). option_map
+          (draft_with_terms (word_terms kind c.loop-length.batch ++ word_terms kind l)) c.loop-length.builder) next
+          ∙ waits-next kind c.loop-length.batch word c.push.new.self (word_terms kind left) c.loop-length.builder
+          c.push.new.builder c.in_ok-push.ensures.ok;
     }

@@ -1,3 +1,4 @@
+-- `feed_line` gathers one more line, because the reader gives the texts that it completes to the builder's sink.
 use Rattle.std.proofs.lemmas.Result.{on_ok_weaker}
 use Rattle.index_job.proofs.Words.{rules}
 use Rattle.index_job.proofs.Gatherings.{gathers-line, line-fails}
@@ -7,4 +8,6 @@ pub returns-clause-err : goal.returns-clause-err
 returns-clause-err c = line-fails c.line.result c.args.text.now _ c.line.new.sink c.args.line.now c.line.ensures.stopped
 
 pub returns-clause-ok : goal.returns-clause-ok
-returns-clause-ok c = on_ok_weaker c.line.result (λ fed ls d g. gathers-line c.args.text.now c.line.new.self _ c.line.new.sink c.args.line.now _ fed (λ same. search rules) ls d g) c.line.ensures.fed
+returns-clause-ok c = on_ok_weaker c.line.result
+    (λ fed ls d g. gathers-line c.args.text.now c.line.new.self _ c.line.new.sink c.args.line.now _ fed
+    (λ same. search rules) ls d g) c.line.ensures.fed

@@ -1,3 +1,4 @@
+-- The table has the numbers of the messages at their terms, and no other table has them: `table-is` and `one-table`.
 use Rattle.index_job.proofs.OneTable.{table-is, one-table}
 use Rattle.index_job.proofs.laws.one_table_of_archives.Goals as goal
 

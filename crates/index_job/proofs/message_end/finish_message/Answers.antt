@@ -1,3 +1,4 @@
+-- `finish_message` ends the text and then the message. A fault of either means that not all of its terms can be added.
 use Rattle.index_job.proofs.Words.{Some, err_from_is_err_and}
 use Rattle.index_job.proofs.Gatherings.{texts-fail, ids-fail, open-behind}
 use Rattle.index_job.proofs.message_end.finish_message.Goals as goal
@@ -10,8 +11,10 @@ returns-in_err-facts-clause-err c =
 pub end_message-requires-clause-opened : goal.end_message-requires-clause-opened
 end_message-requires-clause-opened c =
     let o = c.requires.opened in
-    open-behind c.args.span.archive c.args.span.offset o.1 o.0 c.end_text.new.builder (c.in_ok-facts.ensures.ok o.1 (Some o.0) o.2) o.3
+    open-behind c.args.span.archive c.args.span.offset o.1 o.0 c.end_text.new.builder
+    (c.in_ok-facts.ensures.ok o.1 (Some o.0) o.2) o.3
 
 pub returns-clause-err : goal.returns-clause-err
 returns-clause-err c =
-    ids-fail c.end_message.result c.in_ok-facts.facts c.args.text.now c.args.builder.now c.end_text.new.builder c.in_ok-facts.ensures.facts c.in_ok-facts.ensures.ok c.end_message.ensures.err
+    ids-fail c.end_message.result c.in_ok-facts.facts c.args.text.now c.args.builder.now c.end_text.new.builder
+    c.in_ok-facts.ensures.facts c.in_ok-facts.ensures.ok c.end_message.ensures.err

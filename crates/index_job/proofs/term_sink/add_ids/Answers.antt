@@ -1,3 +1,4 @@
+-- `add_ids` adds the message's own id and then its linking ids, so a fault of the first is one of all of them.
 use Rattle.index_job.proofs.Words.{arith, err_from_is_err_and}
 use Rattle.index_job.proofs.Terms.{add-fails}
 use Rattle.index_job.proofs.term_sink.add_ids.Goals as goal

@@ -8,18 +8,24 @@ returns-in-Err-clause-answered g c = λ a is. nothing_sent _ _ a.messages (Err c
 
 pub returns-clause-answered : goal.returns-clause-answered
 returns-clause-answered g c =
-    answered_sent c.args.index.now (search_of c.args.query.now c.args.threads c.args.format) (g.A.Archives.held c.write.new.archives) _ _ _ c.in-Ok.numbers (grind arith)
+    answered_sent c.args.index.now (search_of c.args.query.now c.args.threads c.args.format)
+    (g.A.Archives.held c.write.new.archives) _ _ _ c.in-Ok.numbers (grind arith)
     (rw (c.new.ensures.table, c.new.ensures.format) at c.write.ensures.messages.text)
 
 pub returns-in_default-chosen-clause-answered : goal.returns-in_default-chosen-clause-answered
-returns-in_default-chosen-clause-answered g c = λ a is. nothing_sent _ _ a.messages (Err c.unsent-in_default-chosen.result) (grind arith)
+returns-in_default-chosen-clause-answered g c =
+    λ a is. nothing_sent _ _ a.messages (Err c.unsent-in_default-chosen.result) (grind arith)
 
 pub returns-in-Err-clause-spans : goal.returns-in-Err-clause-spans
-returns-in-Err-clause-spans g c = λ mbox numbers chosen. no_spans_sent _ c.args.index.now numbers (Err c.unsent.result) (grind arith)
+returns-in-Err-clause-spans g c = λ mbox numbers chosen. no_spans_sent _ c.args.index.now numbers (Err c.unsent.result)
+    (grind arith)
 
 pub returns-clause-spans : goal.returns-clause-spans
 returns-clause-spans g c = λ mbox.
-    spans_sent c.args.index.now (search_of c.args.query.now c.args.threads c.args.format) _ _ _ c.in-Ok.numbers (grind arith) (rw c.new.ensures.table at (c.write.ensures.messages.spans (c.new.ensures.format ∙ mbox)))
+    spans_sent c.args.index.now (search_of c.args.query.now c.args.threads c.args.format) _ _ _ c.in-Ok.numbers
+    (grind arith) (rw c.new.ensures.table at (c.write.ensures.messages.spans (c.new.ensures.format ∙ mbox)))
 
 pub returns-in_default-chosen-clause-spans : goal.returns-in_default-chosen-clause-spans
-returns-in_default-chosen-clause-spans g c = λ mbox numbers chosen. no_spans_sent _ c.args.index.now numbers (Err c.unsent-in_default-chosen.result) (grind arith)
+returns-in_default-chosen-clause-spans g c =
+    λ mbox numbers chosen. no_spans_sent _ c.args.index.now numbers (Err c.unsent-in_default-chosen.result)
+    (grind arith)

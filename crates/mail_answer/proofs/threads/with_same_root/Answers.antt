@@ -11,5 +11,7 @@ with_marked_root-requires-clause-marked c = grind (arith, length-replicate)
 
 pub returns : goal.returns
 returns c =
-    rw (c.as_slice.ensures.value ∙ adds_to_none _ (length c.args.roots.now) _ c.loop-number.marks.items refl (rw (take_all c.loop-number.number-index c.args.numbers.now c.loop-number-test.false) at c.loop-number.invariant)) at
+    rw (c.as_slice.ensures.value ∙ adds_to_none _ (length c.args.roots.now) _ c.loop-number.marks.items refl
+    (rw (take_all c.loop-number.number-index c.args.numbers.now c.loop-number-test.false) at
+    c.loop-number.invariant)) at
     c.with_marked_root.ensures

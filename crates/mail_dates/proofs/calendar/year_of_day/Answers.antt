@@ -1,3 +1,4 @@
+-- `year_of_day` returns a year after which all days are later than this one: the year of the day, or the last year.
 use Rattle.mail_dates.proofs.Words.{◌≡◌, ℤ, of_z, to_z, w32, w64, FitsSigned, arith, ints, to_z-of_z}
 use Rattle.mail_dates.proofs.CivilDays.{later_number, none_later}
 use Rattle.mail_dates.proofs.calendar.year_of_day.Goals as goal

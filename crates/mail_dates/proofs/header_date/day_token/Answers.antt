@@ -1,8 +1,12 @@
-use Rattle.mail_dates.proofs.Words.{◌≡◌, ℕ, List, [], ◌∷◌, true, refl, sym, ◌∙◌, ap, list_all, tokens, with_first, without_day_name}
+-- `day_token` passes the name of a day as the definition does: if the first token is letters alone, the next one comes
+-- first.
+use Rattle.mail_dates.proofs.Words.{◌≡◌, ℕ, List, [], ◌∷◌, true, refl, sym, ◌∙◌, ap, list_all, tokens, with_first}
+use Rattle.mail_dates.proofs.Words.{without_day_name}
 use Rattle.std.specs.Char.{is_ascii_alphabetic}
 use Rattle.mail_dates.proofs.header_date.day_token.Goals as goal
 
-named : (first rest day later : List ℕ) → (first ≡ [] → rest ≡ []) → list_all is_ascii_alphabetic first ≡ true → tokens rest ≡ with_first day later → without_day_name (with_first first rest) ≡ with_first day later
+named : (first rest day later : List ℕ) → (first ≡ [] → rest ≡ []) → list_all is_ascii_alphabetic first ≡ true
+    → tokens rest ≡ with_first day later → without_day_name (with_first first rest) ≡ with_first day later
 unfolding tokens
 named [] rest day later none e f = rw (none refl) at f
 named (x ∷ xs) rest day later none e f = rw e f
@@ -10,4 +14,5 @@ named (x ∷ xs) rest day later none e f = rw e f
 pub returns-then-are_letters : goal.returns-then-are_letters
 returns-then-are_letters c =
     ap without_day_name c.next_token.ensures.tokens
-    ∙ named c.next_token.result.0.now c.next_token.result.1.now _ _ c.next_token.ensures.none (sym c.are_letters.ensures ∙ c.if-are_letters.true) c.next_token-then-are_letters.ensures.tokens
+    ∙ named c.next_token.result.0.now c.next_token.result.1.now _ _ c.next_token.ensures.none
+    (sym c.are_letters.ensures ∙ c.if-are_letters.true) c.next_token-then-are_letters.ensures.tokens

@@ -1,3 +1,4 @@
+-- `decimal_value` returns the value of the digits, digit by digit. No step overflows, because there are at most 18.
 use Rattle.mail_dates.proofs.Words.{arith, pow-le-pow_right}
 use Rattle.std.proofs.lemmas.Grind.{pow_more}
 use Rattle.std.proofs.lemmas.Int.Digits.{digits_value_more}

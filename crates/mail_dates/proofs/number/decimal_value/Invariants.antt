@@ -1,3 +1,4 @@
+-- The value is that of the digits so far, and is less than ten to the power of their number.
 use Rattle.mail_dates.proofs.Words.{◌≡◌, ◌<◌, ◌^◌, take}
 use Rattle.std.specs.Str.Parse.{digits_value}
 use Rattle.mail_dates.proofs.number.decimal_value.Given as goal

@@ -1,3 +1,4 @@
+-- The rest has the same tokens as the text. The loop ends because each turn makes the rest shorter.
 use Rattle.mail_dates.proofs.Words.{◌≡◌, length, tokens}
 use Rattle.mail_dates.proofs.token.next_token.Given as goal
 

@@ -1,3 +1,5 @@
+-- What `read_boolean` returns is also what the grammar says, because the reader's queries and faults are those of the
+-- grammar.
 use Rattle.std.proofs.Common.{arith}
 use Rattle.mail_query.proofs.AnswerLemmas.{if_ok, if_err}
 use Rattle.mail_query.proofs.BooleanLaws.BooleanPlaces.{answer_faulty}

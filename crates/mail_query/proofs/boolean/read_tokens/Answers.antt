@@ -1,3 +1,5 @@
+-- `read_tokens` returns what the definition does, because the reader is run over each token; the grammar bounds the
+-- depth.
 use Rattle.std.proofs.Common.{◌≡◌, Ok, arith}
 use Rattle.mail_query.specs.Mail.{boolean_lexicon}
 use Rattle.mail_query.specs.Query.{query_of}

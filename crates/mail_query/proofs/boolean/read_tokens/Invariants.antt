@@ -1,3 +1,4 @@
+-- Reading the rest gives what reading the whole text does. The loop ends because each token makes the rest shorter.
 use Rattle.std.proofs.Common.{◌≡◌, ◌+◌, ◌≤◌, length}
 use Rattle.std.specs.Str.{IsUtf8}
 use Rattle.mail_query.specs.Mail.{boolean_lexicon}
@@ -11,7 +12,8 @@ decreases-tokens l = length l.rest
 
 abbrev pub invariant-tokens : goal.invariant-tokens
 invariant-tokens l = record {
-  whole : run_from boolean_lexicon l.number (shown l.reader) (tokens l.rest) ≡ run_from boolean_lexicon 1 start (tokens l.text);
+  whole : run_from boolean_lexicon l.number (shown l.reader) (tokens l.rest)
+      ≡ run_from boolean_lexicon 1 start (tokens l.text);
   numbered : l.number + length l.rest ≤ length l.text + 1;
   first : l.number ≡ 1 → l.rest ≡ l.text;
   some : 1 ≤ l.number;

@@ -1,3 +1,4 @@
+-- A query that is read is one of the grammar, and each query of the grammar is read: `patterns_exact` has both.
 use Rattle.mail_query.proofs.MairixLaws.MairixExact.{patterns_exact}
 use Rattle.mail_query.proofs.laws.patterns_are_read_as_the_grammar_says.Goals as goal
 

@@ -1,3 +1,4 @@
+-- Two first faults are the same, because the reader returns each of them and has only one result.
 use Rattle.mail_query.proofs.MairixLaws.MairixExact.{one_fault}
 use Rattle.mail_query.proofs.laws.patterns_show_one_first_fault_at_most.Goals as goal
 

@@ -1,3 +1,4 @@
+-- A query that is read is one of the grammar, and each query of the grammar is read, token by token.
 use Rattle.mail_query.proofs.BooleanLaws.BooleanComplete.{reading_answered}
 use Rattle.mail_query.proofs.BooleanLaws.BooleanTrees.{answer_read}
 use Rattle.mail_query.proofs.laws.the_answer_is_what_is_read.Goals as goal

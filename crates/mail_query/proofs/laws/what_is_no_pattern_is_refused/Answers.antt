@@ -1,3 +1,4 @@
+-- Patterns are refused exactly if the grammar gives no query, because the reader returns each query that it gives.
 use Rattle.mail_query.proofs.MairixLaws.MairixExact.{refused_exact}
 use Rattle.mail_query.proofs.laws.what_is_no_pattern_is_refused.Goals as goal
 

@@ -1,3 +1,4 @@
+-- Each turn adds the kinds of one letter. With the letters that are left, they will be those of all letters.
 use Rattle.mail_query.proofs.Words.{◌≡◌, drop, no_kinds, kinds_with}
 use Rattle.mail_query.proofs.mairix.kinds_of.Given as goal
 

@@ -1,3 +1,4 @@
+-- A pattern without a colon is a rest alone, which is looked for in the kinds of a bare word.
 use Rattle.mail_query.proofs.Words.{arith}
 use Rattle.mail_query.proofs.mairix.read_pattern.Goals as goal
 

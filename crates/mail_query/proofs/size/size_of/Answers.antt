@@ -1,3 +1,4 @@
+-- `size_of` scales the number before a final `k` or `m`, because the definition takes either case of the letter.
 use Rattle.mail_query.proofs.Words.{arith, nat_tests}
 use Rattle.mail_query.proofs.MairixLaws.SizeLemmas.{size_of-letter}
 use Rattle.mail_query.proofs.size.size_of.Goals as goal

@@ -1,3 +1,4 @@
+-- `fold_ascii` gives the folding of an ASCII text, because in ASCII folding only makes letters small.
 use Rattle.mail_words.proofs.Imports.{arith}
 use Rattle.mail_words.proofs.FoldingLemmas.{folding-ascii}
 use Rattle.mail_words.proofs.folding.fold_ascii.Goals as goal

@@ -1,3 +1,4 @@
+-- What was added, with the characters to come, is the whole folding. What was there before stays at the front.
 use Rattle.mail_words.proofs.Imports.{◌≡◌, ◌≤◌, ◌++◌, length, take, string_bytes, folding}
 use Rattle.std.specs.String.{string_capacity}
 use Rattle.mail_words.proofs.FoldingLemmas.{StillFolds}

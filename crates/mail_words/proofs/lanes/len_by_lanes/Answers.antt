@@ -1,10 +1,12 @@
+-- `len_by_lanes` counts word characters load by load, up to the first load that has another byte.
 use Rattle.mail_words.proofs.Imports.{arith, is_ascii_word}
 use Rattle.mail_words.proofs.LaneRuns.{run_bound, passed_on}
 use Rattle.mail_words.proofs.lanes.len_by_lanes.Goals as goal
 
 pub overflow_add-len : goal.overflow_add-len
 overflow_add-len c =
-    let few = run_bound is_ascii_word c.args.bytes.now c.loop-len.len _ (omega (arith, c.loop-len-test.true)) c.run_at-run.ensures in
+    let few = run_bound is_ascii_word c.args.bytes.now c.loop-len.len _ (omega (arith, c.loop-len-test.true))
+    c.run_at-run.ensures in
     omega (arith, few, c.loop-len-test.true)
 
 pub returns-then-run-lt-LANES-clause-passed : goal.returns-then-run-lt-LANES-clause-passed
@@ -13,8 +15,10 @@ returns-then-run-lt-LANES-clause-passed c =
 
 pub loop-len-preserved : goal.loop-len-preserved
 loop-len-preserved c =
-    let few = run_bound is_ascii_word c.args.bytes.now c.loop-len.len _ (omega (arith, c.loop-len-test.true)) c.run_at-run.ensures in
+    let few = run_bound is_ascii_word c.args.bytes.now c.loop-len.len _ (omega (arith, c.loop-len-test.true))
+    c.run_at-run.ensures in
     record {
       within = omega (arith, few, c.loop-len-test.true);
-      passed = passed_on is_ascii_word _ _ _ (omega (arith, c.loop-len-test.true)) c.run_at-run.ensures c.loop-len.invariant.passed;
+      passed = passed_on is_ascii_word _ _ _ (omega (arith, c.loop-len-test.true)) c.run_at-run.ensures
+          c.loop-len.invariant.passed;
     }

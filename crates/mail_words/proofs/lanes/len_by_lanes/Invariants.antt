@@ -1,3 +1,4 @@
+-- All bytes so far are word characters. The loop ends because a turn that doesn't return passes sixteen of them.
 use Rattle.mail_words.proofs.Imports.{◌≡◌, ℕ, ◌-◌, ◌<◌, ◌≤◌, true, length, slice_index, is_ascii_word}
 use Rattle.mail_words.proofs.lanes.len_by_lanes.Given as goal
 

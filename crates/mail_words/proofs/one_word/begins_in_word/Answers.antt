@@ -1,3 +1,4 @@
+-- A text begins in a word exactly if the word characters at its front have some bytes, because each has at least one.
 use Rattle.mail_words.proofs.Imports.{ap, ◌∙◌, nat_lt, is_word_character}
 use Rattle.std.proofs.Common.{chars}
 use Rattle.mail_words.proofs.OneWord.{some-front}

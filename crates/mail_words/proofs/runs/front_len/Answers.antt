@@ -1,5 +1,8 @@
+-- `front_len` counts bytes that are characters of the class by themselves; from a byte beyond ASCII on, it goes by
+-- characters.
 use Rattle.mail_words.proofs.Imports.{arith}
-use Rattle.mail_words.proofs.ByteReads.{class_byte, other_byte, front_bytes-pass, front_bytes-stop, front_bytes-end, front_bytes-boundary, front_bytes-more, length-front}
+use Rattle.mail_words.proofs.ByteReads.{class_byte, other_byte, front_bytes-pass, front_bytes-stop, front_bytes-end}
+use Rattle.mail_words.proofs.ByteReads.{front_bytes-boundary, front_bytes-more, length-front}
 use Rattle.mail_words.proofs.runs.front_len.Goals as goal
 
 pub returns-then-is_ascii : goal.returns-then-is_ascii
@@ -15,4 +18,5 @@ pub loop-len-preserved : goal.loop-len-preserved
 loop-len-preserved g c = grind (arith, class_byte, front_bytes-pass)
 
 pub returns : goal.returns
-returns g c = front_bytes-end _ _ _ c.loop-len.invariant (omega (arith, c.loop-len-test.false, c.as_bytes-byte-items.ensures.len))
+returns g c = front_bytes-end _ _ _ c.loop-len.invariant
+    (omega (arith, c.loop-len-test.false, c.as_bytes-byte-items.ensures.len))

@@ -1,3 +1,4 @@
+-- All bytes so far are characters in the class, each by itself.
 use Rattle.mail_words.proofs.Imports.{drop}
 use Rattle.mail_words.proofs.FrontReads.{FrontRead}
 use Rattle.mail_words.proofs.runs.front_len.Given as goal

@@ -1,3 +1,4 @@
+-- All characters are in the class exactly if those at the front that are have all bytes of the text.
 use Rattle.mail_words.proofs.Imports.{ap, ◌∙◌, length, is_piece}
 use Rattle.std.specs.Prelude.{◌==◌}
 use Rattle.mail_words.proofs.OneWord.{whole-front}

@@ -1,3 +1,4 @@
+-- All bytes from `len` on are joiners. The loop ends because each turn passes one more.
 use Rattle.mail_words.proofs.Imports.{◌≡◌, ◌<◌, ◌≤◌, ℕ, true, length, slice_index, is_joiner}
 use Rattle.mail_words.proofs.runs.len_before_joiners.Given as goal
 

@@ -1,3 +1,4 @@
+-- `begins_in_joiner` may look at the first byte alone, because each joiner is a character of one byte.
 use Rattle.mail_words.proofs.Imports.{arith, nat_tests}
 use Rattle.mail_words.proofs.Characters.{joiner-first}
 use Rattle.mail_words.proofs.words.begins_in_joiner.Goals as goal

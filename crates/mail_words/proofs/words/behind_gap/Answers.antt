@@ -1,3 +1,5 @@
+-- `behind_gap` keeps the words that are left, because none begins in the gap. A gap of joiners alone doesn't end the
+-- run.
 use Rattle.mail_words.proofs.Imports.{arith, is_other}
 use Rattle.mail_words.proofs.Reading.{words_left-gaps, begins-gaps}
 use Rattle.mail_words.proofs.Seams.{front_seam, seam_boundary, seam_back, chars_front, chars_back, some_from_bytes}

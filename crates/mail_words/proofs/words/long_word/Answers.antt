@@ -1,3 +1,4 @@
+-- `long_word` returns the plain word with what is joined to it, unless nothing is joined or the whole is too long.
 use Rattle.mail_words.proofs.Imports.{sym, ap, ◌∙◌, arith, is_word_character, front, behind, joined_front, joined_on}
 use Rattle.std.proofs.Common.{chars}
 use Rattle.mail_words.proofs.Seams.{front_seam, seam_boundary, chars_back, nil_from_bytes}
@@ -14,7 +15,9 @@ returns-then-not-begins_in_joiner c = grind (arith, chars_back, front_seam, join
 pub returns-then-joined-eq0 : goal.returns-then-joined-eq0
 returns-then-joined-eq0 c =
     let joined = joined_is _ _ _ _ c.utf8.text c.requires c.split_at.ensures.back c.joined_len-joined.ensures in
-    sym (ap (joined_on (front is_word_character (chars c.args.text.now))) (nil_from_bytes (joined_front (behind is_word_character (chars c.args.text.now))) (sym joined ∙ c.if-joined-eq0.true)))
+    sym (ap (joined_on (front is_word_character (chars c.args.text.now)))
+    (nil_from_bytes (joined_front (behind is_word_character (chars c.args.text.now)))
+    (sym joined ∙ c.if-joined-eq0.true)))
 
 pub overflow_add-len : goal.overflow_add-len
 overflow_add-len c =

@@ -1,3 +1,5 @@
+-- `next_place` returns the first place whose plain word is short enough, because a place with a longer one gives no
+-- words.
 use Rattle.mail_words.proofs.Imports.{arith, eqb-true, eqb-false}
 use Rattle.mail_words.proofs.Reading.{words_left-end}
 use Rattle.mail_words.proofs.FrontReads.{no_chars}

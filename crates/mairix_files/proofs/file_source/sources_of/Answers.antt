@@ -2,7 +2,7 @@
 use Rattle.std.proofs.Common.{◌≡◌, ◌∙◌, ℕ, List, Some, length, sym, ap, arith, map-id}
 use Rattle.std.specs.List.{range_with_len}
 use Rattle.std.proofs.lemmas.List.Elements.{All-push}
-use Rattle.call_record.specs.Calls.{archive_at}
+use Rattle.contract_words.specs.Archives.{archive_at}
 use Rattle.call_record.specs.Noted.{left_of}
 use Rattle.mairix_files.proofs.Numbered.{next, all-archives}
 use Rattle.mairix_files.proofs.file_source.sources_of.Goals as goal

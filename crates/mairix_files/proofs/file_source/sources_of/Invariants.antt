@@ -1,6 +1,7 @@
+-- There is a source for each path so far, numbered in order; none has failed, and each supposes its archive's bytes.
 use Rattle.std.proofs.Common.{◌≡◌, Some, All, map, vec_len}
 use Rattle.std.specs.List.{range_with_len}
-use Rattle.call_record.specs.Calls.{archive_at}
+use Rattle.contract_words.specs.Archives.{archive_at}
 use Rattle.call_record.specs.Noted.{left_of}
 use Rattle.mairix_files.proofs.file_source.sources_of.Given as goal
 

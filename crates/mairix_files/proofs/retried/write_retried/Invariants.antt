@@ -1,3 +1,4 @@
+-- The turns so far were interrupted by a signal, and such a write appends nothing.
 use Rattle.std.specs.Io.KnownBytes.{Keeps}
 use Rattle.mairix_files.proofs.retried.write_retried.Given as goal
 

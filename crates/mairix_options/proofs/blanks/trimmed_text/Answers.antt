@@ -1,3 +1,5 @@
+-- `trimmed_text` trims as the definition does. It cuts the text between characters, because each blank is a whole
+-- character.
 use Rattle.mairix_options.proofs.Words.{arith}
 use Rattle.mairix_options.proofs.Trimming.{trimmed-parts, IsCharBoundary-blanks, IsCharBoundary-end_blanks}
 use Rattle.mairix_options.proofs.blanks.trimmed_text.Goals as goal

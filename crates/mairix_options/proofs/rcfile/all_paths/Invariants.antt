@@ -1,3 +1,4 @@
+-- Each turn appends the paths of one line, so the list has those of all lines so far.
 use Rattle.mairix_options.proofs.Words.{◌≡◌, take, all_paths}
 use Rattle.mairix_options.proofs.rcfile.all_paths.Given as goal
 

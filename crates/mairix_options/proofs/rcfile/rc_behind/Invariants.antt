@@ -1,3 +1,5 @@
+-- Each turn adds the setting of one line. The settings so far, with those of the lines left, are those of the whole
+-- text.
 use Rattle.mairix_options.proofs.Words.{◌≡◌, ◌+◌, ◌^◌, ◌≤◌, List, length, lines_in, settings_from, Setting}
 use Rattle.mairix_options.specs.Inside.Said.{Says}
 use Rattle.mairix_options.proofs.rcfile.rc_behind.Given as goal

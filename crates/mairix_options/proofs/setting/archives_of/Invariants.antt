@@ -1,3 +1,4 @@
+-- Each turn adds one piece unless it is empty, so the names are the pieces so far without the empty ones.
 use Rattle.mairix_options.proofs.Words.{◌≡◌, map, filter, length, nat_lt}
 use Rattle.mairix_options.proofs.setting.archives_of.Given as goal
 

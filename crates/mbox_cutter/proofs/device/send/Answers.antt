@@ -1,3 +1,4 @@
+-- `send` writes all bytes, because each call writes a front of those that are left.
 use Rattle.mbox_cutter.proofs.Words.{◌++◌, take, ◌∙◌}
 use Rattle.contract_words.proofs.Sending.{appends_join, send_step}
 use Rattle.mbox_cutter.proofs.device.send.Goals as goal

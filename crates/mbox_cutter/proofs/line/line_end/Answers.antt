@@ -1,3 +1,4 @@
+-- `line_end` returns the end of the first line, by its cases: an LF, 65,537 bytes without LF, or fewer.
 use Rattle.mbox_cutter.proofs.Words.{arith}
 use Rattle.mbox_cutter.proofs.FirstLines.{line_end_found, line_end_full, line_end_open}
 use Rattle.mbox_cutter.proofs.line.line_end.Goals as goal

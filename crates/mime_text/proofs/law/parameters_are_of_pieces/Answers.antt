@@ -1,3 +1,5 @@
+-- The parameters are those of the pieces, and no others are, because each piece has one result and is shorter than its
+-- text.
 use Rattle.mime_text.proofs.Words.{behind_semicolon}
 use Rattle.mime_text.proofs.ParameterLaws.{are_parameters, only_parameters}
 use Rattle.mime_text.proofs.law.parameters_are_of_pieces.Goals as goal

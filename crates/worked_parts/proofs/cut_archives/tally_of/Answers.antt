@@ -10,9 +10,11 @@ returns-in-Ok-Done g c =
     let a = c.next_event.follows.holds-at-none in
     let last = g.S.Source.rest after.source.now in
     let begun = c.over-cutter.result.coming in
-    let tallied = tallied_on begun c.events.cutter.coming (g.S.Source.rest c.events.cutter.source.now) last c.events.count c.events.bytes
+    let tallied = tallied_on begun c.events.cutter.coming (g.S.Source.rest c.events.cutter.source.now) last
+    c.events.count c.events.bytes
     a.stays.known c.events.invariant.tallied in
-    let counted = still-counted c.args.most (g.S.Source.rest c.args.source.now) begun last (still_known c.events.cutter.coming last) after.coming
+    let counted = still-counted c.args.most (g.S.Source.rest c.args.source.now) begun last
+    (still_known c.events.cutter.coming last) after.coming
     c.events.count c.events.bytes c.in-Ok-Done.field-0-0 c.over-cutter.ensures.coming tallied
     (rw (c.in-Ok-Done.is, c.in-Ok-Done.field-0-is) at a.answers) in
     grind (arith, counted)

@@ -1,3 +1,5 @@
+-- What was counted so far, with what the events to come count, is the whole. The loop ends because each event leaves
+-- fewer.
 use Rattle.std.proofs.Common.{◌≡◌, ◌+◌, ◌≤◌}
 use Rattle.contract_words.specs.Knowledge.{still_known}
 use Rattle.mbox_cutter.specs.Places.{left}
@@ -8,7 +10,8 @@ abbrev pub invariant-events : goal.invariant-events
 invariant-events g l = record {
   name : l.cutter.source.ghost_name ≡ l.initial.cutter.source.ghost_name;
   failures : g.S.Source.failures l.cutter.source.now ≡ g.S.Source.failures l.initial.cutter.source.now;
-  tallied : Tallied (still_known l.initial.cutter.coming (g.S.Source.rest l.cutter.source.now)) l.count l.bytes l.cutter.coming;
+  tallied : Tallied (still_known l.initial.cutter.coming (g.S.Source.rest l.cutter.source.now)) l.count l.bytes
+      l.cutter.coming;
   events : l.count + left l.cutter.place ≤ left l.initial.cutter.place;
   behind : IsBehind l.bytes l.cutter.place.phase l.cutter.place.offset;
   most : l.cutter.place.most ≡ l.initial.cutter.place.most;

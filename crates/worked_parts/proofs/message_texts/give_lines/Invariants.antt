@@ -1,3 +1,4 @@
+-- No call of the source has failed in this loop. It ends because each event leaves fewer to come.
 use Rattle.std.proofs.Common.{◌≡◌}
 use Rattle.mbox_cutter.specs.Places.{left}
 use Rattle.worked_parts.proofs.message_texts.give_lines.Given as goal

@@ -1,3 +1,4 @@
+-- The words so far, then those that still come, are all words, and each that still comes has the length of a word.
 use Rattle.std.proofs.Common.{◌≡◌, ◌++◌, All, string_bytes}
 use Rattle.std.specs.List.{concat}
 use Rattle.mail_words.specs.Words.{words, HasWordLength}

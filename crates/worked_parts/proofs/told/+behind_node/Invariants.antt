@@ -1,3 +1,5 @@
+-- The rest of the line and the separator are texts in UTF-8. The recursion ends because each member is smaller than the
+-- node.
 use denote.Text.{Utf8}
 use denote.Shadow.{shadow}
 use Rattle.worked_parts.proofs.told.+behind_node.Given as goal

@@ -1,3 +1,5 @@
+-- `Base64::push` decodes a piece up to its first `=`, because the text ends there. What a failed call added is taken
+-- back.
 use Rattle.header_text.proofs.Words.{arith}
 use Rattle.header_text.proofs.WordLaws.ReaderLemmas.{read-ended, read-on, held-symbols}
 use Rattle.header_text.proofs.TextFronts.{taken_back}

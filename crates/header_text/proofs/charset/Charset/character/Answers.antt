@@ -1,3 +1,4 @@
+-- Each character of the table for Windows-1252 is below 65,536: all of its entries are tried.
 use Rattle.header_text.proofs.Words.{refl, windows_1252_upper}
 use Rattle.header_text.proofs.WordLaws.CharsetLemmas.{small-at}
 use Rattle.header_text.proofs.charset.Charset.character.Goals as goal

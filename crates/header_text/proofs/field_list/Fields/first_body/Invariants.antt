@@ -1,3 +1,4 @@
+-- No field so far has the name, so those that are left decide.
 use Rattle.header_text.proofs.Words.{◌≡◌, ◌≤◌, fields_size}
 use Rattle.header_text.specs.Names.{first_body}
 use Rattle.header_text.proofs.field_list.Fields.first_body.Given as goal

@@ -1,3 +1,4 @@
+-- `FieldsIterator::next` slices within the bytes, because a field ends where the next one begins, or at the end of all.
 use Rattle.header_text.proofs.Words.{arith}
 use Rattle.header_text.proofs.HeaderLaws.PlaceLemmas.{next_start-le}
 use Rattle.header_text.proofs.field_list.FieldsIterator.next.Goals as goal

@@ -1,6 +1,8 @@
+-- `Header::push_line` reads a line as the definition does, by the stage after it: open, full or ended.
 use Rattle.header_text.proofs.Words.{◌≡◌, refl, sym, arith, stage_behind, Open, Full, Ended}
 use Rattle.header_text.proofs.HeaderLaws.HeaderLemmas.{fields_size-with}
-use Rattle.header_text.proofs.HeaderLaws.PushLemmas.{holds-counted, holds-skipped, holds-ended, has_empty-ended, never_ended, taken-next_ended, taken-next_more}
+use Rattle.header_text.proofs.HeaderLaws.PushLemmas.{holds-counted, holds-skipped, holds-ended, has_empty-ended}
+use Rattle.header_text.proofs.HeaderLaws.PushLemmas.{never_ended, taken-next_ended, taken-next_more}
 use Rattle.header_text.proofs.header.Header.push_line.Goals as goal
 
 pub returns-in-Ended-clause-lines : goal.returns-in-Ended-clause-lines
@@ -10,16 +12,19 @@ pub returns-in-Ended-clause-taken : goal.returns-in-Ended-clause-taken
 returns-in-Ended-clause-taken c ls h = rw (has_empty-ended _ _ _ _ ls c.args.line.now h c.in-Ended.is) refl
 
 pub returns-in_err-self-in-Open-clause-ended : goal.returns-in_err-self-in-Open-clause-ended
-returns-in_err-self-in-Open-clause-ended c ls h some = absurd (never_ended _ _ _ _ ls c.args.line.now h some c.in_default.not-Ended)
+returns-in_err-self-in-Open-clause-ended c ls h some =
+    absurd (never_ended _ _ _ _ ls c.args.line.now h some c.in_default.not-Ended)
 
 pub invariant_of-self-in-Open : goal.invariant_of-self-in-Open
 invariant_of-self-in-Open c = grind (arith, fields_size-with)
 
 pub returns-in_ok-self-in-Open : goal.returns-in_ok-self-in-Open
 returns-in_ok-self-in-Open c =
-    let opens : stage_behind c.args.self.now.stage c.args.self.now.size c.args.line.now ≡ Open = sym c.in-Open.ensures in
+    let opens : stage_behind c.args.self.now.stage c.args.self.now.size c.args.line.now ≡ Open = sym c.in-Open.ensures
+    in
     record {
-      lines = λ ls h. holds-counted _ _ _ _ ls c.args.line.now h _ _ opens c.in_ok-self-in-Open.ensures.fields c.in_ok-self-in-Open.ensures.in_field;
+      lines = λ ls h. holds-counted _ _ _ _ ls c.args.line.now h _ _ opens c.in_ok-self-in-Open.ensures.fields
+          c.in_ok-self-in-Open.ensures.in_field;
       taken = λ ls h. taken-next_more _ _ _ _ ls c.args.line.now h (λ e. absurd (cc));
       ended = λ ls h some. absurd (never_ended _ _ _ _ ls c.args.line.now h some c.in_default.not-Ended);
       refused = tt;
@@ -27,7 +32,8 @@ returns-in_ok-self-in-Open c =
 
 pub returns-in-Full : goal.returns-in-Full
 returns-in-Full c =
-    let fills : stage_behind c.args.self.now.stage c.args.self.now.size c.args.line.now ≡ Full = sym c.in-Full.ensures in
+    let fills : stage_behind c.args.self.now.stage c.args.self.now.size c.args.line.now ≡ Full = sym c.in-Full.ensures
+    in
     record {
       lines = λ ls h. holds-skipped _ _ _ _ ls c.args.line.now h Full fills (λ e. absurd (cc));
       taken = λ ls h. taken-next_more _ _ _ _ ls c.args.line.now h (λ e. absurd (cc));
@@ -37,7 +43,8 @@ returns-in-Full c =
 
 pub returns-in-Ended-stage_behind : goal.returns-in-Ended-stage_behind
 returns-in-Ended-stage_behind c =
-    let ends : stage_behind c.args.self.now.stage c.args.self.now.size c.args.line.now ≡ Ended = sym c.in-Ended-stage_behind.ensures in
+    let ends : stage_behind c.args.self.now.stage c.args.self.now.size c.args.line.now ≡ Ended =
+    sym c.in-Ended-stage_behind.ensures in
     record {
       lines = λ ls h. holds-skipped _ _ _ _ ls c.args.line.now h Ended ends (λ e. absurd (cc));
       taken = λ ls h. taken-next_ended _ _ _ _ ls c.args.line.now h ends;

@@ -1,3 +1,4 @@
+-- `Batch::add` adds the terms of all its words, because looking their keys up beforehand adds nothing.
 use Rattle.index_job.proofs.Words.{arith}
 use Rattle.index_job.proofs.batch.Batch.add.Goals as goal
 

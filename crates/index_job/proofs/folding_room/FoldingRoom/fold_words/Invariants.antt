@@ -1,3 +1,4 @@
+-- The words that the room holds, then the foldings of those to come, are the foldings of all words.
 use Rattle.index_job.proofs.Words.{◌≡◌, ◌++◌, ℕ, List, All, map, folding, HasWordLength, words, HoldsWords}
 use Rattle.index_job.proofs.folding_room.FoldingRoom.fold_words.Given as goal
 

@@ -1,3 +1,4 @@
+-- `IndexJob::finish` writes the index file of its table, because its builder does.
 use Rattle.index_job.proofs.Words.{arith}
 use Rattle.index_job.proofs.index_job.IndexJob.finish.Goals as goal
 

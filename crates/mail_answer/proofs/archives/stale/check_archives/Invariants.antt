@@ -9,7 +9,9 @@ invariant-loop-archive g l = record {
   keeps : HoldsArchives g.A.Archives l.fn.archives l.archives;
   count : g.A.Archives.failures l.archives ≡ g.A.Archives.failures l.fn.archives;
   agree : Agree g.A.Archives l.fn.index.archives l.n l.fn.archives l.archives;
-  so_far : IfSome (g.A.Archives.held l.archives) (λ bytes. first_changed 0 l.fn.index.archives bytes ≡ first_changed l.n (drop l.n l.fn.index.archives) (drop l.n bytes));
+  so_far : IfSome (g.A.Archives.held l.archives)
+      (λ bytes. first_changed 0 l.fn.index.archives bytes
+      ≡ first_changed l.n (drop l.n l.fn.index.archives) (drop l.n bytes));
 }
 
 abbrev pub decreases-loop-archive : goal.decreases-loop-archive

@@ -1,5 +1,6 @@
 -- `check_digests` finds the first altered archive, because it compares one digest after another.
-use Rattle.mail_answer.proofs.Words.{◌≡◌, ◌∙◌, true, false, subst, bytes_eq, sym, arith, drop, None, AreRead, Archive, archive_of, stale_archive}
+use Rattle.mail_answer.proofs.Words.{◌≡◌, ◌∙◌, true, false, subst, bytes_eq, sym, arith, drop, None, AreRead, Archive}
+use Rattle.mail_answer.proofs.Words.{archive_of, stale_archive}
 use Rattle.mail_answer.proofs.ArchiveLaws.StaleLemmas.{named_here, next_named, none_left}
 use Rattle.mail_answer.proofs.ArchiveLaws.VerifiedLemmas.{UnalteredTo, told_next, other_read, more_read}
 use Rattle.mail_answer.proofs.ArchiveLaws.CallLemmas.{keeps_join}
@@ -61,17 +62,21 @@ loop-archive-preserved g c =
       coming = sym step.1;
       keeps = keeps_join g.A.Archives _ _ _ i.keeps c.in_ok-digest.ensures.keeps;
       count = c.in_ok-digest.ensures.count ∙ i.count;
-      read = more_read g.A.Archives named c.loop-archive.n a c.next.new.self read c.args.archives.now c.loop-archive.archives c.read_digest.new.archives
-          lt coming (rw c.requires.version at c.requires.table.archives) fresh was same c.in_ok-digest.ensures.read i.read;
+      read = more_read g.A.Archives named c.loop-archive.n a c.next.new.self read c.args.archives.now
+          c.loop-archive.archives c.read_digest.new.archives
+          lt coming (rw c.requires.version at c.requires.table.archives) fresh was same c.in_ok-digest.ensures.read
+          i.read;
       so_far = rw step.1
           (rw same at
-          (told_next named held c.loop-archive.n a c.next.new.self read lt coming fresh so_far c.in_ok-digest.ensures.digest));
+          (told_next named held c.loop-archive.n a c.next.new.self read lt coming fresh so_far
+          c.in_ok-digest.ensures.digest));
     }
 
 pub returns-clause-found : goal.returns-clause-found
 returns-clause-found g c =
     let i = c.loop-archive.invariant in
-    subst (λ count. AreRead g.A.Archives c.args.index.now.archives count c.args.archives.now c.loop-archive.archives) (none_left _ c.loop-archive.n i.within (sym i.coming ∙ c.in_default.ensures.0)) i.read
+    subst (λ count. AreRead g.A.Archives c.args.index.now.archives count c.args.archives.now c.loop-archive.archives)
+    (none_left _ c.loop-archive.n i.within (sym i.coming ∙ c.in_default.ensures.0)) i.read
 
 pub returns-then-ne-clause-keeps : goal.returns-then-ne-clause-keeps
 returns-then-ne-clause-keeps g c = grind arith

@@ -9,5 +9,8 @@ returns-in_err-number-clause-number c = grind (arith, takes_none)
 pub returns-clause-number : goal.returns-clause-number
 returns-clause-number c =
     rw (← c.self.view_is)
-    (takes_one c.args.n c.self.inside.low c.max.result c.self.inside.count c.in_ok-number.number c.self.inside.walk.truths c.least_from.new.self.truths c.max.ensures c.in_ok-number.ensures.rest c.in_ok-number.ensures.number
-    (within_still c.max.result c.self.inside.count c.self.inside.walk.truths c.least_from.new.self.truths c.in_ok-number.ensures.rest c.self.invariant c.in_ok-number.number c.in_ok-number.ensures.number.0))
+    (takes_one c.args.n c.self.inside.low c.max.result c.self.inside.count c.in_ok-number.number
+    c.self.inside.walk.truths c.least_from.new.self.truths c.max.ensures c.in_ok-number.ensures.rest
+    c.in_ok-number.ensures.number
+    (within_still c.max.result c.self.inside.count c.self.inside.walk.truths c.least_from.new.self.truths
+    c.in_ok-number.ensures.rest c.self.invariant c.in_ok-number.number c.in_ok-number.ensures.number.0))

@@ -1,12 +1,15 @@
 -- The walks so far, and those of the keys that still come.
-use Rattle.mail_answer.proofs.Words.{◌≡◌, ◌≤◌, ◌+◌, ◌||◌, ℕ, length, some_key, left_in, some_has, HaveNumbers, numbers_passing, any_text}
+use Rattle.mail_answer.proofs.Words.{◌≡◌, ◌≤◌, ◌+◌, ◌||◌, ℕ, length, some_key, left_in, some_has, HaveNumbers}
+use Rattle.mail_answer.proofs.Words.{numbers_passing, any_text}
 use Rattle.mail_answer.proofs.cursor.texts.push_all.Given as goal
 
 abbrev pub invariant-loop-key : goal.invariant-loop-key
 invariant-loop-key l = record {
   numbers : HaveNumbers l.count l.keys;
-  each : (n : ℕ) → (some_has n l.members.items || some_key any_text n l.keys) ≡ (some_has n l.initial.members.items || some_key any_text n l.initial.keys);
-  left : left_in l.members.items + numbers_passing any_text l.keys ≤ left_in l.initial.members.items + numbers_passing any_text l.initial.keys;
+  each : (n : ℕ) → (some_has n l.members.items || some_key any_text n l.keys)
+      ≡ (some_has n l.initial.members.items || some_key any_text n l.initial.keys);
+  left : left_in l.members.items + numbers_passing any_text l.keys ≤ left_in l.initial.members.items + numbers_passing
+      any_text l.initial.keys;
 }
 
 abbrev pub decreases-loop-key : goal.decreases-loop-key

@@ -1,14 +1,18 @@
 -- `push_kind` adds the lists of the keys that fit, because their numbers are those of messages.
-use Rattle.mail_answer.proofs.Words.{◌≡◌, ◌∙◌, ℕ, Bool, List, length, sym, ap, subst, arith, list_any, keys_of, keys_beginning, begins_with, texts_with, some_key, AreNumbers, any_text, numbers_passing, numbers_fitting}
+use Rattle.mail_answer.proofs.Words.{◌≡◌, ◌∙◌, ℕ, Bool, List, length, sym, ap, subst, arith, list_any, keys_of}
+use Rattle.mail_answer.proofs.Words.{keys_beginning, begins_with, texts_with, some_key, AreNumbers, any_text}
+use Rattle.mail_answer.proofs.Words.{numbers_passing, numbers_fitting}
 use Rattle.mail_answer.proofs.CursorLaws.TextLemmas.{looked_up, sorted_keys, fitting_keys, kept_keys}
-use Rattle.mail_answer.proofs.CursorLaws.Texts.{keys_numbers, beginning_numbers, list_numbers, found_left, fitting_left, all_left, looks_up_digits, looks_up_none, if_joins}
+use Rattle.mail_answer.proofs.CursorLaws.Texts.{keys_numbers, beginning_numbers, list_numbers, found_left, fitting_left}
+use Rattle.mail_answer.proofs.CursorLaws.Texts.{all_left, looks_up_digits, looks_up_none, if_joins}
 use Rattle.mail_answer.proofs.CursorLaws.LookUpSteps.{none_taken}
 use Rattle.mail_answer.proofs.cursor.texts.push_kind.Goals as goal
 
 pub push_list-requires : goal.push_list-requires
 push_list-requires c =
     subst (λ (n : ℕ). AreNumbers n c.look_up.result) (sym c.message_count-count.ensures.count)
-    (list_numbers c.args.index.now.table c.args.kind c.args.text.now c.look_up.result c.requires c.look_up.ensures.numbers)
+    (list_numbers c.args.index.now.table c.args.kind c.args.text.now c.look_up.result c.requires
+    c.look_up.ensures.numbers)
 
 pub push_containing-requires : goal.push_containing-requires
 push_containing-requires c = grind (arith, keys_numbers)
@@ -37,12 +41,21 @@ returns-in-Front c =
     rw c.in-Front.is
     (record {
       joins =
-          if_joins c.push_all.result (λ n. some_key any_text n c.keys_beginning.result) (λ n. list_any passes (texts_with c.args.kind n c.args.index.now.table.keys)) (numbers_passing any_text c.keys_beginning.result)
-          (numbers_fitting passes c.args.index.now.table.keys c.args.kind) c.args.members.now.items c.push_all.new.members.items c.push_all.ensures
-          (λ n. fitting_keys passes n (keys_of c.args.kind c.args.index.now.table.keys) ∙ kept_keys passes n (keys_of c.args.kind c.args.index.now.table.keys) ∙ sym (ap (some_key any_text n) c.keys_beginning.ensures.keys))
-          (let same : numbers_passing any_text c.keys_beginning.result ≡ numbers_fitting passes c.args.index.now.table.keys c.args.kind =
-          ap (numbers_passing any_text) c.keys_beginning.ensures.keys ∙ all_left (keys_beginning c.args.kind c.args.text.now c.args.index.now.table.keys) in omega (arith, same));
-      steps = looks_up_none (length c.args.index.now.table.keys) c.args.index.now.steps _ c.keys_beginning.ensures.steps;
+          if_joins c.push_all.result (λ n. some_key any_text n c.keys_beginning.result)
+          (λ n. list_any passes (texts_with c.args.kind n c.args.index.now.table.keys))
+          (numbers_passing any_text c.keys_beginning.result)
+          (numbers_fitting passes c.args.index.now.table.keys c.args.kind) c.args.members.now.items
+          c.push_all.new.members.items c.push_all.ensures
+          (λ n. fitting_keys passes n (keys_of c.args.kind c.args.index.now.table.keys)
+          ∙ kept_keys passes n (keys_of c.args.kind c.args.index.now.table.keys)
+          ∙ sym (ap (some_key any_text n) c.keys_beginning.ensures.keys))
+          (let same : numbers_passing any_text c.keys_beginning.result
+          ≡ numbers_fitting passes c.args.index.now.table.keys c.args.kind =
+          ap (numbers_passing any_text) c.keys_beginning.ensures.keys
+          ∙ all_left (keys_beginning c.args.kind c.args.text.now c.args.index.now.table.keys)
+          in omega (arith, same));
+      steps = looks_up_none (length c.args.index.now.table.keys) c.args.index.now.steps _
+          c.keys_beginning.ensures.steps;
       exact = none_taken c.args.index.now.steps _ c.keys_beginning.ensures.steps;
       runs = c.keys_beginning.ensures.runs;
       table = c.keys_beginning.ensures.table;

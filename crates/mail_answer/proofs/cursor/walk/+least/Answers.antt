@@ -1,7 +1,11 @@
 -- The walks of a tree return the least number from n on, each by the numbers that its members return.
-use Rattle.mail_answer.proofs.Words.{◌≡◌, ◌∙◌, ◌<◌, ℕ, List, length, get_or, arith, eq-eqb, get_or_default, Ahead, left_in, postings_in}
+use Rattle.mail_answer.proofs.Words.{◌≡◌, ◌∙◌, ◌<◌, ℕ, List, length, get_or, arith, eq-eqb, get_or_default, Ahead}
+use Rattle.mail_answer.proofs.Words.{left_in, postings_in}
 use Rattle.mail_answer.proofs.CursorLaws.Turns.{passed_drops, passed_first, passed_all}
-use Rattle.mail_answer.proofs.CursorLaws.Members.{below-levels, turn_steps, turn_postings, none_counted, levels-set, dropped_more, dropped_drops, dropped_first, reached_none, reached_more, reached_drops, reached_number, ended_none, ended_drops, unvisited_more, whole_dropped, whole_reached}
+use Rattle.mail_answer.proofs.CursorLaws.Members.{below-levels, turn_steps, turn_postings, none_counted, levels-set}
+use Rattle.mail_answer.proofs.CursorLaws.Members.{dropped_more, dropped_drops, dropped_first, reached_none}
+use Rattle.mail_answer.proofs.CursorLaws.Members.{reached_more, reached_drops, reached_number, ended_none, ended_drops}
+use Rattle.mail_answer.proofs.CursorLaws.Members.{unvisited_more, whole_dropped, whole_reached}
 use Rattle.mail_answer.proofs.cursor.walk.+least.Goals as goal
 
 pub least_other-returns-then-ne-clause-rest : goal.least_other-returns-then-ne-clause-rest
@@ -9,8 +13,10 @@ least_other-returns-then-ne-clause-rest t c = grind (arith, passed_drops)
 
 pub least_other-returns-then-ne-clause-number : goal.least_other-returns-then-ne-clause-number
 least_other-returns-then-ne-clause-number t c =
-    passed_first c.loop-number.walk.count c.loop-number.number c.deref_mut.result.now.truths c.least_from.new.self.truths c.least_from.result
-    (omega (arith, c.loop-number-test.true, c.loop-number.invariant.count)) c.least_from.ensures.rest c.least_from.ensures.number
+    passed_first c.loop-number.walk.count c.loop-number.number c.deref_mut.result.now.truths
+    c.least_from.new.self.truths c.least_from.result
+    (omega (arith, c.loop-number-test.true, c.loop-number.invariant.count)) c.least_from.ensures.rest
+    c.least_from.ensures.number
     (λ e. grind (arith, eq-eqb))
 
 pub least_other-returns-clause-rest : goal.least_other-returns-clause-rest
@@ -36,21 +42,27 @@ least_united-loop-member-preserved t c =
     let was : w ≡ get_or old i w = is ∙ c.loop-member.invariant.unvisited.1 i w (omega arith) in
     record {
       unvisited = unvisited_more old xs i v c.loop-member.invariant.unvisited;
-      dropped = dropped_more c.args.n old xs i c.loop-member.least c.least_from-number.result c.lesser_of-least.result w v lt long was c.loop-member.invariant.dropped c.least_from-number.ensures.rest c.least_from-number.ensures.number c.lesser_of-least.ensures;
-      steps = turn_steps xs i (left_in old) c.args.steps.now c.loop-member.steps c.least_from-number.new.steps w v within is c.loop-member.invariant.steps c.least_from-number.ensures.steps;
-      postings = turn_postings xs i (postings_in old) c.args.steps.now c.loop-member.steps c.least_from-number.new.steps w v within is c.loop-member.invariant.postings c.least_from-number.ensures.postings;
+      dropped = dropped_more c.args.n old xs i c.loop-member.least c.least_from-number.result c.lesser_of-least.result w
+          v lt long was c.loop-member.invariant.dropped c.least_from-number.ensures.rest
+          c.least_from-number.ensures.number c.lesser_of-least.ensures;
+      steps = turn_steps xs i (left_in old) c.args.steps.now c.loop-member.steps c.least_from-number.new.steps w v
+          within is c.loop-member.invariant.steps c.least_from-number.ensures.steps;
+      postings = turn_postings xs i (postings_in old) c.args.steps.now c.loop-member.steps c.least_from-number.new.steps
+          w v within is c.loop-member.invariant.postings c.least_from-number.ensures.postings;
       levels = levels-set xs i w v within is c.least_from-number.ensures.below ∙ c.loop-member.invariant.levels;
     }
 
 pub least_united-returns-clause-rest : goal.least_united-returns-clause-rest
 least_united-returns-clause-rest t c =
     dropped_drops c.args.n c.args.members.now c.loop-member.members c.loop-member.least
-    (whole_dropped c.args.n c.args.members.now c.loop-member.members c.loop-member.member-index c.loop-member.least c.loop-member.auto.members (omega arith) c.loop-member.invariant.dropped)
+    (whole_dropped c.args.n c.args.members.now c.loop-member.members c.loop-member.member-index c.loop-member.least
+    c.loop-member.auto.members (omega arith) c.loop-member.invariant.dropped)
 
 pub least_united-returns-clause-number : goal.least_united-returns-clause-number
 least_united-returns-clause-number t c =
     dropped_first c.args.n c.args.members.now c.loop-member.members c.loop-member.least
-    (whole_dropped c.args.n c.args.members.now c.loop-member.members c.loop-member.member-index c.loop-member.least c.loop-member.auto.members (omega arith) c.loop-member.invariant.dropped)
+    (whole_dropped c.args.n c.args.members.now c.loop-member.members c.loop-member.member-index c.loop-member.least
+    c.loop-member.auto.members (omega arith) c.loop-member.invariant.dropped)
 
 pub reach_common-loop-member-init : goal.reach_common-loop-member-init
 reach_common-loop-member-init t c = grind (arith, reached_none, none_counted)
@@ -71,7 +83,8 @@ reach_common-returns-in_err-number-clause-steps t c =
     let w : Ahead = get_or xs i c.member-item.result in
     let within : i < length xs = omega (arith, c.loop-member-test.true, c.loop-member.auto.members) in
     let is : w ≡ get_or xs i w = get_or_default xs i c.member-item.result w within in
-    turn_steps xs i (left_in c.args.members.now) c.args.steps.now c.loop-member.steps c.least_from.new.steps w c.least_from.new.self within is c.loop-member.invariant.steps c.least_from.ensures.steps
+    turn_steps xs i (left_in c.args.members.now) c.args.steps.now c.loop-member.steps c.least_from.new.steps w
+    c.least_from.new.self within is c.loop-member.invariant.steps c.least_from.ensures.steps
 
 pub reach_common-returns-in_err-number-clause-postings : goal.reach_common-returns-in_err-number-clause-postings
 reach_common-returns-in_err-number-clause-postings t c =
@@ -80,7 +93,8 @@ reach_common-returns-in_err-number-clause-postings t c =
     let w : Ahead = get_or xs i c.member-item.result in
     let within : i < length xs = omega (arith, c.loop-member-test.true, c.loop-member.auto.members) in
     let is : w ≡ get_or xs i w = get_or_default xs i c.member-item.result w within in
-    turn_postings xs i (postings_in c.args.members.now) c.args.steps.now c.loop-member.steps c.least_from.new.steps w c.least_from.new.self within is c.loop-member.invariant.postings c.least_from.ensures.postings
+    turn_postings xs i (postings_in c.args.members.now) c.args.steps.now c.loop-member.steps c.least_from.new.steps w
+    c.least_from.new.self within is c.loop-member.invariant.postings c.least_from.ensures.postings
 
 pub reach_common-returns-in_err-number-clause-below : goal.reach_common-returns-in_err-number-clause-below
 reach_common-returns-in_err-number-clause-below t c = grind (arith, get_or_default, levels-set)
@@ -99,20 +113,27 @@ reach_common-loop-member-preserved t c =
     let was : w ≡ get_or old i w = is ∙ c.loop-member.invariant.unvisited.1 i w (omega arith) in
     record {
       unvisited = unvisited_more old xs i v c.loop-member.invariant.unvisited;
-      reached = reached_more c.args.n old xs i c.loop-member.number c.in_ok-number.number w v lt long was c.loop-member.invariant.reached c.least_from.ensures.rest c.in_ok-number.ensures.number;
-      steps = turn_steps xs i (left_in old) c.args.steps.now c.loop-member.steps c.least_from.new.steps w v within is c.loop-member.invariant.steps c.least_from.ensures.steps;
-      postings = turn_postings xs i (postings_in old) c.args.steps.now c.loop-member.steps c.least_from.new.steps w v within is c.loop-member.invariant.postings c.least_from.ensures.postings;
+      reached = reached_more c.args.n old xs i c.loop-member.number c.in_ok-number.number w v lt long was
+          c.loop-member.invariant.reached c.least_from.ensures.rest c.in_ok-number.ensures.number;
+      steps = turn_steps xs i (left_in old) c.args.steps.now c.loop-member.steps c.least_from.new.steps w v within is
+          c.loop-member.invariant.steps c.least_from.ensures.steps;
+      postings = turn_postings xs i (postings_in old) c.args.steps.now c.loop-member.steps c.least_from.new.steps w v
+          within is c.loop-member.invariant.postings c.least_from.ensures.postings;
       levels = levels-set xs i w v within is c.least_from.ensures.below ∙ c.loop-member.invariant.levels;
     }
 
 pub reach_common-returns-clause-rest : goal.reach_common-returns-clause-rest
 reach_common-returns-clause-rest t c =
     let long : length c.loop-member.members ≡ length c.args.members.now = c.loop-member.auto.members in
-    reached_drops c.args.n c.args.members.now c.loop-member.members c.loop-member.number (omega (arith, c.requires)) (omega (arith, long, c.requires))
-    (whole_reached c.args.n c.args.members.now c.loop-member.members c.loop-member.member-index c.loop-member.number long (omega arith) c.loop-member.invariant.reached)
+    reached_drops c.args.n c.args.members.now c.loop-member.members c.loop-member.number (omega (arith, c.requires))
+    (omega (arith, long, c.requires))
+    (whole_reached c.args.n c.args.members.now c.loop-member.members c.loop-member.member-index c.loop-member.number
+    long (omega arith) c.loop-member.invariant.reached)
 
 pub reach_common-returns-clause-number : goal.reach_common-returns-clause-number
 reach_common-returns-clause-number t c =
     let long : length c.loop-member.members ≡ length c.args.members.now = c.loop-member.auto.members in
-    reached_number c.args.n c.args.members.now c.loop-member.members c.loop-member.number (omega (arith, long, c.requires))
-    (whole_reached c.args.n c.args.members.now c.loop-member.members c.loop-member.member-index c.loop-member.number long (omega arith) c.loop-member.invariant.reached)
+    reached_number c.args.n c.args.members.now c.loop-member.members c.loop-member.number
+    (omega (arith, long, c.requires))
+    (whole_reached c.args.n c.args.members.now c.loop-member.members c.loop-member.member-index c.loop-member.number
+    long (omega arith) c.loop-member.invariant.reached)

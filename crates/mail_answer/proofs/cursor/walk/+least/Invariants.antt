@@ -1,5 +1,6 @@
 -- What the members have passed so far is what the node drops; the calls end, because members are on lower levels.
-use Rattle.mail_answer.proofs.Words.{◌-◌, ◌^◌, ◌≡◌, ◌+◌, ◌*◌, ◌<◌, length, take, CountsPostings, Spends, common, left_in, postings_in, levels}
+use Rattle.mail_answer.proofs.Words.{◌-◌, ◌^◌, ◌≡◌, ◌+◌, ◌*◌, ◌<◌, length, take, CountsPostings, Spends, common}
+use Rattle.mail_answer.proofs.Words.{left_in, postings_in, levels}
 use Rattle.mail_answer.specs.Inside.CursorWalks.{ahead}
 use Rattle.mail_answer.proofs.CursorLaws.Turns.{HasPassed}
 use Rattle.mail_answer.proofs.CursorLaws.Members.{Unvisited, HaveDropped, HaveReached, HasRisen}

@@ -3,4 +3,5 @@ use Rattle.mail_answer.proofs.Words.{◌≡◌, ℕ, List, ◌++◌, take, endin
 use Rattle.mail_answer.proofs.output.ending.with_each.Given as goal
 
 abbrev pub invariant-loop-b : goal.invariant-loop-b
-invariant-loop-b l = (bytes : List ℕ) → l.fn.before ≡ ending_of bytes → l.ending ≡ ending_of (bytes ++ take l.b-index l.more)
+invariant-loop-b l = (bytes : List ℕ) → l.fn.before ≡ ending_of bytes → l.ending
+    ≡ ending_of (bytes ++ take l.b-index l.more)

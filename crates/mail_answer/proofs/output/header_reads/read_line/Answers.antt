@@ -17,5 +17,8 @@ returns-then-n-eq0-clause-fields g c =
 pub returns-clause-fields : goal.returns-clause-fields
 returns-clause-fields g c =
     let some : 0 < c.in_ok-n.n = omega (arith, c.if-n-eq0.false) in
-    line_given (g.A.Archives.held c.first_line.new.archives) c.in_ok-n.n c.args.reader.now c.first_line.new.self c.pass.new.self c.args.header.now c.push_line.new.self _ c.in_ok-taken.taken c.in_ok-n.ensures.coming some c.in_ok-n.ensures.within
-    c.in_ok-n.ensures.line (ap (take c.in_ok-n.n) c.unread.ensures) c.pass.ensures c.in_ok-taken.ensures.lines c.in_ok-taken.ensures.taken
+    line_given (g.A.Archives.held c.first_line.new.archives) c.in_ok-n.n c.args.reader.now c.first_line.new.self
+    c.pass.new.self c.args.header.now c.push_line.new.self _ c.in_ok-taken.taken c.in_ok-n.ensures.coming some
+    c.in_ok-n.ensures.within
+    c.in_ok-n.ensures.line (ap (take c.in_ok-n.n) c.unread.ensures) c.pass.ensures c.in_ok-taken.ensures.lines
+    c.in_ok-taken.ensures.taken

@@ -1,7 +1,13 @@
 -- `push_mbox` adds a closed span, piece by piece, because the ending decides what closes it.
-use Rattle.mail_answer.proofs.Words.{◌≡◌, ◌∙◌, ℕ, record_at, List, ◌++◌, length, length-append, Option, None, Some, ap, sym, refl, append-nil, arith, nat_tests, err_from_is_err_and, option_map, ending_of, feeds_of, Reading, coming, coming_count, span_reading, closed, stale_archive, Tells}
-use Rattle.mail_answer.proofs.OutputLaws.CopiedPieces.{known_closed, pieces_more, front_told, closed_told, closed_begins, closed_by_last}
-use Rattle.mail_answer.proofs.OutputLaws.SheetLemmas.{joins_gathered, joins_more, joins_front, front_more, writes_next, writes_less, writes_err, unsent_before, unsent_before_front, unsent_before_writes}
+use Rattle.mail_answer.proofs.Words.{◌≡◌, ◌∙◌, ℕ, record_at, List, ◌++◌, length, length-append, Option, None, Some, ap}
+use Rattle.mail_answer.proofs.Words.{sym, refl, append-nil, arith, nat_tests, err_from_is_err_and, option_map}
+use Rattle.mail_answer.proofs.Words.{ending_of, feeds_of, Reading, coming, coming_count, span_reading, closed}
+use Rattle.mail_answer.proofs.Words.{stale_archive, Tells}
+use Rattle.mail_answer.proofs.OutputLaws.CopiedPieces.{known_closed, pieces_more, front_told, closed_told}
+use Rattle.mail_answer.proofs.OutputLaws.CopiedPieces.{closed_begins, closed_by_last}
+use Rattle.mail_answer.proofs.OutputLaws.SheetLemmas.{joins_gathered, joins_more, joins_front, front_more, writes_next}
+use Rattle.mail_answer.proofs.OutputLaws.SheetLemmas.{writes_less, writes_err, unsent_before, unsent_before_front}
+use Rattle.mail_answer.proofs.OutputLaws.SheetLemmas.{unsent_before_writes}
 use Rattle.mail_answer.proofs.ArchiveLaws.CallLemmas.{keeps_self, keeps_join}
 use Rattle.mail_answer.proofs.ArchiveLaws.IndexedLemmas.{message_inside, message_some}
 use Rattle.mail_answer.proofs.ArchiveLaws.KnowledgeLemmas.{copied_later, some_later}
@@ -14,7 +20,8 @@ pieces-init g c =
     let m = record_at t.messages c.args.n in
     let is : c.message.result ≡ m = cc (c.message.ensures, record_known t.messages c.args.n c.requires.below) in
     let part : c.of-part.result ≡ span_reading m = c.of-part.ensures ∙ ap span_reading is in
-    let inside = message_inside t (g.A.Archives.held c.args.archives.now) (g.A.Archives.number c.args.archives.now) c.args.n c.requires.table c.requires.below c.requires.indexed.number c.requires.indexed.fresh in
+    let inside = message_inside t (g.A.Archives.held c.args.archives.now) (g.A.Archives.number c.args.archives.now)
+    c.args.n c.requires.table c.requires.below c.requires.indexed.number c.requires.indexed.fresh in
     rw part (grind (arith, keeps_self, joins_gathered, append-nil, inside))
 
 pub copy_piece-requires-clause-some : goal.copy_piece-requires-clause-some
@@ -58,7 +65,8 @@ returns-in_err-ending-clause-writes g c =
     c.in_err-ending.ensures.archives.keeps.held j.1 in
     let told = front_told (coming held span) (coming held c.pieces.part) j.0 w.0 so_far w.1 in
     rw (← known_closed c.args.index.now held c.args.n)
-    (writes_err (g.O.Out.taken c.args.out.now) (g.O.Out.taken c.copy_piece.new.out) c.args.sheet.now c.copy_piece.new.sheet (option_map closed (coming held span)) c.from_residual.result c.from_residual.ensures.0
+    (writes_err (g.O.Out.taken c.args.out.now) (g.O.Out.taken c.copy_piece.new.out) c.args.sheet.now
+    c.copy_piece.new.sheet (option_map closed (coming held span)) c.from_residual.result c.from_residual.ensures.0
     ((j.0 ++ w.0) ++ told.0, told.1, front_more told.0 (joins_front j.3 w.2)))
 
 pub returns-in_err-ending-clause-out : goal.returns-in_err-ending-clause-out
@@ -77,14 +85,19 @@ returns-clause-writes g c =
     let fresh = some_later (λ archives. stale_archive t.archives archives ≡ None)
     (g.A.Archives.held c.args.archives.now) held i.keeps.held
     c.requires.indexed.fresh in
-    let inside = message_inside t held number c.args.n c.requires.table c.requires.below c.requires.indexed.number fresh in
+    let inside = message_inside t held number c.args.n c.requires.table c.requires.below c.requires.indexed.number fresh
+    in
     let told : Tells (option_map closed (coming held span)) (j.0 ++ feeds_of (ending_of j.0)) =
-    closed_told held number span c.pieces.part j.0 inside (omega (arith, message_some t c.args.n c.requires.table c.requires.below)) j.1 none
+    closed_told held number span c.pieces.part j.0 inside
+    (omega (arith, message_some t c.args.n c.requires.table c.requires.below)) j.1 none
     (rw i.keeps.number at i.inside) in
     let same : feeds_of (ending_of j.0) ≡ feeds = ap feeds_of (sym j.2) ∙ sym c.feeds.ensures in
     rw (← known_closed c.args.index.now held c.args.n)
-    (writes_less (g.O.Out.taken c.args.out.now) (g.O.Out.taken c.push.new.out) c.args.sheet.now c.push.new.self (option_map closed (coming held span)) (j.0 ++ feeds) c.push.result (rw same at told)
-    (writes_next (g.O.Out.taken c.args.out.now) (g.O.Out.taken c.pieces.out) (g.O.Out.taken c.push.new.out) c.args.sheet.now c.pieces.sheet c.push.new.self (Some j.0) (Some feeds) c.push.result (j.0, refl, j.3) c.push.ensures.writes))
+    (writes_less (g.O.Out.taken c.args.out.now) (g.O.Out.taken c.push.new.out) c.args.sheet.now c.push.new.self
+    (option_map closed (coming held span)) (j.0 ++ feeds) c.push.result (rw same at told)
+    (writes_next (g.O.Out.taken c.args.out.now) (g.O.Out.taken c.pieces.out) (g.O.Out.taken c.push.new.out)
+    c.args.sheet.now c.pieces.sheet c.push.new.self (Some j.0) (Some feeds) c.push.result (j.0, refl, j.3)
+    c.push.ensures.writes))
 
 pub returns-in_err-ending-clause-span : goal.returns-in_err-ending-clause-span
 returns-in_err-ending-clause-span g c =
@@ -95,7 +108,8 @@ returns-in_err-ending-clause-span g c =
     let begins = closed_begins bytes in (
       bytes,
       omega (arith, length-append j.0 w.0, j.4, w.3),
-      writes_err (g.O.Out.taken c.args.out.now) (g.O.Out.taken c.copy_piece.new.out) c.args.sheet.now c.copy_piece.new.sheet (Some (closed bytes)) c.from_residual.result c.from_residual.ensures.0
+      writes_err (g.O.Out.taken c.args.out.now) (g.O.Out.taken c.copy_piece.new.out) c.args.sheet.now
+          c.copy_piece.new.sheet (Some (closed bytes)) c.from_residual.result c.from_residual.ensures.0
           (bytes ++ begins.0, begins.1, front_more begins.0 (joins_front j.3 w.2)),
     )
 
@@ -107,11 +121,16 @@ returns-clause-span g c =
     let none : coming_count c.pieces.part ≡ 0 = grind (arith, nat_tests) in
     let long : length j.0 ≡ (record_at c.args.index.now.messages c.args.n).length = omega (arith, j.4, none) in
     let same : feeds_of (ending_of j.0) ≡ feeds = ap feeds_of (sym j.2) ∙ sym c.feeds.ensures in
-    let is : closed j.0 ≡ j.0 ++ feeds = closed_by_last j.0 (omega (arith, long, message_some c.args.index.now c.args.n c.requires.table c.requires.below)) ∙ ap (λ (l : List ℕ). j.0 ++ l) same in (
+    let is : closed j.0 ≡ j.0 ++ feeds = closed_by_last j.0
+    (omega (arith, long, message_some c.args.index.now c.args.n c.requires.table c.requires.below))
+    ∙ ap (λ (l : List ℕ). j.0 ++ l) same in (
       j.0,
       long,
-      writes_less (g.O.Out.taken c.args.out.now) (g.O.Out.taken c.push.new.out) c.args.sheet.now c.push.new.self (Some (closed j.0)) (j.0 ++ feeds) c.push.result is
-          (writes_next (g.O.Out.taken c.args.out.now) (g.O.Out.taken c.pieces.out) (g.O.Out.taken c.push.new.out) c.args.sheet.now c.pieces.sheet c.push.new.self (Some j.0) (Some feeds) c.push.result (j.0, refl, j.3) c.push.ensures.writes),
+      writes_less (g.O.Out.taken c.args.out.now) (g.O.Out.taken c.push.new.out) c.args.sheet.now c.push.new.self
+          (Some (closed j.0)) (j.0 ++ feeds) c.push.result is
+          (writes_next (g.O.Out.taken c.args.out.now) (g.O.Out.taken c.pieces.out) (g.O.Out.taken c.push.new.out)
+          c.args.sheet.now c.pieces.sheet c.push.new.self (Some j.0) (Some feeds) c.push.result (j.0, refl, j.3)
+          c.push.ensures.writes),
     )
 
 pub returns-clause-out : goal.returns-clause-out

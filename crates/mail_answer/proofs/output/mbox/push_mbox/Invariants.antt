@@ -1,5 +1,6 @@
 -- Some pieces were added to the answer; they and the rest are the span.
-use Rattle.mail_answer.proofs.Words.{◌≡◌, ◌+◌, ℕ, List, ◌++◌, length, option_map, record_at, ending_of, coming, coming_count, span_reading, IsInside, Joins, KeepsArchives}
+use Rattle.mail_answer.proofs.Words.{◌≡◌, ◌+◌, ℕ, List, ◌++◌, length, option_map, record_at, ending_of, coming}
+use Rattle.mail_answer.proofs.Words.{coming_count, span_reading, IsInside, Joins, KeepsArchives}
 use Rattle.mail_answer.proofs.output.mbox.push_mbox.Given as goal
 
 abbrev pub invariant-pieces : goal.invariant-pieces
@@ -8,7 +9,8 @@ invariant-pieces g l = record {
   inside : IsInside (g.A.Archives.number l.archives) (g.A.Archives.held l.archives) l.part;
   archive : l.part.archive ≡ (record_at l.fn.index.messages l.fn.n).archive;
   joins : (text : List ℕ)
-      × (coming (g.A.Archives.held l.archives) (span_reading (record_at l.fn.index.messages l.fn.n)) ≡ option_map (λ bytes. text ++ bytes) (coming (g.A.Archives.held l.archives) l.part))
+      × (coming (g.A.Archives.held l.archives) (span_reading (record_at l.fn.index.messages l.fn.n))
+      ≡ option_map (λ bytes. text ++ bytes) (coming (g.A.Archives.held l.archives) l.part))
       × (l.ending ≡ ending_of text) × Joins (g.O.Out.taken l.fn.out) (g.O.Out.taken l.out) l.fn.sheet l.sheet text
       × (coming_count (span_reading (record_at l.fn.index.messages l.fn.n)) ≡ length text + coming_count l.part);
   kept : l.sheet.sent ≡ 0 → l.out ≡ l.fn.out;

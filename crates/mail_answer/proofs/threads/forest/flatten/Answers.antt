@@ -10,6 +10,8 @@ loop-number-preserved c =
     let back : LeadsBack p = c.loop-number.invariant.shortened.back c.requires in
     let within : i < length p = omega arith in
     record {
-      shortened = shorter_still c.args.parents.now p c.lift.new.parents c.loop-number.invariant.shortened (lifted_to p c.lift.new.parents i c.lift.result back within c.lift.ensures.value c.lift.ensures.after);
-      flat = flat_more p c.lift.new.parents i c.lift.result back within c.lift.ensures.value c.lift.ensures.after c.loop-number.invariant.flat;
+      shortened = shorter_still c.args.parents.now p c.lift.new.parents c.loop-number.invariant.shortened
+          (lifted_to p c.lift.new.parents i c.lift.result back within c.lift.ensures.value c.lift.ensures.after);
+      flat = flat_more p c.lift.new.parents i c.lift.result back within c.lift.ensures.value c.lift.ensures.after
+          c.loop-number.invariant.flat;
     }

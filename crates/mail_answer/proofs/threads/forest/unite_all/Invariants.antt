@@ -7,7 +7,8 @@ invariant-loop-number l = record {
   back : LeadsBack l.parents;
   first_within : l.first < length l.initial.parents;
   within : AllByRecursion (λ n. n < length l.initial.parents) l.numbers;
-  united : (later : List ℕ) → Unites (AreBothAmong (l.first ∷ l.numbers)) l.parents later → Unites (AreBothAmong (l.first ∷ l.initial.numbers)) l.initial.parents later;
+  united : (later : List ℕ) → Unites (AreBothAmong (l.first ∷ l.numbers)) l.parents later
+      → Unites (AreBothAmong (l.first ∷ l.initial.numbers)) l.initial.parents later;
 }
 
 abbrev pub decreases-loop-number : goal.decreases-loop-number

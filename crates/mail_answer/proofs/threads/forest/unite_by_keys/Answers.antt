@@ -9,11 +9,15 @@ loop-key-preserved c =
     let key : List ℕ × List ℕ = (c.in-Some.key.text.now, c.in-Some.key.postings) in
     let rest : List (List ℕ × List ℕ) = c.next.new.self in
     let split : c.loop-key.keys ≡ key ∷ rest = c.in-Some.ensures in
-    let within : AllByRecursion (λ (k : List ℕ × List ℕ). AllByRecursion (λ n. n < length c.args.parents.now) k.1) (key ∷ rest) =
-    subst (λ (ks : List (List ℕ × List ℕ)). AllByRecursion (λ (k : List ℕ × List ℕ). AllByRecursion (λ n. n < length c.args.parents.now) k.1) ks) split c.loop-key.invariant.within in
+    let within : AllByRecursion (λ (k : List ℕ × List ℕ). AllByRecursion (λ n. n < length c.args.parents.now) k.1)
+    (key ∷ rest) =
+    subst (λ (ks : List (List ℕ × List ℕ)). AllByRecursion
+    (λ (k : List ℕ × List ℕ). AllByRecursion (λ n. n < length c.args.parents.now) k.1) ks) split
+    c.loop-key.invariant.within in
     record {
       back = c.unite_all.ensures.back c.loop-key.invariant.back;
       within = within.1;
       united = λ later given.
-          c.loop-key.invariant.united later (subst (λ (ks : List (List ℕ × List ℕ)). Unites (ShareKey ks) p later) (sym split) (keys_more p c.unite_all.new.parents later key rest c.unite_all.ensures given));
+          c.loop-key.invariant.united later (subst (λ (ks : List (List ℕ × List ℕ)). Unites (ShareKey ks) p later)
+          (sym split) (keys_more p c.unite_all.new.parents later key rest c.unite_all.ensures given));
     }

@@ -6,7 +6,8 @@ abbrev pub invariant-loop-key : goal.invariant-loop-key
 invariant-loop-key l = record {
   back : LeadsBack l.parents;
   within : AllByRecursion (λ k. AllByRecursion (λ n. n < length l.initial.parents) k.1) l.keys;
-  united : (later : List ℕ) → Unites (ShareKey l.keys) l.parents later → Unites (ShareKey l.initial.keys) l.initial.parents later;
+  united : (later : List ℕ) → Unites (ShareKey l.keys) l.parents later
+      → Unites (ShareKey l.initial.keys) l.initial.parents later;
 }
 
 abbrev pub decreases-loop-key : goal.decreases-loop-key

@@ -1,3 +1,4 @@
+-- No year after this one fits. The loop ends because each turn goes down by one year, and the calendar has a first one.
 use Rattle.mail_dates.proofs.LatestYear.{place, IsSearch}
 use Rattle.mail_dates.proofs.days.DaysOfYear.latest.Given as goal
 

@@ -1,3 +1,4 @@
+-- `Period::days` gives a period without a year its latest days, because the day `by` is a number of 32 bits.
 use Rattle.mail_dates.proofs.Words.{arith, to_z-of_z}
 use Rattle.mail_dates.proofs.period.Period.days.Goals as goal
 

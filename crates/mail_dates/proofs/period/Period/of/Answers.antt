@@ -1,3 +1,4 @@
+-- `Period::of` tries the forms in the order of the definition; how the alternatives are grouped doesn't matter.
 use Rattle.mail_dates.proofs.Words.{◌≡◌, Option, Some, None, refl, arith, period_of}
 use Rattle.std.specs.Option.{option_or}
 use Rattle.mail_dates.proofs.period.Period.of.Goals as goal

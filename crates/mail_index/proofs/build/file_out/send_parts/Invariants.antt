@@ -5,5 +5,6 @@ use Rattle.mail_index.proofs.build.file_out.send_parts.Given as goal
 
 abbrev pub invariant-loop-part : goal.invariant-loop-part
 invariant-loop-part g l =
-    IsSigning (g.O.Out.taken l.fn.out) (g.O.Out.taken l.out) l.fn.signer l.signer (concat (map (λ p. p.now) l.parts)) (concat (map (λ p. p.now) (drop l.part-index l.parts)))
+    IsSigning (g.O.Out.taken l.fn.out) (g.O.Out.taken l.out) l.fn.signer l.signer (concat (map (λ p. p.now) l.parts))
+    (concat (map (λ p. p.now) (drop l.part-index l.parts)))
     × (g.O.Out.failures l.out ≡ g.O.Out.failures l.fn.out)

@@ -7,18 +7,26 @@ use Rattle.mail_index.proofs.build.key_map.add_number.Goals as goal
 
 pub returns-clause-step : goal.returns-clause-step
 returns-clause-step c =
-    let pushed : set c.args.entries.now.items c.args.entry c.push.new.self ≡ set c.args.entries.now.items c.args.entry (with_one (key_at c.args.entries.now.items c.args.entry) c.args.key.now.number) =
+    let pushed : set c.args.entries.now.items c.args.entry c.push.new.self
+    ≡ set c.args.entries.now.items c.args.entry
+    (with_one (key_at c.args.entries.now.items c.args.entry) c.args.key.now.number) =
     first_of (search rules, grind (arith, common_steps)) in
     subst (λ (es : List Key). AreInStep es c.args.order.now) (sym pushed) (record {
       between = c.requires.step.between;
-      sorts = order-found c.args.entries.now.items c.args.entry c.args.key.now.number (numbers_in c.args.order.now) c.requires.found.0 c.requires.step.sorts;
-      fronted = fronted-found c.args.entries.now.items c.args.entry c.args.key.now.number (slots_in c.args.order.now) c.requires.found.0 c.requires.step.fronted;
+      sorts = order-found c.args.entries.now.items c.args.entry c.args.key.now.number (numbers_in c.args.order.now)
+          c.requires.found.0 c.requires.step.sorts;
+      fronted = fronted-found c.args.entries.now.items c.args.entry c.args.key.now.number (slots_in c.args.order.now)
+          c.requires.found.0 c.requires.step.fronted;
     })
 
 pub returns-clause-ok : goal.returns-clause-ok
 returns-clause-ok c =
-    let pushed : set c.args.entries.now.items c.args.entry c.push.new.self ≡ set c.args.entries.now.items c.args.entry (with_one (key_at c.args.entries.now.items c.args.entry) c.args.key.now.number) =
+    let pushed : set c.args.entries.now.items c.args.entry c.push.new.self
+    ≡ set c.args.entries.now.items c.args.entry
+    (with_one (key_at c.args.entries.now.items c.args.entry) c.args.key.now.number) =
     first_of (search rules, grind (arith, common_steps)) in
     let order : List ℕ = numbers_in c.args.order.now in
     ap (λ (es : List Key). placed es order) pushed
-    ∙ sym (with_pair-found c.args.key.now.kind c.args.key.now.text.now c.args.key.now.number c.args.entries.now.items c.args.entry order c.requires.found.0 c.requires.found.1 c.requires.step.sorts.sorted (c.requires.step.sorts.whole c.args.entry c.requires.found.0))
+    ∙ sym (with_pair-found c.args.key.now.kind c.args.key.now.text.now c.args.key.now.number c.args.entries.now.items
+    c.args.entry order c.requires.found.0 c.requires.found.1 c.requires.step.sorts.sorted
+    (c.requires.step.sorts.whole c.args.entry c.requires.found.0))

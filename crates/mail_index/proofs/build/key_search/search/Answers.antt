@@ -7,15 +7,18 @@ use Rattle.mail_index.proofs.build.key_search.search.Goals as goal
 pub loop-low-preserved-in-Less : goal.loop-low-preserved-in-Less
 loop-low-preserved-in-Less c =
     let middle : ℕ = c.loop-low.low + (c.loop-low.high - c.loop-low.low) / 2 in
-    let long : length (slot_keys c.args.entries.now c.args.slots.now) ≡ length c.args.slots.now = slots-long c.args.entries.now c.args.slots.now in
+    let long : length (slot_keys c.args.entries.now c.args.slots.now) ≡ length c.args.slots.now =
+    slots-long c.args.entries.now c.args.slots.now in
     let inside : middle < length c.args.slots.now = omega (arith, long, c.loop-low.invariant.within) in
     record {
       order = omega arith;
       within = c.loop-low.invariant.within;
       below = λ j e.
           let same : j ≡ middle = omega (arith, e) in
-          ap (λ (i : ℕ). lies_to c.args.kind c.args.text.now (key_at (slot_keys c.args.entries.now c.args.slots.now) i)) same
-          ∙ ap (lies_to c.args.kind c.args.text.now) (slot-at c.args.entries.now c.args.slots.now middle _ inside) ∙ sym c.in-Less.ensures;
+          ap (λ (i : ℕ). lies_to c.args.kind c.args.text.now (key_at (slot_keys c.args.entries.now c.args.slots.now) i))
+          same
+          ∙ ap (lies_to c.args.kind c.args.text.now) (slot-at c.args.entries.now c.args.slots.now middle _ inside)
+          ∙ sym c.in-Less.ensures;
       above = c.loop-low.invariant.above;
     }
 
@@ -28,5 +31,7 @@ returns-clause-place c =
     record {
       within = omega (arith, end, c.loop-low.invariant.within);
       below = c.loop-low.invariant.below;
-      above = λ lt. ap (λ (i : ℕ). lies_to c.args.kind c.args.text.now (key_at (slot_keys c.args.entries.now c.args.slots.now) i)) end ∙ c.loop-low.invariant.above (omega (arith, lt, end));
+      above = λ lt. ap (λ (i : ℕ). lies_to c.args.kind c.args.text.now
+          (key_at (slot_keys c.args.entries.now c.args.slots.now) i)) end
+          ∙ c.loop-low.invariant.above (omega (arith, lt, end));
     }

@@ -5,5 +5,6 @@ use Rattle.mail_index.proofs.build.key_sections.key_bytes.Given as goal
 abbrev pub invariant-loop-key : goal.invariant-loop-key
 invariant-loop-key l = record {
   texts : l.texts + length (texts_of (map entry_of l.key-iterator)) ≡ length (texts_of (map entry_of l.fn.keys));
-  postings : l.postings + length (postings_of (map entry_of l.key-iterator)) ≡ length (postings_of (map entry_of l.fn.keys));
+  postings : l.postings + length (postings_of (map entry_of l.key-iterator))
+      ≡ length (postings_of (map entry_of l.fn.keys));
 }

@@ -6,7 +6,9 @@ use Rattle.mail_index.proofs.build.key_sections.send_keys.Given as goal
 
 abbrev pub invariant-loop-key : goal.invariant-loop-key
 invariant-loop-key g l =
-    IsSigning (g.O.Out.taken l.fn.out) (g.O.Out.taken l.out) l.fn.signer l.signer (keys_from l.part 0 0 (map entry_of l.fn.keys)) (keys_from l.part l.text_place l.place (map entry_of l.key-iterator))
+    IsSigning (g.O.Out.taken l.fn.out) (g.O.Out.taken l.out) l.fn.signer l.signer
+    (keys_from l.part 0 0 (map entry_of l.fn.keys))
+    (keys_from l.part l.text_place l.place (map entry_of l.key-iterator))
     × (g.O.Out.failures l.out ≡ g.O.Out.failures l.fn.out)
     × (l.text_place + length (texts_of (map entry_of l.key-iterator)) ≡ length (texts_of (map entry_of l.fn.keys)))
     × (l.place + length (postings_of (map entry_of l.key-iterator)) ≡ length (postings_of (map entry_of l.fn.keys)))

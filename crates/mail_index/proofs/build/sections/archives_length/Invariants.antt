@@ -4,4 +4,6 @@ use Rattle.mail_index.specs.Inside.Drafts.{kept_archive}
 use Rattle.mail_index.proofs.build.sections.archives_length.Given as goal
 
 abbrev pub invariant-loop-archive : goal.invariant-loop-archive
-invariant-loop-archive l = l.total + length (flat_map archive_bytes (map kept_archive (drop l.archive-index l.archives))) ≡ length (flat_map archive_bytes (map kept_archive l.archives))
+invariant-loop-archive l = l.total + length
+    (flat_map archive_bytes (map kept_archive (drop l.archive-index l.archives)))
+    ≡ length (flat_map archive_bytes (map kept_archive l.archives))

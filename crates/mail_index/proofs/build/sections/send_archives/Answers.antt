@@ -1,5 +1,6 @@
 -- `send_archives` writes all archives as one text, archive by archive.
-use Rattle.mail_index.proofs.Words.{◌≡◌, ℕ, ◌+◌, ◌<◌, List, ◌++◌, length, map, drop, get_or, flat_map, ap, ◌∙◌, archive_bytes}
+use Rattle.mail_index.proofs.Words.{◌≡◌, ℕ, ◌+◌, ◌<◌, List, ◌++◌, length, map, drop, get_or, flat_map, ap, ◌∙◌}
+use Rattle.mail_index.proofs.Words.{archive_bytes}
 use Rattle.mail_index.specs.declared.build.draft.NamedArchive.{NamedArchive}
 use Rattle.mail_index.specs.Inside.Drafts.{kept_archive}
 use Rattle.mail_index.proofs.BuildLaws.SigningLemmas.{signing-next, signing-stop, from-item}
@@ -14,12 +15,29 @@ front archives i a is low = ap told (from-item archives i a is low)
 
 pub returns-in_err-send_parts-clause-written : goal.returns-in_err-send_parts-clause-written
 returns-in_err-send_parts-clause-written g c =
-    signing-stop c.from_residual.result _ _ (archive_bytes (kept_archive c.archive-item.result)) _ c.from_residual.ensures.0 c.loop-archive.invariant.0
-    (front c.args.archives.now c.loop-archive.archive-index c.archive-item.result c.archive-item.is c.loop-archive-test.true) (rw (c.as_slice.ensures, c.to_be_bytes-length.ensures, c.as_slice-in-loop-archive.ensures, c.to_be_bytes-path_length.ensures, c.as_bytes-path.ensures.value, c.as_slice-in-loop-archive-2.ensures) at c.in_err-send_parts.ensures.written)
+    signing-stop c.from_residual.result _ _ (archive_bytes (kept_archive c.archive-item.result)) _
+    c.from_residual.ensures.0 c.loop-archive.invariant.0
+    (front c.args.archives.now c.loop-archive.archive-index c.archive-item.result c.archive-item.is
+    c.loop-archive-test.true) (rw (
+      c.as_slice.ensures,
+      c.to_be_bytes-length.ensures,
+      c.as_slice-in-loop-archive.ensures,
+      c.to_be_bytes-path_length.ensures,
+      c.as_bytes-path.ensures.value,
+      c.as_slice-in-loop-archive-2.ensures,
+    ) at c.in_err-send_parts.ensures.written)
 
 pub loop-archive-preserved : goal.loop-archive-preserved
 loop-archive-preserved g c = (
   signing-next (archive_bytes (kept_archive c.archive-item.result)) _ c.loop-archive.invariant.0
-      (front c.args.archives.now c.loop-archive.archive-index c.archive-item.result c.archive-item.is c.loop-archive-test.true) (rw (c.as_slice.ensures, c.to_be_bytes-length.ensures, c.as_slice-in-loop-archive.ensures, c.to_be_bytes-path_length.ensures, c.as_bytes-path.ensures.value, c.as_slice-in-loop-archive-2.ensures) at c.in_ok-send_parts.ensures.written),
+      (front c.args.archives.now c.loop-archive.archive-index c.archive-item.result c.archive-item.is
+      c.loop-archive-test.true) (rw (
+        c.as_slice.ensures,
+        c.to_be_bytes-length.ensures,
+        c.as_slice-in-loop-archive.ensures,
+        c.to_be_bytes-path_length.ensures,
+        c.as_bytes-path.ensures.value,
+        c.as_slice-in-loop-archive-2.ensures,
+      ) at c.in_ok-send_parts.ensures.written),
   c.in_ok-send_parts.ensures.count ∙ c.loop-archive.invariant.1,
 )

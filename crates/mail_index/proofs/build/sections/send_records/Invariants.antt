@@ -5,5 +5,6 @@ use Rattle.mail_index.proofs.build.sections.send_records.Given as goal
 
 abbrev pub invariant-loop-message : goal.invariant-loop-message
 invariant-loop-message g l =
-    IsSigning (g.O.Out.taken l.fn.out) (g.O.Out.taken l.out) l.fn.signer l.signer (flat_map record_bytes l.messages) (flat_map record_bytes (drop l.message-index l.messages))
+    IsSigning (g.O.Out.taken l.fn.out) (g.O.Out.taken l.out) l.fn.signer l.signer (flat_map record_bytes l.messages)
+    (flat_map record_bytes (drop l.message-index l.messages))
     × (g.O.Out.failures l.out ≡ g.O.Out.failures l.fn.out)

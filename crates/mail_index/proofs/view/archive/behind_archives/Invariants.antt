@@ -5,5 +5,6 @@ use Rattle.mail_index.proofs.view.archive.behind_archives.Given as goal
 abbrev pub invariant-loop-number : goal.invariant-loop-number
 invariant-loop-number l = record {
   spelled : SpellsArchives (version_number l.fn.version) (l.fn.count - l.number) l.rest;
-  same : behind_archives (version_number l.fn.version) (l.fn.n - l.number) l.rest ≡ behind_archives (version_number l.fn.version) l.fn.n l.fn.section;
+  same : behind_archives (version_number l.fn.version) (l.fn.n - l.number) l.rest
+      ≡ behind_archives (version_number l.fn.version) l.fn.n l.fn.section;
 }

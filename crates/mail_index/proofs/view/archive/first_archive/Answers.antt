@@ -4,4 +4,5 @@ use Rattle.mail_index.proofs.ViewLaws.ArchiveReads.{has_first}
 use Rattle.mail_index.proofs.view.archive.first_archive.Goals as goal
 
 pub unreachable-requires : goal.unreachable-requires
-unreachable-requires c = c.in-None.ensures (has_first (version_number c.args.version) c.args.count c.args.section.now c.requires.some c.requires.spelled)
+unreachable-requires c = c.in-None.ensures
+    (has_first (version_number c.args.version) c.args.count c.args.section.now c.requires.some c.requires.spelled)

@@ -6,5 +6,7 @@ abbrev pub invariant-loop-number : goal.invariant-loop-number
 invariant-loop-number l = record {
   left : length l.rest ≡ 24 * (l.fn.count - l.number);
   bound : l.place.text_place ≤ length l.fn.texts;
-  same : AreEntries (version_number l.fn.version) l.fn.texts l.fn.total 0 0 0 [] l.fn.count l.fn.directory ↔ AreEntries (version_number l.fn.version) l.fn.texts l.fn.total l.place.text_place l.place.place l.place.number l.place.text.now (l.fn.count - l.number) l.rest;
+  same : AreEntries (version_number l.fn.version) l.fn.texts l.fn.total 0 0 0 [] l.fn.count l.fn.directory ↔ AreEntries
+      (version_number l.fn.version) l.fn.texts l.fn.total l.place.text_place l.place.place l.place.number
+      l.place.text.now (l.fn.count - l.number) l.rest;
 }

@@ -9,7 +9,9 @@ returns-clause-keys c =
     let next = c.first_that_lies-next.ensures in
     let end = c.first_that_lies-end.ensures in
     c.between.ensures
-    ∙ ap (map text_and_numbers) (sym (keys_beginning-between c.args.kind c.args.text.now c.args.keys.directory c.first_that_lies-next.result c.first_that_lies-end.result no_key next.within next.below next.above end.below end.above))
+    ∙ ap (map text_and_numbers) (sym (keys_beginning-between c.args.kind c.args.text.now c.args.keys.directory
+    c.first_that_lies-next.result c.first_that_lies-end.result no_key next.within next.below next.above end.below
+    end.above))
 
 pub returns-clause-exact : goal.returns-clause-exact
 returns-clause-exact c = grind (arith, add_steps-both)

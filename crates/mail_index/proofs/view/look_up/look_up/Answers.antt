@@ -1,5 +1,6 @@
 -- `look_up` halves the keys between two bounds, because in sorted keys all before a lower one are lower.
-use Rattle.mail_index.proofs.Words.{◌∙◌, ◌+◌, ◌-◌, ◌/◌, ◌<◌, ℕ, List, length, sym, ap, arith, Less, Equal, Greater, add_steps, lies_to, comparisons, comparisons_within, key_at, no_key, Key}
+use Rattle.mail_index.proofs.Words.{◌∙◌, ◌+◌, ◌-◌, ◌/◌, ◌<◌, ℕ, List, length, sym, ap, arith, Less, Equal, Greater}
+use Rattle.mail_index.proofs.Words.{add_steps, lies_to, comparisons, comparisons_within, key_at, no_key, Key}
 use Rattle.mail_index.specs.Inside.KeyRuns.{keys_between}
 use Rattle.mail_index.proofs.ViewLaws.StepLemmas.{add_steps-none, add_steps-more}
 use Rattle.mail_index.proofs.ViewLaws.LookUpLemmas.{before-less, behind-greater, numbers_at-met, numbers_at-none}
@@ -18,11 +19,14 @@ loop-low-preserved-in-Less c =
       sorted = i.sorted;
       order = omega (arith, c.loop-low-test.true);
       within = i.within;
-      below = λ j lt. before-less c.args.kind c.args.text.now keys no_key middle j i.sorted inside lies (omega (arith, lt));
+      below = λ j lt. before-less c.args.kind c.args.text.now keys no_key middle j i.sorted inside lies
+          (omega (arith, lt));
       above = i.above;
       steps =
-          let met = compared i.steps.0 c.args.kind c.args.text.now keys c.loop-low.low c.loop-low.high no_key Less c.loop-low-test.true i.within i.steps.1 lies in
-          let rest : ℕ = comparisons_within met.fewer c.args.kind c.args.text.now (keys_between (middle + 1) c.loop-low.high keys) in (
+          let met = compared i.steps.0 c.args.kind c.args.text.now keys c.loop-low.low c.loop-low.high no_key Less
+          c.loop-low-test.true i.within i.steps.1 lies in
+          let rest : ℕ = comparisons_within met.fewer c.args.kind c.args.text.now
+          (keys_between (middle + 1) c.loop-low.high keys) in (
             met.fewer,
             omega (arith, met.enough),
             ap (λ (n : ℕ). add_steps n rest) c.compare.ensures.steps ∙ add_steps-more c.loop-low.steps rest
@@ -43,8 +47,10 @@ loop-low-preserved c =
       below = i.below;
       above = λ j le lt. behind-greater c.args.kind c.args.text.now keys no_key middle j i.sorted lies le lt;
       steps =
-          let met = compared i.steps.0 c.args.kind c.args.text.now keys c.loop-low.low c.loop-low.high no_key Greater c.loop-low-test.true i.within i.steps.1 lies in
-          let rest : ℕ = comparisons_within met.fewer c.args.kind c.args.text.now (keys_between c.loop-low.low middle keys) in (
+          let met = compared i.steps.0 c.args.kind c.args.text.now keys c.loop-low.low c.loop-low.high no_key Greater
+          c.loop-low-test.true i.within i.steps.1 lies in
+          let rest : ℕ = comparisons_within met.fewer c.args.kind c.args.text.now
+          (keys_between c.loop-low.low middle keys) in (
             met.fewer,
             omega (arith, met.enough),
             ap (λ (n : ℕ). add_steps n rest) c.compare.ensures.steps ∙ add_steps-more c.loop-low.steps rest
@@ -61,7 +67,8 @@ returns-in-Equal-clause-exact c =
     let middle : ℕ = c.loop-low.low + (c.loop-low.high - c.loop-low.low) / 2 in
     let i = c.loop-low.invariant in
     let lies = sym c.compare.ensures.order ∙ c.in-Equal.is in
-    let met = compared i.steps.0 c.args.kind c.args.text.now keys c.loop-low.low c.loop-low.high no_key Equal c.loop-low-test.true i.within i.steps.1 lies in
+    let met = compared i.steps.0 c.args.kind c.args.text.now keys c.loop-low.low c.loop-low.high no_key Equal
+    c.loop-low-test.true i.within i.steps.1 lies in
     c.compare.ensures.steps ∙ ap (add_steps c.loop-low.steps) (sym met.counted) ∙ i.steps.2
 
 pub returns-in-Equal-clause-steps : goal.returns-in-Equal-clause-steps
@@ -70,7 +77,8 @@ returns-in-Equal-clause-steps c = grind (arith, comparisons, comparisons-few, re
 pub returns-clause-numbers : goal.returns-clause-numbers
 returns-clause-numbers c =
     let i = c.loop-low.invariant in
-    c.none.ensures ∙ sym (numbers_at-none c.args.kind c.args.text.now c.args.keys.now.directory c.loop-low.low no_key i.below
+    c.none.ensures ∙ sym (numbers_at-none c.args.kind c.args.text.now c.args.keys.now.directory c.loop-low.low no_key
+    i.below
     (λ j le lt. i.above j (omega (arith, le, c.loop-low-test.false)) lt))
 
 pub returns-clause-exact : goal.returns-clause-exact

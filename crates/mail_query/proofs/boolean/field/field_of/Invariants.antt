@@ -1,3 +1,4 @@
+-- No row so far has this name, so the field is that of the first row left that has it.
 use Rattle.mail_query.proofs.Words.{◌≡◌, ℕ, List, [], ◌∷◌, drop, bytes_eq, if◌then◌else◌, Option, None, Some, Field}
 use Rattle.std.specs.Borrow.{Bor}
 use Rattle.mail_query.specs.BooleanTerms.{field_of}

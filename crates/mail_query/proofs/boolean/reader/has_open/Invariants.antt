@@ -1,3 +1,4 @@
+-- No item so far is a `(`, so there is one exactly if there is one among the items left.
 use Rattle.mail_query.proofs.Words.{◌≡◌, drop}
 use Rattle.mail_query.proofs.BooleanLaws.StackLemmas.{has_open_code}
 use Rattle.mail_query.proofs.boolean.reader.has_open.Given as goal

@@ -1,9 +1,11 @@
+-- `behind_blanks` keeps the tokens of a text, because blanks at the front belong to none. It cuts between characters.
 use Rattle.mail_query.proofs.Words.{arith}
 use Rattle.mail_query.proofs.BooleanLaws.TokenLemmas.{blanks_counted, blanks_end, tokens-blanks, no_blank_left}
 use Rattle.mail_query.proofs.boolean.token.behind_blanks.Goals as goal
 
 pub split_at-requires : goal.split_at-requires
-split_at-requires c = rw (c.blank_count.ensures.value, c.as_bytes.ensures.value, blanks_counted c.args.text.now) (blanks_end c.args.text.now c.utf8.text)
+split_at-requires c = rw (c.blank_count.ensures.value, c.as_bytes.ensures.value, blanks_counted c.args.text.now)
+    (blanks_end c.args.text.now c.utf8.text)
 
 pub returns-clause-tokens : goal.returns-clause-tokens
 returns-clause-tokens c = grind (arith, blanks_counted, tokens-blanks)

@@ -1,3 +1,4 @@
+-- Two flags note whether an `=` came with only digits after it, and with at least one. They and the bytes left decide.
 use Rattle.mail_query.proofs.Words.{◌≡◌, true, drop, is_approximate}
 use Rattle.mail_query.proofs.MairixLaws.ApproximateLemmas.{approximate_behind}
 use Rattle.mail_query.proofs.mairix.terms.is_approximate.Given as goal

@@ -1,3 +1,4 @@
+-- Each turn reads one term. The queries so far, with those of the terms left, are those of the whole text.
 use Rattle.mail_query.proofs.Words.{length, slice_split, queries_of, is_byte, forms_of, term_query}
 use Rattle.mail_query.proofs.MairixLaws.EachLemmas.{HasRead, unnumbered}
 use Rattle.mail_query.proofs.mairix.terms.read_all.Given as goal

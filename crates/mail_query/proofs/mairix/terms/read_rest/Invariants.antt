@@ -1,3 +1,5 @@
+-- Each turn reads one alternative. The queries so far, with those of the alternatives left, are those of the whole
+-- text.
 use Rattle.mail_query.proofs.Words.{length, slice_split, queries_of, is_byte, forms_of, all_query}
 use Rattle.mail_query.proofs.MairixLaws.EachLemmas.{HasRead, unnumbered}
 use Rattle.mail_query.proofs.mairix.terms.read_rest.Given as goal

@@ -1,8 +1,9 @@
 -- The room has what was read, and that is in the archive, by `is-read`.
 use Rattle.std.proofs.Common.{◌≡◌, ◌≤◌, ℕ, List, Ok, length, take, vec_len, refl, sym, subst, arith}
 use Rattle.std.proofs.lemmas.List.{with_items_is}
+use Rattle.contract_words.specs.Archives.{IsRead}
 use Rattle.call_record.specs.Noted.{held_by}
-use Rattle.mairix_files.specs.Ahead.{IsPiece, IsRead}
+use Rattle.mairix_files.specs.Ahead.{IsPiece}
 use Rattle.mairix_files.proofs.Pieces.{is-piece, is-read}
 use Rattle.mairix_files.proofs.read_ahead.ReadAhead.read_piece.Goals as goal
 

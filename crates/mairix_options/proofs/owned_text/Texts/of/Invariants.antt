@@ -1,3 +1,4 @@
+-- Each turn copies one text, so there is a copy of each text so far, in order.
 use Rattle.mairix_options.proofs.Words.{◌≡◌, map, take}
 use Rattle.mairix_options.proofs.owned_text.Texts.of.Given as goal
 

@@ -1,3 +1,4 @@
+-- The record supposes nothing, because nothing is promised of the bytes that are read.
 use Rattle.std.proofs.Common.{[]}
 use Rattle.mairix_tool.proofs.program.kept_mail.check_no_mail.Given as goal
 

@@ -1,3 +1,4 @@
+-- The record of this run supposes nothing, because nothing is promised here of the archives.
 use Rattle.std.proofs.Common.{[]}
 use Rattle.mairix_tool.proofs.program.new_index.fill_index_file.Given as goal
 

@@ -1,3 +1,4 @@
+-- From a new cutter all events of its source come, if its bytes are known, because nothing was read yet.
 use Rattle.mbox_cutter.proofs.KnownSteps.{known-beginning}
 use Rattle.mbox_cutter.proofs.cutter.Cutter.over.Goals as goal
 

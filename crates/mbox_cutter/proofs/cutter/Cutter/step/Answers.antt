@@ -1,3 +1,4 @@
+-- A step of a cutter that succeeds advances it, because it is a step of its scan.
 use Rattle.mbox_cutter.proofs.Words.{arith}
 use Rattle.mbox_cutter.proofs.ScanSteps.{steps-advance}
 use Rattle.mbox_cutter.proofs.cutter.Cutter.step.Goals as goal

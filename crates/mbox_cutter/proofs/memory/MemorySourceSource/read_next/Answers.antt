@@ -1,3 +1,4 @@
+-- A read gives the next bytes of the archive, because what it copies and what is left join to what was left before.
 use Rattle.mbox_cutter.proofs.Words.{arith, length-append, drop_all, length-drop, length-take-le}
 use Rattle.mbox_cutter.proofs.Parts.{read_part}
 use Rattle.mbox_cutter.proofs.memory.MemorySourceSource.read_next.Goals as goal

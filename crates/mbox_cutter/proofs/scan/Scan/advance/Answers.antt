@@ -1,3 +1,4 @@
+-- `Scan::advance` takes a step by its phase. After the end it stays there.
 use Rattle.mbox_cutter.proofs.ScanSteps.{ended-steps}
 use Rattle.mbox_cutter.proofs.scan.Scan.advance.Goals as goal
 

@@ -1,5 +1,8 @@
+-- `Scan::start` takes the step between messages that the first line says which isn't empty, because it passes empty
+-- ones.
 use Rattle.mbox_cutter.proofs.Words.{◌≡◌, ◌<◌, true, false, ap, arith, is_empty, is_separator}
-use Rattle.mbox_cutter.proofs.ScanSteps.{found, taken, done-steps, start-steps, refused-steps, fault-steps, skipped-none, skipped-one, skipped-steps}
+use Rattle.mbox_cutter.proofs.ScanSteps.{found, taken, done-steps, start-steps, refused-steps, fault-steps}
+use Rattle.mbox_cutter.proofs.ScanSteps.{skipped-none, skipped-one, skipped-steps}
 use Rattle.mbox_cutter.proofs.scan.Scan.start.Goals as goal
 
 pub empties-init : goal.empties-init
@@ -20,7 +23,8 @@ returns-then-is_separator g c =
     let starts : is_separator line ≡ true = cc in
     skipped-steps g.S.Source c.args.self.now now _ _ k
     (start-steps g.S.Source now _ c.in_ok-n.n line _ k.phase (ap (λ p. p.offset) c.in_ok-n.ensures.place) starts
-    (taken g.S.Source now _ c.in_ok-n.n line _ _ (found g.S.Source now _ c.in_ok-n.n line c.in_ok-n.ensures some c.part-line.ensures.unread) c.pass.ensures))
+    (taken g.S.Source now _ c.in_ok-n.n line _ _
+    (found g.S.Source now _ c.in_ok-n.n line c.in_ok-n.ensures some c.part-line.ensures.unread) c.pass.ensures))
 
 pub returns-then-not-is_empty_line : goal.returns-then-not-is_empty_line
 returns-then-not-is_empty_line g c =
@@ -31,7 +35,8 @@ returns-then-not-is_empty_line g c =
     let other : is_separator line ≡ false = cc in
     let full : is_empty line ≡ false = cc in
     skipped-steps g.S.Source c.args.self.now now _ _ k
-    (refused-steps g.S.Source now _ c.in_ok-n.n line k.scan k.phase (found g.S.Source now _ c.in_ok-n.n line c.in_ok-n.ensures some c.part-line.ensures.unread) other full)
+    (refused-steps g.S.Source now _ c.in_ok-n.n line k.scan k.phase
+    (found g.S.Source now _ c.in_ok-n.n line c.in_ok-n.ensures some c.part-line.ensures.unread) other full)
 
 pub empties-preserved : goal.empties-preserved
 empties-preserved g c =
@@ -42,7 +47,9 @@ empties-preserved g c =
     let other : is_separator line ≡ false = cc in
     let empty : is_empty line ≡ true = cc in
     skipped-one g.S.Source c.args.self.now now _ c.in_ok-n.n line k
-    (taken g.S.Source now _ c.in_ok-n.n line _ _ (found g.S.Source now _ c.in_ok-n.n line c.in_ok-n.ensures some c.part-line.ensures.unread) c.pass-in-empties.ensures) other empty
+    (taken g.S.Source now _ c.in_ok-n.n line _ _
+    (found g.S.Source now _ c.in_ok-n.n line c.in_ok-n.ensures some c.part-line.ensures.unread)
+    c.pass-in-empties.ensures) other empty
 
 pub empties-smaller : goal.empties-smaller
 empties-smaller g c = grind (arith, taken, found)

@@ -1,3 +1,4 @@
+-- Only empty lines were passed. The loop ends because each line brings the scan nearer to its limit.
 use Rattle.mbox_cutter.proofs.Words.{◌-◌}
 use Rattle.mbox_cutter.proofs.ScanSteps.{Skipped}
 use Rattle.mbox_cutter.proofs.scan.Scan.start.Given as goal

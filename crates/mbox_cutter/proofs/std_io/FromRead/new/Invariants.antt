@@ -1,3 +1,4 @@
+-- A new source supposes the bytes that its reader has, if these are known.
 use Rattle.std.proofs.Common.{[]}
 use Rattle.std.specs.Option.{unwrap_or}
 use Rattle.mbox_cutter.proofs.std_io.FromRead.new.Given as goal

@@ -1,3 +1,4 @@
+-- The record of a new source supposes the given bytes, as those of its only archive.
 use Rattle.std.proofs.Common.{[], ◌∷◌}
 use Rattle.mbox_cutter.proofs.std_io.FromRead.supposing.Given as goal
 

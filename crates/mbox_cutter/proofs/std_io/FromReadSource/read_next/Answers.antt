@@ -11,6 +11,7 @@ returns-in-Ok-clause-bytes g c =
 pub returns-in-Ok-clause-stays_known : goal.returns-in-Ok-clause-stays_known
 returns-in-Ok-clause-stays_known g c = λ bytes e known.
     let room : 0 < length c.read_noted.new.into = omega (arith, c.requires.room, c.read_noted.auto.into) in
-    honest-read {E = Unit {0}} 0 c.args.self.now.record c.read_noted.new.record (g.R.Read.remaining c.args.self.now.reader)
+    honest-read {E = Unit {0}} 0 c.args.self.now.record c.read_noted.new.record
+    (g.R.Read.remaining c.args.self.now.reader)
     (g.R.Read.remaining c.read_noted.new.reader) bytes (Ok c.in-Ok.n) c.read_noted.new.into room c.in-Ok.ensures.bound e
     known c.in-Ok.ensures.bytes c.in-Ok.ensures.noted

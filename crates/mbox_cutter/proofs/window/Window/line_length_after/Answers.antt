@@ -1,4 +1,7 @@
-use Rattle.mbox_cutter.proofs.Words.{ℕ, List, ◌<◌, length, take, ap, ◌∙◌, subst, sym, arith, IsAtEnd, take_all, Ahead, IsLine, line_end_of}
+-- `Window::line_length_after` returns the length of the next line, because it reads on until nothing to come can change
+-- it.
+use Rattle.mbox_cutter.proofs.Words.{ℕ, List, ◌<◌, length, take, ap, ◌∙◌, subst, sym, arith, IsAtEnd, take_all, Ahead}
+use Rattle.mbox_cutter.proofs.Words.{IsLine, line_end_of}
 use Rattle.mbox_cutter.proofs.FirstLines.{line_end-positive, line_end-within, line_end-open}
 use Rattle.mbox_cutter.proofs.LinesAreCut.{line_end-IsLine, open_end-IsLine}
 use Rattle.mbox_cutter.proofs.Windows.{at_some, at_end, ReadsOn-join, ReadsOn-failed}
@@ -7,19 +10,27 @@ use Rattle.mbox_cutter.proofs.window.Window.line_length_after.Goals as goal
 pub returns-in-Some-clause-length : goal.returns-in-Some-clause-length
 returns-in-Some-clause-length g c = record {
   within = omega (arith, line_end-within c.unread_after-rest.result.now c.in-Some.n c.in-Some.ensures);
-  line = λ some. subst (λ (rest : List ℕ). IsLine (take c.in-Some.n rest)) c.unread_after-rest.ensures.rest (line_end-IsLine c.unread_after-rest.result.now c.in-Some.n c.in-Some.ensures);
-  first = at_some c.args.skip c.in-Some.n c.more.self.unread _ _ (omega arith) (c.in-Some.ensures ∙ ap line_end_of c.unread_after-rest.ensures.rest) c.more.invariant.bytes;
-  end = λ none. let some : 0 < c.in-Some.n = line_end-positive c.unread_after-rest.result.now c.in-Some.n c.in-Some.ensures in absurd (omega arith);
+  line = λ some. subst (λ (rest : List ℕ). IsLine (take c.in-Some.n rest)) c.unread_after-rest.ensures.rest
+      (line_end-IsLine c.unread_after-rest.result.now c.in-Some.n c.in-Some.ensures);
+  first = at_some c.args.skip c.in-Some.n c.more.self.unread _ _ (omega arith)
+      (c.in-Some.ensures ∙ ap line_end_of c.unread_after-rest.ensures.rest) c.more.invariant.bytes;
+  end = λ none. let some : 0 < c.in-Some.n =
+      line_end-positive c.unread_after-rest.result.now c.in-Some.n c.in-Some.ensures in absurd (omega arith);
 }
 
 pub returns-in-None-clause-length : goal.returns-in-None-clause-length
 returns-in-None-clause-length g c =
-    let over = subst (λ (w : Ahead _). IsAtEnd (g.S.Source.rest w.source.now)) c.self.view_is (c.self.invariant.end c.if-self.true) in
+    let over = subst (λ (w : Ahead _). IsAtEnd (g.S.Source.rest w.source.now)) c.self.view_is
+    (c.self.invariant.end c.if-self.true) in
     record {
       within = omega arith;
-      line = λ some. subst (λ (rest : List ℕ). IsLine (take (length c.unread_after-rest.result.now) rest)) c.unread_after-rest.ensures.rest
-          (subst IsLine (sym (take_all (length c.unread_after-rest.result.now) c.unread_after-rest.result.now (omega arith))) (open_end-IsLine c.unread_after-rest.result.now c.in-None.ensures some));
-      first = rw c.unread_after-rest.ensures.rest (at_end c.args.skip c.more.self.unread _ _ (c.in-None.ensures ∙ ap line_end_of c.unread_after-rest.ensures.rest) over c.more.invariant.bytes);
+      line = λ some. subst (λ (rest : List ℕ). IsLine (take (length c.unread_after-rest.result.now) rest))
+          c.unread_after-rest.ensures.rest
+          (subst IsLine (sym (take_all (length c.unread_after-rest.result.now) c.unread_after-rest.result.now
+          (omega arith))) (open_end-IsLine c.unread_after-rest.result.now c.in-None.ensures some));
+      first = rw c.unread_after-rest.ensures.rest
+          (at_end c.args.skip c.more.self.unread _ _
+          (c.in-None.ensures ∙ ap line_end_of c.unread_after-rest.ensures.rest) over c.more.invariant.bytes);
       end = λ none. over;
     }
 
@@ -27,7 +38,9 @@ pub fill-requires-clause-room : goal.fill-requires-clause-room
 fill-requires-clause-room g c = omega (arith, line_end-open c.unread_after-rest.result.now c.in-None-2.ensures)
 
 pub returns-in_err-fill-in-None-2-clause-reads : goal.returns-in_err-fill-in-None-2-clause-reads
-returns-in_err-fill-in-None-2-clause-reads g c = ReadsOn-join _ _ _ _ _ c.more.invariant (ReadsOn-failed _ c.from_residual.result _ _ c.from_residual.ensures.0 c.in_err-fill-in-None-2.ensures.reads)
+returns-in_err-fill-in-None-2-clause-reads g c =
+    ReadsOn-join _ _ _ _ _ c.more.invariant
+    (ReadsOn-failed _ c.from_residual.result _ _ c.from_residual.ensures.0 c.in_err-fill-in-None-2.ensures.reads)
 
 pub more-preserved : goal.more-preserved
 more-preserved g c = ReadsOn-join _ _ _ _ _ c.more.invariant c.in_ok-fill-in-None-2.ensures.reads

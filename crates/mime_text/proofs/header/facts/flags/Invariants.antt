@@ -1,3 +1,4 @@
+-- Each flag says whether its letter was in a field so far. The fields that are left decide the rest.
 use Rattle.mime_text.proofs.Words.{◌≡◌, ◌||◌, has_letter}
 use Rattle.mime_text.proofs.header.facts.flags.Given as goal
 

@@ -1,3 +1,5 @@
+-- `linking_ids` returns the ids of all linking fields in order. There is room, because ids are no longer than their
+-- fields.
 use Rattle.mime_text.proofs.Words.{◌≡◌, ◌∙◌, true, refl, sym, is_linking}
 use Rattle.mime_text.proofs.IdSizes.{ids_step, room_step}
 use Rattle.mime_text.proofs.header.facts.linking_ids.Goals as goal

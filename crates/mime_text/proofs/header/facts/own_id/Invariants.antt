@@ -1,3 +1,4 @@
+-- No Message-ID field so far has an id, so the fields that are left decide.
 use Rattle.mime_text.proofs.Words.{fields_size, most_in_header, ◌≡◌, ◌≤◌, own_id_of}
 use Rattle.mime_text.proofs.header.facts.own_id.Given as goal
 

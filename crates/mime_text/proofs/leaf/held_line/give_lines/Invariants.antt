@@ -1,3 +1,4 @@
+-- The lines before the rest were given. The loop ends because each line makes the rest shorter.
 use Rattle.mime_text.proofs.Words.{◌≡◌, ◌-◌, ◌≤◌, ◌++◌, length, drop, concat, length_before_feed, Gave, pairs_of_bytes}
 use Rattle.mime_text.proofs.leaf.held_line.give_lines.Given as goal
 
@@ -8,7 +9,8 @@ invariant-loop-len g l = record {
   few : l.searched ≤ 65536;
   fits : length l.rest ≤ length l.fn.bytes;
   rest : l.rest ≡ drop (length l.fn.bytes - length l.rest) l.fn.bytes;
-  gave : Gave g.S.TextSink.takes g.S.TextSink.refuses (λ ls. pairs_of_bytes l.fn.texts (l.fn.bytes ++ concat ls)) (λ ls. pairs_of_bytes l.texts (l.rest ++ concat ls)) l.fn.sink l.sink;
+  gave : Gave g.S.TextSink.takes g.S.TextSink.refuses (λ ls. pairs_of_bytes l.fn.texts (l.fn.bytes ++ concat ls))
+      (λ ls. pairs_of_bytes l.texts (l.rest ++ concat ls)) l.fn.sink l.sink;
 }
 
 abbrev pub decreases-loop-len : goal.decreases-loop-len

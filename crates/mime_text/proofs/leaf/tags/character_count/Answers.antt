@@ -1,3 +1,4 @@
+-- `character_count` counts bytes in ASCII, where each is a character, and characters in any other text.
 use Rattle.mime_text.proofs.Words.{sym, ap, length, chars-IsAscii}
 use Rattle.std.proofs.lemmas.Iterator.{YieldsList-from_chars}
 use Rattle.std.proofs.lemmas.Iterator.Consumers.{count_from_yields_List}
@@ -7,4 +8,5 @@ pub returns-then-is_ascii : goal.returns-then-is_ascii
 returns-then-is_ascii c = sym (ap length (chars-IsAscii c.args.text.now c.if-is_ascii.ensures.cases))
 
 pub returns-else-is_ascii : goal.returns-else-is_ascii
-returns-else-is_ascii c = count_from_yields_List _ _ c.count.ensures.ran (YieldsList-from_chars c.args.text.now c.utf8.text cc)
+returns-else-is_ascii c = count_from_yields_List _ _ c.count.ensures.ran
+    (YieldsList-from_chars c.args.text.now c.utf8.text cc)

@@ -1,3 +1,4 @@
+-- A text without `<`, and with no tag open before it, stays as it is, because no tag begins in it.
 use Rattle.mime_text.proofs.Words.{arith, Lacks-from}
 use Rattle.mime_text.proofs.TagLemmas.{free-text, free-behind}
 use Rattle.mime_text.proofs.leaf.tags.is_free_of_tags.Goals as goal

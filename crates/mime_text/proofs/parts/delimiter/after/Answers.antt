@@ -1,3 +1,4 @@
+-- `after` returns what follows a front, because what std strips is the front of the definition.
 use Rattle.mime_text.proofs.FrameLemmas.{after-stripped}
 use Rattle.mime_text.proofs.parts.delimiter.after.Goals as goal
 

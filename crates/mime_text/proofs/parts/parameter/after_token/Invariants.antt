@@ -1,3 +1,4 @@
+-- The rest has the same bytes after its value as the whole. The loop ends because each turn takes one byte of it away.
 use Rattle.mime_text.proofs.Words.{◌≡◌, length, split_while}
 use Rattle.mime_text.specs.Parameters.{is_token_byte as is_token_byte_of}
 use Rattle.mime_text.proofs.parts.parameter.after_token.Given as goal

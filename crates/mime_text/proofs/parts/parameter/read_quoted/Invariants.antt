@@ -1,3 +1,4 @@
+-- What was added, with what the rest still gives, is the whole. The loop ends because each turn makes the rest shorter.
 use Rattle.mime_text.proofs.Words.{◌≡◌, ◌++◌, length, quoted}
 use Rattle.mime_text.proofs.parts.parameter.read_quoted.Given as goal
 

@@ -1,3 +1,4 @@
+-- `read_value` adds a value without quotes, because this is all of the text before the bytes after it.
 use Rattle.mime_text.proofs.Words.{arith, length-split_while, take-split_while, is_token_byte}
 use Rattle.mime_text.proofs.parts.parameter.read_value.Goals as goal
 

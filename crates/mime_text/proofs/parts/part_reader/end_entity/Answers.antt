@@ -1,3 +1,4 @@
+-- `end_entity` gives what an entity has left at its end, by the state: the texts of a header, those of a leaf, or none.
 use Rattle.mime_text.proofs.parts.part_reader.end_entity.Goals as goal
 
 pub returns-in-InHeader : goal.returns-in-InHeader

@@ -11,11 +11,17 @@ returns-then-not-is_before-clause-number c = grind (arith, stays_first)
 
 pub invariant_of-self : goal.invariant_of-self
 invariant_of-self c =
-    (goes_on c.self.inside.count c.args.n c.self.inside.first c.self.inside.postings c.next_at_least-self-inside.new.self c.next_at_least-self-inside.result (sym c.is_before.ensures ∙ c.if-not-is_before.false) c.self.invariant c.next_at_least-self-inside.ensures.number).0
+    (goes_on c.self.inside.count c.args.n c.self.inside.first c.self.inside.postings
+    c.next_at_least-self-inside.new.self c.next_at_least-self-inside.result
+    (sym c.is_before.ensures ∙ c.if-not-is_before.false) c.self.invariant
+    c.next_at_least-self-inside.ensures.number).0
 
 pub returns-clause-rest : goal.returns-clause-rest
 returns-clause-rest c = grind (arith, cut_more, cut_drops)
 
 pub returns-clause-number : goal.returns-clause-number
 returns-clause-number c =
-    (goes_on c.self.inside.count c.args.n c.self.inside.first c.self.inside.postings c.next_at_least-self-inside.new.self c.next_at_least-self-inside.result (sym c.is_before.ensures ∙ c.if-not-is_before.false) c.self.invariant c.next_at_least-self-inside.ensures.number).1
+    (goes_on c.self.inside.count c.args.n c.self.inside.first c.self.inside.postings
+    c.next_at_least-self-inside.new.self c.next_at_least-self-inside.result
+    (sym c.is_before.ensures ∙ c.if-not-is_before.false) c.self.invariant
+    c.next_at_least-self-inside.ensures.number).1

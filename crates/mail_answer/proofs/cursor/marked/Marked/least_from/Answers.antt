@@ -8,13 +8,18 @@ returns-in-Some-clause-rest c = grind (arith, found_drops)
 
 pub returns-in-Some-clause-number : goal.returns-in-Some-clause-number
 returns-in-Some-clause-number c =
-    found_first c.args.n c.self.inside.low c.max-self-inside.result c.self.inside.start c.self.inside.marks c.self.inside.lists.items c.self.inside.ahead c.self.invariant c.max-self-inside.ensures c.in-Some.number
-    (subst (λ (xs : List Bool). IsFirstMark c.self.inside.start c.max-self-inside.result xs (Some c.in-Some.number)) c.as_slice.ensures c.in-Some.ensures)
+    found_first c.args.n c.self.inside.low c.max-self-inside.result c.self.inside.start c.self.inside.marks
+    c.self.inside.lists.items c.self.inside.ahead c.self.invariant c.max-self-inside.ensures c.in-Some.number
+    (subst (λ (xs : List Bool). IsFirstMark c.self.inside.start c.max-self-inside.result xs (Some c.in-Some.number))
+    c.as_slice.ensures c.in-Some.ensures)
 
 pub returns-clause-rest : goal.returns-clause-rest
 returns-clause-rest c = grind (arith, windowed_drops)
 
 pub returns-clause-number : goal.returns-clause-number
 returns-clause-number c =
-    windowed_first c.args.n c.self.inside.low c.max-self-inside.result c.self.inside.start c.self.inside.marks c.self.inside.lists.items c.self.inside.ahead c.self.invariant c.max-self-inside.ensures c.begin_window.new.start c.begin_window.new.marks c.begin_window.new.lists.items
-    (subst (λ (xs : List Bool). IsFirstMark c.self.inside.start c.max-self-inside.result xs None) c.as_slice.ensures c.in_default.ensures) c.begin_window.ensures.rest c.begin_window.result c.begin_window.ensures.number
+    windowed_first c.args.n c.self.inside.low c.max-self-inside.result c.self.inside.start c.self.inside.marks
+    c.self.inside.lists.items c.self.inside.ahead c.self.invariant c.max-self-inside.ensures
+    c.begin_window.new.start c.begin_window.new.marks c.begin_window.new.lists.items
+    (subst (λ (xs : List Bool). IsFirstMark c.self.inside.start c.max-self-inside.result xs None) c.as_slice.ensures
+    c.in_default.ensures) c.begin_window.ensures.rest c.begin_window.result c.begin_window.ensures.number

@@ -7,12 +7,17 @@ use Rattle.mail_answer.proofs.cursor.walk.Walk.along_some.Goals as goal
 pub loop-list-preserved : goal.loop-list-preserved
 loop-list-preserved c = record {
   each = λ m.
-      alone_each m c.loop-list.walks.items c.push.new.self.items c.loop-list.lists.items c.pop.new.self.items c.in-Some.list c.of-in-Some.result c.in_ok-push.ensures.items c.in-Some.ensures.items (ap (λ (w : Ahead). w.truths) c.of-in-Some.ensures)
+      alone_each m c.loop-list.walks.items c.push.new.self.items c.loop-list.lists.items c.pop.new.self.items
+      c.in-Some.list c.of-in-Some.result c.in_ok-push.ensures.items c.in-Some.ensures.items
+      (ap (λ (w : Ahead). w.truths) c.of-in-Some.ensures)
       ∙ c.loop-list.invariant.each m;
   left =
-      alone_left c.loop-list.walks.items c.push.new.self.items c.loop-list.lists.items c.pop.new.self.items c.in-Some.list c.of-in-Some.result c.in_ok-push.ensures.items c.in-Some.ensures.items (ap (λ (w : Ahead). w.left) c.of-in-Some.ensures)
+      alone_left c.loop-list.walks.items c.push.new.self.items c.loop-list.lists.items c.pop.new.self.items
+      c.in-Some.list c.of-in-Some.result c.in_ok-push.ensures.items c.in-Some.ensures.items
+      (ap (λ (w : Ahead). w.left) c.of-in-Some.ensures)
       ∙ c.loop-list.invariant.left;
 }
 
 pub returns-clause-truths : goal.returns-clause-truths
-returns-clause-truths c = λ m. ap (λ (xs : List Bool). truth_at xs m) c.united.ensures.truths ∙ united-at m c.loop-list.walks.items ∙ grind arith
+returns-clause-truths c = λ m. ap (λ (xs : List Bool). truth_at xs m) c.united.ensures.truths
+    ∙ united-at m c.loop-list.walks.items ∙ grind arith

@@ -1,5 +1,6 @@
 -- `Walk::united_in_groups` has the messages of all walks, group by group, and each round leaves fewer walks.
-use Rattle.mail_answer.proofs.Words.{◌≡◌, ◌∙◌, Bool, ℕ, List, length, drop, sym, ap, arith, truth_at, Ahead, united, left_in}
+use Rattle.mail_answer.proofs.Words.{◌≡◌, ◌∙◌, Bool, ℕ, List, length, drop, sym, ap, arith, truth_at, Ahead, united}
+use Rattle.mail_answer.proofs.Words.{left_in}
 use Rattle.std.specs.Vec.{vec_len}
 use Rattle.mail_answer.proofs.CursorLaws.Groups.{grouped_more}
 use Rattle.mail_answer.proofs.CursorLaws.Begins.{some_walk}
@@ -14,8 +15,11 @@ loop-walks-preserved c =
     let left : c.united.result.left ≡ left_in (drop at walks) = c.united.ensures.left ∙ ap left_in items in
     let told : c.united.result.truths ≡ united (drop at walks) = c.united.ensures.truths ∙ ap united items in
     rw (c.in_ok-push.ensures.items, c.in_ok-group.ensures.items)
-    (grouped_more _ c.loop-walks.groups.items walks at c.united.result (omega (arith, c.saturating_sub.ensures, c.len.ensures, c.loop-walks.walks.ok.0))
-    (some_walk (vec_len c.loop-walks.walks) (length walks) c.loop-walks.walks.ok.0 (sym c.is_empty.ensures ∙ c.loop-walks-test.true)) told left c.loop-walks.invariant)
+    (grouped_more _ c.loop-walks.groups.items walks at c.united.result
+    (omega (arith, c.saturating_sub.ensures, c.len.ensures, c.loop-walks.walks.ok.0))
+    (some_walk (vec_len c.loop-walks.walks) (length walks) c.loop-walks.walks.ok.0
+    (sym c.is_empty.ensures ∙ c.loop-walks-test.true)) told left c.loop-walks.invariant)
 
 pub returns-clause-truths : goal.returns-clause-truths
-returns-clause-truths c = λ m. ap (λ (xs : List Bool). truth_at xs m) c.united-2.ensures.truths ∙ united-at m c.loop-alloc.walks.items ∙ c.loop-alloc.invariant.each m
+returns-clause-truths c = λ m. ap (λ (xs : List Bool). truth_at xs m) c.united-2.ensures.truths
+    ∙ united-at m c.loop-alloc.walks.items ∙ c.loop-alloc.invariant.each m

@@ -1,7 +1,11 @@
 -- `AnswerWriter::push_all` adds the messages to the answer, message by message.
-use Rattle.mail_answer.proofs.Words.{◌≡◌, ℕ, List, [], ◌∷◌, ◌++◌, length, Option, Some, Result, Ok, refl, ap, subst, sym, ◌∙◌, append_assoc, append-nil, arith, err_from_is_err_and, AreNumbers, known_answer, known_message, joined, Tells, Writes}
+use Rattle.mail_answer.proofs.Words.{◌≡◌, ℕ, List, [], ◌∷◌, ◌++◌, length, Option, Some, Result, Ok, refl, ap, subst}
+use Rattle.mail_answer.proofs.Words.{sym, ◌∙◌, append_assoc, append-nil, arith, err_from_is_err_and, AreNumbers}
+use Rattle.mail_answer.proofs.Words.{known_answer, known_message, joined, Tells, Writes}
 use Rattle.mail_answer.proofs.ThreadLaws.NumberLists.{numbers_next, few_numbers, known_first, known_none}
-use Rattle.mail_answer.proofs.OutputLaws.SheetLemmas.{joins_gathered, writes_next, writes_stop, writes_less, writes_err, tells-joined, joins_more, unsent_before, joined-nothing, joined-assoc}
+use Rattle.mail_answer.proofs.OutputLaws.SheetLemmas.{joins_gathered, writes_next, writes_stop, writes_less, writes_err}
+use Rattle.mail_answer.proofs.OutputLaws.SheetLemmas.{tells-joined, joins_more, unsent_before, joined-nothing}
+use Rattle.mail_answer.proofs.OutputLaws.SheetLemmas.{joined-assoc}
 use Rattle.mail_answer.proofs.OutputLaws.ChosenBelow.{is_among_behind}
 use Rattle.mail_answer.proofs.OutputLaws.SpanWrites.{spans_more, spans_stop, spans_end}
 use Rattle.mail_answer.proofs.OutputLaws.SentLemmas.{still_ready}
@@ -18,13 +22,24 @@ loop-n-init g c = record {
   joins = (
     Some [],
     [],
-    joined-nothing (known_answer c.args.self.now.format c.args.self.now.places.table (g.A.Archives.held c.args.archives.now) c.args.numbers.now),
+    joined-nothing (known_answer c.args.self.now.format c.args.self.now.places.table
+        (g.A.Archives.held c.args.archives.now) c.args.numbers.now),
     refl,
-    joins_gathered (g.O.Out.taken c.args.out.now) c.args.self.now.sheet c.args.self.now.sheet [] (sym (append-nil c.args.self.now.sheet.text)) refl,
+    joins_gathered (g.O.Out.taken c.args.out.now) c.args.self.now.sheet c.args.self.now.sheet []
+        (sym (append-nil c.args.self.now.sheet.text)) refl,
   );
   kept = λ unsent. refl;
   out_count = refl;
-  passed = ([], refl, λ mbox. ([], refl, joins_gathered (g.O.Out.taken c.args.out.now) c.args.self.now.sheet c.args.self.now.sheet [] (sym (append-nil c.args.self.now.sheet.text)) refl));
+  passed = (
+    [],
+    refl,
+    λ mbox. (
+      [],
+      refl,
+      joins_gathered (g.O.Out.taken c.args.out.now) c.args.self.now.sheet
+          c.args.self.now.sheet [] (sym (append-nil c.args.self.now.sheet.text)) refl,
+    ),
+  );
   unasked = λ raw. refl;
   archives_count = refl;
 }
@@ -45,15 +60,22 @@ returns-in_err-push-clause-messages g c =
     let next : Option (List ℕ) = known_message f t held c.in-Some.n in
     let rest : Option (List ℕ) = known_answer f t held c.next.new.self in
     let took : c.loop-n.numbers ≡ c.in-Some.n ∷ c.next.new.self = c.in-Some.ensures in
-    let all : c.args.numbers.now ≡ i.passed.0 ++ c.in-Some.n ∷ c.next.new.self = i.passed.1 ∙ ap (λ (ns : List ℕ). i.passed.0 ++ ns) took in
+    let all : c.args.numbers.now ≡ i.passed.0 ++ c.in-Some.n ∷ c.next.new.self = i.passed.1
+    ∙ ap (λ (ns : List ℕ). i.passed.0 ++ ns) took in
     record {
       text = rw (so_far, ap (known_answer f t held) took ∙ known_first f t held c.in-Some.n c.next.new.self)
-          (writes_next (g.O.Out.taken c.args.out.now) (g.O.Out.taken c.loop-n.out) (g.O.Out.taken c.push.new.out) c.args.self.now.sheet c.loop-n.self.sheet c.push.new.self.sheet j.0 (joined next rest) c.from_residual.result (j.1, j.3, j.4)
-          (writes_stop (g.O.Out.taken c.loop-n.out) (g.O.Out.taken c.push.new.out) c.loop-n.self.sheet c.push.new.self.sheet next rest c.from_residual.result c.from_residual.ensures.0
+          (writes_next (g.O.Out.taken c.args.out.now) (g.O.Out.taken c.loop-n.out) (g.O.Out.taken c.push.new.out)
+          c.args.self.now.sheet c.loop-n.self.sheet c.push.new.self.sheet j.0 (joined next rest)
+          c.from_residual.result (j.1, j.3, j.4)
+          (writes_stop (g.O.Out.taken c.loop-n.out) (g.O.Out.taken c.push.new.out) c.loop-n.self.sheet
+          c.push.new.self.sheet next rest c.from_residual.result c.from_residual.ensures.0
           (rw (i.same.table, i.same.format) at c.in_err-push.ensures.message.text)));
       spans = λ mbox. rw all
-          (spans_stop (g.O.Out.taken c.args.out.now) (g.O.Out.taken c.loop-n.out) (g.O.Out.taken c.push.new.out) c.args.self.now.sheet c.loop-n.self.sheet c.push.new.self.sheet t i.passed.0 c.in-Some.n c.next.new.self c.from_residual.result
-          c.from_residual.ensures.0 (i.passed.2 mbox) (rw i.same.table at (c.in_err-push.ensures.message.span (i.same.format ∙ mbox))));
+          (spans_stop (g.O.Out.taken c.args.out.now) (g.O.Out.taken c.loop-n.out) (g.O.Out.taken c.push.new.out)
+          c.args.self.now.sheet c.loop-n.self.sheet c.push.new.self.sheet t i.passed.0 c.in-Some.n c.next.new.self
+          c.from_residual.result
+          c.from_residual.ensures.0 (i.passed.2 mbox)
+          (rw i.same.table at (c.in_err-push.ensures.message.span (i.same.format ∙ mbox))));
     }
 
 pub returns-in_err-push-clause-stale : goal.returns-in_err-push-clause-stale
@@ -81,12 +103,15 @@ loop-n-preserved g c =
         format = c.in_ok-push.ensures.same.format ∙ i.same.format;
       };
       keeps = keeps_join g.A.Archives _ _ _ i.keeps c.in_ok-push.ensures.archives.keeps;
-      numbers = numbers_next (length t.messages) c.in-Some.n c.next.new.self (subst (AreNumbers (length t.messages)) took i.numbers);
+      numbers = numbers_next (length t.messages) c.in-Some.n c.next.new.self
+          (subst (AreNumbers (length t.messages)) took i.numbers);
       counted = omega (arith, i.counted, ap length took);
       joins = (
         joined j.0 next,
         j.1 ++ w.0,
-        so_far ∙ ap (λ (k : Option (List ℕ)). joined j.0 k) (ap (known_answer c.args.self.now.format t held) took ∙ known_first c.args.self.now.format t held c.in-Some.n c.next.new.self) ∙ joined-assoc j.0 next rest,
+        so_far ∙ ap (λ (k : Option (List ℕ)). joined j.0 k)
+            (ap (known_answer c.args.self.now.format t held) took
+            ∙ known_first c.args.self.now.format t held c.in-Some.n c.next.new.self) ∙ joined-assoc j.0 next rest,
         tells-joined j.0 next j.1 w.0 j.3 w.1,
         joins_more j.4 w.2,
       );
@@ -94,8 +119,10 @@ loop-n-preserved g c =
       out_count = c.in_ok-push.ensures.out.count ∙ i.out_count;
       passed = (
         i.passed.0 ++ c.in-Some.n ∷ [],
-        i.passed.1 ∙ ap (λ (ns : List ℕ). i.passed.0 ++ ns) took ∙ sym (append_assoc i.passed.0 (c.in-Some.n ∷ []) c.next.new.self),
-        λ mbox. spans_more t i.passed.0 c.in-Some.n (i.passed.2 mbox) (rw i.same.table at (c.in_ok-push.ensures.message.span (i.same.format ∙ mbox))),
+        i.passed.1 ∙ ap (λ (ns : List ℕ). i.passed.0 ++ ns) took
+            ∙ sym (append_assoc i.passed.0 (c.in-Some.n ∷ []) c.next.new.self),
+        λ mbox. spans_more t i.passed.0 c.in-Some.n (i.passed.2 mbox)
+            (rw i.same.table at (c.in_ok-push.ensures.message.span (i.same.format ∙ mbox))),
       );
       unasked = λ raw. (c.in_ok-push.ensures.raw (i.same.format ∙ raw)).2 ∙ i.unasked raw;
       archives_count = c.in_ok-push.ensures.archives.count ∙ i.archives_count;
@@ -111,15 +138,23 @@ returns-in_err-send-clause-messages g c =
     let rest : Option (List ℕ) = known_answer f t held c.loop-n.numbers in
     let ended : c.loop-n.numbers ≡ [] = c.in_default.ensures.0 in
     let nothing : Tells rest [] = rw ended (known_none f t held) in
-    let all : i.passed.0 ≡ c.args.numbers.now = sym (i.passed.1 ∙ ap (λ (ns : List ℕ). i.passed.0 ++ ns) ended ∙ append-nil i.passed.0) in
-    let last : Writes (g.O.Out.taken c.loop-n.out) (g.O.Out.taken c.send.new.out) c.loop-n.self.sheet c.send.new.self (Some []) c.from_residual-in_err-send.result =
-    writes_err (g.O.Out.taken c.loop-n.out) (g.O.Out.taken c.send.new.out) c.loop-n.self.sheet c.send.new.self (Some []) c.from_residual-in_err-send.result c.from_residual-in_err-send.ensures.0 c.in_err-send.ensures.writes in
+    let all : i.passed.0 ≡ c.args.numbers.now =
+    sym (i.passed.1 ∙ ap (λ (ns : List ℕ). i.passed.0 ++ ns) ended ∙ append-nil i.passed.0) in
+    let last : Writes (g.O.Out.taken c.loop-n.out) (g.O.Out.taken c.send.new.out) c.loop-n.self.sheet c.send.new.self
+    (Some []) c.from_residual-in_err-send.result =
+    writes_err (g.O.Out.taken c.loop-n.out) (g.O.Out.taken c.send.new.out) c.loop-n.self.sheet c.send.new.self (Some [])
+    c.from_residual-in_err-send.result c.from_residual-in_err-send.ensures.0 c.in_err-send.ensures.writes in
     record {
       text = rw j.2
-          (writes_next (g.O.Out.taken c.args.out.now) (g.O.Out.taken c.loop-n.out) (g.O.Out.taken c.send.new.out) c.args.self.now.sheet c.loop-n.self.sheet c.send.new.self j.0 rest c.from_residual-in_err-send.result (j.1, j.3, j.4)
-          (writes_less (g.O.Out.taken c.loop-n.out) (g.O.Out.taken c.send.new.out) c.loop-n.self.sheet c.send.new.self rest [] c.from_residual-in_err-send.result nothing last));
+          (writes_next (g.O.Out.taken c.args.out.now) (g.O.Out.taken c.loop-n.out) (g.O.Out.taken c.send.new.out)
+          c.args.self.now.sheet c.loop-n.self.sheet c.send.new.self j.0 rest c.from_residual-in_err-send.result
+          (j.1, j.3, j.4)
+          (writes_less (g.O.Out.taken c.loop-n.out) (g.O.Out.taken c.send.new.out) c.loop-n.self.sheet c.send.new.self
+          rest [] c.from_residual-in_err-send.result nothing last));
       spans = λ mbox.
-          spans_end (g.O.Out.taken c.args.out.now) (g.O.Out.taken c.loop-n.out) (g.O.Out.taken c.send.new.out) c.args.self.now.sheet c.loop-n.self.sheet c.send.new.self t c.args.numbers.now c.from_residual-in_err-send.result
+          spans_end (g.O.Out.taken c.args.out.now) (g.O.Out.taken c.loop-n.out) (g.O.Out.taken c.send.new.out)
+          c.args.self.now.sheet c.loop-n.self.sheet c.send.new.self t c.args.numbers.now
+          c.from_residual-in_err-send.result
           (rw all at (i.passed.2 mbox)) last;
     }
 
@@ -133,14 +168,19 @@ returns-clause-messages g c =
     let rest : Option (List ℕ) = known_answer f t held c.loop-n.numbers in
     let ended : c.loop-n.numbers ≡ [] = c.in_default.ensures.0 in
     let nothing : Tells rest [] = rw ended (known_none f t held) in
-    let all : i.passed.0 ≡ c.args.numbers.now = sym (i.passed.1 ∙ ap (λ (ns : List ℕ). i.passed.0 ++ ns) ended ∙ append-nil i.passed.0) in
+    let all : i.passed.0 ≡ c.args.numbers.now =
+    sym (i.passed.1 ∙ ap (λ (ns : List ℕ). i.passed.0 ++ ns) ended ∙ append-nil i.passed.0) in
     let done : Result ℕ ℕ = Ok 0 in
     record {
       text = rw j.2
-          (writes_next (g.O.Out.taken c.args.out.now) (g.O.Out.taken c.loop-n.out) (g.O.Out.taken c.send.new.out) c.args.self.now.sheet c.loop-n.self.sheet c.send.new.self j.0 rest done (j.1, j.3, j.4)
-          (writes_less (g.O.Out.taken c.loop-n.out) (g.O.Out.taken c.send.new.out) c.loop-n.self.sheet c.send.new.self rest [] done nothing c.in_ok-send.ensures.writes));
+          (writes_next (g.O.Out.taken c.args.out.now) (g.O.Out.taken c.loop-n.out) (g.O.Out.taken c.send.new.out)
+          c.args.self.now.sheet c.loop-n.self.sheet c.send.new.self j.0 rest done (j.1, j.3, j.4)
+          (writes_less (g.O.Out.taken c.loop-n.out) (g.O.Out.taken c.send.new.out) c.loop-n.self.sheet c.send.new.self
+          rest [] done nothing c.in_ok-send.ensures.writes));
       spans = λ mbox.
-          spans_end (g.O.Out.taken c.args.out.now) (g.O.Out.taken c.loop-n.out) (g.O.Out.taken c.send.new.out) c.args.self.now.sheet c.loop-n.self.sheet c.send.new.self t c.args.numbers.now done (rw all at (i.passed.2 mbox)) c.in_ok-send.ensures.writes;
+          spans_end (g.O.Out.taken c.args.out.now) (g.O.Out.taken c.loop-n.out) (g.O.Out.taken c.send.new.out)
+          c.args.self.now.sheet c.loop-n.self.sheet c.send.new.self t c.args.numbers.now done
+          (rw all at (i.passed.2 mbox)) c.in_ok-send.ensures.writes;
     }
 
 pub returns-clause-count : goal.returns-clause-count

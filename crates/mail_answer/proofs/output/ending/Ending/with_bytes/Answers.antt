@@ -1,12 +1,15 @@
 -- `Ending::with_bytes` reads only the bytes after the last LF that isn't the last byte, because those before make no
 -- difference.
-use Rattle.mail_answer.proofs.Words.{◌≡◌, ◌∙◌, ◌+◌, ◌-◌, ◌<◌, ◌≤◌, ◌==◌, true, ℕ, List, [], ◌∷◌, ◌++◌, length, get_or, take, drop, drop-cons, add-one, append_assoc, ap, sym, arith, eqb-true, take-append-drop, take_rest, get_or-take, ending_of}
+use Rattle.mail_answer.proofs.Words.{◌≡◌, ◌∙◌, ◌+◌, ◌-◌, ◌<◌, ◌≤◌, ◌==◌, true, ℕ, List, [], ◌∷◌, ◌++◌, length, get_or}
+use Rattle.mail_answer.proofs.Words.{take, drop, drop-cons, add-one, append_assoc, ap, sym, arith, eqb-true}
+use Rattle.mail_answer.proofs.Words.{take-append-drop, take_rest, get_or-take, ending_of}
 use Rattle.std.proofs.lemmas.List.{length-take, length-drop}
 use Rattle.mail_answer.proofs.OutputLaws.Endings.{ending_behind}
 use Rattle.mail_answer.proofs.output.ending.Ending.with_bytes.Goals as goal
 
 -- an LF at this place, and the bytes after it
-split_at : (bytes : List ℕ) (at most : ℕ) → at < most → most ≤ length bytes → (get_or (take most bytes) at 0 == 10) ≡ true → bytes ≡ take at bytes ++ 10 ∷ drop (at + 1) bytes
+split_at : (bytes : List ℕ) (at most : ℕ) → at < most → most ≤ length bytes → (get_or (take most bytes) at 0 == 10)
+    ≡ true → bytes ≡ take at bytes ++ 10 ∷ drop (at + 1) bytes
 split_at bytes at most lt le is = grind (arith, get_or-take, eqb-true, take-append-drop, drop-cons, add-one)
 
 pub returns-in-Some : goal.returns-in-Some
@@ -18,6 +21,10 @@ returns-in-Some c =
     let low : at < length (take most more) = c.in-Some.ensures.0.high in
     let behind : take (length more - (at + 1)) (drop (at + 1) more) ≡ drop (at + 1) more = take_rest more (at + 1) in
     let before : at < most = omega (arith, low, length-take most more) in
-    let split : more ≡ take at more ++ 10 ∷ drop (at + 1) more = split_at more at most before (omega arith) c.in-Some.ensures.1 in
-    c.with_each.ensures [] c.new.ensures ∙ ap ending_of behind ∙ sym (ending_behind (bytes ++ take at more) (drop (at + 1) more) (omega (arith, before, length-drop (at + 1) more)))
-    ∙ ap ending_of (append_assoc bytes (take at more) (10 ∷ drop (at + 1) more) ∙ ap (λ (l : List ℕ). bytes ++ l) (sym split))
+    let split : more ≡ take at more ++ 10 ∷ drop (at + 1) more =
+    split_at more at most before (omega arith) c.in-Some.ensures.1 in
+    c.with_each.ensures [] c.new.ensures ∙ ap ending_of behind
+    ∙ sym (ending_behind (bytes ++ take at more) (drop (at + 1) more)
+    (omega (arith, before, length-drop (at + 1) more)))
+    ∙ ap ending_of (append_assoc bytes (take at more) (10 ∷ drop (at + 1) more)
+    ∙ ap (λ (l : List ℕ). bytes ++ l) (sym split))

@@ -4,13 +4,15 @@ use Rattle.mail_answer.proofs.OutputLaws.ReadingLemmas.{line_found, line_left}
 use Rattle.mail_answer.proofs.output.line_reader.LineReader.first_line.Goals as goal
 
 pub returns-in-Some-clause-within : goal.returns-in-Some-clause-within
-returns-in-Some-clause-within g c = line_end-within c.more.self.unread c.in-Some.n (c.in-Some.ensures ∙ ap line_end_of c.unread-rest.ensures)
+returns-in-Some-clause-within g c = line_end-within c.more.self.unread c.in-Some.n
+    (c.in-Some.ensures ∙ ap line_end_of c.unread-rest.ensures)
 
 pub returns-in-Some-clause-line : goal.returns-in-Some-clause-line
 returns-in-Some-clause-line g c = grind (arith, line_found)
 
 pub returns-in-Some-clause-some : goal.returns-in-Some-clause-some
-returns-in-Some-clause-some g c = λ zero. let some : 0 < c.in-Some.n = line_end-positive c.unread-rest.result.now c.in-Some.n c.in-Some.ensures in absurd (omega arith)
+returns-in-Some-clause-some g c = λ zero. let some : 0 < c.in-Some.n =
+    line_end-positive c.unread-rest.result.now c.in-Some.n c.in-Some.ensures in absurd (omega arith)
 
 pub returns-in-None-clause-line : goal.returns-in-None-clause-line
 returns-in-None-clause-line g c = grind (arith, line_left)

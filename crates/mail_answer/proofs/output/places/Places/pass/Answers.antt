@@ -10,4 +10,5 @@ unreachable-requires c = grind (arith, still_named)
 pub invariant_of-self : goal.invariant_of-self
 invariant_of-self c =
     let s = c.self.inside in
-    passed_more s.index.archives s.passed s.rest s.path.now (archive_of c.in-Some.archive) c.next.new.self c.self.invariant c.in-Some.ensures
+    passed_more s.index.archives s.passed s.rest s.path.now (archive_of c.in-Some.archive) c.next.new.self
+    c.self.invariant c.in-Some.ensures

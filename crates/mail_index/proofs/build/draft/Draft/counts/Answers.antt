@@ -6,19 +6,34 @@ use Rattle.mail_index.proofs.BuildLaws.Sizes.{length-archives, length-texts, len
 use Rattle.mail_index.proofs.build.draft.Draft.counts.Goals as goal
 
 pub archives_length-requires : goal.archives_length-requires
-archives_length-requires c = rw c.as_slice.ensures.value (omega (arith, length-archives (map kept_archive c.self.inside.archives.items) c.self.invariant.named, c.self.invariant.archives, c.self.invariant.limit))
+archives_length-requires c = rw c.as_slice.ensures.value
+    (omega (
+      arith,
+      length-archives (map kept_archive c.self.inside.archives.items) c.self.invariant.named,
+      c.self.invariant.archives,
+      c.self.invariant.limit,
+    ))
 
 pub key_bytes-text_bytes-requires-clause-texts : goal.key_bytes-text_bytes-requires-clause-texts
-key_bytes-text_bytes-requires-clause-texts c = rw c.in_order.ensures (omega (arith, length-texts _ c.self.inside.keys c.self.invariant.listed, c.self.invariant.keys, c.self.invariant.limit))
+key_bytes-text_bytes-requires-clause-texts c =
+    rw c.in_order.ensures (omega (
+      arith,
+      length-texts _ c.self.inside.keys c.self.invariant.listed,
+      c.self.invariant.keys,
+      c.self.invariant.limit,
+    ))
 
 pub key_bytes-text_bytes-requires-clause-postings : goal.key_bytes-text_bytes-requires-clause-postings
 key_bytes-text_bytes-requires-clause-postings c = grind (arith, message_count-within, length-all_postings)
 
 pub returns-clause-small : goal.returns-clause-small
 returns-clause-small c =
-    let d : Draft = draft_of c.self.inside.most c.self.inside.path c.self.inside.in_message c.self.inside.archives.items c.self.inside.records.items c.self.inside.keys in
-    let archive_count : c.len.result ≡ length (map kept_archive c.self.inside.archives.items) = first_of (search rules, grind (arith, common_steps)) in
-    let message_count_is : c.len-2.result ≡ length c.self.inside.records.items = first_of (search rules, grind (arith, common_steps)) in
+    let d : Draft = draft_of c.self.inside.most c.self.inside.path c.self.inside.in_message c.self.inside.archives.items
+    c.self.inside.records.items c.self.inside.keys in
+    let archive_count : c.len.result ≡ length (map kept_archive c.self.inside.archives.items) =
+    first_of (search rules, grind (arith, common_steps)) in
+    let message_count_is : c.len-2.result ≡ length c.self.inside.records.items =
+    first_of (search rules, grind (arith, common_steps)) in
     counted_length-small d.table _ (message_count d) (record {
       version = refl;
       archives = archive_count;
@@ -27,5 +42,8 @@ returns-clause-small c =
       archive_bytes = rw c.as_slice.ensures.value at c.archives_length.ensures;
       text_bytes = rw c.in_order.ensures at c.key_bytes-text_bytes.ensures.texts;
       posting_bytes = rw c.in_order.ensures at c.key_bytes-text_bytes.ensures.postings;
-    }) (omega (arith, c.self.invariant.archives, c.self.invariant.limit)) (omega (arith, c.self.invariant.messages, c.self.invariant.limit)) (omega (arith, c.self.invariant.keys, c.self.invariant.limit))
-    (omega (arith, message_count-within d c.self.invariant, c.self.invariant.limit)) c.self.invariant.named c.self.invariant.listed
+    }) (omega (arith, c.self.invariant.archives, c.self.invariant.limit))
+    (omega (arith, c.self.invariant.messages, c.self.invariant.limit))
+    (omega (arith, c.self.invariant.keys, c.self.invariant.limit))
+    (omega (arith, message_count-within d c.self.invariant, c.self.invariant.limit)) c.self.invariant.named
+    c.self.invariant.listed

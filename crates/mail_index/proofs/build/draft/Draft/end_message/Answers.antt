@@ -8,8 +8,10 @@ use Rattle.mail_index.proofs.build.draft.Draft.end_message.Goals as goal
 
 pub invariant_of-self-2 : goal.invariant_of-self-2
 invariant_of-self-2 c =
-    let d : Draft = draft_of c.self.inside.most c.self.inside.path c.self.inside.in_message c.self.inside.archives.items c.self.inside.records.items c.self.inside.keys in
+    let d : Draft = draft_of c.self.inside.most c.self.inside.path c.self.inside.in_message c.self.inside.archives.items
+    c.self.inside.records.items c.self.inside.keys in
     -- the type of the date says this
     let date : IfSome c.args.message.date (FitsSigned w64) = grind (arith, c.well_formed) in
-    rw c.in_ok-push.ensures.items (message-ended_draft d c.args.message c.self.invariant (subst IsInMessage (sym c.self.view_is) c.requires.phase)
+    rw c.in_ok-push.ensures.items (message-ended_draft d c.args.message c.self.invariant
+    (subst IsInMessage (sym c.self.view_is) c.requires.phase)
     (subst (λ (e : Draft). IsNextMessage e c.args.message) (sym c.self.view_is) c.requires.next) date)

@@ -6,5 +6,7 @@ use Rattle.mail_index.proofs.build.draft.Draft.send_sections.Given as goal
 
 abbrev pub invariant-loop-section : goal.invariant-loop-section
 invariant-loop-section g l =
-    IsSigning (g.O.Out.taken l.fn.out) (g.O.Out.taken l.out) l.fn.signer l.signer (flat_map (section_of l.self.table) l.sections) (flat_map (section_of l.self.table) (drop l.section-index l.sections))
+    IsSigning (g.O.Out.taken l.fn.out) (g.O.Out.taken l.out) l.fn.signer l.signer
+    (flat_map (section_of l.self.table) l.sections)
+    (flat_map (section_of l.self.table) (drop l.section-index l.sections))
     × (g.O.Out.failures l.out ≡ g.O.Out.failures l.fn.out)

@@ -15,4 +15,9 @@ returns-in-Some c has =
     let here : lies_to c.args.kind c.args.text.now (key_at entries i) ≡ Equal = grind arith in
     let same : with_one (key_at entries i) c.args.number ≡ key_at entries i = grind arith in
     let sorts = c.self.invariant.sorts in
-    grind (arith, with_pair-found c.args.kind c.args.text.now c.args.number entries i order low here sorts.sorted (sorts.whole i low) ∙ ap (λ k. placed (set entries i k) order) same ∙ ap (λ es. placed es order) (set-get_or entries i no_key))
+    grind (
+      arith,
+      with_pair-found c.args.kind c.args.text.now c.args.number entries i order low here sorts.sorted
+          (sorts.whole i low) ∙ ap (λ k. placed (set entries i k) order) same
+          ∙ ap (λ es. placed es order) (set-get_or entries i no_key),
+    )

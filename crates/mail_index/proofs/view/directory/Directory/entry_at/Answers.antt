@@ -8,10 +8,12 @@ split_at-requires c = grind (arith, number-below)
 
 pub invariant_of-result : goal.invariant_of-result
 invariant_of-result c =
-    (rest-at c.self.inside.texts.now c.self.inside.postings.now c.self.inside.count c.self.inside.entries.now c.args.self.now c.args.number c.split_at.result.1.now
+    (rest-at c.self.inside.texts.now c.self.inside.postings.now c.self.inside.count c.self.inside.entries.now
+    c.args.self.now c.args.number c.split_at.result.1.now
     c.self.invariant c.self.view_is c.requires c.split_at.ensures.back).front
 
 pub returns : goal.returns
 returns c =
-    sym (rest-at c.self.inside.texts.now c.self.inside.postings.now c.self.inside.count c.self.inside.entries.now c.args.self.now c.args.number c.split_at.result.1.now
+    sym (rest-at c.self.inside.texts.now c.self.inside.postings.now c.self.inside.count c.self.inside.entries.now
+    c.args.self.now c.args.number c.split_at.result.1.now
     c.self.invariant c.self.view_is c.requires c.split_at.ensures.back).key

@@ -1,9 +1,11 @@
 -- `Postings::next` returns the first number, because the bytes begin with its difference.
-use Rattle.mail_index.proofs.Words.{◌≡◌, ◌∙◌, ◌+◌, ◌-◌, ◌^◌, ◌++◌, ℕ, List, [], ◌∷◌, refl, sym, ap, subst, arith, leb128, IsShort, ArePostings, numbers_read, shown_split}
+use Rattle.mail_index.proofs.Words.{◌≡◌, ◌∙◌, ◌+◌, ◌-◌, ◌^◌, ◌++◌, ℕ, List, [], ◌∷◌, refl, sym, ap, subst, arith}
+use Rattle.mail_index.proofs.Words.{leb128, IsShort, ArePostings, numbers_read, shown_split}
 use Rattle.mail_index.proofs.ViewLaws.PostingReadLemmas.{read-posted, posted-none, posted-front, Front}
 use Rattle.mail_index.proofs.view.postings.Postings.next.Goals as goal
 
-module _ (low d : ℕ) (bytes behind : List ℕ) (short : IsShort 5 d) (split : bytes ≡ leb128 5 d ++ behind) (posted : ArePostings (2 ^ 32) low bytes (numbers_read low bytes)) where
+module _ (low d : ℕ) (bytes behind : List ℕ) (short : IsShort 5 d) (split : bytes ≡ leb128 5 d ++ behind)
+    (posted : ArePostings (2 ^ 32) low bytes (numbers_read low bytes)) where
   front : Front (2 ^ 32) low d behind (numbers_read low bytes)
   front = posted-front (2 ^ 32) low d bytes behind (numbers_read low bytes) (omega arith) short split posted
 
@@ -17,19 +19,31 @@ module _ (low d : ℕ) (bytes behind : List ℕ) (short : IsShort 5 d) (split : 
   numbers = front.numbers ∙ ap (λ (ns : List ℕ). (low + d - 1) ∷ ns) later
 
 pub overflow_add-self : goal.overflow_add-self
-overflow_add-self c = omega (arith, (front c.self.inside.low c.in_ok-difference.difference c.self.inside.bytes.now c.in_ok-difference.behind.now c.in_ok-difference.ensures.short c.in_ok-difference.ensures.some c.self.invariant).below)
+overflow_add-self c = omega (
+  arith,
+  (front c.self.inside.low c.in_ok-difference.difference c.self.inside.bytes.now
+      c.in_ok-difference.behind.now c.in_ok-difference.ensures.short c.in_ok-difference.ensures.some
+      c.self.invariant).below,
+)
 
 pub overflow_sub-result : goal.overflow_sub-result
-overflow_sub-result c = omega (arith, (front c.self.inside.low c.in_ok-difference.difference c.self.inside.bytes.now c.in_ok-difference.behind.now c.in_ok-difference.ensures.short c.in_ok-difference.ensures.some c.self.invariant).some)
+overflow_sub-result c = omega (
+  arith,
+  (front c.self.inside.low c.in_ok-difference.difference c.self.inside.bytes.now
+      c.in_ok-difference.behind.now c.in_ok-difference.ensures.short c.in_ok-difference.ensures.some
+      c.self.invariant).some,
+)
 
 pub overflow_cast-result : goal.overflow_cast-result
 overflow_cast-result c =
-    let f = front c.self.inside.low c.in_ok-difference.difference c.self.inside.bytes.now c.in_ok-difference.behind.now c.in_ok-difference.ensures.short c.in_ok-difference.ensures.some c.self.invariant in
+    let f = front c.self.inside.low c.in_ok-difference.difference c.self.inside.bytes.now c.in_ok-difference.behind.now
+    c.in_ok-difference.ensures.short c.in_ok-difference.ensures.some c.self.invariant in
     omega (arith, f.some, f.below)
 
 pub invariant_of-self : goal.invariant_of-self
 invariant_of-self c =
-    behind-posted c.self.inside.low c.in_ok-difference.difference c.self.inside.bytes.now c.in_ok-difference.behind.now c.in_ok-difference.ensures.short c.in_ok-difference.ensures.some c.self.invariant
+    behind-posted c.self.inside.low c.in_ok-difference.difference c.self.inside.bytes.now c.in_ok-difference.behind.now
+    c.in_ok-difference.ensures.short c.in_ok-difference.ensures.some c.self.invariant
 
 pub returns : goal.returns
 returns c = grind (arith, numbers)
@@ -37,6 +51,8 @@ returns c = grind (arith, numbers)
 pub returns-in_err-difference : goal.returns-in_err-difference
 returns-in_err-difference c =
     let nothing : numbers_read c.self.inside.low c.self.inside.bytes.now ≡ [] =
-    posted-none (2 ^ 32) c.self.inside.low c.self.inside.bytes.now (numbers_read c.self.inside.low c.self.inside.bytes.now) (shown_split c.split_difference.result) (omega arith) c.split_difference.ensures.only (ap shown_split c.in_err-difference.was) c.self.invariant in
+    posted-none (2 ^ 32) c.self.inside.low c.self.inside.bytes.now
+    (numbers_read c.self.inside.low c.self.inside.bytes.now) (shown_split c.split_difference.result) (omega arith)
+    c.split_difference.ensures.only (ap shown_split c.in_err-difference.was) c.self.invariant in
     let empty : c.args.self.now ≡ [] = sym c.self.view_is ∙ nothing in
     rw c.from_residual.ensures (empty, empty, refl)

@@ -1,5 +1,6 @@
 -- `Postings::next_at_least` drops the numbers below n one after another, each with a step.
-use Rattle.mail_index.proofs.Words.{◌<◌, ◌≡◌, ◌∙◌, ◌-◌, ◌++◌, ℕ, suc, List, [], ◌∷◌, length, sym, ap, arith, append_assoc, length-append, add_steps}
+use Rattle.mail_index.proofs.Words.{◌<◌, ◌≡◌, ◌∙◌, ◌-◌, ◌++◌, ℕ, suc, List, [], ◌∷◌, length, sym, ap, arith}
+use Rattle.mail_index.proofs.Words.{append_assoc, length-append, add_steps}
 use Rattle.mail_index.proofs.ViewLaws.StepLemmas.{add_steps-none, add_steps-one}
 use Rattle.mail_index.proofs.Items.{all-snoc}
 use Rattle.mail_index.proofs.view.postings.Postings.next_at_least.Goals as goal
@@ -12,11 +13,17 @@ loop-number-preserved c =
     let sofar = c.loop-number.invariant.split in
     let rest : List ℕ = c.next.new.self in
     let n : ℕ = c.in-Some.number in
-    let all : c.args.self.now ≡ (sofar.0 ++ n ∷ []) ++ rest = sofar.2 ∙ ap (λ (l : List ℕ). sofar.0 ++ l) c.in-Some.ensures.0 ∙ sym (append_assoc sofar.0 (n ∷ []) rest) in
+    let all : c.args.self.now ≡ (sofar.0 ++ n ∷ []) ++ rest = sofar.2
+    ∙ ap (λ (l : List ℕ). sofar.0 ++ l) c.in-Some.ensures.0 ∙ sym (append_assoc sofar.0 (n ∷ []) rest) in
     let count : suc (length c.args.self.now - length c.loop-number.self) ≡ length c.args.self.now - length rest =
     omega (arith, ap length sofar.2, ap length c.in-Some.ensures.0, length-append sofar.0 c.loop-number.self) in
     record {
-      split = (sofar.0 ++ n ∷ [], all-snoc (λ m. m < c.args.n) sofar.0 n sofar.1 (omega (arith, c.if-number-n.false)), all);
+      split = (
+        sofar.0 ++ n ∷ [],
+        all-snoc (λ m. m < c.args.n) sofar.0 n sofar.1 (omega (arith, c.if-number-n.false)),
+        all,
+      );
       steps = c.in-Some.ensures.1 ∙ ap (λ (s : ℕ). add_steps s 1) c.loop-number.invariant.steps
-          ∙ add_steps-one c.args.steps.now (length c.args.self.now - length c.loop-number.self) ∙ ap (add_steps c.args.steps.now) count;
+          ∙ add_steps-one c.args.steps.now (length c.args.self.now - length c.loop-number.self)
+          ∙ ap (add_steps c.args.steps.now) count;
     }

@@ -1,3 +1,4 @@
+-- Placing this operand gives what placing the first one did. The loop ends because each turn takes one `not` away.
 use Rattle.mail_query.proofs.Words.{◌≡◌, vec_len, query_of, shown_stack, shown_level, placed}
 use Rattle.mail_query.proofs.boolean.reader.Reader.place.Given as goal
 

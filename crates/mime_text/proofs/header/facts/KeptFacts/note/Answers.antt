@@ -1,3 +1,4 @@
+-- `KeptFacts::note` notes the facts of a header only if none are noted, by these two cases.
 use Rattle.mime_text.proofs.Words.{arith}
 use Rattle.mime_text.proofs.header.facts.KeptFacts.note.Goals as goal
 

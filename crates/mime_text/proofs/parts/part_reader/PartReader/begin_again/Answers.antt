@@ -1,3 +1,4 @@
+-- After `PartReader::begin_again` the texts of a whole message come, because nothing is open and the header is empty.
 use Rattle.mime_text.proofs.PassingLemmas.{comes-first}
 use Rattle.mime_text.proofs.parts.part_reader.PartReader.begin_again.Goals as goal
 

@@ -1,3 +1,4 @@
+-- From a new reader the texts of a whole message come, because nothing is open and the header is empty.
 use Rattle.mime_text.proofs.PassingLemmas.{comes-first}
 use Rattle.mime_text.proofs.parts.part_reader.PartReader.new.Goals as goal
 

@@ -1,0 +1,117 @@
+#!/usr/bin/env python3
+"""Lines of definitions and proofs above 120 columns. None is right, unless one text or name makes it so long.
+
+    long_lines.py [--write]
+
+--write breaks them at spaces, each at the last place before the limit where the fewest brackets are open, and indents
+what follows by four columns more. A text of antt's means the same with such breaks, as long as what follows a
+declaration's first line is indented more than that line.
+
+The last line is `N passed, M failed`: files with and without such lines.
+"""
+import re
+import sys
+from pathlib import Path
+
+TOP = Path(__file__).resolve().parent.parent
+MOST = 120
+STEP = 4
+IMPORT = re.compile(r"((?:pub )?use [^{}]*\.\{)([^{}]*)\}")
+TEXT = re.compile(r'"(?:[^"\\]|\\.)*"')
+OPEN, CLOSE = "([{", ")]}"
+# A line is best broken in front of one of these, or after one of those.
+BEFORE = ("→", "×", "⊎", "≡", "∙", "in", "where", "then", "else", "=")
+AFTER = ("=", ",", ";")
+
+
+def files():
+    return sorted(it for part in ("specs", "proofs") for it in TOP.glob(f"crates/*/{part}/**/*.antt"))
+
+
+def is_long(line):
+    """Whether a line is too long, and not only for one text or name that it has."""
+    imported = IMPORT.fullmatch(line)
+    if imported and ", " not in imported[2]:
+        return False
+    return len(line) > MOST and any(at <= MOST for at, _ in places(line, len(line) - len(line.lstrip(" "))))
+
+
+def blanked(line):
+    """The line without its texts, in which nothing can be broken."""
+    return TEXT.sub(lambda text: "_" * len(text[0]), line)
+
+
+def places(line, indent):
+    """The spaces at which a line can be broken, each with how many brackets are open there."""
+    depth = 0
+    for at, sign in enumerate(blanked(line)):
+        if sign in OPEN:
+            depth += 1
+        elif sign in CLOSE:
+            depth -= 1
+        elif sign == " " and at > indent:
+            yield at, depth
+
+
+def cost(line, at, depth):
+    """How bad a break at this space is: by the brackets that are open, and then by the words around it."""
+    following = line[at + 1 :].split(" ", 1)[0]
+    preceding = line[:at].rsplit(" ", 1)[-1]
+    is_good = following in BEFORE or preceding.endswith(AFTER)
+    return depth, not is_good, -at
+
+
+def imports(head, names):
+    """The lines of an import of many names."""
+    lines, line = [], head
+    for name in names.split(", "):
+        if line != head and len(line) + len(name) + 3 > MOST:
+            lines, line = [*lines, line + "}"], head
+        line += name if line == head else f", {name}"
+    return [*lines, line + "}"]
+
+
+def broken(line, first_indent=None):
+    """The lines that a long line becomes."""
+    indent = len(line) - len(line.lstrip(" "))
+    follows = (indent if first_indent is None else first_indent) + STEP
+    if len(line) <= MOST:
+        return [line]
+    imported = IMPORT.fullmatch(line)
+    if imported:
+        return imports(*imported.groups())
+    if line.lstrip().startswith("--"):
+        at = line.rfind(" ", indent + 4, MOST + 1)
+        if at < 0:
+            return [line]
+        return [line[:at].rstrip(), *broken(" " * indent + "-- " + line[at + 1 :])]
+    comment = blanked(line).find(" -- ")
+    if comment >= 0:
+        remark = " " * indent + line[comment + 1 :].strip()
+        return [*broken(remark), *broken(line[:comment].rstrip(), first_indent)]
+    # Not so early that what follows is hardly shorter.
+    least = indent + (MOST - indent) // 3
+    within = [(at, depth) for at, depth in places(line, indent) if at <= MOST]
+    late = [it for it in within if it[0] >= least]
+    if not within:
+        return [line]
+    at = min(late or within, key=lambda it: cost(line, *it))[0]
+    return [line[:at].rstrip(), *broken(" " * follows + line[at + 1 :].lstrip(), follows - STEP)]
+
+
+def main(is_written):
+    passed = failed = 0
+    for file in files():
+        lines = file.read_text("utf-8").split("\n")
+        long = sum(is_long(it) for it in lines)
+        if long and is_written:
+            file.write_text("\n".join(part for it in lines for part in broken(it)), "utf-8")
+        elif long:
+            print(f"{file.relative_to(TOP)}: {long} lines above {MOST} columns, the longest {max(map(len, lines))}")
+        passed, failed = passed + (not long), failed + bool(long)
+    print(f"{passed} passed, {failed} failed")
+    return 1 if failed and not is_written else 0
+
+
+if __name__ == "__main__":
+    sys.exit(main("--write" in sys.argv[1:]))
