@@ -1,9 +1,15 @@
 -- Reads of a cutter's source, one after another, up to the archive's end.
-use Rattle.index_job.proofs.Words.{◌≡◌, ◌∙◌, Bool, true, false, refl, sym, ap, subst, arith, Result, Ok, Err, CutFault, Event, Progress, Advances, shown_result, JobFault, ReadsSource, is_source_failure, of_text}
+use Rattle.index_job.proofs.Words.{◌≡◌, ◌∙◌, Bool, true, false, refl, sym, ap, subst, arith, Result, Ok, Err, CutFault}
+use Rattle.index_job.proofs.Words.{Event, Progress, Advances, shown_result, JobFault, ReadsSource, is_source_failure}
+use Rattle.index_job.proofs.Words.{of_text}
 use Rattle.std.specs.Borrow.{MutBor}
 use Rattle.mbox_cutter.specs.declared.device.Source.{Ghosts}
 use Rattle.mbox_cutter.specs.declared.event.CutFault.TheVariants as cut
 use Rattle.mbox_cutter.proofs.Sources.{Stays-self, Stays-join}
+use Rattle.mbox_cutter.specs.Digests.{inner, AreWholeBelow}
+use Rattle.mbox_cutter.specs.Sources.{Stays}
+use Rattle.mbox_cutter.specs.declared.digested.Digested.{Digested}
+use Rattle.std.specs.Prelude.{ℕ, zero, suc, List, ◌∷◌, IsSome}
 use Rattle.index_job.specs.declared.job_fault.JobFault.TheVariants as job
 use Rattle.mime_text.specs.declared.fault.TextFault.{TextFault}
 
@@ -20,7 +26,8 @@ failure-is : {T : Type 0} (r : Result T JobFault) (f : JobFault) → r ≡ Err f
 failure-is {T = T} r f is = ap (λ (x : Result T JobFault). is_source_failure x) is ∙ err-says T f
 
 -- reading a text never fails because of the source
-pub text-fault : {U : Type 0} (q : Result U JobFault) (f : TextFault) → q ≡ Err (of_text f) → is_source_failure q ≡ false
+pub text-fault : {U : Type 0} (q : Result U JobFault) (f : TextFault) → q ≡ Err (of_text f) → is_source_failure q
+    ≡ false
 text-fault q f is = grind arith
 
 -- ---- reads
@@ -29,20 +36,40 @@ module _ {S : Type 0} (g : Ghosts S) where
   pub reads-none : (s : MutBor S) → ReadsSource g false s s
   reads-none s = record { source = refl; stays = Stays-self g s.now; count = refl }
 
-  pub reads-join : (failed : Bool) (a b c : MutBor S) → ReadsSource g false a b → ReadsSource g failed b c → ReadsSource g failed a c
+  pub reads-join : (failed : Bool) (a b c : MutBor S) → ReadsSource g false a b → ReadsSource g failed b c
+      → ReadsSource g failed a c
   reads-join failed a b c h h2 = grind (arith, Stays-join)
 
   -- what comes after the reads doesn't read
-  pub reads-before : (failed : Bool) (a b : MutBor S) → failed ≡ false → ReadsSource g false a b → ReadsSource g failed a b
+  pub reads-before : (failed : Bool) (a b : MutBor S) → failed ≡ false → ReadsSource g false a b
+      → ReadsSource g failed a b
   reads-before failed a b none h = subst (λ x. ReadsSource g x a b) (sym none) h
 
   module _ {U : Type 0} (q : Result U JobFault) where
     -- a fault is passed on
-    pub reads-passed : {T : Type 0} (r : Result T JobFault) (f : JobFault) (a b : MutBor S) → r ≡ Err f → q ≡ Err f → ReadsSource g (is_source_failure r) a b → ReadsSource g (is_source_failure q) a b
+    pub reads-passed : {T : Type 0} (r : Result T JobFault) (f : JobFault) (a b : MutBor S) → r ≡ Err f → q ≡ Err f
+        → ReadsSource g (is_source_failure r) a b → ReadsSource g (is_source_failure q) a b
     reads-passed r f a b was is h = subst (λ x. ReadsSource g x a b) (failure-is r f was ∙ sym (failure-is q f is)) h
 
   -- the cutter reports an event
-  pub event-reads : (old new : Progress S) (r : Result Event CutFault) (e : Event) → r ≡ Ok e → Advances g old (shown_result r) new → ReadsSource g false old.source new.source
+  pub event-reads : (old new : Progress S) (r : Result Event CutFault) (e : Event) → r ≡ Ok e
+      → Advances g old (shown_result r) new → ReadsSource g false old.source new.source
   event-reads old new r e is h = grind arith
 
 -- ---- the archive's end
+
+-- ---- a source with a digest
+
+-- what no read of it changes, no read of the source below it changes
+module _ {S : Type 0} (g : Ghosts S) (old new : Digested S) where
+  pub stays-inside : ((number : ℕ) (bytes : List ℕ) → AreWholeBelow g.whole g.below old number bytes
+      → AreWholeBelow g.whole g.below new number bytes)
+      → (inner new).ghost_name ∷ g.through (inner new).now ≡ (inner old).ghost_name ∷ g.through (inner old).now
+      → (IsSome (g.rest (inner new).now) → IsSome (g.rest (inner old).now))
+      → Stays g (inner old).now (inner new).now
+  stays-inside below through known = record {
+    whole = λ bytes. below zero bytes;
+    below = λ number bytes. below (suc number) bytes;
+    through = grind arith;
+    known = known;
+  }

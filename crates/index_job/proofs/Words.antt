@@ -1,25 +1,35 @@
 -- The names of std and of the definitions that proofs use, all from one place.
 pub use Rattle.contract_words.specs.Answers.{◌>>=◌}
 pub use Rattle.contract_words.specs.Knowledge.{still_known}
-pub use Rattle.header_text.specs.Headers.{HeaderField, continued_and_fields, field_of_line, header, lines_before_empty, lines_within, most_in_header, with_continuations}
+pub use Rattle.header_text.specs.Headers.{HeaderField, continued_and_fields, field_of_line, header, lines_before_empty}
+pub use Rattle.header_text.specs.Headers.{lines_within, most_in_header, with_continuations}
 unfoldable pub use Rattle.header_text.specs.Headers.{fields_of}
 pub use Rattle.index_job.specs.ArchiveRefusals.{AreSound, IsTooMuch}
-pub use Rattle.index_job.specs.ArchiveTables.{Mbox, all_messages, date_told, entry_of, messages_in, record_of, records_from, table, with_messages, with_terms}
+pub use Rattle.index_job.specs.ArchiveTables.{Mbox, all_messages, date_told, entry_of, messages_in, record_of}
+pub use Rattle.index_job.specs.ArchiveTables.{records_from, table, with_messages, with_terms}
 pub use Rattle.index_job.specs.IndexJobs.{IsAddFault, IsAdded}
-pub use Rattle.index_job.specs.Indexing.{HasTooMany, IsArchiveFault, IsBuilderOpen, IsBuilderReady, IsIdle, IsJobFault, IsOpenAt, IsReady, IsTermFault, RefusesTerms, draft_ended, draft_of, draft_with_messages, draft_with_terms, with_open_archive, with_open_message}
-pub use Rattle.index_job.specs.Inside.ArchiveReading.{AddsMessage, AddsMessages, Awaited, HasDone, HasEnded, HasReadAll, Heads, IsHeading, IsInside, IsMessageFault, IsReading, IsReadingSome, ReadsSource, coming_ahead, coming_between, coming_inside}
+pub use Rattle.index_job.specs.Indexing.{HasTooMany, IsArchiveFault, IsBuilderOpen, IsBuilderReady, IsIdle, IsJobFault}
+pub use Rattle.index_job.specs.Indexing.{IsOpenAt, IsReady, IsTermFault, RefusesTerms, draft_ended, draft_of}
+pub use Rattle.index_job.specs.Indexing.{draft_with_messages, draft_with_terms, with_open_archive, with_open_message}
+pub use Rattle.index_job.specs.Inside.ArchiveReading.{AddsMessage, AddsMessages, Awaited, HasDone, HasEnded, HasReadAll}
+pub use Rattle.index_job.specs.Inside.ArchiveReading.{Heads, IsHeading, IsInside, IsMessageFault, IsReading}
+pub use Rattle.index_job.specs.Inside.ArchiveReading.{IsReadingSome, ReadsSource, coming_ahead, coming_between}
+pub use Rattle.index_job.specs.Inside.ArchiveReading.{coming_inside}
 pub use Rattle.index_job.specs.Inside.FoldedWords.{HoldsWords, cut}
 pub use Rattle.index_job.specs.Inside.Gathering.{HasGathered, IsGatherFault, with_texts}
 pub use Rattle.index_job.specs.Inside.MessageEnds.{ended_with}
 pub use Rattle.index_job.specs.JobFaults.{is_source_failure, of_text}
-pub use Rattle.index_job.specs.MessageTerms.{HasTermLength, Term, id_terms, link_terms, message_terms, own_id_terms, text_terms, word_terms}
+pub use Rattle.index_job.specs.MessageTerms.{HasTermLength, Term, id_terms, link_terms, message_terms, own_id_terms}
+pub use Rattle.index_job.specs.MessageTerms.{text_terms, word_terms}
 pub use Rattle.index_job.specs.declared.archive_reading.Ended.{Ended}
 pub use Rattle.index_job.specs.declared.archive_reading.ReadArchive.{ReadArchive}
 pub use Rattle.index_job.specs.declared.job_fault.JobFault.{JobFault}
 pub use Rattle.index_job.specs.declared.message_end.Span.{Span}
-pub use Rattle.mail_index.specs.Builders.{Draft, IsInArchive, IsInMessage, IsWithinMost, added, archive_count, begun_archive, end_of, ended_archive, refusal, stepped, with_pair}
+pub use Rattle.mail_index.specs.Builders.{Draft, IsInArchive, IsInMessage, IsWithinMost, added, archive_count}
+pub use Rattle.mail_index.specs.Builders.{begun_archive, end_of, ended_archive, refusal, stepped, with_pair}
 pub use Rattle.mail_index.specs.Limits.{most_in_archive, most_in_index}
-pub use Rattle.mail_index.specs.Tables.{AllNext, Archive, Follows, IsArchive, IsKey, IsMessage, IsPath, IsWellFormed, Key, KeyBefore, archive_length}
+pub use Rattle.mail_index.specs.Tables.{AllNext, Archive, Follows, IsArchive, IsKey, IsMessage, IsPath, IsWellFormed}
+pub use Rattle.mail_index.specs.Tables.{Key, KeyBefore, archive_length}
 pub use Rattle.mail_index.specs.Versions.{newest}
 pub use Rattle.mail_index.specs.declared.build.build_fault.BuildFault.{BuildFault}
 pub use Rattle.mail_index.specs.declared.build.build_fault.BuildFault.TheVariants.{Device, OutOfMemory, TooMany}
@@ -29,7 +39,8 @@ pub use Rattle.mail_words.specs.Folding.{folding}
 pub use Rattle.mail_words.specs.Words.{HasWordLength, range_bytes, word_ranges}
 unfoldable pub use Rattle.mail_words.specs.Words.{words}
 pub use Rattle.mail_words.specs.declared.kind.TextKind.{TextKind}
-pub use Rattle.mbox_cutter.specs.Archives.{Message, grouped, is_refused, marked, messages_from, size, span_length, text, total, without_closing}
+pub use Rattle.mbox_cutter.specs.Archives.{Message, grouped, is_refused, marked, messages_from, size, span_length, text}
+pub use Rattle.mbox_cutter.specs.Archives.{total, without_closing}
 unfoldable pub use Rattle.mbox_cutter.specs.Archives.{messages}
 pub use Rattle.mbox_cutter.specs.Coming.{Answers, TakesKnown}
 pub use Rattle.mbox_cutter.specs.Events.{Coming, Done, End, Line, Start, coming_of}
@@ -45,7 +56,12 @@ pub use Rattle.mime_text.specs.Texts.{texts_of_message}
 pub use Rattle.mime_text.specs.declared.header.facts.Facts.{Facts}
 pub use Rattle.mime_text.specs.declared.message_text.MessageText.{MessageText}
 pub use Rattle.sha2.specs.Sha256.{sha256}
-pub use Rattle.std.proofs.Common.{All, Bool, Bor, Err, FitsSigned, IfSome, IsAscii, List, None, Ok, Option, Result, Some, Vec, [], ap, append-nil, append_assoc, ap₂, arith, cond, drop, encode_utf8_all, false, flat_map, get_or, if◌then◌else◌, inl, inr, length, length-append, map, nat_eq, nat_le, nat_lt, neg_ℤ, option_map, pos, refl, rules, subst, suc, sym, take, true, unwrap_or, w64, zero, ℕ, ℤ, ⊎_elim, ◌%◌, ◌&&◌, ◌*◌, ◌++◌, ◌+ℤ◌, ◌+◌, ◌-ℤ◌, ◌-◌, ◌/◌, ◌<◌, ◌==◌, ◌^◌, ◌∙◌, ◌∷◌, ◌≡◌, ◌≤◌, ◌⊎◌}
+pub use Rattle.std.proofs.Common.{All, Bool, Bor, Err, FitsSigned, IfSome, IsAscii, List, None, Ok, Option, Result}
+pub use Rattle.std.proofs.Common.{Some, Vec, [], ap, append-nil, append_assoc, ap₂, arith, cond, drop, encode_utf8_all}
+pub use Rattle.std.proofs.Common.{false, flat_map, get_or, if◌then◌else◌, inl, inr, length, length-append, map, nat_eq}
+pub use Rattle.std.proofs.Common.{nat_le, nat_lt, neg_ℤ, option_map, pos, refl, rules, subst, suc, sym, take, true}
+pub use Rattle.std.proofs.Common.{unwrap_or, w64, zero, ℕ, ℤ, ⊎_elim, ◌%◌, ◌&&◌, ◌*◌, ◌++◌, ◌+ℤ◌, ◌+◌, ◌-ℤ◌, ◌-◌, ◌/◌}
+pub use Rattle.std.proofs.Common.{◌<◌, ◌==◌, ◌^◌, ◌∙◌, ◌∷◌, ◌≡◌, ◌≤◌, ◌⊎◌}
 pub use Rattle.std.proofs.lemmas.Bool.{and_parts, cases_lt, leb-true, ltb-false, ltb-true}
 pub use Rattle.std.proofs.lemmas.Bool.Decides.{nat_tests}
 pub use Rattle.std.proofs.lemmas.Grind.{flat_map-append}

@@ -1,9 +1,11 @@
 -- The drafts of a builder while archives are indexed, and the faults of adding to them.
-use Rattle.std.specs.Prelude.{◌≡◌, ⊤, ℕ, ◌<◌, ◌≤◌, ◌⊎◌, true, false, List, ◌++◌, length, map, Option, None, Some, IfSome, option_map, unwrap_or, [], ◌∷◌, Result}
+use Rattle.std.specs.Prelude.{◌≡◌, ⊤, ℕ, ◌<◌, ◌≤◌, ◌⊎◌, true, false, List, ◌++◌, length, map, Option, None, Some}
+use Rattle.std.specs.Prelude.{IfSome, option_map, unwrap_or, [], ◌∷◌, Result}
 use Rattle.std.specs.Result.{MatchResult}
 use Rattle.mail_index.specs.declared.build.build_fault.BuildFault.{BuildFault}
 use Rattle.mail_index.specs.declared.build.build_fault.BuildFault.TheVariants as build
-use Rattle.mail_index.specs.Builders.{Draft, archive_count, end_of, IsBetweenArchives, IsInArchive, IsInMessage, IsWithinMost}
+use Rattle.mail_index.specs.Builders.{Draft, archive_count, end_of, IsBetweenArchives, IsInArchive, IsInMessage}
+use Rattle.mail_index.specs.Builders.{IsWithinMost}
 use Rattle.mbox_cutter.specs.Archives.{Message}
 use Rattle.mbox_cutter.specs.declared.event.CutFault.{CutFault}
 use Rattle.mbox_cutter.specs.declared.event.CutFault.TheVariants.{Device, NotAnMbox, ArchiveTooLong, Failed}
@@ -19,7 +21,10 @@ draft_of archives = record { most = most_in_index; path = None; in_message = fal
 
 -- the draft with these terms added to the open message
 abbrev pub draft_with_terms : List Term → Draft → Draft
-draft_with_terms ts d = record d { table = record d.table { keys = with_terms (length d.table.messages) ts d.table.keys } }
+draft_with_terms ts d = record d {
+  table =
+      record d.table { keys = with_terms (length d.table.messages) ts d.table.keys };
+}
 
 -- the draft with these messages of the archive with this number
 abbrev pub draft_with_messages : ℕ → List Message → Draft → Draft
@@ -73,7 +78,14 @@ with_open_archive path d = record d { path = Some path }
 
 -- the draft with its open archive ended, which has this many bytes and this digest
 abbrev pub draft_ended : ℕ → List ℕ → Draft → Draft
-draft_ended bytes digest d = record d { path = None; table = record d.table { archives = d.table.archives ++ record { path = unwrap_or d.path []; length = bytes; digest = Some digest } ∷ [] } }
+draft_ended bytes digest d = record d {
+  path = None;
+  table =
+      record d.table {
+        archives = d.table.archives ++ record
+            { path = unwrap_or d.path []; length = bytes; digest = Some digest } ∷ [];
+      };
+}
 
 -- the draft with an open message
 abbrev pub with_open_message : Draft → Draft
@@ -95,7 +107,8 @@ RefusesTerms (Some whole) = whole.most < length whole.table.keys
 
 -- these terms are added, or the fault is one of adding them
 abbrev pub AddsTerms : {T : Type 0} → List Term → Result T BuildFault → Option Draft → Option Draft → Type 0
-AddsTerms ts result old new = MatchResult result (λ _. new ≡ option_map (draft_with_terms ts) old) (IsTermFault (option_map (draft_with_terms ts) old))
+AddsTerms ts result old new = MatchResult result (λ _. new ≡ option_map (draft_with_terms ts) old)
+    (IsTermFault (option_map (draft_with_terms ts) old))
 
 -- ---- faults
 

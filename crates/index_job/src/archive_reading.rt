@@ -1,5 +1,5 @@
 //! Reads one archive, and adds its messages to a builder.
-ghost use Rattle.std.specs.Prelude.{◌≡◌, ◌<◌, ◌+◌, ◌-◌, ◌^◌, ℕ, List, Option, Some, None, Err, IfOk, IfErr, IfSome, IsSome, OnOk, length};
+ghost use Rattle.std.specs.Prelude.{◌≡◌, ◌<◌, ◌+◌, ◌-◌, ◌^◌, ℕ, List, Option, Some, None, Err, IfOk, IfErr, IfSome, OnOk, length};
 ghost use Rattle.std.specs.Io.KnownBytes.{IsAtEnd};
 ghost use Rattle.std.specs.Option.{MatchOption};
 ghost use Rattle.contract_words.specs.Devices.{Counted};
@@ -258,7 +258,7 @@ pub(crate) fn add_archive<S: Source>(
         → IsAddFault before (record { path = path.now; bytes = bytes }) fault) }
     ensures idle { OnOk result (IsBuilderIdle (archive + 1) builder.new) }
     ensures end { OnOk result (IsAtEnd (S.rest source.new)) }
-    ensures still { IsSome (S.rest source.new) → IsSome (S.rest source.old) }
+    ensures stays { Stays S.Source source.old source.new }
     ensures count { Counted (is_source_failure result) (S.failures source.old)
         (S.failures source.new) }
     ensures own { IfErr result (λ fault. IfSome builder.old (λ _. IsArchiveFault fault)) }

@@ -3,6 +3,7 @@ ghost use Rattle.std.specs.Prelude.{◌≡◌, ◌<◌, ◌^◌, ◌-◌, ℕ, L
 ghost use Rattle.std.specs.Io.KnownBytes.{Appends, IsAtEnd};
 ghost use Rattle.contract_words.specs.Devices.{Counted, Sends};
 ghost use Rattle.contract_words.specs.Knowledge.{still_known};
+ghost use Rattle.mbox_cutter.specs.Sources.{Stays};
 ghost use Rattle.mail_index.specs.Files.{index_file, HasSmallSections};
 ghost use Rattle.mail_index.specs.Tables.{IsPath, IsWellFormed};
 ghost use Rattle.index_job.specs.ArchiveTables.{Mbox};
@@ -84,7 +85,7 @@ impl IndexJob {
             → still_known (S.rest source.old) (S.rest source.new) ≡ Some bytes
             → IsAddFault before (record { path = path.now; bytes = bytes }) fault) }
         ensures end { OnOk result (IsAtEnd (S.rest source.new)) }
-        ensures still { IsSome (S.rest source.new) → IsSome (S.rest source.old) }
+        ensures stays { Stays S.Source source.old source.new }
         ensures count { Counted (is_source_failure result) (S.failures source.old)
             (S.failures source.new) }
         ensures own { IfErr result (λ fault. (IfSome self.old (λ _. IsArchiveFault fault))) }

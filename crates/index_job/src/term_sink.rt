@@ -1,15 +1,18 @@
 //! Gives an index the terms of a message.
-ghost use Rattle.std.specs.Prelude.{◌≡◌, ◌<◌, ◌≤◌, Some, None, IfSome, length, All, IfErr, OnErr};
+ghost use Rattle.std.specs.Prelude.{◌≡◌, ◌<◌, ◌≤◌, Some, None, IfSome, IsTrue, length, map, string_bytes, All, IfErr, IfOk, OnErr};
 ghost use Rattle.std.specs.Option.{ForSome};
 ghost use Rattle.mail_index.specs.Builders.{IsInMessage};
+ghost use Rattle.mail_words.specs.Folding.{folding};
+ghost use Rattle.mail_words.specs.Words.{words};
 ghost use Rattle.mime_text.specs.MessageFacts.{HasSizedIds, IsSizedId};
 ghost use Rattle.index_job.specs.Indexing.{AddsTerms};
 ghost use Rattle.index_job.specs.MessageTerms.{text_terms, own_id_terms, link_terms, id_terms};
 
 use crate::folding_room::{FoldingRoom, add_cut_words, add_words_of};
 use mail_index::{BuildFault, Builder, Kind};
-use mail_words::{TextKind, fold_ascii};
+use mail_words::{TextKind, fold_ascii, fold_evenly};
 use mime_text::{Facts, MessageIds, SinkFault, TextSink};
+use std::alloc::AllocError;
 
 /// A sink for the texts of the open message. It gives an index the words of each text, folded.
 #[derive(Drop)]
@@ -40,6 +43,19 @@ impl<'a> TextSink for TermSink<'a> {
     }
 }
 
+/// Folds a whole text if a look at each of its characters finds that its words fold with it, and returns whether it is
+/// so. If not, or after an error, `into` may have anything.
+fn fold_whole(text: &str, into: &mut String) -> Result<bool, AllocError>
+    ensures { IfOk result (λ is_whole. IsTrue is_whole
+        → words (string_bytes into.new) ≡ map folding (words text.now)) }
+{
+    let is_ascii = fold_ascii(text, into)?;
+    if is_ascii {
+        return Ok(true);
+    }
+    fold_evenly(text, into)
+}
+
 /// Adds the words of a text to the builder, each folded.
 fn add_words(
     builder: &mut Builder,
@@ -51,9 +67,9 @@ fn add_words(
     ensures terms { AddsTerms (text_terms (kind, text.now)) result builder.old builder.new }
     ensures phase { IfSome builder.new IsInMessage }
 {
-    let is_ascii = fold_ascii(text, &mut room.folded)?;
-    if is_ascii {
-        // The words of a text of ASCII fold with it, so one folding serves all of them.
+    let is_whole = fold_whole(text, &mut room.folded)?;
+    if is_whole {
+        // One folding serves all words.
         return add_words_of(builder, kind, room.folded.as_str());
     }
     room.fold_words(text)?;

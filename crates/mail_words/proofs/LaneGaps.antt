@@ -1,14 +1,17 @@
 -- The gap and the word after it, found in the mask of one load.
 use lib.Count.{count_trailing_zeros, under}
-use lib.Lanes.{chunk, mask_l, top}
-use Rattle.mail_words.proofs.Imports.{◌≡◌, ℕ, zero, suc, ◌+◌, ◌*◌, ◌%◌, ◌^◌, ◌<◌, ◌≤◌, cond, leb, Fits, w8, chunk-fits, Bool, true, false, not, List, [], ◌∷◌, length, drop, get_or, refl, sym, ap, ◌∙◌, subst, arith, inl, inr, cases_lt, nat_tests, length-map, length-chunk, HasGapAndWord, is_ascii_other, is_ascii_word, is_no_ascii_word, prefix_len}
+use lib.Lanes.{chunk, mask_l}
+use Rattle.mail_words.proofs.Imports.{◌≡◌, ℕ, zero, suc, ◌+◌, ◌*◌, ◌%◌, ◌^◌, ◌<◌, ◌≤◌, cond, Bool, true, false, not}
+use Rattle.mail_words.proofs.Imports.{List, [], ◌∷◌, length, drop, get_or, nat_lt, ◌||◌, eqb, eqb-true, refl, sym, ap}
+use Rattle.mail_words.proofs.Imports.{◌∙◌, subst, arith, inl, inr, cases_lt, nat_tests, length-map, length-chunk}
+use Rattle.mail_words.proofs.Imports.{HasGapAndWord, is_ascii_other, is_ascii_word, is_beyond_ascii, is_no_ascii_word}
+use Rattle.mail_words.proofs.Imports.{prefix_len}
 use Rattle.std.proofs.Common.{◌/◌, map, div-one, div-le_self}
 use Rattle.std.proofs.lemmas.Bool.{not-true, not-false}
 use Rattle.std.proofs.lemmas.List.{drop-map, get_or-drop, get_or-take, length-drop}
 use Rattle.std.proofs.lemmas.List.Sums.{prefix_len-le-length, prefix_len_passes, prefix_len_stops}
 use Rattle.std.proofs.lemmas.Nat.{shr-shr}
 use Rattle.std.proofs.lemmas.Simd.{mask_l-lt, none_from_empty_mask, trailing_mask_l}
-use Rattle.mail_words.proofs.LaneRuns.{lanes_mask}
 
 -- ---- the bits of a mask
 
@@ -20,14 +23,16 @@ halved false n = omega arith
 drop_mask : (ms : List Bool) (i : ℕ) → mask_l ms / 2 ^ i ≡ mask_l (drop i ms)
 drop_mask ms zero = div-one (mask_l ms)
 drop_mask [] (suc i) = omega (arith, div-le_self 0 (2 ^ suc i))
-drop_mask (m ∷ ms) (suc i) = ap (λ n. mask_l (m ∷ ms) / 2 ^ n) next ∙ sym (shr-shr (mask_l (m ∷ ms)) 1 i) ∙ ap (λ n. n / 2 ^ i) (halved m (mask_l ms)) ∙ drop_mask ms i
+drop_mask (m ∷ ms) (suc i) = ap (λ n. mask_l (m ∷ ms) / 2 ^ n) next ∙ sym (shr-shr (mask_l (m ∷ ms)) 1 i)
+    ∙ ap (λ n. n / 2 ^ i) (halved m (mask_l ms)) ∙ drop_mask ms i
   where
     next : suc i ≡ 1 + i
     next = omega arith
 
 module _ (test : ℕ → Bool) where
   -- if one is added to a mask, its lowest set bit comes right after the bits that were set at the front
-  ones_mask : (k : ℕ) (xs : List ℕ) → length xs < k → count_trailing_zeros k (mask_l (map test xs) + 1) ≡ prefix_len test xs
+  ones_mask : (k : ℕ) (xs : List ℕ) → length xs < k → count_trailing_zeros k (mask_l (map test xs) + 1)
+      ≡ prefix_len test xs
   unfolding count_trailing_zeros
   ones_mask zero xs few = absurd (omega arith)
   ones_mask (suc k) [] few = refl
@@ -37,7 +42,8 @@ module _ (test : ℕ → Bool) where
       n = mask_l (map test xs)
 
       by : (b : Bool) → count_trailing_zeros k (n + 1) ≡ prefix_len test xs
-          → under ((cond b 1 0 + 2 * n + 1) % 2) (count_trailing_zeros k ((cond b 1 0 + 2 * n + 1) / 2)) ≡ cond b (1 + prefix_len test xs) 0
+          → under ((cond b 1 0 + 2 * n + 1) % 2) (count_trailing_zeros k ((cond b 1 0 + 2 * n + 1) / 2))
+          ≡ cond b (1 + prefix_len test xs) 0
       by true rest =
           let none : (1 + 2 * n + 1) % 2 ≡ 0 = omega arith in
           let half : (1 + 2 * n + 1) / 2 ≡ n + 1 = omega arith in
@@ -51,7 +57,8 @@ module _ (test : ℕ → Bool) where
   bit_within [] some = absurd (omega arith)
   bit_within (x ∷ xs) some = by (test x) (bit_within xs) some
     where
-      by : (b : Bool) → (0 < mask_l (map test xs) → prefix_len (λ x. not (test x)) xs < length xs) → 0 < cond b 1 0 + 2 * mask_l (map test xs)
+      by : (b : Bool) → (0 < mask_l (map test xs) → prefix_len (λ x. not (test x)) xs < length xs)
+          → 0 < cond b 1 0 + 2 * mask_l (map test xs)
           → cond (not b) (1 + prefix_len (λ x. not (test x)) xs) 0 < length (x ∷ xs)
       by true rest h = omega arith
       by false rest h = omega (arith, rest (omega (arith, h)))
@@ -64,7 +71,8 @@ other_byte b ascii other = grind (arith, nat_tests)
 word_byte : (b : ℕ) → is_no_ascii_word b ≡ false → is_ascii_word b ≡ true
 word_byte b fails = grind arith
 
-module _ (bytes : List ℕ) (mask : ℕ) (room : 16 ≤ length bytes) (same : mask ≡ mask_l (map is_no_ascii_word (chunk 0 16 bytes))) where
+module _ (bytes : List ℕ) (mask : ℕ) (room : 16 ≤ length bytes)
+    (same : mask ≡ mask_l (map is_no_ascii_word (chunk 0 16 bytes))) where
   pub mask_bound : mask < 2 ^ 16
   mask_bound =
       let bits = map is_no_ascii_word (chunk 0 16 bytes) in
@@ -72,33 +80,22 @@ module _ (bytes : List ℕ) (mask : ℕ) (room : 16 ≤ length bytes) (same : ma
       subst (λ n. n < 2 ^ 16) (sym same) (subst (λ n. mask_l bits < 2 ^ n) long (mask_l-lt bits))
 
   gap_is : count_trailing_zeros 64 (mask + 1) ≡ prefix_len is_no_ascii_word (chunk 0 16 bytes)
-  gap_is = ap (λ m. count_trailing_zeros 64 (m + 1)) same ∙ ones_mask is_no_ascii_word 64 (chunk 0 16 bytes) (omega (arith, length-chunk 0 16 bytes room))
+  gap_is = ap (λ m. count_trailing_zeros 64 (m + 1)) same
+      ∙ ones_mask is_no_ascii_word 64 (chunk 0 16 bytes) (omega (arith, length-chunk 0 16 bytes room))
 
   pub gap_bound : count_trailing_zeros 64 (mask + 1) < 64
-  gap_bound = omega (arith, gap_is, prefix_len-le-length is_no_ascii_word (chunk 0 16 bytes), length-chunk 0 16 bytes room)
+  gap_bound = omega (
+    arith,
+    gap_is,
+    prefix_len-le-length is_no_ascii_word (chunk 0 16 bytes),
+    length-chunk 0 16 bytes room,
+  )
 
--- if the mask of the bytes beyond ASCII is empty, all sixteen are ASCII
-pub all_ascii : (bytes z : List ℕ) → 16 ≤ length bytes → ((k : ℕ) → Fits w8 (get_or bytes k 0)) → z ≡ map (λ b. cond (leb 128 b) 255 0) (chunk 0 16 bytes)
-    → mask_l (map (top 7) z) % 2 ^ 64 ≡ 0 → (k : ℕ) → k < 16 → get_or bytes k 0 < 128
-all_ascii bytes z room fits lanes none k below =
-    let load = chunk 0 16 bytes in
-    let mask = lanes_mask (leb 128) (λ b. cond (leb 128 b) 255 0) load z (omega (arith, length-chunk 0 16 bytes room)) (chunk-fits w8 0 16 bytes fits) lanes refl in
-    let small = none_from_empty_mask (leb 128) bytes 0 16 0 room (sym mask ∙ none) k (omega arith) (omega (arith, below)) in
-    grind (arith, small, nat_tests)
-
--- the mask of a load of ASCII in which a word begins and ends before the last bit
-pub shown_places : (bytes : List ℕ) (mask : ℕ) → 16 ≤ length bytes → ((k : ℕ) → k < 16 → get_or bytes k 0 < 128) → mask ≡ mask_l (map is_no_ascii_word (chunk 0 16 bytes))
-    → 0 < mask / 2 ^ count_trailing_zeros 64 (mask + 1)
-    → HasGapAndWord bytes (count_trailing_zeros 64 (mask + 1)) (count_trailing_zeros 64 (mask / 2 ^ count_trailing_zeros 64 (mask + 1)))
-shown_places bytes mask room ascii same bits =
-    record {
-      short = within;
-      within = omega (arith, within, room);
-      some = some;
-      in_gap = λ k below. other_byte (get_or bytes k 0) (ascii k (omega (arith, below, within))) (in_gap k below);
-      in_word = λ k below. word_byte (get_or bytes (gap + k) 0) (in_word k below);
-      end = other_byte (get_or bytes (gap + word) 0) (ascii (gap + word) within) end;
-    }
+-- if the mask of the bytes beyond ASCII is clear up to a place, the bytes up to there are ASCII
+ascii_to : (bytes : List ℕ) (mask place : ℕ) → 16 ≤ length bytes → place < 16 → mask
+    ≡ mask_l (map is_beyond_ascii (chunk 0 16 bytes))
+    → (eqb mask 0 || nat_lt place (count_trailing_zeros 64 mask)) ≡ true → (k : ℕ) → k ≤ place → get_or bytes k 0 < 128
+ascii_to bytes mask place room within same clear k below = go (eqb mask 0) refl
   where
     load : List ℕ
     load = chunk 0 16 bytes
@@ -106,60 +103,105 @@ shown_places bytes mask room ascii same bits =
     long : length load ≡ 16
     long = length-chunk 0 16 bytes room
 
-    gap : ℕ
-    gap = count_trailing_zeros 64 (mask + 1)
+    small : is_beyond_ascii (get_or bytes k 0) ≡ false → get_or bytes k 0 < 128
+    small test = grind (arith, test, nat_tests)
 
-    rest : List ℕ
-    rest = drop gap load
+    go : (t : Bool) → eqb mask 0 ≡ t → get_or bytes k 0 < 128
+    go true none = small (none_from_empty_mask is_beyond_ascii bytes 0 16 0 room (sym same ∙ eqb-true mask 0 none) k
+        (omega arith) (omega (arith, within, below)))
+    go false some =
+        let bits : 0 < mask_l (map is_beyond_ascii load) = subst (λ m. 0 < m) same (grind (arith, some, nat_tests)) in
+        let first = ap (count_trailing_zeros 64) same
+        ∙ trailing_mask_l is_beyond_ascii 64 load (omega (arith, long)) bits in
+        let behind : place < count_trailing_zeros 64 mask = grind (arith, some, clear, nat_tests) in
+        small (subst (λ b. is_beyond_ascii b ≡ false) (get_or-take 16 bytes k 0 (omega (arith, within, below)))
+        (not-true _ (prefix_len_passes (λ b. not (is_beyond_ascii b)) load k 0
+        (omega (arith, below, behind, first)))))
 
-    rest_is : mask / 2 ^ gap ≡ mask_l (map is_no_ascii_word rest)
-    rest_is = ap (λ m. m / 2 ^ gap) same ∙ drop_mask (map is_no_ascii_word load) gap ∙ ap mask_l (drop-map is_no_ascii_word gap load)
+-- the mask of a load in which a word of ASCII begins and ends before the last bit
+module _ (bytes : List ℕ) (mask : ℕ) (room : 16 ≤ length bytes)
+    (same : mask ≡ mask_l (map is_no_ascii_word (chunk 0 16 bytes)))
+    (bits : 0 < mask / 2 ^ count_trailing_zeros 64 (mask + 1)) where
+  abbrev load : List ℕ
+  load = chunk 0 16 bytes
 
-    some_bit : 0 < mask_l (map is_no_ascii_word rest)
-    some_bit = subst (λ m. 0 < m) rest_is bits
+  long : length load ≡ 16
+  long = length-chunk 0 16 bytes room
 
-    word : ℕ
-    word = count_trailing_zeros 64 (mask / 2 ^ gap)
+  abbrev pub gap : ℕ
+  gap = count_trailing_zeros 64 (mask + 1)
 
-    word_is : word ≡ prefix_len (λ b. not (is_no_ascii_word b)) rest
-    word_is = ap (count_trailing_zeros 64) rest_is ∙ trailing_mask_l is_no_ascii_word 64 rest (omega (arith, long, length-drop gap load)) some_bit
+  abbrev rest : List ℕ
+  rest = drop gap load
 
-    from_front : gap ≡ prefix_len is_no_ascii_word load
-    from_front = gap_is bytes mask room same
+  rest_is : mask / 2 ^ gap ≡ mask_l (map is_no_ascii_word rest)
+  rest_is = ap (λ m. m / 2 ^ gap) same ∙ drop_mask (map is_no_ascii_word load) gap
+      ∙ ap mask_l (drop-map is_no_ascii_word gap load)
 
-    within : gap + word < 16
-    within = omega (arith, word_is, bit_within is_no_ascii_word rest some_bit, length-drop gap load, long)
+  some_bit : 0 < mask_l (map is_no_ascii_word rest)
+  some_bit = subst (λ m. 0 < m) rest_is bits
 
-    lane : (k : ℕ) → k < 16 → get_or load k 0 ≡ get_or bytes k 0
-    lane k below = get_or-take 16 bytes k 0 below
+  abbrev pub word : ℕ
+  word = count_trailing_zeros 64 (mask / 2 ^ gap)
 
-    rest_lane : (k : ℕ) → gap + k < 16 → get_or rest k 0 ≡ get_or bytes (gap + k) 0
-    rest_lane k below = get_or-drop gap load k 0 ∙ lane (gap + k) below
+  word_is : word ≡ prefix_len (λ b. not (is_no_ascii_word b)) rest
+  word_is = ap (count_trailing_zeros 64) rest_is
+      ∙ trailing_mask_l is_no_ascii_word 64 rest (omega (arith, long, length-drop gap load)) some_bit
 
-    in_gap : (k : ℕ) → k < gap → is_no_ascii_word (get_or bytes k 0) ≡ true
-    in_gap k below = subst (λ b. is_no_ascii_word b ≡ true) (lane k (omega (arith, below, within))) (prefix_len_passes is_no_ascii_word load k 0 (omega (arith, below, from_front)))
+  from_front : gap ≡ prefix_len is_no_ascii_word load
+  from_front = gap_is bytes mask room same
 
-    in_word : (k : ℕ) → k < word → is_no_ascii_word (get_or bytes (gap + k) 0) ≡ false
-    in_word k below =
-        subst (λ b. is_no_ascii_word b ≡ false) (rest_lane k (omega (arith, below, within)))
-        (not-true _ (prefix_len_passes (λ b. not (is_no_ascii_word b)) rest k 0 (omega (arith, below, word_is))))
+  within : gap + word < 16
+  within = omega (arith, word_is, bit_within is_no_ascii_word rest some_bit, length-drop gap load, long)
 
-    end : is_no_ascii_word (get_or bytes (gap + word) 0) ≡ true
-    end =
-        subst (λ b. is_no_ascii_word b ≡ true) (ap (λ k. get_or rest k 0) (sym word_is) ∙ rest_lane word within)
-        (not-false _ (prefix_len_stops (λ b. not (is_no_ascii_word b)) rest 0 (bit_within is_no_ascii_word rest some_bit)))
+  lane : (k : ℕ) → k < 16 → get_or load k 0 ≡ get_or bytes k 0
+  lane k below = get_or-take 16 bytes k 0 below
 
-    behind_gap : is_no_ascii_word (get_or bytes gap 0) ≡ false
-    behind_gap =
-        subst (λ b. is_no_ascii_word b ≡ false) (ap (λ k. get_or load k 0) (sym from_front) ∙ lane gap (omega (arith, within)))
-        (prefix_len_stops is_no_ascii_word load 0 (omega (arith, from_front, within, long)))
+  rest_lane : (k : ℕ) → gap + k < 16 → get_or rest k 0 ≡ get_or bytes (gap + k) 0
+  rest_lane k below = get_or-drop gap load k 0 ∙ lane (gap + k) below
 
-    some : 0 < word
-    some =
-        elim (cases_lt 0 word) [
-          | inl more ↦ more
-          | inr none ↦
-              let same_place : gap + word ≡ gap = omega (arith, none) in
-              let clash = sym end ∙ ap (λ k. is_no_ascii_word (get_or bytes k 0)) same_place ∙ behind_gap in
-              absurd (grind (arith, clash))
-        ]
+  in_gap : (k : ℕ) → k < gap → is_no_ascii_word (get_or bytes k 0) ≡ true
+  in_gap k below = subst (λ b. is_no_ascii_word b ≡ true) (lane k (omega (arith, below, within)))
+      (prefix_len_passes is_no_ascii_word load k 0 (omega (arith, below, from_front)))
+
+  in_word : (k : ℕ) → k < word → is_no_ascii_word (get_or bytes (gap + k) 0) ≡ false
+  in_word k below =
+      subst (λ b. is_no_ascii_word b ≡ false) (rest_lane k (omega (arith, below, within)))
+      (not-true _ (prefix_len_passes (λ b. not (is_no_ascii_word b)) rest k 0 (omega (arith, below, word_is))))
+
+  end : is_no_ascii_word (get_or bytes (gap + word) 0) ≡ true
+  end =
+      subst (λ b. is_no_ascii_word b ≡ true) (ap (λ k. get_or rest k 0) (sym word_is) ∙ rest_lane word within)
+      (not-false _ (prefix_len_stops (λ b. not (is_no_ascii_word b)) rest 0
+      (bit_within is_no_ascii_word rest some_bit)))
+
+  behind_gap : is_no_ascii_word (get_or bytes gap 0) ≡ false
+  behind_gap =
+      subst (λ b. is_no_ascii_word b ≡ false)
+      (ap (λ k. get_or load k 0) (sym from_front) ∙ lane gap (omega (arith, within)))
+      (prefix_len_stops is_no_ascii_word load 0 (omega (arith, from_front, within, long)))
+
+  some : 0 < word
+  some =
+      elim (cases_lt 0 word) [
+        | inl more ↦ more
+        | inr none ↦
+            let same_place : gap + word ≡ gap = omega (arith, none) in
+            let clash = sym end ∙ ap (λ k. is_no_ascii_word (get_or bytes k 0)) same_place ∙ behind_gap in
+            absurd (grind (arith, clash))
+      ]
+
+  shown_places : ((k : ℕ) → k ≤ gap + word → get_or bytes k 0 < 128) → HasGapAndWord bytes gap word
+  shown_places ascii =
+      record {
+        short = within;
+        within = omega (arith, within, room);
+        some = some;
+        in_gap = λ k below. other_byte (get_or bytes k 0) (ascii k (omega (arith, below))) (in_gap k below);
+        in_word = λ k below. word_byte (get_or bytes (gap + k) 0) (in_word k below);
+        end = other_byte (get_or bytes (gap + word) 0) (ascii (gap + word) (omega arith)) end;
+      }
+
+  pub shown_clear : (beyond : ℕ) → beyond ≡ mask_l (map is_beyond_ascii (chunk 0 16 bytes))
+      → (eqb beyond 0 || nat_lt (gap + word) (count_trailing_zeros 64 beyond)) ≡ true → HasGapAndWord bytes gap word
+  shown_clear beyond same_beyond clear = shown_places (ascii_to bytes beyond (gap + word) room within same_beyond clear)

@@ -1,11 +1,15 @@
+-- The proofs of mail_words: words, lemmas, rows and laws. Proofs of single functions are in folders named after these.
 pub mod AsciiFolding
 pub mod ByteReads
 pub mod Characters
+pub mod EvenFolding
+pub mod EvenTexts
 pub mod FoldingLemmas
 pub mod FrontReads
 pub mod Imports
 pub mod JoinedEnds
 pub mod Kept
+pub mod KeptRuns
 pub mod LaneGaps
 pub mod LaneRuns
 pub mod Lengths

@@ -53,7 +53,7 @@ pub fn fold_ascii(text: &str, into: &mut String) -> Result<bool, AllocError>
 }
 
 /// Returns whether folding leaves a character as it is.
-fn keeps_itself(c: char) -> bool
+pub(crate) fn keeps_itself(c: char) -> bool
     ensures { result ≡ keeps_itself_of c }
 {
     full_folding(c).is_empty()

@@ -1,9 +1,10 @@
 //! Searches for word characters of ASCII, sixteen bytes at a time.
-ghost use Rattle.std.specs.Prelude.{◌≡◌, ◌+◌, ◌<◌, ◌≤◌, ◌==◌, ℕ, true, length, map, slice_index, if◌then◌else◌, IfSome};
+ghost use Rattle.std.specs.Prelude.{◌≡◌, ◌+◌, ◌<◌, ◌≤◌, ◌==◌, ◌||◌, ℕ, true, nat_lt, length, map, slice_index, if◌then◌else◌, IfSome};
 ghost use Rattle.std.specs.Int.{w64, trailing_zeros};
 ghost use Rattle.std.specs.List.{prefix_len};
 ghost use Rattle.std.specs.Simd.Lanes.{chunk, mask_l};
-ghost use Rattle.mail_words.specs.Inside.Runs.{is_ascii_word, is_no_ascii_word, HasGapAndWord};
+ghost use Rattle.mail_words.specs.Inside.Folds.{is_kept_byte, is_no_kept_byte};
+ghost use Rattle.mail_words.specs.Inside.Runs.{is_ascii_word, is_beyond_ascii, is_no_ascii_word, HasGapAndWord};
 
 use std::simd::prelude::*;
 
@@ -48,6 +49,43 @@ fn others_in(lanes: u8x16) -> u64
     others.to_bitmask()
 }
 
+/// Returns how many bytes at the front are ASCII, but no capital letters, counted in loads of sixteen bytes, as
+/// `len_by_lanes` does.
+pub(crate) fn kept_by_lanes(bytes: &[u8]) -> usize
+    ensures within { result ≤ length bytes.now }
+    ensures passed { (k : ℕ) → k < result → is_kept_byte (slice_index bytes.now k) ≡ true }
+{
+    let mut len = 0;
+    while bytes.len() - len >= LANES {
+        let run = kept_at(bytes, len);
+        len += run;
+        if run < LANES {
+            return len;
+        }
+    }
+    len
+}
+
+/// Returns how many bytes that are ASCII, but no capital letters, come first in the sixteen bytes from a place on.
+#[inline(always)]
+fn kept_at(bytes: &[u8], at: usize) -> usize
+    requires { at + 16 ≤ length bytes.now }
+    ensures { result ≡ prefix_len is_kept_byte (chunk at 16 bytes.now) }
+{
+    first_set(unkept_in(u8x16::from_slice(&bytes[at..])))
+}
+
+/// Returns the bits of the lanes that aren't ASCII, or are capital letters.
+#[inline(always)]
+fn unkept_in(lanes: u8x16) -> u64
+    ensures { result ≡ mask_l (map is_no_kept_byte lanes) }
+{
+    // A capital letter is less than 26 after `A`.
+    let from_a = lanes - u8x16::splat(b'A');
+    let unkept = lanes.simd_ge(u8x16::splat(0x80)) | from_a.simd_lt(u8x16::splat(26));
+    unkept.to_bitmask()
+}
+
 /// Returns the place of the lowest bit that is set, or 16 if none is.
 #[inline(always)]
 fn first_set(mask: u64) -> usize
@@ -60,8 +98,24 @@ fn first_set(mask: u64) -> usize
     }
 }
 
-/// Returns the lengths of the gap at the front and of the word after it, if the first sixteen bytes are ASCII and have
-/// both, and also the byte that ends the word. None is never wrong, only slower.
+/// Returns the bits of the lanes that aren't ASCII.
+#[inline(always)]
+fn beyond_in(lanes: u8x16) -> u64
+    ensures { result ≡ mask_l (map is_beyond_ascii lanes) }
+{
+    lanes.simd_ge(u8x16::splat(0x80)).to_bitmask()
+}
+
+/// Returns whether no bit is set up to this place, nor the bit there.
+#[inline(always)]
+fn is_clear_to(mask: u64, place: u32) -> bool
+    ensures { result ≡ (mask == 0 || nat_lt place (trailing_zeros w64 mask)) }
+{
+    mask == 0 || mask.trailing_zeros() > place
+}
+
+/// Returns the lengths of the gap at the front and of the word after it, if the first sixteen bytes have both, and also
+/// the byte that ends the word, and these are ASCII. None is never wrong, only slower.
 #[inline(always)]
 pub(crate) fn gap_and_word(bytes: &[u8]) -> Option<(usize, usize)>
     ensures { IfSome result (λ found. HasGapAndWord bytes.now found.0 found.1) }
@@ -70,9 +124,6 @@ pub(crate) fn gap_and_word(bytes: &[u8]) -> Option<(usize, usize)>
         return None;
     }
     let lanes = u8x16::from_slice(bytes);
-    if lanes.simd_ge(u8x16::splat(0x80)).to_bitmask() != 0 {
-        return None;
-    }
     let others = others_in(lanes);
     // The bits of the gap are set, so a carry goes through them to the first bit of the word.
     let gap = (others + 1).trailing_zeros();
@@ -80,5 +131,10 @@ pub(crate) fn gap_and_word(bytes: &[u8]) -> Option<(usize, usize)>
     if rest == 0 {
         return None;
     }
-    Some((gap as usize, rest.trailing_zeros() as usize))
+    let word = rest.trailing_zeros();
+    // Letters beyond ASCII after the word don't matter.
+    if !is_clear_to(beyond_in(lanes), gap + word) {
+        return None;
+    }
+    Some((gap as usize, word as usize))
 }

@@ -110,14 +110,12 @@ fn front_len<C: CharacterClass>(text: &str) -> usize
 fn front_len_by_characters<C: CharacterClass>(text: &str) -> usize
     ensures { result ≡ length (encode_utf8_all (front C.holds (chars text.now))) }
 {
-    let mut len = 0;
-    for c in text.chars() {
+    for (len, c) in text.char_indices() {
         if !C::has(c) {
             return len;
         }
-        len += c.len_utf8();
     }
-    len
+    text.len()
 }
 
 /// Returns how many bytes the run of word characters and joiners at the front has, without the joiners at its end. Such

@@ -1,36 +1,56 @@
 -- How the texts of fields are given to a sink, one after another.
-use Rattle.mime_text.proofs.Words.{◌≡◌, ◌∙◌, ◌++◌, ℕ, List, [], ◌∷◌, Option, Some, refl, ap, append_assoc, arith, Result, Ok, Err, option_map, cons_option, HeaderField, TextKind, SinkFault, TextFault, Failed, OutOfMemory, Sink, Pair, Coming, Gave, Broke, Hands, kind_of_field, text_of_body, texts_of_fields}
+use Rattle.mime_text.proofs.Words.{◌≡◌, ◌∙◌, ◌++◌, ℕ, List, [], ◌∷◌, Option, Some, refl, ap, append_assoc, arith}
+use Rattle.mime_text.proofs.Words.{Result, Ok, Err, option_map, cons_option, HeaderField, TextKind, SinkFault}
+use Rattle.mime_text.proofs.Words.{TextFault, Failed, OutOfMemory, Sink, Pair, Coming, Gave, Broke, Hands}
+use Rattle.mime_text.proofs.Words.{kind_of_field, text_of_body, texts_of_fields}
 use Rattle.std.proofs.lemmas.List.{append-nil}
 use Rattle.mime_text.specs.Inside.Showing.{Shows}
 
 abbrev with_text : HeaderField → TextKind → Pair
 with_text f k = (k, text_of_body f.body)
 
-pub texts-some : (f : HeaderField) (k : TextKind) → kind_of_field f.name ≡ Some k → texts_of_fields (f ∷ []) ≡ (k, text_of_body f.body) ∷ []
+pub texts-some : (f : HeaderField) (k : TextKind) → kind_of_field f.name ≡ Some k → texts_of_fields (f ∷ [])
+    ≡ (k, text_of_body f.body) ∷ []
 texts-some f k e = ap (λ (o : Option TextKind). cons_option (option_map (with_text f) o) []) e
 
-pub texts-cons : (f : HeaderField) (fs : List HeaderField) → texts_of_fields (f ∷ fs) ≡ texts_of_fields (f ∷ []) ++ texts_of_fields fs
+pub texts-cons : (f : HeaderField) (fs : List HeaderField) → texts_of_fields (f ∷ fs)
+    ≡ texts_of_fields (f ∷ []) ++ texts_of_fields fs
 texts-cons f fs = grind arith
 
-module _ {S : Type 0} (takes : S → TextKind → List ℕ → S → Type 0) (refuses : S → TextKind → List ℕ → SinkFault → S → Type 0) where
-  pub hands-one : {T : Type 0} (p : Pair) (result : Result T TextFault) (s t : S) → Shows takes refuses p.0 p.1 result s t → Hands takes refuses (λ _. p ∷ []) (λ _. []) result s t
+module _ {S : Type 0} (takes : S → TextKind → List ℕ → S → Type 0)
+    (refuses : S → TextKind → List ℕ → SinkFault → S → Type 0) where
+  pub hands-one : {T : Type 0} (p : Pair) (result : Result T TextFault) (s t : S)
+      → Shows takes refuses p.0 p.1 result s t → Hands takes refuses (λ _. p ∷ []) (λ _. []) result s t
   hands-one p (Ok x) s t h = record { pairs = p ∷ []; taken = (t, h, refl); rest = λ ms. refl }
   hands-one p (Err OutOfMemory) s t h = record { pairs = []; broken = h; front = λ ms. (p ∷ [], refl) }
-  hands-one p (Err (Sink fault)) s t h = record { pairs = p ∷ []; broken = ([], p, s, refl, refl, h); front = λ ms. ([], refl) }
+  hands-one p (Err (Sink fault)) s t h = record
+      { pairs = p ∷ []; broken = ([], p, s, refl, refl, h); front = λ ms. ([], refl) }
   hands-one p (Err Failed) s t h = absurd h
 
   -- a call that gives all of A gives the first of the pairs B, if B begins with those of A
-  pub gave-front : (A B R : Coming) (s t : S) → ((ms : List (List ℕ)) → B ms ≡ A ms ++ R ms) → Gave takes refuses A (λ _. []) s t → Gave takes refuses B R s t
+  pub gave-front : (A B R : Coming) (s t : S) → ((ms : List (List ℕ)) → B ms ≡ A ms ++ R ms)
+      → Gave takes refuses A (λ _. []) s t → Gave takes refuses B R s t
   gave-front A B R s t e h = grind (arith, append-nil)
 
-  pub broke-front : (A B R : Coming) (fault : TextFault) (s t : S) → ((ms : List (List ℕ)) → B ms ≡ A ms ++ R ms) → Broke takes refuses A fault s t → Broke takes refuses B fault s t
+  pub broke-front : (A B R : Coming) (fault : TextFault) (s t : S) → ((ms : List (List ℕ)) → B ms ≡ A ms ++ R ms)
+      → Broke takes refuses A fault s t → Broke takes refuses B fault s t
   broke-front A B R fault s t e h =
       record {
         pairs = h.pairs;
         broken = h.broken;
-        front = λ ms. ((h.front ms).0 ++ R ms, e ms ∙ ap (λ (ps : List Pair). ps ++ R ms) (h.front ms).1 ∙ append_assoc h.pairs (h.front ms).0 (R ms));
+        front = λ ms. (
+          (h.front ms).0 ++ R ms,
+          e ms ∙ ap (λ (ps : List Pair). ps ++ R ms) (h.front ms).1
+              ∙ append_assoc h.pairs (h.front ms).0 (R ms),
+        );
       }
 
   -- the pairs that come after the call may be replaced by equal ones
-  pub gave-behind : (A B C : Coming) (s t : S) → ((ms : List (List ℕ)) → B ms ≡ C ms) → Gave takes refuses A B s t → Gave takes refuses A C s t
-  gave-behind A B C s t e h = record { pairs = h.pairs; taken = h.taken; rest = λ ms. h.rest ms ∙ ap (λ (ps : List Pair). h.pairs ++ ps) (e ms) }
+  pub gave-behind : (A B C : Coming) (s t : S) → ((ms : List (List ℕ)) → B ms ≡ C ms) → Gave takes refuses A B s t
+      → Gave takes refuses A C s t
+  gave-behind A B C s t e h = record {
+    pairs = h.pairs;
+    taken = h.taken;
+    rest = λ ms. h.rest ms
+        ∙ ap (λ (ps : List Pair). h.pairs ++ ps) (e ms);
+  }

@@ -1,5 +1,10 @@
 -- Parameters piece by piece: each piece is shorter than the bytes that it begins, so the recursion ends.
-use Rattle.mime_text.proofs.Words.{◌≡◌, ◌∙◌, ◌<◌, ◌≤◌, ◌+◌, ◌++◌, ◌==◌, ℕ, zero, suc, Bool, true, false, List, [], ◌∷◌, Option, Some, None, length, cond, refl, sym, ap, arith, length-append, option_map, unwrap_or, find, option_map_or, option_to_list, split_while, after_blanks, trimmed, cut_at, length-split_while, split_while-joined, IsCut-from, Parameter, Piece, quoted, value_and_rest, is_parameter_name_byte, behind_semicolon, piece_of, parameters_within, parameters_behind, first_named, parameter}
+use Rattle.mime_text.proofs.Words.{◌≡◌, ◌∙◌, ◌<◌, ◌≤◌, ◌+◌, ◌++◌, ◌==◌, ℕ, zero, suc, Bool, true, false, List, [], ◌∷◌}
+use Rattle.mime_text.proofs.Words.{Option, Some, None, length, cond, refl, sym, ap, arith, length-append, option_map}
+use Rattle.mime_text.proofs.Words.{unwrap_or, find, option_map_or, option_to_list, split_while, after_blanks, trimmed}
+use Rattle.mime_text.proofs.Words.{cut_at, length-split_while, split_while-joined, IsCut-from, Parameter, Piece, quoted}
+use Rattle.mime_text.proofs.Words.{value_and_rest, is_parameter_name_byte, behind_semicolon, piece_of}
+use Rattle.mime_text.proofs.Words.{parameters_within, parameters_behind, first_named, parameter}
 use Rattle.header_text.specs.Names.{is_named}
 
 -- ---- what follows is shorter
@@ -20,7 +25,8 @@ length-value_and_rest bs = grind (arith, length-quoted, length-split_while)
 same_some : (x y : List ℕ) → Some x ≡ Some y → x ≡ y
 same_some x y h = ap (λ (o : Option (List ℕ)). unwrap_or o x) h
 
-length-behind : (bs rest : List ℕ) (o : Option (List ℕ × List ℕ)) → cut_at 0x3B bs ≡ o → option_map (λ parts. parts.1) o ≡ Some rest → length rest < length bs
+length-behind : (bs rest : List ℕ) (o : Option (List ℕ × List ℕ)) → cut_at 0x3B bs ≡ o → option_map (λ parts. parts.1) o
+    ≡ Some rest → length rest < length bs
 length-behind bs rest None e h = absurd (cc h)
 length-behind bs rest (Some (x, y)) e h = grind (arith, (IsCut-from 0x3B bs x y e).joined, length-append x (0x3B ∷ y))
 
@@ -32,18 +38,34 @@ piece_behind name behind = elim behind [
   | [] ↦ record { parameter = None; later = None }
   | c ∷ rest ↦ elim (c == 0x3D) [
     | false ↦ record { parameter = None; later = Some rest }
-    | true ↦ record { parameter = Some (record { name = name; value = (value_and_rest (after_blanks rest)).0 }); later = behind_semicolon (value_and_rest (after_blanks rest)).1 }
+    | true ↦ record {
+      parameter = Some (record { name = name; value = (value_and_rest (after_blanks rest)).0 });
+      later =
+          behind_semicolon (value_and_rest (after_blanks rest)).1;
+    }
   ]
 ]
 
-later-shorter_behind : (name behind rest : List ℕ) → (piece_behind name behind).later ≡ Some rest → length rest < length behind
+later-shorter_behind : (name behind rest : List ℕ) → (piece_behind name behind).later ≡ Some rest
+    → length rest < length behind
 unfolding piece_behind
 later-shorter_behind name [] rest h = absurd (cc h)
-later-shorter_behind name (c ∷ bs) rest h = grind (arith, length-behind_semicolon (value_and_rest (after_blanks bs)).1 rest, length-value_and_rest (after_blanks bs), length-after_blanks bs)
+later-shorter_behind name (c ∷ bs) rest h =
+    grind (
+      arith,
+      length-behind_semicolon (value_and_rest (after_blanks bs)).1 rest,
+      length-value_and_rest (after_blanks bs),
+      length-after_blanks bs,
+    )
 
 pub later-shorter : (bs rest : List ℕ) → (piece_of bs).later ≡ Some rest → length rest < length bs
 unfolding piece_of piece_behind
-later-shorter bs rest h = grind (arith, length-split_while is_parameter_name_byte bs, later-shorter_behind (trimmed (split_while is_parameter_name_byte bs).0) (split_while is_parameter_name_byte bs).1 rest h)
+later-shorter bs rest h = grind (
+  arith,
+  length-split_while is_parameter_name_byte bs,
+  later-shorter_behind (trimmed (split_while is_parameter_name_byte bs).0) (split_while is_parameter_name_byte bs).1
+      rest h,
+)
 
 -- ---- any number of pieces that is large enough gives the same parameters
 
@@ -52,7 +74,8 @@ unfolding piece_of
 within-nil zero = refl
 within-nil (suc n) = refl
 
-within-enough : (n m : ℕ) (bs : List ℕ) → length bs ≤ n → length bs ≤ m → parameters_within n bs ≡ parameters_within m bs
+within-enough : (n m : ℕ) (bs : List ℕ) → length bs ≤ n → length bs ≤ m → parameters_within n bs
+    ≡ parameters_within m bs
 within-enough n m [] h k = within-nil n ∙ sym (within-nil m)
 within-enough zero m (b ∷ bs) h k = absurd (omega arith)
 within-enough (suc n) zero (b ∷ bs) h k = absurd (omega arith)
@@ -63,12 +86,14 @@ unfolding piece_of
 behind-nil = refl
 
 -- the parameters with one piece more
-pub behind-step : (bs : List ℕ) → parameters_behind (Some bs) ≡ option_to_list (piece_of bs).parameter ++ parameters_behind (piece_of bs).later
+pub behind-step : (bs : List ℕ) → parameters_behind (Some bs)
+    ≡ option_to_list (piece_of bs).parameter ++ parameters_behind (piece_of bs).later
 behind-step [] = behind-nil
 behind-step (b ∷ bs) = grind (arith, later-shorter (b ∷ bs), within-enough)
 
 -- a piece that is no parameter, a parameter with another name, and one with the name
-pub named-none : (name bs : List ℕ) → (piece_of bs).parameter ≡ None → first_named name (parameters_behind (Some bs)) ≡ first_named name (parameters_behind (piece_of bs).later)
+pub named-none : (name bs : List ℕ) → (piece_of bs).parameter ≡ None → first_named name (parameters_behind (Some bs))
+    ≡ first_named name (parameters_behind (piece_of bs).later)
 named-none name bs e = ap (first_named name) (behind-step bs) ∙ rw e refl
 
 pub named-other : (name bs : List ℕ) (p : Parameter) → (piece_of bs).parameter ≡ Some p → is_named p.name name ≡ false
@@ -82,32 +107,41 @@ named-found name bs p e f = ap (first_named name) (behind-step bs) ∙ rw e (rw 
 abbrev parameter_of : List ℕ → List ℕ → Parameter
 parameter_of name value = record { name = name; value = value }
 
-pub piece-other : {A : Type 0} (o : Option A) (now : A → List ℕ) (name value bs : List ℕ) → option_map (λ a. parameter_of (now a) value) o ≡ (piece_of bs).parameter
-    → option_map_or (λ a. is_named (now a) name) o false ≡ false → first_named name (parameters_behind (Some bs)) ≡ first_named name (parameters_behind (piece_of bs).later)
+pub piece-other : {A : Type 0} (o : Option A) (now : A → List ℕ) (name value bs : List ℕ)
+    → option_map (λ a. parameter_of (now a) value) o ≡ (piece_of bs).parameter
+    → option_map_or (λ a. is_named (now a) name) o false ≡ false → first_named name (parameters_behind (Some bs))
+    ≡ first_named name (parameters_behind (piece_of bs).later)
 piece-other None now name value bs e f = named-none name bs (sym e)
 piece-other (Some a) now name value bs e f = named-other name bs (parameter_of (now a) value) (sym e) f
 
-pub piece-found : {A : Type 0} (o : Option A) (now : A → List ℕ) (name value bs : List ℕ) → option_map (λ a. parameter_of (now a) value) o ≡ (piece_of bs).parameter
-    → option_map_or (λ a. is_named (now a) name) o false ≡ true → first_named name (parameters_behind (Some bs)) ≡ Some value
+pub piece-found : {A : Type 0} (o : Option A) (now : A → List ℕ) (name value bs : List ℕ)
+    → option_map (λ a. parameter_of (now a) value) o ≡ (piece_of bs).parameter
+    → option_map_or (λ a. is_named (now a) name) o false ≡ true → first_named name (parameters_behind (Some bs))
+    ≡ Some value
 piece-found None now name value bs e f = absurd (cc f)
 piece-found (Some a) now name value bs e f = named-found name bs (parameter_of (now a) value) (sym e) f
 
 -- after a piece fewer bytes are left
-pub later-measure : {A : Type 0} (before : Option A) (now : A → List ℕ) (a : A) (o : Option (List ℕ)) → before ≡ Some a → (piece_of (now a)).later ≡ o
-    → option_map_or (λ rest. suc (length rest)) o 0 < option_map_or (λ rest. suc (length rest)) (option_map now before) 0
+pub later-measure : {A : Type 0} (before : Option A) (now : A → List ℕ) (a : A) (o : Option (List ℕ)) → before ≡ Some a
+    → (piece_of (now a)).later ≡ o
+    → option_map_or (λ rest. suc (length rest)) o 0 < option_map_or (λ rest. suc (length rest)) (option_map now before)
+    0
 later-measure before now a None is e = rw is (omega arith)
 later-measure before now a (Some rest) is e = grind (arith, later-shorter (now a) rest)
 
 -- a piece that is a name, `=` and a value
-pub piece-parameter : (text rest : List ℕ) (sign : ℕ) → (split_while is_parameter_name_byte text).1 ≡ sign ∷ rest → (sign == 0x3D) ≡ true
-    → (piece_of text).parameter ≡ Some (record { name = trimmed (split_while is_parameter_name_byte text).0; value = (value_and_rest (after_blanks rest)).0 })
+pub piece-parameter : (text rest : List ℕ) (sign : ℕ) → (split_while is_parameter_name_byte text).1 ≡ sign ∷ rest
+    → (sign == 0x3D) ≡ true
+    → (piece_of text).parameter ≡ Some (record
+    { name = trimmed (split_while is_parameter_name_byte text).0; value = (value_and_rest (after_blanks rest)).0 })
 unfolding piece_of
 piece-parameter text rest sign e f = rw (e, f, piece_of) refl
 
 -- ---- a value is no longer than the bytes in which it is
 
 size-front : (p : ℕ → Bool) (bs : List ℕ) → length (split_while p bs).0 ≤ length bs
-size-front p bs = let joined = ap length (split_while-joined p bs) in omega (arith, joined, length-append (split_while p bs).0 (split_while p bs).1)
+size-front p bs = let joined = ap length (split_while-joined p bs)
+    in omega (arith, joined, length-append (split_while p bs).0 (split_while p bs).1)
 
 size-value : (bs : List ℕ) → length (value_and_rest bs).0 ≤ length bs
 size-value bs = grind (arith, length-quoted, size-front)
@@ -124,23 +158,32 @@ size-piece_behind name (c ∷ bs) = grind (arith, size-value (after_blanks bs), 
 
 size-piece : (bs : List ℕ) → size_of (piece_of bs).parameter ≤ length bs
 unfolding piece_of piece_behind
-size-piece bs = grind (arith, length-split_while is_parameter_name_byte bs, size-piece_behind (trimmed (split_while is_parameter_name_byte bs).0) (split_while is_parameter_name_byte bs).1)
+size-piece bs = grind (
+  arith,
+  length-split_while is_parameter_name_byte bs,
+  size-piece_behind (trimmed (split_while is_parameter_name_byte bs).0) (split_while is_parameter_name_byte bs).1,
+)
 
-size-within : (n : ℕ) (name bs found : List ℕ) → first_named name (parameters_within n bs) ≡ Some found → length found ≤ length bs
+size-within : (n : ℕ) (name bs found : List ℕ) → first_named name (parameters_within n bs) ≡ Some found
+    → length found ≤ length bs
 size-within zero name bs found h = absurd (cc h)
 size-within (suc n) name bs found h = by_piece (piece_of bs).parameter refl (λ rest. size-within n name rest found) h
   where
     others : Option (List ℕ) → List Parameter
     others o = option_map_or (λ rest. parameters_within n rest) o []
 
-    by_later : (o : Option (List ℕ)) → (piece_of bs).later ≡ o → ((rest : List ℕ) → first_named name (parameters_within n rest) ≡ Some found → length found ≤ length rest)
+    by_later : (o : Option (List ℕ)) → (piece_of bs).later ≡ o
+        → ((rest : List ℕ) → first_named name (parameters_within n rest) ≡ Some found → length found ≤ length rest)
         → first_named name (others o) ≡ Some found → length found ≤ length bs
     by_later None e same h = absurd (cc h)
-    by_later (Some rest) e same h = let less = later-shorter bs rest e in let size = same rest h in omega (arith, less, size)
+    by_later (Some rest) e same h = let less = later-shorter bs rest e in let size = same rest h
+        in omega (arith, less, size)
 
     by_name : (p : Parameter) → (piece_of bs).parameter ≡ Some p → (t : Bool) → is_named p.name name ≡ t
         → ((rest : List ℕ) → first_named name (parameters_within n rest) ≡ Some found → length found ≤ length rest)
-        → option_map (λ (q : Parameter). q.value) (cond t (Some p) (find (λ (q : Parameter). is_named q.name name) (others (piece_of bs).later))) ≡ Some found → length found ≤ length bs
+        → option_map (λ (q : Parameter). q.value)
+        (cond t (Some p) (find (λ (q : Parameter). is_named q.name name) (others (piece_of bs).later))) ≡ Some found
+        → length found ≤ length bs
     by_name p e true f same h =
         let here = size-piece bs in
         let size = ap size_of e in
@@ -148,11 +191,13 @@ size-within (suc n) name bs found h = by_piece (piece_of bs).parameter refl (λ 
         omega (arith, here, size, found_is)
     by_name p e false f same h = by_later (piece_of bs).later refl same h
 
-    by_piece : (o : Option Parameter) → (piece_of bs).parameter ≡ o → ((rest : List ℕ) → first_named name (parameters_within n rest) ≡ Some found → length found ≤ length rest)
+    by_piece : (o : Option Parameter) → (piece_of bs).parameter ≡ o
+        → ((rest : List ℕ) → first_named name (parameters_within n rest) ≡ Some found → length found ≤ length rest)
         → first_named name (option_to_list o ++ others (piece_of bs).later) ≡ Some found → length found ≤ length bs
     by_piece o h h2 h3 = grind (arith, by_later, by_name)
 
-size-behind : (name value found : List ℕ) (o : Option (List ℕ)) → behind_semicolon value ≡ o → first_named name (parameters_behind o) ≡ Some found → length found ≤ length value
+size-behind : (name value found : List ℕ) (o : Option (List ℕ)) → behind_semicolon value ≡ o
+    → first_named name (parameters_behind o) ≡ Some found → length found ≤ length value
 size-behind name value found o h h2 = grind (arith, length-behind_semicolon, size-within)
 
 pub parameter-size : (name value found : List ℕ) → parameter name value ≡ Some found → length found ≤ length value

@@ -1,5 +1,6 @@
 -- What a message's own header says besides its texts.
-use Rattle.std.specs.Prelude.{ℕ, ◌<◌, ◌≤◌, Bool, ◌&&◌, ◌||◌, ◌==◌, List, [], ◌∷◌, length, All, IfSome, filter, flat_map, Option, Some, None, option_map, codes}
+use Rattle.std.specs.Prelude.{ℕ, ◌<◌, ◌≤◌, Bool, ◌&&◌, ◌||◌, ◌==◌, List, [], ◌∷◌, length, All, IfSome, filter, flat_map}
+use Rattle.std.specs.Prelude.{Option, Some, None, option_map, codes}
 use Rattle.std.specs.List.{list_any}
 use Rattle.header_text.specs.Headers.{HeaderField, most_in_header}
 use Rattle.header_text.specs.Names.{is_named, first_body}
@@ -28,7 +29,12 @@ has_letter letter fields = list_any (λ f. is_status f.name && list_any (λ b. b
 
 -- the flags: R for read, A for replied, F for flagged
 abbrev pub flags_of : List HeaderField → Flags
-flags_of fields = record { seen = has_letter 0x52 fields; replied = has_letter 0x41 fields; flagged = has_letter 0x46 fields }
+flags_of fields = record {
+  seen = has_letter 0x52 fields;
+  replied = has_letter 0x41 fields;
+  flagged =
+      has_letter 0x46 fields;
+}
 
 -- the message's own id: the first id in a Message-ID field (RFC 5322, 3.6.4)
 abbrev pub own_id_of : List HeaderField → Option (List ℕ)
@@ -36,7 +42,8 @@ own_id_of fields = first_of (flat_map (λ f. ids_of f.body) (filter (λ f. is_na
 
 -- whether a field of this name links the message to others
 abbrev pub is_linking : List ℕ → Bool
-is_linking name = is_named name (codes "message-id") || is_named name (codes "in-reply-to") || is_named name (codes "references")
+is_linking name = is_named name (codes "message-id") || is_named name (codes "in-reply-to") || is_named name
+    (codes "references")
 
 -- all ids of the linking fields, in order
 abbrev pub ids_of_fields : List HeaderField → List (List ℕ)
@@ -56,4 +63,10 @@ HasSizedIds facts = IfSome facts.own_id IsSizedId × All IsSizedId facts.ids
 
 -- the facts that a header with these fields says
 unfoldable pub facts_of : List HeaderField → Facts
-facts_of fields = record { date_text = date_text_of fields; flags = flags_of fields; own_id = own_id_of fields; ids = ids_of_fields fields }
+facts_of fields = record {
+  date_text = date_text_of fields;
+  flags = flags_of fields;
+  own_id = own_id_of fields;
+  ids =
+      ids_of_fields fields;
+}

@@ -1,5 +1,6 @@
 -- The parameters of a Content-Type field (RFC 2045, 5.1) or a Content-Disposition field (RFC 2183, 2), read leniently.
-use Rattle.std.specs.Prelude.{ℕ, zero, suc, Bool, true, false, not, ◌||◌, ◌==◌, if◌then◌else◌, List, [], ◌∷◌, ◌++◌, length, Option, None, Some, option_map}
+use Rattle.std.specs.Prelude.{ℕ, zero, suc, Bool, true, false, not, ◌||◌, ◌==◌, if◌then◌else◌, List, [], ◌∷◌, ◌++◌}
+use Rattle.std.specs.Prelude.{length, Option, None, Some, option_map}
 use Rattle.std.specs.List.{find}
 use Rattle.std.specs.Option.{option_map_or, option_to_list}
 use Rattle.header_text.specs.Blanks.{is_blank, split_while, after_blanks, trimmed}
@@ -71,7 +72,11 @@ piece_of bs = let front = split_while is_parameter_name_byte bs in elim (front.1
   | c ∷ rest ↦ elim (c == equals_sign) [
     | false ↦ record { parameter = None; later = Some rest }
     | true ↦ let found = value_and_rest (after_blanks rest) in
-        record { parameter = Some (record { name = trimmed front.0; value = found.0 }); later = behind_semicolon found.1 }
+        record {
+          parameter = Some (record { name = trimmed front.0; value = found.0 });
+          later =
+              behind_semicolon found.1;
+        }
   ]
 ]
 
@@ -79,12 +84,14 @@ piece_of bs = let front = split_while is_parameter_name_byte bs in elim (front.1
 -- begins.
 pub data AreParameters : Option (List ℕ) → List Parameter → Type 0 where
   none_left : AreParameters None []
-  piece_first : {bs : List ℕ} {later : List Parameter} → AreParameters (piece_of bs).later later → AreParameters (Some bs) (option_to_list (piece_of bs).parameter ++ later)
+  piece_first : {bs : List ℕ} {later : List Parameter} → AreParameters (piece_of bs).later later
+      → AreParameters (Some bs) (option_to_list (piece_of bs).parameter ++ later)
 
 -- the parameters of the first pieces of these bytes, of at most this many pieces
 abbrev pub parameters_within : ℕ → List ℕ → List Parameter
 parameters_within zero bs = []
-parameters_within (suc n) bs = option_to_list (piece_of bs).parameter ++ option_map_or (λ rest. parameters_within n rest) (piece_of bs).later []
+parameters_within (suc n) bs = option_to_list (piece_of bs).parameter ++ option_map_or
+    (λ rest. parameters_within n rest) (piece_of bs).later []
 
 -- The parameters after a semicolon, if there is one; there are no more pieces than bytes. These are the parameters of
 -- the pieces, as AreParameters defines them, and no other list is.

@@ -4,7 +4,11 @@ use Rattle.std.specs.Prelude.{ℕ, Bool, true, false, ◌||◌, ◌==◌, if◌t
 -- whether there is a `<` with no `>` after it in the characters before, which are given from the last to the first
 abbrev pub is_open : List ℕ → Bool
 is_open [] = false
-is_open (c ∷ before) = elim (c == 0x3C) [ true ↦ true | false ↦ elim (c == 0x3E) [ true ↦ false | false ↦ is_open before ] ]
+is_open (c ∷ before) = elim (c == 0x3C) [
+  | true ↦ true
+  | false ↦ elim (c == 0x3E)
+      [ true ↦ false | false ↦ is_open before ]
+]
 
 -- Whether a character is in a tag, if these are before it, the nearest first: a tag goes from a `<` to the next `>`, or
 -- to the end if there is none, both included.

@@ -1,5 +1,6 @@
 -- What the iterator over words looks for at the front of the rest of a text.
-use Rattle.std.specs.Prelude.{ℕ, ◌+◌, ◌<◌, ◌≡◌, Bool, true, false, not, ◌&&◌, ◌||◌, List, [], ◌∷◌, ◌++◌, length, slice_index, nat_le, nat_lt, codes, encode_utf8_all, if◌then◌else◌}
+use Rattle.std.specs.Prelude.{ℕ, ◌+◌, ◌<◌, ◌≡◌, Bool, true, false, not, ◌&&◌, ◌||◌, List, [], ◌∷◌, ◌++◌, length}
+use Rattle.std.specs.Prelude.{slice_index, nat_le, nat_lt, codes, encode_utf8_all, if◌then◌else◌}
 use Rattle.mail_words.specs.Words.{is_word_character, is_joiner, word_limit, words_behind}
 
 -- the characters at the front that pass
@@ -23,6 +24,10 @@ is_ascii_word b = nat_lt b 128 && is_word_character b
 -- whether a byte isn't a word character by itself
 abbrev pub is_no_ascii_word : ℕ → Bool
 is_no_ascii_word b = not (is_ascii_word b)
+
+-- whether a byte isn't ASCII
+abbrev pub is_beyond_ascii : ℕ → Bool
+is_beyond_ascii b = nat_le 128 b
 
 -- whether a byte is a character by itself, but not a word character
 abbrev pub is_ascii_other : ℕ → Bool

@@ -1,6 +1,11 @@
-use Rattle.index_job.proofs.Words.{still_known, arith, [], ◌≡◌, ℕ, List, Option, Some, Ok, IfSome, subst, err_from_is_err_and, sha256, Draft, begun_archive, stepped, Mbox, draft_of}
+-- `add_archive` adds the messages of an archive and the digest of its bytes, because all bytes were read through the
+-- digest.
+use Rattle.index_job.proofs.Words.{still_known, arith, [], ◌≡◌, ℕ, List, Option, Some, Ok, IfSome, subst}
+use Rattle.index_job.proofs.Words.{err_from_is_err_and, sha256, Draft, begun_archive, stepped, Mbox, draft_of}
 use Rattle.contract_words.proofs.StillKnown.{still-known, still-end}
 use Rattle.mbox_cutter.specs.Digests.{inner, AreWhole}
+use Rattle.mbox_cutter.specs.Sources.{Stays}
+use Rattle.index_job.proofs.SourceReads.{stays-inside}
 use Rattle.index_job.proofs.TableSteps.{number-is, one-added, add-fault}
 use Rattle.index_job.proofs.archive_reading.add_archive.Goals as goal
 
@@ -10,22 +15,54 @@ returns-in_err-messages-clause-err g c =
     rw (p.1, p.2) (λ before bytes is rest.
     let a : Mbox = record { path = c.args.path.now; bytes = bytes } in
     let begun : stepped (begun_archive c.args.path.now) (Some (draft_of before)) ≡ Ok c.begin_archive.new.self =
-    subst (λ (o : Option Draft). stepped (begun_archive c.args.path.now) o ≡ Ok c.begin_archive.new.self) is c.in_ok-begin_archive.ensures.gives in
-    let comes : still_known (g.S.Source.rest (inner c.new-digested.result).now) (g.S.Source.rest (inner c.read_archive.new.source).now) ≡ Some bytes = grind (arith, rest) in
-    add-fault before a c.args.archive c.begin_archive.new.self (number-is c.args.archive before c.args.builder.now is c.requires.idle) begun c.read_archive.new.builder c.in_err-messages.field-0.0
+    subst (λ (o : Option Draft). stepped (begun_archive c.args.path.now) o ≡ Ok c.begin_archive.new.self) is
+    c.in_ok-begin_archive.ensures.gives in
+    let comes : still_known (g.S.Source.rest (inner c.new-digested.result).now)
+    (g.S.Source.rest (inner c.read_archive.new.source).now) ≡ Some bytes = grind (arith, rest) in
+    add-fault before a c.args.archive c.begin_archive.new.self
+    (number-is c.args.archive before c.args.builder.now is c.requires.idle) begun c.read_archive.new.builder
+    c.in_err-messages.field-0.0
     (λ d opened. c.in_err-messages.ensures.known d bytes opened comes))
 
 pub returns-clause-ok : goal.returns-clause-ok
 returns-clause-ok g c = λ before bytes is rest.
     let a : Mbox = record { path = c.args.path.now; bytes = bytes } in
     let begun : stepped (begun_archive c.args.path.now) (Some (draft_of before)) ≡ Ok c.begin_archive.new.self =
-    subst (λ (o : Option Draft). stepped (begun_archive c.args.path.now) o ≡ Ok c.begin_archive.new.self) is c.in_ok-begin_archive.ensures.gives in
-    let comes : still_known (g.S.Source.rest (inner c.new-digested.result).now) (g.S.Source.rest (inner c.read_archive.new.source).now) ≡ Some bytes = grind (arith, rest) in
+    subst (λ (o : Option Draft). stepped (begun_archive c.args.path.now) o ≡ Ok c.begin_archive.new.self) is
+    c.in_ok-begin_archive.ensures.gives in
+    let comes : still_known (g.S.Source.rest (inner c.new-digested.result).now)
+    (g.S.Source.rest (inner c.read_archive.new.source).now) ≡ Some bytes = grind (arith, rest) in
     let known : g.S.Source.rest c.args.source.now ≡ Some bytes = still-known _ _ _ rest in
     let at_first : AreWhole g.S.Source.rest c.new-digested.result bytes =
-    subst (λ (o : Option (List ℕ)). IfSome o (λ b. AreWhole g.S.Source.rest c.new-digested.result b)) known c.new-digested.ensures.whole in
+    subst (λ (o : Option (List ℕ)). IfSome o (λ b. AreWhole g.S.Source.rest c.new-digested.result b)) known
+    c.new-digested.ensures.whole in
     let at_end : g.S.Source.rest (inner c.read_archive.new.source).now ≡ Some [] =
     still-end _ _ _ comes c.in_ok-messages.ensures.ended.end in
-    let digest : c.finish.result ≡ sha256 bytes = c.finish.ensures.whole bytes (c.in_ok-messages.ensures.stays.whole bytes at_first) at_end in
-    one-added before a c.args.archive c.begin_archive.new.self (number-is c.args.archive before c.args.builder.now is c.requires.idle) begun c.in_ok-messages.field-0 c.read_archive.new.builder c.finish.result c.end_archive.new.self
-    (λ d opened. c.in_ok-messages.ensures.known d bytes opened comes) digest c.in_ok-end_archive.ensures.gives c.in_ok-end_archive.ensures.within
+    let digest : c.finish.result ≡ sha256 bytes =
+    c.finish.ensures.whole bytes (c.in_ok-messages.ensures.stays.whole bytes at_first) at_end in
+    one-added before a c.args.archive c.begin_archive.new.self
+    (number-is c.args.archive before c.args.builder.now is c.requires.idle) begun c.in_ok-messages.field-0
+    c.read_archive.new.builder c.finish.result c.end_archive.new.self
+    (λ d opened. c.in_ok-messages.ensures.known d bytes opened comes) digest c.in_ok-end_archive.ensures.gives
+    c.in_ok-end_archive.ensures.within
+
+pub returns-in_err-messages-clause-stays : goal.returns-in_err-messages-clause-stays
+returns-in_err-messages-clause-stays g c =
+    let reads = c.read_archive.ensures.stays in
+    let inside : Stays g.S.Source (inner c.new-digested.result).now (inner c.read_archive.new.source).now =
+    stays-inside g.S.Source c.new-digested.result c.read_archive.new.source reads.below reads.through reads.known in
+    grind (arith, inside)
+
+pub returns-in_err-end_archive-clause-stays : goal.returns-in_err-end_archive-clause-stays
+returns-in_err-end_archive-clause-stays g c =
+    let reads = c.read_archive.ensures.stays in
+    let inside : Stays g.S.Source (inner c.new-digested.result).now (inner c.read_archive.new.source).now =
+    stays-inside g.S.Source c.new-digested.result c.read_archive.new.source reads.below reads.through reads.known in
+    grind (arith, inside)
+
+pub returns-clause-stays : goal.returns-clause-stays
+returns-clause-stays g c =
+    let reads = c.read_archive.ensures.stays in
+    let inside : Stays g.S.Source (inner c.new-digested.result).now (inner c.read_archive.new.source).now =
+    stays-inside g.S.Source c.new-digested.result c.read_archive.new.source reads.below reads.through reads.known in
+    grind (arith, inside)

@@ -1,9 +1,11 @@
+-- `add_words` adds the folded words of a text, because in ASCII these are the words of its folding; others are folded
+-- one by one.
 use Rattle.index_job.proofs.Words.{arith}
-use Rattle.index_job.proofs.FoldedWords.{held-within, held-sizes, terms-of-ascii, terms-of-held}
+use Rattle.index_job.proofs.FoldedWords.{held-within, held-sizes, terms-of-whole, terms-of-held}
 use Rattle.index_job.proofs.term_sink.add_words.Goals as goal
 
-pub returns-then-is_ascii-clause-terms : goal.returns-then-is_ascii-clause-terms
-returns-then-is_ascii-clause-terms c = grind (arith, terms-of-ascii)
+pub returns-then-is_whole-clause-terms : goal.returns-then-is_whole-clause-terms
+returns-then-is_whole-clause-terms c = grind (arith, terms-of-whole)
 
 pub add_cut_words-requires-clause-within : goal.add_cut_words-requires-clause-within
 add_cut_words-requires-clause-within c = grind (arith, held-within)

@@ -1,0 +1,256 @@
+-- If each character of a text folds evenly, the words of its folding are the foldings of its words.
+use lib.Utf8.{scalar}
+use Rattle.mail_words.proofs.Imports.{◌≡◌, ◌<◌, ℕ, Bool, true, false, not, cond, ◌&&◌, ◌||◌, nat_le, List, [], ◌∷◌}
+use Rattle.mail_words.proofs.Imports.{◌++◌, reverse, length, encode_utf8, encode_utf8_all, IsUtf8, refl, sym, ap, ap₂}
+use Rattle.mail_words.proofs.Imports.{◌∙◌, arith, and_parts, nat_tests, length-append, length-encode, len_utf8}
+use Rattle.mail_words.proofs.Imports.{list_all-append, map-append, reverse-append, chars-encodes, scalars-chars}
+use Rattle.mail_words.proofs.Imports.{list_all, list_any, same_from_beq, is_piece, folding, is_word_character}
+use Rattle.mail_words.proofs.Imports.{is_joiner, begins, after_joiners, is_word, word_limit, words}
+use Rattle.std.proofs.Common.{map, chars, eqb-true}
+use Rattle.std.proofs.Math.Utf8.{scalars}
+use Rattle.caseless.specs.Caseless.{default_case_fold}
+use Rattle.caseless.proofs.CaselessLemmas.{default_case_fold-nil, default_case_fold-cons, full_fold-none}
+use Rattle.ucd_case.specs.CaseFolding.{full_folding, full_fold, or_itself}
+use Rattle.ucd_case.proofs.CaseFoldingLemmas.{full_folding_stepped}
+use Rattle.unicode.proofs.RangedFacts.{values_ok, Stepped-at_values}
+use Rattle.unicode.proofs.TableComputing.{tables}
+use Rattle.mail_words.specs.Folding.{are_alike, is_one_like, folds_evenly}
+use Rattle.mail_words.specs.Inside.Folds.{keeps_itself}
+use Rattle.mail_words.proofs.Places.{if_word, words_on, words_from, words_behind-places}
+use Rattle.mail_words.proofs.RunLemmas.{after_joiners-joiner, after_joiners-other}
+
+-- ---- characters
+
+-- the first of the characters; c if there is none
+abbrev first_or : ℕ → List ℕ → ℕ
+first_or c [] = c
+first_or c (d ∷ ds) = d
+
+-- what a character folds to if it folds evenly; otherwise the character
+abbrev low_one : ℕ → ℕ
+low_one c = cond (folds_evenly c) (first_or c (full_fold c)) c
+
+abbrev low : List ℕ → List ℕ
+low cs = map low_one cs
+
+-- what the test of two characters says
+record Alike (c d : ℕ) : Type 0 where
+  bytes : len_utf8 c ≡ len_utf8 d
+  word : is_word_character c ≡ is_word_character d
+  joiner : is_joiner c ≡ is_joiner d
+
+alike : (c d : ℕ) → are_alike c d ≡ true → Alike c d
+alike c d e =
+    let parts = and_parts _ _ e in
+    let first = and_parts _ _ parts.0 in
+    record {
+      bytes = eqb-true _ _ first.0;
+      word = same_from_beq _ _ first.1;
+      joiner = same_from_beq _ _ parts.1;
+    }
+
+alike-self : (c : ℕ) → Alike c c
+alike-self c = record { bytes = refl; word = refl; joiner = refl }
+
+alike-first : (c : ℕ) (ds : List ℕ) → is_one_like c ds ≡ true → Alike c (first_or c ds)
+alike-first c [] e = cc
+alike-first c (d ∷ []) e = alike c d e
+alike-first c (d ∷ f ∷ ds) e = cc
+
+alike-low : (c : ℕ) → Alike c (low_one c)
+alike-low c = go (folds_evenly c) refl
+  where
+    go : (t : Bool) → folds_evenly c ≡ t → Alike c (cond t (first_or c (full_fold c)) c)
+    go true e = alike-first c (full_fold c) e
+    go false e = alike-self c
+
+word-low : (c : ℕ) → is_word_character (low_one c) ≡ is_word_character c
+word-low c = sym (alike-low c).word
+
+joiner-low : (c : ℕ) → is_joiner (low_one c) ≡ is_joiner c
+joiner-low c = sym (alike-low c).joiner
+
+piece-low : (c : ℕ) → is_piece (low_one c) ≡ is_piece c
+piece-low c = ap₂ ◌||◌ (word-low c) (joiner-low c)
+
+-- a character that folding leaves as it is folds evenly
+alike-true : (c : ℕ) → are_alike c c ≡ true
+alike-true c = grind (arith, nat_tests)
+
+pub even-kept : (c : ℕ) → keeps_itself c ≡ true → folds_evenly c ≡ true
+even-kept c h =
+    let few : length (full_folding c) < 1 = grind arith in
+    ap (is_one_like c) (full_fold-none c (full_folding c) refl few) ∙ alike-true c
+
+-- a character that folds evenly folds to one character
+first-even : (c : ℕ) (ds : List ℕ) → is_one_like c ds ≡ true → ds ≡ first_or c ds ∷ []
+first-even c [] e = cc
+first-even c (d ∷ []) e = refl
+first-even c (d ∷ f ∷ ds) e = cc
+
+pub fold-low : (c : ℕ) → folds_evenly c ≡ true → full_fold c ≡ low_one c ∷ []
+fold-low c e = first-even c (full_fold c) e ∙ ap (λ t. cond t (first_or c (full_fold c)) c ∷ []) (sym e)
+
+-- all that characters fold to are characters
+all_scalar : (c : ℕ) → scalars (full_folding c) ≡ true
+unfolding tables values_ok full_folding_stepped
+all_scalar c = Stepped-at_values full_folding full_folding_stepped scalars refl c
+
+scalar-first : (c : ℕ) (ds : List ℕ) → scalars ds ≡ true → scalar c ≡ true → scalar (first_or c (or_itself c ds)) ≡ true
+scalar-first c [] h own = own
+scalar-first c (d ∷ ds) h own = (and_parts (scalar d) (scalars ds) h).0
+
+scalar-low : (c : ℕ) → scalar c ≡ true → scalar (low_one c) ≡ true
+scalar-low c own = go (folds_evenly c)
+  where
+    go : (t : Bool) → scalar (cond t (first_or c (full_fold c)) c) ≡ true
+    go true = scalar-first c (full_folding c) (all_scalar c) own
+    go false = own
+
+scalars-low : (cs : List ℕ) → scalars cs ≡ true → scalars (low cs) ≡ true
+scalars-low [] h = refl
+scalars-low (c ∷ cs) h =
+    let parts = and_parts (scalar c) (scalars cs) h in
+    (λ k. scalar-low c parts.0 k && scalars-low cs parts.1 k)
+
+-- ---- what the tests of a word need of its characters and of those around it
+
+begins-low : (cs : List ℕ) → begins is_word_character (low cs) ≡ begins is_word_character cs
+begins-low [] = refl
+begins-low (c ∷ cs) = word-low c
+
+all-low : (p : ℕ → Bool) → ((c : ℕ) → p (low_one c) ≡ p c) → (cs : List ℕ) → list_all p (low cs) ≡ list_all p cs
+all-low p same [] = refl
+all-low p same (c ∷ cs) = ap₂ ◌&&◌ (same c) (all-low p same cs)
+
+joins-low : (cs : List ℕ) → list_any is_joiner (low cs) ≡ list_any is_joiner cs
+joins-low [] = refl
+joins-low (c ∷ cs) = ap₂ ◌||◌ (joiner-low c) (joins-low cs)
+
+reverse-low : (cs : List ℕ) → reverse (low cs) ≡ low (reverse cs)
+reverse-low [] = refl
+reverse-low (c ∷ cs) =
+    reverse-append (low_one c ∷ []) (low cs) ∙ ap (λ ds. ds ++ low_one c ∷ []) (reverse-low cs)
+    ∙ sym (ap low (reverse-append (c ∷ []) cs) ∙ map-append low_one (reverse cs) (c ∷ []))
+
+ends-low : (cs : List ℕ) → begins is_word_character (reverse (low cs)) ≡ begins is_word_character (reverse cs)
+ends-low cs = ap (begins is_word_character) (reverse-low cs) ∙ begins-low (reverse cs)
+
+after_joiners-low : (cs : List ℕ) → after_joiners (low cs) ≡ low (after_joiners cs)
+after_joiners-low [] = refl
+after_joiners-low (c ∷ cs) = go (is_joiner c) refl (after_joiners-low cs)
+  where
+    go : (t : Bool) → is_joiner c ≡ t → after_joiners (low cs) ≡ low (after_joiners cs) → after_joiners (low (c ∷ cs))
+        ≡ low (after_joiners (c ∷ cs))
+    go true e rest = after_joiners-joiner (low_one c) (low cs) (joiner-low c ∙ e) ∙ rest
+        ∙ sym (ap low (after_joiners-joiner c cs e))
+    go false e rest = after_joiners-other (low_one c) (low cs) (joiner-low c ∙ e)
+        ∙ sym (ap low (after_joiners-other c cs e))
+
+run-low : (cs : List ℕ) → begins is_word_character (after_joiners (low cs))
+    ≡ begins is_word_character (after_joiners cs)
+run-low cs = ap (begins is_word_character) (after_joiners-low cs) ∙ begins-low (after_joiners cs)
+
+bytes-low : (cs : List ℕ) → length (encode_utf8_all (low cs)) ≡ length (encode_utf8_all cs)
+bytes-low [] = refl
+bytes-low (c ∷ cs) =
+    omega (
+      arith,
+      length-append (encode_utf8 (low_one c)) (encode_utf8_all (low cs)),
+      length-append (encode_utf8 c) (encode_utf8_all cs),
+      length-encode (low_one c),
+      length-encode c,
+      (alike-low c).bytes,
+      bytes-low cs,
+    )
+
+is_word-low : (before inside behind : List ℕ) → is_word is_word_character (low before) (low inside) (low behind)
+    ≡ is_word is_word_character before inside behind
+unfolding is_word
+is_word-low before inside behind = (λ k.
+    (begins-low inside k && all-low is_word_character word-low inside k && not (begins-low before k) && not
+    (begins-low behind k)
+    || begins-low inside k && ends-low inside k && all-low is_piece piece-low inside k && joins-low inside k && not
+    (run-low before k) && not (run-low behind k))
+    && nat_le (bytes-low inside k) word_limit)
+
+-- ---- words, place by place
+
+-- these are characters, and each folds evenly
+record AreEven (cs : List ℕ) : Type 0 where
+  scalars : scalars cs ≡ true
+  even : list_all folds_evenly cs ≡ true
+
+fold-all : (cs : List ℕ) → list_all folds_evenly cs ≡ true → default_case_fold cs ≡ low cs
+fold-all [] h = default_case_fold-nil
+fold-all (c ∷ cs) h =
+    let parts = and_parts (folds_evenly c) (list_all folds_evenly cs) h in
+    default_case_fold-cons c cs ∙ ap₂ ◌++◌ (fold-low c parts.0) (fold-all cs parts.1)
+
+folding-low : (cs : List ℕ) → AreEven cs → encode_utf8_all (low cs) ≡ folding (encode_utf8_all cs)
+folding-low cs h = ap encode_utf8_all (sym (fold-all cs h.even)
+    ∙ sym (ap default_case_fold (chars-encodes cs h.scalars)))
+
+folded_one : (word : List ℕ) (b : Bool) → map folding (cond b (word ∷ []) []) ≡ cond b (folding word ∷ []) []
+folded_one word b = grind arith
+
+if_word-low : (before inside behind : List ℕ) → AreEven inside → if_word (low before) (low inside) (low behind)
+    ≡ map folding (if_word before inside behind)
+if_word-low before inside behind h =
+    (λ k. cond (is_word-low before inside behind k) (folding-low inside h k ∷ []) [])
+    ∙ sym (folded_one (encode_utf8_all inside) (is_word is_word_character before inside behind))
+
+even-nil : AreEven []
+even-nil = record { scalars = refl; even = refl }
+
+even-parts : (c : ℕ) (cs : List ℕ) → AreEven (c ∷ cs) → AreEven (c ∷ []) × AreEven cs
+even-parts c cs h =
+    let own = and_parts (scalar c) (scalars cs) h.scalars in
+    let folds = and_parts (folds_evenly c) (list_all folds_evenly cs) h.even in (
+      record { scalars = (λ k. own.0 k && true); even = (λ k. folds.0 k && true) },
+      record { scalars = own.1; even = folds.1 },
+    )
+
+scalars-append : (xs ys : List ℕ) → scalars xs ≡ true → scalars ys ≡ true → scalars (xs ++ ys) ≡ true
+scalars-append [] ys h h2 = h2
+scalars-append (x ∷ xs) ys h h2 =
+    let parts = and_parts (scalar x) (scalars xs) h in
+    (λ k. parts.0 k && scalars-append xs ys parts.1 h2 k)
+
+even-push : (xs ys : List ℕ) → AreEven xs → AreEven ys → AreEven (xs ++ ys)
+even-push xs ys h h2 =
+    record {
+      scalars = scalars-append xs ys h.scalars h2.scalars;
+      even = list_all-append folds_evenly xs ys ∙ (λ k. h.even k && h2.even k);
+    }
+
+words_on-low : (before inside rest : List ℕ) → AreEven inside → AreEven rest
+    → words_on (low before) (low inside) (low rest) ≡ map folding (words_on before inside rest)
+words_on-low before inside [] h rest_h = refl
+words_on-low before inside (c ∷ cs) h rest_h =
+    let longer : List ℕ = inside ++ c ∷ [] in
+    let parts = even-parts c cs rest_h in
+    let longer_h : AreEven longer = even-push inside (c ∷ []) h parts.0 in
+    ap (λ i. if_word (low before) i (low cs) ++ words_on (low before) i (low cs))
+    (sym (map-append low_one inside (c ∷ [])))
+    ∙ ap₂ ◌++◌ (if_word-low before longer cs longer_h) (words_on-low before longer cs longer_h parts.1)
+    ∙ sym (map-append folding (if_word before longer cs) (words_on before longer cs))
+
+words_from-low : (before cs : List ℕ) → AreEven cs → words_from (low before) (low cs)
+    ≡ map folding (words_from before cs)
+words_from-low before [] h = refl
+words_from-low before (c ∷ cs) h =
+    ap₂ ◌++◌ (words_on-low before [] (c ∷ cs) even-nil h) (words_from-low (c ∷ before) cs (even-parts c cs h).1)
+    ∙ sym (map-append folding (words_on before [] (c ∷ cs)) (words_from (c ∷ before) cs))
+
+pub words-folding-even : (text : List ℕ) → IsUtf8 text → list_all folds_evenly (chars text) ≡ true
+    → words (folding text) ≡ map folding (words text)
+unfolding words
+words-folding-even text utf8 even =
+    let cs : List ℕ = chars text in
+    let own : scalars cs ≡ true = scalars-chars text utf8 in
+    words_behind-places [] (chars (folding text))
+    ∙ ap (words_from []) (ap (λ ds. chars (encode_utf8_all ds)) (fold-all cs even)
+    ∙ chars-encodes (low cs) (scalars-low cs own))
+    ∙ words_from-low [] cs (record { scalars = own; even = even })
+    ∙ sym (ap (map folding) (words_behind-places [] cs))
