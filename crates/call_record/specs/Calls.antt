@@ -1,6 +1,7 @@
 -- The calls of a run with their results, and whether bytes agree with these.
-use Rattle.std.specs.Prelude.{ℕ, nat_lt, nat_eq, Bool, true, ◌&&◌, ◌||◌, if◌then◌else◌, List, [], ◌∷◌, ◌++◌, length, take, drop, bytes_eq, Option, None, Some}
-use Rattle.std.specs.List.{slice_index_or}
+use Rattle.std.specs.Prelude.{ℕ, nat_lt, nat_eq, Bool, true, ◌&&◌, ◌||◌, if◌then◌else◌, List, [], ◌∷◌, ◌++◌, length}
+use Rattle.std.specs.Prelude.{take, drop, bytes_eq, Option, None, Some}
+use Rattle.contract_words.specs.Archives.{archive_at}
 
 -- A call with its result. None is a failure, which says nothing about bytes.
 pub data Call : Type 0 where
@@ -45,10 +46,6 @@ given_by (written told) = []
 abbrev pub given_after : List Call → List ℕ
 given_after [] = []
 given_after (call ∷ earlier) = given_after earlier ++ given_by call
-
--- the archive of this number; empty if there is none
-abbrev pub archive_at : List (List ℕ) → ℕ → List ℕ
-archive_at archives n = slice_index_or archives n []
 
 -- whether the archives' bytes agree with the result of a call
 abbrev pub agrees_with : Call → List (List ℕ) → Bool

@@ -1,5 +1,6 @@
 -- The relations that the contracts of all crates use.
 pub mod Answers
+pub mod Archives
 pub mod Devices
 pub mod Knowledge
 pub mod Ranges

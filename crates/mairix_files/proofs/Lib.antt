@@ -1,4 +1,6 @@
 -- The proofs about reads of files, and about sources, one for each path.
 mod Ends
+pub mod KitFiles
+pub mod NameSteps
 mod Numbered
 pub mod Pieces

@@ -1,19 +1,10 @@
--- What reads of archives say of their bytes, and what is noted of a read that may be served from a piece.
-use Rattle.std.specs.Prelude.{◌≡◌, ◌⊎◌, ℕ, List, [], length, take, drop, Option, None, Some, IfSome, Result, Ok, Err}
+-- Pieces of archives, and what is noted of a read that may be served from one.
+use Rattle.std.specs.Prelude.{◌≡◌, ◌⊎◌, ℕ, List, [], length, take, drop, None, Some, Result, Ok, Err}
 use Rattle.std.specs.Option.{ForSome}
+use Rattle.contract_words.specs.Archives.{archive_at}
 use Rattle.call_record.specs.declared.record.Record.{Record}
-use Rattle.call_record.specs.Calls.{Call, read_at, archive_at}
+use Rattle.call_record.specs.Calls.{Call, read_at}
 use Rattle.call_record.specs.Noted.{Notes, held_by}
-
--- the length that a call returns is that of the archive with this number, if its bytes are known
-abbrev pub IsLength : ℕ → ℕ → Option (List (List ℕ)) → Type 0
-IsLength n bytes held = IfSome held (λ archives. bytes ≡ length (archive_at archives n))
-
--- These bytes are in the archive from the offset on. None are read only if none are there.
-abbrev pub IsRead : ℕ → ℕ → List ℕ → Option (List (List ℕ)) → Type 0
-IsRead n offset bytes held = IfSome held (λ archives.
-    (bytes ≡ take (length bytes) (drop offset (archive_at archives n)))
-    × (length bytes ≡ 0 → drop offset (archive_at archives n) ≡ []))
 
 -- these bytes are in the archive with this number from the offset on, if its bytes are known
 abbrev pub IsPiece : ℕ → ℕ → List ℕ → Record → Type 0

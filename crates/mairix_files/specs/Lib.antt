@@ -1,3 +1,5 @@
 -- What the reads of files note, and what they say of the files' bytes.
 pub mod Ahead
+pub mod KitFiles
+pub mod NameCalls
 pub mod Reads

@@ -5,9 +5,10 @@ ghost use Rattle.std.specs.Prelude.{◌≡◌, ◌<◌, ◌≤◌, ◌-◌, ◌^
 ghost use Rattle.std.specs.List.{range_with_len};
 ghost use Rattle.std.specs.Io.KnownBytes.{IsAtEnd, ReadConsumes};
 ghost use Rattle.std.specs.Option.{ForSome};
+ghost use Rattle.contract_words.specs.Archives.{archive_at};
 ghost use Rattle.contract_words.specs.Devices.{Counts};
 ghost use Rattle.contract_words.specs.Knowledge.{still_known};
-ghost use Rattle.call_record.specs.Calls.{archive_at, left_after};
+ghost use Rattle.call_record.specs.Calls.{left_after};
 ghost use Rattle.call_record.specs.Noted.{Notes, left_of, read_told};
 ghost use Rattle.mairix_files.specs.Reads.{GivesOn, NotesResult, has_ended};
 

@@ -20,8 +20,8 @@ const MODE_BITS: u32 = 0o7777;
 /// A path whose owner is that of the files that this process makes.
 const THIS_PROCESS: &str = "/proc/self";
 
-/// Removes what a killed run left under a name, whatever its bytes are: a plain file of this process's owner, with the
-/// mark of a new file, that no other run has locked. Does nothing if the name is free.
+/// Removes what a killed run left under a name, as `lock_leftover` finds it, whatever its bytes are. Does nothing if
+/// the name is free.
 ///
 /// # Errors
 ///
@@ -31,22 +31,41 @@ pub(crate) fn remove_leftover<R: Files<File = File>>(
     alloc: Global,
     name: &str,
 ) -> io::Result<()> {
+    // The lock is held until the name is gone.
+    let left = lock_leftover(rt, alloc, name)?;
+    match &left {
+        Some(_) => fs::remove_file(rt, name),
+        None => Ok(()),
+    }
+}
+
+/// Finds what a killed run left under a name, and locks it: a plain file of this process's owner, with the mark of a
+/// new file, that no other run has locked. Returns None if the name is free.
+///
+/// # Errors
+///
+/// If anything else has the name; otherwise what the system refused.
+pub(crate) fn lock_leftover<R: Files<File = File>>(
+    rt: &R,
+    alloc: Global,
+    name: &str,
+) -> io::Result<Option<File>> {
     match fs::symlink_metadata(rt, name) {
-        Ok(found) => remove_found(rt, alloc, name, &found),
+        Ok(found) => lock_found(rt, alloc, name, &found).map(Some),
         Err(error) => match error.kind() {
-            ErrorKind::NotFound => Ok(()),
+            ErrorKind::NotFound => Ok(None),
             _ => Err(error),
         },
     }
 }
 
-/// Removes the file that was found under a name, if a killed run left it.
-fn remove_found<R: Files<File = File>>(
+/// Locks the file that was found under a name, if a killed run left it.
+fn lock_found<R: Files<File = File>>(
     rt: &R,
     alloc: Global,
     name: &str,
     found: &Metadata,
-) -> io::Result<()> {
+) -> io::Result<File> {
     let process = fs::metadata(rt, THIS_PROCESS)?;
     if !is_left(found, &process) {
         return Err(ErrorKind::AlreadyExists.into());
@@ -57,14 +76,13 @@ fn remove_found<R: Files<File = File>>(
     if !is_one_node(found, &opened) {
         return Err(ErrorKind::AlreadyExists.into());
     }
-    // The lock is held until the name is gone. Some file systems lock a file only if it is open for writing.
+    // Some file systems lock a file only if it is open for writing.
     let path = format!(in alloc; "{THIS_PROCESS}/fd/{}", seen.as_raw_fd())?;
     let left = OpenOptions::new()
         .read(true)
         .write(true)
         .open(rt, path.as_str())?;
-    lock(rt, &left, name)?;
-    fs::remove_file(rt, name)
+    lock(rt, &left, name).and(Ok(left))
 }
 
 /// Whether a file is one that a run makes, and of this process's owner.

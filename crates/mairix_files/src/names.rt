@@ -161,7 +161,11 @@ pub fn is_special_file<R: Files>(rt: &R, alloc: Global, name: &str) -> Result<bo
 }
 
 /// Whether a name is a link into the system's folder of processes, by any text and through any other links.
-fn leads_to_processes<R: Files>(rt: &R, alloc: Global, name: &str) -> Result<bool, AllocError> {
+pub(crate) fn leads_to_processes<R: Files>(
+    rt: &R,
+    alloc: Global,
+    name: &str,
+) -> Result<bool, AllocError> {
     let mut path = PathBuf::from_str(alloc, name)?;
     for _ in 0..MOST_LINKS {
         if !follow(rt, alloc, &mut path)? {

@@ -59,20 +59,13 @@ impl<'p, R: Files<File = File>> NewFile<'p, R> {
         name: &'p str,
     ) -> io::Result<NewFile<'p, R>> {
         remove_leftover(rt, alloc, passing)?;
-        let mut options = OpenOptions::new();
-        options.write(true).create_new(true).mode(MARKED);
-        let file = open_locked(rt, &options, passing)?;
-        let new = NewFile {
+        let file = make_marked(rt, passing)?;
+        Ok(NewFile {
             rt,
             passing,
             name,
             file,
-        };
-        if let Err(error) = new.mark() {
-            new.discard();
-            return Err(error);
-        }
-        Ok(new)
+        })
     }
 
     /// Returns the file, which is to be written from its beginning.
@@ -96,7 +89,7 @@ impl<'p, R: Files<File = File>> NewFile<'p, R> {
                 return Err(error);
             }
         };
-        let _ = self.set_mode(mode);
+        let _ = set_mode(&self.file, mode);
         let synced = sync_folder(self.rt, self.name);
         self.close();
         synced
@@ -104,31 +97,14 @@ impl<'p, R: Files<File = File>> NewFile<'p, R> {
 
     /// Removes the file. If the passing name leads to another file, that isn't touched.
     pub fn discard(self) {
-        if check_named(self.rt, &self.file, self.passing, ErrorKind::NotFound).is_ok() {
-            let _ = fs::remove_file(self.rt, self.passing);
-        }
+        remove_named(self.rt, &self.file, self.passing);
         self.close();
     }
 
     /// Renames the file, once all of it is on the disk. Returns the mode that it is to have.
     fn rename(&self) -> io::Result<u32> {
         self.file.sync_all()?;
-        let mode = mode_for(self.rt, &self.file, self.name)?;
-        check_named(self.rt, &self.file, self.passing, ErrorKind::NotFound)?;
-        fs::rename(self.rt, self.passing, self.name).and(Ok(mode))
-    }
-
-    /// Marks the file, because the process may have a mask that took bits of the mode away when the file was made. If
-    /// the file system refuses the mark, the file is private without it.
-    fn mark(&self) -> io::Result<()> {
-        match self.set_mode(MARKED) {
-            Ok(()) => Ok(()),
-            Err(_) => self.set_mode(PRIVATE),
-        }
-    }
-
-    fn set_mode(&self, mode: u32) -> io::Result<()> {
-        self.file.set_permissions(Permissions::from_mode(mode))
+        rename_named(self.rt, &self.file, self.passing, self.name)
     }
 
     fn close(self) {
@@ -138,6 +114,50 @@ impl<'p, R: Files<File = File>> NewFile<'p, R> {
             name: _,
             file: _,
         } = self;
+    }
+}
+
+/// Makes a new and empty file with this name, locks it and marks it.
+pub(crate) fn make_marked<R: Files<File = File>>(rt: &R, name: &str) -> io::Result<File> {
+    let mut options = OpenOptions::new();
+    options.write(true).create_new(true).mode(MARKED);
+    let file = open_locked(rt, &options, name)?;
+    if let Err(error) = mark(&file) {
+        remove_named(rt, &file, name);
+        return Err(error);
+    }
+    Ok(file)
+}
+
+/// Marks a file, because the process may have a mask that took bits of the mode away when the file was made. If the
+/// file system refuses the mark, the file is private without it.
+fn mark(file: &File) -> io::Result<()> {
+    match set_mode(file, MARKED) {
+        Ok(()) => Ok(()),
+        Err(_) => set_mode(file, PRIVATE),
+    }
+}
+
+pub(crate) fn set_mode(file: &File, mode: u32) -> io::Result<()> {
+    file.set_permissions(Permissions::from_mode(mode))
+}
+
+/// Gives a file with a passing name its own name. Returns the mode that it is to have then.
+pub(crate) fn rename_named<R: Files>(
+    rt: &R,
+    file: &File,
+    passing: &str,
+    name: &str,
+) -> io::Result<u32> {
+    let mode = mode_for(rt, file, name)?;
+    check_named(rt, file, passing, ErrorKind::NotFound)?;
+    fs::rename(rt, passing, name).and(Ok(mode))
+}
+
+/// Removes a file with this name. If the name leads to another file, that isn't touched.
+pub(crate) fn remove_named<R: Files>(rt: &R, file: &File, name: &str) {
+    if check_named(rt, file, name, ErrorKind::NotFound).is_ok() {
+        let _ = fs::remove_file(rt, name);
     }
 }
 
@@ -170,7 +190,7 @@ fn check_named<R: Files>(rt: &R, file: &File, name: &str, other: ErrorKind) -> i
 }
 
 /// Brings the name of a file to the disk.
-fn sync_folder<R: Files<File = File>>(rt: &R, name: &str) -> io::Result<()> {
+pub(crate) fn sync_folder<R: Files<File = File>>(rt: &R, name: &str) -> io::Result<()> {
     let folder = fs::open(rt, folder_of(name))?;
     folder.sync_all()
 }

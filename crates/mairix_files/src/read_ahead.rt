@@ -1,9 +1,9 @@
 //! Bytes of a file that are read before they are needed.
 ghost use Rattle.std.specs.Prelude.{◌≡◌, ◌<◌, ◌≤◌, length, take, drop, min, IfOk, IfSome, OnOk, vec_len, vec_items};
+ghost use Rattle.contract_words.specs.Archives.{IsLength, IsRead, archive_at};
 ghost use Rattle.contract_words.specs.Knowledge.{WasKnown};
-ghost use Rattle.call_record.specs.Calls.{archive_at};
 ghost use Rattle.call_record.specs.Noted.{held_by, length_told, read_at_told};
-ghost use Rattle.mairix_files.specs.Ahead.{IsLength, IsPiece, IsRead, Makes, Serves};
+ghost use Rattle.mairix_files.specs.Ahead.{IsPiece, Makes, Serves};
 ghost use Rattle.mairix_files.specs.declared.read_ahead.TheConstants.{MOST};
 
 use call_record::{NumberedFiles, Record, length_noted, read_at_noted};

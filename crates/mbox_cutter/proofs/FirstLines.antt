@@ -1,5 +1,8 @@
 -- Where the first LF is, and how long the first line is.
-use Rattle.mbox_cutter.proofs.Words.{◌≡◌, ℕ, zero, suc, ◌+◌, ◌<◌, ◌≤◌, Bool, true, false, cond, ◌==◌, List, [], ◌∷◌, ◌++◌, Some, None, length, take, get_or, refl, ap, sym, ◌∙◌, arith, min, nat_lt, nat_tests, length-take, IsFirstByte, is_byte, length_before_feed, line_end_of, first_length}
+use Rattle.mbox_cutter.proofs.Words.{◌≡◌, ℕ, zero, suc, ◌+◌, ◌<◌, ◌≤◌, Bool, true, false, cond, ◌==◌, List, [], ◌∷◌}
+use Rattle.mbox_cutter.proofs.Words.{◌++◌, Some, None, length, take, get_or, refl, ap, sym, ◌∙◌, arith, min, nat_lt}
+use Rattle.mbox_cutter.proofs.Words.{nat_tests, length-take, IsFirstByte, is_byte, length_before_feed, line_end_of}
+use Rattle.mbox_cutter.proofs.Words.{first_length}
 use Rattle.std.proofs.lemmas.List.{length-append}
 
 pub not_true : (b : Bool) → (b ≡ true → ⊥) → b ≡ false
@@ -7,16 +10,19 @@ not_true b h = grind arith
 
 pub length_before_feed-le : (b : List ℕ) → length_before_feed b ≤ length b
 length_before_feed-le [] = omega arith
-length_before_feed-le (x ∷ xs) = elim (x == 10) as (λ v. cond v 0 (suc (length_before_feed xs)) ≤ length (x ∷ xs)) [ true ↦ omega arith | false ↦ omega (arith, length_before_feed-le xs) ]
+length_before_feed-le (x ∷ xs) = elim (x == 10) as (λ v. cond v 0 (suc (length_before_feed xs)) ≤ length (x ∷ xs))
+    [ true ↦ omega arith | false ↦ omega (arith, length_before_feed-le xs) ]
 
-pub length_before_feed-at : (h : List ℕ) (k : ℕ) → k < length h → ((j : ℕ) → j < k → (get_or h j 0 == 10) ≡ true → ⊥) → (get_or h k 0 == 10) ≡ true → length_before_feed h ≡ k
+pub length_before_feed-at : (h : List ℕ) (k : ℕ) → k < length h → ((j : ℕ) → j < k → (get_or h j 0 == 10) ≡ true → ⊥)
+    → (get_or h k 0 == 10) ≡ true → length_before_feed h ≡ k
 length_before_feed-at [] k lt before here = absurd (omega arith)
 length_before_feed-at (x ∷ xs) zero lt before here = rw here
 length_before_feed-at (x ∷ xs) (suc k) lt before here =
     let e : (x == 10) ≡ false = not_true (x == 10) (before 0 (omega arith)) in
     rw e (ap suc (length_before_feed-at xs k (omega arith) (λ j l. before (suc j) (omega arith)) here))
 
-pub length_before_feed-none : (h : List ℕ) → ((j : ℕ) → j < length h → (get_or h j 0 == 10) ≡ true → ⊥) → length_before_feed h ≡ length h
+pub length_before_feed-none : (h : List ℕ) → ((j : ℕ) → j < length h → (get_or h j 0 == 10) ≡ true → ⊥)
+    → length_before_feed h ≡ length h
 length_before_feed-none [] before = refl
 length_before_feed-none (x ∷ xs) before =
     let e : (x == 10) ≡ false = not_true (x == 10) (before 0 (omega arith)) in
@@ -25,17 +31,29 @@ length_before_feed-none (x ∷ xs) before =
 pub length_before_feed-take : (n : ℕ) (b : List ℕ) → length_before_feed (take n b) ≡ min n (length_before_feed b)
 length_before_feed-take zero b = omega arith
 length_before_feed-take (suc n) [] = omega arith
-length_before_feed-take (suc n) (x ∷ xs) = elim (x == 10) as (λ v. cond v 0 (suc (length_before_feed (take n xs))) ≡ min (suc n) (cond v 0 (suc (length_before_feed xs)))) [ true ↦ omega arith | false ↦ omega (arith, length_before_feed-take n xs) ]
+length_before_feed-take (suc n) (x ∷ xs) =
+    elim (x == 10) as (λ v. cond v 0 (suc (length_before_feed (take n xs)))
+    ≡ min (suc n) (cond v 0 (suc (length_before_feed xs))))
+    [ true ↦ omega arith | false ↦ omega (arith, length_before_feed-take n xs) ]
 
-pub length_before_feed-append_in : (a b : List ℕ) → length_before_feed a < length a → length_before_feed (a ++ b) ≡ length_before_feed a
+pub length_before_feed-append_in : (a b : List ℕ) → length_before_feed a < length a → length_before_feed (a ++ b)
+    ≡ length_before_feed a
 length_before_feed-append_in [] b below = absurd (omega arith)
-length_before_feed-append_in (x ∷ xs) b below = (elim (x == 10) as (λ v. cond v 0 (suc (length_before_feed xs)) < length (x ∷ xs) → cond v 0 (suc (length_before_feed (xs ++ b))) ≡ cond v 0 (suc (length_before_feed xs)))
+length_before_feed-append_in (x ∷ xs) b below =
+    (elim (x == 10) as (λ v. cond v 0 (suc (length_before_feed xs)) < length (x ∷ xs)
+    → cond v 0 (suc (length_before_feed (xs ++ b))) ≡ cond v 0 (suc (length_before_feed xs)))
     [ true ↦ λ h. refl | false ↦ λ h. ap suc (length_before_feed-append_in xs b (omega arith)) ]) below
 
-pub length_before_feed-append_out : (a b : List ℕ) → length_before_feed a ≡ length a → length_before_feed (a ++ b) ≡ length a + length_before_feed b
+pub length_before_feed-append_out : (a b : List ℕ) → length_before_feed a ≡ length a → length_before_feed (a ++ b)
+    ≡ length a + length_before_feed b
 length_before_feed-append_out [] b whole = omega arith
-length_before_feed-append_out (x ∷ xs) b whole = (elim (x == 10) as (λ v. cond v 0 (suc (length_before_feed xs)) ≡ length (x ∷ xs) → cond v 0 (suc (length_before_feed (xs ++ b))) ≡ length (x ∷ xs) + length_before_feed b)
-    [ true ↦ λ h. absurd (omega arith) | false ↦ λ h. let e : length_before_feed (xs ++ b) ≡ length xs + length_before_feed b = length_before_feed-append_out xs b (omega arith) in omega arith ]) whole
+length_before_feed-append_out (x ∷ xs) b whole =
+    (elim (x == 10) as (λ v. cond v 0 (suc (length_before_feed xs)) ≡ length (x ∷ xs)
+    → cond v 0 (suc (length_before_feed (xs ++ b))) ≡ length (x ∷ xs) + length_before_feed b) [
+      | true ↦ λ h. absurd (omega arith)
+      | false ↦ λ h. let e : length_before_feed (xs ++ b)
+          ≡ length xs + length_before_feed b = length_before_feed-append_out xs b (omega arith) in omega arith
+    ]) whole
 
 -- the results of a search for the first LF among the first n bytes
 pub length_before_feed-found : (h : List ℕ) (k : ℕ) → IsFirstByte (is_byte 10) h (Some k) → length_before_feed h ≡ k
@@ -45,30 +63,38 @@ pub length_before_feed-not_found : (h : List ℕ) → IsFirstByte (is_byte 10) h
 length_before_feed-not_found h f = length_before_feed-none h (λ j l. f j (omega arith) l)
 
 -- the three results of `line_end`
-pub line_end_found : (b : List ℕ) (n k : ℕ) → n ≡ min (length b) 65537 → IsFirstByte (is_byte 10) (take n b) (Some k) → Some (k + 1) ≡ line_end_of b
+pub line_end_found : (b : List ℕ) (n k : ℕ) → n ≡ min (length b) 65537 → IsFirstByte (is_byte 10) (take n b) (Some k)
+    → Some (k + 1) ≡ line_end_of b
 unfolding line_end_of
 line_end_found b n k e f =
-    let r : min n (length_before_feed b) ≡ k = sym (length_before_feed-take n b) ∙ length_before_feed-found (take n b) k f in
+    let r : min n (length_before_feed b) ≡ k = sym (length_before_feed-take n b)
+    ∙ length_before_feed-found (take n b) k f in
     let lt : k < length (take n b) = f.0.high in
     let lt' : k < min n (length b) = omega (arith, length-take n b) in
     let is : length_before_feed b ≡ k = omega arith in
-    rw is (let small : nat_lt 65536 k ≡ false = grind (arith, nat_tests) in let inside : nat_lt k (length b) ≡ true = grind (arith, nat_tests) in rw (small, inside))
+    rw is (let small : nat_lt 65536 k ≡ false = grind (arith, nat_tests) in let inside : nat_lt k (length b) ≡ true =
+    grind (arith, nat_tests) in rw (small, inside))
 
-pub line_end_full : (b : List ℕ) (n : ℕ) → n ≡ min (length b) 65537 → IsFirstByte (is_byte 10) (take n b) None → 65536 < length (take n b) → Some 65536 ≡ line_end_of b
+pub line_end_full : (b : List ℕ) (n : ℕ) → n ≡ min (length b) 65537 → IsFirstByte (is_byte 10) (take n b) None
+    → 65536 < length (take n b) → Some 65536 ≡ line_end_of b
 unfolding line_end_of
 line_end_full b n e f long =
-    let r : min n (length_before_feed b) ≡ length (take n b) = sym (length_before_feed-take n b) ∙ length_before_feed-not_found (take n b) f in
+    let r : min n (length_before_feed b) ≡ length (take n b) = sym (length_before_feed-take n b)
+    ∙ length_before_feed-not_found (take n b) f in
     let lt : nat_lt 65536 (length_before_feed b) ≡ true = grind (arith, nat_tests) in
     rw lt
 
-pub line_end_open : (b : List ℕ) (n : ℕ) → n ≡ min (length b) 65537 → IsFirstByte (is_byte 10) (take n b) None → length (take n b) ≤ 65536 → None ≡ line_end_of b
+pub line_end_open : (b : List ℕ) (n : ℕ) → n ≡ min (length b) 65537 → IsFirstByte (is_byte 10) (take n b) None
+    → length (take n b) ≤ 65536 → None ≡ line_end_of b
 unfolding line_end_of
 line_end_open b n e f short =
-    let r : min n (length_before_feed b) ≡ length (take n b) = sym (length_before_feed-take n b) ∙ length_before_feed-not_found (take n b) f in
+    let r : min n (length_before_feed b) ≡ length (take n b) = sym (length_before_feed-take n b)
+    ∙ length_before_feed-not_found (take n b) f in
     let l : length (take n b) ≡ min n (length b) = length-take n b in
     let le : length_before_feed b ≤ length b = length_before_feed-le b in
     let is : length_before_feed b ≡ length b = omega arith in
-    rw is (let a : nat_lt 65536 (length b) ≡ false = grind (arith, nat_tests) in let c : nat_lt (length b) (length b) ≡ false = grind (arith, nat_tests) in rw (a, c))
+    rw is (let a : nat_lt 65536 (length b) ≡ false = grind (arith, nat_tests) in let c : nat_lt (length b) (length b)
+    ≡ false = grind (arith, nat_tests) in rw (a, c))
 
 pub first_length-le : (b : List ℕ) → first_length b ≤ length b
 unfolding first_length
@@ -100,8 +126,10 @@ unfolding line_end_of first_length
 line_end-more b more n e =
     let h : length_before_feed b ≤ length b = length_before_feed-le b in
     let l : length (b ++ more) ≡ length b + length more = length-append b more in
-    let inside : length_before_feed b < length b → length_before_feed (b ++ more) ≡ length_before_feed b = length_before_feed-append_in b more in
-    let outside : length_before_feed b ≡ length b → length_before_feed (b ++ more) ≡ length b + length_before_feed more = length_before_feed-append_out b more in
+    let inside : length_before_feed b < length b → length_before_feed (b ++ more) ≡ length_before_feed b =
+    length_before_feed-append_in b more in
+    let outside : length_before_feed b ≡ length b → length_before_feed (b ++ more) ≡ length b + length_before_feed more
+    = length_before_feed-append_out b more in
     grind (arith, nat_tests)
 
 pub line_end-positive : (b : List ℕ) (n : ℕ) → Some n ≡ line_end_of b → 0 < n

@@ -1,5 +1,5 @@
 //! Devices: sources, from which bytes are read, and outputs, to which bytes are written. Each counts its failures.
-ghost use Rattle.std.specs.Prelude.{◌≡◌, ◌<◌, ◌≤◌, ◌-◌, ◌^◌, ⊤, ℕ, List, Option, IsSome, length, IfOk, OnOk, OnErr};
+ghost use Rattle.std.specs.Prelude.{◌≡◌, ◌<◌, ◌≤◌, ◌-◌, ◌^◌, ⊤, ℕ, List, [], Option, IsSome, length, IfOk, OnOk, OnErr};
 ghost use Rattle.std.specs.Io.KnownBytes.{ReadConsumes, WriteAppends, Appends};
 ghost use Rattle.contract_words.specs.Devices.{Counts, Sends};
 ghost use Rattle.contract_words.specs.Knowledge.{still_known};
@@ -23,8 +23,13 @@ pub trait Source {
     /// them. No read changes it.
     ghost whole: { Self → List ℕ → Type 0 } = { λ _ _. ⊤ };
 
-    /// The name of the reference that it reads through, if there is one. No read changes it.
-    ghost through: { Self → ℕ } = { λ _. 0 };
+    /// The same of the sources below it, if it reads from another source: that one has the number 0, the one that it
+    /// reads from the number 1, and so on. No read changes it.
+    ghost below: { Self → ℕ → List ℕ → Type 0 } = { λ _ _ _. ⊤ };
+
+    /// The names of the references that it reads through, its own first, then those of the sources below it. No read
+    /// changes them.
+    ghost through: { Self → List ℕ } = { λ _. [] };
 
     /// Reads bytes to the front of a slice that isn't empty, and returns how many. It returns 0 only at the end.
     fn read_next(&mut self, into: &mut [u8]) -> Result<usize, DeviceFault>
@@ -36,6 +41,8 @@ pub trait Source {
         ensures known { IsSome (rest self.new) → IsSome (rest self.old) }
         ensures count { Counts result (failures self.old) (failures self.new) }
         ensures whole { (bytes : List ℕ) → whole self.old bytes → whole self.new bytes }
+        ensures below { (number : ℕ) (bytes : List ℕ)
+            → below self.old number bytes → below self.new number bytes }
         ensures through { through self.new ≡ through self.old };
 }
 

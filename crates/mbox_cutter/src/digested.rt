@@ -1,6 +1,6 @@
 //! A source that computes the digest of what it gives. So an archive is cut and digested in one read (decision 18 in
 //! docs/DECISIONS.md).
-ghost use Rattle.std.specs.Prelude.{◌≡◌, ◌<◌, ◌≤◌, ◌-◌, ◌^◌, ℕ, List, [], Some, IsSome, length, IfOk, IfSome};
+ghost use Rattle.std.specs.Prelude.{◌≡◌, ◌<◌, ◌≤◌, ◌-◌, ◌^◌, ℕ, List, [], ◌∷◌, Some, IsSome, length, IfOk, IfSome};
 ghost use Rattle.std.specs.Io.KnownBytes.{ReadConsumes};
 ghost use Rattle.sha2.specs.Sha256.{sha256};
 ghost use Rattle.contract_words.specs.Devices.{Counts};
@@ -50,7 +50,7 @@ impl<'a, S: Source> Digested<'a, S> {
 }
 
 impl<'a, S: Source> Source for Digested<'a, S> {
-    ghost use Rattle.mbox_cutter.specs.Digests.{inner, AreWhole, Gives};
+    ghost use Rattle.mbox_cutter.specs.Digests.{inner, AreWhole, AreWholeBelow, Gives};
 
     ghost rest = { λ d. S.rest (inner d).now };
 
@@ -58,7 +58,9 @@ impl<'a, S: Source> Source for Digested<'a, S> {
 
     ghost whole = { AreWhole S.rest };
 
-    ghost through = { λ d. (inner d).ghost_name };
+    ghost below = { AreWholeBelow S.whole S.below };
+
+    ghost through = { λ d. (inner d).ghost_name ∷ S.through (inner d).now };
 
     fn read_next(&mut self, into: &mut [u8]) -> Result<usize, DeviceFault>
         requires room { 0 < length into.old }
@@ -71,7 +73,11 @@ impl<'a, S: Source> Source for Digested<'a, S> {
             (S.failures (inner self.old).now) (S.failures (inner self.new).now) }
         ensures whole { (bytes : List ℕ) →
             AreWhole S.rest self.old bytes → AreWhole S.rest self.new bytes }
-        ensures through { (inner self.new).ghost_name ≡ (inner self.old).ghost_name }
+        ensures below { (number : ℕ) (bytes : List ℕ)
+            → AreWholeBelow S.whole S.below self.old number bytes
+            → AreWholeBelow S.whole S.below self.new number bytes }
+        ensures through { (inner self.new).ghost_name ∷ S.through (inner self.new).now
+            ≡ (inner self.old).ghost_name ∷ S.through (inner self.old).now }
         ensures gives { Gives self.old result into.new self.new }
     {
         let n = self.source.read_next(into)?;

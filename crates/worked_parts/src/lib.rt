@@ -1,5 +1,6 @@
 //! Tests of the parts of a run. They cover what is read (archives, headers, words, dates, the texts of messages,
-//! queries, command lines and rcfiles), and index files with the jobs that make them. The crate has only tests.
+//! queries, command lines and rcfiles), files by their names, and index files with the jobs that make them. The crate
+//! has only tests.
 #![tactic(auto)]
 
 #[cfg(test)]
@@ -18,6 +19,8 @@ mod cut_archives;
 mod date_texts;
 #[cfg(test)]
 mod day_ranges;
+#[cfg(test)]
+mod folders;
 #[cfg(test)]
 mod header_dates;
 #[cfg(test)]

@@ -4,7 +4,7 @@ ghost use Rattle.std.specs.List.{concat};
 ghost use Rattle.mail_words.specs.Words.{words};
 
 use crate::rows::bytes_of;
-use mail_words::{Words, fold, fold_ascii, fold_onto, is_one_word, is_part_of_word};
+use mail_words::{Words, fold, fold_ascii, fold_evenly, fold_onto, is_one_word, is_part_of_word};
 use std::alloc::{AllocError, Global};
 
 /// Returns the words of a text, one after the other.
@@ -49,10 +49,18 @@ fn folds_all(folded: &mut String) -> Result<bool, AllocError> {
     Ok(folds_onto && !folds_greek && folds && folded.as_str() == "to e-mail")
 }
 
+/// Whether a text whose characters fold evenly is folded whole, in place of the text that is there, and no other text.
+fn folds_evenly(folded: &mut String) -> Result<bool, AllocError> {
+    let folds_sharp_s = fold_evenly("Straße", folded)?;
+    let folds = fold_evenly("ΣΑΣ, Привет a-Çd", folded)?;
+    Ok(!folds_sharp_s && folds && folded.as_str() == "σασ, привет a-çd")
+}
+
 #[test]
 fn words_fold(rt: HostRuntime) {
     let mut folded = String::from_str(rt.alloc(), "before ").expect(&rt, "a text");
     assert!(rt; folds_all(&mut folded).unwrap_or(false));
+    assert!(rt; folds_evenly(&mut folded).unwrap_or(false));
     assert!(rt; folds_to(rt.alloc(), "Straße", "strasse").unwrap_or(false));
 }
 

@@ -6,7 +6,13 @@ use Rattle.mbox_cutter.specs.Inside.Scan.{IsScan, coming, place_of}
 
 -- the state of a cutter
 abbrev pub progress : {S : Type 0} → (S → Option (List ℕ)) → Inside S → Progress S
-progress rest c = record { coming = coming rest c.scan; place = place_of c.scan; line = c.scan.window.line; source = c.scan.window.source }
+progress rest c = record {
+  coming = coming rest c.scan;
+  place = place_of c.scan;
+  line = c.scan.window.line;
+  source =
+      c.scan.window.source;
+}
 
 -- what always holds of the fields
 pub record IsCutter {S : Type 0} (rest : S → Option (List ℕ)) (c : Inside S) : Type 0 where

@@ -1,6 +1,7 @@
 -- What still comes from any place in an archive on, which the steps of a cutter follow. At the beginning it is all that
 -- comes of the archive.
-use Rattle.std.specs.Prelude.{ℕ, ◌+◌, ◌-◌, true, false, ◌&&◌, nat_lt, nat_le, if◌then◌else◌, List, [], ◌∷◌, ◌++◌, Option, None, Some, length, map}
+use Rattle.std.specs.Prelude.{ℕ, ◌+◌, ◌-◌, true, false, ◌&&◌, nat_lt, nat_le, if◌then◌else◌, List, [], ◌∷◌, ◌++◌}
+use Rattle.std.specs.Prelude.{Option, None, Some, length, map}
 use Rattle.std.specs.Option.{option_map}
 use Rattle.mbox_cutter.specs.declared.event.CutFault.{CutFault}
 use Rattle.mbox_cutter.specs.declared.event.CutFault.TheVariants.{NotAnMbox, ArchiveTooLong}
@@ -21,7 +22,8 @@ told_between all at ls =
 abbrev pub told_inside : ℕ → ℕ → ℕ → ℕ → List (List ℕ) → List ArchiveEvent
 told_inside all at start size ls =
     let groups = grouped (marked false ls) in let text = without_closing groups.0 in
-    map Line text ++ End ((at + total groups.0) - start) (size + total text) ∷ told all (messages_from (at + total groups.0) groups.1)
+    map Line text ++ End ((at + total groups.0) - start) (size + total text) ∷ told all
+    (messages_from (at + total groups.0) groups.1)
 
 -- the refusal of an archive of `all` bytes, if that is more than the limit
 abbrev pub too_long : ℕ → ℕ → Option CutFault
@@ -30,12 +32,22 @@ too_long most all = if nat_lt most all then Some ArchiveTooLong else None
 -- the refusal from between two messages, or from before the first, with these lines, of `rest` bytes, left
 abbrev pub refusal_between : ℕ → ℕ → List (List ℕ) → ℕ → Option CutFault
 refusal_between at most ls rest =
-    if is_refused (marked true ls) && nat_le (at + first_full_end ls) most then Some NotAnMbox else too_long most (at + rest)
+    if is_refused (marked true ls) && nat_le (at + first_full_end ls) most then Some NotAnMbox
+    else too_long most (at + rest)
 
 -- what still comes in a phase, at an offset, with these bytes left
 unfoldable pub resume : Phase → ℕ → ℕ → List ℕ → Coming
-resume Between at most bytes = record { events = told_between (at + length bytes) at (lines bytes); refusal = refusal_between at most (lines bytes) (length bytes) }
-resume (Inside start size) at most bytes = record { events = told_inside (at + length bytes) at start size (lines bytes); refusal = too_long most (at + length bytes) }
+resume Between at most bytes = record {
+  events = told_between (at + length bytes) at (lines bytes);
+  refusal =
+      refusal_between at most (lines bytes) (length bytes);
+}
+resume (Inside start size) at most bytes =
+    record {
+      events = told_inside (at + length bytes) at start size (lines bytes);
+      refusal =
+          too_long most (at + length bytes);
+    }
 resume Ended at most bytes = record { events = Done at ∷ []; refusal = None }
 resume Failed at most bytes = record { events = []; refusal = None }
 

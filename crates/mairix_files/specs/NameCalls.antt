@@ -1,0 +1,65 @@
+-- The calls on names that were done, and what they make of a folder.
+use Rattle.std.specs.Prelude.{◌≡◌, ℕ, Bool, true, false, List, [], ◌∷◌, map, reverse, if◌then◌else◌}
+use Rattle.std.specs.Str.{bytes_eq}
+use Rattle.std.specs.String.{string_bytes}
+use Rattle.call_record.specs.declared.record.Record.{Record}
+use Rattle.call_record.specs.Calls.{taken_after}
+use Rattle.named_files.specs.Entries.{Entry, Nothing, File}
+use Rattle.named_files.specs.Logs.{Held, Change, Named, Synced}
+use Rattle.mairix_files.specs.declared.kit_step.KitStep.{KitStep}
+use Rattle.mairix_files.specs.declared.kit_step.KitStep.TheVariants as step
+
+-- a call on a name that was done
+pub data NameCall : Type 0 where
+  -- a file was made under this name
+  Made : List ℕ → NameCall
+  -- the file that was made was given this name; its bytes, and whether all of them were on the disk
+  Renamed : List ℕ → List ℕ → Bool → NameCall
+  -- this name was brought to the disk
+  Kept : List ℕ → NameCall
+  -- the file that was made was removed, if the system did that
+  Discarded : NameCall
+  -- what a killed run left under this name was removed
+  Cleared : List ℕ → NameCall
+
+abbrev pub call_of : KitStep → NameCall
+call_of (step.Made name) = Made (string_bytes name)
+call_of (step.Renamed name kept written) = Renamed (string_bytes name) (taken_after written.calls) kept
+call_of (step.Kept name) = Kept (string_bytes name)
+call_of step.Discarded = Discarded
+call_of (step.Cleared name) = Cleared (string_bytes name)
+
+-- the calls of these steps, the newest first
+abbrev pub calls_of : List KitStep → List NameCall
+calls_of steps = map call_of (reverse steps)
+
+-- a call was done, and no other
+abbrev pub GoesOn : Bool → NameCall → List KitStep → List KitStep → Type 0
+GoesOn done call old new = calls_of new ≡ (if done then call ∷ calls_of old else calls_of old)
+
+-- what these calls change in a folder, if the system carries them out
+abbrev pub changes_by : List NameCall → List Change
+changes_by [] = []
+changes_by (Made name ∷ earlier) = changes_by earlier
+changes_by (Renamed name bytes kept ∷ earlier) =
+    Named name (record { entry = File bytes; is_on_disk = kept; is_left = false }) ∷ changes_by earlier
+changes_by (Kept name ∷ earlier) = Synced name ∷ changes_by earlier
+changes_by (Discarded ∷ earlier) = changes_by earlier
+changes_by (Cleared name ∷ earlier) =
+    Named name (record { entry = Nothing; is_on_disk = true; is_left = false }) ∷ changes_by earlier
+
+-- what these steps change in a folder
+abbrev pub changes_of : List KitStep → List Change
+changes_of steps = changes_by (calls_of steps)
+
+-- ---- what is supposed
+
+-- What a name is supposed to lead to: the list has a name, the bytes of its file, another name, and so on. No other
+-- name leads to anything.
+abbrev pub supposed_in : List (List ℕ) → List ℕ → Entry
+supposed_in [] n = Nothing
+supposed_in (name ∷ []) n = Nothing
+supposed_in (name ∷ (bytes ∷ rest)) n = if bytes_eq n name then File bytes else supposed_in rest n
+
+abbrev pub supposed_first : Record → List ℕ → Held
+supposed_first noted n = record { entry = supposed_in noted.supposed n; is_on_disk = true; is_left = false }

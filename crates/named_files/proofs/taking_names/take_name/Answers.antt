@@ -1,0 +1,48 @@
+use Rattle.std.proofs.Common.{rules, ◌∙◌, ℕ, ◌≡◌, List, subst, IfSome, ◌&&◌}
+use Rattle.named_files.specs.Crashes.{LeavesNoMoreWhere}
+use Rattle.named_files.proofs.Steps.{after_call, after_rename, left_under_passing}
+use Rattle.named_files.proofs.taking_names.take_name.Goals as goal
+
+-- the rename fails, and then the file is removed
+pub returns-in-Err-rename-clause-any_moment : goal.returns-in-Err-rename-clause-any_moment
+returns-in-Err-rename-clause-any_moment g c =
+    let F = g.F.Folder in
+    let old = c.args.folder.now in
+    let mid = c.rename.new.self in
+    let new = c.discard-in-Err-rename.new.self in
+    let passing = c.args.passing.now in
+    let name = c.args.name.now in
+    let taken = g.F.New.Out.taken c.args.new in
+    let hold = g.F.New.NewFile.may_hold c.sync.new.self in
+    let whole = λ (bytes : List ℕ) (h : hold bytes). subst (λ t. IfSome t (λ w. bytes ≡ w)) c.sync.ensures.taken
+    (g.met.F.New.NewFile.kept_whole c.sync.new.self bytes (search rules) h) in
+    let less : LeavesNoMoreWhere (λ n. F.apart old n passing && F.apart old n name) (F.may_leave old)
+    (F.may_leave mid) = rw c.requires.making at c.rename.ensures.crash in
+    let renamed = after_rename F.moment F.left_since F.may_leave F.apart old passing name taken
+    (g.met.F.Folder.only_now old) mid c.rename.ensures.time less hold c.rename.ensures.crash_named whole in
+    let gone : LeavesNoMoreWhere (λ n. F.apart mid n passing) (F.may_leave mid) (F.may_leave new) =
+    rw (c.in-Err-rename.ensures.still ∙ c.requires.making) at c.discard-in-Err-rename.ensures.crash in
+    (after_call F.moment F.left_since F.may_leave F.apart old passing name taken
+    mid new renamed c.discard-in-Err-rename.ensures.time
+    (left_under_passing F.moment F.left_since F.may_leave F.apart old passing name taken
+    mid new c.requires.apart renamed c.rename.ensures.apart gone)).run
+
+-- it is renamed, and then its name is brought to the disk
+pub returns-clause-any_moment : goal.returns-clause-any_moment
+returns-clause-any_moment g c =
+    let F = g.F.Folder in
+    let old = c.args.folder.now in
+    let mid = c.rename.new.self in
+    let passing = c.args.passing.now in
+    let name = c.args.name.now in
+    let taken = g.F.New.Out.taken c.args.new in
+    let hold = g.F.New.NewFile.may_hold c.sync.new.self in
+    let whole = λ (bytes : List ℕ) (h : hold bytes). subst (λ t. IfSome t (λ w. bytes ≡ w)) c.sync.ensures.taken
+    (g.met.F.New.NewFile.kept_whole c.sync.new.self bytes (search rules) h) in
+    let less : LeavesNoMoreWhere (λ n. F.apart old n passing && F.apart old n name) (F.may_leave old)
+    (F.may_leave mid) = rw c.requires.making at c.rename.ensures.crash in
+    let renamed = after_rename F.moment F.left_since F.may_leave F.apart old passing name taken
+    (g.met.F.Folder.only_now old) mid c.rename.ensures.time less hold c.rename.ensures.crash_named whole in
+    (after_call F.moment F.left_since F.may_leave F.apart old passing name taken
+    mid c.sync_folder.new.self renamed c.sync_folder.ensures.time
+    (λ n e left. renamed.here n e (c.sync_folder.ensures.crash n e left))).run

@@ -1,0 +1,7 @@
+-- What names lead to, what a crash may leave of it, and how a new file takes its name.
+pub mod Crashes
+pub mod Entries
+pub mod Logs
+pub mod MemoryFolders
+pub mod Refusals
+pub mod TakingNames

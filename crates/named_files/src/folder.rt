@@ -1,0 +1,239 @@
+//! Files by their names.
+ghost use Rattle.std.specs.Prelude.{◌≡◌, ◌≢◌, ◌⊎◌, ◌<◌, ◌≤◌, ◌&&◌, ℕ, Bool, true, false, List, [], Option, None, Some, is_ok, IfOk, IfErr, IfSome, IsSome, OnOk, OnErr};
+ghost use Rattle.named_files.specs.Crashes.{LeavesNoMoreWhere, Elapses};
+ghost use Rattle.named_files.specs.Entries.{Entry, Nothing, IsFileOf, bytes_of, look_of, Gives, Leads, Answers, SameWhere};
+ghost use Rattle.named_files.specs.Refusals.{HasCause};
+
+use crate::kept_file::KeptFile;
+use crate::look::Look;
+use crate::new_file::NewFile;
+use crate::refusal::Refusal;
+use std::alloc::{AllocError, Global};
+
+/// Files by their names. Those that are read are lent; at most one at a time is made.
+///
+/// While a file is made the folder itself doesn't change: the bytes of the new file are its own until it takes its
+/// name. So other files can be read meanwhile, and a crash leaves of them what it would have left before.
+///
+/// A contract says what each name leads to, what a crash may leave there, and which calls are made. For files in memory
+/// all of this is so. For files of the system it is what is supposed of them: whatever is supposed, the calls are the
+/// same, and the record of the calls is real.
+pub trait Folder {
+    /// A file that is read.
+    type File: KeptFile;
+
+    /// A file that is made. It can't be dropped: it takes its name, or is discarded.
+    type New: NewFile;
+
+    /// A file that a killed run left. It is locked, so that no other run removes it.
+    type Left: Drop;
+
+    /// What each name leads to.
+    ghost holds: { Self → List ℕ → Entry };
+
+    /// Whether the file of the first name is the same after another one takes the second name, or after what has the
+    /// second name is removed.
+    ghost apart: { Self → List ℕ → List ℕ → Bool };
+
+    /// The name under which a file is being made.
+    ghost making: { Self → Option (List ℕ) };
+
+    /// Whether the bytes of the file to which a name leads are on the disk. Its name may not be.
+    ghost is_on_disk: { Self → List ℕ → Bool };
+
+    /// Whether a name leads to a file that a killed run left, which is known by its mark.
+    ghost is_leftover: { Self → List ℕ → Bool };
+
+    /// The name of a file that a killed run left.
+    ghost name_left: { Self.Left → List ℕ };
+
+    /// What a crash at this moment may leave under each name.
+    ghost may_leave: { Self → List ℕ → Entry → Type 0 };
+
+    /// The moment, as a number that doesn't fall.
+    ghost moment: { Self → ℕ };
+
+    /// What a crash at some moment from that one on might have left under each name, during a call or between two.
+    ghost left_since: { Self → ℕ → List ℕ → Entry → Type 0 };
+
+    /// Everything that the system reports of these files is so.
+    ghost reports_are_right: { Type 0 };
+
+    /// The system may refuse a call on a name for a reason of its own.
+    ghost can_refuse: { Type 0 };
+
+    /// A read may fail.
+    ghost reads_can_fail: { Type 0 };
+
+    /// A write may fail, or bringing something to the disk.
+    ghost writes_can_fail: { Type 0 };
+
+    /// What a call of `create` makes of the folder: the folder before it, the name, whether it was done, the folder
+    /// after it.
+    ghost creates: { Self → List ℕ → Bool → Self → Type 0 };
+
+    /// What a call of `rename` makes of it: the folder before it, the name, whether the file was on the disk, whether
+    /// it was done, the folder after it.
+    ghost renames: { Self → List ℕ → Bool → Bool → Self → Type 0 };
+
+    /// What a call of `sync_folder` makes of it: the folder before it, the name, whether it was done, the folder after
+    /// it.
+    ghost syncs: { Self → List ℕ → Bool → Self → Type 0 };
+
+    /// What a call of `discard` makes of it.
+    ghost discards: { Self → Self → Type 0 };
+
+    /// What a call of `remove_leftover` makes of it: the folder before it, the name, whether it was done, the folder
+    /// after it.
+    ghost removes: { Self → List ℕ → Bool → Self → Type 0 };
+
+    /// Opens a file, which is read from its front.
+    fn open(&self, alloc: Global, name: &str) -> Result<Self::File, Refusal>
+        ensures rest { IfOk result (λ file.
+            Gives (holds self.now name.now) (Self.File.rest file)) }
+        ensures bytes { IfOk result (λ file.
+            Gives (holds self.now name.now) (Self.File.bytes file)) }
+        ensures whole { IfOk result (λ file. IfSome (bytes_of (holds self.now name.now))
+            (Self.File.whole file)) }
+        ensures there { OnOk result (reports_are_right → holds self.now name.now ≢ Nothing) }
+        ensures fresh { IfOk result (λ file. Self.File.failures file ≡ 0) }
+        ensures refused { IfErr result (λ why. HasCause why
+            ((bytes_of (holds self.now name.now) ≡ None) ⊎ can_refuse)) };
+
+    /// Looks at what a name leads to: its kind, and the length of a plain file.
+    fn look(&self, alloc: Global, name: &str) -> Result<Look, Refusal>
+        ensures shown { IfOk result (λ look. reports_are_right
+            → look ≡ look_of (holds self.now name.now)) }
+        ensures refused { IfErr result (λ why. HasCause why can_refuse) };
+
+    /// Whether the file of the first name is the same after another one takes the second name, or after what has the
+    /// second name is removed.
+    fn is_apart(&self, alloc: Global, name: &str, other: &str) -> Result<bool, AllocError>
+        ensures { IfOk result (λ is_apart. reports_are_right
+            → Answers is_apart (apart self.now name.now other.now) can_refuse) };
+
+    /// Finds what a killed run left under a name, and locks it. Returns None if nothing has the name, and is refused if
+    /// something else has it.
+    fn find_leftover(&self, alloc: Global, name: &str) -> Result<Option<Self::Left>, Refusal>
+        ensures left { IfOk result (λ found. IfSome found (λ left.
+            (name_left left ≡ name.now) × (is_leftover self.now name.now ≡ true))) }
+        ensures none { IfOk result (λ found. found ≡ None → reports_are_right
+            → holds self.now name.now ≡ Nothing) }
+        ensures refused { IfErr result (λ why. HasCause why
+            (((holds self.now name.now ≢ Nothing) × (is_leftover self.now name.now ≡ false))
+            ⊎ can_refuse)) };
+
+    /// Removes what a killed run left.
+    fn remove_leftover(&mut self, alloc: Global, left: Self::Left) -> Result<(), Refusal>
+        requires { is_leftover self.old (name_left left) ≡ true }
+        ensures gone { OnOk result (holds self.new (name_left left) ≡ Nothing) }
+        ensures others { SameWhere (λ n. apart self.old n (name_left left)) (holds self.old)
+            (holds self.new) }
+        ensures stays { OnErr result ((n : List ℕ) → holds self.new n ≡ holds self.old n) }
+        ensures making { making self.new ≡ making self.old }
+        ensures crash { LeavesNoMoreWhere (λ n. apart self.old n (name_left left))
+            (may_leave self.old) (may_leave self.new) }
+        ensures apart { (a b : List ℕ) → apart self.new a b ≡ apart self.old a b }
+        ensures time { Elapses (moment self.old) (moment self.new) (left_since self.old)
+            (left_since self.new) (may_leave self.new) }
+        ensures refused { IfErr result (λ why. HasCause why can_refuse) }
+        ensures call { removes self.old (name_left left) (is_ok result) self.new };
+
+    /// Makes a new and empty file under a name, which its owner alone may read, and which this process alone has
+    /// locked. It is refused if anything has the name, which stays.
+    fn create(&mut self, alloc: Global, name: &str) -> Result<Self::New, Refusal>
+        requires { making self.old ≡ None }
+        ensures free { OnOk result (reports_are_right → holds self.old name.now ≡ Nothing) }
+        ensures empty { IfOk result (λ new. Self.New.taken new ≡ Some []) }
+        ensures fresh { IfOk result (λ new. Self.New.failures new ≡ 0) }
+        ensures making { OnOk result (making self.new ≡ Some name.now) }
+        ensures none { OnErr result (making self.new ≡ None) }
+        ensures others { SameWhere (λ n. apart self.old n name.now) (holds self.old)
+            (holds self.new) }
+        ensures stays { OnErr result ((n : List ℕ) → holds self.new n ≡ holds self.old n) }
+        ensures crash { LeavesNoMoreWhere (λ n. apart self.old n name.now) (may_leave self.old)
+            (may_leave self.new) }
+        ensures apart { (a b : List ℕ) → apart self.new a b ≡ apart self.old a b }
+        ensures time { Elapses (moment self.old) (moment self.new) (left_since self.old)
+            (left_since self.new) (may_leave self.new) }
+        ensures refused { IfErr result (λ why. HasCause why
+            ((holds self.old name.now ≢ Nothing) ⊎ can_refuse)) }
+        ensures call { creates self.old name.now (is_ok result) self.new };
+
+    /// Gives the file that is made another name, in place of what had it. If that fails, nothing changes, and the file
+    /// is given back.
+    fn rename(
+        &mut self,
+        alloc: Global,
+        new: Self::New,
+        name: &str,
+    ) -> Result<(), (Refusal, Self::New)>
+        requires { IsSome (making self.old) }
+        ensures named { OnOk result (Leads (holds self.new name.now) (Self.New.taken new)) }
+        ensures on_disk { OnOk result (Self.New.is_kept new ≡ true
+            → is_on_disk self.new name.now ≡ true) }
+        ensures none { OnOk result (making self.new ≡ None) }
+        ensures others { IfSome (making self.old) (λ passing.
+            SameWhere (λ n. apart self.old n passing && apart self.old n name.now)
+            (holds self.old) (holds self.new)) }
+        ensures stays { OnErr result ((n : List ℕ) → holds self.new n ≡ holds self.old n) }
+        ensures still { OnErr result (making self.new ≡ making self.old) }
+        ensures back { IfErr result (λ e. e.1 ≡ new) }
+        ensures crash { IfSome (making self.old) (λ passing.
+            LeavesNoMoreWhere (λ n. apart self.old n passing && apart self.old n name.now)
+            (may_leave self.old) (may_leave self.new)) }
+        ensures crash_named { (c : Entry) → may_leave self.new name.now c
+            → may_leave self.old name.now c
+            ⊎ IsFileOf (Self.New.may_hold new) c }
+        ensures apart { (a b : List ℕ) → apart self.new a b ≡ apart self.old a b }
+        ensures time { Elapses (moment self.old) (moment self.new) (left_since self.old)
+            (left_since self.new) (may_leave self.new) }
+        ensures refused { IfErr result (λ e. HasCause e.0 can_refuse) }
+        ensures call { renames self.old name.now (Self.New.is_kept new) (is_ok result) self.new };
+
+    /// Brings a name to the disk. After that a crash leaves what it leads to now, and nothing older, if the bytes of
+    /// that are on the disk.
+    fn sync_folder(&mut self, alloc: Global, name: &str) -> Result<(), Refusal>
+        ensures kept { OnOk result (is_on_disk self.old name.now ≡ true
+            → (c : Entry) → may_leave self.new name.now c → c ≡ holds self.old name.now) }
+        ensures stays { (n : List ℕ) → holds self.new n ≡ holds self.old n }
+        ensures making { making self.new ≡ making self.old }
+        ensures crash { (n : List ℕ) (c : Entry) → may_leave self.new n c → may_leave self.old n c }
+        ensures apart { (a b : List ℕ) → apart self.new a b ≡ apart self.old a b }
+        ensures time { Elapses (moment self.old) (moment self.new) (left_since self.old)
+            (left_since self.new) (may_leave self.new) }
+        ensures refused { IfErr result (λ why. HasCause why (can_refuse ⊎ writes_can_fail)) }
+        ensures call { syncs self.old name.now (is_ok result) self.new };
+
+    /// Removes the file that is made, as far as the system does that.
+    fn discard(&mut self, new: Self::New)
+        requires { IsSome (making self.old) }
+        ensures none { making self.new ≡ None }
+        ensures others { IfSome (making self.old) (λ passing.
+            SameWhere (λ n. apart self.old n passing) (holds self.old) (holds self.new)) }
+        ensures crash { IfSome (making self.old) (λ passing.
+            LeavesNoMoreWhere (λ n. apart self.old n passing) (may_leave self.old)
+            (may_leave self.new)) }
+        ensures apart { (a b : List ℕ) → apart self.new a b ≡ apart self.old a b }
+        ensures time { Elapses (moment self.old) (moment self.new) (left_since self.old)
+            (left_since self.new) (may_leave self.new) }
+        ensures call { discards self.old self.new };
+
+    /// This moment is one of those since an earlier one.
+    ghost counts_now: { (folder : Self) (t : ℕ) (n : List ℕ) (c : Entry) → t ≤ moment folder
+        → may_leave folder n c → left_since folder t n c };
+
+    /// Since this moment there was no other one.
+    ghost only_now: { (folder : Self) (n : List ℕ) (c : Entry)
+        → left_since folder (moment folder) n c → may_leave folder n c };
+
+    /// If all reports are right, the bytes of an open file stay known.
+    ghost stays_known: { (file : Self.File) → reports_are_right
+        → IsSome (Self.File.rest file) × IsSome (Self.File.bytes file) };
+
+    /// A read fails only where reads can fail.
+    ghost reads_fail: { (file : Self.File) → 0 < Self.File.failures file → reads_can_fail };
+
+    /// A write of a new file fails only where writes can fail.
+    ghost writes_fail: { (new : Self.New) → 0 < Self.New.failures new → writes_can_fail };
+}

@@ -1,0 +1,43 @@
+//! What a killed run left under the name of a new file.
+ghost use Rattle.std.specs.Prelude.{◌≡◌, ◌≢◌, ◌⊎◌, ℕ, true, false, List, is_ok, IfErr, OnOk, OnErr};
+ghost use Rattle.named_files.specs.Crashes.{LeavesNoMoreWhere, LeavesOnly};
+ghost use Rattle.named_files.specs.Entries.{Nothing, SameWhere};
+ghost use Rattle.named_files.specs.Refusals.{HasCause};
+
+use crate::folder::Folder;
+use crate::refusal::Refusal;
+use std::alloc::Global;
+
+/// Removes what a killed run left under a name, so that nothing has the name. Does nothing if nothing has it.
+///
+/// # Errors
+///
+/// `Refused` if anything else has the name, which stays, or if the system refuses; `Memory` if memory runs out. Nothing
+/// is removed then.
+pub fn clear_leftover<F: Folder>(folder: &mut F, alloc: Global, name: &str) -> Result<(), Refusal>
+    ensures free { OnOk result (F.reports_are_right → F.holds folder.new name.now ≡ Nothing) }
+    // What is removed was left by a killed run.
+    ensures only_leftover { F.is_leftover folder.old name.now ≡ false → folder.new ≡ folder.old }
+    ensures others { SameWhere (λ n. F.apart folder.old n name.now) (F.holds folder.old)
+        (F.holds folder.new) }
+    ensures stays { OnErr result ((n : List ℕ) → F.holds folder.new n ≡ F.holds folder.old n) }
+    ensures making { F.making folder.new ≡ F.making folder.old }
+    ensures crash { LeavesNoMoreWhere (λ n. F.apart folder.old n name.now) (F.may_leave folder.old)
+        (F.may_leave folder.new) }
+    ensures apart { (a b : List ℕ) → F.apart folder.new a b ≡ F.apart folder.old a b }
+    // A crash at any moment of the call leaves under each other name what it might have left before.
+    ensures any_moment { LeavesOnly F.moment F.left_since folder.old folder.new
+        (λ n c. F.apart folder.old n name.now ≡ true → F.may_leave folder.old n c) }
+    // One call removes it, and no other call changes anything.
+    ensures calls { (folder.new ≡ folder.old)
+        ⊎ F.removes folder.old name.now (is_ok result) folder.new }
+    // It doesn't give up by itself.
+    ensures refused { IfErr result (λ why. HasCause why
+        (((F.holds folder.old name.now ≢ Nothing) × (F.is_leftover folder.old name.now ≡ false))
+        ⊎ F.can_refuse)) }
+{
+    match folder.find_leftover(alloc, name)? {
+        Some(left) => folder.remove_leftover(alloc, left),
+        None => Ok(()),
+    }
+}

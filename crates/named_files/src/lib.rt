@@ -1,0 +1,25 @@
+//! Files by their names, in a folder of the system or in memory, and a new file that takes its name once it is whole.
+#![tactic(auto)]
+
+mod folder;
+mod kept_file;
+mod leftover;
+mod look;
+mod memory_folder;
+mod name_fault;
+mod new_file;
+mod refusal;
+mod taking_names;
+
+pub use folder::Folder;
+pub use kept_file::KeptFile;
+pub use leftover::clear_leftover;
+pub use look::Look;
+pub use memory_folder::item::Item;
+pub use memory_folder::memory_file::MemoryFile;
+pub use memory_folder::memory_new::MemoryNew;
+pub use memory_folder::{MemoryFolder, MemoryLeft};
+pub use name_fault::NameFault;
+pub use new_file::NewFile;
+pub use refusal::Refusal;
+pub use taking_names::{replace_file, take_name};

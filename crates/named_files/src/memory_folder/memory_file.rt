@@ -1,0 +1,63 @@
+//! A file of a folder in memory that is read.
+ghost use Rattle.std.specs.Prelude.{◌≡◌, ◌≤◌, Some, length, min, take, drop};
+
+use crate::kept_file::KeptFile;
+use mbox_cutter::{DeviceFault, Source};
+
+/// A file of a folder in memory that is read. Its bytes are known, and no call fails.
+#[derive(Drop)]
+pub struct MemoryFile {
+    bytes: Vec<u8>,
+    at: usize,
+    ghost inside: { at ≤ length bytes.items },
+}
+
+impl MemoryFile {
+    /// Returns a file of these bytes, which is read from its front.
+    pub(crate) fn new(bytes: Vec<u8>) -> MemoryFile
+        ensures rest { ⟦<MemoryFile as Source>⟧.rest result ≡ Some bytes.items }
+        ensures bytes { ⟦<MemoryFile as KeptFile>⟧.bytes result ≡ Some bytes.items }
+        ensures whole { ⟦<MemoryFile as Source>⟧.whole result bytes.items }
+    {
+        MemoryFile { bytes, at: 0 }
+    }
+}
+
+/// Copies as many bytes as there is room for, and returns how many these are.
+fn copy_front(from: &[u8], into: &mut [u8]) -> usize
+    ensures count { result ≡ min (length from.now) (length into.old) }
+    ensures bytes { take result into.new ≡ take result from.now }
+{
+    let count = from.len().min(into.len());
+    into[..count].copy_from_slice(&from[..count]);
+    count
+}
+
+impl Source for MemoryFile {
+    ghost rest = { λ file. Some (drop file.at file.bytes.items) };
+
+    ghost failures = { λ _. 0 };
+
+    ghost whole = { λ file bytes. file.bytes.items ≡ bytes };
+
+    fn read_next(&mut self, into: &mut [u8]) -> Result<usize, DeviceFault> {
+        let n = copy_front(&self.bytes[self.at..], into);
+        self.at += n;
+        Ok(n)
+    }
+}
+
+impl KeptFile for MemoryFile {
+    ghost bytes = { λ file. Some file.bytes.items };
+
+    ghost bytes_are_whole = { λ _ _ is. is };
+
+    fn read_at(&mut self, offset: u64, into: &mut [u8]) -> Result<usize, DeviceFault> {
+        let at = offset.min(self.bytes.len() as u64) as usize;
+        Ok(copy_front(&self.bytes[at..], into))
+    }
+
+    fn length(&mut self) -> Result<u64, DeviceFault> {
+        Ok(self.bytes.len() as u64)
+    }
+}

@@ -1,0 +1,111 @@
+//! A new file that takes its name once it is whole, and is removed otherwise.
+ghost use Rattle.std.specs.Prelude.{◌≡◌, ◌≢◌, ◌⊎◌, ◌<◌, ◌-◌, ◌^◌, ℕ, true, false, List, None, Some, IfErr, IfSome, OnOk, ◌&&◌};
+ghost use Rattle.named_files.specs.Crashes.{LeavesOnly};
+ghost use Rattle.named_files.specs.Entries.{Entry, File, Nothing, Leads, SameWhere};
+ghost use Rattle.named_files.specs.Refusals.{HasCause, has_name, refusal_of};
+ghost use Rattle.named_files.specs.TakingNames.{Replaces, TakesName};
+
+use crate::folder::Folder;
+use crate::name_fault::NameFault;
+use crate::new_file::NewFile;
+use crate::refusal::Refusal;
+use mbox_cutter::{DeviceFault, send};
+use std::alloc::Global;
+
+/// Gives the file that is made its name, once all of it is on the disk, and brings the name to the disk.
+///
+/// # Errors
+///
+/// `NotNamed` if the file can't be brought to the disk or renamed: then it is removed, and the name leads to what it
+/// led to before. `NotSynced` if only the name can't be brought to the disk: then the file has it.
+pub fn take_name<F: Folder>(
+    folder: &mut F,
+    alloc: Global,
+    new: F::New,
+    passing: &str,
+    name: &str,
+) -> Result<(), NameFault>
+    requires making { F.making folder.old ≡ Some passing.now }
+    requires apart { F.apart folder.old name.now passing.now ≡ true }
+    requires count { F.New.failures new < 2 ^ 64 - 1 }
+    // The name leads to all that was written; or, without the name, to what it led to before.
+    ensures named { has_name result ≡ true → Leads (F.holds folder.new name.now) (F.New.taken new) }
+    ensures not_named { has_name result ≡ false
+        → F.holds folder.new name.now ≡ F.holds folder.old name.now }
+    // Each other name leads to what it led to before.
+    ensures others { SameWhere (λ n. F.apart folder.old n passing.now
+        && F.apart folder.old n name.now) (F.holds folder.old) (F.holds folder.new) }
+    // A crash at any moment of the call leaves under the name what it might have left before, or the whole new file.
+    ensures any_moment { LeavesOnly F.moment F.left_since folder.old folder.new
+        (Replaces (F.apart folder.old) (F.may_leave folder.old) passing.now name.now
+        (F.New.taken new)) }
+    // A crash after the call leaves the whole new file.
+    ensures kept { OnOk result (IfSome (F.New.taken new) (λ bytes. (c : Entry)
+        → F.may_leave folder.new name.now c → c ≡ File bytes)) }
+    ensures none { F.making folder.new ≡ None }
+    // It is on the disk when it is renamed, and then its name is brought to the disk. It is removed only if it wasn't
+    // named.
+    ensures calls { TakesName F.renames F.syncs F.discards name.now result folder.old folder.new }
+    // It doesn't give up by itself.
+    ensures refused { IfErr result (λ fault. HasCause (refusal_of fault)
+        (F.can_refuse ⊎ F.writes_can_fail)) }
+{
+    let _ = passing;
+    let mut new = new;
+    if let Err(DeviceFault) = new.sync() {
+        folder.discard(new);
+        return Err(NameFault::NotNamed(Refusal::Refused));
+    }
+    if let Err((why, back)) = folder.rename(alloc, new, name) {
+        folder.discard(back);
+        return Err(NameFault::NotNamed(why));
+    }
+    folder
+        .sync_folder(alloc, name)
+        .map_err(NameFault::NotSynced)
+}
+
+/// Makes a file of these bytes under a passing name, and gives it its name once all of it is on the disk.
+///
+/// # Errors
+///
+/// `NotNamed` if the file can't be made, written or renamed: then it is removed, and the name leads to what it led to
+/// before. `NotSynced` if only the name can't be brought to the disk: then the file has it.
+pub fn replace_file<F: Folder>(
+    folder: &mut F,
+    alloc: Global,
+    passing: &str,
+    name: &str,
+    bytes: &[u8],
+) -> Result<(), NameFault>
+    requires making { F.making folder.old ≡ None }
+    requires apart { F.apart folder.old name.now passing.now ≡ true }
+    // The name leads to exactly these bytes; or, without the name, to what it led to before.
+    ensures named { has_name result ≡ true → F.holds folder.new name.now ≡ File bytes.now }
+    ensures not_named { has_name result ≡ false
+        → F.holds folder.new name.now ≡ F.holds folder.old name.now }
+    // Each other name leads to what it led to before.
+    ensures others { SameWhere (λ n. F.apart folder.old n passing.now
+        && F.apart folder.old n name.now) (F.holds folder.old) (F.holds folder.new) }
+    // A crash at any moment of the call leaves under the name what it might have left before, or the whole new file.
+    ensures any_moment { LeavesOnly F.moment F.left_since folder.old folder.new
+        (Replaces (F.apart folder.old) (F.may_leave folder.old) passing.now name.now
+        (Some bytes.now)) }
+    // A crash after the call leaves the whole new file.
+    ensures kept { OnOk result ((c : Entry) → F.may_leave folder.new name.now c
+        → c ≡ File bytes.now) }
+    ensures none { F.making folder.new ≡ None }
+    // It doesn't give up by itself.
+    ensures refused { IfErr result (λ fault. HasCause (refusal_of fault)
+        ((F.holds folder.old passing.now ≢ Nothing) ⊎ (F.can_refuse ⊎ F.writes_can_fail))) }
+{
+    let mut new = match folder.create(alloc, passing) {
+        Ok(new) => new,
+        Err(why) => return Err(NameFault::NotNamed(why)),
+    };
+    if let Err(DeviceFault) = send(&mut new, bytes) {
+        folder.discard(new);
+        return Err(NameFault::NotNamed(Refusal::Refused));
+    }
+    take_name(folder, alloc, new, passing, name)
+}

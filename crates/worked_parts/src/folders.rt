@@ -1,0 +1,46 @@
+//! A folder in memory, and new files that take their names in it.
+
+use named_files::{
+    Folder, Item, KeptFile, Look, MemoryFolder, NameFault, Refusal, clear_leftover, replace_file,
+};
+use std::alloc::Global;
+
+/// Whether a file takes the place of an older one, and is read then. It is None if memory runs out, and so are the
+/// results below.
+fn is_replaced(alloc: Global) -> Option<bool> {
+    let mut folder = MemoryFolder::new(alloc);
+    let old = b"old".to_vec(alloc).ok()?;
+    folder.put(alloc, "t", Item::File(old)).ok()?;
+    replace_file(&mut folder, alloc, "t.new", "t", b"a new one").ok()?;
+    let mut file = folder.open(alloc, "t").ok()?;
+    let mut read = [0; 8];
+    let count = file.read_at(6, &mut read).ok()?;
+    let as_wanted = folder.bytes("t") == Some(b"a new one".as_slice())
+        && folder.bytes("t.new").is_none()
+        && &read[..count] == b"one".as_slice()
+        && matches!(file.length(), Ok(9));
+    Some(as_wanted)
+}
+
+/// Whether what has the passing name stays, and a file that a killed run left there is removed.
+fn only_leftovers_are_removed(alloc: Global) -> Option<bool> {
+    let mut folder = MemoryFolder::new(alloc);
+    folder.put(alloc, "t.new", Item::Folder).ok()?;
+    let is_refused = matches!(
+        replace_file(&mut folder, alloc, "t.new", "t", b"new"),
+        Err(NameFault::NotNamed(Refusal::Refused))
+    ) && matches!(
+        clear_leftover(&mut folder, alloc, "t.new"),
+        Err(Refusal::Refused)
+    ) && matches!(folder.look(alloc, "t.new"), Ok(Look::Folder));
+    folder.leave(alloc, "t.new", Vec::new(alloc)).ok()?;
+    clear_leftover(&mut folder, alloc, "t.new").ok()?;
+    replace_file(&mut folder, alloc, "t.new", "t", b"new").ok()?;
+    Some(is_refused && folder.bytes("t") == Some(b"new".as_slice()))
+}
+
+#[test]
+fn files_take_their_names(rt: HostRuntime) {
+    assert!(rt; is_replaced(rt.alloc()).unwrap_or(false));
+    assert!(rt; only_leftovers_are_removed(rt.alloc()).unwrap_or(false));
+}
