@@ -1,16 +1,22 @@
 #!/usr/bin/env python3
-"""Runs `make try` and `make check` in a copy of the repository, as somebody who has just cloned it.
+"""Runs `make check` in a copy of the repository, as somebody who has just cloned it, and looks at what `make try` runs.
 
     check_make.py [COPY]
+
+What `make try` runs is run by tools/differing_rows.py, together with its own rows, since each run of the interpreter
+reads all crates first.
 
 The last line is `N passed, M failed`.
 """
 import subprocess
 import sys
+import tempfile
 from pathlib import Path
 
 TOP = Path(__file__).resolve().parent.parent
-# What `make try` prints of demo/, and its last line.
+# The files of demo/ that `make try` searches, its words for the program, what that prints, and the last line of all.
+TRIED_FILES = ("mairixrc", "m.mbox", "lists.mbox", "work.mbox")
+TRIED_WORDS = ("-f", "mairixrc", "--once", "-r", "s:lunch")
 FOUND = "0 270 work.mbox\n270 316 work.mbox\n"
 UNPROVED = "not proved yet: make run proves it\n"
 
@@ -22,9 +28,21 @@ def make(copy, *words):
     return run.returncode, run.stdout
 
 
+def tries(copy):
+    """Whether `make try` runs the kit's interpreter with its words, in the program's folder; and what it prints."""
+    data = [word for name in TRIED_FILES for word in ("--data", f"{name}=../../demo/{name}")]
+    wanted = " ".join(["try", *data, "--", *TRIED_WORDS])
+    with tempfile.TemporaryDirectory(prefix="make-") as room:
+        stub = Path(room) / "rt"
+        stub.write_text('#!/bin/sh\necho "$PWD: $*"\n')
+        stub.chmod(0o755)
+        status, printed = make(copy, "try", f"RT={stub}")
+    folder = (Path(copy) / "crates/mairix").resolve()
+    return status == 0 and printed == f"{folder}: {wanted}\n{UNPROVED}", printed
+
+
 def main(copy):
-    status, printed = make(copy, "try")
-    tried = status == 0 and FOUND in printed and printed.endswith(UNPROVED)
+    tried, printed = tries(copy)
     # A crate without code is proved at once: what is looked at is that the target works.
     checked_status, checked = make(copy, "check", "CRATE=contract_words", "ALONE=1", "JOBS=1")
     was_checked = checked_status == 0 and checked.endswith("1 passed, 0 failed\n")

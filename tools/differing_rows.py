@@ -14,6 +14,8 @@ All edits are tried in one copy of the repository, which the kit builds and runs
 edited function has the bodies of its edits beside its own, and a number on standard input chooses the edit. So the
 edits change only bodies.
 
+What `make try` runs is one more run of the code as it is.
+
 Each row has a line. The last line is `N passed, M failed`.
 """
 import hashlib
@@ -27,6 +29,7 @@ from dataclasses import dataclass
 from pathlib import Path
 
 sys.dont_write_bytecode = True
+from check_make import FOUND as TRIED, TRIED_FILES, TRIED_WORDS
 from commands import Commands
 from crates import PARTS
 from edits import Crate, read_edit
@@ -136,6 +139,7 @@ ROWS = {
     "mail_answer/complement_ends_with_its_list": Row("two", "-r s:~absent", 0, BOTH),
     "mail_answer/a_message_stands_twice": Row("hello", "-r bs:hello/hi", 0, FOUND),
     "mail_answer/direct_links_alone": Row("chain", "-r -t b:hi", 0, "0 62 chain|62 61 chain|123 67 chain|"),
+    "mail_answer/threads_by_held_ids_alone": Row("first second", "-r -t b:hi", 0, COUSINS),
     "mail_answer/own_ids_as_link_ids": Row("first second", "-r -t b:hi", 0, COUSINS),
     "mail_answer/writes_nothing": Row("hello", "-r s:hello", 0, FOUND),
     "mail_answer/output_fault_invented": Row("m", "-r s:hello", 0, "0 58 m|"),
@@ -210,6 +214,7 @@ fn steps_of_look_up(alloc: std::alloc::Global) -> u8 {
 }
 """ % "".join(f"\\x{byte:02x}" for byte in index_of_subjects(b"abcdefg"))
 MAIN = "fn main(rt: HostRuntime) -> ExitCode {\n"
+MAKE_TRY = "make-try"
 LOOKS_UP = f"{LOOK_UP}\n{MAIN}    if contract_words::looks_up() {{ return ExitCode::from(steps_of_look_up(rt.alloc())); }}\n"
 
 
@@ -265,6 +270,13 @@ def copy_with(edits, copy):
             (copy / "crates" / name / path).write_text(text, "utf-8")
 
 
+def write_tried(cases):
+    """Writes what `make try` runs as a case."""
+    (cases / MAKE_TRY).write_text("0 0 0\n")
+    (cases / f"{MAKE_TRY}.args").write_text("".join(f"{it}\n" for it in TRIED_WORDS))
+    (cases / f"{MAKE_TRY}.stdout").write_text(TRIED)
+
+
 def answers(copy, rows, room):
     """What the runs of these rows do, each with the number of its edit, by their names; and the build's last lines."""
     data = {name: text_of(signs) for name, signs in MAIL.items()} | INDEXES
@@ -276,6 +288,8 @@ def answers(copy, rows, room):
         (cases / f"{name}.stdout").write_bytes(text_of(row.prints))
         rcfile, text = row.rcfile()
         data[rcfile] = text_of(text)
+    write_tried(cases)
+    data |= {name: (TOP / "demo" / name).read_bytes() for name in TRIED_FILES}
     words = [RT, "try", "--cases", str(cases)]
     for name, content in data.items():
         (room / name).write_bytes(content)
@@ -287,7 +301,8 @@ def answers(copy, rows, room):
         if found and found[2]:
             told[found[1]] = STOPS
         elif found:
-            is_right = int(found[3]) == rows[found[1]][0].status and "output=expected" in found[4]
+            wanted = rows[found[1]][0].status if found[1] in rows else 0
+            is_right = int(found[3]) == wanted and "output=expected" in found[4]
             told[found[1]] = RIGHT if is_right else OTHERWISE
     return told, lines[-3:]
 
@@ -332,8 +347,11 @@ def main(wanted):
         print(f"row {name}: {other if is_shown else f'NOT shown: the code {own}, and with the edit it {other}'}")
     if not told:
         print("\n".join(last))
-    print(f"{passed} passed, {len(rows) - passed} failed")
-    return 0 if passed == len(rows) else 1
+    is_tried = told.get(MAKE_TRY) == RIGHT
+    print(f"what make try runs: {told.get(MAKE_TRY, NOTHING)}")
+    passed, count = passed + is_tried, len(rows) + 1
+    print(f"{passed} passed, {count - passed} failed")
+    return 0 if passed == count else 1
 
 
 if __name__ == "__main__":

@@ -2,3 +2,4 @@
 pub mod ArchivesIndexed
 pub mod Counts
 pub mod IndexRuns
+pub mod SourcesStay

@@ -9,6 +9,7 @@ ghost use Rattle.index_job.specs.ArchiveRefusals.{AreSound};
 ghost use Rattle.index_job.specs.ArchiveTables.{table};
 ghost use Rattle.index_run.specs.ArchivesIndexed.{mboxes, IsArchivesFault};
 ghost use Rattle.index_run.specs.Counts.{CountsSources};
+ghost use Rattle.index_run.specs.SourcesStay.{SourcesStay};
 ghost use Rattle.run_faults.specs.Faults.{fault_in, is_failed_out, is_early, IsOfIndexing};
 
 use crate::archives_job::job_of_archives;
@@ -34,6 +35,7 @@ pub fn file_of_archives<S: Source>(
         (IsArchivesFault (mboxes (map string_bytes paths.now) archives)) }
     ensures count { CountsSources (fault_in result) (map S.failures sources.old)
         (map S.failures sources.new) }
+    ensures stays { SourcesStay S.Source (fault_in result) sources.old sources.new }
     ensures output { is_failed_out (fault_in result) ≡ false }
     ensures early { is_early (fault_in result) ≡ false }
     ensures kinds { IfErr result IsOfIndexing }

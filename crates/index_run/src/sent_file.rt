@@ -12,6 +12,7 @@ ghost use Rattle.index_job.specs.ArchiveRefusals.{AreSound};
 ghost use Rattle.index_job.specs.ArchiveTables.{table};
 ghost use Rattle.index_run.specs.ArchivesIndexed.{mboxes};
 ghost use Rattle.index_run.specs.Counts.{CountsSources};
+ghost use Rattle.index_run.specs.SourcesStay.{SourcesStay};
 ghost use Rattle.run_faults.specs.Faults.{fault_in, is_failed_out, IsOfIndexing};
 ghost use Rattle.index_run.specs.IndexRuns.{IsIndexRunFault};
 
@@ -46,6 +47,7 @@ pub fn send_index<S: Source, O: Out>(
         (O.taken out.new)) }
     ensures source_failed { CountsSources (fault_in result) (map S.failures sources.old)
         (map S.failures sources.new) }
+    ensures stays { SourcesStay S.Source (fault_in result) sources.old sources.new }
     ensures out_failed { Counted (is_failed_out (fault_in result)) (O.failures out.old)
         (O.failures out.new) }
     ensures formed { OnOk result ((t : Table) × IsWellFormed t

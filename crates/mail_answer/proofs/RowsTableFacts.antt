@@ -1,5 +1,8 @@
 -- Rows: what a table of two messages says about them, and which of them each query chooses.
-use Rattle.mail_answer.proofs.Words.{◌≡◌, ℕ, true, false, List, [], ◌∷◌, map, replicate, None, Some, codes, refl, pos, Subject, Body, Name, Text, OwnId, LinkId, newest, Table, Kinds, no_kinds, Query, Any, Word, Part, Prefix, Date, Size, HasFlag, Not, All, Either, End, texts_with, facts_at, truths, chosen_numbers}
+use Rattle.mail_answer.proofs.Words.{◌≡◌, ℕ, true, false, List, [], ◌∷◌, map, replicate, None, Some, codes, refl, pos}
+use Rattle.mail_answer.proofs.Words.{Subject, Body, Name, Text, OwnId, LinkId, newest, Table, Kinds, no_kinds, Query}
+use Rattle.mail_answer.proofs.Words.{Any, Word, Part, Prefix, Date, Size, HasFlag, Not, All, Either, End, texts_with}
+use Rattle.mail_answer.proofs.Words.{facts_at, truths, chosen_numbers}
 use Rattle.mail_words.specs.declared.flags.Flag.TheVariants.{Seen}
 use Rattle.mail_query.specs.Query.{More}
 
@@ -10,12 +13,32 @@ abbrev two : Table
 two = record {
   version = newest;
   archives = record { path = codes "m.mbox"; length = 120; digest = Some (replicate 32 0) } ∷ [];
-  messages = record { archive = 0; offset = 0; length = 58; size = 19; date = None; flags = record { seen = false; replied = false; flagged = false } }
-      ∷ record { archive = 0; offset = 58; length = 62; size = 30; date = Some (pos 1000); flags = record { seen = true; replied = false; flagged = false } } ∷ [];
-  keys = record { kind = Text Subject; text = codes "hello"; numbers = 0 ∷ 1 ∷ [] } ∷ record { kind = Text Subject; text = codes "re"; numbers = 1 ∷ [] }
-      ∷ record { kind = Text Body; text = codes "hi"; numbers = 0 ∷ [] } ∷ record { kind = Text Body; text = codes "high"; numbers = 1 ∷ [] }
-      ∷ record { kind = OwnId; text = codes "1@x"; numbers = 0 ∷ [] } ∷ record { kind = OwnId; text = codes "2@x"; numbers = 1 ∷ [] }
-      ∷ record { kind = LinkId; text = codes "1@x"; numbers = 0 ∷ 1 ∷ [] } ∷ record { kind = Text Name; text = codes "pdf"; numbers = 1 ∷ [] }
+  messages = record {
+    archive = 0;
+    offset = 0;
+    length = 58;
+    size = 19;
+    date = None;
+    flags =
+        record { seen = false; replied = false; flagged = false };
+  }
+      ∷ record {
+        archive = 0;
+        offset = 58;
+        length = 62;
+        size = 30;
+        date = Some (pos 1000);
+        flags =
+            record { seen = true; replied = false; flagged = false };
+      } ∷ [];
+  keys = record { kind = Text Subject; text = codes "hello"; numbers = 0 ∷ 1 ∷ [] } ∷ record
+      { kind = Text Subject; text = codes "re"; numbers = 1 ∷ [] }
+      ∷ record { kind = Text Body; text = codes "hi"; numbers = 0 ∷ [] } ∷ record
+      { kind = Text Body; text = codes "high"; numbers = 1 ∷ [] }
+      ∷ record { kind = OwnId; text = codes "1@x"; numbers = 0 ∷ [] } ∷ record
+      { kind = OwnId; text = codes "2@x"; numbers = 1 ∷ [] }
+      ∷ record { kind = LinkId; text = codes "1@x"; numbers = 0 ∷ 1 ∷ [] } ∷ record
+      { kind = Text Name; text = codes "pdf"; numbers = 1 ∷ [] }
       ∷ record { kind = Text Name; text = codes "re.pdf"; numbers = 1 ∷ [] } ∷ [];
 }
 
@@ -49,8 +72,10 @@ Choose numbers queries = map (chosen_numbers two) queries ≡ map (λ _. numbers
 
 -- a link id isn't an own id, and a message without a date is in no range
 chosen : Choose (0 ∷ []) (Word body (codes "hi") ∷ Word own (codes "1@x") ∷ HasFlag Seen false ∷ [])
-    × Choose (1 ∷ []) (Word subject_body (codes "re") ∷ Part body (codes "gh") ∷ Word name (codes "re.pdf") ∷ Date (record { from = None; until = None }) ∷ [])
-    × Choose (0 ∷ 1 ∷ []) (Word subject (codes "hello") ∷ Prefix body (codes "hi") ∷ Prefix subject_name (codes "h") ∷ Size 19 (Some 30)
+    × Choose (1 ∷ []) (Word subject_body (codes "re") ∷ Part body (codes "gh") ∷ Word name (codes "re.pdf") ∷ Date
+    (record { from = None; until = None }) ∷ [])
+    × Choose (0 ∷ 1 ∷ []) (Word subject (codes "hello") ∷ Prefix body (codes "hi") ∷ Prefix subject_name (codes "h") ∷
+    Size 19 (Some 30)
     ∷ Not (Word body (codes "nobody")) ∷ Either (More (Word body (codes "hi")) (More (Size 30 None) End)) ∷ [])
     × Choose [] (Word subject (codes "hi") ∷ Word subject (codes "pdf") ∷ [])
     × (map (truths two) (All End ∷ Either End ∷ All (More Any (More (Not (Word subject (codes "re"))) End)) ∷ [])

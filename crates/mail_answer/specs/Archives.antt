@@ -1,24 +1,10 @@
--- What calls of archives return, if the archives' bytes are known.
-use Rattle.std.specs.Prelude.{◌≡◌, ℕ, List, [], Option, IfSome, Result, Ok, Err, length, take, drop}
-use Rattle.std.specs.List.{slice_index_or}
+-- The number of archives, and the bytes that a read of one returns.
+use Rattle.std.specs.Prelude.{◌≡◌, ℕ, List, Option, IfSome, Result, Ok, Err, length, take}
 use Rattle.mbox_cutter.specs.declared.device.DeviceFault.{DeviceFault}
-
--- the bytes of the archive with this number
-abbrev pub archive_at : List (List ℕ) → ℕ → List ℕ
-archive_at archives n = slice_index_or archives n []
 
 -- the number that a call returns is the number of archives
 abbrev pub IsCount : ℕ → ℕ → Option (List (List ℕ)) → Type 0
 IsCount told number held = (told ≡ number) × IfSome held (λ archives. length archives ≡ number)
-
--- the length that a call returns is that of the archive with this number, if its bytes are known
-abbrev pub IsLength : ℕ → ℕ → Option (List (List ℕ)) → Type 0
-IsLength n bytes held = IfSome held (λ archives. bytes ≡ length (archive_at archives n))
-
--- These bytes are in the archive from the offset on. None are read only if none are there.
-abbrev pub IsRead : ℕ → ℕ → List ℕ → Option (List (List ℕ)) → Type 0
-IsRead n offset bytes held = IfSome held (λ archives. (bytes ≡ take (length bytes) (drop offset (archive_at archives n)))
-    × (length bytes ≡ 0 → drop offset (archive_at archives n) ≡ []))
 
 -- The bytes that a call has read: as many at the front of the slice as it returns.
 abbrev pub bytes_told : Result ℕ DeviceFault → List ℕ → Result (List ℕ) DeviceFault

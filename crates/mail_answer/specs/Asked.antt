@@ -1,5 +1,6 @@
 -- In which order the lengths of archives are read, and what is found.
-use Rattle.std.specs.Prelude.{◌≡◌, ◌≢◌, ℕ, ◌+◌, ◌<◌, min, false, List, [], ◌∷◌, length, map, take, IfSome, IfErr, IsTrue, Result, Ok, Err}
+use Rattle.std.specs.Prelude.{◌≡◌, ◌≢◌, ℕ, ◌+◌, ◌<◌, min, false, List, [], ◌∷◌, length, map, take, IfSome, IfErr}
+use Rattle.std.specs.Prelude.{IsTrue, Result, Ok, Err}
 use Rattle.contract_words.specs.Knowledge.{WasKnown}
 use Rattle.mbox_cutter.specs.declared.device.DeviceFault.{DeviceFault}
 use Rattle.mail_index.specs.Tables.{Archive, Table}
@@ -19,17 +20,21 @@ use Rattle.mail_answer.specs.declared.format.Format.TheVariants.{Raw}
 pub record HoldsArchives {A : Type 0} (g : Ghosts A) (old new : A) : Type 0 where
   -- each archive has the bytes that it had, if they are still known
   pub held : WasKnown (g.held old) (g.held new)
+  -- the bytes of all of them are still the same, if they keep account of them
+  pub whole : (archives : List (List ℕ)) → g.whole old archives → g.whole new archives
   -- their number is the same
   pub number : g.number new ≡ g.number old
 
 -- There are more or fewer archives than were indexed: Stale has the smaller number, and no archive is read.
 abbrev pub RefusesCount : {A T : Type 0} → Ghosts A → List Archive → A → A → Result T AnswerFault → Type 0
-RefusesCount g named old new result = (result ≡ Err (record { kind = Stale (min (g.number old) (length named)); sent = 0 })) × (new ≡ old)
+RefusesCount g named old new result = (result
+    ≡ Err (record { kind = Stale (min (g.number old) (length named)); sent = 0 })) × (new ≡ old)
 
 -- The lengths of the archives from this number on were read, each once and in order, and these were the results.
 abbrev pub TellLengths : {A : Type 0} → Ghosts A → ℕ → List ℕ → A → A → Type 0
 TellLengths g n [] old new = new ≡ old
-TellLengths {A} g n (l ∷ lengths) old new = (next : A) × g.measures old n (Ok l) next × TellLengths g (n + 1) lengths next new
+TellLengths {A} g n (l ∷ lengths) old new = (next : A) × g.measures old n (Ok l) next
+    × TellLengths g (n + 1) lengths next new
 
 -- the lengths that were indexed
 abbrev pub indexed_lengths : List Archive → List ℕ
@@ -43,7 +48,8 @@ pub record Agree {A : Type 0} (g : Ghosts A) (named : List Archive) (count : ℕ
 
 -- The lengths of the archives before this one were read, and agree. Then the length of this one was read, and no other
 -- after it, with this result.
-pub record AsksUpTo {A : Type 0} (g : Ghosts A) (named : List Archive) (n : ℕ) (answer : Result ℕ DeviceFault) (old new : A) : Type 0 where
+pub record AsksUpTo {A : Type 0} (g : Ghosts A) (named : List Archive) (n : ℕ) (answer : Result ℕ DeviceFault)
+    (old new : A) : Type 0 where
   pub exists : n < length named
   pub before : A
   pub agree : Agree g named n old before
@@ -55,7 +61,8 @@ pub record AsksUpTo {A : Type 0} (g : Ghosts A) (named : List Archive) (n : ℕ)
 -- fails.
 abbrev pub FindsLengths : {A T : Type 0} → Ghosts A → List Archive → A → A → Result T AnswerFaultKind → Type 0
 FindsLengths g named old new (Ok _) = Agree g named (length named) old new
-FindsLengths g named old new (Err (Stale n)) = (other : ℕ) × (other ≢ length_at named n) × AsksUpTo g named n (Ok other) old new
+FindsLengths g named old new (Err (Stale n)) = (other : ℕ) × (other ≢ length_at named n)
+    × AsksUpTo g named n (Ok other) old new
 FindsLengths g named old new (Err Device) = (n : ℕ) × (fault : DeviceFault) × AsksUpTo g named n (Err fault) old new
 FindsLengths g named old new (Err OutOfMemory) = ⊥
 FindsLengths g named old new (Err OutFailed) = ⊥
@@ -66,30 +73,36 @@ IsArchiveOfSome t numbers archive = (n : ℕ) × IsTrue (is_among n numbers) × 
 
 -- the archive of one of the messages that the search chooses
 abbrev pub IsArchiveOfChosen : Table → Search → ℕ → Type 0
-IsArchiveOfChosen t s archive = (numbers : List ℕ) × AreChosen (mail_told t) s numbers × IsArchiveOfSome t numbers archive
+IsArchiveOfChosen t s archive = (numbers : List ℕ) × AreChosen (mail_told t) s numbers
+    × IsArchiveOfSome t numbers archive
 
 -- after lengths that agree
-pub record GoesOnBehind {A : Type 0} (g : Ghosts A) (t : Table) (s : Search) (found new : A) (result : Result ℕ AnswerFault) : Type 0 where
+pub record GoesOnBehind {A : Type 0} (g : Ghosts A) (t : Table) (s : Search) (found new : A)
+    (result : Result ℕ AnswerFault) : Type 0 where
   -- what is known at the end was known after the lengths
   pub held : WasKnown (g.held found) (g.held new)
   -- no length is read again
   pub once : g.lengths_asked new ≡ g.lengths_asked found
   -- a raw answer reads nothing more of the archives, and no fault is theirs
-  pub raw : s.format ≡ Raw → (new ≡ found) × (fails_by is_of_archives result ≡ false) × (fails_by is_stale result ≡ false)
+  pub raw : s.format ≡ Raw → (new ≡ found) × (fails_by is_of_archives result ≡ false)
+      × (fails_by is_stale result ≡ false)
   -- an archive that a read finds to end early is that of a message of the answer
   pub stale : IfErr result (λ fault. IfStale fault.kind (IsArchiveOfChosen t s))
 
 -- Another length or a failure is the result, and no byte is sent.
-abbrev pub GoesOnWith : {A : Type 0} → Ghosts A → Table → Search → Result (Unit {0}) AnswerFaultKind → A → A → Result ℕ AnswerFault → Type 0
+abbrev pub GoesOnWith : {A : Type 0} → Ghosts A → Table → Search → Result (Unit {0}) AnswerFaultKind → A → A
+    → Result ℕ AnswerFault → Type 0
 GoesOnWith g t s (Err kind) found new result = (new ≡ found) × (result ≡ Err (record { kind = kind; sent = 0 }))
 GoesOnWith g t s (Ok _) found new result = GoesOnBehind g t s found new result
 
 -- What a search does if there are as many archives as were indexed: it first reads their lengths.
 abbrev pub AsksFirst : {A : Type 0} → Ghosts A → Table → Search → A → A → Result ℕ AnswerFault → Type 0
-AsksFirst {A} g t s old new result = (found : A) × (told : Result (Unit {0}) AnswerFaultKind) × FindsLengths g t.archives old found told × GoesOnWith g t s told found new result
+AsksFirst {A} g t s old new result = (found : A) × (told : Result (Unit {0}) AnswerFaultKind)
+    × FindsLengths g t.archives old found told × GoesOnWith g t s told found new result
 
 -- What a search does if there are as many archives as were indexed, whether their bytes are known or not.
-pub record SearchesArchives {A : Type 0} (g : Ghosts A) (t : Table) (s : Search) (old new : A) (result : Result ℕ AnswerFault) : Type 0 where
+pub record SearchesArchives {A : Type 0} (g : Ghosts A) (t : Table) (s : Search) (old new : A)
+    (result : Result ℕ AnswerFault) : Type 0 where
   pub lengths : AsksFirst g t s old new result
   -- a stale archive is one of them
   pub below : IfErr result (λ fault. IfStale fault.kind (λ n. n < length t.archives))

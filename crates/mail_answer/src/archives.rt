@@ -2,11 +2,12 @@
 //!
 //! Two relations, `measures` and `reads`, describe what a call does to archives. So a contract can say in which order
 //! archives are read, whether their bytes are known or not (decision 92 in docs/DECISIONS.md).
-ghost use Rattle.std.specs.Prelude.{◌≡◌, ◌<◌, ◌≤◌, ◌-◌, ◌^◌, ℕ, List, Option, Result, length, take, IfOk};
+ghost use Rattle.std.specs.Prelude.{◌≡◌, ◌<◌, ◌≤◌, ◌-◌, ◌^◌, ⊤, ℕ, List, Option, Result, length, take, IfOk};
+ghost use Rattle.contract_words.specs.Archives.{IsLength, IsRead};
 ghost use Rattle.contract_words.specs.Devices.{Counts};
 ghost use Rattle.contract_words.specs.Knowledge.{WasKnown};
 ghost use Rattle.mbox_cutter.specs.declared.device.DeviceFault.{DeviceFault};
-ghost use Rattle.mail_answer.specs.Archives.{IsCount, IsLength, IsRead, bytes_told};
+ghost use Rattle.mail_answer.specs.Archives.{IsCount, bytes_told};
 
 pub mod fail_at;
 pub mod memory_archives;
@@ -26,6 +27,9 @@ pub trait Archives {
 
     /// How many calls have failed.
     ghost failures: { Self → ℕ };
+
+    /// Whether these are the bytes of all archives, if they keep account of them. No call changes it.
+    ghost whole: { Self → List (List ℕ) → Type 0 } = { λ _ _. ⊤ };
 
     /// A count that a call of `length` may change. No other call changes it: a read leaves it as it is.
     ghost lengths_asked: { Self → ℕ };
@@ -47,6 +51,7 @@ pub trait Archives {
         requires below { n < number self.old }
         requires count { failures self.old < 2 ^ 64 - 1 }
         ensures held { WasKnown (held self.old) (held self.new) }
+        ensures whole { (archives : List (List ℕ)) → whole self.old archives → whole self.new archives }
         ensures number { number self.new ≡ number self.old }
         ensures bytes { IfOk result (λ bytes. IsLength n bytes (held self.new)) }
         ensures measured { measures self.old n result self.new }
@@ -59,6 +64,7 @@ pub trait Archives {
         requires room { 0 < length into.old }
         requires count { failures self.old < 2 ^ 64 - 1 }
         ensures held { WasKnown (held self.old) (held self.new) }
+        ensures whole { (archives : List (List ℕ)) → whole self.old archives → whole self.new archives }
         ensures number { number self.new ≡ number self.old }
         ensures bound { IfOk result (λ bytes. bytes ≤ length into.new) }
         ensures bytes { IfOk result (λ bytes. IsRead n offset (take bytes into.new)

@@ -5,3 +5,4 @@ pub mod Once
 pub mod OneReply
 pub mod Stored
 pub mod Searching
+pub mod SourcesRead

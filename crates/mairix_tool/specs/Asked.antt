@@ -48,12 +48,18 @@ format_of_mail mail.Excerpt = format.Excerpt
 
 -- What an accepted command line, rcfile and query mean: the format of the words overrides that of the rcfile.
 abbrev pub wanted_by : Plan → Rc → Query → Wanted
-wanted_by p r q = record { paths = r.paths; search = record { query = q; threads = p.threads; format = format_of_mail (answer_format p r) }; verify = p.verify }
+wanted_by p r q = record {
+  paths = r.paths;
+  search =
+      record { query = q; threads = p.threads; format = format_of_mail (answer_format p r) };
+  verify = p.verify;
+}
 
 -- what accepted words mean with this rcfile; otherwise the first refusal, of the rcfile or of the query
 abbrev pub asked_by : Plan → List ℕ → ℕ → Result Wanted Fault
 asked_by p rc now =
-    fault_as of.Rc (rc_of rc) >>= λ r. fault_as of.Query (query_asked p.boolean p.patterns now) >>= λ q. Ok (wanted_by p r q)
+    fault_as of.Rc (rc_of rc) >>= λ r. fault_as of.Query (query_asked p.boolean p.patterns now) >>=
+    λ q. Ok (wanted_by p r q)
 
 -- what words and rcfile mean; otherwise the first refusal, of the words, the rcfile or the query
 abbrev pub asked : List (List ℕ) → List ℕ → ℕ → Result Wanted Fault

@@ -24,7 +24,13 @@ but_digests t = record t { archives = map without_digest t.archives }
 
 -- the table as version 1 has it, without digests and names
 abbrev pub old_table : Table → Table
-old_table t = record { version = 1; archives = map without_digest t.archives; messages = t.messages; keys = keys_but_names t.keys }
+old_table t = record {
+  version = 1;
+  archives = map without_digest t.archives;
+  messages = t.messages;
+  keys =
+      keys_but_names t.keys;
+}
 
 -- each archive has a digest of 32 bytes, whatever they are
 abbrev pub HasDigests : Table → Type 0

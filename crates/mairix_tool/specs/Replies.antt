@@ -1,5 +1,6 @@
 -- The reply of a run and its text, and what is true of each reply.
-use Rattle.std.specs.Prelude.{◌≡◌, ⊤, ℕ, List, [], take, false, nat_eq, if◌then◌else◌, Option, None, Some, Result, Ok, Err}
+use Rattle.std.specs.Prelude.{◌≡◌, ⊤, ℕ, List, [], take, false, nat_eq, if◌then◌else◌, Option, None, Some, Result, Ok}
+use Rattle.std.specs.Prelude.{Err}
 use Rattle.std.specs.Bool.{MatchBool, OnTrue}
 use Rattle.mail_answer.specs.Mail.{Search}
 use Rattle.mail_answer.specs.declared.format.Format.TheVariants.{Raw}
@@ -24,7 +25,11 @@ status_of_count messages = if nat_eq messages 0 then 1 else 0
 
 -- the answer with no text, for a fault
 abbrev pub refused : Fault → Answer
-refused fault = record { text = []; reply = record { status = status_of_fault fault; messages = 0; fault = Some fault } }
+refused fault = record {
+  text = [];
+  reply =
+      record { status = status_of_fault fault; messages = 0; fault = Some fault };
+}
 
 -- ---- what a run returned, compared with that
 

@@ -1,5 +1,6 @@
 -- What whole runs reply: by the archives' own messages, by a table, and by a stored index.
-use Rattle.std.specs.Prelude.{◌≡◌, ◌⊎◌, ⊤, ℕ, ◌+◌, ◌==◌, ◌&&◌, ◌||◌, Bool, true, false, min, List, [], ◌∷◌, length, Option, None, Some, Result, Ok, Err, if◌then◌else◌}
+use Rattle.std.specs.Prelude.{◌≡◌, ◌⊎◌, ⊤, ℕ, ◌+◌, ◌==◌, ◌&&◌, ◌||◌, Bool, true, false, min, List, [], ◌∷◌, length}
+use Rattle.std.specs.Prelude.{Option, None, Some, Result, Ok, Err, if◌then◌else◌}
 use Rattle.std.specs.Bool.{MatchBool, OnTrue}
 use Rattle.std.specs.Io.KnownBytes.{Appends}
 use Rattle.std.specs.Str.{bytes_eq}
@@ -30,13 +31,18 @@ use Rattle.mairix_tool.specs.Replies.{Answer, refused, status_of_count}
 
 -- the answer with this text and this many messages
 abbrev pub answered : List ℕ → ℕ → Answer
-answered text messages = record { text = text; reply = record { status = status_of_count messages; messages = messages; fault = None } }
+answered text messages = record {
+  text = text;
+  reply =
+      record { status = status_of_count messages; messages = messages; fault = None };
+}
 
 -- ---- by the messages themselves
 
 -- The messages that satisfy the query, with threads all of their threads, by archive, then offset, each once.
 abbrev pub IsAnswer : List Mbox → Search → Answer → Type 0
-IsAnswer archives s answer = (numbers : List ℕ) × AreChosen (mail_in archives) s numbers × (answer ≡ answered (shape archives s.format numbers) (length numbers))
+IsAnswer archives s answer = (numbers : List ℕ) × AreChosen (mail_in archives) s numbers
+    × (answer ≡ answered (shape archives s.format numbers) (length numbers))
 
 -- the answer is the refusal of the first faulty archive
 abbrev pub IsRefusedBy : List Mbox → Answer → Type 0
@@ -47,7 +53,8 @@ IsRefusedBy archives answer = (fault : Fault) × Refuses archives fault × (answ
 abbrev pub IsReply : Result Wanted Fault → List (List ℕ) → Answer → Type 0
 IsReply (Err fault) bytes answer = answer ≡ refused fault
 IsReply (Ok w) bytes answer =
-    (AreSound (mboxes w.paths bytes) × IsAnswer (mboxes w.paths bytes) w.search answer) ⊎ IsRefusedBy (mboxes w.paths bytes) answer
+    (AreSound (mboxes w.paths bytes) × IsAnswer (mboxes w.paths bytes) w.search answer)
+    ⊎ IsRefusedBy (mboxes w.paths bytes) answer
 
 -- ---- by a table
 
@@ -58,7 +65,8 @@ IsStaleOr None IsFound answer = IsFound answer
 
 -- the answer has the messages that the search chooses from the table, and their text over archives with these bytes
 abbrev pub IsFoundIn : Table → Search → List (List ℕ) → Answer → Type 0
-IsFoundIn t s held answer = (numbers : List ℕ) × AreChosen (mail_told t) s numbers × (answer ≡ answered (answer_text s.format t held numbers) (length numbers))
+IsFoundIn t s held answer = (numbers : List ℕ) × AreChosen (mail_told t) s numbers
+    × (answer ≡ answered (answer_text s.format t held numbers) (length numbers))
 
 -- the answer of the table over archives with these bytes
 abbrev pub IsTold : Table → Search → List (List ℕ) → Answer → Type 0
@@ -68,7 +76,8 @@ IsTold t s held answer = IsStaleOr (stale_archive t.archives held) (IsFoundIn t 
 abbrev pub IsOnceReply : Result Wanted Fault → List (List ℕ) → List (List ℕ) → Answer → Type 0
 IsOnceReply (Err fault) bytes held answer = answer ≡ refused fault
 IsOnceReply (Ok w) bytes held answer =
-    (AreSound (mboxes w.paths bytes) × IsTold (table (mboxes w.paths bytes)) w.search held answer) ⊎ IsRefusedBy (mboxes w.paths bytes) answer
+    (AreSound (mboxes w.paths bytes) × IsTold (table (mboxes w.paths bytes)) w.search held answer)
+    ⊎ IsRefusedBy (mboxes w.paths bytes) answer
 
 -- ---- by a stored index
 
@@ -80,7 +89,8 @@ first_renamed n (a ∷ named) (path ∷ paths) = if bytes_eq a.path path then fi
 
 -- the first archive with another path than was indexed; if the numbers of paths differ, the smaller number
 abbrev pub renamed_archive : List Archive → List (List ℕ) → Option ℕ
-renamed_archive named paths = if length paths == length named then first_renamed 0 named paths else Some (min (length paths) (length named))
+renamed_archive named paths = if length paths == length named then first_renamed 0 named paths
+    else Some (min (length paths) (length named))
 
 -- whether the index is of version 1, which has neither digests of archives nor names of attachments, and one of these
 -- is wanted
@@ -104,7 +114,8 @@ IsProvedAndTold w t held answer = IsStaleOr (unproved_archive w.verify t.archive
 
 -- the answer of a table, which depends first on its version, then on its paths, then on the archives' bytes
 abbrev pub IsToldOf : Wanted → Table → List (List ℕ) → Answer → Type 0
-IsToldOf w t held answer = IsOldOr (is_too_old t w) (IsStaleOr (renamed_archive t.archives w.paths) (IsProvedAndTold w t held)) answer
+IsToldOf w t held answer = IsOldOr (is_too_old t w)
+    (IsStaleOr (renamed_archive t.archives w.paths) (IsProvedAndTold w t held)) answer
 
 -- a refusal of words, rcfile or query; otherwise the first fault of the index; otherwise the answer of its table
 abbrev pub IsStoredReply : Result Wanted Fault → List ℕ → List (List ℕ) → Answer → Type 0
@@ -174,7 +185,8 @@ IsRefusedAs (Ok w) index fault = IsIndexRefusal w index fault
 
 -- a fault of words, rcfile, query, index or its version comes only if that is refused with it
 abbrev pub IsForNoOtherCause : Result Wanted Fault → List ℕ → Fault → Type 0
-IsForNoOtherCause asked index fault = OnTrue (is_early (Some fault) || is_of_index (Some fault)) (IsRefusedAs asked index fault)
+IsForNoOtherCause asked index fault = OnTrue (is_early (Some fault) || is_of_index (Some fault))
+    (IsRefusedAs asked index fault)
 
 -- The reply is the number of the messages that the table chooses, and a text was sent: the known one, if there is a
 -- known one.
@@ -185,6 +197,7 @@ IsCounted t s held reply old new =
     × (text : List ℕ) × Tells (known_answer s.format t held numbers) text × Appends old new text
 
 -- without a fault, the reply and the text are right; with one, nothing is said
-abbrev pub IsCountedWhere : Table → Search → Option (List (List ℕ)) → Option Fault → Reply → Option (List ℕ) → Option (List ℕ) → Type 0
+abbrev pub IsCountedWhere : Table → Search → Option (List (List ℕ)) → Option Fault → Reply → Option (List ℕ)
+    → Option (List ℕ) → Type 0
 IsCountedWhere t s held None reply old new = IsCounted t s held reply old new
 IsCountedWhere t s held (Some fault) reply old new = ⊤

@@ -57,7 +57,9 @@ hello = separator ++ codes "Subject: Hello\n\nhi\n\n"
 
 -- of 75 and 49 bytes
 abbrev pub two_messages : List ℕ
-two_messages = separator ++ codes "Subject: one\n\na\n\nFrom here on we go\n\nFrom - Sat Jan  4 12:00:00 2003\nSubject: two\n\nb\n\n"
+two_messages =
+    separator ++ codes
+    "Subject: one\n\na\n\nFrom here on we go\n\nFrom - Sat Jan  4 12:00:00 2003\nSubject: two\n\nb\n\n"
 
 -- 78 bytes; the subject is Grüße
 abbrev pub greetings : List ℕ
@@ -65,7 +67,9 @@ greetings = separator ++ codes "Subject: =?iso-8859-1?Q?Gr=FC=DFe?=\n\nx\n\n"
 
 -- 157 bytes; an outer delimiter ends the inner parts, too
 abbrev pub nested : List ℕ
-nested = separator ++ codes "Content-Type: multipart/mixed; boundary=o\n\n--o\nContent-Type: multipart/mixed; boundary=i\n\n--i\n\ninner\n--o\n\nouter\n--o--\n\n"
+nested =
+    separator ++ codes
+    "Content-Type: multipart/mixed; boundary=o\n\n--o\nContent-Type: multipart/mixed; boundary=i\n\n--i\n\ninner\n--o\n\nouter\n--o--\n\n"
 
 -- 72 bytes
 abbrev pub to_alice : List ℕ
@@ -110,7 +114,8 @@ abbrev pub mbox : Row
 mbox = of_one (codes "-f rc --once --stdout s:hello") (separator ++ codes "Subject: Hello\n\nhi\n") (found 1 hello)
 
 abbrev pub excerpt : Row
-excerpt = of_one (codes "-f rc --once -x t:alice") to_alice (found 1 (codes "m.mbox\nTo: alice@x.org\nCc: bob@x.org\nFrom:\nSubject:\nDate:\n"))
+excerpt = of_one (codes "-f rc --once -x t:alice") to_alice
+    (found 1 (codes "m.mbox\nTo: alice@x.org\nCc: bob@x.org\nFrom:\nSubject:\nDate:\n"))
 
 abbrev pub negated : Row
 negated = of_one (codes "-f rc --once -r t:~bob") to_alice (found 1 (codes "0 72 m.mbox\n"))
@@ -122,13 +127,20 @@ abbrev pub threads : Row
 threads = of_two (codes "-f rc --once -r -t b:hi") (found 2 (codes "0 79 a.mbox\n0 79 b.mbox\n"))
 
 abbrev pub boolean : Row
-boolean = of_one (codes "-f rc --once --boolean -r subject:hello and not body:ho") hello (found 1 (codes "0 58 m.mbox\n"))
+boolean = of_one (codes "-f rc --once --boolean -r subject:hello and not body:ho") hello
+    (found 1 (codes "0 58 m.mbox\n"))
 
 abbrev pub bad_words : Row
 bad_words = of_one (codes "-f rc --once -r -x s:a") hello (refused 2 (Usage TwoFormats))
 
 abbrev pub bad_rcfile : Row
-bad_rcfile = record { words = codes "-f rc --once s:a"; rcfile = []; archives = []; answer = refused 2 (Rc (Missing MboxLine)) }
+bad_rcfile = record {
+  words = codes "-f rc --once s:a";
+  rcfile = [];
+  archives = [];
+  answer =
+      refused 2 (Rc (Missing MboxLine));
+}
 
 abbrev pub bad_query : Row
 bad_query = of_one (codes "-f rc --once q:x") hello (refused 2 (Query (record { number = 1; kind = BadPrefix })))

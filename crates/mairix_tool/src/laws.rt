@@ -1,10 +1,13 @@
 //! Laws of runs, and of the tables that they search.
-ghost use Rattle.std.specs.Prelude.{◌≡◌, ◌<◌, ◌∷◌, ◌++◌, ℕ, false, List, None, Result, length, map, IfOk};
+ghost use Rattle.std.specs.Prelude.{◌≡◌, ◌<◌, ◌∷◌, ◌++◌, ℕ, false, List, None, Some, Result, length, map, IfOk};
 ghost use Rattle.std.specs.List.{All};
+ghost use Rattle.contract_words.specs.Knowledge.{AreStillKnown};
+ghost use Rattle.mail_answer.specs.Asked.{HoldsArchives};
 ghost use Rattle.mail_answer.specs.CutAgain.{IsCutInto, ends_in_return};
 ghost use Rattle.mail_answer.specs.Shapes.{answer_text, closed};
 ghost use Rattle.mail_answer.specs.declared.format.Format.TheVariants as format;
 ghost use Rattle.mbox_cutter.specs.Archives.{Message, text};
+ghost use Rattle.mbox_cutter.specs.Memory.{Giving};
 ghost use Rattle.mail_index.specs.declared.kind.Kind.{Kind};
 ghost use Rattle.mail_index.specs.Tables.{IsPath, IsWellFormed, Table};
 ghost use Rattle.index_job.specs.ArchiveRefusals.{AreSound};
@@ -25,7 +28,9 @@ ghost use Rattle.mairix_tool.specs.OldTables.{HasDigests, but_digests, old_table
 ghost use Rattle.mairix_tool.specs.TermsOfArchives.{has_number};
 ghost use Rattle.run_faults.specs.declared.fault.Fault.{Fault};
 
+use mail_answer::{Archives, MemoryArchives};
 use mail_index::IndexView;
+use mbox_cutter::{MemorySource, Source};
 
 /// An mbox answer can be cut again into its messages. Take the table of archives, and any of their messages, none of
 /// which has CR as its last byte. Cutting the answer then gives one span for each message, in order: the message's own
@@ -109,4 +114,20 @@ pub fn other_tables_of_sound_archives_are_well_formed()
     ensures otherwise { (archives : List Mbox) (t : Table) → All (λ a. IsPath a.path) archives
         → AreSound archives
         → but_digests t ≡ but_digests (table archives) → HasDigests t → IsWellFormed t }
+{}
+
+/// The bytes of archives in memory are always known, and no run changes them. So for such archives a clause about what
+/// is known at the end of a run is a clause about the bytes that they have.
+pub fn archives_in_memory_stay_known()
+    ensures known { (archives : List (List ℕ)) → ⟦<MemoryArchives as Archives>⟧.held archives
+        ≡ Some archives }
+    ensures same { (old new : List (List ℕ)) → HoldsArchives ⟦<MemoryArchives as Archives>⟧ old new
+        → new ≡ old }
+{}
+
+/// What sources in memory still give is always known. So for such sources a clause about what is known before and after
+/// a run is a clause about the bytes that they have before it.
+pub fn sources_in_memory_stay_known()
+    ensures { (old new : List Giving) → AreStillKnown (map ⟦<MemorySource as Source>⟧.rest old)
+        (map ⟦<MemorySource as Source>⟧.rest new) (map (λ s. s.rest) old) }
 {}

@@ -16,10 +16,11 @@ pub use index_job::{
 };
 pub use laws::{
     a_table_replies_as_its_archives, an_answer_is_cut_into_its_messages,
-    every_once_run_has_a_reply, every_stored_run_has_a_reply,
-    other_tables_of_sound_archives_are_well_formed, the_table_chooses_as_the_messages,
-    the_table_has_the_terms_of_the_messages, the_table_links_as_the_messages,
-    the_table_shows_the_messages, unaltered_archives_are_those_indexed,
+    archives_in_memory_stay_known, every_once_run_has_a_reply, every_stored_run_has_a_reply,
+    other_tables_of_sound_archives_are_well_formed, sources_in_memory_stay_known,
+    the_table_chooses_as_the_messages, the_table_has_the_terms_of_the_messages,
+    the_table_links_as_the_messages, the_table_shows_the_messages,
+    unaltered_archives_are_those_indexed,
 };
 pub use mairix_options::{
     MailFormat, Name, OrMemory, Plan, Rc, RcFault, Text, Texts, UsageFault, answer_file,

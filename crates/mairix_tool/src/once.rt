@@ -3,12 +3,14 @@ ghost use Rattle.std.specs.Prelude.{◌≡◌, ◌<◌, ◌^◌, ◌-◌, ◌||�
 ghost use Rattle.std.specs.Bool.{OnTrue};
 ghost use Rattle.std.specs.String.{string_bytes};
 ghost use Rattle.contract_words.specs.Devices.{Counted};
-ghost use Rattle.contract_words.specs.Knowledge.{AreStillKnown, WasKnown};
+ghost use Rattle.contract_words.specs.Knowledge.{AreStillKnown};
+ghost use Rattle.mail_answer.specs.Asked.{HoldsArchives};
 ghost use Rattle.mail_index.specs.Tables.{IsPath};
 ghost use Rattle.mairix_tool.specs.Asked.{asked_rc, asks, Wanted as Asked, wanted as wanted_of};
 ghost use Rattle.index_job.specs.ArchiveTables.{table};
 ghost use Rattle.index_run.specs.ArchivesIndexed.{mboxes};
 ghost use Rattle.index_run.specs.Counts.{CountsSources};
+ghost use Rattle.index_run.specs.SourcesStay.{SourcesStay};
 ghost use Rattle.run_faults.specs.Faults.{fault_in, is_failed_out, is_failed_archives, is_early, is_of_indexing, IsOnceFault};
 ghost use Rattle.mairix_tool.specs.Replies.{RefusesAsked, AreSoundBefore, IsConsistent, KeepsRawBack};
 ghost use Rattle.mairix_tool.specs.Searching.{IndexesAndSearches};
@@ -87,8 +89,13 @@ pub fn once_run<S: Source, A: Archives, O: Out>(
         → IndexesAndSearches A.Archives O.Out w (map S.rest sources.old)
         (map S.rest sources.new) archives.old archives.new out.old out.new result }
 
-    // What is known of the archives' bytes at the end was known before.
-    ensures held { WasKnown (A.held archives.old) (A.held archives.new) }
+    // What is known of the archives' bytes at the end was known before. Their number is the same, and so are the bytes
+    // of which they keep account.
+    ensures held { HoldsArchives A.Archives archives.old archives.new }
+
+    // Each source is still what it was. All of them are read to their ends if no archive is at fault, and those before
+    // it if one is; those after it aren't read.
+    ensures stays { SourcesStay S.Source result.fault sources.old sources.new }
 
     // No device is used if words, rcfile or query are refused, or if memory ran out before that was found.
     ensures refused { OnTrue (is_early result.fault || is_err (asks words.now rc.now now))
@@ -150,7 +157,8 @@ fn answer_indexed<S: Source, A: Archives, O: Out>(
     ensures first { (bytes : List (List ℕ))
         → AreStillKnown (map S.rest sources.old) (map S.rest sources.new) bytes
         → AreSoundBefore (Ok (wanted_of wanted.now)) bytes (fault_in result) }
-    ensures held { WasKnown (A.held archives.old) (A.held archives.new) }
+    ensures held { HoldsArchives A.Archives archives.old archives.new }
+    ensures stays { SourcesStay S.Source (fault_in result) sources.old sources.new }
     ensures early { is_early (fault_in result) ≡ false }
     ensures silent { OnTrue (is_of_indexing (fault_in result))
         ((archives.new ≡ archives.old) × (out.new ≡ out.old)) }

@@ -2,7 +2,7 @@
 ghost use Rattle.std.specs.Prelude.{◌≡◌, ◌<◌, ◌^◌, ◌-◌, ◌++◌, ℕ, List, true, false, Some, None, Ok, All, length, map, IfOk, IfErr, IfSome};
 ghost use Rattle.std.specs.String.{string_bytes};
 ghost use Rattle.contract_words.specs.Devices.{Counted};
-ghost use Rattle.contract_words.specs.Knowledge.{WasKnown};
+ghost use Rattle.mail_answer.specs.Asked.{HoldsArchives};
 ghost use Rattle.mail_index.specs.Faults.{IsFileOf};
 ghost use Rattle.mail_index.specs.Files.{index_file};
 ghost use Rattle.mail_index.specs.Tables.{IsPath, Table};
@@ -96,8 +96,9 @@ pub fn search_run<A: Archives, O: Out>(
         → IsFileOf index.now t
         → SearchesStored A.Archives O.Out w t archives.old archives.new out.old out.new result }
 
-    // What is known of the archives' bytes at the end was known before.
-    ensures held { WasKnown (A.held archives.old) (A.held archives.new) }
+    // What is known of the archives' bytes at the end was known before. Their number is the same, and so are the bytes
+    // of which they keep account.
+    ensures held { HoldsArchives A.Archives archives.old archives.new }
 
     // Whatever bytes the archives have: if words, rcfile, query, index, its version or its paths are refused, the fault
     // is that refusal, unless memory runs out; and no archive is read. Nor was anything sent if a raw answer finds the
@@ -136,7 +137,7 @@ fn answer_stored<A: Archives, O: Out>(
 ) -> Result<u64, Fault>
     requires archives { A.failures archives.old < 2 ^ 64 - 1 }
     requires out { O.failures out.old < 2 ^ 64 - 1 }
-    ensures held { WasKnown (A.held archives.old) (A.held archives.new) }
+    ensures held { HoldsArchives A.Archives archives.old archives.new }
     ensures told { (held : List (List ℕ)) → A.held archives.new ≡ Some held
         → RepliesBy (IsStoredReply (Ok (wanted_of wanted.now)) index.now held) (reply_of result)
         (O.taken out.old) (O.taken out.new) }
@@ -174,7 +175,7 @@ fn answer_opened<A: Archives, O: Out>(
     requires digests { wanted.now.verify ≡ true → view.now.version ≡ newest }
     requires archives { A.failures archives.old < 2 ^ 64 - 1 }
     requires out { O.failures out.old < 2 ^ 64 - 1 }
-    ensures held { WasKnown (A.held archives.old) (A.held archives.new) }
+    ensures held { HoldsArchives A.Archives archives.old archives.new }
     ensures told { (held : List (List ℕ)) → A.held archives.new ≡ Some held
         → RepliesBy (IsProvedAndTold (wanted_of wanted.now) view.now held)
         (reply_of result) (O.taken out.old) (O.taken out.new) }
@@ -200,7 +201,7 @@ fn prove_archives<A: Archives>(
 ) -> Result<(), Fault>
     requires digests { wanted.now.verify ≡ true → view.now.version ≡ newest }
     requires archives { A.failures archives.old < 2 ^ 64 - 1 }
-    ensures held { WasKnown (A.held archives.old) (A.held archives.new) }
+    ensures held { HoldsArchives A.Archives archives.old archives.new }
     ensures proved { IfSome (A.held archives.new) (λ held. TellsProved
         (unproved_archive wanted.now.verify view.now.archives held) result) }
     ensures read { WereVerified view.now.archives wanted.now.verify (fault_in result) }

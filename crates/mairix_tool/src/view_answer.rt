@@ -1,6 +1,6 @@
 //! Answers from an index.
 ghost use Rattle.std.specs.Prelude.{◌≡◌, ◌<◌, ◌^◌, ◌-◌, ℕ, List, Some};
-ghost use Rattle.contract_words.specs.Knowledge.{WasKnown};
+ghost use Rattle.mail_answer.specs.Asked.{HoldsArchives};
 ghost use Rattle.mairix_tool.specs.Asked.{wanted as wanted_of};
 ghost use Rattle.mairix_tool.specs.Inside.Answering.{AsksIndex};
 ghost use Rattle.mairix_tool.specs.Searching.{Searches};
@@ -23,7 +23,7 @@ pub(crate) fn answer_view<A: Archives, O: Out>(
 ) -> Result<u64, Fault>
     requires archives { A.failures archives.old < 2 ^ 64 - 1 }
     requires out { O.failures out.old < 2 ^ 64 - 1 }
-    ensures held { WasKnown (A.held archives.old) (A.held archives.new) }
+    ensures held { HoldsArchives A.Archives archives.old archives.new }
     ensures told { (held : List (List ℕ)) → A.held archives.new ≡ Some held
         → RepliesBy (IsTold index.now (wanted_of wanted.now).search held)
         (reply_of result) (O.taken out.old) (O.taken out.new) }

@@ -1,5 +1,11 @@
 -- A span is closed by what closes its last line, because the lines before it stay the same.
-use Rattle.mail_answer.proofs.Words.{◌≡◌, ℕ, ◌+◌, ◌<◌, ◌≤◌, Bool, true, false, cond, ◌||◌, ◌&&◌, ◌==◌, nat_lt, nat_eq, List, [], ◌∷◌, ◌++◌, Some, length, take, drop, refl, ap, sym, ◌∙◌, append_assoc, append-nil, arith, nat_tests, drop-append-le, drop_all, take-append-drop, is_empty, lines, first_length, line_end_of, length_before_feed, line_end-more, first_length-le, length_before_feed-le, length_before_feed-append_out, lines-cons, lines-nil, feed, has_feed, feeds_behind, next_text, behind_next, closed, is_closed, last_of}
+use Rattle.mail_answer.proofs.Words.{◌≡◌, ℕ, ◌+◌, ◌<◌, ◌≤◌, Bool, true, false, cond, ◌||◌, ◌&&◌, ◌==◌, nat_lt, nat_eq}
+use Rattle.mail_answer.proofs.Words.{List, [], ◌∷◌, ◌++◌, Some, length, take, drop, refl, ap, sym, ◌∙◌, append_assoc}
+use Rattle.mail_answer.proofs.Words.{append-nil, arith, nat_tests, drop-append-le, drop_all, take-append-drop, is_empty}
+use Rattle.mail_answer.proofs.Words.{lines, first_length, line_end_of, length_before_feed, line_end-more}
+use Rattle.mail_answer.proofs.Words.{first_length-le, length_before_feed-le, length_before_feed-append_out, lines-cons}
+use Rattle.mail_answer.proofs.Words.{lines-nil, feed, has_feed, feeds_behind, next_text, behind_next, closed, is_closed}
+use Rattle.mail_answer.proofs.Words.{last_of}
 use Rattle.std.specs.Str.{bytes_eq}
 use Rattle.std.proofs.lemmas.List.{length-append, length-drop, take_all}
 
@@ -11,12 +17,14 @@ pub last-cons : (l : List ℕ) (b : List ℕ) → 0 < length b → last_of (l �
 last-cons l b h = let e = lines-cons b h in rw (e) refl
 
 -- the last line is decided by what follows the first line
-pub last_behind : (b x : List ℕ) → first_length b < length b → last_of (lines (b ++ x)) ≡ last_of (lines (behind_next b ++ x))
+pub last_behind : (b x : List ℕ) → first_length b < length b → last_of (lines (b ++ x))
+    ≡ last_of (lines (behind_next b ++ x))
 last_behind b x h =
     let n : ℕ = first_length b in
     let same : n ≡ first_length (b ++ x) = line_end-more b x n (ended b h) in
     let long : length (b ++ x) ≡ length b + length x = length-append b x in
-    let rest : drop (first_length (b ++ x)) (b ++ x) ≡ drop n b ++ x = ap (λ k. drop k (b ++ x)) (sym same) ∙ drop-append-le n b x (omega arith) in
+    let rest : drop (first_length (b ++ x)) (b ++ x) ≡ drop n b ++ x = ap (λ k. drop k (b ++ x)) (sym same)
+    ∙ drop-append-le n b x (omega arith) in
     let some : 0 < length (drop n b ++ x) = omega (arith, length-append (drop n b) x, length-drop n b) in
     ap last_of (lines-cons (b ++ x) (omega arith))
     ∙ ap (λ r. last_of (take (first_length (b ++ x)) (b ++ x) ∷ lines r)) rest
@@ -37,11 +45,13 @@ pub has_feed-is : (b : List ℕ) → has_feed b ≡ nat_lt (length_before_feed b
 has_feed-is [] = refl
 has_feed-is (x ∷ xs) = grind (arith, nat_tests, has_feed-is xs)
 
-pub whole_end : (b : List ℕ) → first_length b ≡ length b → nat_lt (length_before_feed b) (length b) ≡ true → Some (first_length b) ≡ line_end_of b
+pub whole_end : (b : List ℕ) → first_length b ≡ length b → nat_lt (length_before_feed b) (length b) ≡ true
+    → Some (first_length b) ≡ line_end_of b
 unfolding first_length line_end_of
 whole_end b e f = grind (arith, nat_tests)
 
-pub whole_feed : (b : List ℕ) → first_length b ≡ length b → nat_lt (length_before_feed b) (length b) ≡ false → first_length (b ++ feed) ≡ length (b ++ feed)
+pub whole_feed : (b : List ℕ) → first_length b ≡ length b → nat_lt (length_before_feed b) (length b) ≡ false
+    → first_length (b ++ feed) ≡ length (b ++ feed)
 unfolding first_length
 whole_feed b e f =
     let k : length_before_feed b ≤ length b = length_before_feed-le b in
@@ -58,17 +68,23 @@ ended_line b h e f =
     let long : length (b ++ feed) ≡ length b + 1 = length-append b feed in
     ap (λ ls. is_empty (last_of ls)) (lines-cons (b ++ feed) (omega arith))
     ∙ ap (λ k. is_empty (last_of (take k (b ++ feed) ∷ lines (drop k (b ++ feed))))) (sym same ∙ e)
-    ∙ ap (λ r. is_empty (last_of (take (length b) (b ++ feed) ∷ lines r))) (drop-append-le (length b) b feed (omega arith) ∙ ap (λ r. r ++ feed) (drop_all (length b) b (omega arith)))
+    ∙ ap (λ r. is_empty (last_of (take (length b) (b ++ feed) ∷ lines r)))
+    (drop-append-le (length b) b feed (omega arith) ∙ ap (λ r. r ++ feed) (drop_all (length b) b (omega arith)))
     ∙ ap is_empty (last-cons (take (length b) (b ++ feed)) feed (omega arith)) ∙ feed_closed
 
-open_line : (b : List ℕ) → 0 < length b → first_length b ≡ length b → has_feed b ≡ false → is_closed (b ++ feed) ≡ is_empty (b ++ feed)
+open_line : (b : List ℕ) → 0 < length b → first_length b ≡ length b → has_feed b ≡ false → is_closed (b ++ feed)
+    ≡ is_empty (b ++ feed)
 open_line b h e f = single (b ++ feed) (omega (arith, length-append b feed)) (whole_feed b e (sym (has_feed-is b) ∙ f))
 
 -- CR alone becomes an empty line
 pub cr_line : (b : List ℕ) → 0 < length b → is_empty (b ++ feed) ≡ bytes_eq b (13 ∷ [])
 unfolding is_empty
 cr_line [] h = absurd (omega arith)
-cr_line (x ∷ []) h = elim (x == 13) as (λ v. (((x == 10) && false) || (v && true)) ≡ (v && true)) [ true ↦ elim (x == 10) as (λ w. ((w && false) || true) ≡ true) [ true ↦ refl | false ↦ refl ] | false ↦ elim (x == 10) as (λ w. ((w && false) || false) ≡ false) [ true ↦ refl | false ↦ refl ] ]
+cr_line (x ∷ []) h = elim (x == 13) as (λ v. (((x == 10) && false) || (v && true)) ≡ (v && true)) [
+  | true ↦ elim (x == 10) as (λ w. ((w && false) || true) ≡ true) [ true ↦ refl | false ↦ refl ]
+  | false ↦ elim
+      (x == 10) as (λ w. ((w && false) || false) ≡ false) [ true ↦ refl | false ↦ refl ]
+]
 cr_line (x ∷ y ∷ []) h = tests (x == 10) (x == 13) (y == 10)
   where
     tests : (a b c : Bool) → ((a && false) || (b && (c && false))) ≡ (b && false)
@@ -78,19 +94,23 @@ cr_line (x ∷ y ∷ z ∷ rest) h = tests (x == 10) (x == 13) (y == 10)
     tests : (a b c : Bool) → ((a && false) || (b && (c && false))) ≡ (b && false)
     tests a b c = grind arith
 
-with_feeds : (b : List ℕ) → (e f g : Bool) → is_closed b ≡ e → is_closed (b ++ feed) ≡ f → closed b ≡ cond e b (cond f (b ++ feed) (b ++ feed ++ feed))
+with_feeds : (b : List ℕ) → (e f g : Bool) → is_closed b ≡ e → is_closed (b ++ feed) ≡ f → closed b
+    ≡ cond e b (cond f (b ++ feed) (b ++ feed ++ feed))
 unfolding closed
 with_feeds b e f g p q = rw (p, q) refl
 
 pub one_line : (b : List ℕ) → 0 < length b → first_length b ≡ length b → closed b ≡ b ++ feeds_behind b
-one_line b h e = with_feeds b (is_empty b) (has_feed b || bytes_eq b (13 ∷ [])) true (single b h e) (feed_decides b h e) ∙ parts (is_empty b) (has_feed b || bytes_eq b (13 ∷ []))
+one_line b h e = with_feeds b (is_empty b) (has_feed b || bytes_eq b (13 ∷ [])) true (single b h e) (feed_decides b h e)
+    ∙ parts (is_empty b) (has_feed b || bytes_eq b (13 ∷ []))
   where
-    parts : (e f : Bool) → cond e b (cond f (b ++ feed) (b ++ feed ++ feed)) ≡ b ++ cond e [] (cond f feed (feed ++ feed))
+    parts : (e f : Bool) → cond e b (cond f (b ++ feed) (b ++ feed ++ feed))
+        ≡ b ++ cond e [] (cond f feed (feed ++ feed))
     parts true f = sym (append-nil b)
     parts false true = refl
     parts false false = append_assoc b feed feed
 
-    feed_decides : (b : List ℕ) → 0 < length b → first_length b ≡ length b → is_closed (b ++ feed) ≡ (has_feed b || bytes_eq b (13 ∷ []))
+    feed_decides : (b : List ℕ) → 0 < length b → first_length b ≡ length b → is_closed (b ++ feed)
+        ≡ (has_feed b || bytes_eq b (13 ∷ []))
     feed_decides b h e = go (has_feed b) refl
       where
         go : (v : Bool) → has_feed b ≡ v → is_closed (b ++ feed) ≡ (has_feed b || bytes_eq b (13 ∷ []))
@@ -105,7 +125,8 @@ not_last n m h = grind (arith, nat_tests)
 
 -- a line that isn't the last
 pub next_front : (b : List ℕ) → first_length b < length b → next_text b ≡ take (first_length b) b
-next_front b h = let front : List ℕ = take (first_length b) b in rw (not_last (first_length b) (length b) h) (append-nil front)
+next_front b h = let front : List ℕ = take (first_length b) b
+    in rw (not_last (first_length b) (length b) h) (append-nil front)
 
 -- the first of several lines
 pub closed_more : (b : List ℕ) → 0 < length (behind_next b) → closed b ≡ next_text b ++ closed (behind_next b)
@@ -115,13 +136,17 @@ closed_more b z =
     let front : List ℕ = take (first_length b) b in
     let next : next_text b ≡ front = rw (not_last (first_length b) (length b) h) (append-nil front) in
     let whole : front ++ rest ≡ b = take-append-drop (first_length b) b in
-    let e : is_closed b ≡ is_closed rest = ap is_closed (sym (append-nil b)) ∙ closed_behind b [] h ∙ ap is_closed (append-nil rest) in
+    let e : is_closed b ≡ is_closed rest = ap is_closed (sym (append-nil b)) ∙ closed_behind b [] h
+    ∙ ap is_closed (append-nil rest) in
     with_feeds b (is_closed rest) (is_closed (rest ++ feed)) true e (closed_behind b feed h)
     ∙ parts front rest b whole (is_closed rest) (is_closed (rest ++ feed))
     ∙ ap (λ l. front ++ l) (sym (with_feeds rest (is_closed rest) (is_closed (rest ++ feed)) true refl refl))
     ∙ ap (λ l. l ++ closed rest) (sym next)
   where
-    parts : (front rest b : List ℕ) → front ++ rest ≡ b → (e f : Bool) → cond e b (cond f (b ++ feed) (b ++ feed ++ feed)) ≡ front ++ cond e rest (cond f (rest ++ feed) (rest ++ feed ++ feed))
+    parts : (front rest b : List ℕ) → front ++ rest ≡ b → (e f : Bool)
+        → cond e b (cond f (b ++ feed) (b ++ feed ++ feed))
+        ≡ front ++ cond e rest (cond f (rest ++ feed) (rest ++ feed ++ feed))
     parts front rest b w true f = sym w
     parts front rest b w false true = ap (λ l. l ++ feed) (sym w) ∙ append_assoc front rest feed
-    parts front rest b w false false = ap (λ l. (l ++ feed) ++ feed) (sym w) ∙ ap (λ l. l ++ feed) (append_assoc front rest feed) ∙ append_assoc front (rest ++ feed) feed
+    parts front rest b w false false = ap (λ l. (l ++ feed) ++ feed) (sym w)
+        ∙ ap (λ l. l ++ feed) (append_assoc front rest feed) ∙ append_assoc front (rest ++ feed) feed

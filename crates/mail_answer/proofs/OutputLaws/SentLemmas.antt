@@ -1,5 +1,8 @@
 -- What was sent of an answer is what the table answers, or a front of it: by the result of each call.
-use Rattle.mail_answer.proofs.Words.{◌≡◌, ℕ, List, [], Option, Result, Ok, Err, length, refl, subst, arith, flat_map, appends-nil, Table, SendsKnown, SendsSpans, Search, AreChosen, known_answer, closed, mail_told, TableAnswer, IsTableAnswer, Answers, KeepsArchives, IsReady, IsSameAnswer, Ghosts}
+use Rattle.mail_answer.proofs.Words.{◌≡◌, ℕ, List, [], Option, Result, Ok, Err, length, refl, subst, arith, flat_map}
+use Rattle.mail_answer.proofs.Words.{appends-nil, Table, SendsKnown, SendsSpans, Search, AreChosen, known_answer}
+use Rattle.mail_answer.proofs.Words.{closed, mail_told, TableAnswer, IsTableAnswer, Answers, KeepsArchives, IsReady}
+use Rattle.mail_answer.proofs.Words.{IsSameAnswer, Ghosts}
 use Rattle.std.specs.Result.{IsErrAnd}
 use Rattle.mail_answer.specs.declared.fault.AnswerFault.{AnswerFault}
 use Rattle.mail_answer.specs.declared.output.answer_writer.AnswerWriter.{AnswerWriter}
@@ -10,30 +13,56 @@ use Rattle.mail_answer.proofs.OutputLaws.SpanWrites.{some_spans}
 use Rattle.mbox_cutter.specs.declared.device.Out.{Ghosts as OutGhosts}
 
 -- a fault before anything was sent
-pub nothing_sent : (taken known : Option (List ℕ)) (messages : ℕ) (r : Result ℕ AnswerFault) → IsErrAnd r (λ fault. fault.sent ≡ 0) → SendsKnown taken taken known messages r
+pub nothing_sent : (taken known : Option (List ℕ)) (messages : ℕ) (r : Result ℕ AnswerFault)
+    → IsErrAnd r (λ fault. fault.sent ≡ 0) → SendsKnown taken taken known messages r
 nothing_sent taken known messages (Ok n) unsent = absurd unsent
 nothing_sent taken known messages (Err fault) unsent =
-    let text = some_text known in
-    (text.0, text.1, record { went = []; unsent = text.0; front = refl; appends = appends-nil taken; counted = omega (arith, unsent) })
+    let text = some_text known in (
+      text.0,
+      text.1,
+      record {
+        went = [];
+        unsent = text.0;
+        front = refl;
+        appends = appends-nil taken;
+        counted =
+            omega (arith, unsent);
+      },
+    )
 
 -- what was written is what the table answers
-pub answered_sent : (t : Table) (s : Search) (held : Option (List (List ℕ))) (taken taken' : Option (List ℕ)) (r : Result ℕ AnswerFault) (xs : List ℕ) → AreChosen (mail_told t) s xs
-    → SendsKnown taken taken' (known_answer s.format t held xs) (length xs) r → (a : TableAnswer) → IsTableAnswer t s held a → Answers taken taken' a r
+pub answered_sent : (t : Table) (s : Search) (held : Option (List (List ℕ))) (taken taken' : Option (List ℕ))
+    (r : Result ℕ AnswerFault) (xs : List ℕ) → AreChosen (mail_told t) s xs
+    → SendsKnown taken taken' (known_answer s.format t held xs) (length xs) r → (a : TableAnswer)
+    → IsTableAnswer t s held a → Answers taken taken' a r
 answered_sent t s held taken taken' r xs are sent a is = grind (arith, one-choice)
 
 -- the same of an mbox answer
-pub no_spans_sent : (taken : Option (List ℕ)) (t : Table) (numbers : List ℕ) (r : Result ℕ AnswerFault) → IsErrAnd r (λ fault. fault.sent ≡ 0) → SendsSpans taken taken t numbers r
+pub no_spans_sent : (taken : Option (List ℕ)) (t : Table) (numbers : List ℕ) (r : Result ℕ AnswerFault)
+    → IsErrAnd r (λ fault. fault.sent ≡ 0) → SendsSpans taken taken t numbers r
 no_spans_sent taken t numbers (Ok n) unsent = absurd unsent
 no_spans_sent taken t numbers (Err fault) unsent =
-    let spans = some_spans t numbers in
-    (spans.0, spans.1, record { went = []; unsent = flat_map closed spans.0; front = refl; appends = appends-nil taken; counted = omega (arith, unsent) })
+    let spans = some_spans t numbers in (
+      spans.0,
+      spans.1,
+      record {
+        went = [];
+        unsent = flat_map closed spans.0;
+        front = refl;
+        appends = appends-nil taken;
+        counted = omega (arith, unsent);
+      },
+    )
 
 -- the spans that were written are those of the chosen numbers
-pub spans_sent : (t : Table) (s : Search) (taken taken' : Option (List ℕ)) (r : Result ℕ AnswerFault) (xs : List ℕ) → AreChosen (mail_told t) s xs → SendsSpans taken taken' t xs r
+pub spans_sent : (t : Table) (s : Search) (taken taken' : Option (List ℕ)) (r : Result ℕ AnswerFault) (xs : List ℕ)
+    → AreChosen (mail_told t) s xs → SendsSpans taken taken' t xs r
     → (numbers : List ℕ) → AreChosen (mail_told t) s numbers → SendsSpans taken taken' t numbers r
-spans_sent t s taken taken' r xs are sent numbers chosen = subst (λ (ns : List ℕ). SendsSpans taken taken' t ns r) (one-choice t s.threads s.query xs numbers are chosen) sent
+spans_sent t s taken taken' r xs are sent numbers chosen =
+    subst (λ (ns : List ℕ). SendsSpans taken taken' t ns r) (one-choice t s.threads s.query xs numbers are chosen) sent
 
 -- after a message, the next one can be written
-pub still_ready : {A O : Type 0} (g : Ghosts A) (h : OutGhosts O) (w w' : AnswerWriter) (a a' : A) (o o' : O) → IsReady g h w a o → IsSameAnswer w w' → KeepsArchives g a a'
+pub still_ready : {A O : Type 0} (g : Ghosts A) (h : OutGhosts O) (w w' : AnswerWriter) (a a' : A) (o o' : O)
+    → IsReady g h w a o → IsSameAnswer w w' → KeepsArchives g a a'
     → g.failures a' ≡ g.failures a → h.failures o' ≡ h.failures o → IsReady g h w' a' o'
 still_ready g h w w' a a' o o' ready same keeps archives_count out_count = grind (arith, some_later)

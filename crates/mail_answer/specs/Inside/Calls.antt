@@ -17,6 +17,7 @@ pub record AreAsIndexed {A : Type 0} (g : Ghosts A) (indexed : List Archive) (a 
 -- After reads alone, nothing else is known of the archives than before.
 pub record KeepsArchives {A : Type 0} (g : Ghosts A) (old new : A) : Type 0 where
   pub held : WasKnown (g.held old) (g.held new)
+  pub whole : (archives : List (List ℕ)) → g.whole old archives → g.whole new archives
   pub number : g.number new ≡ g.number old
   -- no length was read
   pub asked : g.lengths_asked new ≡ g.lengths_asked old
@@ -30,7 +31,8 @@ pub record ReadsArchives {A T : Type 0} (g : Ghosts A) (old new : A) (result : R
   pub fresh : IfSome (g.held new) (λ _. has_fault is_stale result ≡ false)
 
 -- an output was written to, and this many bytes have been sent since the answer began
-pub record WritesOut {O T : Type 0} (g : OutGhosts O) (sent : ℕ) (old new : O) (result : Result T AnswerFaultKind) : Type 0 where
+pub record WritesOut {O T : Type 0} (g : OutGhosts O) (sent : ℕ) (old new : O) (result : Result T AnswerFaultKind) :
+    Type 0 where
   -- if no byte was sent and sending hasn't failed, the output is as it was
   pub kept : sent ≡ 0 → has_fault is_of_output result ≡ false → new ≡ old
   -- its count of failures rises by one if its failure is the fault, and stays otherwise

@@ -7,8 +7,31 @@ use Rattle.mail_answer.specs.declared.cursor.walk.Node.TheVariants.{Listed, Mark
 -- the truths, steps, postings and levels of a node, from those of its parts
 abbrev pub ahead : Node → Ahead
 ahead (Listed list) = record { truths = list.truths; left = list.left; postings = list.left; below = 0 }
-ahead (Marked marked) = record { truths = marked.value.truths; left = marked.value.left; postings = marked.value.left; below = 0 }
+ahead (Marked marked) = record {
+  truths = marked.value.truths;
+  left = marked.value.left;
+  postings = marked.value.left;
+  below = 0;
+}
 ahead (Scanned scan) = record { truths = scan.value.truths; left = scan.value.left; postings = 0; below = 0 }
-ahead (Others o) = record { truths = others o.count o.low o.inner.value.truths; left = o.inner.value.left; postings = o.inner.value.postings; below = o.inner.value.below + 1 }
-ahead (Common members) = record { truths = common members.items; left = left_in members.items; postings = postings_in members.items; below = levels members.items }
-ahead (United members) = record { truths = united members.items; left = left_in members.items; postings = postings_in members.items; below = levels members.items }
+ahead (Others o) = record {
+  truths = others o.count o.low o.inner.value.truths;
+  left = o.inner.value.left;
+  postings =
+      o.inner.value.postings;
+  below = o.inner.value.below + 1;
+}
+ahead (Common members) = record {
+  truths = common members.items;
+  left = left_in members.items;
+  postings =
+      postings_in members.items;
+  below = levels members.items;
+}
+ahead (United members) = record {
+  truths = united members.items;
+  left = left_in members.items;
+  postings =
+      postings_in members.items;
+  below = levels members.items;
+}

@@ -1,8 +1,9 @@
 //! Archives that fail once, for tests.
-ghost use Rattle.std.specs.Prelude.{◌≡◌, ◌≢◌, ◌<◌, ◌≤◌, ◌-◌, ◌+◌, ◌^◌, length, take, nat_eq, IfOk, IsErr};
+ghost use Rattle.std.specs.Prelude.{◌≡◌, ◌≢◌, ◌<◌, ◌≤◌, ◌-◌, ◌+◌, ◌^◌, ℕ, List, length, take, nat_eq, IfOk, IsErr};
+ghost use Rattle.contract_words.specs.Archives.{IsLength, IsRead};
 ghost use Rattle.contract_words.specs.Devices.{Counted, Counts};
 ghost use Rattle.contract_words.specs.Knowledge.{WasKnown};
-ghost use Rattle.mail_answer.specs.Archives.{IsLength, IsRead, bytes_told};
+ghost use Rattle.mail_answer.specs.Archives.{bytes_told};
 
 use crate::archives::Archives;
 use mbox_cutter::DeviceFault;
@@ -54,6 +55,8 @@ impl<A: Archives + Drop> Archives for FailAt<A> {
 
     ghost failures = { λ s. A.failures s.inner + s.failures };
 
+    ghost whole = { λ s. A.whole s.inner };
+
     ghost lengths_asked = { λ s. A.lengths_asked s.inner };
 
     ghost measures = { λ s n told t. (s.fail_at ≡ 1 → IsErr told × (t.inner ≡ s.inner)) × (s.fail_at ≢ 1 → A.measures s.inner n told t.inner) × (t.fail_at ≡ s.fail_at - 1) };
@@ -68,6 +71,8 @@ impl<A: Archives + Drop> Archives for FailAt<A> {
         requires below { n < A.number self.old.inner }
         requires count { A.failures self.old.inner + self.old.failures < 2 ^ 64 - 1 }
         ensures held { WasKnown (A.held self.old.inner) (A.held self.new.inner) }
+        ensures whole { (archives : List (List ℕ)) → A.whole self.old.inner archives
+            → A.whole self.new.inner archives }
         ensures number { A.number self.new.inner ≡ A.number self.old.inner }
         ensures bytes { IfOk result (λ bytes. IsLength n bytes (A.held self.new.inner)) }
         ensures count { Counts result (A.failures self.old.inner + self.old.failures)
@@ -90,6 +95,8 @@ impl<A: Archives + Drop> Archives for FailAt<A> {
         requires room { 0 < length into.old }
         requires count { A.failures self.old.inner + self.old.failures < 2 ^ 64 - 1 }
         ensures held { WasKnown (A.held self.old.inner) (A.held self.new.inner) }
+        ensures whole { (archives : List (List ℕ)) → A.whole self.old.inner archives
+            → A.whole self.new.inner archives }
         ensures number { A.number self.new.inner ≡ A.number self.old.inner }
         ensures bound { IfOk result (λ bytes. bytes ≤ length into.new) }
         ensures bytes { IfOk result (λ bytes. IsRead n offset (take bytes into.new)

@@ -1,7 +1,7 @@
 //! Archives in memory.
-ghost use Rattle.std.specs.Prelude.{◌≡◌, ◌<◌, ◌≤◌, ◌-◌, ◌^◌, ◌++◌, ◌∷◌, [], Some, Ok, length, take, drop, min, IfOk, OnOk, OnErr};
+ghost use Rattle.std.specs.Prelude.{◌≡◌, ◌<◌, ◌≤◌, ◌-◌, ◌^◌, ◌++◌, ◌∷◌, ℕ, List, [], Some, Ok, length, take, drop, min, IfOk, OnOk, OnErr};
+ghost use Rattle.contract_words.specs.Archives.{IsLength, IsRead, archive_at};
 ghost use Rattle.contract_words.specs.Devices.{Counts};
-ghost use Rattle.mail_answer.specs.Archives.{archive_at, IsLength, IsRead};
 
 use crate::archives::Archives;
 use mbox_cutter::DeviceFault;
@@ -55,6 +55,8 @@ impl Archives for MemoryArchives {
 
     ghost failures = { λ s. 0 };
 
+    ghost whole = { λ s archives. s ≡ archives };
+
     ghost lengths_asked = { λ _. 0 };
 
     ghost measures = { λ _ _ _ _. Unit {0} };
@@ -69,6 +71,7 @@ impl Archives for MemoryArchives {
         requires below { n < length self.old }
         requires count { 0 < 2 ^ 64 - 1 }
         ensures held { Some self.new ≡ Some self.old }
+        ensures whole { (archives : List (List ℕ)) → self.old ≡ archives → self.new ≡ archives }
         ensures number { length self.new ≡ length self.old }
         ensures bytes { IfOk result (λ bytes. IsLength n bytes (Some self.old)) }
         ensures count { Counts result 0 0 }
@@ -82,6 +85,7 @@ impl Archives for MemoryArchives {
         requires room { 0 < length into.old }
         requires count { 0 < 2 ^ 64 - 1 }
         ensures held { Some self.new ≡ Some self.old }
+        ensures whole { (archives : List (List ℕ)) → self.old ≡ archives → self.new ≡ archives }
         ensures number { length self.new ≡ length self.old }
         ensures bound { IfOk result (λ bytes. bytes ≤ length into.new) }
         ensures bytes { IfOk result (λ bytes. IsRead n offset (take bytes into.new)

@@ -1,10 +1,10 @@
 //! Checks that archives have the bytes that were indexed.
 ghost use Rattle.std.specs.Prelude.{◌≡◌, ◌≢◌, ◌<◌, ◌≤◌, ◌-◌, ◌^◌, ℕ, List, false, length, min, None, Err, IfOk, IfErr, OnOk, OnErr, IfSome};
+ghost use Rattle.contract_words.specs.Archives.{archive_at};
 ghost use Rattle.contract_words.specs.Devices.{Counted};
 ghost use Rattle.mbox_cutter.specs.declared.device.DeviceFault.{DeviceFault};
 ghost use Rattle.mail_index.specs.Tables.{IsWellFormed};
 ghost use Rattle.mail_answer.specs.Answers.{fails_by, kind_of};
-ghost use Rattle.mail_answer.specs.Archives.{archive_at};
 ghost use Rattle.mail_answer.specs.Asked.{HoldsArchives, RefusesCount};
 ghost use Rattle.mail_answer.specs.Inside.Calls.{AreAsIndexed, KeepsArchives};
 ghost use Rattle.mail_answer.specs.Inside.Digests.{front_digest, AbsorbsPart, ReadsDigest};

@@ -1,7 +1,7 @@
 //! A buffer of bytes whose memory is kept when bytes are dropped.
 ghost use Rattle.std.specs.Prelude.{◌≡◌, ◌<◌, ◌≤◌, ◌+◌, ◌-◌, ◌^◌, ◌++◌, [], false, length, take, drop, IfOk, IfErr, OnOk, OnErr, IfSome};
+ghost use Rattle.contract_words.specs.Archives.{archive_at};
 ghost use Rattle.contract_words.specs.Devices.{Counted, Counts};
-ghost use Rattle.mail_answer.specs.Archives.{archive_at};
 ghost use Rattle.mail_answer.specs.Faults.{has_fault, is_of_output, is_of_archives, is_stale, IfStale};
 ghost use Rattle.mail_answer.specs.Inside.Calls.{KeepsArchives};
 ghost use Rattle.mail_answer.specs.Inside.Readings.{ReadsBehind, ReadsTail};

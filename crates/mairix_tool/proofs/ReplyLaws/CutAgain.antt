@@ -1,8 +1,13 @@
 -- An mbox answer over the table of its archives is cut again into its messages, because each was cut out of an archive.
-use Rattle.mairix_tool.proofs.Words.{◌≡◌, ◌∙◌, ℕ, zero, suc, ◌<◌, false, List, [], ◌∷◌, ◌++◌, Option, Some, None, length, map, take, drop, unwrap_or, refl, sym, ap, subst, arith, append_assoc, slice_index_or, option_map, map-append, length-map, length_push, get_or_at, All-map, flat_map-map, Record, Message, cut, messages, span_length, closed, span, answer_text, record_at, no_record, Mbox, messages_in, record_of, records_from, table}
+use Rattle.contract_words.specs.Archives.{archive_at}
+use Rattle.mairix_tool.proofs.Words.{◌≡◌, ◌∙◌, ℕ, zero, suc, ◌<◌, false, List, [], ◌∷◌, ◌++◌, Option, Some, None}
+use Rattle.mairix_tool.proofs.Words.{length, map, take, drop, unwrap_or, refl, sym, ap, subst, arith, append_assoc}
+use Rattle.mairix_tool.proofs.Words.{slice_index_or, option_map, map-append, length-map, length_push, get_or_at}
+use Rattle.mairix_tool.proofs.Words.{All-map, flat_map-map, Record, Message, cut, messages, span_length, closed, span}
+use Rattle.mairix_tool.proofs.Words.{answer_text, record_at, no_record, Mbox, messages_in, record_of, records_from}
+use Rattle.mairix_tool.proofs.Words.{table}
 use Rattle.std.specs.List.{All}
 use Rattle.mail_answer.specs.declared.format.Format.TheVariants as format
-use Rattle.mail_answer.specs.Archives.{archive_at}
 use Rattle.mail_answer.specs.CutAgain.{IsCutOut, IsCutInto, ends_in_return}
 use Rattle.mail_answer.proofs.OutputLaws.CutAgain.{cut-again}
 use Rattle.mail_answer.proofs.OutputLaws.MessageLines.{Each, span_of}
@@ -12,7 +17,8 @@ each-joined : {A : Type 0} (P : A → Type 0) (xs ys : List A) → Each P xs →
 each-joined P [] ys h k = k
 each-joined P (x ∷ xs) ys h k = (h.0, each-joined P xs ys h.1 k)
 
-each-at : {A : Type 0} (P : A → Type 0) (xs : List A) (i : ℕ) (d : A) → i < length xs → Each P xs → P (slice_index_or xs i d)
+each-at : {A : Type 0} (P : A → Type 0) (xs : List A) (i : ℕ) (d : A) → i < length xs → Each P xs
+    → P (slice_index_or xs i d)
 each-at P [] i d below h = absurd (omega arith)
 each-at P (x ∷ xs) zero d below h = h.0
 each-at P (x ∷ xs) (suc i) d below h = each-at P xs i d (omega arith) h.1
@@ -22,41 +28,60 @@ abbrev IsOf : List Mbox → Record → Type 0
 IsOf archives r = IsCutOut (span (bytes_held archives) r)
 
 -- the spans of an archive's messages, after those before them
-each-cut : (all : List Mbox) (n : ℕ) (bytes : List ℕ) (before ms : List Message) → archive_at (bytes_held all) n ≡ bytes → messages bytes ≡ Some (before ++ ms) → Each (IsOf all) (map (record_of n) ms)
+each-cut : (all : List Mbox) (n : ℕ) (bytes : List ℕ) (before ms : List Message) → archive_at (bytes_held all) n ≡ bytes
+    → messages bytes ≡ Some (before ++ ms) → Each (IsOf all) (map (record_of n) ms)
 each-cut all n bytes before [] is cuts = tt
 each-cut all n bytes before (m ∷ ms) is cuts =
     let spans : cut bytes ≡ Some (map span_of before ++ span_of m ∷ map span_of ms) =
     ap (option_map (map span_of)) cuts ∙ ap Some (map-append span_of before (m ∷ ms)) in
     let here : IsCutOut (take (span_length m) (drop m.offset bytes)) =
-    record { archive = bytes; before = map span_of before; here = span_of m; behind = map span_of ms; is_cut = spans; is_text = refl } in (
+    record {
+      archive = bytes;
+      before = map span_of before;
+      here = span_of m;
+      behind = map span_of ms;
+      is_cut = spans;
+      is_text = refl;
+    } in (
       subst (λ (b : List ℕ). IsCutOut (take (span_length m) (drop m.offset b))) (sym is) here,
       each-cut all n bytes (before ++ m ∷ []) ms is (cuts ∙ ap Some (sym (append_assoc before (m ∷ []) ms))),
     )
 
-each-in : (all : List Mbox) (n : ℕ) (bytes : List ℕ) → archive_at (bytes_held all) n ≡ bytes → Each (IsOf all) (map (record_of n) (messages_in bytes))
+each-in : (all : List Mbox) (n : ℕ) (bytes : List ℕ) → archive_at (bytes_held all) n ≡ bytes
+    → Each (IsOf all) (map (record_of n) (messages_in bytes))
 each-in all n bytes is = go (messages bytes) refl
   where
     go : (o : Option (List Message)) → messages bytes ≡ o → Each (IsOf all) (map (record_of n) (unwrap_or o []))
     go None e = tt
     go (Some ms) e = each-cut all n bytes [] ms is e
 
-each-record : (n : ℕ) (before archives : List Mbox) → length before ≡ n → Each (IsOf (before ++ archives)) (records_from n archives)
+each-record : (n : ℕ) (before archives : List Mbox) → length before ≡ n
+    → Each (IsOf (before ++ archives)) (records_from n archives)
 each-record n before [] long = tt
 each-record n before (a ∷ archives) long =
     let is : archive_at (bytes_held (before ++ a ∷ archives)) n ≡ a.bytes =
     ap (λ (bs : List (List ℕ)). archive_at bs n) (map-append (λ (b : Mbox). b.bytes) before (a ∷ archives))
-    ∙ get_or_at (bytes_held before) a.bytes (bytes_held archives) [] n (length-map before (λ (b : Mbox). b.bytes) ∙ long) in
-    let rest : Each (IsOf ((before ++ a ∷ []) ++ archives)) (records_from (suc n) archives) = each-record (suc n) (before ++ a ∷ []) archives (omega (arith, length_push before a)) in
-    each-joined (IsOf (before ++ a ∷ archives)) (map (record_of n) (messages_in a.bytes)) (records_from (suc n) archives)
+    ∙ get_or_at (bytes_held before) a.bytes (bytes_held archives) [] n
+    (length-map before (λ (b : Mbox). b.bytes) ∙ long) in
+    let rest : Each (IsOf ((before ++ a ∷ []) ++ archives)) (records_from (suc n) archives) =
+    each-record (suc n) (before ++ a ∷ []) archives (omega (arith, length_push before a)) in
+    each-joined (IsOf (before ++ a ∷ archives)) (map (record_of n) (messages_in a.bytes))
+    (records_from (suc n) archives)
     (each-in (before ++ a ∷ archives) n a.bytes is)
-    (subst (λ (all : List Mbox). Each (IsOf all) (records_from (suc n) archives)) (append_assoc before (a ∷ []) archives) rest)
+    (subst (λ (all : List Mbox). Each (IsOf all) (records_from (suc n) archives))
+    (append_assoc before (a ∷ []) archives) rest)
 
-pub answer-cut-again : (archives : List Mbox) (numbers : List ℕ) → All (λ n. n < length (table archives).messages) numbers → All (λ text. ends_in_return text ≡ false) (spans_at archives numbers)
-    → IsCutInto (answer_text format.Mbox (table archives) (bytes_held archives) numbers) (map closed (spans_at archives numbers))
+pub answer-cut-again : (archives : List Mbox) (numbers : List ℕ)
+    → All (λ n. n < length (table archives).messages) numbers
+    → All (λ text. ends_in_return text ≡ false) (spans_at archives numbers)
+    → IsCutInto (answer_text format.Mbox (table archives) (bytes_held archives) numbers)
+    (map closed (spans_at archives numbers))
 answer-cut-again archives numbers within other =
     let records : List Record = (table archives).messages in
     let span_at : ℕ → List ℕ = λ n. span (bytes_held archives) (record_at records n) in
     let each : Each (IsOf archives) records = each-record 0 [] archives refl in
     let out : All IsCutOut (map span_at numbers) =
-    All-map IsCutOut span_at numbers (λ k d h. each-at (IsOf archives) records (slice_index_or numbers k d) no_record (within k d h) each) in
-    subst (λ (text : List ℕ). IsCutInto text (map closed (spans_at archives numbers))) (flat_map-map closed span_at numbers) (cut-again (spans_at archives numbers) out other)
+    All-map IsCutOut span_at numbers (λ k d h. each-at (IsOf archives) records (slice_index_or numbers k d) no_record
+    (within k d h) each) in
+    subst (λ (text : List ℕ). IsCutInto text (map closed (spans_at archives numbers)))
+    (flat_map-map closed span_at numbers) (cut-again (spans_at archives numbers) out other)

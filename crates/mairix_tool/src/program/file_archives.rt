@@ -1,11 +1,12 @@
 //! The archives' files, read at any offset.
 ghost use Rattle.std.specs.Prelude.{⊤, ◌≡◌, ◌≤◌, ◌<◌, ◌-◌, ◌^◌, ◌↔◌, [], List, ℕ, Some, IsSome, IfSome, IfOk, length, take};
+ghost use Rattle.contract_words.specs.Archives.{IsLength, IsRead};
 ghost use Rattle.contract_words.specs.Devices.{Counts};
 ghost use Rattle.contract_words.specs.Knowledge.{WasKnown};
 ghost use Rattle.call_record.specs.Noted.{Notes, length_told};
-ghost use Rattle.mail_answer.specs.Archives.{IsCount, IsLength, IsRead};
+ghost use Rattle.mail_answer.specs.Archives.{IsCount, bytes_told};
 ghost use Rattle.mairix_files.specs.Ahead.{Serves};
-ghost use Rattle.mairix_tool.specs.Inside.KnownFiles.{held_of};
+ghost use Rattle.mairix_tool.specs.Inside.KnownFiles.{AreSupposed, NotesRead, held_of};
 
 use call_record::Record;
 use mail_answer::Archives;
@@ -41,6 +42,8 @@ impl<'p, R: Files<File = File>> FileArchives<'p, R> {
             archives ≡ length paths.now) }
         ensures held { IfSome result (λ archives. ⟦<FileArchives<'p, R> as Archives>⟧.held archives
             ≡ held_of (length paths.now) «record») }
+        ensures whole { IfSome result (λ archives. length «record».supposed ≡ length paths.now
+            → ⟦<FileArchives<'p, R> as Archives>⟧.whole archives «record».supposed) }
         ensures fresh { IfSome result (λ archives. ⟦<FileArchives<'p, R> as Archives>⟧.failures
             archives ≡ 0) }
     {
@@ -61,9 +64,12 @@ impl<'p, R: Files<File = File>> Archives for FileArchives<'p, R> {
 
     ghost lengths_asked = { λ _. 0 };
 
-    ghost measures = { λ old _ _ new. new.ahead.record.supposed ≡ old.ahead.record.supposed };
+    ghost whole = { λ archives supposed. AreSupposed (length archives.ahead.files.paths.now)
+        archives.ahead.record supposed };
 
-    ghost reads = { λ old _ _ _ new. new.ahead.record.supposed ≡ old.ahead.record.supposed };
+    ghost measures = { λ old n told new. Notes (length_told n told) old.ahead.record new.ahead.record };
+
+    ghost reads = { λ old n offset told new. NotesRead n offset told old.ahead.record new.ahead.record };
 
     fn count(&self) -> u32 {
         self.ahead.files().count()
@@ -74,14 +80,16 @@ impl<'p, R: Files<File = File>> Archives for FileArchives<'p, R> {
         requires count { self.old.failures < 2 ^ 64 - 1 }
         ensures held { WasKnown (held_of (length self.old.ahead.files.paths.now) self.old.ahead.record)
             (held_of (length self.new.ahead.files.paths.now) self.new.ahead.record) }
+        ensures whole { (supposed : List (List ℕ))
+            → AreSupposed (length self.old.ahead.files.paths.now) self.old.ahead.record supposed
+            → AreSupposed (length self.new.ahead.files.paths.now) self.new.ahead.record supposed }
         ensures number { length self.new.ahead.files.paths.now
             ≡ length self.old.ahead.files.paths.now }
         ensures bytes { IfOk result (λ bytes. IsLength n bytes
             (held_of (length self.new.ahead.files.paths.now) self.new.ahead.record)) }
-        ensures measured { self.new.ahead.record.supposed ≡ self.old.ahead.record.supposed }
-        ensures count { Counts result self.old.failures self.new.failures }
         // The result is noted, and nothing else.
-        ensures noted { Notes (length_told n result) self.old.ahead.record self.new.ahead.record }
+        ensures measured { Notes (length_told n result) self.old.ahead.record self.new.ahead.record }
+        ensures count { Counts result self.old.failures self.new.failures }
     {
         match self.ahead.length(n) {
             Ok(bytes) => Ok(bytes),
@@ -98,14 +106,18 @@ impl<'p, R: Files<File = File>> Archives for FileArchives<'p, R> {
         requires count { self.old.failures < 2 ^ 64 - 1 }
         ensures held { WasKnown (held_of (length self.old.ahead.files.paths.now) self.old.ahead.record)
             (held_of (length self.new.ahead.files.paths.now) self.new.ahead.record) }
+        ensures whole { (supposed : List (List ℕ))
+            → AreSupposed (length self.old.ahead.files.paths.now) self.old.ahead.record supposed
+            → AreSupposed (length self.new.ahead.files.paths.now) self.new.ahead.record supposed }
         ensures number { length self.new.ahead.files.paths.now
             ≡ length self.old.ahead.files.paths.now }
         ensures bound { IfOk result (λ bytes. bytes ≤ length into.new) }
         ensures bytes { IfOk result (λ bytes. IsRead n offset (take bytes into.new)
             (held_of (length self.new.ahead.files.paths.now) self.new.ahead.record)) }
-        ensures read { self.new.ahead.record.supposed ≡ self.old.ahead.record.supposed }
-        ensures count { Counts result self.old.failures self.new.failures }
         // The result of at most one read is noted, and nothing else.
+        ensures read { NotesRead n offset (bytes_told result into.new) self.old.ahead.record
+            self.new.ahead.record }
+        ensures count { Counts result self.old.failures self.new.failures }
         ensures noted { Serves (λ _ _ _. ⊤) n offset result into.new self.old.ahead.files
             self.old.ahead.record self.new.ahead.files self.new.ahead.record }
     {

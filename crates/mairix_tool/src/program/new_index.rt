@@ -1,5 +1,5 @@
 //! The new index that replaces an old one: archives in, an index file out.
-ghost use Rattle.std.specs.Prelude.{◌≡◌, [], Some, length, map, All, IsSome, IfOk};
+ghost use Rattle.std.specs.Prelude.{◌≡◌, ℕ, List, [], ◌++◌, Some, Err, length, map, All, IfOk, IfErr, OnOk};
 ghost use Rattle.std.specs.Result.{MatchResult};
 ghost use Rattle.std.specs.String.{string_bytes};
 ghost use Rattle.call_record.specs.Calls.{taken_after};
@@ -9,16 +9,18 @@ ghost use Rattle.index_run.specs.ArchivesIndexed.{mboxes};
 ghost use Rattle.index_run.specs.IndexRuns.{IsIndexRunFault};
 ghost use Rattle.mail_index.specs.Files.{index_file};
 ghost use Rattle.mail_index.specs.Tables.{IsPath};
+ghost use Rattle.mairix_tool.specs.FilesAnswered.{AgreeWithSources};
+ghost use Rattle.run_faults.specs.declared.fault.Fault.TheVariants.{Out};
 
 use crate::program::kept_mail::check_no_mail;
-use crate::program::output_file::{create_file, flushed, passing_name, settle_file};
+use crate::program::output_file::{create_file, passing_name, settle_file};
 use crate::program::read_files::ReadFiles;
 use crate::program::stopped::Stopped;
-use call_record::Record;
+use call_record::{NotedWriter, Record};
 use index_run::send_index;
 use mairix_files::{FileSource, sources_of};
 use mairix_options::Rc;
-use mbox_cutter::{Source, ToWrite};
+use mbox_cutter::ToWrite;
 use run_faults::{DONE, Fault};
 use std::alloc::Global;
 use std::fs::File;
@@ -72,10 +74,9 @@ fn fill_index_file<R: Files>(
 ) -> Result<u8, Fault>
     requires { All IsPath (map string_bytes paths.now) }
 {
-    let mut writer = BufWriter::with_capacity(alloc, GATHERED, file).or(Err(Fault::Memory))?;
     let supposed = Record::new();
-    let Indexed { sent, .. } = index_files(rt, alloc, paths, &mut writer, &supposed)?;
-    flushed(sent.and(Ok(DONE)), &mut writer)
+    let Indexed { sent, .. } = index_files(rt, alloc, paths, file, &supposed)?;
+    sent.and(Ok(DONE))
 }
 
 /// Files that were indexed: what was sent, or the fault; and the devices, with the records of their calls.
@@ -87,20 +88,20 @@ struct Indexed<'p, R: Files> {
     taken: Record,
 }
 
-/// Indexes the archives from their files into an output. The record supposes their bytes; whatever it supposes, the run
-/// does the same. Fails for lack of memory before any file is read.
-fn index_files<'p, R: Files, W: Write>(
+/// Indexes the archives from their files into a writer, which gets few and large writes. The record supposes the bytes
+/// of the files; whatever it supposes, the run does the same. Fails for lack of memory before any file is read.
+fn index_files<'p, R: Files, W: Write + Drop>(
     rt: &'p R,
     alloc: Global,
     paths: &'p [String],
-    writer: &mut W,
+    writer: W,
     supposed: &Record,
 ) -> Result<Indexed<'p, R>, Fault>
     requires { All IsPath (map string_bytes paths.now) }
     // For all bytes that agree with all that the system reported: the output took the index file of these bytes; or the
     // fault is theirs, or that of a device or of memory.
     ensures known { IfOk result (λ run. length supposed.now.supposed ≡ length paths.now
-        → All IsSome (map (λ s. ⟦<FileSource<'p, R> as Source>⟧.rest s) run.sources.items)
+        → AgreeWithSources supposed.now.supposed (map (λ s. s.record) run.sources.items)
         → MatchResult run.sent
         (λ _. AreSound (mboxes (map string_bytes paths.now) supposed.now.supposed)
         × (taken_after run.taken.calls
@@ -111,11 +112,37 @@ fn index_files<'p, R: Files, W: Write>(
     let Ok(mut sources) = sources_of(rt, alloc, paths, &[], supposed) else {
         return Err(Fault::Memory);
     };
-    let mut output = ToWrite::new(&mut *writer);
+    let noted = NotedWriter::new(writer);
+    let Ok(gathering) = BufWriter::with_capacity(alloc, GATHERED, noted) else {
+        return Err(Fault::Memory);
+    };
+    let mut output = ToWrite::new(gathering);
     let sent = send_index(alloc, paths, sources.as_mut_slice(), &mut output);
+    let (sent, taken) = hand_on(sent, output.into_writer());
     Ok(Indexed {
         sent,
         sources,
-        taken: output.into_record(),
+        taken,
     })
+}
+
+/// Hands on what is still gathered after a run that succeeded, and returns what the run did, with the record of what was
+/// taken. If that fails, the output has failed. After a run that failed nothing more is written.
+fn hand_on<W: Write + Drop>(
+    sent: Result<(), Fault>,
+    mut gathering: BufWriter<NotedWriter<W>>,
+) -> (Result<(), Fault>, Record)
+    ensures failed { IfErr sent (λ fault. result.0 ≡ Err fault) }
+    ensures out { OnOk sent (IfErr result.0 (λ fault. fault ≡ Out)) }
+    ensures whole { OnOk result.0 (⟦<BufWriter<NotedWriter<W>> as Write>⟧.contents gathering
+        ≡ Some (taken_after result.1.calls)) }
+    ensures front { (bytes : List ℕ) → ⟦<BufWriter<NotedWriter<W>> as Write>⟧.contents gathering
+        ≡ Some bytes → (rest : List ℕ) × (bytes ≡ taken_after result.1.calls ++ rest) }
+{
+    let sent = match sent {
+        Ok(()) => gathering.flush().or(Err(Fault::Out)),
+        Err(fault) => Err(fault),
+    };
+    let (noted, _) = gathering.into_parts();
+    (sent, noted.into_record())
 }

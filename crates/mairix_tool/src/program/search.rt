@@ -1,8 +1,8 @@
 //! A search of the archives' files.
-ghost use Rattle.std.specs.Prelude.{◌≡◌, ◌∷◌, [], true, false, Ok, length, map, All, IsSome, IfOk};
+ghost use Rattle.std.specs.Prelude.{◌≡◌, ◌∷◌, [], true, false, Ok, length, map, IfOk};
 ghost use Rattle.mairix_options.specs.Rcfile.{rc_of};
 ghost use Rattle.mairix_tool.specs.Asked.{asks};
-ghost use Rattle.mairix_tool.specs.FilesAnswered.{AreThisMany, Replied};
+ghost use Rattle.mairix_tool.specs.FilesAnswered.{AgreeWithArchives, AgreeWithSources, AreThisMany, Replied};
 ghost use Rattle.mairix_tool.specs.Runs.{IsOnceReply, IsReply, IsStoredReply};
 
 use crate::once::once_run;
@@ -12,12 +12,11 @@ use crate::program::read_files::ReadFiles;
 use crate::program::stopped::Stopped;
 use crate::reply::Reply;
 use crate::stored::search_run;
-use call_record::Record;
-use mail_answer::Archives;
+use call_record::{NotedWriter, Record};
 use mail_dates::Moment;
 use mairix_files::{FileSource, FileState, Retried, sources_of};
 use mairix_options::{Plan, Rc, answer_file};
-use mbox_cutter::{Source, ToWrite};
+use mbox_cutter::ToWrite;
 use run_faults::Fault;
 use std::alloc::Global;
 use std::fs::File;
@@ -135,22 +134,22 @@ fn answer_files<'p, R: Files<File = File>, W: Write>(
     // the table of the indexed bytes, over the bytes that were searched; or the fault, and a front of that answer.
     ensures once { search.now.asked.now.plan.now.once ≡ true → IfOk result (λ run.
         AreThisMany search.now.asked.now.rc.now.paths (indexed.now.supposed ∷ searched.now.supposed ∷ [])
-        → All IsSome (map (λ s. ⟦<FileSource<'p, R> as Source>⟧.rest s) run.sources.items)
-        → IsSome (⟦<FileArchives<'p, R> as Archives>⟧.held run.archives)
+        → AgreeWithSources indexed.now.supposed (map (λ s. s.record) run.sources.items)
+        → AgreeWithArchives searched.now.supposed run.archives.ahead.record
         → Replied (IsOnceReply (asks search.now.asked.now.words.now search.now.asked.now.text.now
         search.now.asked.now.now) indexed.now.supposed searched.now.supposed) run.reply run.taken) }
     // If these are the same bytes: what the output took is the reply of the messages in them.
     ensures reply { search.now.asked.now.plan.now.once ≡ true → IfOk result (λ run.
         AreThisMany search.now.asked.now.rc.now.paths (indexed.now.supposed ∷ [])
         → searched.now.supposed ≡ indexed.now.supposed
-        → All IsSome (map (λ s. ⟦<FileSource<'p, R> as Source>⟧.rest s) run.sources.items)
-        → IsSome (⟦<FileArchives<'p, R> as Archives>⟧.held run.archives)
+        → AgreeWithSources indexed.now.supposed (map (λ s. s.record) run.sources.items)
+        → AgreeWithArchives searched.now.supposed run.archives.ahead.record
         → Replied (IsReply (asks search.now.asked.now.words.now search.now.asked.now.text.now
         search.now.asked.now.now) indexed.now.supposed) run.reply run.taken) }
     // Without `--once`: it is the reply of the stored index, over the bytes that were searched.
     ensures stored { search.now.asked.now.plan.now.once ≡ false → IfOk result (λ run.
         AreThisMany search.now.asked.now.rc.now.paths (searched.now.supposed ∷ [])
-        → IsSome (⟦<FileArchives<'p, R> as Archives>⟧.held run.archives)
+        → AgreeWithArchives searched.now.supposed run.archives.ahead.record
         → Replied (IsStoredReply (asks search.now.asked.now.words.now search.now.asked.now.text.now
         search.now.asked.now.now) search.now.index.now searched.now.supposed) run.reply run.taken) }
 {
@@ -172,15 +171,15 @@ fn answer_once<'p, R: Files<File = File>, W: Write>(
 ) -> Result<Answered<'p, R>, Fault>
     ensures once { IfOk result (λ run.
         AreThisMany search.now.asked.now.rc.now.paths (indexed.now.supposed ∷ searched.now.supposed ∷ [])
-        → All IsSome (map (λ s. ⟦<FileSource<'p, R> as Source>⟧.rest s) run.sources.items)
-        → IsSome (⟦<FileArchives<'p, R> as Archives>⟧.held run.archives)
+        → AgreeWithSources indexed.now.supposed (map (λ s. s.record) run.sources.items)
+        → AgreeWithArchives searched.now.supposed run.archives.ahead.record
         → Replied (IsOnceReply (asks search.now.asked.now.words.now search.now.asked.now.text.now
         search.now.asked.now.now) indexed.now.supposed searched.now.supposed) run.reply run.taken) }
     ensures reply { IfOk result (λ run.
         AreThisMany search.now.asked.now.rc.now.paths (indexed.now.supposed ∷ [])
         → searched.now.supposed ≡ indexed.now.supposed
-        → All IsSome (map (λ s. ⟦<FileSource<'p, R> as Source>⟧.rest s) run.sources.items)
-        → IsSome (⟦<FileArchives<'p, R> as Archives>⟧.held run.archives)
+        → AgreeWithSources indexed.now.supposed (map (λ s. s.record) run.sources.items)
+        → AgreeWithArchives searched.now.supposed run.archives.ahead.record
         → Replied (IsReply (asks search.now.asked.now.words.now search.now.asked.now.text.now
         search.now.asked.now.now) indexed.now.supposed) run.reply run.taken) }
 {
@@ -199,7 +198,8 @@ fn answer_once<'p, R: Files<File = File>, W: Write>(
     let Ok(mut sources) = sources_of(rt, alloc, paths, states, indexed) else {
         return Err(Fault::Memory);
     };
-    let mut sink = ToWrite::new(Retried::new(&mut *out));
+    let writer = NotedWriter::new(Retried::new(&mut *out));
+    let mut sink = ToWrite::new(writer);
     let reply = once_run(
         alloc,
         words,
@@ -213,7 +213,7 @@ fn answer_once<'p, R: Files<File = File>, W: Write>(
         reply,
         sources,
         archives,
-        taken: sink.into_record(),
+        taken: sink.into_writer().into_record(),
     })
 }
 
@@ -227,7 +227,7 @@ fn answer_stored<'p, R: Files<File = File>, W: Write>(
 ) -> Result<Answered<'p, R>, Fault>
     ensures stored { IfOk result (λ run.
         AreThisMany search.now.asked.now.rc.now.paths (searched.now.supposed ∷ [])
-        → IsSome (⟦<FileArchives<'p, R> as Archives>⟧.held run.archives)
+        → AgreeWithArchives searched.now.supposed run.archives.ahead.record
         → Replied (IsStoredReply (asks search.now.asked.now.words.now search.now.asked.now.text.now
         search.now.asked.now.now) search.now.index.now searched.now.supposed) run.reply run.taken) }
 {
@@ -247,12 +247,13 @@ fn answer_stored<'p, R: Files<File = File>, W: Write>(
     let mut archives = FileArchives::new(rt, alloc, paths, states, searched.like()).ok_or(
         Fault::TooMany,
     )?;
-    let mut sink = ToWrite::new(Retried::new(&mut *out));
+    let writer = NotedWriter::new(Retried::new(&mut *out));
+    let mut sink = ToWrite::new(writer);
     let reply = search_run(alloc, words, text, index, &mut archives, now, &mut sink);
     Ok(Answered {
         reply,
         sources: Vec::new(alloc),
         archives,
-        taken: sink.into_record(),
+        taken: sink.into_writer().into_record(),
     })
 }

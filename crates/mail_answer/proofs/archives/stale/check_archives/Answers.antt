@@ -1,5 +1,6 @@
 -- `check_archives` finds the first changed archive, because it compares one length after another.
-use Rattle.mail_answer.proofs.Words.{◌≡◌, ◌∙◌, Ok, IfSome, length, drop, subst, sym, arith, Agree, Archive, archive_of, archive_at, first_changed}
+use Rattle.mail_answer.proofs.Words.{◌≡◌, ◌∙◌, Ok, IfSome, length, drop, subst, sym, arith, Agree, Archive, archive_of}
+use Rattle.mail_answer.proofs.Words.{archive_at, first_changed}
 use Rattle.mail_answer.proofs.ArchiveLaws.AskedLemmas.{agree_more}
 use Rattle.mail_answer.proofs.ArchiveLaws.KnowledgeLemmas.{some_later, was_known_join}
 use Rattle.mail_answer.proofs.ArchiveLaws.StaleLemmas.{goes_on, named_here, next_named, none_left}
@@ -27,9 +28,11 @@ loop-archive-preserved g c =
     record {
       within = omega (arith, lt);
       coming = sym step.1;
-      keeps = holds_join g.A.Archives _ _ _ i.keeps (record { held = was; number = c.length.ensures.number });
+      keeps = holds_join g.A.Archives _ _ _ i.keeps
+          (record { held = was; whole = c.length.ensures.whole; number = c.length.ensures.number });
       count = (rw told at c.length.ensures.count) ∙ i.count;
-      agree = agree_more g.A.Archives named c.loop-archive.n (g.A.Archives.number c.args.archives.now) a c.next.new.self c.args.archives.now c.loop-archive.archives c.length.new.self
+      agree = agree_more g.A.Archives named c.loop-archive.n (g.A.Archives.number c.args.archives.now) a c.next.new.self
+          c.args.archives.now c.loop-archive.archives c.length.new.self
           (omega (arith, lt)) (omega arith) coming was count known (rw told at c.length.ensures.measured) i.agree;
       so_far = goes_on named held n number lt (omega arith) count so_far (rw step.0 known);
     }
@@ -40,7 +43,8 @@ returns-then-length-archive-clause-asked g c = grind (arith, next_named, named_h
 pub returns-clause-asked : goal.returns-clause-asked
 returns-clause-asked g c =
     let i = c.loop-archive.invariant in
-    λ _. subst (λ count. Agree g.A.Archives c.args.index.now.archives count c.args.archives.now c.loop-archive.archives) (none_left _ c.loop-archive.n i.within (sym i.coming ∙ c.in_default.ensures.0)) i.agree
+    λ _. subst (λ count. Agree g.A.Archives c.args.index.now.archives count c.args.archives.now c.loop-archive.archives)
+    (none_left _ c.loop-archive.n i.within (sym i.coming ∙ c.in_default.ensures.0)) i.agree
 
 pub returns-then-count-indexed-clause-stale : goal.returns-then-count-indexed-clause-stale
 returns-then-count-indexed-clause-stale g c = grind arith
