@@ -1,23 +1,47 @@
 -- What a noted call says of the bytes of the only file.
-use Rattle.std.proofs.Common.{◌≡◌, ℕ, List, Option, None, Some, IfSome, Ok, length, take}
+use Rattle.std.proofs.Common.{◌≡◌, ◌≤◌, ℕ, List, [], ◌∷◌, Option, None, Some, IfSome, Result, Ok, Err, length}
+use Rattle.std.proofs.Common.{take, subst, sym, rules}
 use Rattle.std.specs.Option.{option_map}
 use Rattle.call_record.specs.declared.record.Record.{Record}
 use Rattle.contract_words.specs.Archives.{archive_at}
-use Rattle.call_record.specs.Noted.{Notes, held_by, read_at_told, length_told}
+use Rattle.std.specs.Io.KnownBytes.{ReadConsumes}
+use Rattle.contract_words.specs.Knowledge.{still_known}
+use Rattle.call_record.specs.Noted.{Notes, held_by, left_of, read_told, read_at_told, length_told}
+use Rattle.call_record.proofs.Reading.{noted-read}
 use Rattle.named_files.specs.Entries.{IsRead}
-use Rattle.mairix_files.specs.KitFiles.{bytes_held}
+use Rattle.mairix_files.specs.KitFiles.{bytes_held, rest_held, if_any}
 use Rattle.mairix_files.proofs.Pieces.{is-read, is-length}
 
-of_only : (held : Option (List (List ℕ))) (P : List ℕ → Type 0) → IfSome held (λ archives. P (archive_at archives 0))
-    → IfSome (option_map (λ archives. archive_at archives 0) held) P
-of_only None P h = tt
-of_only (Some archives) P h = h
+of_only : (supposed : List (List ℕ)) (held : Option (List (List ℕ))) (P : List ℕ → Type 0)
+    → IfSome held (λ archives. P (archive_at archives 0))
+    → IfSome (if_any supposed (option_map (λ archives. archive_at archives 0) held)) P
+of_only [] held P h = tt
+of_only (bytes ∷ others) None P h = tt
+of_only (bytes ∷ others) (Some archives) P h = h
 
 pub only_read : (old new : Record) (offset n : ℕ) (into : List ℕ)
     → Notes (read_at_told {E = Unit {0}} 0 offset (Ok n) into) old new → IsRead offset (take n into) (bytes_held new)
 only_read old new offset n into notes =
-    of_only (held_by new) _ (is-read {E = Unit {0}} old new 0 offset (Ok n) into notes)
+    of_only new.supposed (held_by new) _ (is-read {E = Unit {0}} old new 0 offset (Ok n) into notes)
 
 pub only_length : (old new : Record) (n : ℕ) → Notes (length_told {E = Unit {0}} 0 (Ok n)) old new
     → IfSome (bytes_held new) (λ all. n ≡ length all)
-only_length old new n notes = of_only (held_by new) _ (is-length {E = Unit {0}} old new 0 (Ok n) notes)
+only_length old new n notes =
+    of_only new.supposed (held_by new) _ (is-length {E = Unit {0}} old new 0 (Ok n) notes)
+
+-- what a read gives of a file, if one is supposed
+consumes_if : {E : Type 0} (supposed : List (List ℕ)) (before after : Option (List ℕ)) (told : Result ℕ E)
+    → (into : List ℕ) → ReadConsumes (still_known before after) after told into
+    → ReadConsumes (still_known (if_any supposed before) (if_any supposed after)) (if_any supposed after) told into
+consumes_if [] before after (Ok n) into h = search rules
+consumes_if [] before after (Err e) into h = search rules
+consumes_if (bytes ∷ others) before after told into h = h
+
+pub only_read_next : (old new : Record) (n : ℕ) (into : List ℕ) → n ≤ length into
+    → Notes (read_told {E = Unit {0}} (Ok n) into) old new
+    → ReadConsumes {E = Unit {0}} (still_known (rest_held old) (rest_held new)) (rest_held new) (Ok n) into
+only_read_next old new n into bound notes =
+    subst (λ supposed. ReadConsumes {E = Unit {0}} (still_known (rest_held old) (if_any supposed (left_of 0 new)))
+    (if_any supposed (left_of 0 new)) (Ok n) into) (sym notes.0)
+    (consumes_if {E = Unit {0}} old.supposed (left_of 0 old) (left_of 0 new) (Ok n) into
+    (noted-read {E = Unit {0}} 0 old new (Ok n) into bound notes).0)

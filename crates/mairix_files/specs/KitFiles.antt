@@ -1,14 +1,32 @@
 -- What is known of the bytes of an open file, by its record.
-use Rattle.std.specs.Prelude.{◌≡◌, ℕ, Bool, true, false, List, [], ◌∷◌, Option, None, IfSome, if◌then◌else◌}
+use Rattle.std.specs.Prelude.{◌≡◌, ℕ, Bool, true, false, List, [], ◌∷◌, Option, None, Some, IfSome, if◌then◌else◌}
 use Rattle.std.specs.Option.{option_map}
 use Rattle.call_record.specs.declared.record.Record.{Record}
 use Rattle.contract_words.specs.Archives.{archive_at}
 use Rattle.call_record.specs.Calls.{Call, agrees_with, held_after}
-use Rattle.call_record.specs.Noted.{held_by}
+use Rattle.call_record.specs.Noted.{held_by, left_of}
 
--- the bytes of the file that was opened, if they agree with each call
+-- this, if a file is supposed
+abbrev pub if_any : List (List ℕ) → Option (List ℕ) → Option (List ℕ)
+if_any [] known = None
+if_any (bytes ∷ others) known = known
+
+-- the bytes of this file as the only ones; none at all if it is no file
+abbrev pub only : Option (List ℕ) → List (List ℕ)
+only None = []
+only (Some bytes) = bytes ∷ []
+
+-- the bytes that are supposed of the file; None if no file is supposed
+abbrev pub file_supposed : Record → Option (List ℕ)
+file_supposed noted = if_any noted.supposed (Some (archive_at noted.supposed 0))
+
+-- what is left of the supposed bytes, if they agree with each read
+abbrev pub rest_held : Record → Option (List ℕ)
+rest_held noted = if_any noted.supposed (left_of 0 noted)
+
+-- the supposed bytes, if they agree with each call
 abbrev pub bytes_held : Record → Option (List ℕ)
-bytes_held noted = option_map (λ archives. archive_at archives 0) (held_by noted)
+bytes_held noted = if_any noted.supposed (option_map (λ archives. archive_at archives 0) (held_by noted))
 
 -- these are the bytes of the only archive, if these are known
 abbrev AreAll : List ℕ → Option (List (List ℕ)) → Type 0
@@ -25,7 +43,12 @@ all_after archives all [] is = is
 all_after archives all (call ∷ earlier) is =
     still_all all (agrees_with call archives) (held_after archives earlier) (all_after archives all earlier is)
 
+if_any_all : (supposed : List (List ℕ)) (known : Option (List ℕ)) (all : List ℕ) → IfSome known (λ bytes. bytes ≡ all)
+    → IfSome (if_any supposed known) (λ bytes. bytes ≡ all)
+if_any_all [] known all h = tt
+if_any_all (bytes ∷ others) known all h = h
+
 -- what is known of the bytes is what is supposed
 pub held_is_supposed : (noted : Record) (all : List ℕ) → archive_at noted.supposed 0 ≡ all
     → IfSome (bytes_held noted) (λ known. known ≡ all)
-held_is_supposed noted all is = all_after noted.supposed all noted.calls is
+held_is_supposed noted all is = if_any_all noted.supposed _ all (all_after noted.supposed all noted.calls is)

@@ -5,7 +5,7 @@ use Rattle.std.specs.String.{string_bytes}
 use Rattle.call_record.specs.declared.record.Record.{Record}
 use Rattle.call_record.specs.Calls.{taken_after}
 use Rattle.named_files.specs.Entries.{Entry, Nothing, File}
-use Rattle.named_files.specs.Logs.{Held, Change, Named, Synced}
+use Rattle.named_files.specs.Logs.{Held, Change, Named, Synced, held_after}
 use Rattle.mairix_files.specs.declared.kit_step.KitStep.{KitStep}
 use Rattle.mairix_files.specs.declared.kit_step.KitStep.TheVariants as step
 
@@ -63,3 +63,7 @@ supposed_in (name ∷ (bytes ∷ rest)) n = if bytes_eq n name then File bytes e
 
 abbrev pub supposed_first : Record → List ℕ → Held
 supposed_first noted n = record { entry = supposed_in noted.supposed n; is_on_disk = true; is_left = false }
+
+-- what a name leads to after these steps, if the system carries them out
+abbrev pub supposed_now : Record → List KitStep → List ℕ → Entry
+supposed_now noted steps n = (held_after (supposed_first noted) (changes_of steps) n).entry

@@ -1,9 +1,9 @@
 //! A file of the system that is read.
-ghost use Rattle.std.specs.Prelude.{◌≡◌, ⊤, [], Some};
+ghost use Rattle.std.specs.Prelude.{◌≡◌, ⊤, [], None};
 ghost use Rattle.contract_words.specs.Archives.{archive_at};
-ghost use Rattle.call_record.specs.Noted.{left_of};
-ghost use Rattle.mairix_files.specs.KitFiles.{bytes_held, held_is_supposed};
+ghost use Rattle.mairix_files.specs.KitFiles.{bytes_held, file_supposed, held_is_supposed, rest_held};
 
+use crate::file_state::FileState;
 use call_record::{NumberedFiles, Record, length_noted, read_at_noted, read_noted};
 use mbox_cutter::{DeviceFault, Source};
 use named_files::KeptFile;
@@ -16,10 +16,13 @@ use std::os::unix::fs::FileExt;
 const ONLY: u32 = 0;
 
 /// A file of the system that is read, with a record of its calls. The record supposes the bytes of one file. They are
-/// known as long as they agree with each call.
+/// known as long as they agree with each call. If the record supposes no file, nothing is known of its bytes.
 #[derive(Drop)]
 pub struct KitFile {
-    opened: Opened,
+    /// None once it is closed.
+    opened: Option<Opened>,
+    /// The state in which it was found since the last call that read it.
+    state: Option<FileState>,
     failures: u64,
     record: Record,
 }
@@ -34,14 +37,14 @@ impl KitFile {
     /// Returns an open file, which is read from its front. Whatever the record supposes, it does the same.
     pub(crate) fn new(file: File, record: Record) -> KitFile
         requires { «record».calls ≡ [] }
-        ensures rest { ⟦<KitFile as Source>⟧.rest result ≡ Some (archive_at «record».supposed 0) }
-        ensures bytes { ⟦<KitFile as KeptFile>⟧.bytes result
-            ≡ Some (archive_at «record».supposed 0) }
+        ensures rest { ⟦<KitFile as Source>⟧.rest result ≡ file_supposed «record» }
+        ensures bytes { ⟦<KitFile as KeptFile>⟧.bytes result ≡ file_supposed «record» }
         ensures whole { ⟦<KitFile as Source>⟧.whole result (archive_at «record».supposed 0) }
         ensures fresh { ⟦<KitFile as Source>⟧.failures result ≡ 0 }
     {
         KitFile {
-            opened: Opened { file },
+            opened: Some(Opened { file }),
+            state: None,
             failures: 0,
             record,
         }
@@ -70,45 +73,77 @@ impl NumberedFiles for Opened {
 }
 
 impl Source for KitFile {
-    ghost rest = { λ file. left_of 0 file.record };
+    ghost rest = { λ file. rest_held file.record };
 
     ghost failures = { λ file. file.failures };
 
     ghost whole = { λ file bytes. archive_at file.record.supposed 0 ≡ bytes };
 
     fn read_next(&mut self, into: &mut [u8]) -> Result<usize, DeviceFault> {
-        match read_noted(&mut self.opened.file, &mut self.record, into) {
-            Ok(n) => Ok(n),
-            Err(_) => {
-                self.failures += 1;
-                Err(DeviceFault)
+        self.state = None;
+        if let Some(opened) = &mut self.opened {
+            if let Ok(n) = read_noted(&mut opened.file, &mut self.record, into) {
+                return Ok(n);
             }
         }
+        self.failures += 1;
+        Err(DeviceFault)
     }
 }
 
 impl KeptFile for KitFile {
+    type State = FileState;
+
+    ghost state_found = { λ file. file.state };
+
     ghost bytes = { λ file. bytes_held file.record };
 
     ghost bytes_are_whole = { λ file all is. held_is_supposed file.record all is };
 
     fn read_at(&mut self, offset: u64, into: &mut [u8]) -> Result<usize, DeviceFault> {
-        match read_at_noted(&mut self.opened, &mut self.record, ONLY, offset, into) {
-            Ok(n) => Ok(n),
-            Err(_) => {
-                self.failures += 1;
-                Err(DeviceFault)
+        self.state = None;
+        if let Some(opened) = &mut self.opened {
+            if let Ok(n) = read_at_noted(opened, &mut self.record, ONLY, offset, into) {
+                return Ok(n);
             }
         }
+        self.failures += 1;
+        Err(DeviceFault)
     }
 
     fn length(&mut self) -> Result<u64, DeviceFault> {
-        match length_noted(&mut self.opened, &mut self.record, ONLY) {
-            Ok(n) => Ok(n),
-            Err(_) => {
-                self.failures += 1;
-                Err(DeviceFault)
+        self.state = None;
+        if let Some(opened) = &mut self.opened {
+            if let Ok(n) = length_noted(opened, &mut self.record, ONLY) {
+                return Ok(n);
             }
         }
+        self.failures += 1;
+        Err(DeviceFault)
+    }
+
+    fn state(&mut self) -> Result<FileState, DeviceFault> {
+        if let Some(opened) = &self.opened {
+            if let Ok(found) = opened.file.metadata() {
+                let state = FileState::of(&found);
+                self.state = Some(state);
+                return Ok(state);
+            }
+        }
+        self.failures += 1;
+        Err(DeviceFault)
+    }
+
+    fn check_state(&mut self, state: FileState) -> Result<(), DeviceFault> {
+        let found = self.state()?;
+        if found == state {
+            return Ok(());
+        }
+        self.failures += 1;
+        Err(DeviceFault)
+    }
+
+    fn close(&mut self) {
+        self.opened = None;
     }
 }

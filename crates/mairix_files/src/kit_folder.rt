@@ -1,15 +1,15 @@
 //! The system's files, by their names.
-ghost use Rattle.std.specs.Prelude.{◌≡◌, ◌≤◌, ◌<◌, ◌+◌, ◌∷◌, [], ⊤, ℕ, List, true, false, Some, None, not, length, vec_len, vec_capacity};
+ghost use Rattle.std.specs.Prelude.{◌≡◌, ◌≤◌, ◌<◌, ◌+◌, ◌∷◌, [], ⊤, ℕ, List, true, false, Some, None, not, length, vec_len, vec_capacity, IfOk, IfSome};
 ghost use Rattle.std.proofs.Common.{arith};
 ghost use Rattle.std.specs.Option.{ForSome, option_map, unwrap_or};
 ghost use Rattle.std.specs.Str.{bytes_eq};
 ghost use Rattle.std.specs.String.{string_bytes};
-ghost use Rattle.named_files.specs.Entries.{bytes_of};
 ghost use Rattle.named_files.specs.Logs.{held_after, MayLeave, MayHaveLeft, left_now, only_left};
-ghost use Rattle.mairix_files.specs.NameCalls.{Made, Renamed, Kept, Discarded, Cleared, GoesOn, call_of, calls_of, changes_of, supposed_first};
+ghost use Rattle.mairix_files.specs.NameCalls.{Made, Renamed, Kept, Discarded, Cleared, GoesOn, call_of, calls_of, changes_of, supposed_first, supposed_now};
 
 use crate::kit_file::KitFile;
 use crate::kit_new::KitNew;
+use crate::kit_reports::{KitReports, note_apart, note_file, note_more, note_told};
 use crate::kit_step::KitStep;
 use crate::leftover::lock_leftover;
 use crate::names::{Place, leads_to_processes};
@@ -68,12 +68,59 @@ fn refusal_of(error: io::Error) -> Refusal {
     }
 }
 
-/// Returns a record without calls, which supposes some bytes of one file.
+/// Returns a record without calls, which supposes the bytes of one file, or no file.
 fn supposing(_steps: &[KitStep], _supposed: &Record, _name: &[u8]) -> Record
-    ghost bytes: { List ℕ }
-    ensures { (result.supposed ≡ bytes ∷ []) × (result.calls ≡ []) }
+    ghost files: { List (List ℕ) }
+    ensures { (result.supposed ≡ files) × (result.calls ≡ []) }
 {
     Record::new()
+}
+
+/// Looks at what a name leads to.
+fn look_at<R: Files<File = File>>(rt: &R, alloc: Global, name: &str) -> Result<Look, Refusal> {
+    match leads_to_processes(rt, alloc, name) {
+        Ok(true) => return Ok(Look::Other),
+        Ok(false) => {}
+        Err(AllocError) => return Err(Refusal::Memory),
+    }
+    match fs::metadata(rt, name) {
+        Ok(found) if found.is_file() => Ok(Look::File(found.len())),
+        Ok(found) if found.is_dir() => Ok(Look::Folder),
+        Ok(_) => Ok(Look::Other),
+        Err(error) => match error.kind() {
+            ErrorKind::NotFound => Ok(Look::Nothing),
+            _ => Err(refusal_of(error)),
+        },
+    }
+}
+
+/// Whether two names lead to different files.
+fn are_apart<R: Files<File = File>>(
+    rt: &R,
+    alloc: Global,
+    name: &str,
+    other: &str,
+) -> Result<bool, AllocError> {
+    let place = Place::of(rt, alloc, name)?;
+    Ok(!place.is_of(rt, alloc, other)?)
+}
+
+/// Finds what a killed run left under a name, and locks it. Returns None if nothing has the name.
+fn leftover_at<R: Files<File = File>>(
+    rt: &R,
+    alloc: Global,
+    name: &str,
+) -> Result<Option<KitLeft>, Refusal>
+    ensures { IfOk result (λ found. IfSome found (λ left. string_bytes left.name ≡ name.now)) }
+{
+    match lock_leftover(rt, alloc, name) {
+        Ok(Some(file)) => match String::from_str(alloc, name) {
+            Ok(name) => Ok(Some(KitLeft { file, name })),
+            Err(AllocError) => Err(Refusal::Memory),
+        },
+        Ok(None) => Ok(None),
+        Err(error) => Err(refusal_of(error)),
+    }
 }
 
 /// Adds a step, for which there is room.
@@ -94,8 +141,11 @@ impl<'r, R: Files<File = File>> Folder for KitFolder<'r, R> {
 
     type Left = KitLeft;
 
-    ghost holds = { λ f n.
-        (held_after (supposed_first f.supposed) (changes_of f.steps.items) n).entry };
+    type Reports = KitReports;
+
+    ghost agree = { λ reports. reports.agree };
+
+    ghost holds = { λ f n. supposed_now f.supposed f.steps.items n };
 
     ghost apart = { λ _ a b. not (bytes_eq a b) };
 
@@ -150,6 +200,14 @@ impl<'r, R: Files<File = File>> Folder for KitFolder<'r, R> {
 
     ghost writes_fail = { λ _ _. tt };
 
+    fn no_reports(&self) -> KitReports {
+        KitReports::new()
+    }
+
+    fn add_reports(&self, reports: &mut KitReports, more: KitReports) {
+        note_more(reports, &more);
+    }
+
     fn open(&self, _alloc: Global, name: &str) -> Result<KitFile, Refusal> {
         match fs::open(self.rt, name) {
             Ok(file) => {
@@ -161,37 +219,39 @@ impl<'r, R: Files<File = File>> Folder for KitFolder<'r, R> {
         }
     }
 
-    fn look(&self, alloc: Global, name: &str) -> Result<Look, Refusal> {
-        match leads_to_processes(self.rt, alloc, name) {
-            Ok(true) => return Ok(Look::Other),
-            Ok(false) => {}
-            Err(AllocError) => return Err(Refusal::Memory),
-        }
-        match fs::metadata(self.rt, name) {
-            Ok(found) if found.is_file() => Ok(Look::File(found.len())),
-            Ok(found) if found.is_dir() => Ok(Look::Folder),
-            Ok(_) => Ok(Look::Other),
-            Err(error) => match error.kind() {
-                ErrorKind::NotFound => Ok(Look::Nothing),
-                _ => Err(refusal_of(error)),
-            },
-        }
+    fn take_back(&self, reports: &mut KitReports, file: KitFile) {
+        note_file(reports, &file);
     }
 
-    fn is_apart(&self, alloc: Global, name: &str, other: &str) -> Result<bool, AllocError> {
-        let place = Place::of(self.rt, alloc, name)?;
-        Ok(!place.is_of(self.rt, alloc, other)?)
+    fn look(&self, alloc: Global, reports: &mut KitReports, name: &str) -> Result<Look, Refusal> {
+        let look = look_at(self.rt, alloc, name);
+        let steps = self.steps.as_slice();
+        note_told(reports, steps, &self.supposed, name.as_bytes(), &look);
+        look
     }
 
-    fn find_leftover(&self, alloc: Global, name: &str) -> Result<Option<KitLeft>, Refusal> {
-        match lock_leftover(self.rt, alloc, name) {
-            Ok(Some(file)) => match String::from_str(alloc, name) {
-                Ok(name) => Ok(Some(KitLeft { file, name })),
-                Err(AllocError) => Err(Refusal::Memory),
-            },
-            Ok(None) => Ok(None),
-            Err(error) => Err(refusal_of(error)),
-        }
+    fn is_apart(
+        &self,
+        alloc: Global,
+        reports: &mut KitReports,
+        name: &str,
+        other: &str,
+    ) -> Result<bool, AllocError> {
+        let is_apart = are_apart(self.rt, alloc, name, other);
+        note_apart(reports, name.as_bytes(), other.as_bytes(), &is_apart);
+        is_apart
+    }
+
+    fn find_leftover(
+        &self,
+        alloc: Global,
+        reports: &mut KitReports,
+        name: &str,
+    ) -> Result<Option<KitLeft>, Refusal> {
+        let left = leftover_at(self.rt, alloc, name);
+        let steps = self.steps.as_slice();
+        note_told(reports, steps, &self.supposed, name.as_bytes(), &left);
+        left
     }
 
     fn remove_leftover(&mut self, _alloc: Global, left: KitLeft) -> Result<(), Refusal> {
@@ -207,7 +267,12 @@ impl<'r, R: Files<File = File>> Folder for KitFolder<'r, R> {
         Ok(())
     }
 
-    fn create(&mut self, alloc: Global, name: &str) -> Result<KitNew, Refusal> {
+    fn create(
+        &mut self,
+        alloc: Global,
+        reports: &mut KitReports,
+        name: &str,
+    ) -> Result<KitNew, Refusal> {
         let (Ok(passing), Ok(made)) = (String::from_str(alloc, name), String::from_str(alloc, name))
         else {
             return Err(Refusal::Memory);
@@ -217,6 +282,8 @@ impl<'r, R: Files<File = File>> Folder for KitFolder<'r, R> {
         }
         match make_marked(self.rt, name) {
             Ok(file) => {
+                let steps = self.steps.as_slice();
+                note_told(reports, steps, &self.supposed, name.as_bytes(), &file);
                 add(&mut self.steps, KitStep::Made(made));
                 self.passing = Some(passing);
                 Ok(KitNew::new(file))

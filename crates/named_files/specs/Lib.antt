@@ -4,4 +4,5 @@ pub mod Entries
 pub mod Logs
 pub mod MemoryFolders
 pub mod Refusals
+pub mod Reported
 pub mod TakingNames

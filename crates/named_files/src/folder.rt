@@ -1,7 +1,8 @@
 //! Files by their names.
-ghost use Rattle.std.specs.Prelude.{◌≡◌, ◌≢◌, ◌⊎◌, ◌<◌, ◌≤◌, ◌&&◌, ℕ, Bool, true, false, List, [], Option, None, Some, is_ok, IfOk, IfErr, IfSome, IsSome, OnOk, OnErr};
+ghost use Rattle.std.specs.Prelude.{◌≡◌, ◌≢◌, ◌⊎◌, ◌<◌, ◌≤◌, ◌&&◌, ℕ, Bool, true, false, List, [], Option, None, Some, is_some, is_ok, IfOk, IfErr, IfSome, IsSome, OnOk, OnErr};
 ghost use Rattle.named_files.specs.Crashes.{LeavesNoMoreWhere, Elapses};
-ghost use Rattle.named_files.specs.Entries.{Entry, Nothing, IsFileOf, bytes_of, look_of, Gives, Leads, Answers, SameWhere};
+ghost use Rattle.named_files.specs.Entries.{Entry, Nothing, IsFileOf, bytes_of, Leads, SameWhere};
+ghost use Rattle.named_files.specs.Reported.{told_look, told_apart, told_left, told_free};
 ghost use Rattle.named_files.specs.Refusals.{HasCause};
 
 use crate::kept_file::KeptFile;
@@ -17,7 +18,8 @@ use std::alloc::{AllocError, Global};
 ///
 /// A contract says what each name leads to, what a crash may leave there, and which calls are made. For files in memory
 /// all of this is so. For files of the system it is what is supposed of them: whatever is supposed, the calls are the
-/// same, and the record of the calls is real.
+/// same, and the record of the calls is real. The reports say whether everything that the system reported of the files
+/// agrees with what is supposed of them.
 pub trait Folder {
     /// A file that is read.
     type File: KeptFile;
@@ -27,6 +29,12 @@ pub trait Folder {
 
     /// A file that a killed run left. It is locked, so that no other run removes it.
     type Left: Drop;
+
+    /// What was reported of these files.
+    type Reports: Drop;
+
+    /// Whether all of it agrees with what is so, or is supposed to be so.
+    ghost agree: { Self.Reports → Bool };
 
     /// What each name leads to.
     ghost holds: { Self → List ℕ → Entry };
@@ -56,7 +64,7 @@ pub trait Folder {
     /// What a crash at some moment from that one on might have left under each name, during a call or between two.
     ghost left_since: { Self → ℕ → List ℕ → Entry → Type 0 };
 
-    /// Everything that the system reports of these files is so.
+    /// All that is reported of these files is so.
     ghost reports_are_right: { Type 0 };
 
     /// The system may refuse a call on a name for a reason of its own.
@@ -87,38 +95,64 @@ pub trait Folder {
     /// after it.
     ghost removes: { Self → List ℕ → Bool → Self → Type 0 };
 
+    /// Returns reports of which there are none yet.
+    fn no_reports(&self) -> Self::Reports
+        ensures { agree result ≡ true };
+
+    /// Adds more reports.
+    fn add_reports(&self, reports: &mut Self::Reports, more: Self::Reports)
+        ensures { agree reports.new ≡ (agree reports.old && agree more) };
+
     /// Opens a file, which is read from its front.
     fn open(&self, alloc: Global, name: &str) -> Result<Self::File, Refusal>
         ensures rest { IfOk result (λ file.
-            Gives (holds self.now name.now) (Self.File.rest file)) }
+            Self.File.rest file ≡ bytes_of (holds self.now name.now)) }
         ensures bytes { IfOk result (λ file.
-            Gives (holds self.now name.now) (Self.File.bytes file)) }
+            Self.File.bytes file ≡ bytes_of (holds self.now name.now)) }
         ensures whole { IfOk result (λ file. IfSome (bytes_of (holds self.now name.now))
             (Self.File.whole file)) }
-        ensures there { OnOk result (reports_are_right → holds self.now name.now ≢ Nothing) }
         ensures fresh { IfOk result (λ file. Self.File.failures file ≡ 0) }
         ensures refused { IfErr result (λ why. HasCause why
             ((bytes_of (holds self.now name.now) ≡ None) ⊎ can_refuse)) };
 
+    /// Closes a file that was opened here, and takes over what was reported of its bytes.
+    fn take_back(&self, reports: &mut Self::Reports, file: Self::File)
+        ensures { agree reports.new ≡ (agree reports.old
+            && is_some (Self.File.rest file) && is_some (Self.File.bytes file)) };
+
     /// Looks at what a name leads to: its kind, and the length of a plain file.
-    fn look(&self, alloc: Global, name: &str) -> Result<Look, Refusal>
-        ensures shown { IfOk result (λ look. reports_are_right
-            → look ≡ look_of (holds self.now name.now)) }
+    fn look(&self, alloc: Global, reports: &mut Self::Reports, name: &str) -> Result<Look, Refusal>
+        ensures noted { agree reports.new ≡ (agree reports.old
+            && told_look result (holds self.now name.now)) }
+        ensures right { reports_are_right → agree reports.new ≡ agree reports.old }
         ensures refused { IfErr result (λ why. HasCause why can_refuse) };
 
     /// Whether the file of the first name is the same after another one takes the second name, or after what has the
     /// second name is removed.
-    fn is_apart(&self, alloc: Global, name: &str, other: &str) -> Result<bool, AllocError>
-        ensures { IfOk result (λ is_apart. reports_are_right
-            → Answers is_apart (apart self.now name.now other.now) can_refuse) };
+    fn is_apart(
+        &self,
+        alloc: Global,
+        reports: &mut Self::Reports,
+        name: &str,
+        other: &str,
+    ) -> Result<bool, AllocError>
+        ensures noted { agree reports.new ≡ (agree reports.old
+            && told_apart result (apart self.now name.now other.now)) }
+        ensures right { reports_are_right → agree reports.new ≡ agree reports.old };
 
     /// Finds what a killed run left under a name, and locks it. Returns None if nothing has the name, and is refused if
     /// something else has it.
-    fn find_leftover(&self, alloc: Global, name: &str) -> Result<Option<Self::Left>, Refusal>
+    fn find_leftover(
+        &self,
+        alloc: Global,
+        reports: &mut Self::Reports,
+        name: &str,
+    ) -> Result<Option<Self::Left>, Refusal>
         ensures left { IfOk result (λ found. IfSome found (λ left.
             (name_left left ≡ name.now) × (is_leftover self.now name.now ≡ true))) }
-        ensures none { IfOk result (λ found. found ≡ None → reports_are_right
-            → holds self.now name.now ≡ Nothing) }
+        ensures noted { agree reports.new ≡ (agree reports.old
+            && told_left result (holds self.now name.now)) }
+        ensures right { reports_are_right → agree reports.new ≡ agree reports.old }
         ensures refused { IfErr result (λ why. HasCause why
             (((holds self.now name.now ≢ Nothing) × (is_leftover self.now name.now ≡ false))
             ⊎ can_refuse)) };
@@ -141,9 +175,16 @@ pub trait Folder {
 
     /// Makes a new and empty file under a name, which its owner alone may read, and which this process alone has
     /// locked. It is refused if anything has the name, which stays.
-    fn create(&mut self, alloc: Global, name: &str) -> Result<Self::New, Refusal>
+    fn create(
+        &mut self,
+        alloc: Global,
+        reports: &mut Self::Reports,
+        name: &str,
+    ) -> Result<Self::New, Refusal>
         requires { making self.old ≡ None }
-        ensures free { OnOk result (reports_are_right → holds self.old name.now ≡ Nothing) }
+        ensures noted { agree reports.new ≡ (agree reports.old
+            && told_free (is_ok result) (holds self.old name.now)) }
+        ensures right { reports_are_right → agree reports.new ≡ agree reports.old }
         ensures empty { IfOk result (λ new. Self.New.taken new ≡ Some []) }
         ensures fresh { IfOk result (λ new. Self.New.failures new ≡ 0) }
         ensures making { OnOk result (making self.new ≡ Some name.now) }

@@ -14,8 +14,17 @@ use std::alloc::Global;
 ///
 /// `Refused` if anything else has the name, which stays, or if the system refuses; `Memory` if memory runs out. Nothing
 /// is removed then.
-pub fn clear_leftover<F: Folder>(folder: &mut F, alloc: Global, name: &str) -> Result<(), Refusal>
-    ensures free { OnOk result (F.reports_are_right → F.holds folder.new name.now ≡ Nothing) }
+pub fn clear_leftover<F: Folder>(
+    folder: &mut F,
+    alloc: Global,
+    reports: &mut F::Reports,
+    name: &str,
+) -> Result<(), Refusal>
+    ensures free { OnOk result (F.agree reports.new ≡ true
+        → F.holds folder.new name.now ≡ Nothing) }
+    // What is reported agrees only if what was reported before does.
+    ensures earlier { F.agree reports.new ≡ true → F.agree reports.old ≡ true }
+    ensures right { F.reports_are_right → F.agree reports.new ≡ F.agree reports.old }
     // What is removed was left by a killed run.
     ensures only_leftover { F.is_leftover folder.old name.now ≡ false → folder.new ≡ folder.old }
     ensures others { SameWhere (λ n. F.apart folder.old n name.now) (F.holds folder.old)
@@ -36,7 +45,7 @@ pub fn clear_leftover<F: Folder>(folder: &mut F, alloc: Global, name: &str) -> R
         (((F.holds folder.old name.now ≢ Nothing) × (F.is_leftover folder.old name.now ≡ false))
         ⊎ F.can_refuse)) }
 {
-    match folder.find_leftover(alloc, name)? {
+    match folder.find_leftover(alloc, reports, name)? {
         Some(left) => folder.remove_leftover(alloc, left),
         None => Ok(()),
     }

@@ -18,7 +18,7 @@ pub use look::Look;
 pub use memory_folder::item::Item;
 pub use memory_folder::memory_file::MemoryFile;
 pub use memory_folder::memory_new::MemoryNew;
-pub use memory_folder::{MemoryFolder, MemoryLeft};
+pub use memory_folder::{MemoryFolder, MemoryLeft, MemoryReports};
 pub use name_fault::NameFault;
 pub use new_file::NewFile;
 pub use refusal::Refusal;

@@ -4,7 +4,7 @@ ghost use Rattle.std.proofs.Common.{arith, rules};
 ghost use Rattle.std.specs.Str.{bytes_eq};
 ghost use Rattle.std.specs.Option.{option_map, option_map_or};
 ghost use Rattle.std.specs.String.{string_bytes};
-ghost use Rattle.named_files.specs.Entries.{Nothing, File, bytes_of, look_of};
+ghost use Rattle.named_files.specs.Entries.{Nothing, File, bytes_of};
 ghost use Rattle.named_files.specs.Logs.{Named, MayLeave, MayHaveLeft, left_now, only_left};
 ghost use Rattle.named_files.specs.MemoryFolders.{changes_of, change_of, entry_of, held_in, held_of, nothing, nothing_first};
 
@@ -36,6 +36,10 @@ pub struct MemoryFolder {
 pub struct MemoryLeft {
     name: String,
 }
+
+/// What was reported of files in memory. All of it is so.
+#[derive(Drop)]
+pub struct MemoryReports {}
 
 impl MemoryFolder {
     /// Returns a folder in which nothing has a name.
@@ -164,6 +168,10 @@ impl Folder for MemoryFolder {
 
     type Left = MemoryLeft;
 
+    type Reports = MemoryReports;
+
+    ghost agree = { λ _. true };
+
     ghost holds = { λ m n. (held_in m n).entry };
 
     ghost apart = { λ _ a b. not (bytes_eq a b) };
@@ -211,6 +219,12 @@ impl Folder for MemoryFolder {
 
     ghost writes_fail = { λ _ _. tt };
 
+    fn no_reports(&self) -> MemoryReports {
+        MemoryReports {}
+    }
+
+    fn add_reports(&self, _reports: &mut MemoryReports, _more: MemoryReports) {}
+
     fn open(&self, alloc: Global, name: &str) -> Result<MemoryFile, Refusal> {
         let Some(bytes) = self.bytes(name) else {
             return Err(Refusal::Refused);
@@ -221,7 +235,14 @@ impl Folder for MemoryFolder {
         }
     }
 
-    fn look(&self, _alloc: Global, name: &str) -> Result<Look, Refusal> {
+    fn take_back(&self, _reports: &mut MemoryReports, _file: MemoryFile) {}
+
+    fn look(
+        &self,
+        _alloc: Global,
+        _reports: &mut MemoryReports,
+        name: &str,
+    ) -> Result<Look, Refusal> {
         let Some(found) = self.found(name) else {
             return Ok(Look::Nothing);
         };
@@ -233,17 +254,32 @@ impl Folder for MemoryFolder {
         }
     }
 
-    fn is_apart(&self, _alloc: Global, name: &str, other: &str) -> Result<bool, AllocError> {
+    fn is_apart(
+        &self,
+        _alloc: Global,
+        _reports: &mut MemoryReports,
+        name: &str,
+        other: &str,
+    ) -> Result<bool, AllocError> {
         Ok(name != other)
     }
 
-    fn find_leftover(&self, alloc: Global, name: &str) -> Result<Option<MemoryLeft>, Refusal> {
+    fn find_leftover(
+        &self,
+        alloc: Global,
+        _reports: &mut MemoryReports,
+        name: &str,
+    ) -> Result<Option<MemoryLeft>, Refusal> {
         match self.found(name) {
-            Some(found) if found.is_left => match String::from_str(alloc, name) {
-                Ok(name) => Ok(Some(MemoryLeft { name })),
-                Err(AllocError) => Err(Refusal::Memory),
-            },
-            Some(found) if !matches!(found.item, Item::Nothing) => Err(Refusal::Refused),
+            Some(found) if !matches!(found.item, Item::Nothing) => {
+                if !found.is_left {
+                    return Err(Refusal::Refused);
+                }
+                match String::from_str(alloc, name) {
+                    Ok(name) => Ok(Some(MemoryLeft { name })),
+                    Err(AllocError) => Err(Refusal::Memory),
+                }
+            }
             _ => Ok(None),
         }
     }
@@ -260,7 +296,12 @@ impl Folder for MemoryFolder {
         }
     }
 
-    fn create(&mut self, alloc: Global, name: &str) -> Result<MemoryNew, Refusal> {
+    fn create(
+        &mut self,
+        alloc: Global,
+        _reports: &mut MemoryReports,
+        name: &str,
+    ) -> Result<MemoryNew, Refusal> {
         if !self.is_free(name) {
             return Err(Refusal::Refused);
         }

@@ -74,12 +74,16 @@ pub fn take_name<F: Folder>(
 pub fn replace_file<F: Folder>(
     folder: &mut F,
     alloc: Global,
+    reports: &mut F::Reports,
     passing: &str,
     name: &str,
     bytes: &[u8],
 ) -> Result<(), NameFault>
     requires making { F.making folder.old ≡ None }
     requires apart { F.apart folder.old name.now passing.now ≡ true }
+    // What is reported agrees only if what was reported before does.
+    ensures earlier { F.agree reports.new ≡ true → F.agree reports.old ≡ true }
+    ensures right { F.reports_are_right → F.agree reports.new ≡ F.agree reports.old }
     // The name leads to exactly these bytes; or, without the name, to what it led to before.
     ensures named { has_name result ≡ true → F.holds folder.new name.now ≡ File bytes.now }
     ensures not_named { has_name result ≡ false
@@ -99,7 +103,7 @@ pub fn replace_file<F: Folder>(
     ensures refused { IfErr result (λ fault. HasCause (refusal_of fault)
         ((F.holds folder.old passing.now ≢ Nothing) ⊎ (F.can_refuse ⊎ F.writes_can_fail))) }
 {
-    let mut new = match folder.create(alloc, passing) {
+    let mut new = match folder.create(alloc, reports, passing) {
         Ok(new) => new,
         Err(why) => return Err(NameFault::NotNamed(why)),
     };

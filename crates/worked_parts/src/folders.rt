@@ -11,7 +11,8 @@ fn is_replaced(alloc: Global) -> Option<bool> {
     let mut folder = MemoryFolder::new(alloc);
     let old = b"old".to_vec(alloc).ok()?;
     folder.put(alloc, "t", Item::File(old)).ok()?;
-    replace_file(&mut folder, alloc, "t.new", "t", b"a new one").ok()?;
+    let mut reports = folder.no_reports();
+    replace_file(&mut folder, alloc, &mut reports, "t.new", "t", b"a new one").ok()?;
     let mut file = folder.open(alloc, "t").ok()?;
     let mut read = [0; 8];
     let count = file.read_at(6, &mut read).ok()?;
@@ -26,16 +27,17 @@ fn is_replaced(alloc: Global) -> Option<bool> {
 fn only_leftovers_are_removed(alloc: Global) -> Option<bool> {
     let mut folder = MemoryFolder::new(alloc);
     folder.put(alloc, "t.new", Item::Folder).ok()?;
+    let mut reports = folder.no_reports();
     let is_refused = matches!(
-        replace_file(&mut folder, alloc, "t.new", "t", b"new"),
+        replace_file(&mut folder, alloc, &mut reports, "t.new", "t", b"new"),
         Err(NameFault::NotNamed(Refusal::Refused))
     ) && matches!(
-        clear_leftover(&mut folder, alloc, "t.new"),
+        clear_leftover(&mut folder, alloc, &mut reports, "t.new"),
         Err(Refusal::Refused)
-    ) && matches!(folder.look(alloc, "t.new"), Ok(Look::Folder));
+    ) && matches!(folder.look(alloc, &mut reports, "t.new"), Ok(Look::Folder));
     folder.leave(alloc, "t.new", Vec::new(alloc)).ok()?;
-    clear_leftover(&mut folder, alloc, "t.new").ok()?;
-    replace_file(&mut folder, alloc, "t.new", "t", b"new").ok()?;
+    clear_leftover(&mut folder, alloc, &mut reports, "t.new").ok()?;
+    replace_file(&mut folder, alloc, &mut reports, "t.new", "t", b"new").ok()?;
     Some(is_refused && folder.bytes("t") == Some(b"new".as_slice()))
 }
 

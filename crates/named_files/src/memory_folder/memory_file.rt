@@ -48,6 +48,10 @@ impl Source for MemoryFile {
 }
 
 impl KeptFile for MemoryFile {
+    type State = ();
+
+    ghost state_found = { λ _. Some tt };
+
     ghost bytes = { λ file. Some file.bytes.items };
 
     ghost bytes_are_whole = { λ _ _ is. is };
@@ -60,4 +64,14 @@ impl KeptFile for MemoryFile {
     fn length(&mut self) -> Result<u64, DeviceFault> {
         Ok(self.bytes.len() as u64)
     }
+
+    fn state(&mut self) -> Result<(), DeviceFault> {
+        Ok(())
+    }
+
+    fn check_state(&mut self, _state: ()) -> Result<(), DeviceFault> {
+        Ok(())
+    }
+
+    fn close(&mut self) {}
 }
