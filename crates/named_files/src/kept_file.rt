@@ -63,12 +63,14 @@ pub trait KeptFile: Source + Drop {
         ensures found { OnOk result (state_found self.new ≡ Some state) }
         ensures count { Counts result (Self.failures self.old) (Self.failures self.new) };
 
-    /// Closes the file. What is known of its bytes stays. A call that reads it after that fails.
+    /// Closes the file. What is known of its bytes stays, and so does the state in which it was found. A call that reads
+    /// it after that fails.
     fn close(&mut self)
         ensures known { bytes self.new ≡ bytes self.old }
         ensures rest { Self.rest self.new ≡ Self.rest self.old }
         ensures whole { (bytes : List ℕ) → Self.whole self.old bytes → Self.whole self.new bytes }
         ensures through { Self.through self.new ≡ Self.through self.old }
+        ensures found { state_found self.new ≡ state_found self.old }
         ensures count { Self.failures self.new ≡ Self.failures self.old };
 
     /// The bytes that are known are all its bytes, before and after any call.
