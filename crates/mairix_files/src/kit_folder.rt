@@ -15,6 +15,7 @@ use crate::leftover::lock_leftover;
 use crate::names::{Place, leads_to_processes};
 use crate::new_file::{make_marked, remove_named, rename_named, set_mode, sync_folder};
 use call_record::Record;
+use mbox_cutter::Out;
 use named_files::{Folder, Look, Refusal};
 use std::alloc::{AllocError, Global};
 use std::fs::File;
@@ -120,6 +121,21 @@ fn leftover_at<R: Files<File = File>>(
         },
         Ok(None) => Ok(None),
         Err(error) => Err(refusal_of(error)),
+    }
+}
+
+/// Makes a new and empty file under a name, with the mark of a new file. If it can't be written to, it is removed.
+fn make_new<R: Files<File = File>>(rt: &R, alloc: Global, name: &str) -> io::Result<KitNew>
+    ensures taken { IfOk result (λ new. ⟦<KitNew as Out>⟧.taken new ≡ Some []) }
+    ensures fresh { IfOk result (λ new. ⟦<KitNew as Out>⟧.failures new ≡ 0) }
+{
+    let file = make_marked(rt, name)?;
+    match KitNew::new(alloc, file) {
+        Ok(new) => Ok(new),
+        Err((error, file)) => {
+            remove_named(rt, &file, name);
+            Err(error)
+        }
     }
 }
 
@@ -280,13 +296,13 @@ impl<'r, R: Files<File = File>> Folder for KitFolder<'r, R> {
         if self.steps.reserve(2).is_err() {
             return Err(Refusal::Memory);
         }
-        match make_marked(self.rt, name) {
-            Ok(file) => {
+        match make_new(self.rt, alloc, name) {
+            Ok(new) => {
                 let steps = self.steps.as_slice();
-                note_told(reports, steps, &self.supposed, name.as_bytes(), &file);
+                note_told(reports, steps, &self.supposed, name.as_bytes(), &new);
                 add(&mut self.steps, KitStep::Made(made));
                 self.passing = Some(passing);
-                Ok(KitNew::new(file))
+                Ok(new)
             }
             Err(error) => Err(refusal_of(error)),
         }
@@ -296,6 +312,9 @@ impl<'r, R: Files<File = File>> Folder for KitFolder<'r, R> {
         let Ok(named) = String::from_str(alloc, name) else {
             return Err((Refusal::Memory, new));
         };
+        if !new.is_written() {
+            return Err((Refusal::Refused, new));
+        }
         let Some(passing) = &self.passing else {
             unreachable!();
         };

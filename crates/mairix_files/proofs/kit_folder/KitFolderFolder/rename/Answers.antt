@@ -2,9 +2,9 @@
 use Rattle.std.proofs.Common.{◌≡◌, ◌∙◌, ◌∷◌, ap, false}
 use Rattle.std.specs.Option.{option_map}
 use Rattle.std.specs.String.{string_bytes}
-use Rattle.call_record.specs.Calls.{taken_after}
 use Rattle.named_files.specs.Logs.{Held, Named}
 use Rattle.named_files.proofs.Logs.{file_of, no_more_others_than, left_of_new, time_goes_on}
+use Rattle.mairix_files.specs.KitNews.{bytes_put}
 use Rattle.mairix_files.specs.NameCalls.{NameCall, calls_of, changes_by, changes_of, supposed_first}
 use Rattle.mairix_files.proofs.kit_folder.KitFolderFolder.rename.Given as given
 use Rattle.mairix_files.proofs.kit_folder.KitFolderFolder.rename.Goals as goal
@@ -12,7 +12,7 @@ use Rattle.mairix_files.proofs.kit_folder.KitFolderFolder.rename.Goals as goal
 module _ (g : given.Over) (c : goal.Joined-self-2 g) where
   -- what the name leads to after the rename
   abbrev taken : Held
-  taken = file_of (taken_after c.args.new.record.calls) c.args.new.is_kept false
+  taken = file_of (bytes_put c.args.new.gathering) c.args.new.is_kept false
 
   newest : changes_of c.add.new.steps.items ≡ Named c.args.name.now taken ∷ changes_of c.args.self.now.steps.items
   newest =
@@ -29,7 +29,7 @@ returns-clause-crash g c =
 pub returns-clause-crash_named : goal.returns-clause-crash_named
 returns-clause-crash_named g c =
     left_of_new (supposed_first c.args.self.now.supposed) (changes_of c.args.self.now.steps.items)
-    (changes_of c.add.new.steps.items) c.args.name.now (taken_after c.args.new.record.calls)
+    (changes_of c.add.new.steps.items) c.args.name.now (bytes_put c.args.new.gathering)
     c.args.new.is_kept false (newest g c)
 
 pub returns-clause-time : goal.returns-clause-time
