@@ -1,11 +1,11 @@
 -- The calls on names that were done, and what they make of a folder.
-use Rattle.std.specs.Prelude.{◌≡◌, ℕ, Bool, true, false, List, [], ◌∷◌, map, reverse, if◌then◌else◌}
+use Rattle.std.specs.Prelude.{◌≡◌, ℕ, Bool, true, false, List, [], ◌∷◌, map, reverse, not, if◌then◌else◌}
 use Rattle.std.specs.Str.{bytes_eq}
 use Rattle.std.specs.String.{string_bytes}
-use Rattle.call_record.specs.declared.record.Record.{Record}
 use Rattle.call_record.specs.Calls.{taken_after}
 use Rattle.named_files.specs.Entries.{Entry, Nothing, File}
 use Rattle.named_files.specs.Logs.{Held, Change, Named, Synced, held_after}
+use Rattle.mairix_files.specs.declared.supposed_names.SupposedNames.{SupposedNames}
 use Rattle.mairix_files.specs.declared.kit_step.KitStep.{KitStep}
 use Rattle.mairix_files.specs.declared.kit_step.KitStep.TheVariants as step
 
@@ -54,16 +54,25 @@ changes_of steps = changes_by (calls_of steps)
 
 -- ---- what is supposed
 
--- What a name is supposed to lead to: the list has a name, the bytes of its file, another name, and so on. No other
--- name leads to anything.
-abbrev pub supposed_in : List (List ℕ) → List ℕ → Entry
-supposed_in [] n = Nothing
-supposed_in (name ∷ []) n = Nothing
-supposed_in (name ∷ (bytes ∷ rest)) n = if bytes_eq n name then File bytes else supposed_in rest n
+-- what a name leads to by this list; Nothing if it isn't there
+abbrev pub entry_in : List (List ℕ × Entry) → List ℕ → Entry
+entry_in [] n = Nothing
+entry_in (first ∷ rest) n = if bytes_eq n first.0 then first.1 else entry_in rest n
 
-abbrev pub supposed_first : Record → List ℕ → Held
-supposed_first noted n = record { entry = supposed_in noted.supposed n; is_on_disk = true; is_left = false }
+-- the name to which these links lead from a name, one after another; the first name of each leads to the second one
+abbrev pub place_of : List (List ℕ × List ℕ) → List ℕ → List ℕ
+place_of [] n = n
+place_of (link ∷ rest) n = place_of rest (if bytes_eq n link.0 then link.1 else n)
+
+-- whether two names don't lead to one place
+abbrev pub are_apart : List (List ℕ × List ℕ) → List ℕ → List ℕ → Bool
+are_apart links a b = not (bytes_eq (place_of links a) (place_of links b))
+
+-- What each name is supposed to lead to before any call. It is on the disk.
+abbrev pub supposed_first : SupposedNames → List ℕ → Held
+supposed_first supposed n =
+    record { entry = entry_in supposed.entries (place_of supposed.links n); is_on_disk = true; is_left = false }
 
 -- what a name leads to after these steps, if the system carries them out
-abbrev pub supposed_now : Record → List KitStep → List ℕ → Entry
-supposed_now noted steps n = (held_after (supposed_first noted) (changes_of steps) n).entry
+abbrev pub supposed_now : SupposedNames → List KitStep → List ℕ → Entry
+supposed_now supposed steps n = (held_after (supposed_first supposed) (changes_of steps) n).entry

@@ -2,10 +2,9 @@
 ghost use Rattle.std.specs.Prelude.{◌≡◌, ◌≤◌, ◌<◌, ◌+◌, ◌∷◌, [], ⊤, ℕ, List, true, false, Some, None, not, length, vec_len, vec_capacity, IfOk, IfSome};
 ghost use Rattle.std.proofs.Common.{arith};
 ghost use Rattle.std.specs.Option.{ForSome, option_map, unwrap_or};
-ghost use Rattle.std.specs.Str.{bytes_eq};
 ghost use Rattle.std.specs.String.{string_bytes};
 ghost use Rattle.named_files.specs.Logs.{held_after, MayLeave, MayHaveLeft, left_now, only_left};
-ghost use Rattle.mairix_files.specs.NameCalls.{Made, Renamed, Kept, Discarded, Cleared, GoesOn, call_of, calls_of, changes_of, supposed_first, supposed_now};
+ghost use Rattle.mairix_files.specs.NameCalls.{Made, Renamed, Kept, Discarded, Cleared, GoesOn, are_apart, call_of, calls_of, changes_of, supposed_first, supposed_now};
 
 use crate::kit_file::KitFile;
 use crate::kit_new::KitNew;
@@ -14,6 +13,7 @@ use crate::kit_step::KitStep;
 use crate::leftover::lock_leftover;
 use crate::names::{Place, leads_to_processes};
 use crate::new_file::{make_marked, remove_named, rename_named, set_mode, sync_folder};
+use crate::supposed_names::SupposedNames;
 use call_record::Record;
 use mbox_cutter::Out;
 use named_files::{Folder, Look, Refusal};
@@ -25,14 +25,14 @@ use std::{fs, io};
 
 /// The system's files, by their names, with a record of the calls that were done.
 ///
-/// It supposes what names lead to at first. What they lead to later follows from the calls, if the system carries them
-/// out. Whatever is supposed, the calls are the same.
+/// It supposes what names lead to at first, and which of them lead to one place. What they lead to later follows from
+/// the calls, if the system carries them out: a rename replaces a link, and not what the link leads to. Whatever is supposed, the calls are the same.
 #[derive(Drop)]
 pub struct KitFolder<'r, R: Files<File = File>> {
     rt: &'r R,
     passing: Option<String>,
     steps: Vec<KitStep>,
-    supposed: Record,
+    supposed: SupposedNames,
     // The file that is made can take its name or be removed without memory.
     ghost room: { ForSome passing (λ _. vec_len steps < vec_capacity steps) },
 }
@@ -45,9 +45,8 @@ pub struct KitLeft {
 }
 
 impl<'r, R: Files<File = File>> KitFolder<'r, R> {
-    /// Returns the files of the system, of which none is made yet. The record supposes a name, the bytes of its file,
-    /// another name, and so on.
-    pub fn new(rt: &'r R, alloc: Global, supposed: Record) -> KitFolder<'r, R>
+    /// Returns the files of the system, of which none is made yet.
+    pub fn new(rt: &'r R, alloc: Global, supposed: SupposedNames) -> KitFolder<'r, R>
         ensures none { ⟦<KitFolder<'r, R> as Folder>⟧.making result ≡ None }
         ensures calls { calls_of result.steps.items ≡ [] }
         ensures supposed { result.supposed ≡ supposed }
@@ -70,7 +69,7 @@ fn refusal_of(error: io::Error) -> Refusal {
 }
 
 /// Returns a record without calls, which supposes the bytes of one file, or no file.
-fn supposing(_steps: &[KitStep], _supposed: &Record, _name: &[u8]) -> Record
+fn supposing(_steps: &[KitStep], _supposed: &SupposedNames, _name: &[u8]) -> Record
     ghost files: { List (List ℕ) }
     ensures { (result.supposed ≡ files) × (result.calls ≡ []) }
 {
@@ -96,7 +95,7 @@ fn look_at<R: Files<File = File>>(rt: &R, alloc: Global, name: &str) -> Result<L
 }
 
 /// Whether two names lead to different files.
-fn are_apart<R: Files<File = File>>(
+fn differ<R: Files<File = File>>(
     rt: &R,
     alloc: Global,
     name: &str,
@@ -163,7 +162,7 @@ impl<'r, R: Files<File = File>> Folder for KitFolder<'r, R> {
 
     ghost holds = { λ f n. supposed_now f.supposed f.steps.items n };
 
-    ghost apart = { λ _ a b. not (bytes_eq a b) };
+    ghost apart = { λ f a b. are_apart f.supposed.links a b };
 
     ghost making = { λ f. option_map string_bytes f.passing };
 
@@ -253,8 +252,14 @@ impl<'r, R: Files<File = File>> Folder for KitFolder<'r, R> {
         name: &str,
         other: &str,
     ) -> Result<bool, AllocError> {
-        let is_apart = are_apart(self.rt, alloc, name, other);
-        note_apart(reports, name.as_bytes(), other.as_bytes(), &is_apart);
+        let is_apart = differ(self.rt, alloc, name, other);
+        note_apart(
+            reports,
+            &self.supposed,
+            name.as_bytes(),
+            other.as_bytes(),
+            &is_apart,
+        );
         is_apart
     }
 

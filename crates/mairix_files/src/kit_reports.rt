@@ -5,7 +5,7 @@ ghost use Rattle.std.specs.Coded.{coded_bool};
 
 use crate::kit_file::KitFile;
 use crate::kit_step::KitStep;
-use call_record::Record;
+use crate::supposed_names::SupposedNames;
 use std::alloc::AllocError;
 use std::marker::{Model, PhantomData};
 
@@ -38,11 +38,11 @@ impl KitReports {
     {}
 }
 
-/// Notes what was reported of a name, which the steps and the record suppose to lead somewhere.
+/// Notes what was reported of a name, as it is compared with what the name is supposed to lead to after the steps.
 pub(crate) fn note_told<T>(
     reports: &mut KitReports,
     _steps: &[KitStep],
-    _supposed: &Record,
+    _supposed: &SupposedNames,
     _name: &[u8],
     _told: &T,
 )
@@ -55,6 +55,7 @@ pub(crate) fn note_told<T>(
 /// Notes whether two names were reported as apart.
 pub(crate) fn note_apart(
     reports: &mut KitReports,
+    _supposed: &SupposedNames,
     _name: &[u8],
     _other: &[u8],
     _told: &Result<bool, AllocError>,

@@ -6,6 +6,7 @@ use Rattle.named_files.specs.Logs.{Held, Named}
 use Rattle.named_files.proofs.Logs.{file_of, no_more_others_than, left_of_new, time_goes_on}
 use Rattle.mairix_files.specs.KitNews.{bytes_put}
 use Rattle.mairix_files.specs.NameCalls.{NameCall, calls_of, changes_by, changes_of, supposed_first}
+use Rattle.mairix_files.proofs.NameSteps.{less_apart}
 use Rattle.mairix_files.proofs.kit_folder.KitFolderFolder.rename.Given as given
 use Rattle.mairix_files.proofs.kit_folder.KitFolderFolder.rename.Goals as goal
 
@@ -22,9 +23,10 @@ module _ (g : given.Over) (c : goal.Joined-self-2 g) where
 
 pub returns-clause-crash : goal.returns-clause-crash
 returns-clause-crash g c =
-    no_more_others_than (supposed_first c.args.self.now.supposed) (changes_of c.args.self.now.steps.items)
+    less_apart c.args.self.now.supposed.links (option_map string_bytes c.args.self.now.passing) c.args.name.now _ _
+    (no_more_others_than (supposed_first c.args.self.now.supposed) (changes_of c.args.self.now.steps.items)
     (changes_of c.add.new.steps.items) c.args.name.now (taken g c) (newest g c)
-    (option_map string_bytes c.args.self.now.passing)
+    (option_map string_bytes c.args.self.now.passing))
 
 pub returns-clause-crash_named : goal.returns-clause-crash_named
 returns-clause-crash_named g c =
