@@ -26,7 +26,8 @@ use std::{fs, io};
 /// The system's files, by their names, with a record of the calls that were done.
 ///
 /// It supposes what names lead to at first, and which of them lead to one place. What they lead to later follows from
-/// the calls, if the system carries them out: a rename replaces a link, and not what the link leads to. Whatever is supposed, the calls are the same.
+/// the calls, if the system carries them out: a rename replaces a link, and not what the link leads to. Whatever is
+/// supposed, the calls are the same.
 #[derive(Drop)]
 pub struct KitFolder<'r, R: Files<File = File>> {
     rt: &'r R,
