@@ -1,0 +1,2 @@
+-- The proofs of mairix_run: lemmas about streams.
+pub mod Taking

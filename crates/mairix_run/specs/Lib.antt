@@ -1,0 +1,6 @@
+-- The definitions of what a run prints at its end, and of its status.
+pub mod Flushing
+pub mod MemoryFields
+pub mod Stops
+pub mod Streams
+pub mod Tellings
