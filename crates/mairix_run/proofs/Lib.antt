@@ -1,2 +1,3 @@
 -- The proofs of mairix_run: lemmas about streams.
+pub mod Gathering
 pub mod Taking

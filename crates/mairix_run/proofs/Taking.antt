@@ -1,5 +1,5 @@
 -- What is sent in several parts is taken as a whole, or a front of it before a call failed.
-use Rattle.std.proofs.Common.{◌≡◌, ℕ, ◌+◌, List, ◌++◌, Result, Ok, Err, OnOk, OnErr, append_assoc, arith, ◌∙◌, ap, sym}
+use Rattle.std.proofs.Common.{◌≡◌, ℕ, ◌+◌, List, ◌++◌, Result, Ok, Err, OnOk, OnErr, append_assoc, ◌∙◌, ap, sym}
 use Rattle.std.specs.Io.KnownBytes.{Appends}
 use Rattle.contract_words.specs.Devices.{Counts, Sends}
 use Rattle.contract_words.proofs.Sending.{appends_join}

@@ -2,6 +2,7 @@
 #![tactic(auto)]
 
 mod flushing;
+mod gathered;
 mod memory_stream;
 mod stopped;
 mod stream;
@@ -10,6 +11,7 @@ mod usage_texts;
 mod worked_tellings;
 
 pub use flushing::flushed;
+pub use gathered::Gathered;
 pub use memory_stream::MemoryStream;
 pub use stopped::Stopped;
 pub use stream::Stream;

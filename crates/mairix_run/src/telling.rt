@@ -2,7 +2,7 @@
 ghost use Rattle.std.specs.Prelude.{◌≡◌, ◌<◌, ◌-◌, ◌^◌, ◌++◌, ◌∷◌, [], map, codes, string_bytes};
 ghost use Rattle.mairix_run.specs.Streams.{Takes, EndsTaking, EndsFlushed};
 ghost use Rattle.mairix_run.specs.Stops.{ending_of, ending_of_stopped};
-ghost use Rattle.mairix_run.specs.Tellings.{TellsEnding, TellsFault, TellsUsage, fault_of_unread, path_line};
+ghost use Rattle.mairix_run.specs.Reports.{ReportsEnding, ReportsFault, ReportsUsage, fault_of_unread, path_line};
 ghost use Rattle.run_faults.specs.declared.fault.Fault.TheVariants.{Usage};
 
 use crate::stopped::Stopped;
@@ -31,7 +31,7 @@ pub fn tell_ending<T: UsageTexts, O: Stream, E: Out>(
 ) -> u8
     requires out { O.failures out.old < 2 ^ 64 - 1 }
     requires err { E.failures err.old < 2 ^ 64 - 1 }
-    ensures told { TellsEnding O.Out O.handed_on E.Out
+    ensures reported { ReportsEnding O.Out O.handed_on E.Out
         (T.is_text texts.now (map string_bytes words.now)) (ending_of ended)
         result out.old out.new err.old err.new }
 {
@@ -53,7 +53,7 @@ pub fn tell_stopped<T: UsageTexts, O: Stream, E: Out>(
 ) -> u8
     requires out { O.failures out.old < 2 ^ 64 - 1 }
     requires err { E.failures err.old < 2 ^ 64 - 1 }
-    ensures told { TellsEnding O.Out O.handed_on E.Out
+    ensures reported { ReportsEnding O.Out O.handed_on E.Out
         (T.is_text texts.now (map string_bytes words.now)) (ending_of_stopped stopped)
         result out.old out.new err.old err.new }
 {
@@ -78,7 +78,7 @@ pub fn tell_usage<T: UsageTexts, O: Stream, E: Out>(
 ) -> u8
     requires out { O.failures out.old < 2 ^ 64 - 1 }
     requires err { E.failures err.old < 2 ^ 64 - 1 }
-    ensures told { TellsUsage O.Out O.handed_on E.Out
+    ensures reported { ReportsUsage O.Out O.handed_on E.Out
         (T.is_text texts.now (map string_bytes words.now)) fault
         result out.old out.new err.old err.new }
 {
@@ -100,7 +100,7 @@ pub fn tell_usage<T: UsageTexts, O: Stream, E: Out>(
 /// returns the exit status.
 pub fn tell_unread_words<E: Out>(alloc: Global, kind: ErrorKind, err: &mut E) -> u8
     requires { E.failures err.old < 2 ^ 64 - 1 }
-    ensures told { TellsFault E.Out (fault_of_unread kind) result err.old err.new }
+    ensures reported { ReportsFault E.Out (fault_of_unread kind) result err.old err.new }
 {
     let fault = match kind {
         ErrorKind::OutOfMemory => Fault::Memory,
@@ -113,7 +113,7 @@ pub fn tell_unread_words<E: Out>(alloc: Global, kind: ErrorKind, err: &mut E) ->
 /// instead. If `err` fails, that is reported nowhere.
 pub fn tell_fault<E: Out>(alloc: Global, fault: Fault, err: &mut E) -> u8
     requires { E.failures err.old < 2 ^ 64 - 1 }
-    ensures told { TellsFault E.Out fault result err.old err.new }
+    ensures reported { ReportsFault E.Out fault result err.old err.new }
 {
     let Ok(text) = fault_text(alloc, &fault) else {
         tell_line(PROGRAM, OUT_OF_MEMORY, err);

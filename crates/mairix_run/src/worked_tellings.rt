@@ -5,7 +5,7 @@ ghost use Rattle.mairix_options.specs.declared.rcfile.RcFault.TheVariants.{BadLi
 ghost use Rattle.mbox_cutter.specs.declared.event.CutFault.TheVariants.{ArchiveTooLong, NotAnMbox};
 ghost use Rattle.run_faults.specs.Faults.{status_of_fault};
 ghost use Rattle.run_faults.specs.declared.fault.Fault.TheVariants.{Archive, Device, Memory, OldIndex, Out, Rc, Stale, TooMany, Usage};
-ghost use Rattle.mairix_run.specs.Tellings.{fault_line, path_line};
+ghost use Rattle.mairix_run.specs.Reports.{fault_line, path_line};
 
 /// The definitions give what was worked out by hand.
 pub fn lines_and_statuses_are_as_worked_by_hand()
@@ -21,7 +21,8 @@ pub fn lines_and_statuses_are_as_worked_by_hand()
     ensures refused { map status_of_fault (Usage Help ∷ Usage Parse ∷ Rc (BadLine 2) ∷ [])
         ≡ 0 ∷ 2 ∷ 2 ∷ [] }
     ensures wrong_index { map status_of_fault (OldIndex ∷ Stale 0 ∷ []) ≡ 3 ∷ 3 ∷ [] }
-    ensures failed { map status_of_fault (Archive 1 NotAnMbox ∷ Device ∷ Out ∷ []) ≡ 4 ∷ 4 ∷ 4 ∷ [] }
+    ensures failed { map status_of_fault (Archive 1 NotAnMbox ∷ Device ∷ Out ∷ [])
+        ≡ 4 ∷ 4 ∷ 4 ∷ [] }
     ensures no_room { map status_of_fault (Archive 1 ArchiveTooLong ∷ Memory ∷ TooMany ∷ [])
         ≡ 5 ∷ 5 ∷ 5 ∷ [] }
 {}
