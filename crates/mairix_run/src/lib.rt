@@ -7,7 +7,7 @@ mod memory_stream;
 mod stopped;
 mod stream;
 mod telling;
-mod usage_texts;
+mod texts;
 mod worked_tellings;
 
 pub use flushing::flushed;
@@ -16,5 +16,5 @@ pub use memory_stream::MemoryStream;
 pub use stopped::Stopped;
 pub use stream::Stream;
 pub use telling::{tell_ending, tell_fault, tell_stopped, tell_unread_words, tell_usage};
-pub use usage_texts::{ParserTexts, UsageTexts};
+pub use texts::{ProgramTexts, Texts};
 pub use worked_tellings::lines_and_statuses_are_as_worked_by_hand;

@@ -7,10 +7,10 @@ ghost use Rattle.run_faults.specs.declared.fault.Fault.TheVariants.{Usage};
 
 use crate::stopped::Stopped;
 use crate::stream::Stream;
-use crate::usage_texts::UsageTexts;
+use crate::texts::Texts;
 use mairix_options::UsageFault;
 use mbox_cutter::{DeviceFault, Out, send};
-use run_faults::{FAILED, Fault, OUT_OF_MEMORY, fault_text};
+use run_faults::{FAILED, Fault, OUT_OF_MEMORY};
 use std::alloc::Global;
 use std::io::ErrorKind;
 
@@ -21,7 +21,7 @@ const PROGRAM: &str = "mairix: ";
 const CANNOT_OPEN: &str = "mairix: cannot open ";
 
 /// Reports how a run ended, and returns its status. A run with a status of its own prints nothing at its end.
-pub fn tell_ending<T: UsageTexts, O: Stream, E: Out>(
+pub fn tell_ending<T: Texts, O: Stream, E: Out>(
     alloc: Global,
     texts: &T,
     words: &[String],
@@ -32,7 +32,7 @@ pub fn tell_ending<T: UsageTexts, O: Stream, E: Out>(
     requires out { O.failures out.old < 2 ^ 64 - 1 }
     requires err { E.failures err.old < 2 ^ 64 - 1 }
     ensures reported { ReportsEnding O.Out O.handed_on E.Out
-        (T.is_text texts.now (map string_bytes words.now)) (ending_of ended)
+        (T.is_usage_text texts.now (map string_bytes words.now)) T.memory_can_lack (ending_of ended)
         result out.old out.new err.old err.new }
 {
     match ended {
@@ -43,7 +43,7 @@ pub fn tell_ending<T: UsageTexts, O: Stream, E: Out>(
 
 /// Prints why a run was stopped, and returns its status. This is one line on `err`; for refused words it is the
 /// parser's own text, which for help and version goes to `out`.
-pub fn tell_stopped<T: UsageTexts, O: Stream, E: Out>(
+pub fn tell_stopped<T: Texts, O: Stream, E: Out>(
     alloc: Global,
     texts: &T,
     words: &[String],
@@ -54,13 +54,13 @@ pub fn tell_stopped<T: UsageTexts, O: Stream, E: Out>(
     requires out { O.failures out.old < 2 ^ 64 - 1 }
     requires err { E.failures err.old < 2 ^ 64 - 1 }
     ensures reported { ReportsEnding O.Out O.handed_on E.Out
-        (T.is_text texts.now (map string_bytes words.now)) (ending_of_stopped stopped)
+        (T.is_usage_text texts.now (map string_bytes words.now)) T.memory_can_lack (ending_of_stopped stopped)
         result out.old out.new err.old err.new }
 {
     match stopped {
         Stopped::CannotOpen(path) => tell_path(path.as_str(), err),
         Stopped::Fault(Fault::Usage(fault)) => tell_usage(alloc, texts, words, fault, out, err),
-        Stopped::Fault(fault) => tell_fault(alloc, fault, err),
+        Stopped::Fault(fault) => tell_fault(alloc, texts, fault, err),
     }
 }
 
@@ -68,7 +68,7 @@ pub fn tell_stopped<T: UsageTexts, O: Stream, E: Out>(
 /// with `-x`, which the parser takes, is reported as a fault. Returns the status.
 ///
 /// If `out` fails, that is reported on `err` as a failed output.
-pub fn tell_usage<T: UsageTexts, O: Stream, E: Out>(
+pub fn tell_usage<T: Texts, O: Stream, E: Out>(
     alloc: Global,
     texts: &T,
     words: &[String],
@@ -79,43 +79,48 @@ pub fn tell_usage<T: UsageTexts, O: Stream, E: Out>(
     requires out { O.failures out.old < 2 ^ 64 - 1 }
     requires err { E.failures err.old < 2 ^ 64 - 1 }
     ensures reported { ReportsUsage O.Out O.handed_on E.Out
-        (T.is_text texts.now (map string_bytes words.now)) fault
+        (T.is_usage_text texts.now (map string_bytes words.now)) T.memory_can_lack fault
         result out.old out.new err.old err.new }
 {
     if let UsageFault::TwoFormats = fault {
-        return tell_fault(alloc, Fault::Usage(fault), err);
+        return tell_fault(alloc, texts, Fault::Usage(fault), err);
     }
-    let Ok(text) = texts.text(alloc, words) else {
-        return tell_fault(alloc, Fault::Memory, err);
+    let Ok(text) = texts.usage_text(alloc, words) else {
+        return tell_fault(alloc, texts, Fault::Memory, err);
     };
     if let UsageFault::Parse = fault {
         tell_text(text.as_str(), err);
     } else if print(text.as_str(), out).is_err() {
-        return tell_fault(alloc, Fault::Out, err);
+        return tell_fault(alloc, texts, Fault::Out, err);
     }
     Fault::Usage(fault).status()
 }
 
 /// Reports on `err` that the words after the program's name can't be read, for example because one isn't UTF-8, and
 /// returns the exit status.
-pub fn tell_unread_words<E: Out>(alloc: Global, kind: ErrorKind, err: &mut E) -> u8
+pub fn tell_unread_words<T: Texts, E: Out>(
+    alloc: Global,
+    texts: &T,
+    kind: ErrorKind,
+    err: &mut E,
+) -> u8
     requires { E.failures err.old < 2 ^ 64 - 1 }
-    ensures reported { ReportsFault E.Out (fault_of_unread kind) result err.old err.new }
+    ensures reported { ReportsFault E.Out T.memory_can_lack (fault_of_unread kind) result err.old err.new }
 {
     let fault = match kind {
         ErrorKind::OutOfMemory => Fault::Memory,
         _ => Fault::Usage(UsageFault::Parse),
     };
-    tell_fault(alloc, fault, err)
+    tell_fault(alloc, texts, fault, err)
 }
 
 /// Prints a fault in one line, and returns its status. If there is no memory for its text, lack of memory is reported
 /// instead. If `err` fails, that is reported nowhere.
-pub fn tell_fault<E: Out>(alloc: Global, fault: Fault, err: &mut E) -> u8
+pub fn tell_fault<T: Texts, E: Out>(alloc: Global, texts: &T, fault: Fault, err: &mut E) -> u8
     requires { E.failures err.old < 2 ^ 64 - 1 }
-    ensures reported { ReportsFault E.Out fault result err.old err.new }
+    ensures reported { ReportsFault E.Out T.memory_can_lack fault result err.old err.new }
 {
-    let Ok(text) = fault_text(alloc, &fault) else {
+    let Ok(text) = texts.fault_text(alloc, fault) else {
         tell_line(PROGRAM, OUT_OF_MEMORY, err);
         return Fault::Memory.status();
     };
