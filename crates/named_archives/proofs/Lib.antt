@@ -1,0 +1,2 @@
+-- The proofs about what is read of the files to which some names lead.
+pub mod Pieces

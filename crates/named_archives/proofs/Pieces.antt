@@ -1,0 +1,58 @@
+-- What a piece of a file gives, and that it stays a piece as long as the file's bytes are known.
+use Rattle.std.proofs.Common.{◌≡◌, ◌≤◌, ℕ, ◌+◌, ◌-◌, min, List, Option, None, Some, IfSome, length, take, drop}
+use Rattle.std.proofs.Common.{slice_range, sym, ap, ◌∙◌, subst, arith, length-drop, length-take-le}
+use Rattle.std.specs.Option.{ForSome}
+use Rattle.std.proofs.lemmas.List.{take-take, drop-drop, drop-take}
+use Rattle.contract_words.specs.Knowledge.{WasKnown}
+use Rattle.named_files.specs.Entries.{IsRead}
+use Rattle.named_archives.specs.Ahead.{IsPiece}
+
+if-some : {A : Type 0} (o : Option A) (P : A → Type 0) → ForSome o P → IfSome o P
+if-some None P h = tt
+if-some (Some x) P h = h x cc
+
+for-some : {A : Type 0} (o : Option A) (P : A → Type 0) → IfSome o P → ForSome o P
+for-some None P h = λ x e. cc
+for-some (Some y) P h = λ x e. let same : y ≡ x = grind arith in subst P same h
+
+-- what was so of all that was known is so of what is still known
+for-still : {A : Type 0} (old new : Option A) (P : A → Type 0) → WasKnown old new → ForSome old P → ForSome new P
+for-still old None P was h = λ x e. cc
+for-still old (Some y) P was h = λ x e. let same : y ≡ x = grind arith in h x (was ∙ ap Some same)
+
+pub still-piece : (offset : ℕ) (bytes : List ℕ) (old new : Option (List ℕ)) → WasKnown old new → IsPiece offset bytes old
+    → IsPiece offset bytes new
+still-piece offset bytes old new was piece = for-still old new _ was piece
+
+pub is-piece : (offset : ℕ) (bytes : List ℕ) (known : Option (List ℕ)) → IsRead offset bytes known
+    → IsPiece offset bytes known
+is-piece offset bytes known h = λ all e. (for-some known _ h all e).0
+
+-- what is copied from a place in a piece is in the file at that place
+copied : (file room got : List ℕ) (at front held count : ℕ) → held ≤ length room → front + count ≤ held
+    → take held room ≡ take (length (take held room)) (drop at file)
+    → take count got ≡ take count (slice_range room front held)
+    → take count got ≡ take count (drop (at + front) file)
+copied file room got at front held count within fits piece same =
+    let long : length (take held room) ≡ held = length-take-le held room within in
+    let more : front + (held - front) ≡ held = omega arith in
+    let part : slice_range room front held ≡ take (held - front) (drop (at + front) file) =
+    sym (drop-take front (held - front) room)
+    ∙ ap (drop front) (ap (λ k. take k room) more ∙ piece ∙ ap (λ k. take k (drop at file)) (long ∙ sym more))
+    ∙ drop-take front (held - front) (drop at file) ∙ ap (take (held - front)) (drop-drop front at file) in
+    same ∙ ap (take count) part ∙ take-take count (held - front) (drop (at + front) file) (omega arith)
+
+pub given : (offset at front held count : ℕ) (room got : List ℕ) (known : Option (List ℕ)) → held ≤ length room
+    → front + count ≤ held → offset ≡ at + front → IsPiece at (take held room) known
+    → take count got ≡ take count (slice_range room front held)
+    → IfSome known (λ all. take count got ≡ take count (drop offset all))
+given offset at front held count room got known within fits here piece same = if-some known _ (λ all e.
+    rw here (copied all room got at front held count within fits (piece all e) same))
+
+-- the bytes that fit are in the piece
+pub within-piece : (room : List ℕ) (front held into count : ℕ) → front ≤ held → held ≤ length room
+    → count ≡ min (length (slice_range room front held)) into → front + count ≤ held
+within-piece room front held into count order within e =
+    let long : length (slice_range room front held) ≡ held - front =
+    length-take-le (held - front) (drop front room) (omega (arith, length-drop front room)) in
+    omega (arith, e, long)

@@ -1,0 +1,2 @@
+-- What is read of the files to which some names lead.
+pub mod Ahead
