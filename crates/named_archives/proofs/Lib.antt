@@ -1,2 +1,3 @@
 -- The proofs about what is read of the files to which some names lead.
+pub mod Lists
 pub mod Pieces

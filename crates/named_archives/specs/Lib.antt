@@ -1,2 +1,3 @@
 -- What is read of the files to which some names lead.
 pub mod Ahead
+pub mod Progress

@@ -1,5 +1,5 @@
 -- The room has what was read, and that is in the file; without a piece nothing is said.
-use Rattle.std.proofs.Common.{◌≡◌, ◌≤◌, ℕ, List, take, length, vec_len, refl, sym, subst, arith}
+use Rattle.std.proofs.Common.{◌≡◌, ℕ, List, take, length, vec_len, refl, sym, subst, arith}
 use Rattle.std.proofs.lemmas.List.{with_items_is}
 use Rattle.named_files.specs.Entries.{IsRead}
 use Rattle.named_archives.specs.Ahead.{IsPiece}

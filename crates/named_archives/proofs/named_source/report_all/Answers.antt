@@ -1,0 +1,42 @@
+-- One more source agrees or not, and after the last one these are all sources.
+use Rattle.std.proofs.Common.{◌≡◌, ◌∙◌, Global, IsSome, map-id, sym}
+use Rattle.std.proofs.lemmas.Iterator.Adapters.{YieldsList-from_vec}
+use Rattle.std.proofs.lemmas.Iterator.Consumers.{YieldsList-end}
+use Rattle.std.proofs.lemmas.List.Elements.{All-push}
+use Rattle.named_files.specs.Entries.{bytes_of}
+use Rattle.named_archives.specs.Progress.{has_agreed, left_in}
+use Rattle.named_archives.proofs.Lists.{agree-more, first-true}
+use Rattle.named_archives.proofs.named_source.report_all.Goals as goal
+
+pub loop-source-preserved : goal.loop-source-preserved
+loop-source-preserved g c =
+    let i = c.loop-source.invariant in
+    let source = c.in-Some.source in
+    let told = c.report.ensures in
+    record {
+      noted = agree-more (λ s. has_agreed g.F.File.Source.rest g.F.File.KeptFile.bytes s.file) c.loop-source.yielded
+          source (g.F.Folder.agree c.args.reports.now) (g.F.Folder.agree c.loop-source.reports)
+          (g.F.Folder.agree c.report.new.reports) i.noted told.noted;
+      right = λ right. told.right right ∙ i.right right;
+      known = λ agrees. All-push (λ s. s.failures ≡ 0 → IsSome s.file
+          → IsSome (left_in g.F.File.Source.rest (bytes_of (g.F.Folder.holds s.folder.now s.name.now)) s.file
+          s.progress)) c.loop-source.yielded source (i.known (first-true _ _ _ told.noted agrees)) (told.known agrees);
+    }
+
+pub returns-clause-noted : goal.returns-clause-noted
+returns-clause-noted g c =
+    let gives = c.into_iter-source-iterator.ensures.into_iter_gives in
+    let all = YieldsList-end (YieldsList-from_vec {Z = Global} {s = c.into_iter-source-iterator.result} c.args.sources.items gives.0
+    (gives.1 ∙ c.args.sources.ok.0)) c.loop-source.yielded c.loop-source.source-iterator
+    c.loop-source.yielded_by c.next.result c.next.new.self c.in-None.is c.next.ensures.steps in
+    let these : c.loop-source.yielded ≡ c.args.sources.items = sym (map-id _) ∙ all.0 in
+    rw these at c.loop-source.invariant.noted
+
+pub returns-clause-known : goal.returns-clause-known
+returns-clause-known g c =
+    let gives = c.into_iter-source-iterator.ensures.into_iter_gives in
+    let all = YieldsList-end (YieldsList-from_vec {Z = Global} {s = c.into_iter-source-iterator.result} c.args.sources.items gives.0
+    (gives.1 ∙ c.args.sources.ok.0)) c.loop-source.yielded c.loop-source.source-iterator
+    c.loop-source.yielded_by c.next.result c.next.new.self c.in-None.is c.next.ensures.steps in
+    let these : c.loop-source.yielded ≡ c.args.sources.items = sym (map-id _) ∙ all.0 in
+    rw these at c.loop-source.invariant.known

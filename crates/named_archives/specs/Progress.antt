@@ -1,0 +1,52 @@
+-- What a source knows of the file that it reads, by how far it has read it.
+use Rattle.std.specs.Prelude.{◌≡◌, ℕ, ◌<◌, ◌&&◌, Bool, true, List, [], Option, None, Some, IsSome, is_some}
+use Rattle.std.specs.Option.{ForSome}
+use Rattle.named_files.specs.declared.refusal.Refusal.{Refusal}
+use Rattle.named_files.specs.declared.refusal.Refusal.TheVariants.{Refused}
+use Rattle.named_archives.specs.declared.named_source.Progress.{Progress}
+use Rattle.named_archives.specs.declared.named_source.Progress.TheVariants.{Going, Ended, Lost}
+
+-- What is still given: all bytes before the file is opened, and then what the file has left. If it was lost, nothing is
+-- known of it.
+abbrev pub left_in : {F : Type 0} → (F → Option (List ℕ)) → Option (List ℕ) → Option F → Progress → Option (List ℕ)
+left_in rest all None progress = all
+left_in rest all (Some file) Going = rest file
+left_in rest all (Some file) Ended = rest file
+left_in rest all (Some file) Lost = None
+
+-- a file was found in this state, and then maybe closed
+abbrev pub WasIn : {F S : Type 0} → (F → Option S) → (F → Option (List ℕ)) → (F → Option (List ℕ)) → S → F → Type 0
+WasIn {F} found rest bytes state file =
+    (checked : F) × (found checked ≡ Some state) × (rest file ≡ rest checked) × (bytes file ≡ bytes checked)
+
+-- the file was found in the state that was asked for, after the last read
+abbrev pub IsFoundIn : {F S : Type 0} → (F → Option S) → (F → Option (List ℕ)) → (F → Option (List ℕ)) → Option S → F
+    → Type 0
+IsFoundIn found rest bytes state file = ForSome state (λ asked. ∥ WasIn found rest bytes asked file ∥₁)
+
+-- A file that has ended has nothing left, and was found in its state. If it was lost, a call has failed.
+abbrev pub HasReached : {F S : Type 0} → (F → Option S) → (F → Option (List ℕ)) → (F → Option (List ℕ)) → Option S → F
+    → ℕ → Progress → Type 0
+HasReached found rest bytes state file failures progress =
+    (progress ≡ Ended → ForSome (rest file) (λ left. left ≡ []) × IsFoundIn found rest bytes state file)
+    × (progress ≡ Lost → 0 < failures)
+
+-- whether what the file has returned agrees with what was supposed of it, if it was opened
+abbrev pub has_agreed : {F : Type 0} → (F → Option (List ℕ)) → (F → Option (List ℕ)) → Option F → Bool
+has_agreed rest bytes None = true
+has_agreed rest bytes (Some file) = is_some (rest file) && is_some (bytes file)
+
+-- why a file wasn't opened: lack of memory, or it isn't there, unless the system has a reason of its own
+abbrev pub IsRefusedFor : Refusal → Option (List ℕ) → Type 0 → Type 0
+IsRefusedFor why all Reason = why ≡ Refused → (Reason → ⊥) → all ≡ None
+
+-- why a read failed: a call on the file has failed, or the file couldn't be opened, for a reason that is kept
+abbrev pub HasFailed : {F : Type 0} → (F → ℕ) → Option F → Option Refusal → Type 0
+HasFailed failures None refused = IsSome refused
+HasFailed failures (Some file) refused = 0 < failures file
+
+-- a file that was opened was found in the state that was asked for
+abbrev pub IsReadIn : {F S : Type 0} → (F → Option S) → (F → Option (List ℕ)) → (F → Option (List ℕ)) → Option S
+    → Option F → Type 0
+IsReadIn found rest bytes state None = ⊥
+IsReadIn found rest bytes state (Some file) = IsFoundIn found rest bytes state file
