@@ -1,3 +1,4 @@
 -- The proofs about what is read of the files to which some names lead.
+pub mod Held
 pub mod Lists
 pub mod Pieces

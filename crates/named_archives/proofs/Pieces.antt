@@ -7,7 +7,7 @@ use Rattle.contract_words.specs.Knowledge.{WasKnown}
 use Rattle.named_files.specs.Entries.{IsRead}
 use Rattle.named_archives.specs.Ahead.{IsPiece}
 
-if-some : {A : Type 0} (o : Option A) (P : A → Type 0) → ForSome o P → IfSome o P
+pub if-some : {A : Type 0} (o : Option A) (P : A → Type 0) → ForSome o P → IfSome o P
 if-some None P h = tt
 if-some (Some x) P h = h x cc
 
@@ -20,7 +20,8 @@ for-still : {A : Type 0} (old new : Option A) (P : A → Type 0) → WasKnown ol
 for-still old None P was h = λ x e. cc
 for-still old (Some y) P was h = λ x e. let same : y ≡ x = grind arith in h x (was ∙ ap Some same)
 
-pub still-piece : (offset : ℕ) (bytes : List ℕ) (old new : Option (List ℕ)) → WasKnown old new → IsPiece offset bytes old
+pub still-piece : (offset : ℕ) (bytes : List ℕ) (old new : Option (List ℕ)) → WasKnown old new
+    → IsPiece offset bytes old
     → IsPiece offset bytes new
 still-piece offset bytes old new was piece = for-still old new _ was piece
 

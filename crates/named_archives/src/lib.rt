@@ -1,8 +1,10 @@
 //! Archives by their names: the files to which they lead, as sources and as archives that are read at any place.
 #![tactic(auto)]
 
+mod named_archives;
 mod named_source;
 mod read_ahead;
 
+pub use named_archives::NamedArchives;
 pub use named_source::{NamedSource, report_all, sources_of};
 pub use read_ahead::ReadAhead;

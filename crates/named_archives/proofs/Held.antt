@@ -1,0 +1,115 @@
+-- What is held of the archives is the bytes of all files, so what the open file returned is of the archive with its
+-- number.
+use Rattle.std.proofs.Common.{◌≡◌, ◌∙◌, ◌&&◌, ℕ, zero, suc, Bool, true, false, List, [], ◌∷◌, length, take, All}
+use Rattle.std.proofs.Common.{Option, None, Some, IfSome, IsSome, is_some, Result, Ok, Err, IfOk, OnOk, slice_get}
+use Rattle.std.proofs.Common.{refl, sym, ap, subst, arith}
+use Rattle.std.specs.List.{AllByRecursion}
+use Rattle.std.specs.Option.{ForSome, option_map}
+use Rattle.std.proofs.lemmas.List.Elements.{recursion_from_All}
+use Rattle.contract_words.specs.Archives.{IsLength, IsRead, archive_at}
+use Rattle.named_files.specs.Entries.{IsRead as IsReadOf}
+use Rattle.named_archives.specs.Names.{all_known, held_while, IsFileAt, IsInState}
+use Rattle.named_archives.specs.Progress.{has_agreed}
+use Rattle.named_archives.proofs.Lists.{and-true}
+use Rattle.named_archives.proofs.Pieces.{if-some}
+
+-- ---- values of which something is known
+
+some-of : {A : Type 0} (o : Option A) → is_some o ≡ true → (x : A) × (o ≡ Some x)
+some-of None e = absurd cc
+some-of (Some x) e = (x, refl)
+
+if-some-at : {A : Type 0} (o : Option A) (P : A → Type 0) (x : A) → IfSome o P → o ≡ Some x → P x
+if-some-at None P x h e = absurd cc
+if-some-at (Some y) P x h e = let same : y ≡ x = grind arith in subst P same h
+
+-- ---- all of them
+
+-- the first one, and all others
+first-known : {A : Type 0} (o : Option (List A)) (x : A) (all : List A) → option_map (λ xs. x ∷ xs) o ≡ Some all
+    → (rest : List A) × (o ≡ Some rest) × (all ≡ x ∷ rest)
+first-known None x all e = absurd cc
+first-known (Some rest) x all e = let same : x ∷ rest ≡ all = grind arith in (rest, refl, sym same)
+
+all_known-length : {A : Type 0} (files : List (Option A)) (all : List A) → all_known files ≡ Some all
+    → length all ≡ length files
+all_known-length [] all e = let none : [] ≡ all = grind arith in ap length (sym none)
+all_known-length (None ∷ files) all e = absurd cc
+all_known-length (Some x ∷ files) all e =
+    let parts = first-known (all_known files) x all e in
+    ap length parts.2 ∙ ap suc (all_known-length files parts.0 parts.1)
+
+all_known-at : (files : List (Option (List ℕ))) (all : List (List ℕ)) (n : ℕ) (bytes : List ℕ)
+    → all_known files ≡ Some all → slice_get files n ≡ Some (Some bytes) → archive_at all n ≡ bytes
+all_known-at [] all n bytes e is = absurd cc
+all_known-at (None ∷ files) all n bytes e is = absurd cc
+all_known-at (Some x ∷ files) all zero bytes e is =
+    let same : x ≡ bytes = grind arith in
+    ap (λ l. archive_at l 0) (first-known (all_known files) x all e).2 ∙ same
+all_known-at (Some x ∷ files) all (suc n) bytes e is =
+    let parts = first-known (all_known files) x all e in
+    ap (λ l. archive_at l (suc n)) parts.2 ∙ all_known-at files parts.0 n bytes parts.1 is
+
+some-map : {A B : Type 0} (f : A → B) (o : Option A) → IsSome o → IsSome (option_map f o)
+some-map f None some = some
+some-map f (Some x) some = refl
+
+known-all : {A : Type 0} (files : List (Option A)) → AllByRecursion IsSome files → IsSome (all_known files)
+known-all [] each = refl
+known-all (None ∷ files) each = absurd (let none : false ≡ true = each.0 in cc)
+known-all (Some x ∷ files) each = some-map (λ xs. x ∷ xs) (all_known files) (known-all files each.1)
+
+-- ---- what is held
+
+held-parts : (agrees : Bool) (files : List (Option (List ℕ))) (all : List (List ℕ)) → held_while agrees files ≡ Some all
+    → (agrees ≡ true) × (all_known files ≡ Some all)
+held-parts true files all e = (refl, e)
+held-parts false files all e = absurd cc
+
+-- there are as many archives as files
+pub held-length : (agrees : Bool) (files : List (Option (List ℕ))) (n : ℕ) → length files ≡ n
+    → IfSome (held_while agrees files) (λ all. length all ≡ n)
+held-length agrees files n long = if-some (held_while agrees files) _ (λ all e.
+    all_known-length files all (held-parts agrees files all e).1 ∙ long)
+
+-- if all was as supposed, all files are held
+pub held-all : (agrees : Bool) (files : List (Option (List ℕ))) → agrees ≡ true → All IsSome files
+    → IsSome (held_while agrees files)
+held-all true files e each = known-all files (recursion_from_All IsSome files each)
+held-all false files e each = absurd cc
+
+-- ---- the file that is open
+
+module _ {A S : Type 0} (agreed : Bool) (rest bytes : A → Option (List ℕ)) (found : A → Option S) (state : A → S)
+    (files : List (Option (List ℕ))) (states : List S) (n : ℕ) where
+  -- its bytes are the archive's
+  is-archive : (file : A) → IsFileAt files states n (bytes file) (state file) → (all : List (List ℕ))
+      → held_while (agreed && has_agreed rest bytes (Some file)) files ≡ Some all
+      → bytes file ≡ Some (archive_at all n)
+  is-archive file at all e =
+      let both = held-parts (agreed && has_agreed rest bytes (Some file)) files all e in
+      let agrees = and-true agreed (has_agreed rest bytes (Some file)) both.0 in
+      let known = some-of (bytes file) (and-true (is_some (rest file)) (is_some (bytes file)) agrees.1).1 in
+      known.1 ∙ ap Some (sym (all_known-at files all n known.0 both.1 (at.1 known.0 known.1)))
+
+  -- a length that it returned is the archive's
+  pub length-is : {E : Type 0} (told : Result ℕ E) (current : Option A)
+      → ForSome current (λ file. IsFileAt files states n (bytes file) (state file))
+      → OnOk told (IsInState found states n current)
+      → IfOk told (λ k. IfSome current (λ file. IfSome (bytes file) (λ all. k ≡ length all)))
+      → IfOk told (λ k. IsLength n k (held_while (agreed && has_agreed rest bytes current) files))
+  length-is (Ok k) None at in_state is = absurd in_state
+  length-is (Ok k) (Some file) at in_state is = if-some _ _ (λ all e.
+      if-some-at (bytes file) _ (archive_at all n) is (is-archive file (at file refl) all e))
+  length-is (Err e) current at in_state is = tt
+
+  -- bytes that it returned are the archive's
+  pub read-is : {E : Type 0} (told : Result ℕ E) (offset : ℕ) (into : List ℕ) (current : Option A)
+      → ForSome current (λ file. IsFileAt files states n (bytes file) (state file))
+      → OnOk told (IsInState found states n current)
+      → IfOk told (λ k. IfSome current (λ file. IsReadOf offset (take k into) (bytes file)))
+      → IfOk told (λ k. IsRead n offset (take k into) (held_while (agreed && has_agreed rest bytes current) files))
+  read-is (Ok k) offset into None at in_state is = absurd in_state
+  read-is (Ok k) offset into (Some file) at in_state is = if-some _ _ (λ all e.
+      if-some-at (bytes file) _ (archive_at all n) is (is-archive file (at file refl) all e))
+  read-is (Err e) offset into current at in_state is = tt

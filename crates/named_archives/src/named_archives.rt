@@ -1,0 +1,298 @@
+//! The files of some names as archives, which are read at any place.
+ghost use Rattle.std.specs.Prelude.{⊤, ◌≡◌, ◌<◌, ◌≤◌, ◌-◌, ◌^◌, ◌&&◌, ◌↔◌, List, ℕ, true, None, Some, IsSome, All, map, length, take, slice_get, IfOk, IfSome, OnOk, OnErr};
+ghost use Rattle.std.specs.Option.{ForSome};
+ghost use Rattle.contract_words.specs.Archives.{IsLength, IsRead};
+ghost use Rattle.contract_words.specs.Devices.{Counts};
+ghost use Rattle.contract_words.specs.Knowledge.{WasKnown};
+ghost use Rattle.named_files.specs.Entries.{IsRead as IsReadOf};
+ghost use Rattle.named_archives.specs.Names.{files_of, held_while, IsFileAt, IsInState, IsStillOpen};
+ghost use Rattle.named_archives.specs.Progress.{has_agreed};
+
+use crate::read_ahead::ReadAhead;
+use mail_answer::Archives;
+use mbox_cutter::DeviceFault;
+use named_files::{Folder, KeptFile};
+use std::alloc::Global;
+
+/// The files of some names by their numbers, of which at most one is open at a time: the one that was used last. A name
+/// that leads to no file has no length, and can't be read.
+///
+/// Each file has to be in the state in which it was when the run first looked at it; otherwise the call fails. Their
+/// bytes are known as long as what was returned agrees with what is supposed, of the open file and of all that were
+/// closed.
+#[derive(Drop)]
+pub struct NamedArchives<'p, F: Folder> {
+    folder: &'p F,
+    alloc: Global,
+    names: &'p [String],
+    /// The state of each file.
+    states: &'p [<F::File as KeptFile>::State],
+    /// The number of the file that was opened last.
+    number: u32,
+    /// That file, while it is open.
+    current: Option<ReadAhead<F::File>>,
+    /// What was reported of the files that were closed.
+    closed: F::Reports,
+    failures: u64,
+    ghost few: { length names.now < 2 ^ 32 },
+    ghost each: { length states.now ≡ length names.now },
+    ghost counted: { ForSome current (λ a. F.File.failures a.file ≤ failures) },
+    ghost opened: { ForSome current (λ a. IsFileAt (files_of (F.holds folder.now) names.now) states.now
+        number (F.File.bytes a.file) a.state) },
+}
+
+impl<'p, F: Folder> NamedArchives<'p, F> {
+    /// Opens no file yet. Returns None for more than 4,294,967,295 names, because there are no numbers for them.
+    pub fn new(
+        folder: &'p F,
+        alloc: Global,
+        names: &'p [String],
+        states: &'p [<F::File as KeptFile>::State],
+    ) -> Option<NamedArchives<'p, F>>
+        requires { length states.now ≡ length names.now }
+        ensures few { IsSome result ↔ length names.now < 2 ^ 32 }
+        ensures number { IfSome result (λ archives. ⟦<NamedArchives<'p, F> as Archives>⟧.number
+            archives ≡ length names.now) }
+        ensures held { IfSome result (λ archives. ⟦<NamedArchives<'p, F> as Archives>⟧.held archives
+            ≡ held_while true (files_of (F.holds folder.now) names.now)) }
+        ensures files { IfSome result (λ archives.
+            files_of (F.holds archives.folder.now) archives.names.now
+            ≡ files_of (F.holds folder.now) names.now) }
+        ensures states { IfSome result (λ archives. archives.states.now ≡ states.now) }
+        ensures fresh { IfSome result (λ archives. ⟦<NamedArchives<'p, F> as Archives>⟧.failures
+            archives ≡ 0) }
+    {
+        if names.len() > u32::MAX as usize {
+            return None;
+        }
+        Some(NamedArchives {
+            folder,
+            alloc,
+            names,
+            states,
+            number: 0,
+            current: None,
+            closed: folder.no_reports(),
+            failures: 0,
+        })
+    }
+
+    /// Closes the file that is open, and adds all that was reported of the files.
+    pub fn report(mut self, reports: &mut F::Reports)
+        ensures noted { F.agree reports.new ≡ (F.agree reports.old
+            && (F.agree self.entry.closed && has_agreed (λ a. F.File.rest a.file)
+            (λ a. F.File.bytes a.file) self.entry.current)) }
+        // If all reports agree, the bytes of all archives stayed known.
+        ensures known { F.agree reports.new ≡ true
+            → All IsSome (files_of (F.holds self.entry.folder.now) self.entry.names.now)
+            → IsSome (⟦<NamedArchives<'p, F> as Archives>⟧.held self.entry) }
+    {
+        self.close_open();
+        let NamedArchives { folder, closed, .. } = self;
+        folder.add_reports(reports, closed);
+    }
+
+    /// Closes the file that is open, and takes over what was reported of its bytes.
+    fn close_open(&mut self)
+        ensures none { self.new.current ≡ None }
+        ensures noted { F.agree self.new.closed ≡ (F.agree self.old.closed
+            && has_agreed (λ a. F.File.rest a.file) (λ a. F.File.bytes a.file)
+            self.old.current) }
+        ensures same { (self.new.folder.now ≡ self.old.folder.now)
+            × (self.new.names.now ≡ self.old.names.now)
+            × (self.new.states.now ≡ self.old.states.now) }
+        ensures count { self.new.failures ≡ self.old.failures }
+    {
+        if let Some(ahead) = self.current.take() {
+            self.folder.take_back(&mut self.closed, ahead.into_file());
+        }
+    }
+}
+
+impl<'p, F: Folder> NamedArchives<'p, F> {
+    /// Opens the file with this number, if it isn't open. Another one that is open is closed before.
+    fn turn_to(&mut self, n: u32) -> Result<(), DeviceFault>
+        requires below { n < length self.old.names.now }
+        requires count { self.old.failures < 2 ^ 64 - 1 }
+        ensures opened { OnOk result ((self.new.number ≡ n) × IsSome self.new.current) }
+        ensures agreed { (F.agree self.new.closed && has_agreed (λ a. F.File.rest a.file)
+            (λ a. F.File.bytes a.file) self.new.current) ≡ true
+            → (F.agree self.old.closed && has_agreed (λ a. F.File.rest a.file)
+            (λ a. F.File.bytes a.file) self.old.current) ≡ true }
+        ensures same { (self.new.folder.now ≡ self.old.folder.now)
+            × (self.new.names.now ≡ self.old.names.now)
+            × (self.new.states.now ≡ self.old.states.now) }
+        ensures count { Counts result self.old.failures self.new.failures }
+    {
+        if self.number == n && self.current.is_some() {
+            return Ok(());
+        }
+        self.close_open();
+        self.open_file(n)
+    }
+
+    /// Opens the file with this number.
+    fn open_file(&mut self, n: u32) -> Result<(), DeviceFault>
+        requires none { self.old.current ≡ None }
+        requires below { n < length self.old.names.now }
+        requires count { self.old.failures < 2 ^ 64 - 1 }
+        ensures opened { OnOk result ((self.new.number ≡ n) × IsSome self.new.current) }
+        ensures closed { self.new.closed ≡ self.old.closed }
+        ensures same { (self.new.folder.now ≡ self.old.folder.now)
+            × (self.new.names.now ≡ self.old.names.now)
+            × (self.new.states.now ≡ self.old.states.now) }
+        ensures count { Counts result self.old.failures self.new.failures }
+    {
+        match self
+            .folder
+            .open(self.alloc, self.names[n as usize].as_str())
+        {
+            Ok(file) => {
+                let ahead = ReadAhead::new(self.alloc, file, self.states[n as usize]);
+                self.number = n;
+                self.current = Some(ahead);
+                Ok(())
+            }
+            Err(_) => {
+                self.failures += 1;
+                Err(DeviceFault)
+            }
+        }
+    }
+}
+
+impl<'p, F: Folder> Archives for NamedArchives<'p, F> {
+    ghost held = { λ a. held_while (F.agree a.closed && has_agreed (λ a. F.File.rest a.file)
+        (λ a. F.File.bytes a.file) a.current) (files_of (F.holds a.folder.now) a.names.now) };
+
+    ghost number = { λ a. length a.names.now };
+
+    ghost failures = { λ a. a.failures };
+
+    ghost lengths_asked = { λ _. 0 };
+
+    ghost whole = { λ a archives. files_of (F.holds a.folder.now) a.names.now ≡ map Some archives };
+
+    // Nothing carries a record of calls.
+    ghost measures = { λ _ _ _ _. ⊤ };
+
+    ghost reads = { λ _ _ _ _ _. ⊤ };
+
+    fn count(&self) -> u32 {
+        self.names.len() as u32
+    }
+
+    fn length(&mut self, n: u32) -> Result<u64, DeviceFault>
+        requires below { n < length self.old.names.now }
+        requires count { self.old.failures < 2 ^ 64 - 1 }
+        ensures held { WasKnown
+            (held_while (F.agree self.old.closed && has_agreed (λ a. F.File.rest a.file)
+            (λ a. F.File.bytes a.file) self.old.current)
+            (files_of (F.holds self.old.folder.now) self.old.names.now))
+            (held_while (F.agree self.new.closed && has_agreed (λ a. F.File.rest a.file)
+            (λ a. F.File.bytes a.file) self.new.current)
+            (files_of (F.holds self.new.folder.now) self.new.names.now)) }
+        ensures whole { (archives : List (List ℕ))
+            → files_of (F.holds self.old.folder.now) self.old.names.now ≡ map Some archives
+            → files_of (F.holds self.new.folder.now) self.new.names.now ≡ map Some archives }
+        ensures number { length self.new.names.now ≡ length self.old.names.now }
+        ensures bytes { IfOk result (λ bytes. IsLength n bytes
+            (held_while (F.agree self.new.closed && has_agreed (λ a. F.File.rest a.file)
+            (λ a. F.File.bytes a.file) self.new.current)
+            (files_of (F.holds self.new.folder.now) self.new.names.now))) }
+        // The length was asked while the file was in its state.
+        ensures in_state { OnOk result ((self.new.number ≡ n) × IsInState
+            (λ a. F.File.state_found a.file) self.new.states.now n self.new.current) }
+        ensures states { self.new.states.now ≡ self.old.states.now }
+        ensures count { Counts result self.old.failures self.new.failures }
+    {
+        self.turn_to(n)?;
+        self.length_here()
+    }
+
+    fn read_at(&mut self, n: u32, offset: u64, into: &mut [u8]) -> Result<usize, DeviceFault>
+        requires below { n < length self.old.names.now }
+        requires room { 0 < length into.old }
+        requires count { self.old.failures < 2 ^ 64 - 1 }
+        ensures held { WasKnown
+            (held_while (F.agree self.old.closed && has_agreed (λ a. F.File.rest a.file)
+            (λ a. F.File.bytes a.file) self.old.current)
+            (files_of (F.holds self.old.folder.now) self.old.names.now))
+            (held_while (F.agree self.new.closed && has_agreed (λ a. F.File.rest a.file)
+            (λ a. F.File.bytes a.file) self.new.current)
+            (files_of (F.holds self.new.folder.now) self.new.names.now)) }
+        ensures whole { (archives : List (List ℕ))
+            → files_of (F.holds self.old.folder.now) self.old.names.now ≡ map Some archives
+            → files_of (F.holds self.new.folder.now) self.new.names.now ≡ map Some archives }
+        ensures number { length self.new.names.now ≡ length self.old.names.now }
+        ensures bound { IfOk result (λ bytes. bytes ≤ length into.new) }
+        ensures bytes { IfOk result (λ bytes. IsRead n offset (take bytes into.new)
+            (held_while (F.agree self.new.closed && has_agreed (λ a. F.File.rest a.file)
+            (λ a. F.File.bytes a.file) self.new.current)
+            (files_of (F.holds self.new.folder.now) self.new.names.now))) }
+        // What is given was read while the file was in its state.
+        ensures in_state { OnOk result ((self.new.number ≡ n) × IsInState
+            (λ a. F.File.state_found a.file) self.new.states.now n self.new.current) }
+        ensures states { self.new.states.now ≡ self.old.states.now }
+        ensures count { Counts result self.old.failures self.new.failures }
+    {
+        self.turn_to(n)?;
+        self.read_here(offset, into)
+    }
+}
+
+impl<'p, F: Folder> NamedArchives<'p, F> {
+    /// Asks the open file for its length.
+    fn length_here(&mut self) -> Result<u64, DeviceFault>
+        requires opened { IsSome self.old.current }
+        requires count { self.old.failures < 2 ^ 64 - 1 }
+        ensures still { IsStillOpen (λ a. F.File.rest a.file) (λ a. F.File.bytes a.file)
+            self.old.current self.new.current }
+        ensures bytes { IfOk result (λ n. IfSome self.new.current (λ a.
+            IfSome (F.File.bytes a.file) (λ all. n ≡ length all))) }
+        ensures in_state { OnOk result (IsInState (λ a. F.File.state_found a.file)
+            self.new.states.now self.new.number self.new.current) }
+        ensures same { (self.new.folder.now ≡ self.old.folder.now)
+            × (self.new.names.now ≡ self.old.names.now)
+            × (self.new.states.now ≡ self.old.states.now) × (self.new.closed ≡ self.old.closed)
+            × (self.new.number ≡ self.old.number) }
+        ensures count { Counts result self.old.failures self.new.failures }
+    {
+        let Some(ahead) = &mut self.current else {
+            return Ok(0);
+        };
+        let length = ahead.length();
+        if length.is_err() {
+            self.failures += 1;
+        }
+        length
+    }
+
+    /// Reads the open file from an offset on.
+    fn read_here(&mut self, offset: u64, into: &mut [u8]) -> Result<usize, DeviceFault>
+        requires opened { IsSome self.old.current }
+        requires room { 0 < length into.old }
+        requires count { self.old.failures < 2 ^ 64 - 1 }
+        ensures still { IsStillOpen (λ a. F.File.rest a.file) (λ a. F.File.bytes a.file)
+            self.old.current self.new.current }
+        ensures bound { IfOk result (λ n. n ≤ length into.new) }
+        ensures bytes { IfOk result (λ n. IfSome self.new.current (λ a.
+            IsReadOf offset (take n into.new) (F.File.bytes a.file))) }
+        ensures in_state { OnOk result (IsInState (λ a. F.File.state_found a.file)
+            self.new.states.now self.new.number self.new.current) }
+        ensures same { (self.new.folder.now ≡ self.old.folder.now)
+            × (self.new.names.now ≡ self.old.names.now)
+            × (self.new.states.now ≡ self.old.states.now) × (self.new.closed ≡ self.old.closed)
+            × (self.new.number ≡ self.old.number) }
+        ensures count { Counts result self.old.failures self.new.failures }
+    {
+        let Some(ahead) = &mut self.current else {
+            return Ok(0);
+        };
+        let read = ahead.read(offset, into);
+        if read.is_err() {
+            self.failures += 1;
+        }
+        read
+    }
+}
