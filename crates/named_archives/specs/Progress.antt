@@ -14,21 +14,14 @@ left_in rest all (Some file) Going = rest file
 left_in rest all (Some file) Ended = rest file
 left_in rest all (Some file) Lost = None
 
--- a file was found in this state, and then maybe closed
-abbrev pub WasIn : {F S : Type 0} → (F → Option S) → (F → Option (List ℕ)) → (F → Option (List ℕ)) → S → F → Type 0
-WasIn {F} found rest bytes state file =
-    (checked : F) × (found checked ≡ Some state) × (rest file ≡ rest checked) × (bytes file ≡ bytes checked)
-
 -- the file was found in the state that was asked for, after the last read
-abbrev pub IsFoundIn : {F S : Type 0} → (F → Option S) → (F → Option (List ℕ)) → (F → Option (List ℕ)) → Option S → F
-    → Type 0
-IsFoundIn found rest bytes state file = ForSome state (λ asked. ∥ WasIn found rest bytes asked file ∥₁)
+abbrev pub IsFoundIn : {F S : Type 0} → (F → Option S) → Option S → F → Type 0
+IsFoundIn found state file = ForSome state (λ asked. found file ≡ Some asked)
 
 -- A file that has ended has nothing left, and was found in its state. If it was lost, a call has failed.
-abbrev pub HasReached : {F S : Type 0} → (F → Option S) → (F → Option (List ℕ)) → (F → Option (List ℕ)) → Option S → F
-    → ℕ → Progress → Type 0
-HasReached found rest bytes state file failures progress =
-    (progress ≡ Ended → ForSome (rest file) (λ left. left ≡ []) × IsFoundIn found rest bytes state file)
+abbrev pub HasReached : {F S : Type 0} → (F → Option S) → (F → Option (List ℕ)) → Option S → F → ℕ → Progress → Type 0
+HasReached found rest state file failures progress =
+    (progress ≡ Ended → ForSome (rest file) (λ left. left ≡ []) × IsFoundIn found state file)
     × (progress ≡ Lost → 0 < failures)
 
 -- whether what the file has returned agrees with what was supposed of it, if it was opened
@@ -46,7 +39,6 @@ HasFailed failures None refused = IsSome refused
 HasFailed failures (Some file) refused = 0 < failures file
 
 -- a file that was opened was found in the state that was asked for
-abbrev pub IsReadIn : {F S : Type 0} → (F → Option S) → (F → Option (List ℕ)) → (F → Option (List ℕ)) → Option S
-    → Option F → Type 0
-IsReadIn found rest bytes state None = ⊥
-IsReadIn found rest bytes state (Some file) = IsFoundIn found rest bytes state file
+abbrev pub IsReadIn : {F S : Type 0} → (F → Option S) → Option S → Option F → Type 0
+IsReadIn found state None = ⊥
+IsReadIn found state (Some file) = IsFoundIn found state file

@@ -45,7 +45,7 @@ pub struct NamedSource<'p, F: Folder> {
     /// Why it couldn't be opened when that was tried last.
     refused: Option<Refusal>,
     ghost counted: { ForSome file (λ f. F.File.failures f ≤ failures) },
-    ghost reached: { ForSome file (λ f. HasReached F.File.state_found F.File.rest F.File.bytes state f
+    ghost reached: { ForSome file (λ f. HasReached F.File.state_found F.File.rest state f
         (F.File.failures f) progress) },
     ghost cause: { ForSome refused (λ why.
         IsRefusedFor why (bytes_of (F.holds folder.now name.now)) F.can_refuse) },
@@ -148,8 +148,7 @@ impl<'p, F: Folder> NamedSource<'p, F> {
         ensures count { Counts result self.old.failures self.new.failures }
         ensures same { (self.new.folder.now ≡ self.old.folder.now)
             × (self.new.name.now ≡ self.old.name.now) × (self.new.state ≡ self.old.state) }
-        ensures in_state { OnOk result (IsReadIn F.File.state_found F.File.rest F.File.bytes
-            self.new.state self.new.file) }
+        ensures in_state { OnOk result (IsReadIn F.File.state_found self.new.state self.new.file) }
         ensures failed { OnErr result (HasFailed F.File.failures self.new.file self.new.refused) }
     {
         let Some(file) = &mut self.file else {
@@ -193,8 +192,7 @@ impl<'p, F: Folder> Source for NamedSource<'p, F> {
         ensures same { (self.new.folder.now ≡ self.old.folder.now)
             × (self.new.name.now ≡ self.old.name.now) × (self.new.state ≡ self.old.state) }
         // What is given was read while the file was in the state that was asked for.
-        ensures in_state { OnOk result (IsReadIn F.File.state_found F.File.rest F.File.bytes
-            self.new.state self.new.file) }
+        ensures in_state { OnOk result (IsReadIn F.File.state_found self.new.state self.new.file) }
         // Nothing fails without a cause.
         ensures failed { OnErr result (HasFailed F.File.failures self.new.file self.new.refused) }
     {
@@ -212,11 +210,11 @@ fn read_on<F: KeptFile>(
     state: Option<F::State>,
     into: &mut [u8],
 ) -> Result<usize, DeviceFault>
-    requires reached { HasReached F.state_found F.rest F.bytes state file.old
+    requires reached { HasReached F.state_found F.rest state file.old
         (F.failures file.old) progress.old }
     requires room { 0 < length into.old }
     requires count { F.failures file.old < 2 ^ 64 - 1 }
-    ensures reached { HasReached F.state_found F.rest F.bytes state file.new
+    ensures reached { HasReached F.state_found F.rest state file.new
         (F.failures file.new) progress.new }
     ensures bound { IfOk result (λ n. n ≤ length into.new) }
     ensures bytes { let old = left_in F.rest None (Some file.old) progress.old in
@@ -224,7 +222,7 @@ fn read_on<F: KeptFile>(
         ReadConsumes (still_known old new) new result into.new }
     ensures known { IsSome (left_in F.rest None (Some file.new) progress.new)
         → IsSome (left_in F.rest None (Some file.old) progress.old) }
-    ensures in_state { OnOk result (IsFoundIn F.state_found F.rest F.bytes state file.new) }
+    ensures in_state { OnOk result (IsFoundIn F.state_found state file.new) }
     ensures stays { OnOk result (F.failures file.new ≡ F.failures file.old) }
     ensures most { F.failures file.new ≤ F.failures file.old + 1 }
     ensures failed { OnErr result (0 < F.failures file.new) }
