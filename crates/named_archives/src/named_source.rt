@@ -42,7 +42,7 @@ pub struct NamedSource<'p, F: Folder> {
     file: Option<F::File>,
     progress: Progress,
     failures: u64,
-    /// Why it couldn't be opened when that was tried last.
+    /// Why it couldn't be opened when that failed last.
     refused: Option<Refusal>,
     ghost counted: { ForSome file (λ f. F.File.failures f ≤ failures) },
     ghost reached: { ForSome file (λ f. HasReached F.File.state_found F.File.rest state f
@@ -78,7 +78,7 @@ impl<'p, F: Folder> NamedSource<'p, F> {
         }
     }
 
-    /// Returns why the file couldn't be opened when that was tried last.
+    /// Returns why the file couldn't be opened when that failed last; None if it never failed.
     pub fn refusal(&self) -> Option<Refusal>
         ensures refused { result ≡ self.now.refused }
         ensures cause { ForSome result (λ why. IsRefusedFor why

@@ -280,8 +280,7 @@ fn read_in_state<F: KeptFile>(
     ensures count { Counts result (F.failures file.old) (F.failures file.new) }
 {
     let read = file.read_at(offset, into)?;
-    file.check_state(state)?;
-    Ok(read)
+    file.check_state(state).and(Ok(read))
 }
 
 /// Asks a file for its length, and then checks that it is in this state.
@@ -294,8 +293,7 @@ fn length_in_state<F: KeptFile>(file: &mut F, state: F::State) -> Result<u64, De
     ensures count { Counts result (F.failures file.old) (F.failures file.new) }
 {
     let length = file.length()?;
-    file.check_state(state)?;
-    Ok(length)
+    file.check_state(state).and(Ok(length))
 }
 
 /// Copies as many bytes to the front of a slice as it has room for, and returns how many these are.

@@ -27,7 +27,7 @@ pub returns-clause-noted : goal.returns-clause-noted
 returns-clause-noted g c =
     let gives = c.into_iter-source-iterator.ensures.into_iter_gives in
     let all = YieldsList-end (YieldsList-from_vec {Z = Global} {s = c.into_iter-source-iterator.result}
-        c.args.sources.items gives.0
+    c.args.sources.items gives.0
     (gives.1 ∙ c.args.sources.ok.0)) c.loop-source.yielded c.loop-source.source-iterator
     c.loop-source.yielded_by c.next.result c.next.new.self c.in-None.is c.next.ensures.steps in
     let these : c.loop-source.yielded ≡ c.args.sources.items = sym (map-id _) ∙ all.0 in
@@ -37,7 +37,7 @@ pub returns-clause-known : goal.returns-clause-known
 returns-clause-known g c =
     let gives = c.into_iter-source-iterator.ensures.into_iter_gives in
     let all = YieldsList-end (YieldsList-from_vec {Z = Global} {s = c.into_iter-source-iterator.result}
-        c.args.sources.items gives.0
+    c.args.sources.items gives.0
     (gives.1 ∙ c.args.sources.ok.0)) c.loop-source.yielded c.loop-source.source-iterator
     c.loop-source.yielded_by c.next.result c.next.new.self c.in-None.is c.next.ensures.steps in
     let these : c.loop-source.yielded ≡ c.args.sources.items = sym (map-id _) ∙ all.0 in

@@ -19,5 +19,5 @@ returns-clause-bytes g c =
     (read-is {A = ReadAhead g.row.F-File.Denot g.row.F-File-State.Denot g.F.File.KeptFile g.F.File.Source}
     (g.F.Folder.agree new.closed) (λ x. g.F.File.Source.rest x.file) (λ x. g.F.File.KeptFile.bytes x.file)
     (λ x. g.F.File.KeptFile.state_found x.file) (λ x. x.state) files new.states.now new.number c.read_here.result
-        c.args.offset c.read_here.new.into
+    c.args.offset c.read_here.new.into
     new.current new.opened c.read_here.ensures.in_state c.read_here.ensures.bytes)
