@@ -2,3 +2,4 @@
 pub mod Held
 pub mod Lists
 pub mod Pieces
+pub mod States

@@ -2,3 +2,4 @@
 pub mod Ahead
 pub mod Names
 pub mod Progress
+pub mod States

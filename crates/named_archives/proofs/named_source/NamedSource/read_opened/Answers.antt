@@ -15,7 +15,8 @@ invariant_of-self-then-is_err g c =
       counted = λ file e. let same : c.read_on-read.new.file ≡ file = cc in
           subst (λ (f : g.row.F-File.Denot). g.F.File.Source.failures f ≤ c.args.self.now.failures + 1) same most;
       reached = λ file e. let same : c.read_on-read.new.file ≡ file = cc in
-          subst (λ (f : g.row.F-File.Denot). HasReached g.F.File.KeptFile.state_found g.F.File.Source.rest c.args.self.now.state f (g.F.File.Source.failures f) c.read_on-read.new.progress) same
+          subst (λ (f : g.row.F-File.Denot). HasReached g.F.File.KeptFile.state_found g.F.File.Source.rest
+          c.args.self.now.state f (g.F.File.Source.failures f) c.read_on-read.new.progress) same
           c.read_on-read.ensures.reached;
       cause = c.args.self.now.cause;
     }
@@ -30,7 +31,8 @@ invariant_of-self-else-is_err g c =
       counted = λ file e. let same : c.read_on-read.new.file ≡ file = cc in
           subst (λ (f : g.row.F-File.Denot). g.F.File.Source.failures f ≤ c.args.self.now.failures) same most;
       reached = λ file e. let same : c.read_on-read.new.file ≡ file = cc in
-          subst (λ (f : g.row.F-File.Denot). HasReached g.F.File.KeptFile.state_found g.F.File.Source.rest c.args.self.now.state f (g.F.File.Source.failures f) c.read_on-read.new.progress) same
+          subst (λ (f : g.row.F-File.Denot). HasReached g.F.File.KeptFile.state_found g.F.File.Source.rest
+          c.args.self.now.state f (g.F.File.Source.failures f) c.read_on-read.new.progress) same
           c.read_on-read.ensures.reached;
       cause = c.args.self.now.cause;
     }
