@@ -33,30 +33,30 @@ fault_of_unread _ = Usage Parse
 -- A fault is reported in one line, with its status. If there may be no memory for its text, lack of memory may be
 -- reported in its place.
 abbrev pub ReportsFault : {E : Type 0} → Ghosts E → Type 0 → Fault → ℕ → E → E → Type 0
-ReportsFault e CanLack fault status old new = (shown : Fault) × ((shown ≡ fault) ⊎ ((shown ≡ Memory) × CanLack))
+ReportsFault e CanRunOut fault status old new = (shown : Fault) × ((shown ≡ fault) ⊎ ((shown ≡ Memory) × CanRunOut))
     × (status ≡ status_of_fault shown) × Takes e old new (fault_line shown)
 
 -- ---- on standard output and standard error: their states before are `out` and `err`, those after `out'` and `err'`
 
 module _ {O E : Type 0} (o : Ghosts O) (handed_on : O → Option (List ℕ)) (e : Ghosts E) (IsText : List ℕ → Type 0)
-    (CanLack : Type 0) where
+    (CanRunOut : Type 0) where
   -- a fault is reported on standard error, and nothing goes to standard output
   abbrev pub ReportsOnErr : Fault → ℕ → O → O → E → E → Type 0
-  ReportsOnErr fault status out out' err err' = (out' ≡ out) × ReportsFault e CanLack fault status err err'
+  ReportsOnErr fault status out out' err err' = (out' ≡ out) × ReportsFault e CanRunOut fault status err err'
 
   -- The parser's text goes to standard error, with status 2. Without memory for it, that is reported.
   abbrev pub PrintsOnErr : ℕ → O → O → E → E → Type 0
   PrintsOnErr status out out' err err' =
       ((out' ≡ out) × ((text : List ℕ) × IsText text × (status ≡ 2) × Takes e err err' text))
-      ⊎ (CanLack × ReportsOnErr Memory status out out' err err')
+      ⊎ (CanRunOut × ReportsOnErr Memory status out out' err err')
 
   -- The parser's text goes to standard output, with status 0 and nothing on standard error. If that fails, a failed
   -- output is reported. Without memory for the text, that is reported.
   abbrev pub PrintsOnOut : ℕ → O → O → E → E → Type 0
   PrintsOnOut status out out' err err' = ((text : List ℕ) × IsText text
       × (((status ≡ 0) × (err' ≡ err) × Prints o handed_on out out' text)
-      ⊎ (BreaksOff o out out' text × ReportsFault e CanLack Out status err err')))
-      ⊎ (CanLack × ReportsOnErr Memory status out out' err err')
+      ⊎ (BreaksOff o out out' text × ReportsFault e CanRunOut Out status err err')))
+      ⊎ (CanRunOut × ReportsOnErr Memory status out out' err err')
 
   -- what is reported of words that ask for no run
   abbrev pub ReportsUsage : UsageFault → ℕ → O → O → E → E → Type 0

@@ -32,7 +32,7 @@ pub fn tell_ending<T: Texts, O: Stream, E: Out>(
     requires out { O.failures out.old < 2 ^ 64 - 1 }
     requires err { E.failures err.old < 2 ^ 64 - 1 }
     ensures reported { ReportsEnding O.Out O.handed_on E.Out
-        (T.is_usage_text texts.now (map string_bytes words.now)) T.memory_can_lack (ending_of ended)
+        (T.is_usage_text texts.now (map string_bytes words.now)) T.memory_can_run_out (ending_of ended)
         result out.old out.new err.old err.new }
 {
     match ended {
@@ -54,7 +54,7 @@ pub fn tell_stopped<T: Texts, O: Stream, E: Out>(
     requires out { O.failures out.old < 2 ^ 64 - 1 }
     requires err { E.failures err.old < 2 ^ 64 - 1 }
     ensures reported { ReportsEnding O.Out O.handed_on E.Out
-        (T.is_usage_text texts.now (map string_bytes words.now)) T.memory_can_lack (ending_of_stopped stopped)
+        (T.is_usage_text texts.now (map string_bytes words.now)) T.memory_can_run_out (ending_of_stopped stopped)
         result out.old out.new err.old err.new }
 {
     match stopped {
@@ -79,7 +79,7 @@ pub fn tell_usage<T: Texts, O: Stream, E: Out>(
     requires out { O.failures out.old < 2 ^ 64 - 1 }
     requires err { E.failures err.old < 2 ^ 64 - 1 }
     ensures reported { ReportsUsage O.Out O.handed_on E.Out
-        (T.is_usage_text texts.now (map string_bytes words.now)) T.memory_can_lack fault
+        (T.is_usage_text texts.now (map string_bytes words.now)) T.memory_can_run_out fault
         result out.old out.new err.old err.new }
 {
     if let UsageFault::TwoFormats = fault {
@@ -105,7 +105,8 @@ pub fn tell_unread_words<T: Texts, E: Out>(
     err: &mut E,
 ) -> u8
     requires { E.failures err.old < 2 ^ 64 - 1 }
-    ensures reported { ReportsFault E.Out T.memory_can_lack (fault_of_unread kind) result err.old err.new }
+    ensures reported { ReportsFault E.Out T.memory_can_run_out (fault_of_unread kind)
+        result err.old err.new }
 {
     let fault = match kind {
         ErrorKind::OutOfMemory => Fault::Memory,
@@ -118,7 +119,8 @@ pub fn tell_unread_words<T: Texts, E: Out>(
 /// instead. If `err` fails, that is reported nowhere.
 pub fn tell_fault<T: Texts, E: Out>(alloc: Global, texts: &T, fault: Fault, err: &mut E) -> u8
     requires { E.failures err.old < 2 ^ 64 - 1 }
-    ensures reported { ReportsFault E.Out T.memory_can_lack fault result err.old err.new }
+    ensures reported { ReportsFault E.Out T.memory_can_run_out fault
+        result err.old err.new }
 {
     let Ok(text) = texts.fault_text(alloc, fault) else {
         tell_line(PROGRAM, OUT_OF_MEMORY, err);

@@ -11,19 +11,19 @@ pub trait Texts {
     /// This is the parser's text for these words after the program's name.
     ghost is_usage_text: { Self → List (List ℕ) → List ℕ → Type 0 };
 
-    /// There may be no memory for a text.
-    ghost memory_can_lack: { Type 0 };
+    /// Memory can run out while a text is made.
+    ghost memory_can_run_out: { Type 0 };
 
     /// Returns the parser's text for these words. Fails only for lack of memory.
     fn usage_text(&self, alloc: Global, words: &[String]) -> Result<String, AllocError>
         ensures text { IfOk result (λ text.
             is_usage_text self.now (map string_bytes words.now) (string_bytes text)) }
-        ensures memory { OnErr result memory_can_lack };
+        ensures memory { OnErr result memory_can_run_out };
 
     /// Returns the text of a fault. Fails only for lack of memory.
     fn fault_text(&self, alloc: Global, fault: Fault) -> Result<String, AllocError>
         ensures text { IfOk result (λ text. string_bytes text ≡ text_of_fault fault) }
-        ensures memory { OnErr result memory_can_lack };
+        ensures memory { OnErr result memory_can_run_out };
 }
 
 /// The texts of mairix's faults and of the parser of its command line.
@@ -34,7 +34,7 @@ impl Texts for ProgramTexts {
     // The parser promises no more of its texts.
     ghost is_usage_text = { λ _ words text. is_ok (parse words) ≡ true → text ≡ [] };
 
-    ghost memory_can_lack = { ⊤ };
+    ghost memory_can_run_out = { ⊤ };
 
     fn usage_text(&self, alloc: Global, words: &[String]) -> Result<String, AllocError> {
         mairix_options::usage_text(alloc, words)
