@@ -1,3 +1,4 @@
--- The proofs of mairix_run: lemmas about streams.
+-- The proofs of mairix_run: lemmas about streams and about files.
 pub mod Gathering
+pub mod ReadFiles
 pub mod Taking

@@ -3,6 +3,7 @@ pub mod Flushing
 pub mod Gathered
 pub mod GatheredFields
 pub mod MemoryFields
+pub mod ReadFiles
 pub mod Stops
 pub mod Streams
 pub mod Reports

@@ -4,6 +4,7 @@
 mod flushing;
 mod gathered;
 mod memory_stream;
+mod read_names;
 mod stopped;
 mod stream;
 mod telling;
@@ -13,6 +14,7 @@ mod worked_tellings;
 pub use flushing::flushed;
 pub use gathered::Gathered;
 pub use memory_stream::MemoryStream;
+pub use read_names::ReadNames;
 pub use stopped::Stopped;
 pub use stream::Stream;
 pub use telling::{tell_ending, tell_fault, tell_stopped, tell_unread_words, tell_usage};
