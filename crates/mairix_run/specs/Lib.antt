@@ -2,8 +2,9 @@
 pub mod Flushing
 pub mod Gathered
 pub mod GatheredFields
+pub mod MadeFiles
 pub mod MemoryFields
 pub mod ReadFiles
+pub mod Reports
 pub mod Stops
 pub mod Streams
-pub mod Reports

@@ -3,6 +3,7 @@
 
 mod flushing;
 mod gathered;
+mod making;
 mod memory_stream;
 mod read_names;
 mod stopped;
@@ -13,6 +14,7 @@ mod worked_tellings;
 
 pub use flushing::flushed;
 pub use gathered::Gathered;
+pub use making::{create_file, passing_name, settle_file};
 pub use memory_stream::MemoryStream;
 pub use read_names::ReadNames;
 pub use stopped::Stopped;

@@ -1,0 +1,60 @@
+-- How a name ends, for which name a run is stopped while a file is made, and by which calls the file is made.
+use Rattle.std.proofs.Common.{◌≡◌, ap, sym, ℕ, nat_eq, Bool, true, false, if◌then◌else◌, List, Option, None, Some}
+use Rattle.std.proofs.Common.{◌⊎◌, inl, inr}
+use Rattle.std.proofs.lemmas.Str.Pattern.{ends_text}
+use Rattle.std.specs.Bool.{MatchBool}
+use Rattle.std.specs.List.{ends_with}
+use Rattle.std.specs.Str.Pattern.{FindsTextSuffix, HasSuffixMatch}
+use Rattle.mairix_run.specs.MadeFiles.{IsCleared, IsRefusal, MakesFile}
+use Rattle.mairix_run.specs.Stops.{IsStoppedAt}
+use Rattle.mairix_run.specs.declared.stopped.Stopped.{Stopped}
+use Rattle.mairix_run.specs.declared.stopped.Stopped.TheVariants as by
+
+-- how a text ends
+pub ends_as_text : (r : Bool) (n s : List ℕ) → MatchBool r (HasSuffixMatch (FindsTextSuffix n) s)
+    (FindsTextSuffix n s None) → r ≡ ends_with nat_eq s n
+ends_as_text r n s h = ends_text r n s h
+
+-- a name that doesn't fit is the first one
+pub refused_unfit : (unfit taken : Option (List ℕ)) (passing : List ℕ) (C : Type 0) (stopped : Stopped)
+    → IsRefusal unfit None passing ⊥ stopped → IsRefusal unfit taken passing C stopped
+refused_unfit (Some n) taken passing C (by.CannotOpen path) (inl h) = inl h
+refused_unfit None taken passing C (by.CannotOpen path) (inl h) = absurd cc
+refused_unfit unfit taken passing C (by.CannotOpen path) (inr h) = absurd h.2
+refused_unfit unfit taken passing C (by.Fault fault) h = h
+
+-- if both names fit, a name of something special is the first one
+pub refused_special : (unfit : Option (List ℕ)) (special free : Bool) (passing name : List ℕ) (C : Type 0)
+    (stopped : Stopped) → unfit ≡ None → IsRefusal None (if special then Some name else None) name ⊥ stopped
+    → IsRefusal unfit (if special then Some name else (if free then None else Some passing)) passing C stopped
+refused_special unfit true free passing name C (by.CannotOpen path) none (inl h) = rw none (inl h)
+refused_special unfit false free passing name C (by.CannotOpen path) none (inl h) = absurd cc
+refused_special unfit special free passing name C (by.CannotOpen path) none (inr h) = absurd h.2
+refused_special unfit special free passing name C (by.Fault fault) none h = h
+
+-- then the run is stopped for the passing name
+pub refused_passing : (unfit : Option (List ℕ)) (special free : Bool) (passing name : List ℕ) (C : Type 0)
+    (stopped : Stopped) → unfit ≡ None → (special ≡ false) ⊎ C → (free ≡ false) ⊎ C → IsStoppedAt passing stopped
+    → IsRefusal unfit (if special then Some name else (if free then None else Some passing)) passing C stopped
+refused_passing unfit special free passing name C (by.Fault fault) none plain left at = at
+refused_passing unfit special free passing name C (by.CannotOpen path) none (inr can) left at = inr (none, at, can)
+refused_passing unfit special free passing name C (by.CannotOpen path) none plain (inr can) at = inr (none, at, can)
+refused_passing unfit true free passing name C (by.CannotOpen path) none (inl plain) (inl left) at = absurd cc
+refused_passing unfit false true passing name C (by.CannotOpen path) none (inl plain) (inl left) at = absurd cc
+refused_passing unfit false false passing name C (by.CannotOpen path) none (inl plain) (inl left) at =
+    inl (rw none (ap Some (sym at)))
+
+-- ---- by which calls
+
+module _ {D : Type 0} (removes creates : D → List ℕ → Bool → D → Type 0) (passing : List ℕ) where
+  -- a killed run's file was removed, and then one was made, or couldn't be made
+  pub makes_file : (done : Bool) (old free new : D) → IsCleared removes passing old free → creates free passing done new
+      → MakesFile removes creates passing done old new
+  makes_file true old free new cleared made = (free, cleared, made)
+  makes_file false old free new cleared made = inr (inr (free, cleared, made))
+
+  -- a killed run's file couldn't be removed
+  pub makes_none : (old new : D) → (new ≡ old) ⊎ removes old passing false new
+      → MakesFile removes creates passing false old new
+  makes_none old new (inl same) = inl same
+  makes_none old new (inr removed) = inr (inl removed)

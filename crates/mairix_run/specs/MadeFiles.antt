@@ -1,0 +1,75 @@
+-- For which names a run makes a file, by which calls, and what becomes of it.
+use Rattle.std.specs.Prelude.{◌≡◌, ◌⊎◌, ℕ, nat_eq, nat_lt, Bool, true, false, not, ◌&&◌, ◌||◌, if◌then◌else◌}
+use Rattle.std.specs.Prelude.{List, length, Option, None, Some, Result, Ok, Err, is_ok, codes}
+use Rattle.std.specs.List.{ends_with}
+use Rattle.std.specs.Option.{option_or}
+use Rattle.std.specs.String.{string_bytes}
+use Rattle.named_files.specs.Entries.{Entry, Nothing, File, Folder, Other}
+use Rattle.named_files.specs.Reported.{is_free}
+use Rattle.named_files.specs.TakingNames.{TakesName}
+use Rattle.named_files.specs.declared.name_fault.NameFault.{NameFault}
+use Rattle.run_faults.specs.declared.fault.Fault.{Fault}
+use Rattle.run_faults.specs.declared.fault.Fault.TheVariants.{Memory, Out}
+use Rattle.mairix_run.specs.ReadFiles.{are_all_apart}
+use Rattle.mairix_run.specs.declared.stopped.Stopped.{Stopped}
+use Rattle.mairix_run.specs.declared.stopped.Stopped.TheVariants as by
+
+-- whether a name has a last part: it has bytes, and doesn't end with `/`
+abbrev pub has_last_part : List ℕ → Bool
+has_last_part name = nat_lt 0 (length name) && not (ends_with nat_eq name (codes "/"))
+
+-- Which of both names is refused, whatever they lead to: a name without a last part, or one that another file can't
+-- take without changing one that is read. None if neither is.
+abbrev pub unfit_name : (List ℕ → List ℕ → Bool) → List (List ℕ) → List ℕ → List ℕ → Option (List ℕ)
+unfit_name apart read passing name = if not (has_last_part name && are_all_apart apart read name) then Some name
+    else (if are_all_apart apart read passing then None else Some passing)
+
+-- whether a name leads to a device, a pipe or a socket
+abbrev pub is_special : Entry → Bool
+is_special Nothing = false
+is_special (File bytes) = false
+is_special Folder = false
+is_special Other = true
+
+-- whether nothing has a name, or only what a killed run left
+abbrev pub is_open_to : (List ℕ → Entry) → (List ℕ → Bool) → List ℕ → Bool
+is_open_to holds is_leftover passing = is_free (holds passing) || is_leftover passing
+
+-- Which of both names is refused for what it leads to: a name of something special, or a passing name of something that
+-- no killed run left. None if neither is.
+abbrev pub taken_name : (List ℕ → Entry) → (List ℕ → Bool) → List ℕ → List ℕ → Option (List ℕ)
+taken_name holds is_leftover passing name = if is_special (holds name) then Some name
+    else (if is_open_to holds is_leftover passing then None else Some passing)
+
+-- The run is stopped for the first name that is refused, or for the passing name because the system refused it, or for
+-- lack of memory.
+abbrev pub IsRefusal : Option (List ℕ) → Option (List ℕ) → List ℕ → Type 0 → Stopped → Type 0
+IsRefusal unfit taken passing CanRefuse (by.CannotOpen path) = (option_or unfit taken ≡ Some (string_bytes path))
+    ⊎ ((unfit ≡ None) × (string_bytes path ≡ passing) × CanRefuse)
+IsRefusal unfit taken passing CanRefuse (by.Fault fault) = fault ≡ Memory
+
+-- what a killed run left under the passing name is removed, or nothing is
+abbrev pub IsCleared : {D : Type 0} → (D → List ℕ → Bool → D → Type 0) → List ℕ → D → D → Type 0
+IsCleared removes passing old new = (new ≡ old) ⊎ removes old passing true new
+
+-- The calls by which a file is made: what a killed run left is removed, and then a file is made. If a call fails, there
+-- is none after it.
+abbrev pub MakesFile : {D : Type 0} → (D → List ℕ → Bool → D → Type 0) → (D → List ℕ → Bool → D → Type 0) → List ℕ
+    → Bool → D → D → Type 0
+MakesFile {D} removes creates passing true old new =
+    (free : D) × IsCleared removes passing old free × creates free passing true new
+MakesFile {D} removes creates passing false old new = (new ≡ old) ⊎ (removes old passing false new
+    ⊎ ((free : D) × IsCleared removes passing old free × creates free passing false new))
+
+-- what is reported of a file that was written: the fault of the run, its status, or that the output failed
+abbrev pub IsSettled : Result ℕ Fault → Result ℕ Fault → Type 0
+IsSettled (Err fault) result = result ≡ Err fault
+IsSettled (Ok status) result = (result ≡ Ok status) ⊎ (result ≡ Err Out)
+
+-- The calls by which it is settled: after a fault it is removed; otherwise it takes its name, and that fails if and
+-- only if the result is a fault.
+abbrev pub SettlesFile : {D : Type 0} → (D → List ℕ → Bool → Bool → D → Type 0) → (D → List ℕ → Bool → D → Type 0)
+    → (D → D → Type 0) → List ℕ → Result ℕ Fault → Result ℕ Fault → D → D → Type 0
+SettlesFile renames syncs discards name (Err fault) result old new = discards old new
+SettlesFile renames syncs discards name (Ok status) result old new = (named : Result (Unit {0}) NameFault)
+    × (is_ok named ≡ is_ok result) × TakesName renames syncs discards name named old new

@@ -1,0 +1,233 @@
+//! The file that a run makes.
+ghost use Rattle.std.specs.Prelude.{◌≡◌, ◌≢◌, ◌⊎◌, ◌<◌, ◌-◌, ◌^◌, ◌++◌, ◌&&◌, if◌then◌else◌, ℕ, true, false, List, [], None, Some, codes, is_ok, string_bytes, IfOk, IfErr, OnOk, OnErr, IfSome};
+ghost use Rattle.named_files.specs.Crashes.{LeavesNoMoreWhere, LeavesOnly};
+ghost use Rattle.named_files.specs.Entries.{Entry, File, Leads, SameWhere};
+ghost use Rattle.named_files.specs.Refusals.{HasCause};
+ghost use Rattle.named_files.specs.TakingNames.{Replaces};
+ghost use Rattle.mairix_run.specs.MadeFiles.{IsRefusal, IsSettled, MakesFile, SettlesFile, has_last_part, is_open_to, is_special, taken_name, unfit_name};
+ghost use Rattle.mairix_run.specs.ReadFiles.{names_read};
+
+use crate::read_names::ReadNames;
+use crate::stopped::Stopped;
+use named_files::{Folder, Look, Refusal, clear_leftover, take_name};
+use run_faults::Fault;
+use std::alloc::{AllocError, Global};
+
+/// Returns the name that a file has until it is whole.
+pub fn passing_name(alloc: Global, name: &str) -> Result<String, AllocError>
+    ensures { IfOk result (λ passing. string_bytes passing ≡ name.now ++ codes ".new") }
+{
+    format!(in alloc; "{name}.new")
+}
+
+/// Makes a new file that is to have a name, under a passing name.
+///
+/// # Errors
+///
+/// `CannotOpen`, with nothing touched, if the name has no last part; if another file under one of both names would change
+/// one that the run reads; and if the name leads to a device, a pipe or a socket. The same, with at most what a killed
+/// run left removed, if no file can be made under the passing name: another run is making its own there, or anything is
+/// there that no killed run left, or the system refuses. Otherwise lack of memory.
+#[tactic(auto, using(crate::proofs::MadeFiles::refused_unfit, crate::proofs::MadeFiles::refused_special, crate::proofs::MadeFiles::refused_passing))]
+pub fn create_file<F: Folder>(
+    folder: &mut F,
+    alloc: Global,
+    reports: &mut F::Reports,
+    passing: &str,
+    name: &str,
+    read: &ReadNames<'_>,
+) -> Result<F::New, Stopped>
+    requires { F.making folder.old ≡ None }
+    // A file is made only if neither name is refused, as far as the system shows what the name leads to.
+    ensures fit { OnOk result (F.agree reports.new ≡ true
+        → unfit_name (F.apart folder.old) (names_read read.now) passing.now name.now ≡ None) }
+    ensures plain { OnOk result (F.agree reports.new ≡ true
+        → (is_special (F.holds folder.old name.now) ≡ false) ⊎ F.can_refuse) }
+    ensures free { OnOk result (F.agree reports.new ≡ true
+        → is_open_to (F.holds folder.old) (F.is_leftover folder.old) passing.now ≡ true) }
+    // It doesn't give up by itself, and names the path that is refused.
+    ensures refused { IfErr result (λ stopped. F.agree reports.new ≡ true → IsRefusal
+        (unfit_name (F.apart folder.old) (names_read read.now) passing.now name.now)
+        (taken_name (F.holds folder.old) (F.is_leftover folder.old) passing.now name.now)
+        passing.now F.can_refuse stopped) }
+    ensures empty { IfOk result (λ new. F.New.taken new ≡ Some []) }
+    ensures fresh { IfOk result (λ new. F.New.failures new ≡ 0) }
+    ensures making { OnOk result (F.making folder.new ≡ Some passing.now) }
+    ensures none { OnErr result (F.making folder.new ≡ None) }
+    // Each other name leads to what it led to before; without a file all do, but for what a killed run left.
+    ensures others { SameWhere (λ n. F.apart folder.old n passing.now) (F.holds folder.old)
+        (F.holds folder.new) }
+    ensures stays { OnErr result (F.is_leftover folder.old passing.now ≡ false
+        → (n : List ℕ) → F.holds folder.new n ≡ F.holds folder.old n) }
+    ensures crash { LeavesNoMoreWhere (λ n. F.apart folder.old n passing.now)
+        (F.may_leave folder.old) (F.may_leave folder.new) }
+    ensures apart { (a b : List ℕ) → F.apart folder.new a b ≡ F.apart folder.old a b }
+    // A crash at any moment of the call leaves under each other name what it might have left before.
+    ensures any_moment { LeavesOnly F.moment F.left_since folder.old folder.new
+        (λ n c. F.apart folder.old n passing.now ≡ true → F.may_leave folder.old n c) }
+    ensures calls { MakesFile F.removes F.creates passing.now (is_ok result) folder.old folder.new }
+    // What is reported agrees only if what was reported before does.
+    ensures earlier { F.agree reports.new ≡ true → F.agree reports.old ≡ true }
+    ensures right { F.reports_are_right → F.agree reports.new ≡ F.agree reports.old }
+{
+    if let Err(stopped) = check_names(folder, alloc, reports, passing, name, read) {
+        return Err(stopped);
+    }
+    if let Err(stopped) = check_not_special(folder, alloc, reports, name) {
+        return Err(stopped);
+    }
+    match make_file(folder, alloc, reports, passing) {
+        Ok(new) => Ok(new),
+        Err(Refusal::Memory) => Err(Stopped::Fault(Fault::Memory)),
+        Err(Refusal::Refused) => Err(Stopped::at(alloc, passing)),
+    }
+}
+
+/// Checks that a name has a last part, and that a file can take it, and before that a passing name, without changing one
+/// that the run reads.
+fn check_names<F: Folder>(
+    folder: &F,
+    alloc: Global,
+    reports: &mut F::Reports,
+    passing: &str,
+    name: &str,
+    read: &ReadNames<'_>,
+) -> Result<(), Stopped>
+    ensures ok { OnOk result (F.agree reports.new ≡ true
+        → unfit_name (F.apart folder.now) (names_read read.now) passing.now name.now ≡ None) }
+    ensures err { IfErr result (λ stopped. F.agree reports.new ≡ true → IsRefusal
+        (unfit_name (F.apart folder.now) (names_read read.now) passing.now name.now)
+        None passing.now ⊥ stopped) }
+    ensures earlier { F.agree reports.new ≡ true → F.agree reports.old ≡ true }
+    ensures right { F.reports_are_right → F.agree reports.new ≡ F.agree reports.old }
+{
+    if !has_last_part(name) {
+        return Err(Stopped::at(alloc, name));
+    }
+    let are_apart = read.are_apart_from(folder, alloc, reports, name)?;
+    if !are_apart {
+        return Err(Stopped::at(alloc, name));
+    }
+    let are_apart = read.are_apart_from(folder, alloc, reports, passing)?;
+    if !are_apart {
+        return Err(Stopped::at(alloc, passing));
+    }
+    Ok(())
+}
+
+/// Whether a name has a last part.
+#[tactic(auto, using(crate::proofs::MadeFiles::ends_as_text))]
+fn has_last_part(name: &str) -> bool
+    ensures { result ≡ has_last_part name.now }
+{
+    !name.is_empty() && !name.ends_with("/")
+}
+
+/// Checks that a name doesn't lead to a device, a pipe or a socket. If the system doesn't show what it leads to, it
+/// counts as none of these.
+fn check_not_special<F: Folder>(
+    folder: &F,
+    alloc: Global,
+    reports: &mut F::Reports,
+    name: &str,
+) -> Result<(), Stopped>
+    ensures ok { OnOk result (F.agree reports.new ≡ true
+        → (is_special (F.holds folder.now name.now) ≡ false) ⊎ F.can_refuse) }
+    ensures err { IfErr result (λ stopped. F.agree reports.new ≡ true → IsRefusal None
+        (if is_special (F.holds folder.now name.now) then Some name.now else None)
+        name.now ⊥ stopped) }
+    ensures earlier { F.agree reports.new ≡ true → F.agree reports.old ≡ true }
+    ensures right { F.reports_are_right → F.agree reports.new ≡ F.agree reports.old }
+{
+    match folder.look(alloc, reports, name) {
+        Ok(Look::Other) => Err(Stopped::at(alloc, name)),
+        Err(Refusal::Memory) => Err(Stopped::Fault(Fault::Memory)),
+        _ => Ok(()),
+    }
+}
+
+/// Makes a new file under a name, after what a killed run left there was removed.
+#[tactic(auto, using(crate::proofs::MadeFiles::makes_file, crate::proofs::MadeFiles::makes_none))]
+fn make_file<F: Folder>(
+    folder: &mut F,
+    alloc: Global,
+    reports: &mut F::Reports,
+    name: &str,
+) -> Result<F::New, Refusal>
+    requires { F.making folder.old ≡ None }
+    ensures free { OnOk result (F.agree reports.new ≡ true
+        → is_open_to (F.holds folder.old) (F.is_leftover folder.old) name.now ≡ true) }
+    ensures refused { IfErr result (λ why. F.agree reports.new ≡ true → HasCause why
+        ((is_open_to (F.holds folder.old) (F.is_leftover folder.old) name.now ≡ false)
+        ⊎ F.can_refuse)) }
+    ensures empty { IfOk result (λ new. F.New.taken new ≡ Some []) }
+    ensures fresh { IfOk result (λ new. F.New.failures new ≡ 0) }
+    ensures making { OnOk result (F.making folder.new ≡ Some name.now) }
+    ensures none { OnErr result (F.making folder.new ≡ None) }
+    ensures others { SameWhere (λ n. F.apart folder.old n name.now) (F.holds folder.old)
+        (F.holds folder.new) }
+    ensures stays { OnErr result (F.is_leftover folder.old name.now ≡ false
+        → (n : List ℕ) → F.holds folder.new n ≡ F.holds folder.old n) }
+    ensures crash { LeavesNoMoreWhere (λ n. F.apart folder.old n name.now) (F.may_leave folder.old)
+        (F.may_leave folder.new) }
+    ensures apart { (a b : List ℕ) → F.apart folder.new a b ≡ F.apart folder.old a b }
+    ensures any_moment { LeavesOnly F.moment F.left_since folder.old folder.new
+        (λ n c. F.apart folder.old n name.now ≡ true → F.may_leave folder.old n c) }
+    ensures calls { MakesFile F.removes F.creates name.now (is_ok result) folder.old folder.new }
+    ensures earlier { F.agree reports.new ≡ true → F.agree reports.old ≡ true }
+    ensures right { F.reports_are_right → F.agree reports.new ≡ F.agree reports.old }
+{
+    if let Err(why) = clear_leftover(folder, alloc, reports, name) {
+        return Err(why);
+    }
+    folder.create(alloc, reports, name)
+}
+
+/// Gives a file its name if all of it was written, and returns the status; otherwise removes it, and returns the fault of
+/// the run. If the name can't be given or brought to the disk, the output has failed.
+pub fn settle_file<F: Folder>(
+    folder: &mut F,
+    alloc: Global,
+    new: F::New,
+    passing: &str,
+    name: &str,
+    written: Result<u8, Fault>,
+) -> Result<u8, Fault>
+    requires making { F.making folder.old ≡ Some passing.now }
+    requires apart { F.apart folder.old name.now passing.now ≡ true }
+    requires count { F.New.failures new < 2 ^ 64 - 1 }
+    ensures status { IsSettled written result }
+    // With a status, the name leads to all that was written.
+    ensures named { OnOk result (Leads (F.holds folder.new name.now) (F.New.taken new)) }
+    // After a fault of the run, it leads to what it led to before; if only the output failed, to one of both.
+    ensures not_named { OnErr written (F.holds folder.new name.now ≡ F.holds folder.old name.now) }
+    ensures old_or_new { (F.holds folder.new name.now ≡ F.holds folder.old name.now)
+        ⊎ Leads (F.holds folder.new name.now) (F.New.taken new) }
+    ensures others { SameWhere (λ n. F.apart folder.old n passing.now
+        && F.apart folder.old n name.now) (F.holds folder.old) (F.holds folder.new) }
+    // A crash at any moment of the call leaves under the name what it might have left before, or the whole new file.
+    ensures any_moment { LeavesOnly F.moment F.left_since folder.old folder.new
+        (Replaces (F.apart folder.old) (F.may_leave folder.old) passing.now name.now
+        (F.New.taken new)) }
+    // After a fault of the run, only what it might have left before.
+    ensures discarded { OnErr written (LeavesOnly F.moment F.left_since folder.old folder.new
+        (λ n c. F.apart folder.old n passing.now ≡ true → F.may_leave folder.old n c)) }
+    // With a status, a crash after the call leaves the whole new file.
+    ensures kept { OnOk result (IfSome (F.New.taken new) (λ bytes. (c : Entry)
+        → F.may_leave folder.new name.now c → c ≡ File bytes)) }
+    ensures none { F.making folder.new ≡ None }
+    ensures calls { SettlesFile F.renames F.syncs F.discards name.now written result folder.old
+        folder.new }
+{
+    let status = match written {
+        Ok(status) => status,
+        Err(fault) => {
+            folder.discard(new);
+            return Err(fault);
+        }
+    };
+    match take_name(folder, alloc, new, passing, name) {
+        Ok(()) => Ok(status),
+        Err(_) => Err(Fault::Out),
+    }
+}
