@@ -3,3 +3,4 @@ pub mod Gathering
 pub mod MadeFiles
 pub mod ReadFiles
 pub mod Taking
+pub mod WholeFiles

@@ -8,3 +8,5 @@ pub mod ReadFiles
 pub mod Reports
 pub mod Stops
 pub mod Streams
+pub mod Tellings
+pub mod WholeFiles

@@ -10,6 +10,8 @@ mod stopped;
 mod stream;
 mod telling;
 mod texts;
+mod usage_texts;
+mod whole_file;
 mod worked_tellings;
 
 pub use flushing::flushed;
@@ -21,4 +23,6 @@ pub use stopped::Stopped;
 pub use stream::Stream;
 pub use telling::{tell_ending, tell_fault, tell_stopped, tell_unread_words, tell_usage};
 pub use texts::{ProgramTexts, Texts};
+pub use usage_texts::{ParserTexts, UsageTexts};
+pub use whole_file::read_whole;
 pub use worked_tellings::lines_and_statuses_are_as_worked_by_hand;
