@@ -1,4 +1,4 @@
--- The definitions of what a run prints at its end, and of its status.
+-- The definitions of what a run prints at its end, of its status, and of the files that it reads and makes.
 pub mod Flushing
 pub mod Gathered
 pub mod GatheredFields
@@ -8,5 +8,4 @@ pub mod ReadFiles
 pub mod Reports
 pub mod Stops
 pub mod Streams
-pub mod Tellings
 pub mod WholeFiles

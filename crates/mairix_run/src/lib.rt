@@ -1,4 +1,4 @@
-//! What a run of mairix prints at its end, and with which status it ends.
+//! What a run of mairix does with files and streams: what it reads, which file it makes, what it prints and its status.
 #![tactic(auto)]
 
 mod flushing;
@@ -10,7 +10,6 @@ mod stopped;
 mod stream;
 mod telling;
 mod texts;
-mod usage_texts;
 mod whole_file;
 mod worked_tellings;
 
@@ -23,6 +22,5 @@ pub use stopped::Stopped;
 pub use stream::Stream;
 pub use telling::{tell_ending, tell_fault, tell_stopped, tell_unread_words, tell_usage};
 pub use texts::{ProgramTexts, Texts};
-pub use usage_texts::{ParserTexts, UsageTexts};
 pub use whole_file::read_whole;
 pub use worked_tellings::lines_and_statuses_are_as_worked_by_hand;

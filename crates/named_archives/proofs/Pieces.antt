@@ -3,7 +3,6 @@ use Rattle.std.proofs.Common.{◌≡◌, ◌≤◌, ℕ, ◌+◌, ◌-◌, min, 
 use Rattle.std.proofs.Common.{slice_range, sym, ap, ◌∙◌, subst, arith, length-drop, length-take-le}
 use Rattle.std.specs.Option.{ForSome}
 use Rattle.std.proofs.lemmas.List.{take-take, drop-drop, drop-take}
-use Rattle.contract_words.specs.Knowledge.{WasKnown}
 use Rattle.named_files.specs.Entries.{IsRead}
 use Rattle.named_archives.specs.Ahead.{IsPiece}
 
@@ -14,16 +13,6 @@ if-some (Some x) P h = h x cc
 for-some : {A : Type 0} (o : Option A) (P : A → Type 0) → IfSome o P → ForSome o P
 for-some None P h = λ x e. cc
 for-some (Some y) P h = λ x e. let same : y ≡ x = grind arith in subst P same h
-
--- what was so of all that was known is so of what is still known
-for-still : {A : Type 0} (old new : Option A) (P : A → Type 0) → WasKnown old new → ForSome old P → ForSome new P
-for-still old None P was h = λ x e. cc
-for-still old (Some y) P was h = λ x e. let same : y ≡ x = grind arith in h x (was ∙ ap Some same)
-
-pub still-piece : (offset : ℕ) (bytes : List ℕ) (old new : Option (List ℕ)) → WasKnown old new
-    → IsPiece offset bytes old
-    → IsPiece offset bytes new
-still-piece offset bytes old new was piece = for-still old new _ was piece
 
 pub is-piece : (offset : ℕ) (bytes : List ℕ) (known : Option (List ℕ)) → IsRead offset bytes known
     → IsPiece offset bytes known

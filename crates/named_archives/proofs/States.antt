@@ -1,21 +1,12 @@
 -- One more name has one more state, and what is reported of its file.
-use Rattle.std.proofs.Common.{◌≡◌, ◌∙◌, ◌<◌, ◌+◌, ℕ, zero, suc, List, [], ◌∷◌, ◌++◌, Option, Some, length, take}
-use Rattle.std.proofs.Common.{String, Global, get_or, slice_get, refl, sym, ap, subst, arith}
-use Rattle.std.specs.Option.{option_map}
+use Rattle.std.proofs.Common.{◌≡◌, ◌∙◌, ◌<◌, ◌+◌, ℕ, zero, suc, List, [], ◌∷◌, ◌++◌, Option, length, take}
+use Rattle.std.proofs.Common.{String, Global, get_or, sym, ap, subst, arith}
 use Rattle.std.specs.String.{string_bytes}
 use Rattle.std.proofs.lemmas.List.{map_push, take_more}
-use Rattle.std.proofs.lemmas.Option.{slice_get-map, slice_get_read}
 use Rattle.named_files.specs.declared.refusal.Refusal.{Refusal}
-use Rattle.named_files.specs.declared.refusal.Refusal.TheVariants.{Memory, Refused}
 use Rattle.named_files.specs.Entries.{Entry, bytes_of}
-use Rattle.named_files.specs.Refusals.{HasCause}
 use Rattle.named_archives.specs.Names.{files_of}
 use Rattle.named_archives.specs.States.{AreStatesOf, IsStateOf}
-
--- what follows from a cause
-pub cause-of : (why : Refusal) (A B : Type 0) → HasCause why A → (A → B) → HasCause why B
-cause-of Memory A B h f = tt
-cause-of Refused A B h f = f h
 
 -- the files of the first names and of one more
 pub files-more : (holds : List ℕ → Entry) (names : List (String Global)) (n : ℕ) (name : String Global)
@@ -25,14 +16,6 @@ files-more holds names n name below is =
     ap (files_of holds) (take_more names n name below)
     ∙ map_push (λ k. bytes_of (holds (string_bytes k))) (take n names) (get_or names n name)
     ∙ ap (λ k. files_of holds (take n names) ++ bytes_of (holds (string_bytes k)) ∷ []) (sym is)
-
--- the file with this number
-pub file-at : (holds : List ℕ → Entry) (names : List (String Global)) (n : ℕ) (name : String Global) → n < length names
-    → name ≡ get_or names n name → slice_get (files_of holds names) n ≡ Some (bytes_of (holds (string_bytes name)))
-file-at holds names n name below is =
-    slice_get-map (λ k. bytes_of (holds (string_bytes k))) names n
-    ∙ ap (option_map (λ k. bytes_of (holds (string_bytes k))))
-    (slice_get_read names (length names) n name refl below is)
 
 module _ {F S : Type 0} (found : F → Option S) (rest : F → Option (List ℕ)) where
   -- one more file has one more state
