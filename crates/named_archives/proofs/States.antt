@@ -3,7 +3,6 @@ use Rattle.std.proofs.Common.{◌≡◌, ◌∙◌, ◌<◌, ◌+◌, ℕ, zero,
 use Rattle.std.proofs.Common.{String, Global, get_or, sym, ap, subst, arith}
 use Rattle.std.specs.String.{string_bytes}
 use Rattle.std.proofs.lemmas.List.{map_push, take_more}
-use Rattle.named_files.specs.declared.refusal.Refusal.{Refusal}
 use Rattle.named_files.specs.Entries.{Entry, bytes_of}
 use Rattle.named_archives.specs.Names.{files_of}
 use Rattle.named_archives.specs.States.{AreStatesOf, IsStateOf}

@@ -36,6 +36,7 @@ pub struct NamedArchives<'p, F: Folder> {
     failures: u64,
     ghost few: { length names.now < 2 ^ 32 },
     ghost each: { length states.now ≡ length names.now },
+    ghost right: { F.reports_are_right → F.agree closed ≡ true },
     ghost counted: { ForSome current (λ a. F.File.failures a.file ≤ failures) },
     ghost opened: { ForSome current (λ a. IsFileAt (files_of (F.holds folder.now) names.now) states.now
         number (F.File.bytes a.file) a.state) },
@@ -82,6 +83,7 @@ impl<'p, F: Folder> NamedArchives<'p, F> {
         ensures noted { F.agree reports.new ≡ (F.agree reports.old
             && (F.agree self.entry.closed && has_agreed (λ a. F.File.rest a.file)
             (λ a. F.File.bytes a.file) self.entry.current)) }
+        ensures right { F.reports_are_right → F.agree reports.new ≡ F.agree reports.old }
         // If all reports agree, the bytes of all archives stayed known.
         ensures known { F.agree reports.new ≡ true
             → All IsSome (files_of (F.holds self.entry.folder.now) self.entry.names.now)
