@@ -134,7 +134,7 @@ impl KeyMap {
         ensures fault { IfErr result
             (IsWantOf key.entry.most (length (with_added key.entry self.old))) }
     {
-        self.hints.begin()?;
+        self.hints.make_room(alloc, self.entries.len())?;
         self.order.begin(alloc)?;
         match self.order.find(self.entries.as_slice(), key.kind, key.text) {
             Ok(entry) => {
