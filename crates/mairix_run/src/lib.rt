@@ -1,6 +1,7 @@
 //! What a run of mairix does with files and streams: what it reads, which file it makes, what it prints and its status.
 #![tactic(auto)]
 
+mod clock;
 mod flushing;
 mod gathered;
 mod making;
@@ -13,6 +14,7 @@ mod texts;
 mod whole_file;
 mod worked_tellings;
 
+pub use clock::moment_of;
 pub use flushing::flushed;
 pub use gathered::Gathered;
 pub use making::{create_file, passing_name, settle_file};
