@@ -1,6 +1,8 @@
 -- The proofs of mairix_run: lemmas about streams and about files.
 pub mod Gathering
+pub mod IndexedFiles
 pub mod MadeFiles
+pub mod NamedSources
 pub mod ReadFiles
 pub mod Taking
 pub mod WholeFiles

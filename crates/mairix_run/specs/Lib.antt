@@ -3,6 +3,7 @@ pub mod Clocks
 pub mod Flushing
 pub mod Gathered
 pub mod GatheredFields
+pub mod Indexed
 pub mod MadeFiles
 pub mod MemoryFields
 pub mod ReadFiles

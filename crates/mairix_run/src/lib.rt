@@ -4,6 +4,7 @@
 mod clock;
 mod flushing;
 mod gathered;
+mod indexing;
 mod making;
 mod memory_stream;
 mod read_names;
@@ -17,6 +18,7 @@ mod worked_tellings;
 pub use clock::moment_of;
 pub use flushing::flushed;
 pub use gathered::Gathered;
+pub use indexing::index_names;
 pub use making::{create_file, passing_name, settle_file};
 pub use memory_stream::MemoryStream;
 pub use read_names::ReadNames;

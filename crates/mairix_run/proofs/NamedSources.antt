@@ -1,0 +1,68 @@
+-- Sources of names whose reports agree are still known after they are indexed.
+use Rattle.std.proofs.Common.{◌≡◌, ◌∙◌, ℕ, zero, suc, Bool, List, [], ◌∷◌, map, All}
+use Rattle.std.proofs.Common.{Option, None, Some, IsSome, refl, sym, subst, arith, slice_index}
+use Rattle.std.proofs.lemmas.List.Elements.{All-cons, All-head, All-nil, All-tail}
+use Rattle.std.specs.List.{AllZip}
+use Rattle.contract_words.specs.Devices.{Counted}
+use Rattle.mbox_cutter.specs.Sources.{Stays}
+use Rattle.mbox_cutter.specs.declared.device.Source.{Ghosts}
+use Rattle.named_archives.specs.Progress.{left_in}
+use Rattle.named_archives.specs.declared.named_source.Progress.{Progress}
+
+-- what is left of a file that was opened, or all of one that wasn't
+left-some : {F : Type 0} (rest : F → Option (List ℕ)) (all : Option (List ℕ)) (file : Option F) (progress : Progress)
+    → (IsSome file → IsSome (left_in rest all file progress)) → IsSome all → IsSome (left_in rest all file progress)
+left-some rest all None progress h some = some
+left-some rest all (Some file) progress h some = h refl
+
+-- of a file that wasn't opened all is left
+not-opened : {F : Type 0} (rest : F → Option (List ℕ)) (all : Option (List ℕ)) (file : Option F) (progress : Progress)
+    → file ≡ None → left_in rest all file progress ≡ all
+not-opened rest all None progress is = refl
+not-opened rest all (Some file) progress is = absurd cc
+
+module _ {S F : Type 0} (rest : F → Option (List ℕ)) (all : S → Option (List ℕ)) (file : S → Option F)
+    (progress : S → Progress) (failures : S → ℕ) where
+  abbrev left : S → Option (List ℕ)
+  left s = left_in rest (all s) (file s) (progress s)
+
+  -- no call has failed, and the file wasn't opened
+  abbrev IsNew : S → Type 0
+  IsNew s = (failures s ≡ 0) × (file s ≡ None)
+
+  -- if all reports agree, the bytes of a source without a failure stayed known
+  abbrev IsReported : S → Type 0
+  IsReported s = failures s ≡ 0 → IsSome (file s) → IsSome (left s)
+
+  -- sources that were new, of these files, are known now if none has failed
+  pub known-now : (g : Ghosts S)
+      → ((old new : S) → Stays g old new → (bytes : List ℕ) → all old ≡ Some bytes → all new ≡ Some bytes)
+      → (olds news : List S) (files : List (List ℕ)) → AllZip (Stays g) olds news → All IsNew olds
+      → map left olds ≡ map Some files → ((n : ℕ) → slice_index (map failures news) n ≡ 0) → All IsReported news
+      → All IsSome (map left news)
+  known-now g same [] [] files stay fresh are zeros told = All-nil IsSome
+  known-now g same [] (new ∷ news) files stay fresh are zeros told = absurd stay
+  known-now g same (old ∷ olds) [] files stay fresh are zeros told = absurd stay
+  known-now g same (old ∷ olds) (new ∷ news) [] stay fresh are zeros told = absurd cc
+  known-now g same (old ∷ olds) (new ∷ news) (bytes ∷ files) stay fresh are zeros told =
+      let here : left old ≡ Some bytes = grind arith in
+      let others : map left olds ≡ map Some files = grind arith in
+      let unopened = not-opened rest (all old) (file old) (progress old) (All-head IsNew old olds fresh).1 in
+      let now = same old new stay.0 bytes (sym unopened ∙ here) in
+      All-cons IsSome (left new) (map left news)
+      (left-some rest (all new) (file new) (progress new)
+      (All-head IsReported new news told (zeros 0)) (subst IsSome (sym now) refl))
+      (known-now g same olds news files stay.1 (All-tail IsNew old olds fresh) others (λ n. zeros (suc n))
+      (All-tail IsReported new news told))
+
+  counts-new : (sources : List S) → All IsNew sources → (n : ℕ) → slice_index (map failures sources) n ≡ 0
+  counts-new [] fresh n = refl
+  counts-new (s ∷ sources) fresh zero = (All-head IsNew s sources fresh).0
+  counts-new (s ∷ sources) fresh (suc n) = counts-new sources (All-tail IsNew s sources fresh) n
+
+  -- the counts of sources that were new begin at 0
+  pub counted-new : (sources : List S) → All IsNew sources → (failed : ℕ → Bool) (counts : List ℕ)
+      → ((n : ℕ) → Counted (failed n) (slice_index (map failures sources) n) (slice_index counts n)) → (n : ℕ)
+      → Counted (failed n) 0 (slice_index counts n)
+  counted-new sources fresh failed counts h n =
+      subst (λ (k : ℕ). Counted (failed n) k (slice_index counts n)) (counts-new sources fresh n) (h n)
