@@ -1,11 +1,11 @@
 #!/usr/bin/env python3
-"""Looks for private words in the comments of crates and on pages. tools/plain_words.txt lists the words, each with the
-usual one, and the crates and pages. Also finds files of proofs that don't begin with a comment: it says what they show.
+"""Looks for private words in the comments of all crates and on some pages. tools/plain_words.txt lists the words, each
+with the usual one, and the pages. Also finds files of proofs that don't begin with a comment: it says what they show.
 
     tools/plain_words.py [CRATE ..]
 
-With names of crates, the comments of these are looked at, whether they are listed or not, and nothing else. The last
-line is `N passed, M failed`: crates and pages.
+With names of crates, the comments of these are looked at, and nothing else. The last line is `N passed, M failed`:
+crates and pages.
 """
 import re
 import sys
@@ -27,11 +27,10 @@ def spaces(found):
 
 
 class Words:
-    """The private words with the usual ones, and where they are looked for."""
+    """The private words with the usual ones, and the pages on which they are looked for."""
 
     def __init__(self, text):
         lines = [it.strip() for it in text.splitlines() if it.strip() and not it.startswith("#")]
-        self.crates = [it.split()[1] for it in lines if it.startswith("crate ")]
         self.pages = [it.split()[1] for it in lines if it.startswith("page ")]
         self.usual = dict(it.split(" = ") for it in lines if " = " in it)
         # The longest first: "in front of" has "in front" in it.
@@ -59,7 +58,11 @@ def comments_of(file):
 
 def files_of(crate):
     folder = TOP / "crates" / crate
-    return [*sorted(folder.glob("src/**/*.rt")), *sorted(folder.glob("specs/**/*.antt"))]
+    return [*sorted(folder.glob("src/**/*.rt")), *sorted(folder.glob("specs/**/*.antt")), *sorted(folder.glob("proofs/**/*.antt"))]
+
+
+def all_crates():
+    return sorted(it.name for it in (TOP / "crates").iterdir() if it.is_dir())
 
 
 def uncommented(crate):
@@ -70,7 +73,7 @@ def uncommented(crate):
 
 def main(crates):
     words = Words(WORDS.read_text("utf-8"))
-    looked_at = {it: [(file, comments_of(file)) for file in files_of(it)] for it in crates or words.crates}
+    looked_at = {it: [(file, comments_of(file)) for file in files_of(it)] for it in crates or all_crates()}
     if not crates:
         looked_at |= {it: [(TOP / it, (TOP / it).read_text("utf-8"))] for it in words.pages}
     failed = 0

@@ -43,7 +43,7 @@ pub keeps_taken : (old new : Option (List ℕ)) (waiting : List ℕ) (n : ℕ) �
     → Keeps (append_known old waiting) (append_known new (drop n waiting))
 keeps_taken old new waiting n handed = grind (arith, append_assoc, take-append-drop)
 
--- after an output took a front of what waited, the rest of it waits
+-- after an output took a front of what was gathered, the rest of it is left
 pub hands_on : (old new : Option (List ℕ)) (xs items : List ℕ) (from to n : ℕ) → xs ≡ items → from ≤ to
     → n ≤ length (slice_range xs from to) → Appends old new (take n (slice_range xs from to))
     → Keeps (append_known old (slice_range items from to)) (append_known new (slice_range items (from + n) to))

@@ -4,7 +4,7 @@ use Rattle.std.proofs.Common.{IfSome, IsSome}
 use Rattle.std.specs.Io.KnownBytes.{Consumes}
 use Rattle.contract_words.specs.Knowledge.{still_known}
 
--- what was read so far stands after the old bytes, and what is left comes after it
+-- what was read so far is after the old bytes, and what is left comes after it
 abbrev pub HasRead : Option (List ℕ) → Option (List ℕ) → List ℕ → List ℕ → Type 0
 HasRead before now old new = IfSome now (λ left. (read : List ℕ) × (new ≡ old ++ read) × (before ≡ Some (read ++ left)))
 

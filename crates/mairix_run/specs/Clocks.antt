@@ -7,7 +7,7 @@ use Rattle.std.specs.declared.time.SystemTime.{SystemTime}
 abbrev pub second_within : ℕ → ℕ
 second_within second = if nat_lt second 253402300800 then second else 0
 
--- the second that a clock shows; 0 if it can't be read
+-- the second of a clock; 0 if it can't be read
 abbrev pub second_shown : {E : Type 0} → Result SystemTime E → ℕ
 second_shown (Ok time) = second_within (system_time_nanos time / 1000000000)
 second_shown (Err why) = 0

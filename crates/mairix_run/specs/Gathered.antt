@@ -3,13 +3,13 @@ use Rattle.std.specs.Prelude.{◌≡◌, refl, ℕ, List, Option, None, Some}
 use Rattle.std.specs.Io.KnownBytes.{append_known}
 use Rattle.mairix_run.specs.Streams.{IsFrontOf}
 
--- the output, the bytes that wait to be handed on to it, and for how many more there is room
+-- the output, the bytes that are not yet handed on to it, and for how many more there is room
 pub record Waiting (O : Type 0) : Type 0 where
   pub out : O
   pub waiting : List ℕ
   pub room : ℕ
 
--- what the stream has taken: what the output has, then what waits
+-- what the stream has taken: what the output has, then what is not yet handed on
 abbrev pub taken_by : {O : Type 0} → (O → Option (List ℕ)) → Waiting O → Option (List ℕ)
 taken_by taken s = append_known (taken s.out) s.waiting
 

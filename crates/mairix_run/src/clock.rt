@@ -7,8 +7,7 @@ use mail_dates::Moment;
 use std::io;
 use std::time::{SystemTime, UNIX_EPOCH};
 
-/// Returns the moment of the clock's second; that of second 0 if the clock can't be read, or shows a time after the year
-/// 9999.
+/// Returns the moment of the clock's second; that of second 0 if the clock can't be read, or is after the year 9999.
 pub fn moment_of(shown: io::Result<SystemTime>) -> Moment
     ensures { result ≡ second_shown shown }
 {

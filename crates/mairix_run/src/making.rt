@@ -38,7 +38,7 @@ pub fn create_file<F: Folder>(
     read: &ReadNames<'_>,
 ) -> Result<F::New, Stopped>
     requires { F.making folder.old ≡ None }
-    // A file is made only if neither name is refused, as far as the system shows what the name leads to.
+    // A file is made only if neither name is refused, whatever they lead to.
     ensures fit { OnOk result (F.agree reports.new ≡ true
         → unfit_name (F.apart folder.old) (names_read read.now) passing.now name.now ≡ None) }
     ensures plain { OnOk result (F.agree reports.new ≡ true

@@ -17,7 +17,7 @@ use std::io::ErrorKind;
 /// What each line on standard error begins with.
 const PROGRAM: &str = "mairix: ";
 
-/// What stands before a path in the line for a file that can't be opened, read or made.
+/// What comes before a path in the line for a file that can't be opened, read or made.
 const CANNOT_OPEN: &str = "mairix: cannot open ";
 
 /// Reports how a run ended, and returns its status. A run with a status of its own prints nothing at its end.

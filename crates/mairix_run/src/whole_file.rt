@@ -101,6 +101,6 @@ fn read_rest<S: Source>(
             return Err(Refusal::Memory);
         }
     }
-    // So many bytes have no room in memory.
+    // This many bytes have no room in memory.
     Err(Refusal::Memory)
 }

@@ -132,7 +132,7 @@ module _ {S : Type 0} (bytes : S → List ℕ) (noted : S → Record) where
       All-cons IsSome (left s) (map left ss) (All-head Agrees (bytes s, noted s) rest all)
       (known ss (All-tail Agrees (bytes s, noted s) rest all))
 
-  -- the same of a vector's elements, after a call that was lent all of them
+  -- the same of a vector's elements, after a call that borrowed all of them
   pub known-in-slice : (news items : List S) (len : ℕ) (archives : List (List ℕ))
       → length news ≡ len → map bytes news ≡ archives
       → AgreeWithSources archives (map noted (take len (news ++ drop (length news) items))) → All IsSome (map left news)

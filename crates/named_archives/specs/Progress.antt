@@ -14,7 +14,7 @@ left_in rest all (Some file) Going = rest file
 left_in rest all (Some file) Ended = rest file
 left_in rest all (Some file) Lost = None
 
--- the file was found in the state that was asked for, after the last read
+-- after the last read, the file was found in the state in which it has to be
 abbrev pub IsFoundIn : {F S : Type 0} → (F → Option S) → Option S → F → Type 0
 IsFoundIn found state file = ForSome state (λ asked. found file ≡ Some asked)
 
@@ -38,7 +38,7 @@ abbrev pub HasFailed : {F : Type 0} → (F → ℕ) → Option F → Option Refu
 HasFailed failures None refused = IsSome refused
 HasFailed failures (Some file) refused = 0 < failures file
 
--- a file that was opened was found in the state that was asked for
+-- a file that was opened was found in the state in which it has to be
 abbrev pub IsReadIn : {F S : Type 0} → (F → Option S) → Option S → Option F → Type 0
 IsReadIn found state None = ⊥
 IsReadIn found state (Some file) = IsFoundIn found state file

@@ -14,7 +14,7 @@ use std::alloc::Global;
 pub struct Unopened {
     /// The number of its name, from 0.
     pub number: usize,
-    /// Why it couldn't be opened or asked.
+    /// Why it couldn't be opened, or why its state couldn't be read.
     pub why: Refusal,
 }
 

@@ -202,7 +202,7 @@ impl<'p, F: Folder> Archives for NamedArchives<'p, F> {
             (held_while (F.agree self.new.closed && has_agreed (λ a. F.File.rest a.file)
             (λ a. F.File.bytes a.file) self.new.current)
             (files_of (F.holds self.new.folder.now) self.new.names.now))) }
-        // The length was asked while the file was in its state.
+        // The length was read while the file was in its state.
         ensures in_state { OnOk result ((self.new.number ≡ n) × IsInState
             (λ a. F.File.state_found a.file) self.new.states.now n self.new.current) }
         ensures states { self.new.states.now ≡ self.old.states.now }

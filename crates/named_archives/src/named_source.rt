@@ -191,7 +191,7 @@ impl<'p, F: Folder> Source for NamedSource<'p, F> {
             → bytes_of (F.holds self.new.folder.now self.new.name.now) ≡ Some bytes }
         ensures same { (self.new.folder.now ≡ self.old.folder.now)
             × (self.new.name.now ≡ self.old.name.now) × (self.new.state ≡ self.old.state) }
-        // What is given was read while the file was in the state that was asked for.
+        // What is given was read while the file was in the state in which it has to be.
         ensures in_state { OnOk result (IsReadIn F.File.state_found self.new.state self.new.file) }
         // Nothing fails without a cause.
         ensures failed { OnErr result (HasFailed F.File.failures self.new.file self.new.refused) }
@@ -245,7 +245,7 @@ fn read_on<F: KeptFile>(
     Ok(read)
 }
 
-/// Whether a file isn't in the state that is asked for.
+/// Whether a file isn't in the state in which it has to be.
 fn is_lost<F: KeptFile>(file: &mut F, state: Option<F::State>) -> bool
     requires { F.failures file.old < 2 ^ 64 - 1 }
     ensures rest { F.rest file.new ≡ F.rest file.old }

@@ -68,7 +68,7 @@ impl<F: KeptFile> ReadAhead<F> {
     ///
     /// # Errors
     ///
-    /// If the file has no length, can't be asked, or isn't in its state. What was read ahead is forgotten then.
+    /// If the file has no length, if the call fails, or if the file isn't in its state. What was read ahead is forgotten then.
     pub fn length(&mut self) -> Result<u64, DeviceFault>
         requires { F.failures self.old.file < 2 ^ 64 - 1 }
         ensures state { self.new.state ≡ self.old.state }

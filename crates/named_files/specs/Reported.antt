@@ -11,7 +11,7 @@ is_free (File bytes) = false
 is_free Folder = false
 is_free Other = false
 
--- whether a look shows what the name leads to
+-- whether a look finds what the name leads to
 abbrev pub is_shown : Look → Entry → Bool
 is_shown shows.Nothing entry = is_free entry
 is_shown (shows.File size) (File bytes) = size == length bytes

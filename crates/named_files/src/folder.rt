@@ -11,7 +11,7 @@ use crate::new_file::NewFile;
 use crate::refusal::Refusal;
 use std::alloc::{AllocError, Global};
 
-/// Files by their names. Those that are read are lent; at most one at a time is made.
+/// Files by their names. Those that are read borrow it; at most one at a time is made.
 ///
 /// While a file is made the folder itself doesn't change: the bytes of the new file are its own until it takes its
 /// name. So other files can be read meanwhile, and a crash leaves of them what it would have left before.
@@ -246,7 +246,7 @@ pub trait Folder {
         ensures refused { IfErr result (λ why. HasCause why (can_refuse ⊎ writes_can_fail)) }
         ensures call { syncs self.old name.now (is_ok result) self.new };
 
-    /// Removes the file that is made, as far as the system does that.
+    /// Removes the file that is made, if the system does that.
     fn discard(&mut self, new: Self::New)
         requires { IsSome (making self.old) }
         ensures none { making self.new ≡ None }

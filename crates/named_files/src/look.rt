@@ -1,4 +1,4 @@
-//! What a look at a name shows.
+//! What a look at a name finds.
 
 /// What a name leads to.
 #[derive(Clone, Copy, Debug, PartialEq, Eq)]

@@ -2,7 +2,7 @@
 
 use thiserror::Error;
 
-/// Why a folder didn't do what it was asked.
+/// Why a call of a folder failed.
 #[derive(Clone, Copy, Debug, Error)]
 pub enum Refusal {
     /// Memory ran out.

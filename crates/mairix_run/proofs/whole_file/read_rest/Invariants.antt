@@ -1,4 +1,4 @@
--- What was read so far stands after the old bytes, and no call has failed.
+-- What was read so far is after the old bytes, and no call has failed.
 use Rattle.std.proofs.Common.{◌≡◌, ◌<◌, length}
 use Rattle.mairix_run.proofs.WholeFiles.{HasRead}
 use Rattle.mairix_run.proofs.whole_file.read_rest.Given as goal

@@ -1,3 +1,4 @@
+-- `replace_file` leaves the old file or the whole new one: its moments are those of `create`, and then of `take_name`.
 use Rattle.std.proofs.Common.{Some, refl}
 use Rattle.named_files.specs.Crashes.{LeavesOnly}
 use Rattle.named_files.specs.TakingNames.{Replaces}

@@ -1,3 +1,4 @@
+-- `take_name` leaves the old file or the whole new one: its moments are those of the calls that it makes.
 use Rattle.std.proofs.Common.{rules, ◌∙◌, ℕ, ◌≡◌, List, subst, IfSome, ◌&&◌}
 use Rattle.named_files.specs.Crashes.{LeavesNoMoreWhere}
 use Rattle.named_files.proofs.Steps.{after_call, after_rename, left_under_passing}

@@ -1,4 +1,4 @@
--- A look agrees if it shows what is supposed.
+-- A look agrees if it finds what is supposed.
 use Rattle.named_files.specs.Reported.{told_look}
 use Rattle.mairix_files.specs.NameCalls.{supposed_now}
 use Rattle.mairix_files.proofs.kit_folder.KitFolderFolder.look.Given as goal

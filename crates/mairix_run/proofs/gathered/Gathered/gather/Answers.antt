@@ -1,4 +1,4 @@
--- The bytes are written after those that wait.
+-- The bytes are gathered after those that are there.
 use Rattle.std.proofs.Common.{List, ℕ, ◌++◌, ◌∙◌, ap, arith, drop, length, take}
 use Rattle.std.proofs.lemmas.List.{length-take-le}
 use Rattle.std.specs.List.{slice_range}

@@ -1,3 +1,4 @@
+-- What was found so far is what the name leads to after the steps so far.
 use Rattle.std.proofs.Common.{◌≡◌, take}
 use Rattle.std.specs.Option.{option_map_or}
 use Rattle.named_files.specs.Logs.{held_after}

@@ -1,3 +1,4 @@
+-- `remove_leftover` adds one change, so other names and earlier moments stay as they were.
 use Rattle.named_files.specs.MemoryFolders.{changes_of, nothing_first}
 use Rattle.named_files.proofs.Logs.{no_more_others, time_goes_on}
 use Rattle.named_files.proofs.memory_folder.MemoryFolderFolder.remove_leftover.Goals as goal

@@ -1,3 +1,4 @@
+-- `rename` adds one change, by which the name leads to the new file, so other names and earlier moments stay.
 use Rattle.std.proofs.Common.{◌≡◌, ◌∙◌, ◌∷◌, ap, ap₂, false}
 use Rattle.std.specs.Option.{option_map}
 use Rattle.std.specs.String.{string_bytes}

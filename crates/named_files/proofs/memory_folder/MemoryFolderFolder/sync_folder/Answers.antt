@@ -1,3 +1,4 @@
+-- `sync_folder` adds one change, after which a crash leaves no more than before it.
 use Rattle.named_files.specs.MemoryFolders.{changes_of, nothing_first}
 use Rattle.named_files.proofs.Logs.{no_more_synced, time_goes_on}
 use Rattle.named_files.proofs.memory_folder.MemoryFolderFolder.sync_folder.Goals as goal
