@@ -25,7 +25,7 @@ module _ {D : Type 0} (moment : D → ℕ) (left_since : D → ℕ → List ℕ 
     pub here : (n : List ℕ) (c : Entry) → may_leave now n c → Left n c
 
   left_before : (n : List ℕ) (c : Entry) → may_leave old n c → Left n c
-  left_before n c left = (λ _. left, λ e. inl (subst (λ m. may_leave old m c) e left))
+  left_before n c left = (λ _. left, λ e is_apart. inl (subst (λ m. may_leave old m c) e left))
 
   -- before the first call
   pub at_first : ((n : List ℕ) (c : Entry) → left_since old (moment old) n c → may_leave old n c) → LeaveOnlyThat old
@@ -44,14 +44,14 @@ module _ {D : Type 0} (moment : D → ℕ) (left_since : D → ℕ → List ℕ 
   }
 
   -- what a call leaves that changes what has the passing name
-  pub left_under_passing : (mid new : D) → apart old name passing ≡ true → LeaveOnlyThat mid
+  pub left_under_passing : (mid new : D) → LeaveOnlyThat mid
       → ((a b : List ℕ) → apart mid a b ≡ apart old a b)
       → LeavesNoMoreWhere (λ n. apart mid n passing) (may_leave mid) (may_leave new)
       → (n : List ℕ) (c : Entry) → may_leave new n c → Left n c
-  left_under_passing mid new is_apart so_far same less n c left =
+  left_under_passing mid new so_far same less n c left =
       let stays = λ (h : apart old n passing ≡ true). so_far.here n c (less n c (same n passing ∙ h) left) in (
         λ both. (stays (both_first (apart old n passing) (apart old n name) both)).0 both,
-        λ e. (stays (subst (λ m. apart old m passing ≡ true) (sym e) is_apart)).1 e,
+        λ e is_apart. (stays (subst (λ m. apart old m passing ≡ true) (sym e) is_apart)).1 e is_apart,
       )
 
   -- what a rename leaves of a file that is on the disk
@@ -62,7 +62,7 @@ module _ {D : Type 0} (moment : D → ℕ) (left_since : D → ℕ → List ℕ 
       → (n : List ℕ) (c : Entry) → may_leave new n c → Left n c
   left_by_rename new may_hold less named whole n c left = (
     λ both. less n c both left,
-    λ e. ⊎_elim inl (λ h. inr (h.0, whole h.0 h.1, h.2)) (named c (subst (λ m. may_leave new m c) e left)),
+    λ e is_apart. ⊎_elim inl (λ h. inr (h.0, whole h.0 h.1, h.2)) (named c (subst (λ m. may_leave new m c) e left)),
   )
 
   -- a rename, as the first call, of a file that is on the disk
@@ -77,17 +77,18 @@ module _ {D : Type 0} (moment : D → ℕ) (left_since : D → ℕ → List ℕ 
       after_call old new (at_first only_now) time (left_by_rename new may_hold less named whole)
 
   -- a file was made, and then it took its name
-  pub after_taking : (mid new : D) → apart old name passing ≡ true → LeaveOnlyThat mid
+  pub after_taking : (mid new : D) → LeaveOnlyThat mid
       → ((a b : List ℕ) → apart mid a b ≡ apart old a b)
       → LeavesNoMoreWhere (λ n. apart old n passing) (may_leave old) (may_leave mid)
       → LeavesOnly moment left_since mid new (Replaces (apart mid) (may_leave mid) passing name taken)
       → LeavesOnly moment left_since old new Left
-  after_taking mid new is_apart so_far same less later =
+  after_taking mid new so_far same less later =
       joins moment left_since old mid new Left (Replaces (apart mid) (may_leave mid) passing name taken)
       so_far.run later (λ n c left. (
         λ both. less n c (both_first (apart old n passing) (apart old n name) both)
             (left.0 ((λ i. same n passing i && same n name i) ∙ both)),
-        λ e. ⊎_elim (λ before. inl (less name c is_apart before)) inr (left.1 e),
+        λ e is_apart. ⊎_elim (λ before. inl (less name c is_apart before)) inr
+            (left.1 e (same name passing ∙ is_apart)),
       ))
 
 -- what was sent to a new file

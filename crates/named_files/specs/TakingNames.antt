@@ -3,21 +3,24 @@ use Rattle.std.specs.Prelude.{◌≡◌, ◌⊎◌, ℕ, Bool, true, false, List
 use Rattle.named_files.specs.Entries.{Entry, IsFileOf}
 use Rattle.named_files.specs.declared.name_fault.NameFault.{NameFault}
 use Rattle.named_files.specs.declared.name_fault.NameFault.TheVariants.{NotNamed, NotSynced}
+use Rattle.named_files.specs.declared.refusal.Refusal.TheVariants.{Refused}
 
 -- these are all bytes that a new file has taken, if that is known
 abbrev pub AreAll : Option (List ℕ) → List ℕ → Type 0
 AreAll taken bytes = IfSome taken (λ all. bytes ≡ all)
 
--- While a file is made for a name, under a passing name, a crash leaves under the name what it might have left before,
--- or the whole new file; and under each name that is apart from both what it might have left before.
+-- While a file is made for a name, under a passing name, a crash leaves under each name that is apart from both what it
+-- might have left before. Under the name itself, if it is apart from the passing name, it leaves that or the whole new
+-- file.
 abbrev pub Replaces : (List ℕ → List ℕ → Bool) → (List ℕ → Entry → Type 0) → List ℕ → List ℕ → Option (List ℕ) → List ℕ
     → Entry → Type 0
 Replaces apart may_leave passing name taken n c =
     ((apart n passing && apart n name) ≡ true → may_leave n c)
-    × (n ≡ name → may_leave name c ⊎ IsFileOf (AreAll taken) c)
+    × (n ≡ name → apart name passing ≡ true → may_leave name c ⊎ IsFileOf (AreAll taken) c)
 
 -- The calls by which a file takes its name. It is on the disk when it is renamed, and then its name is brought to the
--- disk. A file that isn't on the disk, or couldn't be renamed, is removed.
+-- disk. A file is removed if it couldn't be brought to the disk, which is never for lack of memory, or if it couldn't
+-- be renamed.
 abbrev pub TakesName : {D : Type 0} → (D → List ℕ → Bool → Bool → D → Type 0) → (D → List ℕ → Bool → D → Type 0)
     → (D → D → Type 0) → List ℕ → Result (Unit {0}) NameFault → D → D → Type 0
 TakesName {D} renames syncs discards name (Ok done) old new =
@@ -25,4 +28,4 @@ TakesName {D} renames syncs discards name (Ok done) old new =
 TakesName {D} renames syncs discards name (Err (NotSynced why)) old new =
     (named : D) × renames old name true true named × syncs named name false new
 TakesName {D} renames syncs discards name (Err (NotNamed why)) old new =
-    discards old new ⊎ ((kept : D) × renames old name true false kept × discards kept new)
+    ((why ≡ Refused) × discards old new) ⊎ ((kept : D) × renames old name true false kept × discards kept new)

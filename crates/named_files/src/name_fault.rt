@@ -6,7 +6,8 @@ use thiserror::Error;
 /// Why a file didn't take its name for good.
 #[derive(Clone, Copy, Debug, Error)]
 pub enum NameFault {
-    /// The file doesn't have the name, and was removed. The name leads to what it led to before.
+    /// The file doesn't have the name, and was removed. A name that is apart from the passing name leads to what it led to
+    /// before.
     #[error("the file was not made: {0}")]
     NotNamed(Refusal),
     /// The file has the name, but the name isn't on the disk. A crash may still leave what had the name before.

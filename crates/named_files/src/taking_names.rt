@@ -16,8 +16,9 @@ use std::alloc::Global;
 ///
 /// # Errors
 ///
-/// `NotNamed` if the file can't be brought to the disk or renamed: then it is removed, and the name leads to what it
-/// led to before. `NotSynced` if only the name can't be brought to the disk: then the file has it.
+/// `NotNamed` if the file can't be brought to the disk or renamed: then it is removed, and a name that is apart from the
+/// passing name leads to what it led to before. `NotSynced` if only the name can't be brought to the disk: then the file
+/// has it.
 pub fn take_name<F: Folder>(
     folder: &mut F,
     alloc: Global,
@@ -26,16 +27,17 @@ pub fn take_name<F: Folder>(
     name: &str,
 ) -> Result<(), NameFault>
     requires making { F.making folder.old ≡ Some passing.now }
-    requires apart { F.apart folder.old name.now passing.now ≡ true }
     requires count { F.New.failures new < 2 ^ 64 - 1 }
-    // The name leads to all that was written; or, without the name, to what it led to before.
+    // The name leads to all that was written; or, without the name, to what it led to before, if it is apart from the
+    // passing name.
     ensures named { has_name result ≡ true → Leads (F.holds folder.new name.now) (F.New.taken new) }
-    ensures not_named { has_name result ≡ false
+    ensures not_named { has_name result ≡ false → F.apart folder.old name.now passing.now ≡ true
         → F.holds folder.new name.now ≡ F.holds folder.old name.now }
     // Each other name leads to what it led to before.
     ensures others { SameWhere (λ n. F.apart folder.old n passing.now
         && F.apart folder.old n name.now) (F.holds folder.old) (F.holds folder.new) }
-    // A crash at any moment of the call leaves under the name what it might have left before, or the whole new file.
+    // A crash at any moment of the call leaves under the name, if it is apart from the passing name, what it might have
+    // left before, or the whole new file.
     ensures any_moment { LeavesOnly F.moment F.left_since folder.old folder.new
         (Replaces (F.apart folder.old) (F.may_leave folder.old) passing.now name.now
         (F.New.taken new)) }
@@ -69,8 +71,8 @@ pub fn take_name<F: Folder>(
 ///
 /// # Errors
 ///
-/// `NotNamed` if the file can't be made, written or renamed: then it is removed, and the name leads to what it led to
-/// before. `NotSynced` if only the name can't be brought to the disk: then the file has it.
+/// `NotNamed` if the file can't be made, written or renamed: then it is removed, and a name that is apart from the passing
+/// name leads to what it led to before. `NotSynced` if only the name can't be brought to the disk: then the file has it.
 pub fn replace_file<F: Folder>(
     folder: &mut F,
     alloc: Global,
@@ -80,18 +82,19 @@ pub fn replace_file<F: Folder>(
     bytes: &[u8],
 ) -> Result<(), NameFault>
     requires making { F.making folder.old ≡ None }
-    requires apart { F.apart folder.old name.now passing.now ≡ true }
     // What is reported agrees only if what was reported before does.
     ensures earlier { F.agree reports.new ≡ true → F.agree reports.old ≡ true }
     ensures right { F.reports_are_right → F.agree reports.new ≡ F.agree reports.old }
-    // The name leads to exactly these bytes; or, without the name, to what it led to before.
+    // The name leads to exactly these bytes; or, without the name, to what it led to before, if it is apart from the
+    // passing name.
     ensures named { has_name result ≡ true → F.holds folder.new name.now ≡ File bytes.now }
-    ensures not_named { has_name result ≡ false
+    ensures not_named { has_name result ≡ false → F.apart folder.old name.now passing.now ≡ true
         → F.holds folder.new name.now ≡ F.holds folder.old name.now }
     // Each other name leads to what it led to before.
     ensures others { SameWhere (λ n. F.apart folder.old n passing.now
         && F.apart folder.old n name.now) (F.holds folder.old) (F.holds folder.new) }
-    // A crash at any moment of the call leaves under the name what it might have left before, or the whole new file.
+    // A crash at any moment of the call leaves under the name, if it is apart from the passing name, what it might have
+    // left before, or the whole new file.
     ensures any_moment { LeavesOnly F.moment F.left_since folder.old folder.new
         (Replaces (F.apart folder.old) (F.may_leave folder.old) passing.now name.now
         (Some bytes.now)) }

@@ -1,10 +1,34 @@
 -- `replace_file` leaves the old file or the whole new one: its moments are those of `create`, and then of `take_name`.
 use Rattle.std.proofs.Common.{Some, refl}
-use Rattle.named_files.specs.Crashes.{LeavesOnly}
+use Rattle.named_files.specs.Crashes.{LeavesNoMoreWhere, LeavesOnly}
 use Rattle.named_files.specs.TakingNames.{Replaces}
 use Rattle.named_files.proofs.Steps.{at_first, after_call, after_taking, left_under_passing, sent_whole}
 use Rattle.named_files.proofs.taking_names.replace_file.Goals as goal
 
+-- the file can't be written, and then it is removed
+pub returns-in-Err-send-clause-any_moment : goal.returns-in-Err-send-clause-any_moment
+returns-in-Err-send-clause-any_moment g c =
+    let F = g.F.Folder in
+    let old = c.args.folder.now in
+    let mid = c.create.new.self in
+    let new = c.discard.new.self in
+    let passing = c.args.passing.now in
+    let name = c.args.name.now in
+    let taken = Some c.args.bytes.now in
+    let first = at_first F.moment F.left_since F.may_leave F.apart old passing name taken
+    (g.met.F.Folder.only_now old) in
+    let created = after_call F.moment F.left_since F.may_leave F.apart old passing name taken
+    old mid first c.create.ensures.time
+    (left_under_passing F.moment F.left_since F.may_leave F.apart old passing name taken
+    old mid first (λ a b. refl) c.create.ensures.crash) in
+    let gone : LeavesNoMoreWhere (λ n. F.apart mid n passing) (F.may_leave mid) (F.may_leave new) =
+    rw c.in-Ok.ensures.making at c.discard.ensures.crash in
+    (after_call F.moment F.left_since F.may_leave F.apart old passing name taken
+    mid new created c.discard.ensures.time
+    (left_under_passing F.moment F.left_since F.may_leave F.apart old passing name taken
+    mid new created c.create.ensures.apart gone)).run
+
+-- the file is written, and then it takes its name
 pub returns-clause-any_moment : goal.returns-clause-any_moment
 returns-clause-any_moment g c =
     let F = g.F.Folder in
@@ -21,8 +45,8 @@ returns-clause-any_moment g c =
     let created = after_call F.moment F.left_since F.may_leave F.apart old passing name taken
     old mid first c.create.ensures.time
     (left_under_passing F.moment F.left_since F.may_leave F.apart old passing name taken
-    old mid c.requires.apart first (λ a b. refl) c.create.ensures.crash) in
+    old mid first (λ a b. refl) c.create.ensures.crash) in
     let later : LeavesOnly F.moment F.left_since mid new (Replaces (F.apart mid) (F.may_leave mid) passing name taken) =
     rw sent at c.take_name.ensures.any_moment in
     after_taking F.moment F.left_since F.may_leave F.apart old passing name taken
-    mid new c.requires.apart created c.create.ensures.apart c.create.ensures.crash later
+    mid new created c.create.ensures.apart c.create.ensures.crash later

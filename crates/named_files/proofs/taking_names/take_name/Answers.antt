@@ -26,7 +26,7 @@ returns-in-Err-rename-clause-any_moment g c =
     (after_call F.moment F.left_since F.may_leave F.apart old passing name taken
     mid new renamed c.discard-in-Err-rename.ensures.time
     (left_under_passing F.moment F.left_since F.may_leave F.apart old passing name taken
-    mid new c.requires.apart renamed c.rename.ensures.apart gone)).run
+    mid new renamed c.rename.ensures.apart gone)).run
 
 -- it is renamed, and then its name is brought to the disk
 pub returns-clause-any_moment : goal.returns-clause-any_moment
