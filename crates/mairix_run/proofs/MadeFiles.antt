@@ -1,11 +1,16 @@
 -- How a name ends, for which name a run is stopped while a file is made, and by which calls the file is made.
 use Rattle.std.proofs.Common.{◌≡◌, ap, sym, ℕ, nat_eq, Bool, true, false, if◌then◌else◌, List, Option, None, Some}
-use Rattle.std.proofs.Common.{◌⊎◌, inl, inr}
+use Rattle.std.proofs.Common.{◌⊎◌, inl, inr, refl, arith, Err}
 use Rattle.std.proofs.lemmas.Str.Pattern.{ends_text}
 use Rattle.std.specs.Bool.{MatchBool}
 use Rattle.std.specs.List.{ends_with}
 use Rattle.std.specs.Str.Pattern.{FindsTextSuffix, HasSuffixMatch}
-use Rattle.mairix_run.specs.MadeFiles.{IsCleared, IsRefusal, MakesFile}
+use Rattle.named_files.specs.Refusals.{HasCause, refusal_of}
+use Rattle.named_files.specs.TakingNames.{TakesName}
+use Rattle.named_files.specs.declared.name_fault.NameFault.{NameFault}
+use Rattle.named_files.specs.declared.name_fault.NameFault.TheVariants.{NotNamed, NotSynced}
+use Rattle.named_files.specs.declared.refusal.Refusal.TheVariants as why
+use Rattle.mairix_run.specs.MadeFiles.{IsCleared, IsRefusal, MakesFile, RunsOut, unfit_name}
 use Rattle.mairix_run.specs.Stops.{IsStoppedAt}
 use Rattle.mairix_run.specs.declared.stopped.Stopped.{Stopped}
 use Rattle.mairix_run.specs.declared.stopped.Stopped.TheVariants as by
@@ -58,3 +63,22 @@ module _ {D : Type 0} (removes creates : D → List ℕ → Bool → D → Type 
       → MakesFile removes creates passing false old new
   makes_none old new (inl same) = inl same
   makes_none old new (inr removed) = inr (inl removed)
+
+-- ---- why a file doesn't take its name
+
+-- names that fit are apart from one another
+pub apart_of_fit : (apart : List ℕ → List ℕ → Bool) (read : List (List ℕ)) (passing name : List ℕ)
+    → unfit_name apart read passing name ≡ None → apart name passing ≡ true
+apart_of_fit apart read passing name fit = grind arith
+
+-- it has a cause, or memory ran out
+pub fails_to_take : {D : Type 0} (renames : D → List ℕ → Bool → Bool → D → Type 0)
+    (syncs : D → List ℕ → Bool → D → Type 0) (discards : D → D → Type 0) (name : List ℕ) (old new : D) (C : Type 0)
+    (fault : NameFault) → TakesName renames syncs discards name (Err fault) old new → HasCause (refusal_of fault) C
+    → C ⊎ RunsOut renames syncs discards name old new
+fails_to_take renames syncs discards name old new C (NotNamed why.Refused) taken cause = inl cause
+fails_to_take renames syncs discards name old new C (NotSynced why.Refused) taken cause = inl cause
+fails_to_take renames syncs discards name old new C (NotNamed why.Memory) taken cause =
+    inr (NotNamed why.Memory, refl, taken)
+fails_to_take renames syncs discards name old new C (NotSynced why.Memory) taken cause =
+    inr (NotSynced why.Memory, refl, taken)

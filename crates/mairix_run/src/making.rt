@@ -4,8 +4,8 @@ ghost use Rattle.named_files.specs.Crashes.{LeavesNoMoreWhere, LeavesOnly};
 ghost use Rattle.named_files.specs.Entries.{Entry, File, Leads, SameWhere};
 ghost use Rattle.named_files.specs.Refusals.{HasCause};
 ghost use Rattle.named_files.specs.TakingNames.{Replaces};
-ghost use Rattle.mairix_run.specs.MadeFiles.{IsRefusal, IsSettled, MakesFile, SettlesFile, has_last_part, is_open_to, is_special, taken_name, unfit_name};
-ghost use Rattle.mairix_run.specs.ReadFiles.{names_read};
+ghost use Rattle.mairix_run.specs.MadeFiles.{IsRefusal, IsSettled, MakesFile, RunsOut, SettlesFile, has_last_part, is_open_to, is_special, taken_name, unfit_name};
+ghost use Rattle.mairix_run.specs.ReadFiles.{are_all_apart, names_read};
 
 use crate::read_names::ReadNames;
 use crate::stopped::Stopped;
@@ -25,10 +25,11 @@ pub fn passing_name(alloc: Global, name: &str) -> Result<String, AllocError>
 /// # Errors
 ///
 /// `CannotOpen`, with nothing touched, if the name has no last part; if another file under one of both names would change
-/// one that the run reads; and if the name leads to a device, a pipe or a socket. The same, with at most what a killed
-/// run left removed, if no file can be made under the passing name: another run is making its own there, or anything is
-/// there that no killed run left, or the system refuses. Otherwise lack of memory.
-#[tactic(auto, using(crate::proofs::MadeFiles::refused_unfit, crate::proofs::MadeFiles::refused_special, crate::proofs::MadeFiles::refused_passing))]
+/// one that the run reads; if another file under the passing name would change what the name leads to; and if the name
+/// leads to a device, a pipe or a socket. The same, with at most what a killed run left removed, if no file can be made
+/// under the passing name: another run is making its own there, or anything is there that no killed run left, or the
+/// system refuses. Otherwise lack of memory.
+#[tactic(auto, using(crate::proofs::MadeFiles::apart_of_fit, crate::proofs::MadeFiles::refused_unfit, crate::proofs::MadeFiles::refused_special, crate::proofs::MadeFiles::refused_passing))]
 pub fn create_file<F: Folder>(
     folder: &mut F,
     alloc: Global,
@@ -41,6 +42,9 @@ pub fn create_file<F: Folder>(
     // A file is made only if neither name is refused, whatever they lead to.
     ensures fit { OnOk result (F.agree reports.new ≡ true
         → unfit_name (F.apart folder.old) (names_read read.now) passing.now name.now ≡ None) }
+    // Then another file under the passing name doesn't change what the name leads to.
+    ensures names_apart { OnOk result (F.agree reports.new ≡ true
+        → F.apart folder.old name.now passing.now ≡ true) }
     ensures plain { OnOk result (F.agree reports.new ≡ true
         → (is_special (F.holds folder.old name.now) ≡ false) ⊎ F.can_refuse) }
     ensures free { OnOk result (F.agree reports.new ≡ true
@@ -84,7 +88,7 @@ pub fn create_file<F: Folder>(
 }
 
 /// Checks that a name has a last part, and that a file can take it, and before that a passing name, without changing one
-/// that the run reads.
+/// that the run reads; and the passing name also without changing what the name leads to.
 fn check_names<F: Folder>(
     folder: &F,
     alloc: Global,
@@ -108,11 +112,33 @@ fn check_names<F: Folder>(
     if !are_apart {
         return Err(Stopped::at(alloc, name));
     }
-    let are_apart = read.are_apart_from(folder, alloc, reports, passing)?;
-    if !are_apart {
+    let is_apart = is_passing_apart(folder, alloc, reports, passing, name, read)?;
+    if !is_apart {
         return Err(Stopped::at(alloc, passing));
     }
     Ok(())
+}
+
+/// Whether a file can take a passing name without changing one that the run reads, or what the name leads to.
+fn is_passing_apart<F: Folder>(
+    folder: &F,
+    alloc: Global,
+    reports: &mut F::Reports,
+    passing: &str,
+    name: &str,
+    read: &ReadNames<'_>,
+) -> Result<bool, AllocError>
+    ensures exact { IfOk result (λ is. F.agree reports.new ≡ true
+        → is ≡ (are_all_apart (F.apart folder.now) (names_read read.now) passing.now
+        && F.apart folder.now name.now passing.now)) }
+    ensures earlier { F.agree reports.new ≡ true → F.agree reports.old ≡ true }
+    ensures right { F.reports_are_right → F.agree reports.new ≡ F.agree reports.old }
+{
+    let are_apart = read.are_apart_from(folder, alloc, reports, passing)?;
+    if !are_apart {
+        return Ok(false);
+    }
+    folder.is_apart(alloc, reports, name, passing)
 }
 
 /// Whether a name has a last part.
@@ -185,6 +211,7 @@ fn make_file<F: Folder>(
 
 /// Gives a file its name if all of it was written, and returns the status; otherwise removes it, and returns the fault of
 /// the run. If the name can't be given or brought to the disk, the output has failed.
+#[tactic(auto, using(crate::proofs::MadeFiles::fails_to_take))]
 pub fn settle_file<F: Folder>(
     folder: &mut F,
     alloc: Global,
@@ -194,18 +221,24 @@ pub fn settle_file<F: Folder>(
     written: Result<u8, Fault>,
 ) -> Result<u8, Fault>
     requires making { F.making folder.old ≡ Some passing.now }
-    requires apart { F.apart folder.old name.now passing.now ≡ true }
     requires count { F.New.failures new < 2 ^ 64 - 1 }
     ensures status { IsSettled written result }
+    // The output fails only with a cause, or if memory ran out as the file was to take its name.
+    ensures refused { OnOk written (OnErr result ((F.can_refuse ⊎ F.writes_can_fail)
+        ⊎ RunsOut F.renames F.syncs F.discards name.now folder.old folder.new)) }
     // With a status, the name leads to all that was written.
     ensures named { OnOk result (Leads (F.holds folder.new name.now) (F.New.taken new)) }
-    // After a fault of the run, it leads to what it led to before; if only the output failed, to one of both.
-    ensures not_named { OnErr written (F.holds folder.new name.now ≡ F.holds folder.old name.now) }
-    ensures old_or_new { (F.holds folder.new name.now ≡ F.holds folder.old name.now)
+    // After a fault of the run, a name that is apart from the passing name leads to what it led to before; if only the
+    // output failed, to one of both.
+    ensures not_named { OnErr written (F.apart folder.old name.now passing.now ≡ true
+        → F.holds folder.new name.now ≡ F.holds folder.old name.now) }
+    ensures old_or_new { F.apart folder.old name.now passing.now ≡ true
+        → (F.holds folder.new name.now ≡ F.holds folder.old name.now)
         ⊎ Leads (F.holds folder.new name.now) (F.New.taken new) }
     ensures others { SameWhere (λ n. F.apart folder.old n passing.now
         && F.apart folder.old n name.now) (F.holds folder.old) (F.holds folder.new) }
-    // A crash at any moment of the call leaves under the name what it might have left before, or the whole new file.
+    // A crash at any moment of the call leaves under the name, if it is apart from the passing name, what it might have
+    // left before, or the whole new file.
     ensures any_moment { LeavesOnly F.moment F.left_since folder.old folder.new
         (Replaces (F.apart folder.old) (F.may_leave folder.old) passing.now name.now
         (F.New.taken new)) }
