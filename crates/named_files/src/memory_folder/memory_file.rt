@@ -1,5 +1,6 @@
 //! A file of a folder in memory that is read.
-ghost use Rattle.std.specs.Prelude.{◌≡◌, ◌≤◌, Some, length, min, take, drop};
+ghost use Rattle.std.specs.Prelude.{◌≡◌, ◌≤◌, ℕ, List, Some, length, min, take, drop};
+ghost use Rattle.contract_words.specs.Devices.{Counts};
 
 use crate::kept_file::KeptFile;
 use mbox_cutter::{DeviceFault, Source};
@@ -65,13 +66,35 @@ impl KeptFile for MemoryFile {
         Ok(self.bytes.len() as u64)
     }
 
-    fn state(&mut self) -> Result<(), DeviceFault> {
+    fn state(&mut self) -> Result<(), DeviceFault>
+        ensures known { Some self.new.bytes.items ≡ Some self.old.bytes.items }
+        ensures rest { Some (drop self.new.at self.new.bytes.items)
+            ≡ Some (drop self.old.at self.old.bytes.items) }
+        ensures whole { (bytes : List ℕ)
+            → self.old.bytes.items ≡ bytes → self.new.bytes.items ≡ bytes }
+        ensures count { Counts result 0 0 }
+    {
         Ok(())
     }
 
-    fn check_state(&mut self, _state: ()) -> Result<(), DeviceFault> {
-        Ok(())
+    fn check_state(&mut self, _state: ()) -> Result<(), DeviceFault>
+        ensures known { Some self.new.bytes.items ≡ Some self.old.bytes.items }
+        ensures rest { Some (drop self.new.at self.new.bytes.items)
+            ≡ Some (drop self.old.at self.old.bytes.items) }
+        ensures whole { (bytes : List ℕ)
+            → self.old.bytes.items ≡ bytes → self.new.bytes.items ≡ bytes }
+        ensures count { Counts result 0 0 }
+    {
+        self.state()
     }
 
-    fn close(&mut self) {}
+    fn close(&mut self)
+        ensures known { Some self.new.bytes.items ≡ Some self.old.bytes.items }
+        ensures rest { Some (drop self.new.at self.new.bytes.items)
+            ≡ Some (drop self.old.at self.old.bytes.items) }
+        ensures whole { (bytes : List ℕ)
+            → self.old.bytes.items ≡ bytes → self.new.bytes.items ≡ bytes }
+    {
+        // Nothing in memory is to be closed.
+    }
 }
