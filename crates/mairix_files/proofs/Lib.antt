@@ -5,3 +5,4 @@ pub mod KitFiles
 pub mod NameSteps
 mod Numbered
 pub mod Pieces
+pub mod Writing

@@ -1,24 +1,12 @@
--- What a record of calls on names says after one more step, and that names that lead to two places differ.
-use Rattle.std.proofs.Common.{◌≡◌, ◌∙◌, ap, refl, ℕ, Bool, true, false, not, ◌&&◌, List, [], ◌∷◌, ◌++◌, map, Option}
+-- Names that lead to two places differ.
+use Rattle.std.proofs.Common.{◌≡◌, ap, refl, ℕ, Bool, true, false, not, ◌&&◌, List, Option}
 use Rattle.std.proofs.Common.{None, Some, IfSome, arith}
 use Rattle.std.proofs.lemmas.Bool.Decides.{nat_tests}
-use Rattle.std.proofs.lemmas.List.{reverse-append}
 use Rattle.std.proofs.lemmas.Slice.Eq.{bytes_eq-Decides}
 use Rattle.std.specs.Str.{bytes_eq}
 use Rattle.named_files.specs.Crashes.{LeavesNoMoreWhere}
 use Rattle.named_files.specs.Entries.{Entry}
-use Rattle.mairix_files.specs.declared.kit_step.KitStep.{KitStep}
-use Rattle.mairix_files.specs.NameCalls.{NameCall, are_apart, call_of, calls_of, changes_by, changes_of, place_of}
-
--- the step that is added is the newest one
-pub calls_more : (steps new : List KitStep) (step : KitStep) → new ≡ steps ++ step ∷ []
-    → calls_of new ≡ call_of step ∷ calls_of steps
-calls_more steps new step is = ap calls_of is ∙ ap (map call_of) (reverse-append steps (step ∷ []))
-
--- what one call more changes in a folder
-pub changed : (old mid new : List KitStep) (call : NameCall) → mid ≡ old → calls_of new ≡ call ∷ calls_of mid
-    → changes_of new ≡ changes_by (call ∷ calls_of old)
-changed old mid new call same is = ap changes_by (is ∙ ap (λ steps. call ∷ calls_of steps) same)
+use Rattle.mairix_files.specs.NameCalls.{are_apart, place_of}
 
 -- ---- names that lead to two places
 

@@ -3,5 +3,6 @@ pub mod Ahead
 pub mod EntryCodes
 pub mod KitFiles
 pub mod KitNews
+pub mod NameCallCodes
 pub mod NameCalls
 pub mod Reads

@@ -1,13 +1,9 @@
 -- The calls on names that were done, and what they make of a folder.
-use Rattle.std.specs.Prelude.{◌≡◌, ℕ, Bool, true, false, List, [], ◌∷◌, map, reverse, not, if◌then◌else◌}
+use Rattle.std.specs.Prelude.{◌≡◌, ℕ, Bool, true, false, List, [], ◌∷◌, not, if◌then◌else◌}
 use Rattle.std.specs.Str.{bytes_eq}
-use Rattle.std.specs.String.{string_bytes}
-use Rattle.call_record.specs.Calls.{taken_after}
 use Rattle.named_files.specs.Entries.{Entry, Nothing, File}
 use Rattle.named_files.specs.Logs.{Held, Change, Named, Synced, held_after}
 use Rattle.mairix_files.specs.declared.supposed_names.SupposedNames.{SupposedNames}
-use Rattle.mairix_files.specs.declared.kit_step.KitStep.{KitStep}
-use Rattle.mairix_files.specs.declared.kit_step.KitStep.TheVariants as step
 
 -- a call on a name that was done
 pub data NameCall : Type 0 where
@@ -22,20 +18,11 @@ pub data NameCall : Type 0 where
   -- what a killed run left under this name was removed
   Cleared : List ℕ → NameCall
 
-abbrev pub call_of : KitStep → NameCall
-call_of (step.Made name) = Made (string_bytes name)
-call_of (step.Renamed name kept written) = Renamed (string_bytes name) (taken_after written.calls) kept
-call_of (step.Kept name) = Kept (string_bytes name)
-call_of step.Discarded = Discarded
-call_of (step.Cleared name) = Cleared (string_bytes name)
-
--- the calls of these steps, the newest first
-abbrev pub calls_of : List KitStep → List NameCall
-calls_of steps = map call_of (reverse steps)
+-- The calls of a folder are a list, the newest first.
 
 -- a call was done, and no other
-abbrev pub GoesOn : Bool → NameCall → List KitStep → List KitStep → Type 0
-GoesOn done call old new = calls_of new ≡ (if done then call ∷ calls_of old else calls_of old)
+abbrev pub GoesOn : Bool → NameCall → List NameCall → List NameCall → Type 0
+GoesOn done call old new = new ≡ (if done then call ∷ old else old)
 
 -- what these calls change in a folder, if the system carries them out
 abbrev pub changes_by : List NameCall → List Change
@@ -47,10 +34,6 @@ changes_by (Kept name ∷ earlier) = Synced name ∷ changes_by earlier
 changes_by (Discarded ∷ earlier) = changes_by earlier
 changes_by (Cleared name ∷ earlier) =
     Named name (record { entry = Nothing; is_on_disk = true; is_left = false }) ∷ changes_by earlier
-
--- what these steps change in a folder
-abbrev pub changes_of : List KitStep → List Change
-changes_of steps = changes_by (calls_of steps)
 
 -- ---- what is supposed
 
@@ -73,6 +56,6 @@ abbrev pub supposed_first : SupposedNames → List ℕ → Held
 supposed_first supposed n =
     record { entry = entry_in supposed.entries (place_of supposed.links n); is_on_disk = true; is_left = false }
 
--- what a name leads to after these steps, if the system carries them out
-abbrev pub supposed_now : SupposedNames → List KitStep → List ℕ → Entry
-supposed_now supposed steps n = (held_after (supposed_first supposed) (changes_of steps) n).entry
+-- what a name leads to after these calls, if the system carries them out
+abbrev pub supposed_now : SupposedNames → List NameCall → List ℕ → Entry
+supposed_now supposed calls n = (held_after (supposed_first supposed) (changes_by calls) n).entry

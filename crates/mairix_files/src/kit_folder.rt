@@ -1,15 +1,16 @@
 //! The system's files, by their names.
-ghost use Rattle.std.specs.Prelude.{◌≡◌, ◌≤◌, ◌<◌, ◌+◌, ◌∷◌, [], ⊤, ℕ, List, true, false, Some, None, not, length, vec_len, vec_capacity, IfOk, IfSome};
-ghost use Rattle.std.proofs.Common.{arith};
-ghost use Rattle.std.specs.Option.{ForSome, option_map, unwrap_or};
+ghost use Rattle.std.specs.Prelude.{◌≡◌, [], ⊤, ℕ, List, true, Some, None, length, IfOk, IfSome};
+ghost use Rattle.std.specs.Option.{option_map};
 ghost use Rattle.std.specs.String.{string_bytes};
 ghost use Rattle.named_files.specs.Logs.{held_after, MayLeave, MayHaveLeft, left_now, only_left};
-ghost use Rattle.mairix_files.specs.NameCalls.{Made, Renamed, Kept, Discarded, Cleared, GoesOn, are_apart, call_of, calls_of, changes_of, supposed_first, supposed_now};
+ghost use Rattle.mairix_files.specs.NameCalls.{Made, Renamed, Kept, Discarded, Cleared, GoesOn, are_apart, changes_by, supposed_first, supposed_now};
 
+use crate::kit_calls::{
+    KitCalls, note_cleared, note_discarded, note_kept, note_made, note_renamed,
+};
 use crate::kit_file::KitFile;
-use crate::kit_new::KitNew;
+use crate::kit_new::{KitNew, gathering_room};
 use crate::kit_reports::{KitReports, note_apart, note_file, note_more, note_told};
-use crate::kit_step::KitStep;
 use crate::leftover::lock_leftover;
 use crate::names::{Place, leads_to_processes};
 use crate::new_file::{make_marked, remove_named, rename_named, set_mode, sync_folder};
@@ -31,11 +32,10 @@ use std::{fs, io};
 #[derive(Drop)]
 pub struct KitFolder<'r, R: Files<File = File>> {
     rt: &'r R,
+    /// The name under which a file is made.
     passing: Option<String>,
-    steps: Vec<KitStep>,
+    calls: KitCalls,
     supposed: SupposedNames,
-    // The file that is made can take its name or be removed without memory.
-    ghost room: { ForSome passing (λ _. vec_len steps < vec_capacity steps) },
 }
 
 /// A file of the system that a killed run left. It is locked.
@@ -47,15 +47,15 @@ pub struct KitLeft {
 
 impl<'r, R: Files<File = File>> KitFolder<'r, R> {
     /// Returns the files of the system, of which none is made yet.
-    pub fn new(rt: &'r R, alloc: Global, supposed: SupposedNames) -> KitFolder<'r, R>
+    pub fn new(rt: &'r R, supposed: SupposedNames) -> KitFolder<'r, R>
         ensures none { ⟦<KitFolder<'r, R> as Folder>⟧.making result ≡ None }
-        ensures calls { calls_of result.steps.items ≡ [] }
+        ensures calls { result.calls.done ≡ [] }
         ensures supposed { result.supposed ≡ supposed }
     {
         KitFolder {
             rt,
             passing: None,
-            steps: Vec::new(alloc),
+            calls: KitCalls::new(),
             supposed,
         }
     }
@@ -70,7 +70,7 @@ fn refusal_of(error: io::Error) -> Refusal {
 }
 
 /// Returns a record without calls, which supposes the bytes of one file, or no file.
-fn supposing(_steps: &[KitStep], _supposed: &SupposedNames, _name: &[u8]) -> Record
+fn supposing(_calls: &KitCalls, _supposed: &SupposedNames, _name: &[u8]) -> Record
     ghost files: { List (List ℕ) }
     ensures { (result.supposed ≡ files) × (result.calls ≡ []) }
 {
@@ -124,30 +124,14 @@ fn leftover_at<R: Files<File = File>>(
     }
 }
 
-/// Makes a new and empty file under a name, with the mark of a new file. If it can't be written to, it is removed.
+/// Makes a new and empty file under a name, with the mark of a new file. Without memory none is made.
 fn make_new<R: Files<File = File>>(rt: &R, alloc: Global, name: &str) -> io::Result<KitNew>
     ensures taken { IfOk result (λ new. ⟦<KitNew as Out>⟧.taken new ≡ Some []) }
     ensures fresh { IfOk result (λ new. ⟦<KitNew as Out>⟧.failures new ≡ 0) }
 {
+    let room = gathering_room(alloc)?;
     let file = make_marked(rt, name)?;
-    match KitNew::new(alloc, file) {
-        Ok(new) => Ok(new),
-        Err((error, file)) => {
-            remove_named(rt, &file, name);
-            Err(error)
-        }
-    }
-}
-
-/// Adds a step, for which there is room.
-#[tactic(auto, using(crate::proofs::NameSteps::calls_more))]
-fn add(steps: &mut Vec<KitStep>, step: KitStep)
-    requires { vec_len steps.old < vec_capacity steps.old }
-    ensures calls { calls_of steps.new.items ≡ call_of step ∷ calls_of steps.old.items }
-    ensures len { vec_len steps.new ≡ vec_len steps.old + 1 }
-    ensures capacity { vec_capacity steps.new ≡ vec_capacity steps.old }
-{
-    steps.push_reserved(step);
+    Ok(KitNew::new(file, room))
 }
 
 impl<'r, R: Files<File = File>> Folder for KitFolder<'r, R> {
@@ -161,26 +145,26 @@ impl<'r, R: Files<File = File>> Folder for KitFolder<'r, R> {
 
     ghost agree = { λ reports. reports.agree };
 
-    ghost holds = { λ f n. supposed_now f.supposed f.steps.items n };
+    ghost holds = { λ f n. supposed_now f.supposed f.calls.done n };
 
     ghost apart = { λ f a b. are_apart f.supposed.links a b };
 
     ghost making = { λ f. option_map string_bytes f.passing };
 
     ghost is_on_disk = { λ f n.
-        (held_after (supposed_first f.supposed) (changes_of f.steps.items) n).is_on_disk };
+        (held_after (supposed_first f.supposed) (changes_by f.calls.done) n).is_on_disk };
 
     ghost is_leftover = { λ _ _. true };
 
     ghost name_left = { λ left. string_bytes left.name };
 
     ghost may_leave = { λ f n c.
-        MayLeave (supposed_first f.supposed) (changes_of f.steps.items) n c };
+        MayLeave (supposed_first f.supposed) (changes_by f.calls.done) n c };
 
-    ghost moment = { λ f. length (changes_of f.steps.items) };
+    ghost moment = { λ f. length (changes_by f.calls.done) };
 
     ghost left_since = { λ f t n c.
-        MayHaveLeft (supposed_first f.supposed) (changes_of f.steps.items) t n c };
+        MayHaveLeft (supposed_first f.supposed) (changes_by f.calls.done) t n c };
 
     ghost reports_are_right = { ⊥ };
 
@@ -191,24 +175,24 @@ impl<'r, R: Files<File = File>> Folder for KitFolder<'r, R> {
     ghost writes_can_fail = { ⊤ };
 
     ghost creates = { λ old name done new.
-        GoesOn done (Made name) old.steps.items new.steps.items };
+        GoesOn done (Made name) old.calls.done new.calls.done };
 
     ghost renames = { λ old name kept done new. (bytes : List ℕ)
-        × GoesOn done (Renamed name bytes kept) old.steps.items new.steps.items };
+        × GoesOn done (Renamed name bytes kept) old.calls.done new.calls.done };
 
     ghost syncs = { λ old name done new.
-        GoesOn done (Kept name) old.steps.items new.steps.items };
+        GoesOn done (Kept name) old.calls.done new.calls.done };
 
-    ghost discards = { λ old new. GoesOn true Discarded old.steps.items new.steps.items };
+    ghost discards = { λ old new. GoesOn true Discarded old.calls.done new.calls.done };
 
     ghost removes = { λ old name done new.
-        GoesOn done (Cleared name) old.steps.items new.steps.items };
+        GoesOn done (Cleared name) old.calls.done new.calls.done };
 
     ghost counts_now = { λ f t n c le left.
-        left_now (supposed_first f.supposed) (changes_of f.steps.items) t n c le left };
+        left_now (supposed_first f.supposed) (changes_by f.calls.done) t n c le left };
 
     ghost only_now = { λ f n c left.
-        only_left (supposed_first f.supposed) (changes_of f.steps.items) n c left };
+        only_left (supposed_first f.supposed) (changes_by f.calls.done) n c left };
 
     ghost stays_known = { λ _ right. absurd right };
 
@@ -227,8 +211,7 @@ impl<'r, R: Files<File = File>> Folder for KitFolder<'r, R> {
     fn open(&self, _alloc: Global, name: &str) -> Result<KitFile, Refusal> {
         match fs::open(self.rt, name) {
             Ok(file) => {
-                let steps = self.steps.as_slice();
-                let record = supposing(steps, &self.supposed, name.as_bytes());
+                let record = supposing(&self.calls, &self.supposed, name.as_bytes());
                 Ok(KitFile::new(file, record))
             }
             Err(error) => Err(refusal_of(error)),
@@ -241,8 +224,7 @@ impl<'r, R: Files<File = File>> Folder for KitFolder<'r, R> {
 
     fn look(&self, alloc: Global, reports: &mut KitReports, name: &str) -> Result<Look, Refusal> {
         let look = look_at(self.rt, alloc, name);
-        let steps = self.steps.as_slice();
-        note_told(reports, steps, &self.supposed, name.as_bytes(), &look);
+        note_told(reports, &self.calls, &self.supposed, name.as_bytes(), &look);
         look
     }
 
@@ -271,21 +253,17 @@ impl<'r, R: Files<File = File>> Folder for KitFolder<'r, R> {
         name: &str,
     ) -> Result<Option<KitLeft>, Refusal> {
         let left = leftover_at(self.rt, alloc, name);
-        let steps = self.steps.as_slice();
-        note_told(reports, steps, &self.supposed, name.as_bytes(), &left);
+        note_told(reports, &self.calls, &self.supposed, name.as_bytes(), &left);
         left
     }
 
     fn remove_leftover(&mut self, _alloc: Global, left: KitLeft) -> Result<(), Refusal> {
         // With the lock, which is held until the name is gone.
         let KitLeft { file: _file, name } = left;
-        if self.steps.reserve(2).is_err() {
-            return Err(Refusal::Memory);
-        }
         if let Err(error) = fs::remove_file(self.rt, name.as_str()) {
             return Err(refusal_of(error));
         }
-        add(&mut self.steps, KitStep::Cleared(name));
+        note_cleared(&mut self.calls, name.as_bytes());
         Ok(())
     }
 
@@ -295,18 +273,13 @@ impl<'r, R: Files<File = File>> Folder for KitFolder<'r, R> {
         reports: &mut KitReports,
         name: &str,
     ) -> Result<KitNew, Refusal> {
-        let (Ok(passing), Ok(made)) = (String::from_str(alloc, name), String::from_str(alloc, name))
-        else {
+        let Ok(passing) = String::from_str(alloc, name) else {
             return Err(Refusal::Memory);
         };
-        if self.steps.reserve(2).is_err() {
-            return Err(Refusal::Memory);
-        }
         match make_new(self.rt, alloc, name) {
             Ok(new) => {
-                let steps = self.steps.as_slice();
-                note_told(reports, steps, &self.supposed, name.as_bytes(), &new);
-                add(&mut self.steps, KitStep::Made(made));
+                note_told(reports, &self.calls, &self.supposed, name.as_bytes(), &new);
+                note_made(&mut self.calls, name.as_bytes());
                 self.passing = Some(passing);
                 Ok(new)
             }
@@ -314,10 +287,7 @@ impl<'r, R: Files<File = File>> Folder for KitFolder<'r, R> {
         }
     }
 
-    fn rename(&mut self, alloc: Global, new: KitNew, name: &str) -> Result<(), (Refusal, KitNew)> {
-        let Ok(named) = String::from_str(alloc, name) else {
-            return Err((Refusal::Memory, new));
-        };
+    fn rename(&mut self, _alloc: Global, new: KitNew, name: &str) -> Result<(), (Refusal, KitNew)> {
         if !new.is_written() {
             return Err((Refusal::Refused, new));
         }
@@ -330,21 +300,16 @@ impl<'r, R: Files<File = File>> Folder for KitFolder<'r, R> {
             }
             Err(error) => return Err((refusal_of(error), new)),
         }
-        add(&mut self.steps, new.into_step(named));
+        let (written, is_kept) = new.into_written();
+        note_renamed(&mut self.calls, name.as_bytes(), &written, is_kept);
         self.passing = None;
         Ok(())
     }
 
-    fn sync_folder(&mut self, alloc: Global, name: &str) -> Result<(), Refusal> {
-        let Ok(kept) = String::from_str(alloc, name) else {
-            return Err(Refusal::Memory);
-        };
-        if self.steps.reserve(2).is_err() {
-            return Err(Refusal::Memory);
-        }
+    fn sync_folder(&mut self, _alloc: Global, name: &str) -> Result<(), Refusal> {
         match sync_folder(self.rt, name) {
             Ok(()) => {
-                add(&mut self.steps, KitStep::Kept(kept));
+                note_kept(&mut self.calls, name.as_bytes());
                 Ok(())
             }
             Err(error) => Err(refusal_of(error)),
@@ -357,7 +322,7 @@ impl<'r, R: Files<File = File>> Folder for KitFolder<'r, R> {
         };
         remove_named(self.rt, &new.file, passing.as_str());
         new.close();
-        add(&mut self.steps, KitStep::Discarded);
+        note_discarded(&mut self.calls);
         self.passing = None;
     }
 }

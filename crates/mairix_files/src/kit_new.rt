@@ -1,109 +1,185 @@
 //! A file of the system that is made.
-ghost use Rattle.std.specs.Prelude.{◌≡◌, [], true, Some, IfOk, IsTrue};
-ghost use Rattle.std.specs.Io.Buffered.{writer_buffer};
-ghost use Rattle.std.specs.String.{string_bytes};
+ghost use Rattle.std.specs.Prelude.{◌≡◌, ◌≤◌, ◌<◌, ◌+◌, ◌++◌, [], true, false, Some, IfOk, IsTrue, OnOk, length, take, drop, vec_len, vec_capacity};
+ghost use Rattle.std.specs.Io.KnownBytes.{WriteAppends};
+ghost use Rattle.call_record.specs.Calls.{taken_after};
+ghost use Rattle.call_record.specs.Noted.{Notes, write_told};
 ghost use Rattle.mairix_files.specs.KitNews.{bytes_put};
-ghost use Rattle.mairix_files.specs.NameCalls.{Renamed, call_of};
 
-use crate::kit_step::KitStep;
 use crate::retried::Retried;
-use call_record::NotedWriter;
+use call_record::{Record, write_noted};
 use mbox_cutter::{DeviceFault, Out};
 use named_files::NewFile;
-use std::alloc::Global;
+use std::alloc::{AllocError, Global};
 use std::fs::File;
 use std::io;
-use std::io::{BufWriter, Write};
 
 /// How many bytes are gathered before they are written.
 const GATHERED: usize = 65_536;
 
-/// A file of the system that is made, with a record of what was written to it. What is put into it is gathered first.
+/// A file of the system that is made, with a record of what was written to it. What is put into it is gathered first. It
+/// has one descriptor.
 pub struct KitNew {
     pub(crate) file: File,
-    /// Writes to the same file.
-    gathering: BufWriter<NotedWriter<Retried<File>>>,
+    /// What was put into it and isn't written yet. It never grows beyond its room.
+    gathered: Vec<u8>,
+    /// The writes to the file.
+    noted: Record,
     /// Whether all of it is on the disk.
     is_kept: bool,
     failures: u64,
     // What is on the disk was written.
-    ghost written: { is_kept ≡ true → writer_buffer gathering ≡ [] },
+    ghost written: { is_kept ≡ true → gathered.items ≡ [] },
+}
+
+/// Returns the memory for what is gathered.
+pub(crate) fn gathering_room(alloc: Global) -> Result<Vec<u8>, AllocError>
+    ensures { IfOk result (λ room. room.items ≡ []) }
+{
+    Vec::with_capacity(alloc, GATHERED)
 }
 
 impl KitNew {
-    /// Returns a new and empty file.
-    ///
-    /// # Errors
-    ///
-    /// If memory runs out, or if the system refuses to open the file once more.
-    pub(crate) fn new(alloc: Global, file: File) -> Result<KitNew, (io::Error, File)>
-        ensures taken { IfOk result (λ new. ⟦<KitNew as Out>⟧.taken new ≡ Some []) }
-        ensures fresh { IfOk result (λ new. ⟦<KitNew as Out>⟧.failures new ≡ 0) }
+    /// Returns a new and empty file, which gathers in this memory what is put into it.
+    pub(crate) fn new(file: File, room: Vec<u8>) -> KitNew
+        requires { room.items ≡ [] }
+        ensures taken { ⟦<KitNew as Out>⟧.taken result ≡ Some [] }
+        ensures fresh { ⟦<KitNew as Out>⟧.failures result ≡ 0 }
     {
-        match gathering_to(alloc, &file) {
-            Ok(gathering) => Ok(KitNew {
-                file,
-                gathering,
-                is_kept: false,
-                failures: 0,
-            }),
-            Err(error) => Err((error, file)),
+        KitNew {
+            file,
+            gathered: room,
+            noted: Record::new(),
+            is_kept: false,
+            failures: 0,
         }
     }
 
     /// Whether all that was put into it was written.
     pub(crate) fn is_written(&self) -> bool
-        ensures { IsTrue result → writer_buffer self.now.gathering ≡ [] }
+        ensures { IsTrue result → self.now.gathered.items ≡ [] }
     {
-        self.gathering.buffer().is_empty()
+        self.gathered.is_empty()
     }
 
-    /// Closes the file, all of which was written. Returns the step by which it was given this name.
-    pub(crate) fn into_step(self, name: String) -> KitStep
-        requires { writer_buffer self.gathering ≡ [] }
-        ensures { call_of result ≡ Renamed (string_bytes name) (bytes_put self.gathering) self.is_kept }
+    /// Closes the file, all of which was written. Returns the writes to it, and whether all of it is on the disk.
+    pub(crate) fn into_written(self) -> (Record, bool)
+        requires { self.gathered.items ≡ [] }
+        ensures bytes { taken_after result.0.calls ≡ bytes_put self.noted self.gathered.items }
+        ensures kept { result.1 ≡ self.is_kept }
     {
         let KitNew {
             file: _,
-            gathering,
+            gathered: _,
+            noted,
             is_kept,
             failures: _,
         } = self;
-        let (noted, _) = gathering.into_parts();
-        KitStep::Renamed(name, is_kept, noted.into_record())
+        (noted, is_kept)
     }
 
     /// Closes the file. What is gathered isn't written.
     pub(crate) fn close(self) {
         let KitNew {
             file: _,
-            gathering,
+            gathered: _,
+            noted: _,
             is_kept: _,
             failures: _,
         } = self;
-        let _ = gathering.into_parts();
+    }
+
+    /// Takes bytes from the front of a slice. They are gathered, unless they would fill the whole room: then they are
+    /// written at once. If there is no room for them, what was gathered before is written first.
+    fn take_front(&mut self, bytes: &[u8]) -> io::Result<usize>
+        requires some { 0 < length bytes.now }
+        requires open { self.old.is_kept ≡ false }
+        ensures bound { IfOk result (λ n. (0 < n) × (n ≤ length bytes.now)) }
+        ensures bytes { WriteAppends (Some (bytes_put self.old.noted self.old.gathered.items))
+            (Some (bytes_put self.new.noted self.new.gathered.items)) result bytes.now }
+        ensures same { (self.new.failures ≡ self.old.failures) × (self.new.is_kept ≡ false) }
+    {
+        if bytes.len() > self.gathered.capacity() - self.gathered.len() {
+            self.write_gathered()?;
+        }
+        if bytes.len() >= self.gathered.capacity() {
+            return write_once(&self.file, &mut self.noted, bytes);
+        }
+        append(&mut self.gathered, bytes);
+        Ok(bytes.len())
+    }
+
+    /// Writes all that is gathered. If that fails, what wasn't written stays gathered.
+    #[tactic(auto, using(crate::proofs::Writing::still_put))]
+    fn write_gathered(&mut self) -> io::Result<()>
+        requires { self.old.is_kept ≡ false }
+        ensures bytes { bytes_put self.new.noted self.new.gathered.items
+            ≡ bytes_put self.old.noted self.old.gathered.items }
+        ensures all { OnOk result (self.new.gathered.items ≡ []) }
+        ensures same { (self.new.failures ≡ self.old.failures) × (self.new.is_kept ≡ false) }
+    {
+        let (count, result) = write_front(&self.file, &mut self.noted, self.gathered.as_slice());
+        remove_front(&mut self.gathered, count);
+        result
     }
 }
 
-/// Returns a writer to a file that gathers what is written, and notes what the file takes.
-fn gathering_to(alloc: Global, file: &File) -> io::Result<BufWriter<NotedWriter<Retried<File>>>>
-    ensures { IfOk result (λ gathering.
-        ⟦<BufWriter<NotedWriter<Retried<File>>> as Write>⟧.contents gathering ≡ Some []) }
+/// Writes until all bytes are written or a write fails. Returns how many were written, and whether that failed.
+fn write_front(file: &File, noted: &mut Record, bytes: &[u8]) -> (usize, io::Result<()>)
+    ensures bound { result.0 ≤ length bytes.now }
+    ensures all { OnOk result.1 (result.0 ≡ length bytes.now) }
+    ensures bytes { taken_after «noted».new.calls
+        ≡ taken_after «noted».old.calls ++ take result.0 bytes.now }
 {
-    let noted = NotedWriter::new(Retried::new(file.try_clone()?));
-    BufWriter::with_capacity(alloc, GATHERED, noted)
+    let mut count = 0;
+    while count < bytes.len() {
+        match write_once(file, noted, &bytes[count..]) {
+            Ok(n) => count += n,
+            Err(error) => return (count, Err(error)),
+        }
+    }
+    (count, Ok(()))
+}
+
+/// Writes to a file once, and repeats that while a signal interrupts it. What the file took is noted.
+fn write_once(file: &File, noted: &mut Record, bytes: &[u8]) -> io::Result<usize>
+    requires { 0 < length bytes.now }
+    ensures bound { IfOk result (λ n. (0 < n) × (n ≤ length bytes.now)) }
+    ensures noted { Notes (write_told result bytes.now) noted.old noted.new }
+{
+    let mut writer = Retried::new(file);
+    write_noted(&mut writer, noted, bytes)
+}
+
+/// Removes bytes from the front of a buffer.
+fn remove_front(buffer: &mut Vec<u8>, count: usize)
+    requires { count ≤ vec_len buffer.old }
+    ensures { buffer.new.items ≡ drop count buffer.old.items }
+{
+    let length = buffer.len();
+    buffer.as_mut_slice().copy_within(count..length, 0);
+    buffer.truncate(length - count);
+}
+
+/// Appends bytes to a buffer that has room for them.
+fn append(buffer: &mut Vec<u8>, bytes: &[u8])
+    requires { vec_len buffer.old + length bytes.now ≤ vec_capacity buffer.old }
+    ensures { buffer.new.items ≡ buffer.old.items ++ bytes.now }
+{
+    let Ok(()) = buffer.extend_from_slice(bytes) else {
+        unreachable!();
+    };
 }
 
 impl Out for KitNew {
-    ghost taken = { λ new. Some (bytes_put new.gathering) };
+    ghost taken = { λ new. Some (bytes_put new.noted new.gathered.items) };
 
     ghost failures = { λ new. new.failures };
 
     fn put(&mut self, bytes: &[u8]) -> Result<usize, DeviceFault> {
         self.is_kept = false;
-        match self.gathering.write(bytes) {
-            Ok(n) if n > 0 => Ok(n),
-            _ => {
+        match self.take_front(bytes) {
+            Ok(n) => Ok(n),
+            Err(_) => {
                 self.failures += 1;
                 Err(DeviceFault)
             }
@@ -114,14 +190,14 @@ impl Out for KitNew {
 impl NewFile for KitNew {
     ghost is_kept = { λ new. new.is_kept };
 
-    ghost may_hold = { λ new c. new.is_kept ≡ true → c ≡ bytes_put new.gathering };
+    ghost may_hold = { λ new c. new.is_kept ≡ true → c ≡ bytes_put new.noted new.gathered.items };
 
     ghost kept_whole = { λ _ _ kept may. may kept };
 
     fn sync(&mut self) -> Result<(), DeviceFault> {
         self.is_kept = false;
-        let flushed = self.gathering.flush();
-        if flushed.is_ok() && self.file.sync_all().is_ok() {
+        let written = self.write_gathered();
+        if written.is_ok() && self.file.sync_all().is_ok() {
             self.is_kept = true;
             return Ok(());
         }

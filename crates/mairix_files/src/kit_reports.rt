@@ -3,8 +3,8 @@ ghost use Rattle.std.specs.Prelude.{◌≡◌, ◌&&◌, Bool, true};
 ghost use Rattle.std.specs.Borrow.{ftrue};
 ghost use Rattle.std.specs.Coded.{coded_bool};
 
+use crate::kit_calls::KitCalls;
 use crate::kit_file::KitFile;
-use crate::kit_step::KitStep;
 use crate::supposed_names::SupposedNames;
 use std::alloc::AllocError;
 use std::marker::{Model, PhantomData};
@@ -38,10 +38,10 @@ impl KitReports {
     {}
 }
 
-/// Notes what was reported of a name, as it is compared with what the name is supposed to lead to after the steps.
+/// Notes what was reported of a name, as it is compared with what the name is supposed to lead to after the calls.
 pub(crate) fn note_told<T>(
     reports: &mut KitReports,
-    _steps: &[KitStep],
+    _calls: &KitCalls,
     _supposed: &SupposedNames,
     _name: &[u8],
     _told: &T,

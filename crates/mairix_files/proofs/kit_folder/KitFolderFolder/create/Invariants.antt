@@ -6,4 +6,4 @@ use Rattle.mairix_files.proofs.kit_folder.KitFolderFolder.create.Given as goal
 -- whether it agrees
 abbrev pub ghost-note_told : goal.ghost-note_told
 ghost-note_told g a =
-    is_free (supposed_now a._supposed.now a._steps.now a._name.now)
+    is_free (supposed_now a._supposed.now a._calls.now.done a._name.now)

@@ -6,4 +6,4 @@ use Rattle.mairix_files.proofs.kit_folder.KitFolderFolder.find_leftover.Given as
 -- whether it agrees
 abbrev pub ghost-note_told : goal.ghost-note_told
 ghost-note_told g a =
-    told_left a._told.now (supposed_now a._supposed.now a._steps.now a._name.now)
+    told_left a._told.now (supposed_now a._supposed.now a._calls.now.done a._name.now)

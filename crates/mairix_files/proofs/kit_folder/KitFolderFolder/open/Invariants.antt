@@ -6,4 +6,4 @@ use Rattle.mairix_files.proofs.kit_folder.KitFolderFolder.open.Given as goal
 
 -- what is supposed of an open file is what its name leads to
 abbrev pub ghost-supposing : goal.ghost-supposing
-ghost-supposing g a = only (bytes_of (supposed_now a._supposed.now a._steps.now a._name.now))
+ghost-supposing g a = only (bytes_of (supposed_now a._supposed.now a._calls.now.done a._name.now))
