@@ -11,3 +11,4 @@ pub mod Reports
 pub mod Stops
 pub mod Streams
 pub mod WholeFiles
+pub mod WriterStreams
