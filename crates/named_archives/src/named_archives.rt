@@ -133,7 +133,7 @@ impl<'p, F: Folder> NamedArchives<'p, F> {
         self.open_file(n)
     }
 
-    /// Opens the file with this number.
+    /// Opens the file with this number. It has to be a plain file, since no other has a length or is read at any place.
     fn open_file(&mut self, n: u32) -> Result<(), DeviceFault>
         requires none { self.old.current ≡ None }
         requires below { n < length self.old.names.now }
@@ -147,7 +147,7 @@ impl<'p, F: Folder> NamedArchives<'p, F> {
     {
         match self
             .folder
-            .open(self.alloc, self.names[n as usize].as_str())
+            .open_plain(self.alloc, self.names[n as usize].as_str())
         {
             Ok(file) => {
                 let ahead = ReadAhead::new(self.alloc, file, self.states[n as usize]);

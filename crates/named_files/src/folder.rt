@@ -115,6 +115,22 @@ pub trait Folder {
         ensures refused { IfErr result (λ why. HasCause why
             ((bytes_of (holds self.now name.now) ≡ None) ⊎ can_refuse)) };
 
+    /// Opens a plain file, as `open` does. Anything else may be refused before it is opened, because a pipe isn't open
+    /// before something writes to it.
+    fn open_plain(&self, alloc: Global, name: &str) -> Result<Self::File, Refusal>
+        ensures rest { IfOk result (λ file.
+            Self.File.rest file ≡ bytes_of (holds self.now name.now)) }
+        ensures bytes { IfOk result (λ file.
+            Self.File.bytes file ≡ bytes_of (holds self.now name.now)) }
+        ensures whole { IfOk result (λ file. IfSome (bytes_of (holds self.now name.now))
+            (Self.File.whole file)) }
+        ensures fresh { IfOk result (λ file. Self.File.failures file ≡ 0) }
+        ensures refused { IfErr result (λ why. HasCause why
+            ((bytes_of (holds self.now name.now) ≡ None) ⊎ can_refuse)) }
+    {
+        self.open(alloc, name)
+    }
+
     /// Closes a file that was opened here, and takes over what was reported of its bytes.
     fn take_back(&self, reports: &mut Self::Reports, file: Self::File)
         ensures { agree reports.new ≡ (agree reports.old
