@@ -1,6 +1,7 @@
 //! A file of the system that is read.
-ghost use Rattle.std.specs.Prelude.{◌≡◌, ⊤, [], None};
+ghost use Rattle.std.specs.Prelude.{◌≡◌, ◌<◌, ◌-◌, ◌^◌, ⊤, ℕ, List, [], None, Some, IfOk};
 ghost use Rattle.contract_words.specs.Archives.{archive_at};
+ghost use Rattle.contract_words.specs.Devices.{Counts};
 ghost use Rattle.mairix_files.specs.KitFiles.{bytes_held, file_supposed, held_is_supposed, rest_held};
 
 use crate::file_state::FileState;
@@ -122,7 +123,15 @@ impl KeptFile for KitFile {
         Err(DeviceFault)
     }
 
-    fn state(&mut self) -> Result<FileState, DeviceFault> {
+    fn state(&mut self) -> Result<FileState, DeviceFault>
+        requires { self.old.failures < 2 ^ 64 - 1 }
+        ensures known { bytes_held self.new.record ≡ bytes_held self.old.record }
+        ensures rest { rest_held self.new.record ≡ rest_held self.old.record }
+        ensures whole { (bytes : List ℕ) → archive_at self.old.record.supposed 0 ≡ bytes
+            → archive_at self.new.record.supposed 0 ≡ bytes }
+        ensures found { IfOk result (λ state. self.new.state ≡ Some state) }
+        ensures count { Counts result self.old.failures self.new.failures }
+    {
         if let Some(opened) = &self.opened {
             if let Ok(found) = opened.file.metadata() {
                 let state = FileState::of(&found);
