@@ -2,7 +2,6 @@
 ghost use Rattle.std.specs.Prelude.{◌≡◌, ◌⊎◌, ◌<◌, ◌≤◌, ◌-◌, ◌+◌, ◌^◌, ◌++◌, ℕ, true, List, [], None, Some, length, IfOk, IfErr, OnOk, IsSome};
 ghost use Rattle.named_files.specs.Entries.{File, bytes_of};
 ghost use Rattle.named_files.specs.Refusals.{HasCause};
-ghost use Rattle.named_files.specs.declared.refusal.Refusal.TheVariants.{Memory};
 ghost use Rattle.mairix_run.specs.WholeFiles.{GivesRest};
 
 use mbox_cutter::{DeviceFault, Source};
@@ -60,14 +59,17 @@ fn read_file<K: KeptFile>(file: &mut K, bytes: &mut Vec<u8>) -> Result<(), Refus
     read_rest(file, &mut piece, bytes)
 }
 
-/// Takes the memory for the length of a file, if it has one.
+/// Takes the memory for the length of a file, if it has one. A file whose state the system doesn't show is refused.
 fn reserve_length<K: KeptFile>(file: &mut K, bytes: &mut Vec<u8>) -> Result<(), Refusal>
     requires { K.failures file.old ≡ 0 }
     ensures rest { K.rest file.new ≡ K.rest file.old }
     ensures same { bytes.new.items ≡ bytes.old.items }
     ensures count { K.failures file.new ≤ 1 }
-    ensures failed { IfErr result (λ why. why ≡ Memory) }
+    ensures failed { IfErr result (λ why. HasCause why (0 < K.failures file.new)) }
 {
+    if file.state().is_err() {
+        return Err(Refusal::Refused);
+    }
     let Ok(length) = file.length() else {
         return Ok(());
     };
