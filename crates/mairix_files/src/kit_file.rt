@@ -5,6 +5,7 @@ ghost use Rattle.contract_words.specs.Devices.{Counts};
 ghost use Rattle.mairix_files.specs.KitFiles.{bytes_held, file_supposed, held_is_supposed, rest_held};
 
 use crate::file_state::FileState;
+use crate::retried_reader::RetriedReader;
 use call_record::{NumberedFiles, Record, length_noted, read_at_noted, read_noted};
 use mbox_cutter::{DeviceFault, Source};
 use named_files::KeptFile;
@@ -83,7 +84,8 @@ impl Source for KitFile {
     fn read_next(&mut self, into: &mut [u8]) -> Result<usize, DeviceFault> {
         self.state = None;
         if let Some(opened) = &mut self.opened {
-            if let Ok(n) = read_noted(&mut opened.file, &mut self.record, into) {
+            let mut reader = RetriedReader::new(&opened.file);
+            if let Ok(n) = read_noted(&mut reader, &mut self.record, into) {
                 return Ok(n);
             }
         }

@@ -26,10 +26,10 @@ use std::{fs, io};
 
 /// The system's files, by their names, with a record of the calls that were done.
 ///
-/// `open` opens whatever has a name. A user's rcfile may be a pipe, and then `open` waits for a writer. What isn't a plain
-/// file may be supposed to be a `File` of the bytes that it gives up to its end. What is said of the bytes of a file is
-/// then said of these. But a look at such a name doesn't agree with that, nor does the length 0 of a file in `/proc`.
-/// `open_plain` first asks the system what a name leads to.
+/// `open` opens whatever has a name: a user's rcfile may be a pipe, and a program can open that only once another one
+/// writes to it. What isn't a plain file may be supposed to be a `File` of the bytes that it gives up to its end. What is
+/// said of the bytes of a file is then said of these. But a look at such a name doesn't agree with that, nor does the
+/// length 0 of a file in `/proc`. `open_plain` first asks the system what a name leads to.
 ///
 /// It supposes what names lead to at first, and which of them lead to one place. What they lead to later follows from
 /// the calls, if the system carries them out: a rename replaces a link, and not what the link leads to. Whatever is

@@ -17,6 +17,7 @@ mod names;
 mod new_file;
 mod read_ahead;
 mod retried;
+mod retried_reader;
 mod supposed_names;
 mod whole_file;
 

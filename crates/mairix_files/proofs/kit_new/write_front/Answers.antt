@@ -10,5 +10,6 @@ loop-count-preserved c = (
   omega (arith, length-drop c.loop-count.count c.args.bytes.now, c.in-Ok.ensures.bound.1, c.loop-count.invariant.0),
   more_written _ _ _ c.args.bytes.now c.loop-count.count c.in-Ok.n c.loop-count.invariant.1
       (ap taken_after c.in-Ok.ensures.noted.1
-      ∙ ap (λ l. taken_after c.loop-count.noted.calls ++ take c.in-Ok.n l) (take_rest c.args.bytes.now c.loop-count.count)),
+      ∙ ap (λ l. taken_after c.loop-count.noted.calls ++ take c.in-Ok.n l)
+      (take_rest c.args.bytes.now c.loop-count.count)),
 )

@@ -16,7 +16,8 @@ module _ (g : given.Over) (c : goal.Joined-self-2 g) where
   abbrev taken : Held
   taken = file_of (bytes_put c.args.new.noted c.args.new.gathered.items) c.args.new.is_kept false
 
-  newest : changes_by c.note_renamed.new.calls.done ≡ Named c.args.name.now taken ∷ changes_by c.args.self.now.calls.done
+  newest : changes_by c.note_renamed.new.calls.done
+      ≡ Named c.args.name.now taken ∷ changes_by c.args.self.now.calls.done
   newest = ap changes_by c.note_renamed.ensures
       ∙ ap (λ name. Named name (file_of (taken_after c.into_written-written.result.0.calls)
       c.into_written-written.result.1 false) ∷ changes_by c.args.self.now.calls.done) c.as_bytes.ensures.value
