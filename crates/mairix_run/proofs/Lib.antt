@@ -4,5 +4,7 @@ pub mod IndexedFiles
 pub mod MadeFiles
 pub mod NamedSources
 pub mod ReadFiles
+pub mod Replies
+pub mod SearchedArchives
 pub mod Taking
 pub mod WholeFiles

@@ -1,4 +1,5 @@
 -- The definitions of what a run prints at its end, of its status, and of the files that it reads and makes.
+pub mod Answered
 pub mod Clocks
 pub mod Flushing
 pub mod Gathered

@@ -1,6 +1,7 @@
 //! What a run of mairix does with files and streams: what it reads, which file it makes, what it prints and its status.
 #![tactic(auto)]
 
+mod answering;
 mod clock;
 mod flushing;
 mod gathered;
@@ -17,6 +18,7 @@ mod whole_file;
 mod worked_tellings;
 mod writer_stream;
 
+pub use answering::{Search, answer_names};
 pub use clock::moment_of;
 pub use flushing::flushed;
 pub use gathered::Gathered;

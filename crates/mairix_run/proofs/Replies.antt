@@ -1,0 +1,157 @@
+-- A run's reply as a result. An answer with a fault is the refusal with that fault, so nothing was sent.
+use Rattle.std.proofs.Common.{◌≡◌, ◌∙◌, ◌||◌, ℕ, Bool, true, false, List, [], Option, None, Some, Result, Ok, Err, Bor}
+use Rattle.std.proofs.Common.{is_err, refl, sym, ap, subst, inl, inr, append-nil, slice_index}
+use Rattle.std.specs.Bool.{MatchBool, OnTrue}
+use Rattle.std.specs.Io.KnownBytes.{Appends}
+use Rattle.contract_words.specs.Devices.{Counted, Sends}
+use Rattle.mail_answer.specs.Mail.{Search}
+use Rattle.mail_answer.specs.Stale.{stale_archive}
+use Rattle.mail_index.specs.Tables.{Table}
+use Rattle.mbox_cutter.specs.declared.event.CutFault.TheVariants.{Device}
+use Rattle.run_faults.specs.Faults.{fault_in, is_failed_source, is_failure, is_of_indexing}
+use Rattle.run_faults.specs.declared.fault.Fault.{Fault}
+use Rattle.run_faults.specs.declared.fault.Fault.TheVariants.{Archive, Index, OldIndex, Stale}
+use Rattle.mairix_tool.specs.Asked.{Wanted}
+use Rattle.mairix_tool.specs.Replies.{Answer, RefusesAsked, refused}
+use Rattle.mairix_tool.specs.Runs.{IsFoundIn, IsOldOr, IsProvedAndTold, IsReply, IsStaleOr, IsStoredReply}
+use Rattle.mairix_tool.specs.Runs.{IsThisOrMemory, IsTold, IsToldOf, RepliesBy, answered, is_too_old, renamed_archive}
+use Rattle.mairix_tool.specs.Runs.{unproved_archive}
+use Rattle.mairix_tool.specs.declared.reply.Reply.{Reply}
+use Rattle.mairix_run.specs.Answered.{AnswersBy, IsRefusedFirst, result_by, result_of_reply}
+
+-- ---- an answer with a fault is its refusal
+
+abbrev pub IsPlain : Answer → Type 0
+IsPlain answer = (fault : Fault) → answer.reply.fault ≡ Some fault → answer ≡ refused fault
+
+plain-refused : (a : Answer) (f : Fault) → a ≡ refused f → IsPlain a
+plain-refused a f is = λ fault same.
+    let whole : Some f ≡ Some fault = sym (ap (λ (x : Answer). x.reply.fault) is) ∙ same in
+    let one : f ≡ fault = cc in
+    is ∙ ap refused one
+
+plain-answered : (a : Answer) (text : List ℕ) (messages : ℕ) → a ≡ answered text messages → IsPlain a
+plain-answered a text messages is = λ fault same.
+    let whole : None ≡ Some fault = sym (ap (λ (x : Answer). x.reply.fault) is) ∙ same in
+    absurd cc
+
+pub plain-reply : (asked : Result Wanted Fault) (bytes : List (List ℕ)) (a : Answer) → IsReply asked bytes a → IsPlain a
+plain-reply (Err fault) bytes a is = plain-refused a fault is
+plain-reply (Ok w) bytes a (inl (sound, (numbers, chosen, is))) = plain-answered a _ _ is
+plain-reply (Ok w) bytes a (inr (fault, refuses, is)) = plain-refused a fault is
+
+pub plain-stale : (o : Option ℕ) (IsFound : Answer → Type 0) → ((a : Answer) → IsFound a → IsPlain a) → (a : Answer)
+    → IsStaleOr o IsFound a → IsPlain a
+plain-stale (Some n) IsFound plain a is = plain-refused a (Stale n) is
+plain-stale None IsFound plain a is = plain a is
+
+plain-found : (t : Table) (s : Search) (held : List (List ℕ)) (a : Answer) → IsFoundIn t s held a → IsPlain a
+plain-found t s held a (numbers, chosen, is) = plain-answered a _ _ is
+
+plain-told : (t : Table) (s : Search) (held : List (List ℕ)) (a : Answer) → IsTold t s held a → IsPlain a
+plain-told t s held = plain-stale (stale_archive t.archives held) (IsFoundIn t s held) (plain-found t s held)
+
+plain-proved : (w : Wanted) (t : Table) (held : List (List ℕ)) (a : Answer) → IsProvedAndTold w t held a → IsPlain a
+plain-proved w t held =
+    plain-stale (unproved_archive w.verify t.archives held) (IsTold t w.search held) (plain-told t w.search held)
+
+plain-old : (old : Bool) (IsFound : Answer → Type 0) → ((a : Answer) → IsFound a → IsPlain a) → (a : Answer)
+    → IsOldOr old IsFound a → IsPlain a
+plain-old true IsFound plain a is = plain-refused a OldIndex is
+plain-old false IsFound plain a is = plain a is
+
+plain-of : (w : Wanted) (t : Table) (held : List (List ℕ)) (a : Answer) → IsToldOf w t held a → IsPlain a
+plain-of w t held =
+    plain-old (is_too_old t w) (IsStaleOr (renamed_archive t.archives w.paths) (IsProvedAndTold w t held))
+    (plain-stale (renamed_archive t.archives w.paths) (IsProvedAndTold w t held) (plain-proved w t held))
+
+pub plain-stored : (asked : Result Wanted Fault) (index : List ℕ) (held : List (List ℕ)) (a : Answer)
+    → IsStoredReply asked index held a → IsPlain a
+plain-stored (Err fault) index held a is = plain-refused a fault is
+plain-stored (Ok w) index held a (inl (fault, first, is)) = plain-refused a (Index fault) is
+plain-stored (Ok w) index held a (inr (t, file, told)) = plain-of w t held a told
+
+-- ---- the result that is right
+
+appends-none : (old : Option (List ℕ)) → Appends old old []
+appends-none None = tt
+appends-none (Some xs) = sym (append-nil xs)
+
+-- if nothing was sent, a front of any text was
+sends-none : (old new : Option (List ℕ)) (text : List ℕ) → new ≡ old → Sends old new text
+sends-none old new text same = ([], text, refl, subst (λ (o : Option (List ℕ)). Appends old o []) (sym same) (appends-none old))
+
+module _ (IsRight : Answer → Type 0) (plain : (a : Answer) → IsRight a → IsPlain a) (old new : Option (List ℕ)) where
+  abbrev IsFront : Type 0
+  IsFront = (answer : Answer) → IsRight answer → Sends old new answer.text
+
+  abbrev IsWhole : Reply → Type 0
+  IsWhole reply = (answer : Answer) × IsRight answer × (reply ≡ answer.reply) × Appends old new answer.text
+
+  -- with a fault that is no failure
+  refusal : (reply : Reply) (fault : Fault) → reply.fault ≡ Some fault → (failed : Bool)
+      → MatchBool failed IsFront (IsWhole reply) → MatchBool failed IsFront (IsRight (refused fault) × Appends old new [])
+  refusal reply fault has true h = h
+  refusal reply fault has false (answer, right, same, sent) =
+      let is = plain answer right fault (ap (λ (r : Reply). r.fault) (sym same) ∙ has) in
+      (subst IsRight is right, subst (λ (a : Answer). Appends old new a.text) is sent)
+
+  with-fault : (reply : Reply) (fault : Option Fault) → reply.fault ≡ fault
+      → MatchBool (is_failure fault) IsFront (IsWhole reply) → AnswersBy IsRight (result_by reply.status fault) old new
+  with-fault reply None has (answer, right, same, sent) =
+      (answer, right, ap (λ (r : Reply). r.fault) (sym same) ∙ has, ap (λ (r : Reply). r.status) (sym same), sent)
+  with-fault reply (Some fault) has h = refusal reply fault has (is_failure (Some fault)) h
+
+  -- the result of a reply that is right
+  pub answers-by : (reply : Reply) (result : Result ℕ Fault) → result ≡ result_of_reply reply
+      → RepliesBy IsRight reply old new → AnswersBy IsRight result old new
+  answers-by reply result is h =
+      subst (λ (r : Result ℕ Fault). AnswersBy IsRight r old new) (sym is) (with-fault reply reply.fault refl h)
+
+  -- if no source failed, the reply is right; if one did, nothing was sent
+  indexed-fault : (reply : Reply) (counts : List ℕ) (IsSilent : Type 0) (fault : Option Fault) → reply.fault ≡ fault
+      → ((n : ℕ) → Counted (is_failed_source n fault) 0 (slice_index counts n))
+      → OnTrue (is_of_indexing fault) IsSilent → (IsSilent → new ≡ old)
+      → (((n : ℕ) → slice_index counts n ≡ 0) → MatchBool (is_failure fault) IsFront (IsWhole reply))
+      → AnswersBy IsRight (result_by reply.status fault) old new
+  indexed-fault reply counts IsSilent None has counted silent same is = with-fault reply None has (is counted)
+  indexed-fault reply counts IsSilent (Some (Archive number Device)) has counted silent same is = λ answer right.
+      sends-none old new answer.text (same silent)
+  indexed-fault reply counts IsSilent (Some fault) has counted silent same is =
+      with-fault reply (Some fault) has (is counted)
+
+  pub indexed-answers-by : (reply : Reply) (counts : List ℕ) (result : Result ℕ Fault) (IsSilent : Type 0)
+      → result ≡ result_of_reply reply
+      → ((n : ℕ) → Counted (is_failed_source n reply.fault) 0 (slice_index counts n))
+      → OnTrue (is_of_indexing reply.fault) IsSilent → (IsSilent → new ≡ old)
+      → (((n : ℕ) → slice_index counts n ≡ 0) → RepliesBy IsRight reply old new)
+      → AnswersBy IsRight result old new
+  indexed-answers-by reply counts result IsSilent made counted silent same is =
+      subst (λ (r : Result ℕ Fault). AnswersBy IsRight r old new) (sym made)
+      (indexed-fault reply counts IsSilent reply.fault refl counted silent same is)
+
+-- ---- what is refused first
+
+pub fault-of : (status : ℕ) (fault : Option Fault) → fault_in (result_by status fault) ≡ fault
+fault-of status None = refl
+fault-of status (Some fault) = refl
+
+-- a refusal of words, rcfile or query is the fault, unless memory runs out
+pub refuses-as : (asked : Result Wanted Fault) (fault : Fault) (found : Option Fault) → asked ≡ Err fault
+    → RefusesAsked asked found → IsThisOrMemory fault found
+refuses-as (Ok w) fault found is h = absurd cc
+refuses-as (Err refusal) fault found is h =
+    let one : refusal ≡ fault = cc in subst (λ (f : Fault). IsThisOrMemory f found) one h
+
+-- then no device is used, the output neither
+pub uses-none : (P Q R : Type 0) (early : Bool) (asked : Result Wanted Fault) (fault : Fault) → asked ≡ Err fault
+    → OnTrue (early || is_err asked) (P × Q × R) → R
+uses-none P Q R true asked fault is h = h.2
+uses-none P Q R false (Ok w) fault is h = absurd cc
+uses-none P Q R false (Err refusal) fault is h = h.2
+
+-- without a stored index nothing else is refused first
+pub refused-once : (asked : Result Wanted Fault) (index : Option (Bor (List ℕ))) (fault : Fault) → index ≡ None
+    → IsRefusedFirst asked index fault → asked ≡ Err fault
+refused-once asked None fault none is = is
+refused-once asked (Some index) fault none is = absurd cc

@@ -1,0 +1,27 @@
+-- What a search of a stored index answers, by the clauses of `search_run`.
+use Rattle.std.proofs.Common.{Ok}
+use Rattle.mairix_tool.specs.Altered.{altered_archive}
+use Rattle.mairix_tool.specs.Asked.{asks}
+use Rattle.mairix_tool.specs.Runs.{IsReply, IsStaleOr, IsStoredReply}
+use Rattle.mairix_run.proofs.Replies.{answers-by, plain-reply, plain-stale, plain-stored}
+use Rattle.mairix_run.proofs.answering.answer_stored.Goals as goal
+
+pub returns-clause-stored : goal.returns-clause-stored
+returns-clause-stored g c = λ bytes held.
+    let search = c.args.search.now in
+    let asked = asks search.words.now search.text.now search.moment in
+    let index = c.args.index.now in
+    answers-by (IsStoredReply asked index bytes) (plain-stored asked index bytes) _ _ c.search_run.result
+    c.result_of.result c.result_of.ensures (c.search_run.ensures.reply bytes held)
+
+pub returns-clause-indexed : goal.returns-clause-indexed
+returns-clause-indexed g c = λ w bytes is many sound serves held.
+    answers-by (IsReply (Ok w) bytes) (plain-reply (Ok w) bytes) _ _ c.search_run.result c.result_of.result
+    c.result_of.ensures (c.search_run.ensures.indexed w bytes is many sound serves held)
+
+pub returns-clause-verified : goal.returns-clause-verified
+returns-clause-verified g c = λ w before bytes is verify paths sound file held apart.
+    let altered = altered_archive before w.paths bytes in
+    answers-by (IsStaleOr altered (IsReply (Ok w) bytes))
+    (plain-stale altered (IsReply (Ok w) bytes) (plain-reply (Ok w) bytes)) _ _ c.search_run.result c.result_of.result
+    c.result_of.ensures (c.search_run.ensures.verified w before bytes is verify paths sound file held apart)
