@@ -1,5 +1,5 @@
 -- What a search of files by their names answered, by its result.
-use Rattle.std.specs.Prelude.{◌≡◌, ◌⊎◌, ◌||◌, ⊤, ℕ, Bool, List, [], Option, None, Some, Result, Ok, Err}
+use Rattle.std.specs.Prelude.{◌≡◌, ◌||◌, ℕ, Bool, List, [], Option, None, Some, Result, Ok, Err}
 use Rattle.std.specs.Borrow.{Bor}
 use Rattle.std.specs.Bool.{MatchBool}
 use Rattle.std.specs.Io.KnownBytes.{Appends}
@@ -10,7 +10,6 @@ use Rattle.mairix_tool.specs.Runs.{IsRefusedAs}
 use Rattle.mairix_tool.specs.declared.reply.Reply.{Reply}
 use Rattle.run_faults.specs.Faults.{is_early, is_failure, is_of_index, is_of_indexing, IsOnceFault, IsSearchFault}
 use Rattle.run_faults.specs.declared.fault.Fault.{Fault}
-use Rattle.run_faults.specs.declared.fault.Fault.TheVariants.{TooMany}
 
 -- With a status: a right answer has it and no fault, and the output took its text. With a fault of a device or of
 -- memory, the output took a front of each right answer. Any other fault is right, and nothing was sent.
@@ -36,10 +35,10 @@ abbrev pub IsRefusedFirst : Result Wanted Fault → Option (Bor (List ℕ)) → 
 IsRefusedFirst asked None fault = asked ≡ Err fault
 IsRefusedFirst asked (Some index) fault = IsRefusedAs asked index.now fault
 
--- a fault that a search can have: with a stored index none of indexing, but there may be too many archives
+-- a fault that a search can have: without a stored index none of an index, with one none of indexing
 abbrev pub IsSearchFaultBy : Option (Bor (List ℕ)) → Fault → Type 0
 IsSearchFaultBy None fault = IsOnceFault fault
-IsSearchFaultBy (Some index) fault = IsSearchFault fault ⊎ (fault ≡ TooMany)
+IsSearchFaultBy (Some index) fault = IsSearchFault fault
 
 -- whether words, rcfile, query or index are refused, or the archives can't be indexed: then nothing is searched
 abbrev pub comes_before : Option Fault → Bool

@@ -112,7 +112,8 @@ pub fn answer_names<F: Folder, O: Out>(
     ensures few { 2 ^ 32 ≤ length search.now.paths.now
         → (result ≡ Err TooMany) × (out.new ≡ out.old) × (reports.new ≡ reports.old) }
     ensures status { IfOk result (λ status. status ≤ 1) }
-    ensures kinds { IfErr result (IsSearchFaultBy search.now.index) }
+    ensures kinds { IfErr result (λ fault. length search.now.paths.now < 2 ^ 32
+        → IsSearchFaultBy search.now.index fault) }
     ensures silent { OnTrue (comes_before (fault_in result)) (out.new ≡ out.old) }
     ensures raw { IfOk (asks search.now.words.now search.now.text.now search.now.moment)
         (λ w. KeepsRawBack w.search (fault_in result) out.old out.new) }
