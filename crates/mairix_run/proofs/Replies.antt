@@ -79,7 +79,8 @@ appends-none (Some xs) = sym (append-nil xs)
 
 -- if nothing was sent, a front of any text was
 sends-none : (old new : Option (List ℕ)) (text : List ℕ) → new ≡ old → Sends old new text
-sends-none old new text same = ([], text, refl, subst (λ (o : Option (List ℕ)). Appends old o []) (sym same) (appends-none old))
+sends-none old new text same =
+    ([], text, refl, subst (λ (o : Option (List ℕ)). Appends old o []) (sym same) (appends-none old))
 
 module _ (IsRight : Answer → Type 0) (plain : (a : Answer) → IsRight a → IsPlain a) (old new : Option (List ℕ)) where
   abbrev IsFront : Type 0
@@ -90,7 +91,8 @@ module _ (IsRight : Answer → Type 0) (plain : (a : Answer) → IsRight a → I
 
   -- with a fault that is no failure
   refusal : (reply : Reply) (fault : Fault) → reply.fault ≡ Some fault → (failed : Bool)
-      → MatchBool failed IsFront (IsWhole reply) → MatchBool failed IsFront (IsRight (refused fault) × Appends old new [])
+      → MatchBool failed IsFront (IsWhole reply)
+      → MatchBool failed IsFront (IsRight (refused fault) × Appends old new [])
   refusal reply fault has true h = h
   refusal reply fault has false (answer, right, same, sent) =
       let is = plain answer right fault (ap (λ (r : Reply). r.fault) (sym same) ∙ has) in

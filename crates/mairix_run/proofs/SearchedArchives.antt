@@ -1,23 +1,14 @@
--- A search has as many archives and sources as the rcfile has paths. If each path leads to a file, archives of which
--- something is still known have the bytes of these files.
+-- If each path leads to a file, archives of which something is still known have the bytes of these files. The first
+-- states are all states by their numbers.
 use Rattle.std.proofs.Common.{◌≡◌, ◌∙◌, ◌&&◌, ℕ, zero, suc, Bool, true, false, List, [], ◌∷◌, length, map, All}
-use Rattle.std.proofs.Common.{Option, None, Some, IfSome, IsSome, String, Global, Result, Ok, Err, IfOk, string_bytes}
+use Rattle.std.proofs.Common.{Option, None, Some, IfSome, IsSome, Result, Ok, Err, IfOk}
 use Rattle.std.proofs.Common.{refl, ap, subst, sym, slice_get, get_or}
 use Rattle.std.proofs.lemmas.List.{length-map}
 use Rattle.std.proofs.lemmas.List.FromFn.{fill_by_all}
 use Rattle.std.proofs.lemmas.List.Elements.{All-cons, All-nil}
 use Rattle.std.specs.List.{range_with_len}
 use Rattle.std.specs.Option.{option_map}
-use Rattle.mairix_options.specs.declared.rcfile.Rc.{Rc}
 use Rattle.named_archives.specs.Names.{all_known, held_while}
-use Rattle.run_faults.specs.declared.fault.Fault.{Fault}
-
-pub many-by : (asked : Result Rc Fault) (paths : List (String Global)) (archives sources : ℕ)
-    → ((rc : Rc) → asked ≡ Ok rc → rc.paths ≡ map string_bytes paths) → archives ≡ length paths → sources ≡ length paths
-    → IfOk asked (λ rc. (length rc.paths ≡ sources) × (archives ≡ sources))
-many-by (Ok rc) paths archives sources said some all =
-    (ap length (said rc refl) ∙ length-map paths string_bytes ∙ sym all, some ∙ sym all)
-many-by (Err fault) paths archives sources said some all = tt
 
 all-known : (bytes : List (List ℕ)) → all_known (map Some bytes) ≡ Some bytes
 all-known [] = refl

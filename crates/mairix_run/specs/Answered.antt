@@ -1,4 +1,4 @@
--- What a search of files by their names answered, by its result.
+-- What a search of files by their names returned and sent, compared with a right answer.
 use Rattle.std.specs.Prelude.{◌≡◌, ◌||◌, ℕ, Bool, List, [], Option, None, Some, Result, Ok, Err}
 use Rattle.std.specs.Borrow.{Bor}
 use Rattle.std.specs.Bool.{MatchBool}

@@ -49,8 +49,8 @@ pub struct Search<'a, F: Folder> {
         → rc.paths ≡ map string_bytes paths.now },
 }
 
-/// Searches the archives to which the paths lead, writes the answer, and returns the status: 0 with messages, 1 without.
-/// What was reported of the files is added to the reports. The output isn't flushed.
+/// Searches the archives to which the paths lead, writes the answer, and returns the status: 0 with messages, 1 without
+/// any. What was reported of the files is added to the reports. The output isn't flushed.
 ///
 /// Without a stored index the archives are first indexed in memory. An archive's file that isn't in its first state has
 /// failed.

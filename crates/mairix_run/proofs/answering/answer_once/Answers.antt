@@ -1,5 +1,5 @@
 -- What a search of archives that it indexes itself answers, by the clauses of `once_run` and of its sources.
-use Rattle.std.proofs.Common.{◌≡◌, ◌∙◌, ◌++◌, length, map, take, drop, None, sym, ap, arith, string_bytes, subst}
+use Rattle.std.proofs.Common.{◌≡◌, ◌∙◌, ◌++◌, length, map, take, drop, None, sym, ap, arith, subst}
 use Rattle.std.proofs.lemmas.Grind.{common_steps}
 use Rattle.std.proofs.lemmas.List.Elements.{All-same}
 use Rattle.mairix_tool.specs.Asked.{asks}
