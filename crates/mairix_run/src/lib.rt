@@ -3,9 +3,12 @@
 
 mod answering;
 mod clock;
+mod file_front;
 mod flushing;
 mod gathered;
+mod index_file;
 mod indexing;
+mod kept_mail;
 mod making;
 mod memory_stream;
 mod read_names;
@@ -22,7 +25,9 @@ pub use answering::{Search, answer_names};
 pub use clock::moment_of;
 pub use flushing::flushed;
 pub use gathered::Gathered;
+pub use index_file::read_index;
 pub use indexing::index_names;
+pub use kept_mail::check_no_mail;
 pub use making::{create_file, passing_name, settle_file};
 pub use memory_stream::MemoryStream;
 pub use read_names::ReadNames;

@@ -9,7 +9,7 @@ use named_files::{Folder, KeptFile, Refusal};
 use std::alloc::Global;
 
 /// The number of bytes that are read at once.
-const PIECE: usize = 8192;
+pub(crate) const PIECE: usize = 8192;
 
 /// Returns the bytes of a file. It takes memory once, for the length of the file, if the file has one and doesn't grow
 /// meanwhile.
@@ -60,7 +60,7 @@ fn read_file<K: KeptFile>(file: &mut K, bytes: &mut Vec<u8>) -> Result<(), Refus
 }
 
 /// Takes the memory for the length of a file, if it has one. A file whose state the system doesn't show is refused.
-fn reserve_length<K: KeptFile>(file: &mut K, bytes: &mut Vec<u8>) -> Result<(), Refusal>
+pub(crate) fn reserve_length<K: KeptFile>(file: &mut K, bytes: &mut Vec<u8>) -> Result<(), Refusal>
     requires { K.failures file.old ≡ 0 }
     ensures rest { K.rest file.new ≡ K.rest file.old }
     ensures same { bytes.new.items ≡ bytes.old.items }
@@ -80,7 +80,7 @@ fn reserve_length<K: KeptFile>(file: &mut K, bytes: &mut Vec<u8>) -> Result<(), 
 }
 
 /// Reads a source to its end, a piece at a time, and appends its bytes.
-fn read_rest<S: Source>(
+pub(crate) fn read_rest<S: Source>(
     source: &mut S,
     piece: &mut [u8],
     bytes: &mut Vec<u8>,

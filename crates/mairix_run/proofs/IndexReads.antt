@@ -1,0 +1,139 @@
+-- The first 80 bytes of a file show that it is too short, has another magic or an unknown version, because these are in
+-- them.
+use Rattle.std.proofs.Common.{◌≡◌, ◌∙◌, ap, sym, subst, refl, ℕ, ◌<◌, ◌≤◌, ◌^◌, true, false, List, [], ◌++◌, length, take}
+use Rattle.std.proofs.Common.{drop, arith, inl, inr, Option, Some, None, IsSome, Result, Ok, Err, OnOk}
+use Rattle.std.proofs.lemmas.List.{drop-take, length-take, length-take-le, take-append-drop, take-take}
+use Rattle.mail_index.specs.Faults.{IsFirstFault, version_told}
+use Rattle.mail_index.specs.Faults.{IsFileOf as IsIndexOf}
+use Rattle.mail_index.specs.Files.{magic}
+use Rattle.mail_index.specs.Tables.{Table}
+use Rattle.mail_index.specs.Versions.{IsVersion}
+use Rattle.mail_index.specs.declared.view.fault.IndexFault.{IndexFault}
+use Rattle.mail_index.specs.declared.view.fault.IndexFault.TheVariants.{TooShort, BadMagic, BadVersion, BadDigest}
+use Rattle.mail_index.specs.declared.view.fault.IndexFault.TheVariants.{BadLayout}
+use Rattle.mail_index.specs.declared.view.fault.Section.TheVariants.{Counts, Archives, Records, Directory, Postings}
+use Rattle.mail_index.proofs.FileLaws.Accepts.{no_fault}
+use Rattle.mairix_run.specs.FileFronts.{GivesFront}
+use Rattle.mairix_run.specs.IndexReads.{IsIndexRead, IsKnownRead, IsRefusedEarly, seen_early}
+use Rattle.mairix_run.specs.WholeFiles.{GivesRest}
+use Rattle.named_files.specs.Entries.{Entry, Nothing, File, Folder, Other, IsFileOf, bytes_of}
+use Rattle.named_files.specs.declared.refusal.Refusal.{Refusal}
+
+some_injective : {x y : List ℕ} → Some x ≡ Some y → x ≡ y
+some_injective e = cc
+
+-- the bytes are long enough, and have the magic and a known version
+record IsMarked (bytes : List ℕ) : Type 0 where
+  long : 80 ≤ length bytes
+  marked : take 8 bytes ≡ magic
+  known : IsVersion (version_told bytes)
+
+-- bytes with a later fault are marked
+marked_by : (bytes : List ℕ) (f : IndexFault) → seen_early f ≡ false → IsFirstFault bytes f → IsMarked bytes
+marked_by bytes TooShort late h = absurd cc
+marked_by bytes BadMagic late h = absurd cc
+marked_by bytes BadVersion late h = absurd cc
+marked_by bytes BadDigest late h = record { long = h.0; marked = h.1; known = h.2 }
+marked_by bytes (BadLayout Counts) late h = record { long = h.0.long; marked = h.0.marked; known = h.0.known }
+marked_by bytes (BadLayout Archives) late h =
+    let s = h.0.0 in record { long = s.long; marked = s.marked; known = s.known }
+marked_by bytes (BadLayout Records) late h =
+    let s = h.1.before.0 in record { long = s.long; marked = s.marked; known = s.known }
+marked_by bytes (BadLayout Directory) late h =
+    let s = h.2.before.before.0 in record { long = s.long; marked = s.marked; known = s.known }
+marked_by bytes (BadLayout Postings) late h =
+    let s = h.3.before.before.before.0 in record { long = s.long; marked = s.marked; known = s.known }
+
+-- marked bytes have no early fault
+never_early : (bytes : List ℕ) → IsMarked bytes → (f : IndexFault) → seen_early f ≡ true → IsFirstFault bytes f → ⊥
+never_early bytes m TooShort early h = omega (arith, h, m.long)
+never_early bytes m BadMagic early h = h.1 m.marked
+never_early bytes m BadVersion early h = h.2 m.known
+never_early bytes m BadDigest early h = absurd cc
+never_early bytes m (BadLayout section) early h = absurd cc
+
+-- a later fault comes only without an early one
+pub late_only : (bytes : List ℕ) (f : IndexFault) → seen_early f ≡ false → IsFirstFault bytes f → ¬ IsRefusedEarly bytes
+late_only bytes f late h = λ e. never_early bytes (marked_by bytes f late h) e.0 e.1 e.2
+
+-- a table's file that is in memory has none
+pub file_not_refused : (bytes : List ℕ) (t : Table) → length bytes < 2 ^ 64 → IsIndexOf bytes t → ¬ IsRefusedEarly bytes
+file_not_refused bytes t few file = λ e. no_fault bytes t few file e.0 e.2
+
+-- ---- the first 80 bytes and the whole file
+
+module _ (all : List ℕ) where
+  front_length : length (take 80 all) < 80 → length all < 80
+  front_length short = omega (arith, short, length-take 80 all)
+
+  front_long : 80 ≤ length all → length (take 80 all) ≡ 80
+  front_long long = length-take-le 80 all long
+
+  same_magic : take 8 (take 80 all) ≡ take 8 all
+  same_magic = grind (arith, take-take)
+
+  same_version : version_told (take 80 all) ≡ version_told all
+  same_version = grind (arith, drop-take, take-take)
+
+  front_of : (f : IndexFault) → seen_early f ≡ true → IsFirstFault all f → IsFirstFault (take 80 all) f
+  front_of TooShort early h = omega (arith, h, length-take 80 all)
+  front_of BadMagic early h = (omega (arith, front_long h.0), λ m. h.1 (sym same_magic ∙ m))
+  front_of BadVersion early h =
+      (omega (arith, front_long h.0), same_magic ∙ h.1, λ v. h.2 (subst IsVersion same_version v))
+  front_of BadDigest early h = absurd cc
+  front_of (BadLayout section) early h = absurd cc
+
+  whole_of : (f : IndexFault) → seen_early f ≡ true → IsFirstFault (take 80 all) f → IsFirstFault all f
+  whole_of TooShort early h = front_length h
+  whole_of BadMagic early h = (omega (arith, h.0, length-take 80 all), λ m. h.1 (same_magic ∙ m))
+  whole_of BadVersion early h = (
+    omega (arith, h.0, length-take 80 all),
+    sym same_magic ∙ h.1,
+    λ v. h.2 (subst IsVersion (sym same_version) v),
+  )
+  whole_of BadDigest early h = absurd cc
+  whole_of (BadLayout section) early h = absurd cc
+
+  pub refused_front : IsRefusedEarly all → IsRefusedEarly (take 80 all)
+  refused_front e = (e.0, e.1, front_of e.0 e.1 e.2)
+
+  pub refused_whole : IsRefusedEarly (take 80 all) → IsRefusedEarly all
+  refused_whole e = (e.0, e.1, whole_of e.0 e.1 e.2)
+
+-- ---- what is read
+
+-- the first bytes are refused, and no more are read
+pub reads_front : (before now : Option (List ℕ)) (old new : List ℕ) → GivesFront 80 before now old new → old ≡ []
+    → IsRefusedEarly new → IsKnownRead before now new
+reads_front before now old new front empty early = λ some.
+    let f = front some in
+    let is : new ≡ take 80 f.0 = f.2 ∙ ap (λ l. l ++ take 80 f.0) empty in
+    (f.0, f.1, inl (refused_whole f.0 (subst IsRefusedEarly is early), is))
+
+-- they aren't, and all that is left is read
+pub reads_all : (before now after : Option (List ℕ)) (old new more : List ℕ) → GivesFront 80 before now old new
+    → old ≡ [] → ¬ IsRefusedEarly new → GivesRest now after new more → IsKnownRead before after more
+reads_all before now after old new more front empty never rest = λ some.
+    let r = rest some in
+    let f = front (rw r.1 refl) in
+    let is : new ≡ take 80 f.0 = f.2 ∙ ap (λ l. l ++ take 80 f.0) empty in
+    let left : r.0 ≡ drop 80 f.0 = some_injective (sym r.1 ∙ f.3) in
+    let whole : more ≡ f.0 = r.2 ∙ (λ i. is i ++ left i) ∙ take-append-drop 80 f.0 in
+    (f.0, f.1, inr (λ e. never (subst IsRefusedEarly (sym is) (refused_front f.0 e)), whole))
+
+pub ends_read : (before now after : Option (List ℕ)) (old new more : List ℕ) (result : Result (Unit {0}) Refusal)
+    → GivesFront 80 before now old new → old ≡ [] → ¬ IsRefusedEarly new → OnOk result (GivesRest now after new more)
+    → OnOk result (IsKnownRead before after more)
+ends_read before now after old new more (Ok done) front empty never rest =
+    reads_all before now after old new more front empty never rest
+ends_read before now after old new more (Err why) front empty never rest = tt
+
+-- the file of a name was read
+pub reads_file : (entry : Entry) (before after : Option (List ℕ)) (bytes : List ℕ) → before ≡ bytes_of entry
+    → IsKnownRead before after bytes → IsSome after → IsFileOf (λ all. IsIndexRead all bytes) entry
+reads_file Nothing before after bytes is read some = let r = read some in absurd cc
+reads_file (File all) before after bytes is read some =
+    let r = read some in
+    let same : all ≡ r.0 = some_injective (sym is ∙ r.1) in (r.0, r.2, ap File same)
+reads_file Folder before after bytes is read some = let r = read some in absurd cc
+reads_file Other before after bytes is read some = let r = read some in absurd cc

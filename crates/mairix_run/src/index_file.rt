@@ -1,0 +1,95 @@
+//! The index that a search reads.
+//!
+//! If a file isn't an index, only its first 80 bytes are read (decision 96 in docs/DECISIONS.md).
+ghost use Rattle.std.specs.Prelude.{◌≡◌, ◌⊎◌, ◌<◌, ℕ, true, false, List, [], None, IfOk, IfErr, OnOk, IsSome};
+ghost use Rattle.named_files.specs.Entries.{IsFileOf, bytes_of};
+ghost use Rattle.named_files.specs.Refusals.{HasCause};
+ghost use Rattle.mairix_run.specs.IndexReads.{IsIndexRead, IsKnownRead, IsRefusedEarly, seen_early};
+
+use crate::file_front::read_front;
+use crate::whole_file::{PIECE, read_rest, reserve_length};
+use mail_index::{IndexFault, IndexView};
+use named_files::{Folder, KeptFile, Refusal};
+use std::alloc::Global;
+
+/// The number of bytes of the shortest index, which are enough to see the version, or that the file is no index.
+const SHORTEST: usize = 80;
+
+/// Returns the bytes of an index. If its first 80 bytes show that it is no index, or of an unknown version, only these
+/// are read and returned: a search refuses them as it would refuse the whole file, however long that is. Otherwise it
+/// takes memory once for the length of the file.
+///
+/// # Errors
+///
+/// `Refused` if the name leads to no file, or if a call of the system fails; `Memory` if memory runs out.
+pub fn read_index<F: Folder>(
+    folder: &F,
+    alloc: Global,
+    reports: &mut F::Reports,
+    name: &str,
+) -> Result<Vec<u8>, Refusal>
+    ensures bytes { IfOk result (λ bytes. F.agree reports.new ≡ true
+        → IsFileOf (λ all. IsIndexRead all bytes.items) (F.holds folder.now name.now)) }
+    // It doesn't give up by itself.
+    ensures refused { IfErr result (λ why. HasCause why
+        ((bytes_of (F.holds folder.now name.now) ≡ None) ⊎ (F.can_refuse ⊎ F.reads_can_fail))) }
+    // What is reported agrees only if what was reported before does.
+    ensures earlier { F.agree reports.new ≡ true → F.agree reports.old ≡ true }
+    ensures right { F.reports_are_right → F.agree reports.new ≡ F.agree reports.old }
+{
+    let mut file = match folder.open(alloc, name) {
+        Ok(file) => file,
+        Err(why) => return Err(why),
+    };
+    let mut bytes = Vec::new(alloc);
+    let read = read_bytes(&mut file, &mut bytes);
+    folder.take_back(reports, file);
+    match read {
+        Ok(()) => Ok(bytes),
+        Err(why) => Err(why),
+    }
+}
+
+/// Reads the bytes of an index, or the first bytes of a file that is none.
+fn read_bytes<K: KeptFile>(file: &mut K, bytes: &mut Vec<u8>) -> Result<(), Refusal>
+    requires fresh { K.failures file.old ≡ 0 }
+    requires empty { bytes.old.items ≡ [] }
+    ensures read { OnOk result (IsKnownRead (K.rest file.old) (K.rest file.new) bytes.new.items) }
+    ensures failed { IfErr result (λ why. HasCause why (0 < K.failures file.new)) }
+{
+    let mut piece = [0; PIECE];
+    if let Err(why) = read_front(file, SHORTEST, &mut piece, bytes) {
+        return Err(why);
+    }
+    if is_refused_early(bytes.as_slice()) {
+        return Ok(());
+    }
+    if let Err(why) = reserve_length(file, bytes) {
+        return Err(why);
+    }
+    read_rest(file, &mut piece, bytes)
+}
+
+/// Whether the first bytes of a file show that it is no index, or of an unknown version.
+fn is_refused_early(front: &[u8]) -> bool
+    ensures shown { result ≡ true → IsRefusedEarly front.now }
+    ensures not_shown { result ≡ false → ¬ IsRefusedEarly front.now }
+{
+    match IndexView::open(front) {
+        Ok(_) => false,
+        Err(fault) => is_seen_early(fault),
+    }
+}
+
+/// Whether the first bytes of a file show this fault.
+fn is_seen_early(fault: IndexFault) -> bool
+    ensures { result ≡ seen_early fault }
+{
+    match fault {
+        IndexFault::TooShort => true,
+        IndexFault::BadMagic => true,
+        IndexFault::BadVersion => true,
+        IndexFault::BadDigest => false,
+        IndexFault::BadLayout(_) => false,
+    }
+}

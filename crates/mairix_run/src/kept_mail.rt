@@ -1,0 +1,126 @@
+//! Mail that an index must not replace.
+//!
+//! A file that begins with a separator is somebody's mail (decision 94 in docs/DECISIONS.md).
+ghost use Rattle.std.specs.Prelude.{◌≡◌, ◌⊎◌, ◌<◌, ◌≤◌, ◌-◌, ◌^◌, ℕ, true, false, List, None, Some, length, take, IfOk, IfErr, OnOk, IsSome};
+ghost use Rattle.named_files.specs.Entries.{bytes_of};
+ghost use Rattle.named_files.specs.Refusals.{HasCause};
+ghost use Rattle.mairix_run.specs.KeptMail.{begins_as_mail, begins_as_mbox, IsNotReplaced, IsShownAsMbox};
+
+use crate::file_front::read_front;
+use crate::stopped::Stopped;
+use crate::whole_file::PIECE;
+use mbox_cutter::{Cutter, DeviceFault, Event, Source};
+use named_files::{Folder, Look, Refusal};
+use run_faults::Fault;
+use std::alloc::{AllocError, Global};
+
+/// How many of a file's first bytes are read.
+const LOOKED_AT: usize = 131_072;
+
+/// Checks that a name doesn't lead to a file that begins as an mbox: with a separator as its first line that isn't empty.
+/// Its first 131,072 bytes are looked at, as if it had no more.
+///
+/// # Errors
+///
+/// `CannotOpen` if it does, and if the file can't be read, because then that is unknown; or lack of memory.
+pub fn check_no_mail<F: Folder>(
+    folder: &F,
+    alloc: Global,
+    reports: &mut F::Reports,
+    name: &str,
+) -> Result<(), Stopped>
+    // A name at which the system doesn't let it look is taken for one of no file.
+    ensures no_mail { OnOk result (F.agree reports.new ≡ true
+        → (begins_as_mail (F.holds folder.now name.now) ≡ false) ⊎ F.can_refuse) }
+    ensures stopped { IfErr result (λ stopped. F.agree reports.new ≡ true → IsNotReplaced name.now
+        ((begins_as_mail (F.holds folder.now name.now) ≡ true) ⊎ (F.can_refuse ⊎ F.reads_can_fail))
+        stopped) }
+    ensures earlier { F.agree reports.new ≡ true → F.agree reports.old ≡ true }
+    ensures right { F.reports_are_right → F.agree reports.new ≡ F.agree reports.old }
+{
+    match folder.look(alloc, reports, name) {
+        Ok(Look::File(_)) => {}
+        Ok(_) => return Ok(()),
+        Err(Refusal::Refused) => return Ok(()),
+        Err(Refusal::Memory) => return Err(Stopped::Fault(Fault::Memory)),
+    }
+    match is_mail(folder, alloc, reports, name) {
+        Ok(false) => Ok(()),
+        Ok(true) => Err(Stopped::at(alloc, name)),
+        Err(Refusal::Refused) => Err(Stopped::at(alloc, name)),
+        Err(Refusal::Memory) => Err(Stopped::Fault(Fault::Memory)),
+    }
+}
+
+/// Whether a file begins as an mbox.
+fn is_mail<F: Folder>(
+    folder: &F,
+    alloc: Global,
+    reports: &mut F::Reports,
+    name: &str,
+) -> Result<bool, Refusal>
+    ensures exact { IfOk result (λ is. F.agree reports.new ≡ true
+        → is ≡ begins_as_mail (F.holds folder.now name.now)) }
+    ensures refused { IfErr result (λ why. HasCause why
+        ((bytes_of (F.holds folder.now name.now) ≡ None) ⊎ (F.can_refuse ⊎ F.reads_can_fail))) }
+    ensures earlier { F.agree reports.new ≡ true → F.agree reports.old ≡ true }
+    ensures right { F.reports_are_right → F.agree reports.new ≡ F.agree reports.old }
+{
+    let mut file = match folder.open(alloc, name) {
+        Ok(file) => file,
+        Err(why) => return Err(why),
+    };
+    let is = is_front_of_mbox(alloc, &mut file);
+    folder.take_back(reports, file);
+    is
+}
+
+/// Whether what a source gives first begins as an mbox.
+fn is_front_of_mbox<S: Source>(alloc: Global, source: &mut S) -> Result<bool, Refusal>
+    requires { S.failures source.old < 2 ^ 64 - 1 }
+    ensures exact { IfOk result (λ is. IsShownAsMbox (S.rest source.old) (S.rest source.new) is) }
+    ensures failed { IfErr result (λ why. HasCause why (0 < S.failures source.new)) }
+{
+    let mut bytes = Vec::new(alloc);
+    let mut piece = [0; PIECE];
+    if let Err(why) = read_front(source, LOOKED_AT, &mut piece, &mut bytes) {
+        return Err(why);
+    }
+    match is_mbox(alloc, bytes.as_slice()) {
+        Ok(is) => Ok(is),
+        Err(_) => Err(Refusal::Memory),
+    }
+}
+
+/// Whether bytes begin as an mbox: whether the first event of a cutter is the start of a message.
+fn is_mbox(alloc: Global, bytes: &[u8]) -> Result<bool, AllocError>
+    requires { length bytes.now ≤ 131072 }
+    ensures { IfOk result (λ is. is ≡ begins_as_mbox bytes.now) }
+{
+    let mut source = HeldBytes { left: bytes };
+    let mut cutter = Cutter::new(alloc, &mut source, LOOKED_AT as u64)?;
+    match cutter.next_event() {
+        Ok(Event::Start { .. }) => Ok(true),
+        _ => Ok(false),
+    }
+}
+
+/// Bytes in memory as a source. None of its reads fails.
+#[derive(Drop)]
+struct HeldBytes<'a> {
+    left: &'a [u8],
+}
+
+impl<'a> Source for HeldBytes<'a> {
+    ghost rest = { λ s. Some s.left.now };
+
+    ghost failures = { λ _. 0 };
+
+    fn read_next(&mut self, into: &mut [u8]) -> Result<usize, DeviceFault> {
+        let left = self.left;
+        let n = left.len().min(into.len());
+        into[..n].copy_from_slice(&left[..n]);
+        self.left = &left[n..];
+        Ok(n)
+    }
+}
