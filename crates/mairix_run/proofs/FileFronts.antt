@@ -1,5 +1,5 @@
 -- The first bytes of a source, read a piece at a time.
-use Rattle.std.proofs.Common.{◌≡◌, ◌∙◌, ap, sym, subst, ℕ, ◌+◌, ◌-◌, ◌≤◌, List, [], ◌++◌, length, take, drop, append_assoc}
+use Rattle.std.proofs.Common.{◌≡◌, ◌∙◌, ap, sym, ℕ, ◌+◌, ◌-◌, ◌≤◌, List, ◌++◌, length, take, drop, append_assoc}
 use Rattle.std.proofs.Common.{Option, None, Some, IfSome, IsSome, arith, refl}
 use Rattle.std.proofs.lemmas.List.{append-nil, drop_all, length-append, take_all}
 use Rattle.std.proofs.Math.Seq.{drop-append_seam, take-append_seam}
@@ -32,8 +32,7 @@ pub front_is_full : (most left : ℕ) (before now : Option (List ℕ)) (old new 
     → HasReadFront most left before now old new → left ≡ 0 → GivesFront most before now old new
 front_is_full most left before None old new h none = λ some. absurd cc
 front_is_full most left before (Some rest) old new h none = λ some.
-    let count : most ≡ length h.0 = omega (arith, h.3, none) in
-    (
+    let count : most ≡ length h.0 = omega (arith, h.3, none) in (
       h.0 ++ rest,
       h.2,
       h.1 ∙ ap (λ l. old ++ l) (sym (ap (λ k. take k (h.0 ++ rest)) count ∙ take-append_seam h.0 rest)),
@@ -46,8 +45,7 @@ pub front_has_ended : (most left : ℕ) (before now : Option (List ℕ)) (old ne
 front_has_ended most left before None old new h ended = λ some. absurd cc
 front_has_ended most left before (Some rest) old new h ended = λ some.
     let short : length (h.0 ++ rest) ≤ most = omega (arith, h.3, length-append h.0 rest, ap length ended) in
-    let same : h.0 ++ rest ≡ h.0 = ap (λ l. h.0 ++ l) ended ∙ append-nil h.0 in
-    (
+    let same : h.0 ++ rest ≡ h.0 = ap (λ l. h.0 ++ l) ended ∙ append-nil h.0 in (
       h.0 ++ rest,
       h.2,
       h.1 ∙ ap (λ l. old ++ l) (sym (take_all most (h.0 ++ rest) short ∙ same)),

@@ -1,7 +1,7 @@
 -- The first 80 bytes of a file show that it is too short, has another magic or an unknown version, because these are in
 -- them.
 use Rattle.std.proofs.Common.{◌≡◌, ◌∙◌, ap, sym, subst, refl, ℕ, ◌<◌, ◌≤◌, ◌^◌, true, false, List, [], ◌++◌, length, take}
-use Rattle.std.proofs.Common.{drop, arith, inl, inr, Option, Some, None, IsSome, Result, Ok, Err, OnOk}
+use Rattle.std.proofs.Common.{drop, arith, inl, inr, Option, Some, IsSome, Result, Ok, Err, OnOk}
 use Rattle.std.proofs.lemmas.List.{drop-take, length-take, length-take-le, take-append-drop, take-take}
 use Rattle.mail_index.specs.Faults.{IsFirstFault, version_told}
 use Rattle.mail_index.specs.Faults.{IsFileOf as IsIndexOf}

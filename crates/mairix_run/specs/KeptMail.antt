@@ -1,10 +1,12 @@
 -- Files that an index run doesn't replace, because they are somebody's mail.
-use Rattle.std.specs.Prelude.{◌≡◌, ℕ, Bool, false, not, List, take, Option, Some, IsSome}
+use Rattle.std.specs.Prelude.{◌≡◌, ℕ, Bool, true, false, not, List, take, Option, Some, IsSome, Result, Ok, Err}
 use Rattle.std.specs.List.{find}
 use Rattle.std.specs.Option.{option_map_or}
 use Rattle.std.specs.String.{string_bytes}
+use Rattle.mbox_cutter.specs.Events.{ArchiveEvent, Start, Line, End, Done}
 use Rattle.mbox_cutter.specs.Lines.{is_empty, lines}
 use Rattle.mbox_cutter.specs.Separators.{is_separator}
+use Rattle.mbox_cutter.specs.declared.event.CutFault.{CutFault}
 use Rattle.named_files.specs.Entries.{Entry, Nothing, File, Folder, Other}
 use Rattle.run_faults.specs.declared.fault.Fault.TheVariants.{Memory}
 use Rattle.mairix_run.specs.declared.stopped.Stopped.{Stopped}
@@ -25,6 +27,14 @@ begins_as_mail Other = false
 abbrev pub IsShownAsMbox : Option (List ℕ) → Option (List ℕ) → Bool → Type 0
 IsShownAsMbox before after is =
     IsSome after → (all : List ℕ) × (before ≡ Some all) × (is ≡ begins_as_mbox (take 131072 all))
+
+-- whether an event is the start of a message
+abbrev pub is_start : Result ArchiveEvent CutFault → Bool
+is_start (Ok (Start at line)) = true
+is_start (Ok (Line line)) = false
+is_start (Ok (End span size)) = false
+is_start (Ok (Done all)) = false
+is_start (Err fault) = false
 
 -- the run is stopped at this name for a cause, or for lack of memory
 abbrev pub IsNotReplaced : List ℕ → Type 0 → Stopped → Type 0

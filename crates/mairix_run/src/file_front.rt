@@ -1,5 +1,5 @@
 //! The first bytes of a file.
-ghost use Rattle.std.specs.Prelude.{◌≡◌, ◌<◌, ◌-◌, ◌^◌, ℕ, List, Option, Some, length, IfErr, OnOk};
+ghost use Rattle.std.specs.Prelude.{◌≡◌, ◌<◌, ◌≤◌, ◌+◌, ◌-◌, ◌^◌, ℕ, List, Option, Some, length, IfErr, OnOk};
 ghost use Rattle.named_files.specs.Refusals.{HasCause};
 ghost use Rattle.mairix_run.specs.FileFronts.{GivesFront};
 
@@ -18,6 +18,7 @@ pub(crate) fn read_front<S: Source>(
     requires count { S.failures source.old < 2 ^ 64 - 1 }
     ensures front { OnOk result (GivesFront most (S.rest source.old) (S.rest source.new) bytes.old.items
         bytes.new.items) }
+    ensures few { OnOk result (length bytes.new.items ≤ length bytes.old.items + most) }
     ensures stays { OnOk result (S.failures source.new ≡ S.failures source.old) }
     ensures failed { IfErr result (λ why. HasCause why (0 < S.failures source.new)) }
 {

@@ -4,12 +4,13 @@
 ghost use Rattle.std.specs.Prelude.{◌≡◌, ◌⊎◌, ◌<◌, ◌≤◌, ◌-◌, ◌^◌, ℕ, true, false, List, None, Some, length, take, IfOk, IfErr, OnOk, IsSome};
 ghost use Rattle.named_files.specs.Entries.{bytes_of};
 ghost use Rattle.named_files.specs.Refusals.{HasCause};
-ghost use Rattle.mairix_run.specs.KeptMail.{begins_as_mail, begins_as_mbox, IsNotReplaced, IsShownAsMbox};
+ghost use Rattle.mbox_cutter.specs.Progress.{shown_result};
+ghost use Rattle.mairix_run.specs.KeptMail.{begins_as_mail, begins_as_mbox, is_start, IsNotReplaced, IsShownAsMbox};
 
 use crate::file_front::read_front;
 use crate::stopped::Stopped;
 use crate::whole_file::PIECE;
-use mbox_cutter::{Cutter, DeviceFault, Event, Source};
+use mbox_cutter::{CutFault, Cutter, DeviceFault, Event, Source};
 use named_files::{Folder, Look, Refusal};
 use run_faults::Fault;
 use std::alloc::{AllocError, Global};
@@ -99,9 +100,17 @@ fn is_mbox(alloc: Global, bytes: &[u8]) -> Result<bool, AllocError>
 {
     let mut source = HeldBytes { left: bytes };
     let mut cutter = Cutter::new(alloc, &mut source, LOOKED_AT as u64)?;
-    match cutter.next_event() {
-        Ok(Event::Start { .. }) => Ok(true),
-        _ => Ok(false),
+    Ok(is_start(cutter.next_event()))
+}
+
+/// Whether an event is the start of a message.
+fn is_start(event: Result<Event<'_>, CutFault>) -> bool
+    ensures { result ≡ is_start (shown_result event.entry) }
+{
+    match event {
+        Ok(Event::Start { .. }) => true,
+        Ok(_) => false,
+        Err(_) => false,
     }
 }
 

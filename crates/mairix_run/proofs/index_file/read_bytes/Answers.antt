@@ -1,8 +1,6 @@
 -- The first bytes are refused as the whole file, or the rest comes after them.
-use Rattle.std.proofs.Common.{rules, ◌≡◌, sym, subst, true, false}
-use Rattle.contract_words.specs.Knowledge.{still_known}
+use Rattle.std.proofs.Common.{rules}
 use Rattle.mairix_run.specs.IndexReads.{IsRefusedEarly}
-use Rattle.mairix_run.specs.WholeFiles.{GivesRest}
 use Rattle.mairix_run.proofs.IndexReads.{ends_read, reads_front}
 use Rattle.mairix_run.proofs.index_file.read_bytes.Goals as goal
 

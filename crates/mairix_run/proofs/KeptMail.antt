@@ -1,0 +1,173 @@
+-- A cutter's first event is the start of a message exactly if the first line that isn't empty is a separator, because no
+-- empty line is one.
+use Rattle.std.proofs.Common.{◌≡◌, ◌∙◌, ap, sym, refl, ℕ, ◌≤◌, ◌⊎◌, inl, inr, Bool, true, false, not, if◌then◌else◌}
+use Rattle.std.proofs.Common.{List, [], ◌∷◌, ◌++◌, length, take, Option, Some, Result, Ok, Err, arith}
+use Rattle.std.specs.List.{find}
+use Rattle.std.specs.Option.{option_map_or}
+use Rattle.contract_words.specs.Devices.{Counted}
+use Rattle.mbox_cutter.proofs.Machine.{separator-full}
+use Rattle.mbox_cutter.specs.Archives.{grouped, is_refused, marked, messages}
+use Rattle.mbox_cutter.specs.Coming.{Answers, is_device_fault}
+use Rattle.mbox_cutter.specs.Events.{ArchiveEvent, Start, Line, End, Done, Coming, coming_of, events, refusal_of}
+use Rattle.mbox_cutter.specs.Lines.{is_empty, lines}
+use Rattle.mbox_cutter.specs.Places.{CutterPlace}
+use Rattle.mbox_cutter.specs.Progress.{shown_result}
+use Rattle.mbox_cutter.specs.Separators.{is_separator}
+use Rattle.mbox_cutter.specs.declared.event.CutFault.{CutFault}
+use Rattle.mbox_cutter.specs.declared.event.Event.{Event}
+use Rattle.mbox_cutter.specs.declared.scan.Phase.TheVariants as phase
+use Rattle.mbox_cutter.specs.declared.event.CutFault.TheVariants.{Device, NotAnMbox, ArchiveTooLong, Failed}
+use Rattle.mairix_run.specs.FileFronts.{GivesFront}
+use Rattle.mairix_run.specs.KeptMail.{IsShownAsMbox, begins_as_mbox, is_start}
+
+-- ---- by lines
+
+module _ (ls : List (List ℕ)) where
+  -- whether the first line that isn't empty is a separator
+  abbrev begins : Bool
+  begins = option_map_or is_separator (find (λ line. not (is_empty line)) ls) false
+
+  abbrev refused : Bool
+  refused = is_refused (marked true ls)
+
+  -- the lines of each message
+  abbrev groups : List (List ℕ × List (List ℕ))
+  groups = (grouped (marked true ls)).1
+
+  -- the lines are refused; or none of them is a separator; or they begin with one
+  abbrev IsCut : Type 0
+  IsCut = ((begins ≡ false) × (refused ≡ true))
+      ⊎ (((begins ≡ false) × (refused ≡ false) × (groups ≡ []))
+      ⊎ ((begins ≡ true) × (refused ≡ false) × (g : List ℕ × List (List ℕ)) × (gs : List (List ℕ × List (List ℕ)))
+      × (groups ≡ g ∷ gs)))
+
+abbrev Grouped : Type 0
+Grouped = List (List ℕ) × List (List ℕ × List (List ℕ))
+
+-- one line more at the front, which may be the start of a message
+abbrev with_line : Bool → List ℕ → Grouped → Grouped
+with_line starts line gs = if starts then ([], (line, gs.0) ∷ gs.1) else (line ∷ gs.0, gs.1)
+
+-- whether a first line starts a message, and whether the lines are refused for it
+abbrev begins_with : Bool → List ℕ → List (List ℕ) → Bool
+begins_with empty line ls =
+    option_map_or is_separator (if not empty then Some line else find (λ line. not (is_empty line)) ls) false
+
+abbrev refused_with : Bool → List ℕ → List (List ℕ) → Bool
+refused_with empty line ls = option_map_or (λ (mark : Bool × List ℕ). not mark.0)
+    (if not empty then Some (is_separator line, line) else find (λ mark. not (is_empty mark.1)) (marked empty ls)) false
+
+one_line_more : (line : List ℕ) (ls : List (List ℕ)) (e s : Bool) → is_empty line ≡ e → is_separator line ≡ s → IsCut ls
+    → IsCut (line ∷ ls)
+one_line_more line ls true true e s h = let full = separator-full line s in absurd cc
+one_line_more line ls true false e s h = go h
+  where
+    begin : begins (line ∷ ls) ≡ begins ls
+    begin = ap (λ b. begins_with b line ls) e
+
+    refuse : refused (line ∷ ls) ≡ refused ls
+    refuse = ap (λ b. refused_with b line ls) e
+
+    group : groups (line ∷ ls) ≡ groups ls
+    group = ap (λ b. (with_line b line (grouped (marked (is_empty line) ls))).1) s
+        ∙ ap (λ b. (grouped (marked b ls)).1) e
+
+    go : IsCut ls → IsCut (line ∷ ls)
+    go (inl h) = inl (begin ∙ h.0, refuse ∙ h.1)
+    go (inr (inl h)) = inr (inl (begin ∙ h.0, refuse ∙ h.1, group ∙ h.2))
+    go (inr (inr h)) = inr (inr (begin ∙ h.0, refuse ∙ h.1, h.2, h.3, group ∙ h.4))
+one_line_more line ls false true e s h =
+    let later = grouped (marked (is_empty line) ls) in
+    inr (inr (
+      ap (λ b. begins_with b line ls) e ∙ s,
+      ap (λ b. refused_with b line ls) e ∙ ap not s,
+      (line, later.0),
+      later.1,
+      ap (λ b. (with_line b line later).1) s,
+    ))
+one_line_more line ls false false e s h =
+    inl (ap (λ b. begins_with b line ls) e ∙ s, ap (λ b. refused_with b line ls) e ∙ ap not s)
+
+is_cut : (ls : List (List ℕ)) → IsCut ls
+is_cut [] = inr (inl (refl, refl, refl))
+is_cut (line ∷ ls) = one_line_more line ls (is_empty line) (is_separator line) refl refl (is_cut ls)
+
+-- ---- by events
+
+module _ (bytes : List ℕ) where
+  starts : (at : ℕ) (line : List ℕ) (es : List ArchiveEvent) → events bytes ≡ Start at line ∷ es
+      → begins_as_mbox bytes ≡ true
+  unfolding events messages
+  starts at line es is = go (is_cut (lines bytes))
+    where
+      go : IsCut (lines bytes) → begins_as_mbox bytes ≡ true
+      go (inl h) = let e = rw h.1 at is in absurd cc
+      go (inr (inl h)) = let e = rw (h.1, h.2) at is in absurd cc
+      go (inr (inr h)) = h.0
+
+  ends_at_once : (all : ℕ) (es : List ArchiveEvent) → events bytes ≡ Done all ∷ es → begins_as_mbox bytes ≡ false
+  unfolding events messages
+  ends_at_once all es is = go (is_cut (lines bytes))
+    where
+      go : IsCut (lines bytes) → begins_as_mbox bytes ≡ false
+      go (inl h) = h.0
+      go (inr (inl h)) = h.0
+      go (inr (inr h)) = let e = rw (h.1, h.4) at is in absurd cc
+
+  never_a_line : (line : List ℕ) (es : List ArchiveEvent) → events bytes ≡ Line line ∷ es → ⊥
+  unfolding events messages
+  never_a_line line es is = go (is_cut (lines bytes))
+    where
+      go : IsCut (lines bytes) → ⊥
+      go (inl h) = let e = rw h.1 at is in absurd cc
+      go (inr (inl h)) = let e = rw (h.1, h.2) at is in absurd cc
+      go (inr (inr h)) = let e = rw (h.1, h.4) at is in absurd cc
+
+  never_an_end : (span size : ℕ) (es : List ArchiveEvent) → events bytes ≡ End span size ∷ es → ⊥
+  unfolding events messages
+  never_an_end span size es is = go (is_cut (lines bytes))
+    where
+      go : IsCut (lines bytes) → ⊥
+      go (inl h) = let e = rw h.1 at is in absurd cc
+      go (inr (inl h)) = let e = rw (h.1, h.2) at is in absurd cc
+      go (inr (inr h)) = let e = rw (h.1, h.4) at is in absurd cc
+
+  no_mbox : refusal_of 131072 bytes ≡ Some NotAnMbox → begins_as_mbox bytes ≡ false
+  unfolding refusal_of
+  no_mbox is = grind (arith, is_cut (lines bytes))
+
+  never_too_long : length bytes ≤ 131072 → refusal_of 131072 bytes ≡ Some ArchiveTooLong → ⊥
+  unfolding refusal_of
+  never_too_long few is = grind arith
+
+  -- the first answer of a cutter
+  pub first_answer : (answer : Result ArchiveEvent CutFault) (next : Option Coming) → length bytes ≤ 131072
+      → Answers (Some (coming_of 131072 bytes)) answer next → is_device_fault answer ≡ false
+      → (answer ≡ Err Failed → ⊥) → is_start answer ≡ begins_as_mbox bytes
+  first_answer (Ok (Start at line)) next few h device failed = sym (starts at line h.0.events h.2.0)
+  first_answer (Ok (Line line)) next few h device failed = absurd (never_a_line line h.0.events h.2.0)
+  first_answer (Ok (End span size)) next few h device failed = absurd (never_an_end span size h.0.events h.2.0)
+  first_answer (Ok (Done all)) next few h device failed = sym (ends_at_once all [] h.2.0)
+  first_answer (Err NotAnMbox) next few h device failed = sym (no_mbox h)
+  first_answer (Err ArchiveTooLong) next few h device failed = absurd (never_too_long few h)
+  first_answer (Err Device) next few h device failed = absurd cc
+  first_answer (Err Failed) next few h device failed = absurd (failed refl)
+
+-- a cutter that hasn't failed before doesn't say so
+pub never_failed : (old : CutterPlace) (most : ℕ) (result : Result Event CutFault)
+    → old ≡ record { phase = phase.Between; offset = 0; most = most } → (result ≡ Err Failed → old.phase ≡ phase.Failed)
+    → shown_result result ≡ Err Failed → ⊥
+never_failed old most (Ok event) new once is = absurd cc
+never_failed old most (Err fault) new once is =
+    let failed = sym (ap (λ p. p.phase) new) ∙ once cc in absurd cc
+
+-- nothing was counted
+pub none_counted : (failed : Bool) → Counted failed 0 0 → failed ≡ false
+none_counted failed h = grind arith
+
+-- what was read first is cut
+pub shown_by_front : (before after : Option (List ℕ)) (old new : List ℕ) (is : Bool)
+    → GivesFront 131072 before after old new → old ≡ [] → is ≡ begins_as_mbox new → IsShownAsMbox before after is
+shown_by_front before after old new is front empty cut = λ some.
+    let f = front some in
+    (f.0, f.1, cut ∙ ap begins_as_mbox (f.2 ∙ ap (λ l. l ++ take 131072 f.0) empty))
