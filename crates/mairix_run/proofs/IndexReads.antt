@@ -1,18 +1,23 @@
 -- The first 80 bytes of a file show that it is too short, has another magic or an unknown version, because these are in
 -- them.
-use Rattle.std.proofs.Common.{◌≡◌, ◌∙◌, ap, sym, subst, refl, ℕ, ◌<◌, ◌≤◌, ◌^◌, true, false, List, [], ◌++◌, length, take}
-use Rattle.std.proofs.Common.{drop, arith, inl, inr, Option, Some, IsSome, Result, Ok, Err, OnOk}
+use Rattle.std.proofs.Common.{◌≡◌, ◌∙◌, ap, sym, subst, refl, ℕ, ◌<◌, ◌≤◌, true, false, List, [], ◌++◌, length, take}
+use Rattle.std.proofs.Common.{drop, arith, inl, inr, Option, Some, IsSome, Result, Ok, Err, OnOk, Bool, ◌↔◌}
 use Rattle.std.proofs.lemmas.List.{drop-take, length-take, length-take-le, take-append-drop, take-take}
+use Rattle.std.proofs.Math.Seq.{drop-append_seam, take-append_seam}
+use Rattle.std.proofs.lemmas.Nat.{from_be_bytes-to_be_bytes_4}
+use Rattle.std.specs.Int.{from_be_bytes, w32}
 use Rattle.mail_index.specs.Faults.{IsFirstFault, version_told}
 use Rattle.mail_index.specs.Faults.{IsFileOf as IsIndexOf}
-use Rattle.mail_index.specs.Files.{magic}
-use Rattle.mail_index.specs.Tables.{Table}
+use Rattle.mail_index.specs.Files.{be32, counts, index_file, magic, sections}
+use Rattle.mail_index.specs.Tables.{IsWellFormed, Table}
 use Rattle.mail_index.specs.Versions.{IsVersion}
 use Rattle.mail_index.specs.declared.view.fault.IndexFault.{IndexFault}
 use Rattle.mail_index.specs.declared.view.fault.IndexFault.TheVariants.{TooShort, BadMagic, BadVersion, BadDigest}
 use Rattle.mail_index.specs.declared.view.fault.IndexFault.TheVariants.{BadLayout}
 use Rattle.mail_index.specs.declared.view.fault.Section.TheVariants.{Counts, Archives, Records, Directory, Postings}
-use Rattle.mail_index.proofs.FileLaws.Accepts.{no_fault}
+use Rattle.mail_index.proofs.BuildLaws.Sizes.{length-body, length-index_file}
+use Rattle.mail_index.proofs.FileLaws.Fronts.{concat_then}
+use Rattle.mail_index.proofs.FileLaws.OneTable.{small_version}
 use Rattle.mairix_run.specs.FileFronts.{GivesFront}
 use Rattle.mairix_run.specs.IndexReads.{IsIndexRead, IsKnownRead, IsRefusedEarly, seen_early}
 use Rattle.mairix_run.specs.WholeFiles.{GivesRest}
@@ -55,10 +60,6 @@ never_early bytes m (BadLayout section) early h = absurd cc
 -- a later fault comes only without an early one
 pub late_only : (bytes : List ℕ) (f : IndexFault) → seen_early f ≡ false → IsFirstFault bytes f → ¬ IsRefusedEarly bytes
 late_only bytes f late h = λ e. never_early bytes (marked_by bytes f late h) e.0 e.1 e.2
-
--- a table's file that is in memory has none
-pub file_not_refused : (bytes : List ℕ) (t : Table) → length bytes < 2 ^ 64 → IsIndexOf bytes t → ¬ IsRefusedEarly bytes
-file_not_refused bytes t few file = λ e. no_fault bytes t few file e.0 e.2
 
 -- ---- the first 80 bytes and the whole file
 
@@ -137,3 +138,53 @@ reads_file (File all) before after bytes is read some =
     let same : all ≡ r.0 = some_injective (sym is ∙ r.1) in (r.0, r.2, ap File same)
 reads_file Folder before after bytes is read some = let r = read some in absurd cc
 reads_file Other before after bytes is read some = let r = read some in absurd cc
+
+-- ---- the file of a table
+
+module _ (t : Table) where
+  begins_so : (more : List ℕ) × (index_file t ≡ magic ++ (be32 t.version ++ more))
+  unfolding index_file
+  begins_so = (_, concat_then (sections t) _ ∙ concat_then (counts t) _)
+
+  same_number : IsWellFormed t → version_told (index_file t) ≡ t.version
+  same_number w =
+      let more = begins_so.0 in
+      let after : drop 8 (index_file t) ≡ be32 t.version ++ more =
+      ap (drop 8) begins_so.1 ∙ drop-append_seam magic (be32 t.version ++ more) in
+      let four : take 4 (drop 8 (index_file t)) ≡ be32 t.version =
+      ap (take 4) after ∙ take-append_seam (be32 t.version) more in
+      ap (from_be_bytes w32) four ∙ from_be_bytes-to_be_bytes_4 t.version (small_version t.version w.version)
+
+  file_marked : IsWellFormed t → IsMarked (index_file t)
+  file_marked w = record {
+    long = omega (arith, length-index_file t, length-body t);
+    marked = ap (take 8) begins_so.1 ∙ take-append_seam magic (be32 t.version ++ begins_so.0);
+    known = subst IsVersion (sym (same_number w)) w.version;
+  }
+
+-- it has no early fault
+pub table_not_refused : (bytes : List ℕ) (t : Table) → IsIndexOf bytes t → ¬ IsRefusedEarly bytes
+table_not_refused bytes t file = λ e.
+    never_early bytes (subst IsMarked (sym file.1) (file_marked t file.0)) e.0 e.1 e.2
+
+-- ---- what was read serves for the whole file
+
+module _ (all bytes : List ℕ) where
+  pub same_fault : (f : IndexFault) → IsIndexRead all bytes → IsFirstFault bytes f ↔ IsFirstFault all f
+  same_fault f (inl (e, is)) = rw is (to (seen_early f) refl, from (seen_early f) refl)
+    where
+      to : (early : Bool) → seen_early f ≡ early → IsFirstFault (take 80 all) f → IsFirstFault all f
+      to true early h = whole_of all f early h
+      to false late h = absurd (late_only (take 80 all) f late h (refused_front all e))
+
+      from : (early : Bool) → seen_early f ≡ early → IsFirstFault all f → IsFirstFault (take 80 all) f
+      from true early h = front_of all f early h
+      from false late h = absurd (late_only all f late h e)
+  same_fault f (inr (never, is)) = rw is (λ h. h, λ h. h)
+
+  pub same_table : (t : Table) → IsIndexRead all bytes → IsIndexOf bytes t ↔ IsIndexOf all t
+  same_table t (inl (e, is)) = (
+    λ file. absurd (table_not_refused bytes t file (subst IsRefusedEarly (sym is) (refused_front all e))),
+    λ file. absurd (table_not_refused all t file e),
+  )
+  same_table t (inr (never, is)) = rw is (λ h. h, λ h. h)
