@@ -2,6 +2,7 @@
 pub mod FileFronts
 pub mod Gathering
 pub mod IndexReads
+pub mod IndexReplies
 pub mod IndexedFiles
 pub mod KeptMail
 pub mod MadeFiles

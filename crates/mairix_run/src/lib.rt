@@ -29,7 +29,9 @@ pub use gathered::Gathered;
 pub use index_file::read_index;
 pub use indexing::index_names;
 pub use kept_mail::check_no_mail;
-pub use laws::what_is_read_of_an_index_serves_for_all;
+pub use laws::{
+    what_is_read_of_an_index_is_answered_as_all, what_is_read_of_an_index_serves_for_all,
+};
 pub use making::{create_file, passing_name, settle_file};
 pub use memory_stream::MemoryStream;
 pub use read_names::ReadNames;
