@@ -1,8 +1,8 @@
 -- The first 80 bytes of a file show that it is too short, has another magic or an unknown version, because these are in
 -- them.
-use Rattle.std.proofs.Common.{◌≡◌, ◌∙◌, ap, sym, subst, refl, ℕ, ◌<◌, ◌≤◌, true, false, List, [], ◌++◌, length, take}
+use Rattle.std.proofs.Common.{◌≡◌, ◌∙◌, ap, sym, subst, refl, ℕ, ◌≤◌, true, false, List, [], ◌++◌, length, take}
 use Rattle.std.proofs.Common.{drop, arith, inl, inr, Option, Some, IsSome, Result, Ok, Err, OnOk, Bool, ◌↔◌}
-use Rattle.std.proofs.lemmas.List.{drop-take, length-take, length-take-le, take-append-drop, take-take}
+use Rattle.std.proofs.lemmas.List.{drop-take, length-take, take-append-drop, take-take}
 use Rattle.std.proofs.Math.Seq.{drop-append_seam, take-append_seam}
 use Rattle.std.proofs.lemmas.Nat.{from_be_bytes-to_be_bytes_4}
 use Rattle.std.specs.Int.{from_be_bytes, w32}
@@ -14,7 +14,6 @@ use Rattle.mail_index.specs.Versions.{IsVersion}
 use Rattle.mail_index.specs.declared.view.fault.IndexFault.{IndexFault}
 use Rattle.mail_index.specs.declared.view.fault.IndexFault.TheVariants.{TooShort, BadMagic, BadVersion, BadDigest}
 use Rattle.mail_index.specs.declared.view.fault.IndexFault.TheVariants.{BadLayout}
-use Rattle.mail_index.specs.declared.view.fault.Section.TheVariants.{Counts, Archives, Records, Directory, Postings}
 use Rattle.mail_index.proofs.BuildLaws.Sizes.{length-body, length-index_file}
 use Rattle.mail_index.proofs.FileLaws.Fronts.{concat_then}
 use Rattle.mail_index.proofs.FileLaws.OneTable.{small_version}
@@ -35,27 +34,11 @@ record IsMarked (bytes : List ℕ) : Type 0 where
 
 -- bytes with a later fault are marked
 marked_by : (bytes : List ℕ) (f : IndexFault) → seen_early f ≡ false → IsFirstFault bytes f → IsMarked bytes
-marked_by bytes TooShort late h = absurd cc
-marked_by bytes BadMagic late h = absurd cc
-marked_by bytes BadVersion late h = absurd cc
-marked_by bytes BadDigest late h = record { long = h.0; marked = h.1; known = h.2 }
-marked_by bytes (BadLayout Counts) late h = record { long = h.0.long; marked = h.0.marked; known = h.0.known }
-marked_by bytes (BadLayout Archives) late h =
-    let s = h.0.0 in record { long = s.long; marked = s.marked; known = s.known }
-marked_by bytes (BadLayout Records) late h =
-    let s = h.1.before.0 in record { long = s.long; marked = s.marked; known = s.known }
-marked_by bytes (BadLayout Directory) late h =
-    let s = h.2.before.before.0 in record { long = s.long; marked = s.marked; known = s.known }
-marked_by bytes (BadLayout Postings) late h =
-    let s = h.3.before.before.before.0 in record { long = s.long; marked = s.marked; known = s.known }
+marked_by bytes f late h = grind arith
 
 -- marked bytes have no early fault
 never_early : (bytes : List ℕ) → IsMarked bytes → (f : IndexFault) → seen_early f ≡ true → IsFirstFault bytes f → ⊥
-never_early bytes m TooShort early h = omega (arith, h, m.long)
-never_early bytes m BadMagic early h = h.1 m.marked
-never_early bytes m BadVersion early h = h.2 m.known
-never_early bytes m BadDigest early h = absurd cc
-never_early bytes m (BadLayout section) early h = absurd cc
+never_early bytes m f early h = grind arith
 
 -- a later fault comes only without an early one
 pub late_only : (bytes : List ℕ) (f : IndexFault) → seen_early f ≡ false → IsFirstFault bytes f → ¬ IsRefusedEarly bytes
@@ -64,12 +47,6 @@ late_only bytes f late h = λ e. never_early bytes (marked_by bytes f late h) e.
 -- ---- the first 80 bytes and the whole file
 
 module _ (all : List ℕ) where
-  front_length : length (take 80 all) < 80 → length all < 80
-  front_length short = omega (arith, short, length-take 80 all)
-
-  front_long : 80 ≤ length all → length (take 80 all) ≡ 80
-  front_long long = length-take-le 80 all long
-
   same_magic : take 8 (take 80 all) ≡ take 8 all
   same_magic = grind (arith, take-take)
 
@@ -78,14 +55,14 @@ module _ (all : List ℕ) where
 
   front_of : (f : IndexFault) → seen_early f ≡ true → IsFirstFault all f → IsFirstFault (take 80 all) f
   front_of TooShort early h = omega (arith, h, length-take 80 all)
-  front_of BadMagic early h = (omega (arith, front_long h.0), λ m. h.1 (sym same_magic ∙ m))
+  front_of BadMagic early h = (omega (arith, h.0, length-take 80 all), λ m. h.1 (sym same_magic ∙ m))
   front_of BadVersion early h =
-      (omega (arith, front_long h.0), same_magic ∙ h.1, λ v. h.2 (subst IsVersion same_version v))
+      (omega (arith, h.0, length-take 80 all), same_magic ∙ h.1, λ v. h.2 (subst IsVersion same_version v))
   front_of BadDigest early h = absurd cc
   front_of (BadLayout section) early h = absurd cc
 
   whole_of : (f : IndexFault) → seen_early f ≡ true → IsFirstFault (take 80 all) f → IsFirstFault all f
-  whole_of TooShort early h = front_length h
+  whole_of TooShort early h = omega (arith, h, length-take 80 all)
   whole_of BadMagic early h = (omega (arith, h.0, length-take 80 all), λ m. h.1 (same_magic ∙ m))
   whole_of BadVersion early h = (
     omega (arith, h.0, length-take 80 all),

@@ -1,4 +1,5 @@
--- A search replies by the first fault or the table of an index, so what is read of an index has the replies of the file.
+-- A search replies by the first fault of an index or by its table, so what is read of an index has the replies of the
+-- whole file.
 use Rattle.std.proofs.Common.{ℕ, List, ◌↔◌, inl, inr, Result, Ok, Err}
 use Rattle.run_faults.specs.declared.fault.Fault.{Fault}
 use Rattle.run_faults.specs.declared.fault.Fault.TheVariants as of

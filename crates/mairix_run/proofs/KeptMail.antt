@@ -1,6 +1,6 @@
--- A cutter's first event is the start of a message exactly if the first line that isn't empty is a separator, because no
--- empty line is one.
-use Rattle.std.proofs.Common.{◌≡◌, ◌∙◌, ap, sym, refl, ℕ, ◌≤◌, ◌⊎◌, inl, inr, Bool, true, false, not, if◌then◌else◌}
+-- A cutter's first event is the start of a message exactly if the first line that isn't empty is a separator, because
+-- no empty line is one.
+use Rattle.std.proofs.Common.{◌≡◌, ◌∙◌, ap, sym, refl, ℕ, ◌≤◌, ◌⊎◌, inl, inr, Bool, true, false, not}
 use Rattle.std.proofs.Common.{List, [], ◌∷◌, ◌++◌, length, take, Option, Some, Result, Ok, Err, arith}
 use Rattle.std.specs.List.{find}
 use Rattle.std.specs.Option.{option_map_or}
@@ -41,56 +41,12 @@ module _ (ls : List (List ℕ)) where
       ⊎ ((begins ≡ true) × (refused ≡ false) × (g : List ℕ × List (List ℕ)) × (gs : List (List ℕ × List (List ℕ)))
       × (groups ≡ g ∷ gs)))
 
-abbrev Grouped : Type 0
-Grouped = List (List ℕ) × List (List ℕ × List (List ℕ))
-
--- one line more at the front, which may be the start of a message
-abbrev with_line : Bool → List ℕ → Grouped → Grouped
-with_line starts line gs = if starts then ([], (line, gs.0) ∷ gs.1) else (line ∷ gs.0, gs.1)
-
--- whether a first line starts a message, and whether the lines are refused for it
-abbrev begins_with : Bool → List ℕ → List (List ℕ) → Bool
-begins_with empty line ls =
-    option_map_or is_separator (if not empty then Some line else find (λ line. not (is_empty line)) ls) false
-
-abbrev refused_with : Bool → List ℕ → List (List ℕ) → Bool
-refused_with empty line ls = option_map_or (λ (mark : Bool × List ℕ). not mark.0)
-    (if not empty then Some (is_separator line, line) else find (λ mark. not (is_empty mark.1)) (marked empty ls)) false
-
-one_line_more : (line : List ℕ) (ls : List (List ℕ)) (e s : Bool) → is_empty line ≡ e → is_separator line ≡ s → IsCut ls
-    → IsCut (line ∷ ls)
-one_line_more line ls true true e s h = let full = separator-full line s in absurd cc
-one_line_more line ls true false e s h = go h
-  where
-    begin : begins (line ∷ ls) ≡ begins ls
-    begin = ap (λ b. begins_with b line ls) e
-
-    refuse : refused (line ∷ ls) ≡ refused ls
-    refuse = ap (λ b. refused_with b line ls) e
-
-    group : groups (line ∷ ls) ≡ groups ls
-    group = ap (λ b. (with_line b line (grouped (marked (is_empty line) ls))).1) s
-        ∙ ap (λ b. (grouped (marked b ls)).1) e
-
-    go : IsCut ls → IsCut (line ∷ ls)
-    go (inl h) = inl (begin ∙ h.0, refuse ∙ h.1)
-    go (inr (inl h)) = inr (inl (begin ∙ h.0, refuse ∙ h.1, group ∙ h.2))
-    go (inr (inr h)) = inr (inr (begin ∙ h.0, refuse ∙ h.1, h.2, h.3, group ∙ h.4))
-one_line_more line ls false true e s h =
-    let later = grouped (marked (is_empty line) ls) in
-    inr (inr (
-      ap (λ b. begins_with b line ls) e ∙ s,
-      ap (λ b. refused_with b line ls) e ∙ ap not s,
-      (line, later.0),
-      later.1,
-      ap (λ b. (with_line b line later).1) s,
-    ))
-one_line_more line ls false false e s h =
-    inl (ap (λ b. begins_with b line ls) e ∙ s, ap (λ b. refused_with b line ls) e ∙ ap not s)
+one_line_more : (line : List ℕ) (ls : List (List ℕ)) → IsCut ls → IsCut (line ∷ ls)
+one_line_more line ls h = grind (arith, separator-full)
 
 is_cut : (ls : List (List ℕ)) → IsCut ls
 is_cut [] = inr (inl (refl, refl, refl))
-is_cut (line ∷ ls) = one_line_more line ls (is_empty line) (is_separator line) refl refl (is_cut ls)
+is_cut (line ∷ ls) = one_line_more line ls (is_cut ls)
 
 -- ---- by events
 
@@ -98,39 +54,19 @@ module _ (bytes : List ℕ) where
   starts : (at : ℕ) (line : List ℕ) (es : List ArchiveEvent) → events bytes ≡ Start at line ∷ es
       → begins_as_mbox bytes ≡ true
   unfolding events messages
-  starts at line es is = go (is_cut (lines bytes))
-    where
-      go : IsCut (lines bytes) → begins_as_mbox bytes ≡ true
-      go (inl h) = let e = rw h.1 at is in absurd cc
-      go (inr (inl h)) = let e = rw (h.1, h.2) at is in absurd cc
-      go (inr (inr h)) = h.0
+  starts at line es is = grind (arith, is_cut (lines bytes))
 
   ends_at_once : (all : ℕ) (es : List ArchiveEvent) → events bytes ≡ Done all ∷ es → begins_as_mbox bytes ≡ false
   unfolding events messages
-  ends_at_once all es is = go (is_cut (lines bytes))
-    where
-      go : IsCut (lines bytes) → begins_as_mbox bytes ≡ false
-      go (inl h) = h.0
-      go (inr (inl h)) = h.0
-      go (inr (inr h)) = let e = rw (h.1, h.4) at is in absurd cc
+  ends_at_once all es is = grind (arith, is_cut (lines bytes))
 
   never_a_line : (line : List ℕ) (es : List ArchiveEvent) → events bytes ≡ Line line ∷ es → ⊥
   unfolding events messages
-  never_a_line line es is = go (is_cut (lines bytes))
-    where
-      go : IsCut (lines bytes) → ⊥
-      go (inl h) = let e = rw h.1 at is in absurd cc
-      go (inr (inl h)) = let e = rw (h.1, h.2) at is in absurd cc
-      go (inr (inr h)) = let e = rw (h.1, h.4) at is in absurd cc
+  never_a_line line es is = grind (arith, is_cut (lines bytes))
 
   never_an_end : (span size : ℕ) (es : List ArchiveEvent) → events bytes ≡ End span size ∷ es → ⊥
   unfolding events messages
-  never_an_end span size es is = go (is_cut (lines bytes))
-    where
-      go : IsCut (lines bytes) → ⊥
-      go (inl h) = let e = rw h.1 at is in absurd cc
-      go (inr (inl h)) = let e = rw (h.1, h.2) at is in absurd cc
-      go (inr (inr h)) = let e = rw (h.1, h.4) at is in absurd cc
+  never_an_end span size es is = grind (arith, is_cut (lines bytes))
 
   no_mbox : refusal_of 131072 bytes ≡ Some NotAnMbox → begins_as_mbox bytes ≡ false
   unfolding refusal_of

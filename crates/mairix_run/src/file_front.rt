@@ -1,13 +1,13 @@
 //! The first bytes of a file.
-ghost use Rattle.std.specs.Prelude.{◌≡◌, ◌<◌, ◌≤◌, ◌+◌, ◌-◌, ◌^◌, ℕ, List, Option, Some, length, IfErr, OnOk};
+ghost use Rattle.std.specs.Prelude.{◌≡◌, ◌<◌, ◌≤◌, ◌+◌, ◌-◌, ◌^◌, length, IfErr, OnOk};
 ghost use Rattle.named_files.specs.Refusals.{HasCause};
 ghost use Rattle.mairix_run.specs.FileFronts.{GivesFront};
 
 use mbox_cutter::{DeviceFault, Source};
 use named_files::Refusal;
 
-/// Reads the first bytes that a source still gives, at most this many, a piece at a time, and appends them. It reads none
-/// of those after them.
+/// Reads the first bytes that a source still gives, at most this many, and appends them. It reads a piece at a time, and
+/// no byte after them.
 pub(crate) fn read_front<S: Source>(
     source: &mut S,
     most: usize,

@@ -1,7 +1,7 @@
 //! The index that a search reads.
 //!
 //! If a file isn't an index, only its first 80 bytes are read (decision 96 in docs/DECISIONS.md).
-ghost use Rattle.std.specs.Prelude.{◌≡◌, ◌⊎◌, ◌<◌, ℕ, true, false, List, [], None, IfOk, IfErr, OnOk, IsSome};
+ghost use Rattle.std.specs.Prelude.{◌≡◌, ◌⊎◌, ◌<◌, true, false, [], None, IfOk, IfErr, OnOk};
 ghost use Rattle.named_files.specs.Entries.{IsFileOf, bytes_of};
 ghost use Rattle.named_files.specs.Refusals.{HasCause};
 ghost use Rattle.mairix_run.specs.IndexReads.{IsIndexRead, IsKnownRead, IsRefusedEarly, seen_early};

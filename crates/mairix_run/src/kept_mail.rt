@@ -1,7 +1,7 @@
 //! Mail that an index must not replace.
 //!
 //! A file that begins with a separator is somebody's mail (decision 94 in docs/DECISIONS.md).
-ghost use Rattle.std.specs.Prelude.{◌≡◌, ◌⊎◌, ◌<◌, ◌≤◌, ◌-◌, ◌^◌, ℕ, true, false, List, None, Some, length, take, IfOk, IfErr, OnOk, IsSome};
+ghost use Rattle.std.specs.Prelude.{◌≡◌, ◌⊎◌, ◌<◌, ◌≤◌, ◌-◌, ◌^◌, true, false, None, Some, length, IfOk, IfErr, OnOk};
 ghost use Rattle.named_files.specs.Entries.{bytes_of};
 ghost use Rattle.named_files.specs.Refusals.{HasCause};
 ghost use Rattle.mbox_cutter.specs.Progress.{shown_result};
@@ -18,8 +18,8 @@ use std::alloc::{AllocError, Global};
 /// How many of a file's first bytes are read.
 const LOOKED_AT: usize = 131_072;
 
-/// Checks that a name doesn't lead to a file that begins as an mbox: with a separator as its first line that isn't empty.
-/// Its first 131,072 bytes are looked at, as if it had no more.
+/// Checks that a name doesn't lead to a file that begins as an mbox: its first line that isn't empty is a separator. Only
+/// the first 131,072 bytes are read, as if the file had no more.
 ///
 /// # Errors
 ///
@@ -30,7 +30,7 @@ pub fn check_no_mail<F: Folder>(
     reports: &mut F::Reports,
     name: &str,
 ) -> Result<(), Stopped>
-    // A name at which the system doesn't let it look is taken for one of no file.
+    // If the system refuses to show what has the name, that is taken for no mail.
     ensures no_mail { OnOk result (F.agree reports.new ≡ true
         → (begins_as_mail (F.holds folder.now name.now) ≡ false) ⊎ F.can_refuse) }
     ensures stopped { IfErr result (λ stopped. F.agree reports.new ≡ true → IsNotReplaced name.now

@@ -1,5 +1,5 @@
--- What was read so far is after the old bytes, and no call has failed. The loop ends because each turn reads at least one
--- byte of those that are left.
+-- What was read so far is after the old bytes, and no call has failed. The loop ends because each turn reads at least
+-- one of the bytes that may still be read.
 use Rattle.std.proofs.Common.{◌≡◌, ◌<◌, ◌+◌, length}
 use Rattle.mairix_run.proofs.FileFronts.{HasReadFront}
 use Rattle.mairix_run.proofs.file_front.read_front.Given as goal
