@@ -7,5 +7,6 @@ pub returns-in-Ok-read-clause-bytes : goal.returns-in-Ok-read-clause-bytes
 returns-in-Ok-read-clause-bytes g c = λ agrees.
     let rest = g.F.File.Source.rest in
     let known : IsSome (rest c.read_bytes-read.new.file) = search rules in
-    reads_file (g.F.Folder.holds c.args.folder.now c.args.name.now) (rest c.in-Ok.file)
-    (rest c.read_bytes-read.new.file) c.read_bytes-read.new.bytes.items c.in-Ok.ensures.rest c.in-Ok-read.ensures.read known
+    let holds = g.F.Folder.holds in
+    reads_file (holds c.args.folder.now c.args.name.now) (rest c.in-Ok.file) (rest c.read_bytes-read.new.file)
+    c.read_bytes-read.new.bytes.items c.in-Ok.ensures.rest c.in-Ok-read.ensures.read known
