@@ -1,14 +1,21 @@
 -- The proofs of mairix_run: lemmas about streams and about files.
 pub mod FileFronts
+pub mod FilesAt
 pub mod Gathering
 pub mod IndexReads
 pub mod IndexReplies
 pub mod IndexedFiles
 pub mod KeptMail
+pub mod LikeWorks
 pub mod MadeFiles
+pub mod MadeRuns
+pub mod MakingRuns
 pub mod NamedSources
 pub mod ReadFiles
 pub mod Replies
+pub mod RunParts
+pub mod RunStages
 pub mod SearchedArchives
 pub mod Taking
 pub mod WholeFiles
+pub mod Written

@@ -1,16 +1,16 @@
 -- How a name ends, for which name a run is stopped while a file is made, and by which calls the file is made.
 use Rattle.std.proofs.Common.{◌≡◌, ap, sym, ℕ, nat_eq, Bool, true, false, if◌then◌else◌, List, Option, None, Some}
-use Rattle.std.proofs.Common.{◌⊎◌, inl, inr, refl, arith, Err}
+use Rattle.std.proofs.Common.{◌⊎◌, inl, inr, arith}
 use Rattle.std.proofs.lemmas.Str.Pattern.{ends_text}
 use Rattle.std.specs.Bool.{MatchBool}
 use Rattle.std.specs.List.{ends_with}
 use Rattle.std.specs.Str.Pattern.{FindsTextSuffix, HasSuffixMatch}
 use Rattle.named_files.specs.Refusals.{HasCause, refusal_of}
-use Rattle.named_files.specs.TakingNames.{TakesName}
 use Rattle.named_files.specs.declared.name_fault.NameFault.{NameFault}
 use Rattle.named_files.specs.declared.name_fault.NameFault.TheVariants.{NotNamed, NotSynced}
 use Rattle.named_files.specs.declared.refusal.Refusal.TheVariants as why
-use Rattle.mairix_run.specs.MadeFiles.{IsCleared, IsRefusal, MakesFile, RunsOut, unfit_name}
+use Rattle.mairix_run.specs.MadeFiles.{IsCleared, IsRefusal, MakesFile, fault_of_refusal, unfit_name}
+use Rattle.run_faults.specs.declared.fault.Fault.TheVariants.{Out}
 use Rattle.mairix_run.specs.Stops.{IsStoppedAt}
 use Rattle.mairix_run.specs.declared.stopped.Stopped.{Stopped}
 use Rattle.mairix_run.specs.declared.stopped.Stopped.TheVariants as by
@@ -71,14 +71,10 @@ pub apart_of_fit : (apart : List ℕ → List ℕ → Bool) (read : List (List �
     → unfit_name apart read passing name ≡ None → apart name passing ≡ true
 apart_of_fit apart read passing name fit = grind arith
 
--- it has a cause, or memory ran out
-pub fails_to_take : {D : Type 0} (renames : D → List ℕ → Bool → Bool → D → Type 0)
-    (syncs : D → List ℕ → Bool → D → Type 0) (discards : D → D → Type 0) (name : List ℕ) (old new : D) (C : Type 0)
-    (fault : NameFault) → TakesName renames syncs discards name (Err fault) old new → HasCause (refusal_of fault) C
-    → C ⊎ RunsOut renames syncs discards name old new
-fails_to_take renames syncs discards name old new C (NotNamed why.Refused) taken cause = inl cause
-fails_to_take renames syncs discards name old new C (NotSynced why.Refused) taken cause = inl cause
-fails_to_take renames syncs discards name old new C (NotNamed why.Memory) taken cause =
-    inr (NotNamed why.Memory, refl, taken)
-fails_to_take renames syncs discards name old new C (NotSynced why.Memory) taken cause =
-    inr (NotSynced why.Memory, refl, taken)
+-- the output failed, and not memory: that has a cause
+pub fails_to_take : (C : Type 0) (fault : NameFault) → HasCause (refusal_of fault) C
+    → fault_of_refusal (refusal_of fault) ≡ Out → C
+fails_to_take C (NotNamed why.Refused) cause is = cause
+fails_to_take C (NotSynced why.Refused) cause is = cause
+fails_to_take C (NotNamed why.Memory) cause is = absurd cc
+fails_to_take C (NotSynced why.Memory) cause is = absurd cc

@@ -1,4 +1,4 @@
--- The definitions of what a run prints at its end, of its status, and of the files that it reads and makes.
+-- The definitions of a whole run: what it has to do, what it reads and makes, what it prints, and its status.
 pub mod Answered
 pub mod Clocks
 pub mod FileFronts
@@ -7,6 +7,7 @@ pub mod Gathered
 pub mod GatheredFields
 pub mod IndexReads
 pub mod Indexed
+pub mod Inside
 pub mod KeptMail
 pub mod MadeFiles
 pub mod MemoryFields
@@ -14,5 +15,7 @@ pub mod ReadFiles
 pub mod Reports
 pub mod Stops
 pub mod Streams
+pub mod Tasks
 pub mod WholeFiles
+pub mod WholeRuns
 pub mod WriterStreams

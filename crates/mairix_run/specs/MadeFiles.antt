@@ -5,10 +5,10 @@ use Rattle.std.specs.List.{ends_with}
 use Rattle.std.specs.Option.{option_or}
 use Rattle.std.specs.String.{string_bytes}
 use Rattle.named_files.specs.Entries.{Entry, Nothing, File, Folder, Other}
-use Rattle.named_files.specs.Refusals.{refusal_of}
 use Rattle.named_files.specs.Reported.{is_free}
 use Rattle.named_files.specs.TakingNames.{TakesName}
 use Rattle.named_files.specs.declared.name_fault.NameFault.{NameFault}
+use Rattle.named_files.specs.declared.refusal.Refusal.{Refusal}
 use Rattle.named_files.specs.declared.refusal.Refusal.TheVariants as why
 use Rattle.run_faults.specs.declared.fault.Fault.{Fault}
 use Rattle.run_faults.specs.declared.fault.Fault.TheVariants.{Memory, Out}
@@ -22,7 +22,8 @@ has_last_part name = nat_lt 0 (length name) && not (ends_with nat_eq name (codes
 
 -- Which of both names is refused, whatever they lead to: a name without a last part, one that another file can't take
 -- without changing one that is read, or a passing name that another file can't take without changing what the name
--- leads to. None if neither is.
+-- leads
+-- to. None if neither is.
 abbrev pub unfit_name : (List ℕ → List ℕ → Bool) → List (List ℕ) → List ℕ → List ℕ → Option (List ℕ)
 unfit_name apart read passing name = if not (has_last_part name && are_all_apart apart read name) then Some name
     else (if are_all_apart apart read passing && apart name passing then None else Some passing)
@@ -64,10 +65,16 @@ MakesFile {D} removes creates passing true old new =
 MakesFile {D} removes creates passing false old new = (new ≡ old) ⊎ (removes old passing false new
     ⊎ ((free : D) × IsCleared removes passing old free × creates free passing false new))
 
--- what is reported of a file that was written: the fault of the run, its status, or that the output failed
+-- the fault of a run whose file was refused its name
+abbrev pub fault_of_refusal : Refusal → Fault
+fault_of_refusal why.Refused = Out
+fault_of_refusal why.Memory = Memory
+
+-- what is reported of a file that was written: the fault of the run; its status; or that the output failed, or that
+-- memory ran out
 abbrev pub IsSettled : Result ℕ Fault → Result ℕ Fault → Type 0
 IsSettled (Err fault) result = result ≡ Err fault
-IsSettled (Ok status) result = (result ≡ Ok status) ⊎ (result ≡ Err Out)
+IsSettled (Ok status) result = (result ≡ Ok status) ⊎ ((result ≡ Err Out) ⊎ (result ≡ Err Memory))
 
 -- The calls by which it is settled: after a fault it is removed; otherwise it takes its name, and that fails if and
 -- only if the result is a fault.
@@ -76,9 +83,3 @@ abbrev pub SettlesFile : {D : Type 0} → (D → List ℕ → Bool → Bool → 
 SettlesFile renames syncs discards name (Err fault) result old new = discards old new
 SettlesFile renames syncs discards name (Ok status) result old new = (named : Result (Unit {0}) NameFault)
     × (is_ok named ≡ is_ok result) × TakesName renames syncs discards name named old new
-
--- memory ran out in the call that gives a file its name, or in the one that brings the name to the disk
-abbrev pub RunsOut : {D : Type 0} → (D → List ℕ → Bool → Bool → D → Type 0) → (D → List ℕ → Bool → D → Type 0)
-    → (D → D → Type 0) → List ℕ → D → D → Type 0
-RunsOut renames syncs discards name old new = (fault : NameFault) × (refusal_of fault ≡ why.Memory)
-    × TakesName renames syncs discards name (Err fault) old new

@@ -26,6 +26,11 @@ abbrev pub ending_of : Result ℕ Stopped → Ending
 ending_of (Ok status) = Done status
 ending_of (Err stopped) = ending_of_stopped stopped
 
+-- the ending by the status or the fault of what was written
+abbrev pub ending_by : Result ℕ Fault → Ending
+ending_by (Ok status) = Done status
+ending_by (Err fault) = Because fault
+
 -- the file with this path can't be opened, read or made; or there was no memory for the path
 abbrev pub IsStoppedAt : List ℕ → Stopped → Type 0
 IsStoppedAt path (by.CannotOpen name) = string_bytes name ≡ path

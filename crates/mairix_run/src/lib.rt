@@ -2,6 +2,7 @@
 #![tactic(auto)]
 
 mod answering;
+mod asked;
 mod clock;
 mod file_front;
 mod flushing;
@@ -12,7 +13,10 @@ mod kept_mail;
 mod laws;
 mod making;
 mod memory_stream;
+mod new_index;
 mod read_names;
+mod running;
+mod searching;
 mod std_writer;
 mod stopped;
 mod stream;
@@ -35,6 +39,7 @@ pub use laws::{
 pub use making::{create_file, passing_name, settle_file};
 pub use memory_stream::MemoryStream;
 pub use read_names::ReadNames;
+pub use running::run_program;
 pub use std_writer::{Flush, StdWriter};
 pub use stopped::Stopped;
 pub use stream::Stream;

@@ -2,14 +2,15 @@
 ghost use Rattle.std.specs.Prelude.{◌≡◌, ◌≢◌, ◌⊎◌, ◌<◌, ◌-◌, ◌^◌, ◌++◌, ◌&&◌, if◌then◌else◌, ℕ, true, false, List, [], None, Some, codes, is_ok, string_bytes, IfOk, IfErr, OnOk, OnErr, IfSome};
 ghost use Rattle.named_files.specs.Crashes.{LeavesNoMoreWhere, LeavesOnly};
 ghost use Rattle.named_files.specs.Entries.{Entry, File, Leads, SameWhere};
-ghost use Rattle.named_files.specs.Refusals.{HasCause};
+ghost use Rattle.named_files.specs.Refusals.{HasCause, refusal_of};
 ghost use Rattle.named_files.specs.TakingNames.{Replaces};
-ghost use Rattle.mairix_run.specs.MadeFiles.{IsRefusal, IsSettled, MakesFile, RunsOut, SettlesFile, has_last_part, is_open_to, is_special, taken_name, unfit_name};
+ghost use Rattle.mairix_run.specs.MadeFiles.{IsRefusal, IsSettled, MakesFile, fault_of_refusal, SettlesFile, has_last_part, is_open_to, is_special, taken_name, unfit_name};
 ghost use Rattle.mairix_run.specs.ReadFiles.{are_all_apart, names_read};
+ghost use Rattle.run_faults.specs.declared.fault.Fault.TheVariants.{Out};
 
 use crate::read_names::ReadNames;
 use crate::stopped::Stopped;
-use named_files::{Folder, Look, Refusal, clear_leftover, take_name};
+use named_files::{Folder, Look, NameFault, Refusal, clear_leftover, take_name};
 use run_faults::Fault;
 use std::alloc::{AllocError, Global};
 
@@ -54,6 +55,10 @@ pub fn create_file<F: Folder>(
         (unfit_name (F.apart folder.old) (names_read read.now) passing.now name.now)
         (taken_name (F.holds folder.old) (F.is_leftover folder.old) passing.now name.now)
         passing.now F.can_refuse stopped) }
+    // If a name is refused, whatever it leads to, nothing is touched.
+    ensures untouched { OnErr result (F.agree reports.new ≡ true
+        → (unfit_name (F.apart folder.old) (names_read read.now) passing.now name.now ≡ None)
+        ⊎ (folder.new ≡ folder.old)) }
     ensures empty { IfOk result (λ new. F.New.taken new ≡ Some []) }
     ensures fresh { IfOk result (λ new. F.New.failures new ≡ 0) }
     ensures making { OnOk result (F.making folder.new ≡ Some passing.now) }
@@ -210,7 +215,7 @@ fn make_file<F: Folder>(
 }
 
 /// Gives a file its name if all of it was written, and returns the status; otherwise removes it, and returns the fault of
-/// the run. If the name can't be given or brought to the disk, the output has failed.
+/// the run. If the name can't be given or brought to the disk, the output has failed, or memory ran out.
 #[tactic(auto, using(crate::proofs::MadeFiles::fails_to_take))]
 pub fn settle_file<F: Folder>(
     folder: &mut F,
@@ -223,9 +228,9 @@ pub fn settle_file<F: Folder>(
     requires making { F.making folder.old ≡ Some passing.now }
     requires count { F.New.failures new < 2 ^ 64 - 1 }
     ensures status { IsSettled written result }
-    // The output fails only with a cause, or if memory ran out as the file was to take its name.
-    ensures refused { OnOk written (OnErr result ((F.can_refuse ⊎ F.writes_can_fail)
-        ⊎ RunsOut F.renames F.syncs F.discards name.now folder.old folder.new)) }
+    // The output fails only with a cause.
+    ensures refused { OnOk written (IfErr result (λ fault. fault ≡ Out
+        → F.can_refuse ⊎ F.writes_can_fail)) }
     // With a status, the name leads to all that was written.
     ensures named { OnOk result (Leads (F.holds folder.new name.now) (F.New.taken new)) }
     // After a fault of the run, a name that is apart from the passing name leads to what it led to before; if only the
@@ -237,8 +242,7 @@ pub fn settle_file<F: Folder>(
         ⊎ Leads (F.holds folder.new name.now) (F.New.taken new) }
     ensures others { SameWhere (λ n. F.apart folder.old n passing.now
         && F.apart folder.old n name.now) (F.holds folder.old) (F.holds folder.new) }
-    // A crash at any moment of the call leaves under the name, if it is apart from the passing name, what it might have
-    // left before, or the whole new file.
+    // A crash at any moment of the call leaves under such a name what it might have left before, or the whole new file.
     ensures any_moment { LeavesOnly F.moment F.left_since folder.old folder.new
         (Replaces (F.apart folder.old) (F.may_leave folder.old) passing.now name.now
         (F.New.taken new)) }
@@ -261,6 +265,17 @@ pub fn settle_file<F: Folder>(
     };
     match take_name(folder, alloc, new, passing, name) {
         Ok(()) => Ok(status),
-        Err(_) => Err(Fault::Out),
+        Err(fault) => Err(fault_of_name(fault)),
+    }
+}
+
+/// Returns the fault of a run whose file doesn't have its name for good.
+fn fault_of_name(fault: NameFault) -> Fault
+    ensures { result ≡ fault_of_refusal (refusal_of fault) }
+{
+    match fault {
+        NameFault::NotNamed(Refusal::Memory) | NameFault::NotSynced(Refusal::Memory) =>
+            Fault::Memory,
+        _ => Fault::Out,
     }
 }

@@ -1,6 +1,6 @@
 //! Why a run over files ended early.
 ghost use Rattle.std.specs.Prelude.{◌≡◌, ℕ, List};
-ghost use Rattle.mairix_run.specs.Stops.{IsStoppedAt, IsGivenUnlessRefused, IsStoppedBy};
+ghost use Rattle.mairix_run.specs.Stops.{IsStoppedAt, IsGivenUnlessRefused, IsStoppedBy, ending_by, ending_of};
 
 use mairix_options::OrMemory;
 use named_files::Refusal;
@@ -38,6 +38,16 @@ impl Stopped {
             Err(Refusal::Memory) => Err(Stopped::Fault(Fault::Memory)),
             Err(Refusal::Refused) => Err(Stopped::at(alloc, path)),
         }
+    }
+}
+
+/// Returns the status of what was written, or that its fault stopped the run.
+pub(crate) fn status_or_stopped(written: Result<u8, Fault>) -> Result<u8, Stopped>
+    ensures { ending_of result ≡ ending_by written }
+{
+    match written {
+        Ok(status) => Ok(status),
+        Err(fault) => Err(Stopped::Fault(fault)),
     }
 }
 

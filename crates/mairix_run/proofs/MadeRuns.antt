@@ -1,0 +1,175 @@
+-- What becomes of a folder while a run makes a file: it isn't made, or it is made, filled and settled.
+use Rattle.std.proofs.Common.{◌≡◌, ◌∙◌, ◌⊎◌, inl, inr, ⊎_elim, refl, sym, ap, subst, ℕ, Bool, true, false, ◌&&◌, List}
+use Rattle.std.proofs.Common.{[], All}
+use Rattle.std.proofs.Common.{Option, None, Some, Result, Ok, Err, OnErr, IfSome, ◌∷◌, ◌++◌, map, String, Global}
+use Rattle.std.proofs.Common.{string_bytes, slice_index_or, arith}
+use Rattle.std.proofs.lemmas.List.Elements.{All-head, All-tail}
+use Rattle.named_archives.specs.Names.{files_of}
+use Rattle.std.proofs.lemmas.Bool.Decides.{nat_tests}
+use Rattle.named_files.specs.Crashes.{LeavesNoMoreWhere, LeavesOnly}
+use Rattle.named_files.specs.Entries.{Entry, SameWhere, bytes_of}
+use Rattle.named_files.specs.TakingNames.{Replaces}
+use Rattle.named_files.specs.declared.folder.Folder.{Ghosts as FolderGhosts}
+use Rattle.run_faults.specs.declared.fault.Fault.{Fault}
+use Rattle.mairix_run.proofs.MadeFiles.{apart_of_fit}
+use Rattle.mairix_run.proofs.MakingRuns.{fit-apart, kept-all, taken-text}
+use Rattle.mairix_run.proofs.RunParts.{follows, leaves-weaker, starts}
+use Rattle.mairix_run.specs.MadeFiles.{MakesFile, SettlesFile, unfit_name}
+use Rattle.mairix_run.specs.Tasks.{Work}
+use Rattle.mairix_run.specs.WholeRuns.{IsTextOf, IsWritten, LeavesInMaking, is_left_alone, passing_of}
+
+both-first : (a b : Bool) → (a && b) ≡ true → a ≡ true
+both-first a b h = grind (arith, nat_tests)
+
+-- what is so of a list is so of its end
+pub all-after : (P : List ℕ → Type 0) (front back : List (List ℕ)) → All P (front ++ back) → All P back
+all-after P [] back all = all
+all-after P (n ∷ front) back all = all-after P front back (All-tail P n (front ++ back) all)
+
+-- files whose names lead to what they led to before
+pub files-same : (old new : List ℕ → Entry) (names : List (String Global))
+    → All (λ n. new n ≡ old n) (map string_bytes names) → files_of new names ≡ files_of old names
+files-same old new [] same = refl
+files-same old new (name ∷ names) same = λ i.
+    bytes_of (All-head (λ n. new n ≡ old n) (string_bytes name) (map string_bytes names) same i)
+    ∷ files-same old new names (All-tail (λ n. new n ≡ old n) (string_bytes name) (map string_bytes names) same) i
+
+module _ {D F S N L R : Type 0} (f : FolderGhosts D F S N L R) (old : D) (read : List (List ℕ)) (name : List ℕ) where
+  -- names that fit lead to what they led to, once a file is made
+  pub fit-same : (new : D) (passing : List ℕ) → unfit_name (f.apart old) read passing name ≡ None
+      → SameWhere (λ n. f.apart old n passing) (f.holds old) (f.holds new)
+          → All (λ n. f.holds new n ≡ f.holds old n) read
+  fit-same new passing fit others = kept-all read (λ n. f.apart old n passing && f.apart old n name)
+      (f.holds old) (f.holds new) (fit-apart (f.apart old) read passing name fit)
+      (λ n both. others n (both-first (f.apart old n passing) (f.apart old n name) both))
+
+  -- ---- no file is made
+
+  -- what a call says that made none
+  pub record NoneMade (new : D) (passing : List ℕ) : Type 0 where
+    pub untouched : (unfit_name (f.apart old) read passing name ≡ None) ⊎ (new ≡ old)
+    pub others : SameWhere (λ n. f.apart old n passing) (f.holds old) (f.holds new)
+    pub any_moment : LeavesOnly f.moment f.left_since old new (λ n c. f.apart old n passing ≡ true
+        → f.may_leave old n c)
+    pub calls : MakesFile f.removes f.creates passing false old new
+
+  -- a crash at any moment since leaves the old file or the whole text
+  abbrev pub Leaves : Work → D → Type 0
+  Leaves work new = LeavesOnly f.moment f.left_since old new (LeavesInMaking (f.apart old) (f.may_leave old) work name)
+
+  -- this moment is the last one
+  abbrev pub OnlyNow : Type 0
+  OnlyNow = (n : List ℕ) (c : Entry) → f.left_since old (f.moment old) n c → f.may_leave old n c
+
+  same-all : (new : D) → new ≡ old → All (λ n. f.holds new n ≡ f.holds old n) read
+  same-all new same = λ k d below. ap (λ x. f.holds x (slice_index_or read k d)) same
+
+  none-read : (new : D) → NoneMade new (passing_of name) → All (λ n. f.holds new n ≡ f.holds old n) read
+  none-read new none = ⊎_elim
+      (λ fit. fit-same new (passing_of name) fit none.others)
+      (λ same. same-all new same) none.untouched
+
+  left-before : (work : Work) (n : List ℕ) (c : Entry) → f.may_leave old n c
+      → LeavesInMaking (f.apart old) (f.may_leave old) work name n c
+  left-before work n c left = (λ _. left, λ e. inl (subst (λ m. f.may_leave old m c) e left))
+
+  left-apart : (work : Work) → f.apart old name (passing_of name) ≡ true → (n : List ℕ) (c : Entry)
+      → (f.apart old n (passing_of name) ≡ true → f.may_leave old n c)
+      → LeavesInMaking (f.apart old) (f.may_leave old) work name n c
+  left-apart work is_apart n c left = (
+    λ both. left (both-first (f.apart old n (passing_of name)) (f.apart old n name) both),
+    λ e. inl (subst (λ m. f.may_leave old m c) e
+        (left (subst (λ m. f.apart old m (passing_of name) ≡ true) (sym e) is_apart))),
+  )
+
+  none-leaves : (work : Work) (new : D) → OnlyNow → NoneMade new (passing_of name) → Leaves work new
+  none-leaves work new only_now none = ⊎_elim
+      (λ fit. leaves-weaker f.moment f.left_since old new _ _
+      (left-apart work (apart_of_fit (f.apart old) read (passing_of name) name fit)) none.any_moment)
+      (λ same. subst (λ d. Leaves work d) (sym same) (starts f.moment f.left_since old _
+      (λ n c left. left-before work n c (only_now n c left)))) none.untouched
+
+  -- the same for a passing name that equals the name's
+  pub none-made-read : (new : D) (passing : List ℕ) → passing_of name ≡ passing → NoneMade new passing
+      → All (λ n. f.holds new n ≡ f.holds old n) read
+  none-made-read new passing e none = none-read new (subst (λ p. NoneMade new p) (sym e) none)
+
+  pub none-made-leaves : (work : Work) (new : D) (passing : List ℕ) → passing_of name ≡ passing → OnlyNow
+      → NoneMade new passing → Leaves work new
+  none-made-leaves work new passing e only_now none =
+      none-leaves work new only_now (subst (λ p. NoneMade new p) (sym e) none)
+
+  -- ---- a file is made, filled and settled
+
+  -- what the calls say that made it, and that settled it
+  pub record MadeAndSettled (mid new : D) (taken : Option (List ℕ)) (written result : Result ℕ Fault) (passing : List
+      ℕ) :
+      Type 0 where
+    pub fit : unfit_name (f.apart old) read passing name ≡ None
+    pub others : SameWhere (λ n. f.apart old n passing) (f.holds old) (f.holds mid)
+    pub crash : LeavesNoMoreWhere (λ n. f.apart old n passing) (f.may_leave old) (f.may_leave mid)
+    pub apart : (a b : List ℕ) → f.apart mid a b ≡ f.apart old a b
+    pub making : LeavesOnly f.moment f.left_since old mid (λ n c. f.apart old n passing ≡ true → f.may_leave old n c)
+    pub calls : MakesFile f.removes f.creates passing true old mid
+    pub others_then : SameWhere (λ n. f.apart mid n passing && f.apart mid n name) (f.holds mid) (f.holds new)
+    pub settling : LeavesOnly f.moment f.left_since mid new (Replaces (f.apart mid) (f.may_leave mid) passing name
+        taken)
+    pub discarding : OnErr written (LeavesOnly f.moment f.left_since mid new
+        (λ n c. f.apart mid n passing ≡ true → f.may_leave mid n c))
+    pub calls_then : SettlesFile f.renames f.syncs f.discards name written result mid new
+
+  module _ (mid new : D) (taken : Option (List ℕ)) (written result : Result ℕ Fault) where
+    abbrev Made : Type 0
+    Made = MadeAndSettled mid new taken written result (passing_of name)
+
+    made-alone : Made → SameWhere (is_left_alone (f.apart old) (Some name)) (f.holds old) (f.holds new)
+    made-alone m = λ n both. m.others_then n ((λ i. m.apart n (passing_of name) i && m.apart n name i) ∙ both)
+        ∙ m.others n (both-first (f.apart old n (passing_of name)) (f.apart old n name) both)
+
+    made-read : Made → All (λ n. f.holds new n ≡ f.holds old n) read
+    made-read m = kept-all read (λ n. f.apart old n (passing_of name) && f.apart old n name) (f.holds old) (f.holds new)
+        (fit-apart (f.apart old) read (passing_of name) name m.fit) (made-alone m)
+
+    module _ (work : Work) (OutFails : Type 0) (m : Made) where
+      is-apart : f.apart old name (passing_of name) ≡ true
+      is-apart = apart_of_fit (f.apart old) read (passing_of name) name m.fit
+
+      first : Leaves work mid
+      first = leaves-weaker f.moment f.left_since old mid _ _ (left-apart work is-apart) m.making
+
+      -- what may be left after the file was made, may be left of the run
+      later : (n : List ℕ) (c : Entry) → (f.apart mid n (passing_of name) ≡ true → f.may_leave mid n c)
+          → LeavesInMaking (f.apart old) (f.may_leave old) work name n c
+      later n c left = left-apart work is-apart n c
+          (λ a. m.crash n c a (left (m.apart n (passing_of name) ∙ a)))
+
+      -- so may the whole text
+      whole : (text : List ℕ) → IsTextOf work text → taken ≡ Some text → (n : List ℕ) (c : Entry)
+          → Replaces (f.apart mid) (f.may_leave mid) (passing_of name) name taken n c
+          → LeavesInMaking (f.apart old) (f.may_leave old) work name n c
+      whole text is took n c left = (
+        λ both. m.crash n c (both-first (f.apart old n (passing_of name)) (f.apart old n name) both)
+            (left.0 ((λ i. m.apart n (passing_of name) i && m.apart n name i) ∙ both)),
+        λ e. ⊎_elim (λ before. inl (m.crash name c is-apart before))
+            (λ h. inr (h.0, subst (λ t. IsTextOf work t) (sym (text-of h.0 h.1)) is, h.2))
+            (left.1 e (m.apart name (passing_of name) ∙ is-apart)),
+      ) where
+        text-of : (bytes : List ℕ) → IfSome taken (λ all. bytes ≡ all) → bytes ≡ text
+        text-of bytes all = subst (λ t. IfSome t (λ all. bytes ≡ all)) took all
+
+      made-leaves : (w : Result ℕ Fault) → w ≡ written → IsWritten OutFails work (Some []) taken w → Leaves work new
+      made-leaves (Ok status) same (text, done, sent) = follows f.moment f.left_since old mid new _ _ first m.settling
+          (whole text (status, done) (taken-text taken text sent))
+      made-leaves (Err fault) same is = follows f.moment f.left_since old mid new _ _ first
+          (subst (λ (w : Result ℕ Fault). OnErr w (LeavesOnly f.moment f.left_since mid new
+          (λ n c. f.apart mid n (passing_of name) ≡ true → f.may_leave mid n c))) (sym same) m.discarding) later
+
+    pub made-settled-read : (passing : List ℕ) → passing_of name ≡ passing
+        → MadeAndSettled mid new taken written result passing → All (λ n. f.holds new n ≡ f.holds old n) read
+    made-settled-read passing e m = made-read (subst (λ p. MadeAndSettled mid new taken written result p) (sym e) m)
+
+    pub made-settled-leaves : (work : Work) (OutFails : Type 0) (passing : List ℕ) → passing_of name ≡ passing
+        → MadeAndSettled mid new taken written result passing → IsWritten OutFails work (Some []) taken written
+        → Leaves work new
+    made-settled-leaves work OutFails passing e m is = made-leaves work OutFails
+        (subst (λ p. MadeAndSettled mid new taken written result p) (sym e) m) written refl is

@@ -1,0 +1,130 @@
+-- What the parts of a run do, put together.
+use Rattle.std.proofs.Common.{◌≡◌, ◌∙◌, ◌⊎◌, ◌≤◌, ◌^◌, inl, inr, ⊎_elim, refl, subst, ℕ, ◌&&◌, List, [], All}
+use Rattle.std.proofs.Common.{Option, None, Some, Result, Ok, Err, rules, arith}
+use Rattle.mbox_cutter.specs.declared.device.Out.{Ghosts}
+use Rattle.named_files.specs.Crashes.{LeavesOnly}
+use Rattle.named_files.specs.Entries.{Entry, SameWhere}
+use Rattle.named_files.specs.declared.folder.Folder.{Ghosts as FolderGhosts}
+use Rattle.mairix_run.proofs.RunStages.{Ends}
+use Rattle.mairix_run.specs.Inside.Running.{Ran}
+use Rattle.mairix_run.specs.Stops.{Ending}
+use Rattle.mairix_run.specs.Tasks.{Task, Work}
+use Rattle.mairix_run.specs.WholeRuns.{CallsFor, IsTrouble, LeavesFor, LeavesInMaking, MakesFor, Puts, Writes}
+use Rattle.mairix_run.specs.WholeRuns.{is_left_alone, refused_name}
+
+-- before the first call
+pub starts : {D : Type 0} (moment : D → ℕ) (left_since : D → ℕ → List ℕ → Entry → Type 0) (old : D)
+    (P : List ℕ → Entry → Type 0) → ((n : List ℕ) (c : Entry) → left_since old (moment old) n c → P n c)
+    → LeavesOnly moment left_since old old P
+starts moment left_since old P here = record { later = omega arith; each = here; before = λ t n c le left. inl left }
+
+-- two runs, one after the other
+pub follows : {D : Type 0} (moment : D → ℕ) (left_since : D → ℕ → List ℕ → Entry → Type 0) (old mid new : D)
+    (P Q : List ℕ → Entry → Type 0) → LeavesOnly moment left_since old mid P → LeavesOnly moment left_since mid new Q
+    → ((n : List ℕ) (c : Entry) → Q n c → P n c) → LeavesOnly moment left_since old new P
+follows moment left_since old mid new P Q first later weaker = record {
+  later = omega (arith, first.later, later.later);
+  each = λ n c left. ⊎_elim (first.each n c) (weaker n c) (later.before (moment old) n c first.later left);
+  before = λ t n c le left. ⊎_elim (first.before t n c le) (λ now. inr (weaker n c now))
+      (later.before t n c (omega (arith, le, first.later)) left);
+}
+
+-- what may be left at each moment, said more weakly
+pub leaves-weaker : {D : Type 0} (moment : D → ℕ) (left_since : D → ℕ → List ℕ → Entry → Type 0) (old new : D)
+    (P Q : List ℕ → Entry → Type 0) → ((n : List ℕ) (c : Entry) → P n c → Q n c)
+    → LeavesOnly moment left_since old new P → LeavesOnly moment left_since old new Q
+leaves-weaker moment left_since old new P Q weaker only = record {
+  later = only.later;
+  each = λ n c left. weaker n c (only.each n c left);
+  before = λ t n c le left. ⊎_elim inl (λ p. inr (weaker n c p)) (only.before t n c le left);
+}
+
+module _ {D F S N L R O : Type 0} (f : FolderGhosts D F S N L R) (o : Ghosts O) (handed_on : O → Option (List ℕ)) where
+  all-same : (old : D) (names : List (List ℕ)) → All (λ n. f.holds old n ≡ f.holds old n) names
+  all-same old names = search rules
+
+  no-calls : (file : Option (List ℕ)) (old : D) (ended : Ending) → CallsFor f file ended old old
+  no-calls None old ended = refl
+  no-calls (Some name) old ended = inl refl
+
+  left-now : (work : Work) (file : Option (List ℕ)) (old : D) (n : List ℕ) (c : Entry) → f.may_leave old n c
+      → LeavesFor (f.apart old) (f.may_leave old) work file n c
+  left-now work None old n c left = left
+  left-now work (Some name) old n c left = (λ _. left, λ e. inl (subst (λ m. f.may_leave old m c) e left))
+
+  -- it ends so before anything is changed
+  pub ran-ended : (task : Result Task Ending) (old : D) (out : O) (ended : Ending)
+      → ((n : List ℕ) (c : Entry) → f.left_since old (f.moment old) n c → f.may_leave old n c)
+          → Ends f.can_refuse f.reads_can_fail task ended
+      → Ran f o handed_on task old old out out ended
+  ran-ended (Err why) old out ended only_now ends = record {
+    run = (refl, ends);
+    read = all-same old [];
+    alone = λ n alone. refl;
+    any_moment = starts f.moment f.left_since old _ (λ n c left. only_now n c left);
+    calls = refl;
+  }
+  ran-ended (Ok task) old out ended only_now ends = record {
+    run = inl (refl, ends);
+    read = all-same old task.read;
+    alone = λ n alone. refl;
+    any_moment = starts f.moment f.left_since old _ (λ n c left. left-now task.work task.file old n c (only_now n c
+        left));
+    calls = no-calls task.file old ended;
+  }
+
+  -- the answer goes to standard output
+  printed : (work : Work) (read : List (List ℕ)) (file : Option (List ℕ)) → file ≡ None → (old : D) (out out' : O)
+      (ended : Ending) → ((n : List ℕ) (c : Entry) → f.left_since old (f.moment old) n c → f.may_leave old n c)
+      → Writes o handed_on work out out' ended
+      → Ran f o handed_on (Ok (record { work = work; file = file; read = read })) old old out out' ended
+  printed work read None none old out out' ended only_now writes = record {
+    run = inr writes;
+    read = all-same old read;
+    alone = λ n alone. refl;
+    any_moment = starts f.moment f.left_since old _ (λ n c left. only_now n c left);
+    calls = refl;
+  }
+  printed work read (Some name) none old out out' ended only_now writes = absurd cc
+
+  pub ran-printed : (task : Task) → task.file ≡ None → (old : D) (out out' : O) (ended : Ending)
+      → ((n : List ℕ) (c : Entry) → f.left_since old (f.moment old) n c → f.may_leave old n c)
+      → Writes o handed_on task.work out out' ended → Ran f o handed_on (Ok task) old old out out' ended
+  ran-printed task none old out out' ended only_now writes =
+      printed task.work task.read task.file none old out out' ended only_now writes
+
+  -- a file is made, or the run is stopped while it is
+  made : (work : Work) (read : List (List ℕ)) (file : Option (List ℕ)) (name : List ℕ) → file ≡ Some name
+      → (old new : D) (out : O) (ended : Ending)
+      → IsTrouble f.can_refuse f.reads_can_fail ended
+      ⊎ MakesFor (refused_name (f.holds old) (f.apart old) (f.is_leftover old) work read name) f.can_refuse
+      (Puts (f.can_refuse ⊎ f.writes_can_fail) work (f.holds new name)) ended
+      → All (λ n. f.holds new n ≡ f.holds old n) read
+      → SameWhere (is_left_alone (f.apart old) (Some name)) (f.holds old) (f.holds new)
+      → LeavesOnly f.moment f.left_since old new (LeavesInMaking (f.apart old) (f.may_leave old) work name)
+      → CallsFor f (Some name) ended old new
+      → Ran f o handed_on (Ok (record { work = work; file = file; read = read })) old new out out ended
+  made work read None name some old new out ended makes kept alone leaves calls = absurd cc
+  made work read (Some n) name some old new out ended makes kept alone leaves calls =
+      let same : name ≡ n = cc in
+      subst (λ m. Ran f o handed_on (Ok (record { work = work; file = Some m; read = read })) old new out out ended)
+          same
+      (record {
+        run = ⊎_elim (λ trouble. inl (refl, trouble)) (λ does. inr (refl, does)) makes;
+        read = kept;
+        alone = alone;
+        any_moment = leaves;
+        calls = calls;
+      })
+
+  pub ran-made : (task : Task) (name : List ℕ) → task.file ≡ Some name → (old new : D) (out : O) (ended : Ending)
+      → IsTrouble f.can_refuse f.reads_can_fail ended
+      ⊎ MakesFor (refused_name (f.holds old) (f.apart old) (f.is_leftover old) task.work task.read name) f.can_refuse
+      (Puts (f.can_refuse ⊎ f.writes_can_fail) task.work (f.holds new name)) ended
+      → All (λ n. f.holds new n ≡ f.holds old n) task.read
+      → SameWhere (is_left_alone (f.apart old) (Some name)) (f.holds old) (f.holds new)
+      → LeavesOnly f.moment f.left_since old new (LeavesInMaking (f.apart old) (f.may_leave old) task.work name)
+      → CallsFor f (Some name) ended old new
+      → Ran f o handed_on (Ok task) old new out out ended
+  ran-made task name some old new out ended makes kept alone leaves calls =
+      made task.work task.read task.file name some old new out ended makes kept alone leaves calls

@@ -1,0 +1,108 @@
+-- How a run ends before its task is known.
+use Rattle.std.proofs.Common.{◌≡◌, ◌∙◌, ◌⊎◌, inl, inr, refl, sym, ap, ℕ, List, Option, None, Some, Result, Ok, Err}
+use Rattle.std.proofs.Common.{IfErr, IfSome, string_bytes, Bool, true, false, not, ◌&&◌, ◌==◌, length, if◌then◌else◌}
+use Rattle.std.specs.Option.{option_map_or}
+use Rattle.contract_words.specs.Answers.{◌>>=◌, fault_as}
+use Rattle.mairix_options.specs.Refusals.{refusal}
+use Rattle.mairix_options.specs.declared.or_memory.OrMemory.{OrMemory}
+use Rattle.mairix_options.specs.declared.or_memory.OrMemory.TheVariants as given
+use Rattle.named_files.specs.Refusals.{HasCause}
+use Rattle.named_files.specs.declared.folder.Folder.{Ghosts as FolderGhosts}
+use Rattle.named_files.specs.declared.refusal.Refusal.{Refusal}
+use Rattle.named_files.specs.declared.refusal.Refusal.TheVariants as why
+use Rattle.run_faults.specs.declared.fault.Fault.{Fault}
+use Rattle.mairix_run.specs.Stops.{Ending, IsGivenUnlessRefused, IsStoppedAt, IsStoppedBy, ending_of_stopped}
+use Rattle.mairix_run.specs.Stops.Ending.{CannotOpen, Because}
+use Rattle.mairix_run.specs.Tasks.{Task, files_at, index_task, is_index_run, search_task, task_of_rc, task_over}
+use Rattle.mairix_run.specs.Tasks.Work.{SearchNew}
+use Rattle.mairix_options.specs.declared.command_line.Plan.{Plan}
+use Rattle.mairix_options.specs.declared.rcfile.Rc.{Rc}
+use Rattle.mairix_tool.specs.Asked.{Wanted}
+use Rattle.named_files.specs.Entries.{Entry}
+use Rattle.mairix_run.specs.WholeRuns.{IsTrouble}
+use Rattle.mairix_run.specs.declared.stopped.Stopped.{Stopped}
+use Rattle.mairix_run.specs.declared.stopped.Stopped.TheVariants as by
+
+module _ (CanRefuse ReadsCanFail : Type 0) where
+  -- the run ends by its first refusal, or in trouble
+  abbrev pub Ends : Result Task Ending → Ending → Type 0
+  Ends (Err why) ended = (ended ≡ why) ⊎ IsTrouble CanRefuse ReadsCanFail ended
+  Ends (Ok task) ended = IsTrouble CanRefuse ReadsCanFail ended
+
+  pub ends-trouble : (task : Result Task Ending) (ended : Ending) → IsTrouble CanRefuse ReadsCanFail ended
+      → Ends task ended
+  ends-trouble (Err why) ended trouble = inr trouble
+  ends-trouble (Ok task) ended trouble = trouble
+
+  -- a file can't be opened
+  open-fails : (known : Option (List ℕ)) (name : List ℕ) (next : List ℕ → Result Task Ending) (stopped : Stopped)
+      → IsStoppedAt name stopped → (known ≡ None) ⊎ (CanRefuse ⊎ ReadsCanFail)
+      → Ends (option_map_or Ok known (Err (CannotOpen name)) >>= next) (ending_of_stopped stopped)
+  open-fails known name next (by.Fault fault) at cause = ends-trouble _ (Because fault) at
+  open-fails None name next (by.CannotOpen path) at cause = inl (ap CannotOpen at)
+  open-fails (Some bytes) name next (by.CannotOpen path) at (inl none) = absurd cc
+  open-fails (Some bytes) name next (by.CannotOpen path) at (inr can) = ends-trouble _ (CannotOpen (string_bytes
+      path)) can
+
+  pub read-fails : {T : Type 0} (read : Result T Refusal) (known : Option (List ℕ)) (name : List ℕ)
+      (next : List ℕ → Result Task Ending) (stopped : Stopped) → IsGivenUnlessRefused name read (Err stopped)
+      → IfErr read (λ w. HasCause w ((known ≡ None) ⊎ (CanRefuse ⊎ ReadsCanFail)))
+      → Ends (option_map_or Ok known (Err (CannotOpen name)) >>= next) (ending_of_stopped stopped)
+  read-fails (Ok value) known name next stopped is cause = absurd cc
+  read-fails (Err why.Refused) known name next stopped at cause = open-fails known name next stopped at cause
+  read-fails (Err why.Memory) known name next (by.Fault fault) is cause =
+      let same : fault ≡ _ = cc in ends-trouble _ (Because fault) same
+  read-fails (Err why.Memory) known name next (by.CannotOpen path) is cause = absurd cc
+
+  -- words, or an rcfile, are refused
+  pub refusal-ends : {E V : Type 0} (of : E → Fault) (defined : Result V E) (next : V
+      → Result Task Ending) (e : OrMemory E)
+      (stopped : Stopped) → IfSome (refusal e) (λ f. defined ≡ Err f)
+      → IsStoppedBy (λ f fault. fault ≡ of f) e stopped
+      → Ends (fault_as (λ f. Because (of f)) defined >>= next) (ending_of_stopped stopped)
+  refusal-ends of defined next e (by.CannotOpen path) is stopped = absurd stopped
+  refusal-ends of (Ok value) next (given.Refused f) (by.Fault fault) is stopped = absurd cc
+  refusal-ends of (Err other) next (given.Refused f) (by.Fault fault) is stopped =
+      let one : other ≡ f = cc in inl (ap Because (stopped ∙ sym (ap of one)))
+  refusal-ends of defined next given.Memory (by.Fault fault) is stopped = ends-trouble _ (Because fault) stopped
+
+  -- an archive that is missing, or can't be opened
+  pub missing-stops : {V : Type 0} (found : Result V Ending) (name : List ℕ) (stopped : Stopped)
+      → IsStoppedAt name stopped
+      → (found ≡ Err (CannotOpen name)) ⊎ (CanRefuse ⊎ ReadsCanFail)
+      → (found ≡ Err (ending_of_stopped stopped)) ⊎ IsTrouble CanRefuse ReadsCanFail (ending_of_stopped stopped)
+  missing-stops found name (by.Fault fault) at cause = inr at
+  missing-stops found name (by.CannotOpen path) at (inl none) = inl (none ∙ ap (λ p. Err (CannotOpen p)) (sym at))
+  missing-stops found name (by.CannotOpen path) at (inr can) = inr can
+
+-- what was given, if it wasn't refused
+pub given-ok : {T : Type 0} (path : List ℕ) (read : Result T Refusal) (value : T)
+    → IsGivenUnlessRefused path read (Ok value) → read ≡ Ok value
+given-ok path (Ok other) value is = let one : value ≡ other = cc in ap Ok (sym one)
+given-ok path (Err why.Refused) value is = absurd is
+given-ok path (Err why.Memory) value is = absurd cc
+
+-- ---- the task, once its archives are known
+
+module _ (holds : List ℕ → Entry) (wanted : Result Wanted Fault) (p : Plan) (rc : Rc) (bytes : List (List ℕ))
+    (found : files_at holds rc.paths ≡ Ok bytes) where
+  over-found : task_of_rc holds wanted p rc ≡ task_over holds wanted p rc bytes
+  over-found = ap (λ r. r >>= task_over holds wanted p rc) found
+
+  by-index : (is : Bool) → is ≡ true → (other : Result Task Ending) (one : Result Task Ending)
+      → (if is then one else other) ≡ one
+  by-index true so other one = refl
+  by-index false so other one = absurd cc
+
+  pub task-index : is_index_run p ≡ true → task_of_rc holds wanted p rc ≡ Ok (index_task p rc bytes)
+  task-index is = over-found ∙ by-index (is_index_run p) is _ (Ok (index_task p rc bytes))
+
+  by-once : (empty once : Bool) → once ≡ true → (index other new : Result Task Ending)
+      → (if empty && not once then index else (if once then new else other)) ≡ new
+  by-once true true is index other new = refl
+  by-once false true is index other new = refl
+  by-once empty false is index other new = absurd cc
+
+  pub task-once : p.once ≡ true → task_of_rc holds wanted p rc ≡ Ok (search_task p rc (SearchNew wanted bytes))
+  task-once is = over-found ∙ by-once (length p.patterns == 0) p.once is _ _ (Ok (search_task p rc (SearchNew wanted
+      bytes)))

@@ -1,0 +1,47 @@
+-- The search of what was read of an index is the search of the whole file.
+use Rattle.std.proofs.Common.{◌≡◌, ◌∙◌, sym, subst, Ok, IfOk, true}
+use Rattle.std.specs.Option.{option_map_or}
+use Rattle.contract_words.specs.Answers.{◌>>=◌}
+use Rattle.named_files.specs.Entries.{IsFileOf, bytes_of}
+use Rattle.mairix_run.proofs.LikeWorks.{alike-read, ran-alike}
+use Rattle.mairix_run.proofs.RunStages.{given-ok}
+use Rattle.mairix_run.specs.Inside.Running.{Ran}
+use Rattle.mairix_run.specs.IndexReads.{IsIndexRead}
+use Rattle.mairix_run.specs.Stops.{Ending, ending_of}
+use Rattle.mairix_run.specs.Stops.Ending.{CannotOpen}
+use Rattle.mairix_run.specs.Tasks.{search_task}
+use Rattle.mairix_run.specs.Tasks.Work.{SearchStored}
+use Rattle.mairix_tool.specs.Asked.{asks}
+use Rattle.std.proofs.Common.{Err}
+use Rattle.mairix_run.proofs.running.search_stored.Goals as goal
+
+pub returns-clause-ran : goal.returns-clause-ran
+returns-clause-ran g c = λ bytes files agree.
+    let F = g.F.Folder in
+    let asked = c.args.asked.now in
+    let p = asked.plan.now in
+    let rc = asked.rc.now in
+    let old = c.args.folder.now in
+    let wanted = asks asked.words.now asked.text.now asked.now in
+    let path = c.as_str-database.result.now in
+    let given = given-ok path c.read_index-index.result c.in-Ok.index c.in-Ok.ensures.given in
+    let read : IsFileOf (λ all. IsIndexRead all c.in-Ok.index.items) (F.holds old path) =
+    subst (λ r. IfOk r (λ b. F.agree c.read_index-index.new.reports ≡ true
+    → IsFileOf (λ all. IsIndexRead all b.items) (F.holds old path))) given c.read_index-index.ensures.bytes
+    (c.run_search.ensures.earlier agree) in
+    let all = read.0 in
+    let is : IsIndexRead all c.as_slice.result.now =
+    subst (λ b. IsIndexRead all b) (sym c.as_slice.ensures.value) read.1 in
+    let ended = ending_of c.run_search.result in
+    let ran : Ran F g.O.Out g.O.Stream.handed_on (Ok (search_task p rc (SearchStored wanted all bytes))) old
+    c.run_search.new.folder c.args.out.now c.run_search.new.out ended =
+    ran-alike wanted c.as_slice.result.now all bytes (alike-read wanted all c.as_slice.result.now bytes is)
+    F g.O.Out g.O.Stream.handed_on p rc old c.run_search.new.folder c.args.out.now c.run_search.new.out ended
+    (c.run_search.ensures.ran bytes files agree) in
+    subst (λ n. Ran F g.O.Out g.O.Stream.handed_on
+    (option_map_or Ok (bytes_of (F.holds old n)) (Err (CannotOpen n)) >>=
+    λ index. Ok (search_task p rc (SearchStored wanted index bytes))) old
+    c.run_search.new.folder c.args.out.now c.run_search.new.out ended) c.as_str-database.ensures
+    (subst (λ e. Ran F g.O.Out g.O.Stream.handed_on (option_map_or Ok (bytes_of e) (Err (CannotOpen path)) >>=
+    λ index. Ok (search_task p rc (SearchStored wanted index bytes))) old
+    c.run_search.new.folder c.args.out.now c.run_search.new.out ended) (sym read.2) ran)

@@ -1,0 +1,31 @@
+-- Each archive was found, or the first that is missing can't be opened.
+use Rattle.std.proofs.Common.{◌≡◌, ◌⊎◌, ◌∙◌, inl, inr, ⊎_elim, subst, map, Some, None, string_bytes, slice_get}
+use Rattle.named_archives.specs.Names.{files_of}
+use Rattle.named_files.specs.Refusals.{HasCause}
+use Rattle.mairix_run.proofs.FilesAt.{all-found, before-found, file-missing, named-at}
+use Rattle.mairix_run.proofs.RunStages.{missing-stops}
+use Rattle.mairix_run.specs.Stops.{IsStoppedAt}
+use Rattle.mairix_run.specs.Tasks.{files_at}
+use Rattle.mairix_run.proofs.running.states_of.Goals as goal
+
+pub returns-in-Ok-clause-ok : goal.returns-in-Ok-clause-ok
+returns-in-Ok-clause-ok g c = λ agree.
+    let F = g.F.Folder in
+    all-found (F.holds c.args.folder.now) c.args.paths.now (F.agree c.first_states.new.reports)
+    (F.agree c.args.reports.now) c.in-Ok.ensures.noted agree
+
+pub returns-in-Refused-clause-err : goal.returns-in-Refused-clause-err
+returns-in-Refused-clause-err g c = λ agree.
+    let F = g.F.Folder in
+    let holds = F.holds c.args.folder.now in
+    let paths = c.args.paths.now in
+    let n = c.in-Err.field-0.number in
+    let name = c.index-paths-number.result in
+    missing-stops F.can_refuse F.reads_can_fail (files_at holds (map string_bytes paths)) (string_bytes name)
+        c.at.result
+    (subst (λ p. IsStoppedAt p c.at.result) c.as_str.ensures.value c.at.ensures.path)
+    (⊎_elim (λ none. inl (file-missing holds paths n (string_bytes name)
+    (before-found holds paths n (F.agree c.first_states.new.reports) (F.agree c.args.reports.now)
+    c.in-Err.ensures.opened agree) none (named-at paths n name c.in-Err.ensures.refused.0 c.index-paths-number.is)))
+    inr (subst (λ w. HasCause w ((slice_get (files_of holds paths) n ≡ Some None) ⊎ F.can_refuse ⊎ F.reads_can_fail))
+    c.in-Refused.is c.in-Err.ensures.refused.1))
