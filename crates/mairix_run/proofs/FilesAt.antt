@@ -88,7 +88,7 @@ pub files-known : (holds : List ℕ → Entry) (names : List (String Global)) (b
     → files_at holds (map string_bytes names) ≡ Ok bytes → files_of holds names ≡ map Some bytes
 files-known holds names bytes is =
     known-by (files_of holds names) (map string_bytes names) bytes (long-by holds names) (sym (same-by holds names) ∙
-        is)
+    is)
 
 pub files-found : (holds : List ℕ → Entry) (names : List (String Global))
     → list_all (λ file. is_some file) (files_of holds names) ≡ true

@@ -1,7 +1,7 @@
 -- Runs whose works are done in the same way, and refused in the same way.
 use Rattle.std.proofs.Common.{◌≡◌, ◌⊎◌, inl, inr, ⊎_elim, ℕ, List, Option, None, Some, Result, Ok, Err}
 use Rattle.mbox_cutter.specs.declared.device.Out.{Ghosts}
-use Rattle.named_files.specs.Entries.{Entry}
+use Rattle.named_files.specs.Entries.{Entry, IsFileOf}
 use Rattle.named_files.specs.declared.folder.Folder.{Ghosts as FolderGhosts}
 use Rattle.run_faults.specs.declared.fault.Fault.{Fault}
 use Rattle.mairix_options.specs.declared.command_line.Plan.{Plan}
@@ -16,7 +16,8 @@ use Rattle.mairix_run.specs.Stops.{Ending}
 use Rattle.mairix_run.specs.Stops.Ending.{Done, CannotOpen, Because}
 use Rattle.mairix_run.specs.Tasks.{Work, IsDone, IsWorkRefused, search_task}
 use Rattle.mairix_run.specs.Tasks.Work.{SearchStored}
-use Rattle.mairix_run.specs.WholeRuns.{IsWritten, LeavesFor, Puts, DoesFor}
+use Rattle.mairix_run.specs.WholeRuns.{DoesFor, IsTextOf, IsWritten, KeepsFile, KeepsOld, LeavesFor, Puts}
+use Rattle.run_faults.specs.declared.fault.Fault.TheVariants.{Out, Memory}
 
 -- the searches of two indexes are done in the same way, and refused in the same way
 pub record AreAlike (wanted : Result Wanted Fault) (index other : List ℕ) (bytes : List (List ℕ)) : Type 0 where
@@ -44,6 +45,22 @@ module _ (wanted : Result Wanted Fault) (index other : List ℕ) (bytes : List (
   written-alike OutFails old new (Err fault) (inr (failed, inr (status, text, done, sent))) =
       inr (failed, inr (status, text, alike.done status text done, sent))
 
+  text-alike : (entry : Entry) → IsFileOf (IsTextOf Old) entry → IsFileOf (IsTextOf New) entry
+  text-alike entry (text, (status, done), is) = (text, (status, alike.done status text done), is)
+
+  keeps-old-alike : (before now : Entry) (ended : Ending) → KeepsOld Old before now ended
+      → KeepsOld New before now ended
+  keeps-old-alike before now (Done status) keeps = tt
+  keeps-old-alike before now (CannotOpen path) keeps = keeps
+  keeps-old-alike before now (Because Out) keeps = ⊎_elim inl (λ is. inr (text-alike now is)) keeps
+  keeps-old-alike before now (Because Memory) keeps = ⊎_elim inl (λ is. inr (text-alike now is)) keeps
+  keeps-old-alike before now (Because fault) keeps = keeps
+
+  keeps-alike : (file : Option (List ℕ)) (before now : List ℕ → Entry) (ended : Ending)
+      → KeepsFile Old file before now ended → KeepsFile New file before now ended
+  keeps-alike None before now ended keeps = tt
+  keeps-alike (Some name) before now ended keeps = keeps-old-alike (before name) (now name) ended keeps
+
   puts-alike : (OutFails : Type 0) (now : Entry) (ended : Ending) → Puts OutFails Old now ended
       → Puts OutFails New now ended
   puts-alike OutFails now (Done status) (text, done, is) = (text, alike.done status text done, is)
@@ -64,7 +81,7 @@ module _ (wanted : Result Wanted Fault) (index other : List ℕ) (bytes : List (
 
     left-alike : (file : Option (List ℕ)) (old : D) (n : List ℕ) (c : Entry)
         → LeavesFor (f.apart old) (f.may_leave old) Old file n c
-            → LeavesFor (f.apart old) (f.may_leave old) New file n c
+        → LeavesFor (f.apart old) (f.may_leave old) New file n c
     left-alike None old n c left = left
     left-alike (Some name) old n c left = (
       left.0,
@@ -79,8 +96,11 @@ module _ (wanted : Result Wanted Fault) (index other : List ℕ) (bytes : List (
         → Ran f o handed_on (Ok (search_task p rc Old)) old new out out' ended
         → Ran f o handed_on (Ok (search_task p rc New)) old new out out' ended
     ran-alike p rc old new out out' ended ran = record {
-      run = ⊎_elim inl (λ does. inr (does-alike (search_task p rc Old).file (search_task p rc Old).read
-          old new out out' ended does)) ran.run;
+      run = (
+        keeps-alike (search_task p rc Old).file (f.holds old) (f.holds new) ended ran.run.0,
+        ⊎_elim inl (λ does. inr (does-alike (search_task p rc Old).file (search_task p rc Old).read
+            old new out out' ended does)) ran.run.1,
+      );
       read = ran.read;
       alone = ran.alone;
       any_moment = leaves-weaker f.moment f.left_since old new _ _

@@ -7,16 +7,19 @@ use Rattle.std.proofs.lemmas.List.Elements.{All-head, All-tail}
 use Rattle.named_archives.specs.Names.{files_of}
 use Rattle.std.proofs.lemmas.Bool.Decides.{nat_tests}
 use Rattle.named_files.specs.Crashes.{LeavesNoMoreWhere, LeavesOnly}
-use Rattle.named_files.specs.Entries.{Entry, SameWhere, bytes_of}
+use Rattle.named_files.specs.Entries.{Entry, IsFileOf, Leads, SameWhere, bytes_of}
 use Rattle.named_files.specs.TakingNames.{Replaces}
 use Rattle.named_files.specs.declared.folder.Folder.{Ghosts as FolderGhosts}
 use Rattle.run_faults.specs.declared.fault.Fault.{Fault}
+use Rattle.run_faults.specs.declared.fault.Fault.TheVariants.{Out, Memory}
 use Rattle.mairix_run.proofs.MadeFiles.{apart_of_fit}
-use Rattle.mairix_run.proofs.MakingRuns.{fit-apart, kept-all, taken-text}
-use Rattle.mairix_run.proofs.RunParts.{follows, leaves-weaker, starts}
-use Rattle.mairix_run.specs.MadeFiles.{MakesFile, SettlesFile, unfit_name}
-use Rattle.mairix_run.specs.Tasks.{Work}
-use Rattle.mairix_run.specs.WholeRuns.{IsTextOf, IsWritten, LeavesInMaking, is_left_alone, passing_of}
+use Rattle.mairix_run.proofs.MakingRuns.{fit-apart, kept-all, leads-text, taken-text}
+use Rattle.mairix_run.proofs.RunParts.{follows, keeps-same, leaves-weaker, starts}
+use Rattle.mairix_run.specs.MadeFiles.{IsSettled, MakesFile, SettlesFile, unfit_name}
+use Rattle.mairix_run.specs.Stops.{Ending, ending_by}
+use Rattle.mairix_run.specs.Stops.Ending.{Because}
+use Rattle.mairix_run.specs.Tasks.{Work, IsDone}
+use Rattle.mairix_run.specs.WholeRuns.{IsTextOf, IsWritten, KeepsOld, LeavesInMaking, is_left_alone, passing_of}
 
 both-first : (a b : Bool) → (a && b) ≡ true → a ≡ true
 both-first a b h = grind (arith, nat_tests)
@@ -38,7 +41,7 @@ module _ {D F S N L R : Type 0} (f : FolderGhosts D F S N L R) (old : D) (read :
   -- names that fit lead to what they led to, once a file is made
   pub fit-same : (new : D) (passing : List ℕ) → unfit_name (f.apart old) read passing name ≡ None
       → SameWhere (λ n. f.apart old n passing) (f.holds old) (f.holds new)
-          → All (λ n. f.holds new n ≡ f.holds old n) read
+      → All (λ n. f.holds new n ≡ f.holds old n) read
   fit-same new passing fit others = kept-all read (λ n. f.apart old n passing && f.apart old n name)
       (f.holds old) (f.holds new) (fit-apart (f.apart old) read passing name fit)
       (λ n both. others n (both-first (f.apart old n passing) (f.apart old n name) both))
@@ -82,6 +85,11 @@ module _ {D F S N L R : Type 0} (f : FolderGhosts D F S N L R) (old : D) (read :
         (left (subst (λ m. f.apart old m (passing_of name) ≡ true) (sym e) is_apart))),
   )
 
+  none-old : (new : D) → NoneMade new (passing_of name) → f.holds new name ≡ f.holds old name
+  none-old new none = ⊎_elim
+      (λ fit. none.others name (apart_of_fit (f.apart old) read (passing_of name) name fit))
+      (λ same. ap (λ d. f.holds d name) same) none.untouched
+
   none-leaves : (work : Work) (new : D) → OnlyNow → NoneMade new (passing_of name) → Leaves work new
   none-leaves work new only_now none = ⊎_elim
       (λ fit. leaves-weaker f.moment f.left_since old new _ _
@@ -93,6 +101,11 @@ module _ {D F S N L R : Type 0} (f : FolderGhosts D F S N L R) (old : D) (read :
   pub none-made-read : (new : D) (passing : List ℕ) → passing_of name ≡ passing → NoneMade new passing
       → All (λ n. f.holds new n ≡ f.holds old n) read
   none-made-read new passing e none = none-read new (subst (λ p. NoneMade new p) (sym e) none)
+
+  pub none-made-keeps : (work : Work) (new : D) (passing : List ℕ) (ended : Ending) → passing_of name ≡ passing
+      → NoneMade new passing → KeepsOld work (f.holds old name) (f.holds new name) ended
+  none-made-keeps work new passing ended e none = keeps-same work (f.holds old name) (f.holds new name) ended
+      (none-old new (subst (λ p. NoneMade new p) (sym e) none))
 
   pub none-made-leaves : (work : Work) (new : D) (passing : List ℕ) → passing_of name ≡ passing → OnlyNow
       → NoneMade new passing → Leaves work new
@@ -116,6 +129,10 @@ module _ {D F S N L R : Type 0} (f : FolderGhosts D F S N L R) (old : D) (read :
         taken)
     pub discarding : OnErr written (LeavesOnly f.moment f.left_since mid new
         (λ n c. f.apart mid n passing ≡ true → f.may_leave mid n c))
+    pub not_named : OnErr written (f.apart mid name passing ≡ true → f.holds new name ≡ f.holds mid name)
+    pub old_or_new : f.apart mid name passing ≡ true
+        → (f.holds new name ≡ f.holds mid name) ⊎ Leads (f.holds new name) taken
+    pub settled : IsSettled written result
     pub calls_then : SettlesFile f.renames f.syncs f.discards name written result mid new
 
   module _ (mid new : D) (taken : Option (List ℕ)) (written result : Result ℕ Fault) where
@@ -164,6 +181,38 @@ module _ {D F S N L R : Type 0} (f : FolderGhosts D F S N L R) (old : D) (read :
           (subst (λ (w : Result ℕ Fault). OnErr w (LeavesOnly f.moment f.left_since mid new
           (λ n c. f.apart mid n (passing_of name) ≡ true → f.may_leave mid n c))) (sym same) m.discarding) later
 
+    module _ (work : Work) (OutFails : Type 0) (m : Made) where
+      -- it led to what it led to before while the file was made
+      mid-old : f.holds mid name ≡ f.holds old name
+      mid-old = m.others name (apart_of_fit (f.apart old) read (passing_of name) name m.fit)
+
+      mid-apart : f.apart mid name (passing_of name) ≡ true
+      mid-apart = m.apart name (passing_of name) ∙ apart_of_fit (f.apart old) read (passing_of name) name m.fit
+
+      -- the file has its name, or not
+      named-or-not : (status : ℕ) (text : List ℕ) → IsDone work status text → taken ≡ Some text
+          → (f.holds new name ≡ f.holds old name) ⊎ IsFileOf (IsTextOf work) (f.holds new name)
+      named-or-not status text done took = ⊎_elim (λ same. inl (same ∙ mid-old))
+          (λ leads. inr (text, (status, done), leads-text (f.holds new name) taken text took leads))
+          (m.old_or_new mid-apart)
+
+      made-keeps : (w r : Result ℕ Fault) → w ≡ written → IsWritten OutFails work (Some []) taken w → IsSettled w r
+          → KeepsOld work (f.holds old name) (f.holds new name) (ending_by r)
+      made-keeps w (Ok status) wrote is settled = tt
+      made-keeps (Ok status) (Err fault) wrote is (inl same) = absurd cc
+      made-keeps (Ok status) (Err fault) wrote (text, done, sent) (inr (inl failed)) =
+          let one : fault ≡ Out = cc in
+          subst (λ x. KeepsOld work (f.holds old name) (f.holds new name) (Because x)) (sym one)
+          (named-or-not status text done (taken-text taken text sent))
+      made-keeps (Ok status) (Err fault) wrote (text, done, sent) (inr (inr failed)) =
+          let one : fault ≡ Memory = cc in
+          subst (λ x. KeepsOld work (f.holds old name) (f.holds new name) (Because x)) (sym one)
+          (named-or-not status text done (taken-text taken text sent))
+      made-keeps (Err other) (Err fault) wrote is settled =
+          keeps-same work (f.holds old name) (f.holds new name) (Because fault)
+          (subst (λ (x : Result ℕ Fault). OnErr x (f.apart mid name (passing_of name) ≡ true
+          → f.holds new name ≡ f.holds mid name)) (sym wrote) m.not_named mid-apart ∙ mid-old)
+
     pub made-settled-read : (passing : List ℕ) → passing_of name ≡ passing
         → MadeAndSettled mid new taken written result passing → All (λ n. f.holds new n ≡ f.holds old n) read
     made-settled-read passing e m = made-read (subst (λ p. MadeAndSettled mid new taken written result p) (sym e) m)
@@ -173,3 +222,10 @@ module _ {D F S N L R : Type 0} (f : FolderGhosts D F S N L R) (old : D) (read :
         → Leaves work new
     made-settled-leaves work OutFails passing e m is = made-leaves work OutFails
         (subst (λ p. MadeAndSettled mid new taken written result p) (sym e) m) written refl is
+
+    pub made-settled-keeps : (work : Work) (OutFails : Type 0) (passing : List ℕ) → passing_of name ≡ passing
+        → MadeAndSettled mid new taken written result passing → IsWritten OutFails work (Some []) taken written
+        → KeepsOld work (f.holds old name) (f.holds new name) (ending_by result)
+    made-settled-keeps work OutFails passing e m is =
+        let at-name = subst (λ p. MadeAndSettled mid new taken written result p) (sym e) m in
+        made-keeps work OutFails at-name written result refl is at-name.settled

@@ -142,7 +142,7 @@ pub taken-text : (taken : Option (List ℕ)) (text : List ℕ) → Appends (Some
 taken-text None text sent = absurd sent
 taken-text (Some all) text sent = ap Some sent
 
-leads-text : (now : Entry) (taken : Option (List ℕ)) (text : List ℕ) → taken ≡ Some text → Leads now taken
+pub leads-text : (now : Entry) (taken : Option (List ℕ)) (text : List ℕ) → taken ≡ Some text → Leads now taken
     → now ≡ File text
 leads-text now taken text is leads = subst (λ t. Leads now t) is leads
 

@@ -9,8 +9,10 @@ use Rattle.mairix_run.proofs.RunStages.{Ends}
 use Rattle.mairix_run.specs.Inside.Running.{Ran}
 use Rattle.mairix_run.specs.Stops.{Ending}
 use Rattle.mairix_run.specs.Tasks.{Task, Work}
-use Rattle.mairix_run.specs.WholeRuns.{CallsFor, IsTrouble, LeavesFor, LeavesInMaking, MakesFor, Puts, Writes}
-use Rattle.mairix_run.specs.WholeRuns.{is_left_alone, refused_name}
+use Rattle.mairix_run.specs.Stops.Ending.{Done, CannotOpen, Because}
+use Rattle.mairix_run.specs.WholeRuns.{CallsFor, IsTrouble, KeepsFile, KeepsOld, LeavesFor, LeavesInMaking, MakesFor}
+use Rattle.mairix_run.specs.WholeRuns.{Puts, Writes, is_left_alone, refused_name}
+use Rattle.run_faults.specs.declared.fault.Fault.TheVariants.{Out, Memory}
 
 -- before the first call
 pub starts : {D : Type 0} (moment : D → ℕ) (left_since : D → ℕ → List ℕ → Entry → Type 0) (old : D)
@@ -39,6 +41,14 @@ leaves-weaker moment left_since old new P Q weaker only = record {
   before = λ t n c le left. ⊎_elim inl (λ p. inr (weaker n c p)) (only.before t n c le left);
 }
 
+-- a name that leads to what it led to before
+pub keeps-same : (work : Work) (before now : Entry) (ended : Ending) → now ≡ before → KeepsOld work before now ended
+keeps-same work before now (Done status) same = tt
+keeps-same work before now (CannotOpen path) same = same
+keeps-same work before now (Because Out) same = inl same
+keeps-same work before now (Because Memory) same = inl same
+keeps-same work before now (Because fault) same = same
+
 module _ {D F S N L R O : Type 0} (f : FolderGhosts D F S N L R) (o : Ghosts O) (handed_on : O → Option (List ℕ)) where
   all-same : (old : D) (names : List (List ℕ)) → All (λ n. f.holds old n ≡ f.holds old n) names
   all-same old names = search rules
@@ -52,10 +62,15 @@ module _ {D F S N L R O : Type 0} (f : FolderGhosts D F S N L R) (o : Ghosts O) 
   left-now work None old n c left = left
   left-now work (Some name) old n c left = (λ _. left, λ e. inl (subst (λ m. f.may_leave old m c) e left))
 
+  keeps-file : (work : Work) (file : Option (List ℕ)) (old : D) (ended : Ending)
+      → KeepsFile work file (f.holds old) (f.holds old) ended
+  keeps-file work None old ended = tt
+  keeps-file work (Some name) old ended = keeps-same work (f.holds old name) (f.holds old name) ended refl
+
   -- it ends so before anything is changed
   pub ran-ended : (task : Result Task Ending) (old : D) (out : O) (ended : Ending)
       → ((n : List ℕ) (c : Entry) → f.left_since old (f.moment old) n c → f.may_leave old n c)
-          → Ends f.can_refuse f.reads_can_fail task ended
+      → Ends f.can_refuse f.reads_can_fail task ended
       → Ran f o handed_on task old old out out ended
   ran-ended (Err why) old out ended only_now ends = record {
     run = (refl, ends);
@@ -65,7 +80,7 @@ module _ {D F S N L R O : Type 0} (f : FolderGhosts D F S N L R) (o : Ghosts O) 
     calls = refl;
   }
   ran-ended (Ok task) old out ended only_now ends = record {
-    run = inl (refl, ends);
+    run = (keeps-file task.work task.file old ended, inl (refl, ends));
     read = all-same old task.read;
     alone = λ n alone. refl;
     any_moment = starts f.moment f.left_since old _ (λ n c left. left-now task.work task.file old n c (only_now n c
@@ -79,7 +94,7 @@ module _ {D F S N L R O : Type 0} (f : FolderGhosts D F S N L R) (o : Ghosts O) 
       → Writes o handed_on work out out' ended
       → Ran f o handed_on (Ok (record { work = work; file = file; read = read })) old old out out' ended
   printed work read None none old out out' ended only_now writes = record {
-    run = inr writes;
+    run = (tt, inr writes);
     read = all-same old read;
     alone = λ n alone. refl;
     any_moment = starts f.moment f.left_since old _ (λ n c left. only_now n c left);
@@ -99,18 +114,19 @@ module _ {D F S N L R O : Type 0} (f : FolderGhosts D F S N L R) (o : Ghosts O) 
       → IsTrouble f.can_refuse f.reads_can_fail ended
       ⊎ MakesFor (refused_name (f.holds old) (f.apart old) (f.is_leftover old) work read name) f.can_refuse
       (Puts (f.can_refuse ⊎ f.writes_can_fail) work (f.holds new name)) ended
+      → KeepsOld work (f.holds old name) (f.holds new name) ended
       → All (λ n. f.holds new n ≡ f.holds old n) read
       → SameWhere (is_left_alone (f.apart old) (Some name)) (f.holds old) (f.holds new)
       → LeavesOnly f.moment f.left_since old new (LeavesInMaking (f.apart old) (f.may_leave old) work name)
       → CallsFor f (Some name) ended old new
       → Ran f o handed_on (Ok (record { work = work; file = file; read = read })) old new out out ended
-  made work read None name some old new out ended makes kept alone leaves calls = absurd cc
-  made work read (Some n) name some old new out ended makes kept alone leaves calls =
+  made work read None name some old new out ended makes keeps kept alone leaves calls = absurd cc
+  made work read (Some n) name some old new out ended makes keeps kept alone leaves calls =
       let same : name ≡ n = cc in
       subst (λ m. Ran f o handed_on (Ok (record { work = work; file = Some m; read = read })) old new out out ended)
-          same
+      same
       (record {
-        run = ⊎_elim (λ trouble. inl (refl, trouble)) (λ does. inr (refl, does)) makes;
+        run = (keeps, ⊎_elim (λ trouble. inl (refl, trouble)) (λ does. inr (refl, does)) makes);
         read = kept;
         alone = alone;
         any_moment = leaves;
@@ -121,10 +137,11 @@ module _ {D F S N L R O : Type 0} (f : FolderGhosts D F S N L R) (o : Ghosts O) 
       → IsTrouble f.can_refuse f.reads_can_fail ended
       ⊎ MakesFor (refused_name (f.holds old) (f.apart old) (f.is_leftover old) task.work task.read name) f.can_refuse
       (Puts (f.can_refuse ⊎ f.writes_can_fail) task.work (f.holds new name)) ended
+      → KeepsOld task.work (f.holds old name) (f.holds new name) ended
       → All (λ n. f.holds new n ≡ f.holds old n) task.read
       → SameWhere (is_left_alone (f.apart old) (Some name)) (f.holds old) (f.holds new)
       → LeavesOnly f.moment f.left_since old new (LeavesInMaking (f.apart old) (f.may_leave old) task.work name)
       → CallsFor f (Some name) ended old new
       → Ran f o handed_on (Ok task) old new out out ended
-  ran-made task name some old new out ended makes kept alone leaves calls =
-      made task.work task.read task.file name some old new out ended makes kept alone leaves calls
+  ran-made task name some old new out ended makes keeps kept alone leaves calls =
+      made task.work task.read task.file name some old new out ended makes keeps kept alone leaves calls

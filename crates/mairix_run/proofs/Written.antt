@@ -124,7 +124,7 @@ silent-of taken old new (Ok status) silent fault is not = absurd cc
 silent-of taken old new (Err other) silent fault is not =
     let one : other ≡ fault = cc in
     ap taken (when (is_failed_out (Some fault)) not (subst (λ f. OnFalse (is_failed_out (Some f)) (new ≡ old)) one
-        silent))
+    silent))
   where
     when : (b : Bool) → b ≡ false → OnFalse b (new ≡ old) → new ≡ old
     when true is same = absurd cc
@@ -202,9 +202,11 @@ pub flushed-writes : {O : Type 0} (o : Ghosts O) (handed_on : O → Option (List
     × OnOk result (handed_on new ≡ o.taken new)
 flushed-writes o handed_on w out mid new (Err fault) result is count (same, stays) =
     subst (λ (r : Result ℕ Fault). IsWritten (o.failures new ≡ o.failures out + 1) w (o.taken out) (o.taken new) r
-    × OnOk r (handed_on new ≡ o.taken new)) (sym same)
-    (subst (λ d. IsWritten (o.failures d ≡ o.failures out + 1) w (o.taken out) (o.taken d) (Err fault)) (sym stays)
-        is, tt)
+    × OnOk r (handed_on new ≡ o.taken new)) (sym same) (
+      subst (λ d. IsWritten (o.failures d ≡ o.failures out + 1) w (o.taken out) (o.taken d) (Err fault)) (sym stays)
+          is,
+      tt,
+    )
 flushed-writes o handed_on w out mid new (Ok status) result (text, done, sent) count (kept, inl (same, handed, stays)) =
     subst (λ (r : Result ℕ Fault). IsWritten (o.failures new ≡ o.failures out + 1) w (o.taken out) (o.taken new) r
     × OnOk r (handed_on new ≡ o.taken new)) (sym same)

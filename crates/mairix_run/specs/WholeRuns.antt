@@ -84,6 +84,26 @@ abbrev pub MakesFor : Option (List ℕ) → Type 0 → (Ending → Type 0) → E
 MakesFor refused CanRefuse IsMade ended = ((path : List ℕ) × (refused ≡ Some path) × (ended ≡ CannotOpen path))
     ⊎ (((refused ≡ None) ⊎ CanRefuse) × IsMade ended)
 
+-- ---- what the name of the file leads to
+
+-- the whole text of the work, with some status
+abbrev pub IsTextOf : Work → List ℕ → Type 0
+IsTextOf work text = (status : ℕ) × IsDone work status text
+
+-- Without success, what it led to before. If only the output failed, or memory ran out, as the file took its name, that
+-- or the whole text.
+abbrev pub KeepsOld : Work → Entry → Entry → Ending → Type 0
+KeepsOld work before now (Done status) = ⊤
+KeepsOld work before now (CannotOpen path) = now ≡ before
+KeepsOld work before now (Because Out) = (now ≡ before) ⊎ IsFileOf (IsTextOf work) now
+KeepsOld work before now (Because Memory) = (now ≡ before) ⊎ IsFileOf (IsTextOf work) now
+KeepsOld work before now (Because fault) = now ≡ before
+
+-- the same of the file of a task, if it has one
+abbrev pub KeepsFile : Work → Option (List ℕ) → (List ℕ → Entry) → (List ℕ → Entry) → Ending → Type 0
+KeepsFile work None before now ended = ⊤
+KeepsFile work (Some name) before now ended = KeepsOld work (before name) (now name) ended
+
 -- ---- a whole run, by its task, or by its first refusal
 
 module _ {D F S N L R O : Type 0} (f : FolderGhosts D F S N L R) (o : Ghosts O) (handed_on : O → Option (List ℕ)) where
@@ -98,8 +118,9 @@ module _ {D F S N L R O : Type 0} (f : FolderGhosts D F S N L R) (o : Ghosts O) 
   -- The run does its task, or ends by the first refusal. In trouble it ends earlier, and nothing is written.
   abbrev pub Runs : Result Task Ending → D → D → O → O → Ending → Type 0
   Runs (Err why) old new out out' ended = (out' ≡ out) × ((ended ≡ why) ⊎ IsTrouble f.can_refuse f.reads_can_fail ended)
-  Runs (Ok task) old new out out' ended = ((out' ≡ out) × IsTrouble f.can_refuse f.reads_can_fail ended)
-      ⊎ DoesFor task.work task.file task.read old new out out' ended
+  Runs (Ok task) old new out out' ended = KeepsFile task.work task.file (f.holds old) (f.holds new) ended
+      × (((out' ≡ out) × IsTrouble f.can_refuse f.reads_can_fail ended)
+      ⊎ DoesFor task.work task.file task.read old new out out' ended)
 
 -- ---- what it leaves alone
 
@@ -119,10 +140,6 @@ is_left_alone apart None n = true
 is_left_alone apart (Some name) n = apart n (passing_of name) && apart n name
 
 -- ---- what a crash leaves
-
--- the whole text of the work, with some status
-abbrev pub IsTextOf : Work → List ℕ → Type 0
-IsTextOf work text = (status : ℕ) × IsDone work status text
 
 -- A crash at any moment leaves under the name of the file that is made what it might have left before, or the whole
 -- text;

@@ -5,7 +5,7 @@ ghost use Rattle.mail_index.specs.Tables.{IsPath};
 ghost use Rattle.mairix_run.specs.ReadFiles.{names_read};
 ghost use Rattle.mairix_run.specs.Stops.{ending_of};
 ghost use Rattle.mairix_run.specs.Tasks.Work.{Index};
-ghost use Rattle.mairix_run.specs.WholeRuns.{CallsFor, IsTrouble, LeavesInMaking, MakesFor, Puts, is_left_alone, refused_name};
+ghost use Rattle.mairix_run.specs.WholeRuns.{CallsFor, IsTrouble, KeepsOld, LeavesInMaking, MakesFor, Puts, is_left_alone, refused_name};
 ghost use Rattle.named_archives.specs.Names.{files_of};
 ghost use Rattle.named_files.specs.Crashes.{LeavesOnly};
 ghost use Rattle.named_files.specs.Entries.{SameWhere};
@@ -47,6 +47,12 @@ pub(crate) fn replace_index<F: Folder>(
         (F.is_leftover folder.old) work (names_read read.now) name.now) F.can_refuse
         (Puts (F.can_refuse ⊎ F.writes_can_fail) work (F.holds folder.new name.now))
         (ending_of result) }
+    // Without success the name leads to what it led to before; or, if only its own name failed, to the whole text.
+    ensures old { (bytes : List (List ℕ))
+        → files_of (F.holds folder.old) read.now.archives.now ≡ map Some bytes
+        → F.agree reports.new ≡ true
+        → KeepsOld (Index (mboxes (map string_bytes read.now.archives.now) bytes))
+        (F.holds folder.old name.now) (F.holds folder.new name.now) (ending_of result) }
     // Each file that is read, and each other one, stays as it is.
     ensures read { F.agree reports.new ≡ true
         → All (λ n. F.holds folder.new n ≡ F.holds folder.old n) (names_read read.now) }

@@ -6,7 +6,7 @@ ghost use Rattle.mairix_run.specs.Inside.Running.{Ran};
 ghost use Rattle.mairix_run.specs.ReadFiles.{names_read};
 ghost use Rattle.mairix_run.specs.Stops.{ending_of};
 ghost use Rattle.mairix_run.specs.Tasks.{files_at, search_task, search_work};
-ghost use Rattle.mairix_run.specs.WholeRuns.{CallsFor, IsTrouble, LeavesInMaking, MakesFor, Puts, Writes, is_left_alone, refused_name};
+ghost use Rattle.mairix_run.specs.WholeRuns.{CallsFor, IsTrouble, KeepsOld, LeavesInMaking, MakesFor, Puts, Writes, is_left_alone, refused_name};
 ghost use Rattle.mairix_tool.specs.Asked.{asks};
 ghost use Rattle.named_archives.specs.Names.{files_of};
 ghost use Rattle.named_files.specs.Crashes.{LeavesOnly};
@@ -133,6 +133,14 @@ fn make_answer_file<F: Folder>(
         (F.is_leftover folder.old) work (names_read read.now) name.now) F.can_refuse
         (Puts (F.can_refuse ⊎ F.writes_can_fail) work (F.holds folder.new name.now))
         (ending_of result) }
+    // Without success the name leads to what it led to before; or, if only its own name failed, to the whole text.
+    ensures old { (bytes : List (List ℕ))
+        → files_of (F.holds folder.old) search.now.paths.now ≡ map Some bytes
+        → F.agree reports.new ≡ true
+        → KeepsOld (search_work
+        (asks search.now.words.now search.now.text.now search.now.moment)
+        (option_map (λ index. index.now) search.now.index) bytes)
+        (F.holds folder.old name.now) (F.holds folder.new name.now) (ending_of result) }
     // Each file that is read, and each other one, stays as it is.
     ensures read { F.agree reports.new ≡ true
         → All (λ n. F.holds folder.new n ≡ F.holds folder.old n) (names_read read.now) }

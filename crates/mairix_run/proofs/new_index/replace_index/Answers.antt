@@ -5,14 +5,16 @@ use Rattle.std.specs.Option.{option_map_or}
 use Rattle.index_run.specs.ArchivesIndexed.{mboxes}
 use Rattle.named_archives.specs.Names.{files_of}
 use Rattle.run_faults.specs.Faults.{fault_in, is_failed_out}
-use Rattle.mairix_run.proofs.MadeRuns.{all-after, files-same, fit-same, made-settled-leaves, made-settled-read}
-use Rattle.mairix_run.proofs.MadeRuns.{none-made-leaves, none-made-read}
+use Rattle.mairix_run.proofs.MadeRuns.{all-after, files-same, fit-same, made-settled-keeps, made-settled-leaves}
+use Rattle.mairix_run.proofs.MadeRuns.{made-settled-read}
+use Rattle.mairix_run.proofs.MadeRuns.{none-made-keeps, none-made-leaves, none-made-read}
 use Rattle.mairix_run.proofs.MakingRuns.{mail-found, mail-or-refused, none-refused, puts-settled}
 use Rattle.mairix_run.proofs.Written.{counted-failure, indexed-written, silent-of}
 use Rattle.mairix_run.specs.MadeFiles.{IsRefusal, is_open_to, taken_name, unfit_name}
 use Rattle.mairix_run.specs.ReadFiles.{names_read}
+use Rattle.mairix_run.specs.Stops.{ending_of_stopped}
 use Rattle.mairix_run.specs.Tasks.Work.{Index}
-use Rattle.mairix_run.specs.WholeRuns.{IsWritten, Puts, passing_of}
+use Rattle.mairix_run.specs.WholeRuns.{IsWritten, KeepsOld, Puts, passing_of}
 use Rattle.mairix_run.proofs.new_index.replace_index.Goals as goal
 
 -- ---- it isn't made
@@ -40,7 +42,7 @@ returns-in-Err-create_file-clause-run g c = λ bytes files agree.
     F.reads_can_fail (Puts (F.can_refuse ⊎ F.writes_can_fail) work (F.holds c.create_file.new.folder name))
     (c.in_default.ensures.no_mail (c.in-Err-create_file.ensures.earlier agree)) c.in-Err-create_file.stopped
     (subst (λ p. IsRefusal (unfit_name (F.apart old) read p name) (taken_name (F.holds old) (F.is_leftover old) p
-        name) p
+    name) p
     F.can_refuse c.in-Err-create_file.stopped) (sym same) (c.in-Err-create_file.ensures.refused agree))
 
 pub returns-in-Err-create_file-clause-read : goal.returns-in-Err-create_file-clause-read
@@ -62,8 +64,22 @@ returns-in-Err-create_file-clause-any_moment g c = λ bytes files agree.
     let same : passing_of c.args.name.now ≡ c.as_str-passing.result.now =
     sym (c.as_str-passing.ensures.value ∙ c.in_ok-passing.ensures) in
     none-made-leaves F c.args.folder.now (names_read c.args.read.now) c.args.name.now (Index (mboxes (map string_bytes
-        c.args.read.now.archives.now) bytes))
+    c.args.read.now.archives.now) bytes))
     c.create_file.new.folder c.as_str-passing.result.now same (g.met.F.Folder.only_now c.args.folder.now) (record {
+      untouched = c.in-Err-create_file.ensures.untouched agree;
+      others = c.in-Err-create_file.ensures.others;
+      any_moment = c.in-Err-create_file.ensures.any_moment;
+      calls = c.in-Err-create_file.ensures.calls;
+    })
+
+pub returns-in-Err-create_file-clause-old : goal.returns-in-Err-create_file-clause-old
+returns-in-Err-create_file-clause-old g c = λ bytes files agree.
+    let F = g.F.Folder in
+    let same : passing_of c.args.name.now ≡ c.as_str-passing.result.now =
+    sym (c.as_str-passing.ensures.value ∙ c.in_ok-passing.ensures) in
+    none-made-keeps F c.args.folder.now (names_read c.args.read.now) c.args.name.now (Index (mboxes (map string_bytes
+    c.args.read.now.archives.now) bytes))
+    c.create_file.new.folder c.as_str-passing.result.now (ending_of_stopped c.in-Err-create_file.stopped) same (record {
       untouched = c.in-Err-create_file.ensures.untouched agree;
       others = c.in-Err-create_file.ensures.others;
       any_moment = c.in-Err-create_file.ensures.any_moment;
@@ -106,7 +122,7 @@ returns-clause-run g c = λ bytes files agree.
     let made = c.index_names-indexed.ensures.earlier agree in
     let fit = subst (λ p. unfit_name (F.apart old) read p name ≡ None) (sym same) (c.in-Ok.ensures.fit made) in
     let free = subst (λ p. is_open_to (F.holds old) (F.is_leftover old) p ≡ true) (sym same) (c.in-Ok.ensures.free
-        made) in
+    made) in
     let puts = puts-settled OutFails work (N.taken filled) indexed c.settle_file.result
     (F.holds c.settle_file.new.folder name) written c.settle_file.ensures.status c.settle_file.ensures.refused
     c.settle_file.ensures.named in
@@ -140,6 +156,9 @@ returns-clause-read g c = λ agree.
       others_then = c.settle_file.ensures.others;
       settling = c.settle_file.ensures.any_moment;
       discarding = c.settle_file.ensures.discarded;
+      not_named = c.settle_file.ensures.not_named;
+      old_or_new = c.settle_file.ensures.old_or_new;
+      settled = c.settle_file.ensures.status;
       calls_then = c.settle_file.ensures.calls;
     })
 
@@ -186,5 +205,59 @@ returns-clause-any_moment g c = λ bytes files agree.
       others_then = c.settle_file.ensures.others;
       settling = c.settle_file.ensures.any_moment;
       discarding = c.settle_file.ensures.discarded;
+      not_named = c.settle_file.ensures.not_named;
+      old_or_new = c.settle_file.ensures.old_or_new;
+      settled = c.settle_file.ensures.status;
       calls_then = c.settle_file.ensures.calls;
     }) written
+
+pub returns-clause-old : goal.returns-clause-old
+returns-clause-old g c = λ bytes files agree.
+    let F = g.F.Folder in
+    let N = g.F.New.Out in
+    let old = c.args.folder.now in
+    let name = c.args.name.now in
+    let read = names_read c.args.read.now in
+    let passing = c.as_str-passing.result.now in
+    let same : passing_of name ≡ passing = sym (c.as_str-passing.ensures.value ∙ c.in_ok-passing.ensures) in
+    let archives = c.args.read.now.archives.now in
+    let work = Index (mboxes (map string_bytes archives) bytes) in
+    let first = c.in-Ok.new in
+    let filled = c.index_names-indexed.new.out in
+    let indexed = c.index_names-indexed.result in
+    let mid = c.create_file.new.folder in
+    let kept = fit-same F old read name mid passing (c.in-Ok.ensures.fit (c.index_names-indexed.ensures.earlier agree))
+    c.in-Ok.ensures.others in
+    let still : files_of (F.holds mid) archives ≡ map Some bytes = files-same (F.holds old) (F.holds mid) archives
+    (all-after (λ n. F.holds mid n ≡ F.holds old n)
+    (c.args.read.now.rcfile.now ∷ option_map_or (λ database. database.now ∷ []) c.args.read.now.database [])
+    (map string_bytes archives) kept) ∙ files in
+    let OutFails = F.can_refuse ⊎ F.writes_can_fail in
+    let fails : is_failed_out (fault_in indexed) ≡ true → OutFails = λ is. inr (g.met.F.Folder.writes_fail filled
+    (counted-failure (is_failed_out (fault_in indexed)) (N.failures first) (N.failures filled)
+    c.index_names-indexed.ensures.out_failed c.in-Ok.ensures.fresh is)) in
+    let by-some : IsWritten OutFails work (N.taken first) (N.taken filled) indexed =
+    indexed-written (mboxes (map string_bytes archives) bytes) OutFails (N.taken first) (N.taken filled) indexed fails
+    (silent-of N.taken first filled indexed c.index_names-indexed.ensures.silent)
+    (c.index_names-indexed.ensures.indexed bytes still agree) in
+    let written : IsWritten OutFails work (Some []) (N.taken filled) indexed =
+    subst (λ t. IsWritten OutFails work t (N.taken filled) indexed) c.in-Ok.ensures.empty by-some in
+    subst (λ ended. KeepsOld work (F.holds old name) (F.holds c.settle_file.new.folder name) ended)
+    (sym c.status_or_stopped.ensures) (made-settled-keeps F old read name c.create_file.new.folder
+        c.settle_file.new.folder
+    (N.taken filled) indexed c.settle_file.result work OutFails passing same
+    (record {
+      fit = c.in-Ok.ensures.fit (c.index_names-indexed.ensures.earlier agree);
+      others = c.in-Ok.ensures.others;
+      crash = c.in-Ok.ensures.crash;
+      apart = c.in-Ok.ensures.apart;
+      making = c.in-Ok.ensures.any_moment;
+      calls = c.in-Ok.ensures.calls;
+      others_then = c.settle_file.ensures.others;
+      settling = c.settle_file.ensures.any_moment;
+      discarding = c.settle_file.ensures.discarded;
+      not_named = c.settle_file.ensures.not_named;
+      old_or_new = c.settle_file.ensures.old_or_new;
+      settled = c.settle_file.ensures.status;
+      calls_then = c.settle_file.ensures.calls;
+    }) written)

@@ -10,7 +10,7 @@ use Rattle.mairix_run.specs.Inside.Running.{Ran}
 use Rattle.mairix_run.specs.Stops.{ending_of}
 use Rattle.mairix_run.specs.Tasks.{files_at, index_task, names_indexed}
 use Rattle.mairix_run.specs.Tasks.Work.{Index}
-use Rattle.mairix_run.specs.WholeRuns.{IsTrouble, LeavesInMaking, MakesFor, Puts, refused_name}
+use Rattle.mairix_run.specs.WholeRuns.{IsTrouble, KeepsOld, LeavesInMaking, MakesFor, Puts, refused_name}
 use Rattle.mairix_tool.specs.Asked.{asks}
 use Rattle.mairix_run.proofs.running.run_asked.Goals as goal
 
@@ -27,7 +27,7 @@ returns-then-is_index_run-clause-ran g c = λ agree.
     let found = c.in-Ok.ensures.ok (c.replace_index.ensures.earlier agree) in
     let bytes = found.0 in
     let files : files_at (F.holds old) rc.paths ≡ Ok bytes = ap (files_at (F.holds old)) (sym c.as_slice.ensures) ∙
-        found.1 in
+    found.1 in
     let known : files_of (F.holds old) archives ≡ map Some bytes = files-known (F.holds old) archives bytes
     (ap (files_at (F.holds old)) c.as_slice-then-is_index_run.ensures ∙ files) in
     let ended = ending_of c.replace_index.result in
@@ -47,10 +47,13 @@ returns-then-is_index_run-clause-ran g c = λ agree.
     (subst (λ (r : List (List ℕ)). IsTrouble F.can_refuse F.reads_can_fail ended
     ⊎ MakesFor (refused_name (F.holds old) (F.apart old) (F.is_leftover old) (Index (mboxes rc.paths bytes)) r name)
     F.can_refuse (Puts (F.can_refuse ⊎ F.writes_can_fail) (Index (mboxes rc.paths bytes)) (F.holds new name)) ended)
-        same
+    same
     made)
+    (subst (λ (paths : List (List ℕ)). KeepsOld (Index (mboxes paths bytes)) (F.holds old name) (F.holds new name)
+        ended)
+    c.as_slice-then-is_index_run.ensures (c.replace_index.ensures.old bytes known agree))
     (subst (λ (r : List (List ℕ)). All (λ n. F.holds new n ≡ F.holds old n) r) same (c.replace_index.ensures.read
-        agree))
+    agree))
     c.replace_index.ensures.alone
     (subst (λ (paths : List (List ℕ)). LeavesOnly F.moment F.left_since old new
     (LeavesInMaking (F.apart old) (F.may_leave old) (Index (mboxes paths bytes)) name))

@@ -22,7 +22,7 @@ returns-in-Refused-clause-err g c = λ agree.
     let n = c.in-Err.field-0.number in
     let name = c.index-paths-number.result in
     missing-stops F.can_refuse F.reads_can_fail (files_at holds (map string_bytes paths)) (string_bytes name)
-        c.at.result
+    c.at.result
     (subst (λ p. IsStoppedAt p c.at.result) c.as_str.ensures.value c.at.ensures.path)
     (⊎_elim (λ none. inl (file-missing holds paths n (string_bytes name)
     (before-found holds paths n (F.agree c.first_states.new.reports) (F.agree c.args.reports.now)

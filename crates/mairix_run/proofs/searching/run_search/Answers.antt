@@ -22,7 +22,7 @@ returns-in-Some-clause-ran g c = λ bytes files agree.
     let name = c.as_str-in-Some-2.result.now in
     let paths = c.as_slice-paths.result.now in
     let work = search_work (asks asked.words.now asked.text.now asked.now) (option_map (λ index. index.now)
-        c.args.index)
+    c.args.index)
     bytes in
     let read = c.as_str.result.now ∷ c.as_str-in-Some.result.now ∷ map string_bytes paths in
     let some : answer_file p rc ≡ Some name =
@@ -37,6 +37,7 @@ returns-in-Some-clause-ran g c = λ bytes files agree.
     ⊎ MakesFor (refused_name (F.holds old) (F.apart old) (F.is_leftover old) work r name) F.can_refuse
     (Puts (F.can_refuse ⊎ F.writes_can_fail) work (F.holds new name)) ended) same
     (c.make_answer_file.ensures.run bytes known agree))
+    (c.make_answer_file.ensures.old bytes known agree)
     (subst (λ (r : List (List ℕ)). All (λ n. F.holds new n ≡ F.holds old n) r) same
     (c.make_answer_file.ensures.read agree))
     c.make_answer_file.ensures.alone (c.make_answer_file.ensures.any_moment bytes known agree)
@@ -49,7 +50,7 @@ returns-in-None-clause-ran g c = λ bytes files agree.
     let old = c.args.folder.now in
     let paths = c.as_slice-paths.result.now in
     let work = search_work (asks asked.words.now asked.text.now asked.now) (option_map (λ index. index.now)
-        c.args.index)
+    c.args.index)
     bytes in
     let known : files_of (F.holds old) paths ≡ map Some bytes =
     files-known (F.holds old) paths bytes (ap (files_at (F.holds old)) c.as_slice-paths.ensures ∙ files) in
