@@ -64,22 +64,24 @@ def looked_at(name):
     return {call + name: [unopened(name)] for call in ("open ", "read ")}
 
 
-def found(name):
-    """The calls that come before a file is written: it is looked where its names lead, what was left is looked for, it is made, locked, seen
-    to be the one that was locked, and marked. Without the mark it is private alone."""
+def found(name, compared):
+    """The calls that come before a file is written: its passing name is compared with this many names, what was left is looked for, it is
+    made, locked, seen to be the one that was locked, and marked. Without the mark it is private alone."""
     new = name + ".new"
     told = {call + new: [unopened(new)] for call in ("create ", "flock ")}
-    return {**told, "statx " + new: [None] + [unopened(new)] * 3 + [None]}
+    return {**told, "statx " + new: [None] * compared + [unopened(new)] * 3 + [None]}
 
 
-def made(name):
+def made(name, compared):
     """And those after that, which give it its name and bring that to the disk. Without the old mode it stays private."""
     new = name + ".new"
     told = {call + new: [UNWRITTEN] for call in ("write ", "fsync ", "rename ")}
     in_place = {"open .": [InPlace(UNWRITTEN)], "fsync " + ROOM: [InPlace(UNWRITTEN)]}
-    return {**found(name), **told, **in_place, "statx " + new: [None] + [unopened(new)] * 3 + [UNWRITTEN]}
+    return {**found(name, compared), **told, **in_place, "statx " + new: [None] * compared + [unopened(new)] * 3 + [UNWRITTEN]}
 
 
+# With how many names the passing name of a file is compared: the rcfile, one archive and the file's own; and of an answer the index too.
+INDEX_COMPARED, ANSWER_COMPARED = 3, 4
 STORED_CALLS = {**whole("rc"), **whole("m.idx"), **searched("m.mbox")}
 # And those of a search that makes a file.
 STORED_FILE_CALLS = {**STORED_CALLS, **searched("m.mbox", looks=2)}
@@ -139,8 +141,8 @@ def verified_runs(program):
     verify = INDEX + ["--verify", "s:hello"]
     return [
         Swept("lines, verified", hello, STORED + ["--verify", "s:hello"], out=b"0 58 m.mbox\n", told={**STORED_CALLS, **PRINT_CALLS}),
-        Swept("an mbox, verified", hello, verify, changes={"hits": HELLO}, told={**STORED_FILE_CALLS, **made("hits")}),
-        Swept("an archive with another letter", world, verify, 3, err=CHANGED, told={**STORED_FILE_CALLS, **found("hits")}),
+        Swept("an mbox, verified", hello, verify, changes={"hits": HELLO}, told={**STORED_FILE_CALLS, **made("hits", ANSWER_COMPARED)}),
+        Swept("an archive with another letter", world, verify, 3, err=CHANGED, told={**STORED_FILE_CALLS, **found("hits", ANSWER_COMPARED)}),
     ]
 
 
@@ -151,15 +153,15 @@ def swept_runs(program):
     thread = {**THREAD, "m.idx": index_of(THREAD, program), "hits": b"old"}
     threads = FIRST_OF_THREAD + SECOND_OF_THREAD
     return [
-        Swept("an index run", {**hello, "m.idx": b"old"}, INDEX, changes={"m.idx": HELLO_INDEX}, told={**whole("rc"), **indexed("m.mbox"), **looked_at("m.idx"), **made("m.idx")}),
+        Swept("an index run", {**hello, "m.idx": b"old"}, INDEX, changes={"m.idx": HELLO_INDEX}, told={**whole("rc"), **indexed("m.mbox"), **looked_at("m.idx"), **made("m.idx", INDEX_COMPARED)}),
         Swept("lines", hello, STORED + ["s:hello"], out=b"0 58 m.mbox\n", told={**STORED_CALLS, **PRINT_CALLS}),
         Swept("excerpts", alice, INDEX + ["-x", "t:alice"], out=ALICE_EXCERPT, told={**STORED_CALLS, **PRINT_CALLS}),
         Swept("threads", thread, INDEX + ["--stdout", "-t", "b:hi"], out=threads, told={**STORED_CALLS, **searched("n"), **PRINT_CALLS}),
-        Swept("an mbox", hello, INDEX + ["s:hello"], changes={"hits": HELLO}, told={**STORED_FILE_CALLS, **made("hits")}),
-        Swept("no message", hello, INDEX + ["s:goodbye"], 1, changes={"hits": b""}, told={**STORED_FILE_CALLS, **made("hits")}),
-        Swept("an index in memory", {"m.mbox": HELLO, "hits": b"old"}, ONCE + ["--boolean", "hi"], changes={"hits": HELLO}, told={**ONCE_CALLS, **made("hits")}),
-        Swept("a bad query", hello, INDEX + ["q:x"], 2, err=fault(b"query item 1: bad prefix"), told={**whole("rc"), **whole("m.idx"), "open m.mbox": [unopened("m.mbox")], "statx m.mbox": [unopened("m.mbox"), None], **found("hits")}),
-        Swept("an archive that has grown", {**hello, "m.mbox": HELLO + HELLO}, INDEX + ["s:hello"], 3, err=CHANGED, told={**STORED_FILE_CALLS, **found("hits")}),
+        Swept("an mbox", hello, INDEX + ["s:hello"], changes={"hits": HELLO}, told={**STORED_FILE_CALLS, **made("hits", ANSWER_COMPARED)}),
+        Swept("no message", hello, INDEX + ["s:goodbye"], 1, changes={"hits": b""}, told={**STORED_FILE_CALLS, **made("hits", ANSWER_COMPARED)}),
+        Swept("an index in memory", {"m.mbox": HELLO, "hits": b"old"}, ONCE + ["--boolean", "hi"], changes={"hits": HELLO}, told={**ONCE_CALLS, **made("hits", ANSWER_COMPARED)}),
+        Swept("a bad query", hello, INDEX + ["q:x"], 2, err=fault(b"query item 1: bad prefix"), told={**whole("rc"), **whole("m.idx"), "open m.mbox": [unopened("m.mbox")], "statx m.mbox": [unopened("m.mbox"), None], **found("hits", ANSWER_COMPARED)}),
+        Swept("an archive that has grown", {**hello, "m.mbox": HELLO + HELLO}, INDEX + ["s:hello"], 3, err=CHANGED, told={**STORED_FILE_CALLS, **found("hits", ANSWER_COMPARED)}),
         Swept("bad words", {}, ["-z"], 2, err=Swept("", {}, ["-z"]).run(program)[2]),
         Swept("help", {}, ["-h"], out=Swept("", {}, ["-h"]).run(program)[1], told=PRINT_CALLS),
         *verified_runs(program),
