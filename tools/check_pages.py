@@ -173,7 +173,7 @@ def told_texts():
     texts = printed(FAULT_TEXTS, "text_of_fault fault", {})
     for path in sorted((TOP / "crates/run_faults/src").glob("*.rt")):
         texts |= set(re.findall(r'(?m)^pub const \w+: &str = "([^"]+)";', path.read_text(encoding="utf-8")))
-    for path in ("mairix_tool/src/program.rt", "mairix/src/main.rt"):
+    for path in ("mairix_run/src/telling.rt", "mairix/src/main.rt"):
         texts |= {it.strip() for it in re.findall(r'"mairix: ([^"\\{]+)', source(path))}
     return texts - UNTOLD
 

@@ -4,5 +4,3 @@ pub mod ArchiveLaws
 pub mod TableLaws
 pub mod ReplyLaws
 pub mod RowsReplies
-pub mod IndexFronts
-pub mod KnownFiles

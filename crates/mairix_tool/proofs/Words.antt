@@ -67,13 +67,12 @@ pub use Rattle.std.proofs.Common.{All, Bool, Err, IfErr, IfOk, IfSome, List, Non
 pub use Rattle.std.proofs.Common.{add-one, ap, append-nil, append_assoc, ap₂, arith, bytes_eq, cond, drop, drop-cons}
 pub use Rattle.std.proofs.Common.{eq-eqb, false, filter, flat_map, get_or, if◌then◌else◌, inl, inr, length}
 pub use Rattle.std.proofs.Common.{length-append, length-drop, map, min, nat_eq, not, refl, string_bytes, subst, suc}
-pub use Rattle.std.proofs.Common.{sym, take, true, unwrap_or, vec_len, zero, ℕ, ◌&&◌, ◌++◌, ◌+◌, ◌-◌, ◌<◌, ◌==◌, ◌^◌}
+pub use Rattle.std.proofs.Common.{sym, take, true, unwrap_or, zero, ℕ, ◌&&◌, ◌++◌, ◌+◌, ◌-◌, ◌<◌, ◌==◌, ◌^◌}
 pub use Rattle.std.proofs.Common.{◌||◌, ◌∙◌, ◌∷◌, ◌≡◌, ◌≤◌}
 pub use Rattle.std.proofs.Math.Bool.{or-false}
 pub use Rattle.std.proofs.lemmas.Bool.{eqb-true, false≢true}
 pub use Rattle.std.proofs.lemmas.Bool.Decides.{eqb_tells, leb_tells, nat_tests}
-pub use Rattle.std.proofs.lemmas.List.{drop-append-le, get_or-map, get_or_at, length-map, length_push, map-append}
-pub use Rattle.std.proofs.lemmas.List.{take-append-le}
+pub use Rattle.std.proofs.lemmas.List.{get_or-map, get_or_at, length-map, length_push, map-append}
 pub use Rattle.std.proofs.lemmas.List.Elements.{All-cons, All-head, All-map, All-nil, All-tail, Contains-append_left}
 pub use Rattle.std.proofs.lemmas.List.Elements.{Contains-append_right, recursion_from_All}
 pub use Rattle.std.proofs.lemmas.List.Folds.{flat_map-map, list_any-append}

@@ -1,3 +1,2 @@
 -- Definitions for private functions only: what these promise one another. No public clause depends on them.
 pub mod Answering
-pub mod KnownFiles

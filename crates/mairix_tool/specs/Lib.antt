@@ -13,4 +13,3 @@ pub mod OldTables
 pub mod Altered
 pub mod Inside
 pub mod CutAgain
-pub mod FilesAnswered

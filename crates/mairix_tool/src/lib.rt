@@ -3,7 +3,6 @@
 
 mod laws;
 mod once;
-mod program;
 mod reply;
 mod reply_laws;
 mod stored;
@@ -27,7 +26,6 @@ pub use mairix_options::{
     answer_format, plan_of, read_rc, usage_text,
 };
 pub use once::once_run;
-pub use program::{run_program, tell_unread_words};
 pub use reply::Reply;
 pub use reply_laws::{once_runs_have_one_reply, stored_runs_have_one_reply};
 pub use run_faults::{Fault, fault_text};

@@ -1,7 +1,9 @@
 //! Runs of the program over the files of a folder: what it reads, what it makes, and what it prints.
 use crate::fixture::{NOW, bytes_of, push_words, tells};
 use mail_dates::Moment;
-use mairix_tool::run_program;
+use mairix_files::{KitFolder, SupposedNames};
+use mairix_run::{MemoryStream, ProgramTexts, run_program};
+use named_files::Folder;
 use std::alloc::Global;
 use std::{fs, process};
 
@@ -52,10 +54,21 @@ fn printed(rt: &HostRuntime, alloc: Global, line: &str) -> Option<Vec<u8>> {
     let now = Moment::new(NOW)?;
     let mut words = Vec::new(alloc);
     push_words(alloc, &mut words, line)?;
-    let mut out = Vec::new(alloc);
-    let mut err = Vec::new(alloc);
-    let status = run_program(rt, alloc, &words, now, &mut out, &mut err);
-    all_printed(alloc, &out, &err, status)
+    let mut folder = KitFolder::new(rt, SupposedNames::new());
+    let mut reports = folder.no_reports();
+    let mut out = MemoryStream::new(alloc);
+    let mut err = MemoryStream::new(alloc);
+    let status = run_program(
+        &mut folder,
+        alloc,
+        &mut reports,
+        &ProgramTexts,
+        &words,
+        now,
+        &mut out,
+        &mut err,
+    );
+    all_printed(alloc, out.handed_on(), err.taken(), status)
 }
 
 fn all_printed(alloc: Global, out: &[u8], err: &[u8], status: u8) -> Option<Vec<u8>> {
