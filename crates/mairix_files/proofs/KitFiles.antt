@@ -10,7 +10,7 @@ use Rattle.call_record.specs.Noted.{Notes, held_by, left_of, read_told, read_at_
 use Rattle.call_record.proofs.Reading.{noted-read}
 use Rattle.named_files.specs.Entries.{IsRead}
 use Rattle.mairix_files.specs.KitFiles.{bytes_held, rest_held, if_any}
-use Rattle.mairix_files.proofs.Pieces.{is-read, is-length}
+use Rattle.mairix_files.proofs.NotedCalls.{is-read, is-length}
 
 of_only : (supposed : List (List ℕ)) (held : Option (List (List ℕ))) (P : List ℕ → Type 0)
     → IfSome held (λ archives. P (archive_at archives 0))

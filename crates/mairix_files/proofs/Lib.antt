@@ -1,8 +1,6 @@
--- The proofs about reads of files, and about sources, one for each path.
-mod Ends
+-- The proofs about files of the system: what is noted of their calls, and of calls on names.
 pub mod FileStates
 pub mod KitFiles
 pub mod NameSteps
-mod Numbered
-pub mod Pieces
+pub mod NotedCalls
 pub mod Writing

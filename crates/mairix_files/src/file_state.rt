@@ -2,9 +2,7 @@
 //!
 //! A search sees each archive in one state, or fails (decision 95 in docs/DECISIONS.md).
 
-use std::fs::{Metadata, OpenFile};
-use std::io;
-use std::io::ErrorKind;
+use std::fs::Metadata;
 use std::os::unix::fs::MetadataExt;
 
 /// What the system reports of a file: which file it is, its length, and when its bytes and its other properties were
@@ -25,36 +23,13 @@ pub struct FileState {
 
 impl FileState {
     /// Returns the state that these data of the system are.
-    pub fn of(found: &Metadata) -> FileState {
+    pub(crate) fn of(found: &Metadata) -> FileState {
         FileState {
             device: found.dev(),
             inode: found.ino(),
             length: found.len(),
             written: (found.mtime(), found.mtime_nsec()),
             changed: (found.ctime(), found.ctime_nsec()),
-        }
-    }
-
-    /// Checks that an open file is in this state.
-    ///
-    /// # Errors
-    ///
-    /// The kind `InvalidData` if the file is in another state, and what the system refuses.
-    pub fn check<F: OpenFile>(&self, file: &F) -> io::Result<()> {
-        let told = file.metadata()?;
-        self.check_told(&told)
-    }
-
-    /// Checks that these data of the system are this state.
-    ///
-    /// # Errors
-    ///
-    /// The kind `InvalidData` if they are another state.
-    pub fn check_told(&self, found: &Metadata) -> io::Result<()> {
-        if FileState::of(found) == *self {
-            Ok(())
-        } else {
-            Err(ErrorKind::InvalidData.into())
         }
     }
 }

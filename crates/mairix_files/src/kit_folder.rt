@@ -82,7 +82,8 @@ fn supposing(_calls: &KitCalls, _supposed: &SupposedNames, _name: &[u8]) -> Reco
     Record::new()
 }
 
-/// Looks at what a name leads to.
+/// Looks at what a name leads to. A link to what a process has open, such as `/dev/stdout`, is neither a file nor a folder,
+/// whatever that is: no run replaces it (decision 58 in docs/DECISIONS.md).
 fn look_at<R: Files<File = File>>(rt: &R, alloc: Global, name: &str) -> Result<Look, Refusal> {
     match leads_to_processes(rt, alloc, name) {
         Ok(true) => return Ok(Look::Other),

@@ -1,4 +1,4 @@
-//! Removing what a killed run has left under the name of a new file.
+//! What a killed run has left under the name of a new file.
 //!
 //! A run removes only such files (decision 93 in docs/DECISIONS.md).
 ghost use Rattle.std.specs.Prelude.{◌≡◌, IsTrue, bit_and};
@@ -19,25 +19,6 @@ const MODE_BITS: u32 = 0o7777;
 
 /// A path whose owner is that of the files that this process makes.
 const THIS_PROCESS: &str = "/proc/self";
-
-/// Removes what a killed run left under a name, as `lock_leftover` finds it, whatever its bytes are. Does nothing if
-/// the name is free.
-///
-/// # Errors
-///
-/// If anything else has the name, which isn't touched then; otherwise what the system refused.
-pub(crate) fn remove_leftover<R: Files<File = File>>(
-    rt: &R,
-    alloc: Global,
-    name: &str,
-) -> io::Result<()> {
-    // The lock is held until the name is gone.
-    let left = lock_leftover(rt, alloc, name)?;
-    match &left {
-        Some(_) => fs::remove_file(rt, name),
-        None => Ok(()),
-    }
-}
 
 /// Finds what a killed run left under a name, and locks it: a plain file of this process's owner, with the mark of a
 /// new file, that no other run has locked. Returns None if the name is free.

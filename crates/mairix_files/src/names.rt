@@ -19,7 +19,7 @@ const MOST_LINKS: usize = 40;
 
 /// Where a name leads, if the system reports it. Links are followed.
 #[derive(Drop)]
-pub struct Place<'n> {
+pub(crate) struct Place<'n> {
     /// The path of the file, or of the place where it would be if it doesn't exist.
     path: Option<PathBuf>,
     /// The file, if it exists.
@@ -58,7 +58,11 @@ impl<'n> Place<'n> {
     /// # Errors
     ///
     /// `AllocError` if memory runs out.
-    pub fn of<R: Files>(rt: &R, alloc: Global, name: &'n str) -> Result<Place<'n>, AllocError> {
+    pub(crate) fn of<R: Files>(
+        rt: &R,
+        alloc: Global,
+        name: &'n str,
+    ) -> Result<Place<'n>, AllocError> {
         let file = Node::at(rt, name);
         let wanted = match file {
             Some(_) => None,
@@ -74,7 +78,12 @@ impl<'n> Place<'n> {
     /// # Errors
     ///
     /// `AllocError` if memory runs out.
-    pub fn is_of<R: Files>(&self, rt: &R, alloc: Global, name: &str) -> Result<bool, AllocError> {
+    pub(crate) fn is_of<R: Files>(
+        &self,
+        rt: &R,
+        alloc: Global,
+        name: &str,
+    ) -> Result<bool, AllocError> {
         let other = Place::of(rt, alloc, name)?;
         Ok(self.is_same(&other))
     }
@@ -138,26 +147,6 @@ fn real_path<R: Files>(rt: &R, alloc: Global, path: &str) -> Result<Option<PathB
         return Ok(None);
     };
     real.push(name).and(Ok(Some(real)))
-}
-
-/// Whether a name leads to a device, a pipe or a socket, which is neither a file nor a folder. Links are followed. A
-/// link to what a process has open, such as `/dev/stdout`, counts whatever that is. A name that leads nowhere doesn't
-/// count.
-///
-/// No run replaces one of these, nor a link to one (decision 58 in docs/DECISIONS.md).
-///
-/// # Errors
-///
-/// `AllocError` if memory runs out.
-pub fn is_special_file<R: Files>(rt: &R, alloc: Global, name: &str) -> Result<bool, AllocError> {
-    if leads_to_processes(rt, alloc, name)? {
-        return Ok(true);
-    }
-    let is_special = match fs::metadata(rt, name) {
-        Ok(found) => !found.is_file() && !found.is_dir(),
-        Err(_) => false,
-    };
-    Ok(is_special)
 }
 
 /// Whether a name is a link into the system's folder of processes, by any text and through any other links.

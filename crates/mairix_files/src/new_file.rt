@@ -1,10 +1,14 @@
-//! A file that gets its name once it is whole.
+//! The calls of a file that is made under a passing name, and gets its own name once it is whole.
 //!
-//! Decisions 53 to 56 in docs/DECISIONS.md say why.
+//! It is locked while it is open, and a lock ends with its process, however the process ends. So if two runs want the
+//! same file, the second is refused; and the next run may remove what a killed run left. Only the run that has locked
+//! the file under a passing name renames or removes it. A lock counts only if the name is found to lead to the locked
+//! file after locking, because the file may have lost its name before.
+//!
+//! Until it has its name, only its owner may use it, and it has a mark by which the next run recognizes what a killed
+//! run left. Decisions 53 to 56 in docs/DECISIONS.md say why.
 
-use crate::leftover::remove_leftover;
 use crate::names::{folder_of, is_one_node};
-use std::alloc::Global;
 use std::fs::{File, Metadata, OpenOptions, Permissions};
 use std::io::ErrorKind;
 use std::os::unix::fs::{MetadataExt, OpenOptionsExt, PermissionsExt};
@@ -26,96 +30,6 @@ const GROUP_BITS: u32 = 0o070;
 
 /// The bits of a mode that let others than the owner write.
 const OTHERS_WRITE: u32 = 0o022;
-
-/// A file that is written under a passing name, and then gets its own name. A caller ends it with `take_name` or
-/// `discard`.
-///
-/// It is locked while it is open, and a lock ends with its process, however the process ends. So if two runs want the
-/// same file, the second is refused; and the next run may remove what a killed run left. Only the run that has locked
-/// the file under a passing name renames or removes it. A lock counts only if the name is found to lead to the locked
-/// file after locking, because the file may have lost its name before.
-///
-/// Until it has its name, only its owner may use it, and it has a mark by which the next run recognizes what a killed
-/// run left.
-pub struct NewFile<'p, R: Files<File = File>> {
-    rt: &'p R,
-    passing: &'p str,
-    name: &'p str,
-    file: File,
-}
-
-impl<'p, R: Files<File = File>> NewFile<'p, R> {
-    /// Makes a new and empty file under a passing name, which only its owner may read. What a killed run left under
-    /// that name is removed first.
-    ///
-    /// # Errors
-    ///
-    /// If another run is still writing its own file there, or if anything is there that no killed run left; that isn't
-    /// touched. Otherwise what the system refused; the kind is `OutOfMemory` if memory ran out.
-    pub fn create(
-        rt: &'p R,
-        alloc: Global,
-        passing: &'p str,
-        name: &'p str,
-    ) -> io::Result<NewFile<'p, R>> {
-        remove_leftover(rt, alloc, passing)?;
-        let file = make_marked(rt, passing)?;
-        Ok(NewFile {
-            rt,
-            passing,
-            name,
-            file,
-        })
-    }
-
-    /// Returns the file, which is to be written from its beginning.
-    pub fn file(&self) -> &File {
-        &self.file
-    }
-
-    /// Gives the file its name, once all of it is on the disk, and its mode, and brings the name to the disk. If the
-    /// system refuses the mode, only the owner may use the file.
-    ///
-    /// # Errors
-    ///
-    /// What the system refused, or that the passing name leads to another file. The old file is as it was, and this one
-    /// is removed. If only the folder can't be brought to the disk, the file has its name, but may lose it if the power
-    /// fails.
-    pub fn take_name(self) -> io::Result<()> {
-        let mode = match self.rename() {
-            Ok(mode) => mode,
-            Err(error) => {
-                self.discard();
-                return Err(error);
-            }
-        };
-        let _ = set_mode(&self.file, mode);
-        let synced = sync_folder(self.rt, self.name);
-        self.close();
-        synced
-    }
-
-    /// Removes the file. If the passing name leads to another file, that isn't touched.
-    pub fn discard(self) {
-        remove_named(self.rt, &self.file, self.passing);
-        self.close();
-    }
-
-    /// Renames the file, once all of it is on the disk. Returns the mode that it is to have.
-    fn rename(&self) -> io::Result<u32> {
-        self.file.sync_all()?;
-        rename_named(self.rt, &self.file, self.passing, self.name)
-    }
-
-    fn close(self) {
-        let NewFile {
-            rt: _,
-            passing: _,
-            name: _,
-            file: _,
-        } = self;
-    }
-}
 
 /// Makes a new and empty file with this name, locks it and marks it.
 pub(crate) fn make_marked<R: Files<File = File>>(rt: &R, name: &str) -> io::Result<File> {

@@ -1,9 +1,0 @@
--- What is forgotten is an empty piece.
-use Rattle.std.proofs.Common.{refl, arith}
-use Rattle.mairix_files.proofs.read_ahead.ReadAhead.make_room.Goals as goal
-
-pub invariant_of-self : goal.invariant_of-self
-invariant_of-self g c = record {
-  in_room = omega (arith, c.forget.ensures.none);
-  piece = λ archives e. rw c.forget.ensures.none refl;
-}
