@@ -1,10 +1,11 @@
 -- What is known of the bytes of an open file, by its record.
 use Rattle.std.specs.Prelude.{◌≡◌, ℕ, Bool, true, false, List, [], ◌∷◌, Option, None, Some, IfSome, if◌then◌else◌}
+use Rattle.std.specs.Bool.{MatchBool}
 use Rattle.std.specs.Option.{option_map}
 use Rattle.call_record.specs.declared.record.Record.{Record}
 use Rattle.contract_words.specs.Archives.{archive_at}
 use Rattle.call_record.specs.Calls.{Call, agrees_with, held_after}
-use Rattle.call_record.specs.Noted.{held_by, left_of}
+use Rattle.call_record.specs.Noted.{Notes, held_by, left_of}
 
 -- this, if a file is supposed
 abbrev pub if_any : List (List ℕ) → Option (List ℕ) → Option (List ℕ)
@@ -27,6 +28,10 @@ rest_held noted = if_any noted.supposed (left_of 0 noted)
 -- the supposed bytes, if they agree with each call
 abbrev pub bytes_held : Record → Option (List ℕ)
 bytes_held noted = if_any noted.supposed (option_map (λ archives. archive_at archives 0) (held_by noted))
+
+-- this call was noted and no other, if it was made; otherwise none was
+abbrev pub NotesIf : Bool → Call → Record → Record → Type 0
+NotesIf made call old new = MatchBool made (Notes call old new) (new ≡ old)
 
 -- these are the bytes of the only archive, if these are known
 abbrev AreAll : List ℕ → Option (List (List ℕ)) → Type 0

@@ -1,8 +1,12 @@
 //! A file of the system that is read.
-ghost use Rattle.std.specs.Prelude.{◌≡◌, ◌<◌, ◌-◌, ◌^◌, ⊤, ℕ, List, [], None, Some, IfOk};
+ghost use Rattle.std.specs.Prelude.{◌≡◌, ◌<◌, ◌≤◌, ◌-◌, ◌^◌, ⊤, ℕ, List, [], None, Some, IsSome, IfOk, IfSome, is_some, length, take};
+ghost use Rattle.std.specs.Io.KnownBytes.{ReadConsumes};
 ghost use Rattle.contract_words.specs.Archives.{archive_at};
 ghost use Rattle.contract_words.specs.Devices.{Counts};
-ghost use Rattle.mairix_files.specs.KitFiles.{bytes_held, file_supposed, held_is_supposed, rest_held};
+ghost use Rattle.contract_words.specs.Knowledge.{WasKnown, still_known};
+ghost use Rattle.call_record.specs.Noted.{length_told, read_at_told, read_told};
+ghost use Rattle.named_files.specs.Entries.{IsRead};
+ghost use Rattle.mairix_files.specs.KitFiles.{NotesIf, bytes_held, file_supposed, held_is_supposed, rest_held};
 
 use crate::file_state::FileState;
 use crate::retried_reader::RetriedReader;
@@ -81,9 +85,24 @@ impl Source for KitFile {
 
     ghost whole = { λ file bytes. archive_at file.record.supposed 0 ≡ bytes };
 
-    fn read_next(&mut self, into: &mut [u8]) -> Result<usize, DeviceFault> {
+    fn read_next(&mut self, into: &mut [u8]) -> Result<usize, DeviceFault>
+        requires room { 0 < length into.old }
+        requires count { self.old.failures < 2 ^ 64 - 1 }
+        ensures bound { IfOk result (λ n. n ≤ length into.new) }
+        ensures bytes { ReadConsumes
+            (still_known (rest_held self.old.record) (rest_held self.new.record))
+            (rest_held self.new.record) result into.new }
+        ensures known { IsSome (rest_held self.new.record) → IsSome (rest_held self.old.record) }
+        ensures count { Counts result self.old.failures self.new.failures }
+        ensures whole { (bytes : List ℕ) → archive_at self.old.record.supposed 0 ≡ bytes
+            → archive_at self.new.record.supposed 0 ≡ bytes }
+        // The result is noted, and nothing else. A closed file isn't read.
+        ensures noted { NotesIf (is_some self.old.opened) (read_told result into.new)
+            self.old.record self.new.record }
+    {
         self.state = None;
         if let Some(opened) = &mut self.opened {
+            // Believed: that this reader is of the open file.
             let mut reader = RetriedReader::new(&opened.file);
             if let Ok(n) = read_noted(&mut reader, &mut self.record, into) {
                 return Ok(n);
@@ -103,7 +122,20 @@ impl KeptFile for KitFile {
 
     ghost bytes_are_whole = { λ file all is. held_is_supposed file.record all is };
 
-    fn read_at(&mut self, offset: u64, into: &mut [u8]) -> Result<usize, DeviceFault> {
+    fn read_at(&mut self, offset: u64, into: &mut [u8]) -> Result<usize, DeviceFault>
+        requires room { 0 < length into.old }
+        requires count { self.old.failures < 2 ^ 64 - 1 }
+        ensures known { WasKnown (bytes_held self.old.record) (bytes_held self.new.record) }
+        ensures rest { rest_held self.new.record ≡ rest_held self.old.record }
+        ensures whole { (bytes : List ℕ) → archive_at self.old.record.supposed 0 ≡ bytes
+            → archive_at self.new.record.supposed 0 ≡ bytes }
+        ensures bound { IfOk result (λ n. n ≤ length into.new) }
+        ensures bytes { IfOk result (λ n. IsRead offset (take n into.new)
+            (bytes_held self.new.record)) }
+        ensures count { Counts result self.old.failures self.new.failures }
+        ensures noted { NotesIf (is_some self.old.opened) (read_at_told 0 offset result into.new)
+            self.old.record self.new.record }
+    {
         self.state = None;
         if let Some(opened) = &mut self.opened {
             if let Ok(n) = read_at_noted(opened, &mut self.record, ONLY, offset, into) {
@@ -114,7 +146,18 @@ impl KeptFile for KitFile {
         Err(DeviceFault)
     }
 
-    fn length(&mut self) -> Result<u64, DeviceFault> {
+    fn length(&mut self) -> Result<u64, DeviceFault>
+        requires { self.old.failures < 2 ^ 64 - 1 }
+        ensures known { WasKnown (bytes_held self.old.record) (bytes_held self.new.record) }
+        ensures rest { rest_held self.new.record ≡ rest_held self.old.record }
+        ensures whole { (bytes : List ℕ) → archive_at self.old.record.supposed 0 ≡ bytes
+            → archive_at self.new.record.supposed 0 ≡ bytes }
+        ensures length { IfOk result (λ n. IfSome (bytes_held self.new.record)
+            (λ all. n ≡ length all)) }
+        ensures count { Counts result self.old.failures self.new.failures }
+        ensures noted { NotesIf (is_some self.old.opened) (length_told 0 result)
+            self.old.record self.new.record }
+    {
         self.state = None;
         if let Some(opened) = &mut self.opened {
             if let Ok(n) = length_noted(opened, &mut self.record, ONLY) {
