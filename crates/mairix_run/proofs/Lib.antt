@@ -13,6 +13,7 @@ pub mod MakingRuns
 pub mod NamedSources
 pub mod ReadFiles
 pub mod Replies
+pub mod RowsTasks
 pub mod RunParts
 pub mod RunStages
 pub mod SearchedArchives

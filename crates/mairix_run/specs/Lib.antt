@@ -18,4 +18,5 @@ pub mod Streams
 pub mod Tasks
 pub mod WholeFiles
 pub mod WholeRuns
+pub mod WorkedTasks
 pub mod WriterStreams

@@ -23,6 +23,7 @@ mod stream;
 mod telling;
 mod texts;
 mod whole_file;
+mod worked_tasks;
 mod worked_tellings;
 mod writer_stream;
 
@@ -46,5 +47,6 @@ pub use stream::Stream;
 pub use telling::{tell_ending, tell_fault, tell_stopped, tell_unread_words, tell_usage};
 pub use texts::{ProgramTexts, Texts};
 pub use whole_file::read_whole;
+pub use worked_tasks::{refused_names_are_as_worked_by_hand, tasks_are_as_worked_by_hand};
 pub use worked_tellings::lines_and_statuses_are_as_worked_by_hand;
 pub use writer_stream::WriterStream;

@@ -1,0 +1,27 @@
+-- What has to be unfolded, so that tasks and refused names are found by computation.
+use Rattle.std.specs.Char.{encode_utf8}
+use Rattle.std.specs.Str.{chars}
+use Rattle.bstr.proofs.Computing.{computing}
+use Rattle.caseless.proofs.Computing.{caseless}
+use Rattle.clap.proofs.OnLiterals.{clap_on_literals}
+use Rattle.unicode.proofs.CategoryComputing.{ucd_category}
+use Rattle.unicode.proofs.DerivedComputing.{ucd_derived}
+use Rattle.mail_query.specs.Sizes.{size_of, sizes_of}
+use Rattle.mail_query.specs.Tokens.{tokens}
+use Rattle.mail_words.specs.Words.{is_joiner, is_one_word, is_part_of_word, is_word, is_word_character}
+use Rattle.mairix_options.specs.Blanks.{trimmed}
+use Rattle.mairix_options.specs.CommandLine.{parse, plan}
+use Rattle.mbox_cutter.specs.Lines.{first_length, is_empty, lines}
+use Rattle.mbox_cutter.specs.Separators.{has_form, is_separator, without_break}
+use Rattle.mairix_run.specs.WorkedTasks.{IsRefusedAsWorked, IsWorked}
+
+-- what a proof unfolds to compute a task
+unfoldable pub asking : Unit {0}
+unfolding IsWorked parse plan clap_on_literals computing trimmed size_of sizes_of tokens is_one_word is_part_of_word
+    is_word is_joiner is_word_character ucd_derived ucd_category chars encode_utf8 caseless
+asking = tt
+
+-- what a proof unfolds to see whether a file begins as mail
+unfoldable pub looking : Unit {0}
+unfolding IsRefusedAsWorked lines first_length is_empty is_separator without_break has_form
+looking = tt

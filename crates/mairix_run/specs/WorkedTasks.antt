@@ -1,0 +1,278 @@
+-- Runs whose tasks, and names whose refusals, were worked out by hand.
+use Rattle.std.specs.Prelude.{◌≡◌, ℕ, ◌==◌, Bool, true, false, not, if◌then◌else◌, List, [], ◌∷◌, codes, Option}
+use Rattle.std.specs.Prelude.{None, Some, Result, Ok, Err}
+use Rattle.std.specs.List.{slice_split}
+use Rattle.std.specs.Str.{bytes_eq}
+use Rattle.mail_answer.specs.declared.format.Format.{Format}
+use Rattle.mail_answer.specs.declared.format.Format.TheVariants.{Mbox as AsMbox, Raw}
+use Rattle.mail_query.specs.Kinds.{no_kinds}
+use Rattle.mail_query.specs.Query.{Word}
+use Rattle.mail_query.specs.declared.fault.QueryFaultKind.TheVariants.{BadPrefix}
+use Rattle.mairix_options.specs.declared.command_line.UsageFault.TheVariants.{Parse, TwoFormats}
+use Rattle.mairix_options.specs.declared.rcfile.RcFault.TheVariants.{BadLine}
+use Rattle.mairix_tool.specs.Asked.{Wanted}
+use Rattle.named_files.specs.Entries.{Entry, Nothing, File, Folder, Other}
+use Rattle.run_faults.specs.declared.fault.Fault.{Fault}
+use Rattle.run_faults.specs.declared.fault.Fault.TheVariants.{Query, Rc, Usage}
+use Rattle.mairix_run.specs.Stops.{Ending}
+use Rattle.mairix_run.specs.Stops.Ending.{CannotOpen, Because}
+use Rattle.mairix_run.specs.Tasks.{Task, Work, task_of}
+use Rattle.mairix_run.specs.Tasks.Work.{Index, SearchNew, SearchStored}
+use Rattle.mairix_run.specs.WholeRuns.{refused_name}
+
+-- ---- names, and what they lead to
+
+-- names, each with what it leads to; any other name leads to nothing
+abbrev pub Names : Type 0
+Names = List (List ℕ × Entry)
+
+abbrev pub led_to : Names → List ℕ → Entry
+led_to [] name = Nothing
+led_to (n ∷ names) name = if bytes_eq n.0 name then n.1 else led_to names name
+
+-- the rcfile that the runs read
+abbrev pub rcfile : List ℕ
+rcfile = codes "mbox=a.mbox:b.mbox\ndatabase=m.idx\nmfolder=hits\n"
+
+-- the archives; what they hold doesn't matter here
+abbrev pub first : List ℕ
+first = codes "the first archive"
+
+abbrev pub second : List ℕ
+second = codes "the second archive"
+
+abbrev pub index : List ℕ
+index = codes "the index"
+
+abbrev pub rcfile_only : Names
+rcfile_only = (codes "rc", File rcfile) ∷ []
+
+abbrev pub one_archive : Names
+one_archive = (codes "a.mbox", File first) ∷ rcfile_only
+
+abbrev pub without_index : Names
+without_index = (codes "b.mbox", File second) ∷ one_archive
+
+abbrev pub with_index : Names
+with_index = (codes "m.idx", File index) ∷ without_index
+
+-- ---- what is to be done
+
+-- a run: its words, of which a space parts each two, what names lead to, and what it has to do
+pub record Row : Type 0 where
+  pub words : List ℕ
+  pub names : Names
+  pub task : Result Task Ending
+
+-- it has to do that, at noon of 18 May 2003
+unfoldable pub IsWorked : Row → Type 0
+IsWorked row = task_of (led_to row.names) (slice_split (λ b. b == 32) row.words) 1053259200 ≡ row.task
+
+-- the word `hello` in subjects, with the answer in this form
+abbrev pub hello : Format → Wanted
+hello format = record {
+  paths = codes "a.mbox" ∷ codes "b.mbox" ∷ [];
+  search =
+      record { query = Word (record no_kinds { subject = true }) (codes "hello"); threads = false; format = format };
+  verify = false;
+}
+
+-- a search, whose answer goes to this file
+abbrev pub search : Option (List ℕ) → Work → Result Task Ending
+search file work = Ok (record {
+  work = work;
+  file = file;
+  read = codes "rc" ∷ codes "m.idx" ∷ codes "a.mbox" ∷ codes "b.mbox" ∷ [];
+})
+
+-- the work of a search by the index in `m.idx`
+abbrev pub stored : Result Wanted Fault → Work
+stored wanted = SearchStored wanted index (first ∷ second ∷ [])
+
+-- ---- the runs
+
+abbrev pub refused_words : Row
+refused_words = record { words = codes "-f rc -z"; names = with_index; task = Err (Because (Usage Parse)) }
+
+abbrev pub two_formats : Row
+two_formats = record {
+  words = codes "-f rc -r -x s:hello";
+  names = with_index;
+  task = Err (Because (Usage TwoFormats));
+}
+
+abbrev pub no_rcfile : Row
+no_rcfile = record { words = codes "-f other s:hello"; names = with_index; task = Err (CannotOpen (codes "other")) }
+
+abbrev pub rcfile_is_folder : Row
+rcfile_is_folder = record {
+  words = codes "-f rc s:hello";
+  names = (codes "rc", Folder) ∷ [];
+  task = Err (CannotOpen (codes "rc"));
+}
+
+-- its second line has no `=`
+abbrev pub bad_rcfile : Row
+bad_rcfile = record {
+  words = codes "-f rc s:hello";
+  names = (codes "rc", File (codes "mbox=a.mbox\ndatabase\n")) ∷ [];
+  task = Err (Because (Rc (BadLine 2)));
+}
+
+abbrev pub no_archive : Row
+no_archive = record {
+  words = codes "-f rc --once s:hello";
+  names = one_archive;
+  task = Err (CannotOpen (codes "b.mbox"));
+}
+
+abbrev pub index_run : Row
+index_run = record {
+  words = codes "-f rc";
+  names = without_index;
+  task = Ok (record {
+    work = Index (
+        record { path = codes "a.mbox"; bytes = first }
+        ∷ record { path = codes "b.mbox"; bytes = second }
+        ∷ []);
+    file = Some (codes "m.idx");
+    read = codes "rc" ∷ codes "a.mbox" ∷ codes "b.mbox" ∷ [];
+  });
+}
+
+abbrev pub once : Row
+once = record {
+  words = codes "-f rc --once -r s:hello";
+  names = without_index;
+  task = search None (SearchNew (Ok (hello Raw)) (first ∷ second ∷ []));
+}
+
+abbrev pub no_index : Row
+no_index = record {
+  words = codes "-f rc -r s:hello";
+  names = without_index;
+  task = Err (CannotOpen (codes "m.idx"));
+}
+
+abbrev pub printed : Row
+printed = record {
+  words = codes "-f rc -r s:hello";
+  names = with_index;
+  task = search None (stored (Ok (hello Raw)));
+}
+
+abbrev pub to_mfolder : Row
+to_mfolder = record {
+  words = codes "-f rc s:hello";
+  names = with_index;
+  task = search (Some (codes "hits")) (stored (Ok (hello AsMbox)));
+}
+
+abbrev pub to_name : Row
+to_name = record {
+  words = codes "-f rc -o out s:hello";
+  names = with_index;
+  task = search (Some (codes "out")) (stored (Ok (hello AsMbox)));
+}
+
+abbrev pub to_output : Row
+to_output = record {
+  words = codes "-f rc --stdout s:hello";
+  names = with_index;
+  task = search None (stored (Ok (hello AsMbox)));
+}
+
+-- all files are read before the query is refused
+abbrev pub bad_query : Row
+bad_query = record {
+  words = codes "-f rc -r q:hello";
+  names = with_index;
+  task = search None (stored (Err (Query (record { number = 1; kind = BadPrefix }))));
+}
+
+-- ---- which names are refused
+
+-- a file that is to be made: its work, the names that the run reads, the file's name, what names lead to, which two are
+-- apart, which names killed runs left, and which name is refused
+pub record NameRow : Type 0 where
+  pub work : Work
+  pub read : List (List ℕ)
+  pub name : List ℕ
+  pub names : Names
+  pub apart : List ℕ → List ℕ → Bool
+  pub is_leftover : List ℕ → Bool
+  pub refused : Option (List ℕ)
+
+-- that name is refused, or none is
+unfoldable pub IsRefusedAsWorked : NameRow → Type 0
+IsRefusedAsWorked row =
+    refused_name (led_to row.names) row.apart row.is_leftover row.work row.read row.name ≡ row.refused
+
+-- Without links, two names are apart if they are different.
+abbrev pub differ : List ℕ → List ℕ → Bool
+differ a b = not (bytes_eq a b)
+
+-- the index `m.idx`, where killed runs left nothing
+abbrev pub new_index : Names → Option (List ℕ) → NameRow
+new_index names refused = record {
+  work = Index [];
+  read = codes "rc" ∷ codes "a.mbox" ∷ codes "b.mbox" ∷ [];
+  name = codes "m.idx";
+  names = names;
+  apart = differ;
+  is_leftover = λ n. false;
+  refused = refused;
+}
+
+-- an answer with this name, where killed runs left nothing
+abbrev pub new_answer : List ℕ → Names → Option (List ℕ) → NameRow
+new_answer name names refused = record {
+  work = SearchNew (Ok (hello AsMbox)) (first ∷ second ∷ []);
+  read = codes "rc" ∷ codes "m.idx" ∷ codes "a.mbox" ∷ codes "b.mbox" ∷ [];
+  name = name;
+  names = names;
+  apart = differ;
+  is_leftover = λ n. false;
+  refused = refused;
+}
+
+abbrev pub mail : Entry
+mail = File (codes "\nFrom a@x.org Thu Jan  2 10:00:00 2003\n")
+
+-- what a killed run left, or the file of another run
+abbrev pub passing : Names
+passing = (codes "m.idx.new", File (codes "MAIRIX")) ∷ []
+
+-- the place of each name, if `m.idx` is a link to `m.idx.new`
+abbrev pub place : List ℕ → List ℕ
+place name = if bytes_eq name (codes "m.idx") then codes "m.idx.new" else name
+
+abbrev pub nothing_there : NameRow
+nothing_there = new_index [] None
+
+abbrev pub old_index : NameRow
+old_index = new_index with_index None
+
+abbrev pub name_of_mail : NameRow
+name_of_mail = new_index ((codes "m.idx", mail) ∷ []) (Some (codes "m.idx"))
+
+abbrev pub old_answer : NameRow
+old_answer = new_answer (codes "hits") ((codes "hits", mail) ∷ []) None
+
+abbrev pub file_of_another : NameRow
+file_of_another = new_index passing (Some (codes "m.idx.new"))
+
+abbrev pub left_by_killed : NameRow
+left_by_killed = record (new_index passing None) { is_leftover = bytes_eq (codes "m.idx.new") }
+
+abbrev pub link_to_passing : NameRow
+link_to_passing = record (new_index [] (Some (codes "m.idx.new"))) { apart = λ a b. differ (place a) (place b) }
+
+abbrev pub name_of_archive : NameRow
+name_of_archive = new_answer (codes "a.mbox") with_index (Some (codes "a.mbox"))
+
+abbrev pub name_of_device : NameRow
+name_of_device = new_answer (codes "tty") ((codes "tty", Other) ∷ []) (Some (codes "tty"))
+
+abbrev pub no_last_part : NameRow
+no_last_part = new_answer (codes "mail/") [] (Some (codes "mail/"))
