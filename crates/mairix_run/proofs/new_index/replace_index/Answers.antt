@@ -244,7 +244,7 @@ returns-clause-old g c = λ bytes files agree.
     subst (λ t. IsWritten OutFails work t (N.taken filled) indexed) c.in-Ok.ensures.empty by-some in
     subst (λ ended. KeepsOld work (F.holds old name) (F.holds c.settle_file.new.folder name) ended)
     (sym c.status_or_stopped.ensures) (made-settled-keeps F old read name c.create_file.new.folder
-        c.settle_file.new.folder
+    c.settle_file.new.folder
     (N.taken filled) indexed c.settle_file.result work OutFails passing same
     (record {
       fit = c.in-Ok.ensures.fit (c.index_names-indexed.ensures.earlier agree);

@@ -50,7 +50,7 @@ returns-then-is_index_run-clause-ran g c = λ agree.
     same
     made)
     (subst (λ (paths : List (List ℕ)). KeepsOld (Index (mboxes paths bytes)) (F.holds old name) (F.holds new name)
-        ended)
+    ended)
     c.as_slice-then-is_index_run.ensures (c.replace_index.ensures.old bytes known agree))
     (subst (λ (r : List (List ℕ)). All (λ n. F.holds new n ≡ F.holds old n) r) same (c.replace_index.ensures.read
     agree))

@@ -263,7 +263,7 @@ returns-clause-old g c = λ bytes files agree.
     subst (λ t. IsWritten OutFails work t (N.taken filled) answered) c.in-Ok.ensures.empty by-some in
     subst (λ ended. KeepsOld work (F.holds old name) (F.holds c.settle_file.new.folder name) ended)
     (sym c.status_or_stopped.ensures) (made-settled-keeps F old read name c.create_file.new.folder
-        c.settle_file.new.folder
+    c.settle_file.new.folder
     (N.taken filled) answered c.settle_file.result work OutFails passing same
     (record {
       fit = c.in-Ok.ensures.fit (c.answer_names-answered.ensures.earlier agree);
