@@ -22,8 +22,7 @@ has_last_part name = nat_lt 0 (length name) && not (ends_with nat_eq name (codes
 
 -- Which of both names is refused, whatever they lead to: a name without a last part, one that another file can't take
 -- without changing one that is read, or a passing name that another file can't take without changing what the name
--- leads
--- to. None if neither is.
+-- leads to. None if neither is.
 abbrev pub unfit_name : (List ℕ → List ℕ → Bool) → List (List ℕ) → List ℕ → List ℕ → Option (List ℕ)
 unfit_name apart read passing name = if not (has_last_part name && are_all_apart apart read name) then Some name
     else (if are_all_apart apart read passing && apart name passing then None else Some passing)

@@ -42,8 +42,7 @@ IsFailure OutFails _ = ⊥
 -- ---- what is written, by its result
 
 -- An output took the whole text; or nothing, if the work is refused. After a failure it took a front of the text, or
--- all
--- of it.
+-- all of it.
 abbrev pub IsWritten : Type 0 → Work → Option (List ℕ) → Option (List ℕ) → Result ℕ Fault → Type 0
 IsWritten OutFails work old new (Ok status) = (text : List ℕ) × IsDone work status text × Appends old new text
 IsWritten OutFails work old new (Err fault) = (IsWorkRefused work fault × Appends old new [])
@@ -142,8 +141,7 @@ is_left_alone apart (Some name) n = apart n (passing_of name) && apart n name
 -- ---- what a crash leaves
 
 -- A crash at any moment leaves under the name of the file that is made what it might have left before, or the whole
--- text;
--- and under each name that is left alone what it might have left before.
+-- text; and under each name that is left alone what it might have left before.
 abbrev pub LeavesInMaking : (List ℕ → List ℕ → Bool) → (List ℕ → Entry → Type 0) → Work → List ℕ → List ℕ → Entry
     → Type 0
 LeavesInMaking apart may_leave work name n c =

@@ -79,10 +79,14 @@ pub fn run_program<F: Folder, T: Texts, O: Stream, E: Out>(
         → LeavesOnly F.moment F.left_since folder.old folder.new
         (RunLeaves (F.apart folder.old) (F.may_leave folder.old)
         (task_of (F.holds folder.old) (map string_bytes words.now) now)) }
-    // These calls change files, in this order, and no other.
-    ensures calls { F.agree reports.new ≡ true → (ended : Ending) × CallsFor F.Folder (file_made
+    // These calls change files, in this order, and no other. They fit the ending that is reported.
+    ensures calls { F.agree reports.new ≡ true → (ended : Ending) × (printed : O)
+        × CallsFor F.Folder (file_made
         (task_of (F.holds folder.old) (map string_bytes words.now) now)) ended
-        folder.old folder.new }
+        folder.old folder.new
+        × ReportsEnding O.Out O.handed_on E.Out
+        (T.is_usage_text texts.now (map string_bytes words.now)) T.memory_can_run_out ended
+        result printed out.new err.old err.new }
     ensures none { F.making folder.new ≡ None }
     ensures earlier { F.agree reports.new ≡ true → F.agree reports.old ≡ true }
     ensures right { F.reports_are_right → F.agree reports.new ≡ F.agree reports.old }
