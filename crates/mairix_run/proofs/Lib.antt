@@ -1,7 +1,6 @@
 -- The proofs of mairix_run: lemmas about streams and about files.
 pub mod FileFronts
 pub mod FilesAt
-pub mod Gathering
 pub mod IndexReads
 pub mod IndexReplies
 pub mod IndexedFiles

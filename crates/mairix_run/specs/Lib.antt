@@ -3,8 +3,6 @@ pub mod Answered
 pub mod Clocks
 pub mod FileFronts
 pub mod Flushing
-pub mod Gathered
-pub mod GatheredFields
 pub mod IndexReads
 pub mod Indexed
 pub mod Inside
