@@ -7,7 +7,7 @@ ghost use Rattle.named_files.specs.Refusals.{HasCause};
 ghost use Rattle.mairix_run.specs.IndexReads.{IsIndexRead, IsKnownRead, IsRefusedEarly, seen_early};
 
 use crate::file_front::read_front;
-use crate::whole_file::{PIECE, read_rest, reserve_length};
+use crate::whole_file::{read_rest, reserve_length};
 use mail_index::{IndexFault, IndexView};
 use named_files::{Folder, KeptFile, Refusal};
 use std::alloc::Global;
@@ -57,7 +57,7 @@ fn read_bytes<K: KeptFile>(file: &mut K, bytes: &mut Vec<u8>) -> Result<(), Refu
     ensures read { OnOk result (IsKnownRead (K.rest file.old) (K.rest file.new) bytes.new.items) }
     ensures failed { IfErr result (λ why. HasCause why (0 < K.failures file.new)) }
 {
-    let mut piece = [0; PIECE];
+    let mut piece = [0; SHORTEST];
     if let Err(why) = read_front(file, SHORTEST, &mut piece, bytes) {
         return Err(why);
     }
@@ -67,7 +67,7 @@ fn read_bytes<K: KeptFile>(file: &mut K, bytes: &mut Vec<u8>) -> Result<(), Refu
     if let Err(why) = reserve_length(file, bytes) {
         return Err(why);
     }
-    read_rest(file, &mut piece, bytes)
+    read_rest(file, bytes)
 }
 
 /// Whether the first bytes of a file show that it is no index, or of an unknown version.

@@ -7,9 +7,8 @@ ghost use Rattle.named_files.specs.Refusals.{HasCause};
 ghost use Rattle.mbox_cutter.specs.Progress.{shown_result};
 ghost use Rattle.mairix_run.specs.KeptMail.{begins_as_mail, begins_as_mbox, is_start, IsNotReplaced, IsShownAsMbox};
 
-use crate::file_front::read_front;
+use crate::file_front::{PIECE, read_front};
 use crate::stopped::Stopped;
-use crate::whole_file::PIECE;
 use mbox_cutter::{CutFault, Cutter, DeviceFault, Event, Source};
 use named_files::{Folder, Look, Refusal};
 use run_faults::Fault;

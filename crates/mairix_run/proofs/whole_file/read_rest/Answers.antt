@@ -1,17 +1,15 @@
--- Each turn reads one piece more, which is appended.
-use Rattle.std.proofs.Common.{rules, ◌≡◌, ◌++◌, take}
+-- Each turn reads one piece more.
+use Rattle.std.proofs.Common.{rules}
 use Rattle.mairix_run.proofs.WholeFiles.{reads_on}
 use Rattle.mairix_run.proofs.whole_file.read_rest.Goals as goal
 
 pub loop-preserved : goal.loop-preserved
 loop-preserved g c =
     let rest = g.S.Source.rest in
-    let got = take c.in-Ok.n c.read_next.new.into in
-    let more : c.extend_from_slice.new.self.items ≡ c.loop.bytes.items ++ got = search rules in
+    let most = c.next_count-most.result in
     record {
-      read = reads_on (rest c.args.source.now) (rest c.loop.source) (rest c.read_next.new.self) c.args.bytes.now.items
-          c.loop.bytes.items c.extend_from_slice.new.self.items got c.loop.invariant.read c.in-Ok.ensures.known
-          c.in-Ok.ensures.bytes.0 more;
+      read = reads_on (rest c.args.source.now) (rest c.loop.source) (rest c.read_piece.new.source) most
+          c.args.bytes.now.items c.loop.bytes.items c.read_piece.new.bytes.items c.loop.invariant.read
+          c.in-Ok.ensures.front;
       count = search rules;
-      room = search rules;
     }

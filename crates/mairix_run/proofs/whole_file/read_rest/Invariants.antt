@@ -1,5 +1,5 @@
 -- What was read so far is after the old bytes, and no call has failed.
-use Rattle.std.proofs.Common.{◌≡◌, ◌<◌, length}
+use Rattle.std.proofs.Common.{◌≡◌}
 use Rattle.mairix_run.proofs.WholeFiles.{HasRead}
 use Rattle.mairix_run.proofs.whole_file.read_rest.Given as goal
 
@@ -9,5 +9,4 @@ invariant-loop g l =
     record {
       read : HasRead (S.rest l.fn.source) (S.rest l.source) l.fn.bytes.items l.bytes.items;
       count : S.failures l.source ≡ S.failures l.fn.source;
-      room : 0 < length l.piece;
     }
