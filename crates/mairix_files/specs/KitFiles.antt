@@ -1,7 +1,8 @@
 -- What is known of the bytes of an open file, by its record.
-use Rattle.std.specs.Prelude.{◌≡◌, ℕ, Bool, true, false, List, [], ◌∷◌, Option, None, Some, IfSome, if◌then◌else◌}
+use Rattle.std.specs.Prelude.{◌≡◌, ⊤, ℕ, Bool, true, false, List, [], ◌∷◌, Option, None, Some, Result, IfSome, if◌then◌else◌}
 use Rattle.std.specs.Bool.{MatchBool}
 use Rattle.std.specs.Option.{option_map}
+use Rattle.std.specs.Io.KnownBytes.{ReadConsumes}
 use Rattle.call_record.specs.declared.record.Record.{Record}
 use Rattle.contract_words.specs.Archives.{archive_at}
 use Rattle.call_record.specs.Calls.{Call, agrees_with, held_after}
@@ -32,6 +33,14 @@ bytes_held noted = if_any noted.supposed (option_map (λ archives. archive_at ar
 -- this call was noted and no other, if it was made; otherwise none was
 abbrev pub NotesIf : Bool → Call → Record → Record → Type 0
 NotesIf made call old new = MatchBool made (Notes call old new) (new ≡ old)
+
+-- An open file stays open. If its bytes are known, each is given, once and in order, and it ends only after the last
+-- one. A closed file stays closed.
+abbrev pub GivesOn : {F E : Type 0} → (F → Option (List ℕ)) → Option F → Option F → Result ℕ E → List ℕ → Type 0
+GivesOn remaining (Some old) (Some new) result into = ReadConsumes (remaining old) (remaining new) result into
+GivesOn remaining (Some old) None result into = ⊥
+GivesOn remaining None (Some new) result into = ⊥
+GivesOn remaining None None result into = ⊤
 
 -- these are the bytes of the only archive, if these are known
 abbrev AreAll : List ℕ → Option (List (List ℕ)) → Type 0

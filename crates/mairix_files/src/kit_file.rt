@@ -1,21 +1,21 @@
 //! A file of the system that is read.
-ghost use Rattle.std.specs.Prelude.{◌≡◌, ◌<◌, ◌≤◌, ◌-◌, ◌^◌, ⊤, ℕ, List, [], None, Some, IsSome, IfOk, IfSome, is_some, length, take};
+ghost use Rattle.std.specs.Prelude.{◌≡◌, ◌<◌, ◌≤◌, ◌-◌, ◌^◌, ⊤, ℕ, List, [], None, Some, IsSome, IsSomeAnd, IfOk, IfSome, is_some, length, take};
 ghost use Rattle.std.specs.Io.KnownBytes.{ReadConsumes};
 ghost use Rattle.contract_words.specs.Archives.{archive_at};
 ghost use Rattle.contract_words.specs.Devices.{Counts};
 ghost use Rattle.contract_words.specs.Knowledge.{WasKnown, still_known};
 ghost use Rattle.call_record.specs.Noted.{length_told, read_at_told, read_told};
 ghost use Rattle.named_files.specs.Entries.{IsRead};
-ghost use Rattle.mairix_files.specs.KitFiles.{NotesIf, bytes_held, file_supposed, held_is_supposed, rest_held};
+ghost use Rattle.mairix_files.specs.KitFiles.{GivesOn, NotesIf, bytes_held, file_supposed, held_is_supposed, rest_held};
 
 use crate::file_state::FileState;
 use crate::retried_reader::RetriedReader;
 use call_record::{NumberedFiles, Record, length_noted, read_at_noted, read_noted};
 use mbox_cutter::{DeviceFault, Source};
 use named_files::KeptFile;
-use std::fs::File;
+use std::fs::OpenFile;
 use std::io;
-use std::io::ErrorKind;
+use std::io::{ErrorKind, Read};
 use std::os::unix::fs::FileExt;
 
 /// The number of the file among those that are `Opened`: there is only one.
@@ -23,10 +23,13 @@ const ONLY: u32 = 0;
 
 /// A file of the system that is read, with a record of its calls. The record supposes the bytes of one file. They are
 /// known as long as they agree with each call. If the record supposes no file, nothing is known of its bytes.
+///
+/// It is of any type of open files, so that a clause can say which file is read: of the program's own type nothing is
+/// known of what is left of a file, and a reader of something else would do.
 #[derive(Drop)]
-pub struct KitFile {
+pub struct KitFile<F: Read + OpenFile + FileExt + Drop> {
     /// None once it is closed.
-    opened: Option<Opened>,
+    opened: Option<Opened<F>>,
     /// The state in which it was found since the last call that read it.
     state: Option<FileState>,
     failures: u64,
@@ -35,21 +38,24 @@ pub struct KitFile {
 
 /// An open file, as the only one of some files by their numbers.
 #[derive(Drop)]
-struct Opened {
-    file: File,
+struct Opened<F: Read + OpenFile + FileExt + Drop> {
+    file: RetriedReader<F>,
 }
 
-impl KitFile {
+impl<F: Read + OpenFile + FileExt + Drop> KitFile<F> {
     /// Returns an open file, which is read from its front. Whatever the record supposes, it does the same.
-    pub(crate) fn new(file: File, record: Record) -> KitFile
+    pub(crate) fn new(file: F, record: Record) -> KitFile<F>
         requires { «record».calls ≡ [] }
-        ensures rest { ⟦<KitFile as Source>⟧.rest result ≡ file_supposed «record» }
-        ensures bytes { ⟦<KitFile as KeptFile>⟧.bytes result ≡ file_supposed «record» }
-        ensures whole { ⟦<KitFile as Source>⟧.whole result (archive_at «record».supposed 0) }
-        ensures fresh { ⟦<KitFile as Source>⟧.failures result ≡ 0 }
+        ensures rest { ⟦<KitFile<F> as Source>⟧.rest result ≡ file_supposed «record» }
+        ensures bytes { ⟦<KitFile<F> as KeptFile>⟧.bytes result ≡ file_supposed «record» }
+        ensures whole { ⟦<KitFile<F> as Source>⟧.whole result (archive_at «record».supposed 0) }
+        ensures fresh { ⟦<KitFile<F> as Source>⟧.failures result ≡ 0 }
+        ensures file { IsSomeAnd result.opened (λ opened. opened.file.reader ≡ file) }
     {
         KitFile {
-            opened: Some(Opened { file }),
+            opened: Some(Opened {
+                file: RetriedReader::new(file),
+            }),
             state: None,
             failures: 0,
             record,
@@ -57,14 +63,14 @@ impl KitFile {
     }
 }
 
-impl NumberedFiles for Opened {
+impl<F: Read + OpenFile + FileExt + Drop> NumberedFiles for Opened<F> {
     ghost number = { λ _. 1 };
 
     ghost answers = { λ _ _ _. ⊤ };
 
     // Believed: that this is the length of the file.
     fn length(&mut self, _n: u32) -> io::Result<u64> {
-        let found = self.file.metadata()?;
+        let found = self.file.reader.metadata()?;
         if found.is_file() {
             Ok(found.len())
         } else {
@@ -74,11 +80,11 @@ impl NumberedFiles for Opened {
 
     // Believed: that these are bytes of the file from this offset on.
     fn read_at(&mut self, _n: u32, offset: u64, into: &mut [u8]) -> io::Result<usize> {
-        self.file.read_at(into, offset)
+        self.file.reader.read_at(into, offset)
     }
 }
 
-impl Source for KitFile {
+impl<F: Read + OpenFile + FileExt + Drop> Source for KitFile<F> {
     ghost rest = { λ file. rest_held file.record };
 
     ghost failures = { λ file. file.failures };
@@ -99,12 +105,13 @@ impl Source for KitFile {
         // The result is noted, and nothing else. A closed file isn't read.
         ensures noted { NotesIf (is_some self.old.opened) (read_told result into.new)
             self.old.record self.new.record }
+        // If the file's own bytes are known, they are given, and none is left out.
+        ensures file { GivesOn (λ opened. F.remaining opened.file.reader) self.old.opened
+            self.new.opened result into.new }
     {
         self.state = None;
         if let Some(opened) = &mut self.opened {
-            // Believed: that this reader is of the open file.
-            let mut reader = RetriedReader::new(&opened.file);
-            if let Ok(n) = read_noted(&mut reader, &mut self.record, into) {
+            if let Ok(n) = read_noted(&mut opened.file, &mut self.record, into) {
                 return Ok(n);
             }
         }
@@ -113,7 +120,7 @@ impl Source for KitFile {
     }
 }
 
-impl KeptFile for KitFile {
+impl<F: Read + OpenFile + FileExt + Drop> KeptFile for KitFile<F> {
     type State = FileState;
 
     ghost state_found = { λ file. file.state };
@@ -178,7 +185,7 @@ impl KeptFile for KitFile {
         ensures count { Counts result self.old.failures self.new.failures }
     {
         if let Some(opened) = &self.opened {
-            if let Ok(found) = opened.file.metadata() {
+            if let Ok(found) = opened.file.reader.metadata() {
                 let state = FileState::of(&found);
                 self.state = Some(state);
                 return Ok(state);

@@ -141,7 +141,7 @@ fn make_new<R: Files<File = File>>(rt: &R, alloc: Global, name: &str) -> io::Res
 }
 
 impl<'r, R: Files<File = File>> Folder for KitFolder<'r, R> {
-    type File = KitFile;
+    type File = KitFile<File>;
 
     type New = KitNew;
 
@@ -214,7 +214,7 @@ impl<'r, R: Files<File = File>> Folder for KitFolder<'r, R> {
         note_more(reports, &more);
     }
 
-    fn open(&self, _alloc: Global, name: &str) -> Result<KitFile, Refusal> {
+    fn open(&self, _alloc: Global, name: &str) -> Result<KitFile<File>, Refusal> {
         match fs::open(self.rt, name) {
             Ok(file) => {
                 let record = supposing(&self.calls, &self.supposed, name.as_bytes());
@@ -224,7 +224,7 @@ impl<'r, R: Files<File = File>> Folder for KitFolder<'r, R> {
         }
     }
 
-    fn open_plain(&self, alloc: Global, name: &str) -> Result<KitFile, Refusal> {
+    fn open_plain(&self, alloc: Global, name: &str) -> Result<KitFile<File>, Refusal> {
         match fs::metadata(self.rt, name) {
             Ok(found) if found.is_file() => self.open(alloc, name),
             Ok(_) => Err(Refusal::Refused),
@@ -232,7 +232,7 @@ impl<'r, R: Files<File = File>> Folder for KitFolder<'r, R> {
         }
     }
 
-    fn take_back(&self, reports: &mut KitReports, file: KitFile) {
+    fn take_back(&self, reports: &mut KitReports, file: KitFile<File>) {
         note_file(reports, &file);
     }
 

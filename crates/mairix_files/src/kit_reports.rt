@@ -4,8 +4,8 @@ ghost use Rattle.std.specs.Borrow.{ftrue};
 ghost use Rattle.std.specs.Coded.{coded_bool};
 
 use crate::kit_calls::KitCalls;
-use crate::kit_file::KitFile;
 use crate::supposed_names::SupposedNames;
+use named_files::KeptFile;
 use std::alloc::AllocError;
 use std::marker::{Model, PhantomData};
 
@@ -67,7 +67,7 @@ pub(crate) fn note_apart(
 }
 
 /// Notes what was reported of the bytes of a file.
-pub(crate) fn note_file(reports: &mut KitReports, _file: &KitFile)
+pub(crate) fn note_file<F: KeptFile>(reports: &mut KitReports, _file: &F)
     ghost agrees: { Bool }
     ensures { reports.new.agree ≡ (reports.old.agree && agrees) }
 {

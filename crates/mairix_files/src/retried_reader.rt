@@ -9,13 +9,13 @@ use std::io::{ErrorKind, Read};
 /// Reads as another reader does, but repeats a read that a signal has interrupted.
 #[derive(Drop)]
 pub(crate) struct RetriedReader<R: Read + Drop> {
-    reader: R,
+    pub(crate) reader: R,
 }
 
 impl<R: Read + Drop> RetriedReader<R> {
     /// Returns a reader of this one.
     pub(crate) fn new(reader: R) -> RetriedReader<R>
-        ensures { ⟦<RetriedReader<R> as Read>⟧.remaining result ≡ R.remaining reader }
+        ensures { result.reader ≡ reader }
     {
         RetriedReader { reader }
     }
