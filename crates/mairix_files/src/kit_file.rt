@@ -1,5 +1,5 @@
 //! A file of the system that is read.
-ghost use Rattle.std.specs.Prelude.{◌≡◌, ◌<◌, ◌≤◌, ◌-◌, ◌^◌, ⊤, ℕ, List, [], None, Some, IsSome, IsSomeAnd, IfOk, IfSome, is_some, length, take};
+ghost use Rattle.std.specs.Prelude.{◌≡◌, ◌<◌, ◌≤◌, ◌-◌, ◌^◌, ℕ, List, [], None, Some, IsSome, IsSomeAnd, IfOk, IfSome, is_some, length, take};
 ghost use Rattle.std.specs.Io.KnownBytes.{ReadConsumes};
 ghost use Rattle.contract_words.specs.Archives.{archive_at};
 ghost use Rattle.contract_words.specs.Devices.{Counts};
@@ -66,7 +66,8 @@ impl<F: Read + OpenFile + FileExt + Drop> KitFile<F> {
 impl<F: Read + OpenFile + FileExt + Drop> NumberedFiles for Opened<F> {
     ghost number = { λ _. 1 };
 
-    ghost answers = { λ _ _ _. ⊤ };
+    // A call by the number leaves what is read next.
+    ghost answers = { λ old _ new. new ≡ old };
 
     // Believed: that this is the length of the file.
     fn length(&mut self, _n: u32) -> io::Result<u64> {
@@ -142,6 +143,8 @@ impl<F: Read + OpenFile + FileExt + Drop> KeptFile for KitFile<F> {
         ensures count { Counts result self.old.failures self.new.failures }
         ensures noted { NotesIf (is_some self.old.opened) (read_at_told 0 offset result into.new)
             self.old.record self.new.record }
+        // What is read next doesn't change.
+        ensures file { self.new.opened ≡ self.old.opened }
     {
         self.state = None;
         if let Some(opened) = &mut self.opened {
@@ -164,6 +167,7 @@ impl<F: Read + OpenFile + FileExt + Drop> KeptFile for KitFile<F> {
         ensures count { Counts result self.old.failures self.new.failures }
         ensures noted { NotesIf (is_some self.old.opened) (length_told 0 result)
             self.old.record self.new.record }
+        ensures file { self.new.opened ≡ self.old.opened }
     {
         self.state = None;
         if let Some(opened) = &mut self.opened {
@@ -183,6 +187,7 @@ impl<F: Read + OpenFile + FileExt + Drop> KeptFile for KitFile<F> {
             → archive_at self.new.record.supposed 0 ≡ bytes }
         ensures found { IfOk result (λ state. self.new.state ≡ Some state) }
         ensures count { Counts result self.old.failures self.new.failures }
+        ensures file { self.new.opened ≡ self.old.opened }
     {
         if let Some(opened) = &self.opened {
             if let Ok(found) = opened.file.reader.metadata() {

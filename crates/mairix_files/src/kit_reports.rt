@@ -5,7 +5,6 @@ ghost use Rattle.std.specs.Coded.{coded_bool};
 
 use crate::kit_calls::KitCalls;
 use crate::supposed_names::SupposedNames;
-use named_files::KeptFile;
 use std::alloc::AllocError;
 use std::marker::{Model, PhantomData};
 
@@ -67,7 +66,7 @@ pub(crate) fn note_apart(
 }
 
 /// Notes what was reported of the bytes of a file.
-pub(crate) fn note_file<F: KeptFile>(reports: &mut KitReports, _file: &F)
+pub(crate) fn note_file<T>(reports: &mut KitReports, _file: &T)
     ghost agrees: { Bool }
     ensures { reports.new.agree ≡ (reports.old.agree && agrees) }
 {
