@@ -52,10 +52,11 @@ impl<F: Read + OpenFile + FileExt + Drop> KitFile<F> {
         ensures fresh { ⟦<KitFile<F> as Source>⟧.failures result ≡ 0 }
         ensures file { IsSomeAnd result.opened (λ opened. opened.file.reader ≡ file) }
     {
+        let opened = Opened {
+            file: RetriedReader::new(file),
+        };
         KitFile {
-            opened: Some(Opened {
-                file: RetriedReader::new(file),
-            }),
+            opened: Some(opened),
             state: None,
             failures: 0,
             record,
