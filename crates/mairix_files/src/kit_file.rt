@@ -24,8 +24,8 @@ const ONLY: u32 = 0;
 /// A file of the system that is read, with a record of its calls. The record supposes the bytes of one file. They are
 /// known as long as they agree with each call. If the record supposes no file, nothing is known of its bytes.
 ///
-/// It is of any type of open files, so that a clause can say which file is read: of the program's own type nothing is
-/// known of what is left of a file, and a reader of something else would do.
+/// The type of the open file is a parameter, so that a clause can say that a read in order reads this file. std says
+/// nothing of what is left of a `File`: of that type alone, any other reader would do as well.
 #[derive(Drop)]
 pub struct KitFile<F: Read + OpenFile + FileExt + Drop> {
     /// None once it is closed.
@@ -67,7 +67,7 @@ impl<F: Read + OpenFile + FileExt + Drop> KitFile<F> {
 impl<F: Read + OpenFile + FileExt + Drop> NumberedFiles for Opened<F> {
     ghost number = { λ _. 1 };
 
-    // A call by the number leaves what is read next.
+    // Neither call changes what is read next in order.
     ghost answers = { λ old _ new. new ≡ old };
 
     // Believed: that this is the length of the file.
@@ -144,7 +144,7 @@ impl<F: Read + OpenFile + FileExt + Drop> KeptFile for KitFile<F> {
         ensures count { Counts result self.old.failures self.new.failures }
         ensures noted { NotesIf (is_some self.old.opened) (read_at_told 0 offset result into.new)
             self.old.record self.new.record }
-        // What is read next doesn't change.
+        // What is read next in order doesn't change.
         ensures file { self.new.opened ≡ self.old.opened }
     {
         self.state = None;
