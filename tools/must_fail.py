@@ -42,7 +42,8 @@ from edits import Crate, Stub, Twin, is_goal_of, read_edit
 from machine import checks_side_by_side, processors
 
 RT = os.environ.get("RT", "rt")
-MOST_IN_A_ROUND = 150
+# A check of 150 edits of mairix_run took 7 GB of memory.
+MOST_IN_A_ROUND = 60
 ERROR = re.compile(r"(?:\./)?(\S+?):(\d+):\d+: error\b")
 # What is said of a proof that names what an edit took away, and of what rests on such a proof.
 LOST_NAME = re.compile(r"has no field|is not in scope|has no `|was not admitted|: module `[^`]*`$|: record `[^`]*` \(nearest: ")
