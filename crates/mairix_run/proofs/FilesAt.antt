@@ -154,3 +154,16 @@ pub all-found : (holds : List ℕ → Entry) (names : List (String Global)) (agr
 all-found holds names agree old is all = files-found holds names (second old _ (sym is ∙ all)) where
   second : (a b : Bool) → (a && b) ≡ true → b ≡ true
   second a b h = grind (arith, nat_tests)
+
+-- the files of some names, by the names' bytes
+pub files-named : (holds : List ℕ → Entry) (names : List (String Global))
+    → files_of holds names ≡ map (λ n. bytes_of (holds n)) (map string_bytes names)
+files-named holds [] = refl
+files-named holds (name ∷ names) = ap (λ k. bytes_of (holds (string_bytes name)) ∷ k) (files-named holds names)
+
+-- the same of a property of files
+pub of-named : (P : List (Option (List ℕ)) → Type 0) (holds : List ℕ → Entry) (names : List (String Global))
+    (paths : List (List ℕ)) → map string_bytes names ≡ paths → P (files_of holds names)
+    → P (map (λ n. bytes_of (holds n)) paths)
+of-named P holds names paths same is =
+    subst (λ (l : List (List ℕ)). P (map (λ n. bytes_of (holds n)) l)) same (subst P (files-named holds names) is)

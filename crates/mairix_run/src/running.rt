@@ -9,8 +9,10 @@ ghost use Rattle.mairix_run.specs.Tasks.{files_at, is_index_run, search_stored_t
 ghost use Rattle.mairix_run.specs.Inside.Running.{Ran};
 ghost use Rattle.mairix_run.specs.WholeRuns.{CallsFor, IsTrouble, RunLeaves, Runs, file_made, is_left_alone, names_kept};
 ghost use Rattle.mairix_tool.specs.Asked.{asked as asked_of, asks};
+ghost use Rattle.named_archives.specs.Names.{files_of};
+ghost use Rattle.named_archives.specs.States.{AreStatesOf};
 ghost use Rattle.named_files.specs.Crashes.{LeavesOnly};
-ghost use Rattle.named_files.specs.Entries.{SameWhere};
+ghost use Rattle.named_files.specs.Entries.{SameWhere, bytes_of};
 
 use crate::asked::Asked;
 use crate::index_file::read_index;
@@ -218,6 +220,8 @@ fn states_of<F: Folder>(
 ) -> Result<Vec<<F::File as KeptFile>::State>, Stopped>
     ensures ok { OnOk result (F.agree reports.new ≡ true → (bytes : List (List ℕ))
         × (files_at (F.holds folder.now) (map string_bytes paths.now) ≡ Ok bytes)) }
+    ensures states { IfOk result (λ states. AreStatesOf F.File.state_found F.File.rest
+        (files_of (F.holds folder.now) paths.now) states.items) }
     ensures count { IfOk result (λ states. vec_len states ≡ length paths.now) }
     ensures err { IfErr result (λ stopped. F.agree reports.new ≡ true
         → (files_at (F.holds folder.now) (map string_bytes paths.now)
@@ -244,6 +248,8 @@ fn search_stored<F: Folder, O: Stream>(
     states: &[<F::File as KeptFile>::State],
     out: &mut O,
 ) -> Result<u8, Stopped>
+    requires states { AreStatesOf F.File.state_found F.File.rest
+        (map (λ name. bytes_of (F.holds folder.old name)) asked.now.rc.now.paths) states.now }
     requires each { length states.now ≡ length asked.now.rc.now.paths }
     requires making { F.making folder.old ≡ None }
     requires out { O.failures out.old < 2 ^ 64 - 1 }

@@ -9,8 +9,9 @@ ghost use Rattle.mairix_run.specs.Tasks.{files_at, search_task, search_work};
 ghost use Rattle.mairix_run.specs.WholeRuns.{CallsFor, IsTrouble, KeepsOld, LeavesInMaking, MakesFor, Puts, Writes, is_left_alone, refused_name};
 ghost use Rattle.mairix_tool.specs.Asked.{asks};
 ghost use Rattle.named_archives.specs.Names.{files_of};
+ghost use Rattle.named_archives.specs.States.{AreStatesOf};
 ghost use Rattle.named_files.specs.Crashes.{LeavesOnly};
-ghost use Rattle.named_files.specs.Entries.{SameWhere};
+ghost use Rattle.named_files.specs.Entries.{SameWhere, bytes_of};
 
 use crate::answering::{Search, answer_names};
 use crate::asked::Asked;
@@ -43,6 +44,8 @@ pub(crate) fn run_search<F: Folder, O: Stream>(
     out: &mut O,
 ) -> Result<u8, Stopped>
     requires making { F.making folder.old ≡ None }
+    requires states { AreStatesOf F.File.state_found F.File.rest
+        (map (λ name. bytes_of (F.holds folder.old name)) asked.now.rc.now.paths) states.now }
     requires each { length states.now ≡ length asked.now.rc.now.paths }
     requires out { O.failures out.old < 2 ^ 64 - 1 }
     ensures ran { (bytes : List (List ℕ))

@@ -2,8 +2,10 @@
 use Rattle.std.proofs.Common.{◌≡◌, ◌∙◌, ◌⊎◌, ◌∷◌, sym, subst, ap, List, ℕ, map, Some, Ok, All, true, string_bytes}
 use Rattle.index_run.specs.ArchivesIndexed.{mboxes}
 use Rattle.named_archives.specs.Names.{files_of}
+use Rattle.named_archives.specs.States.{AreStatesOf}
 use Rattle.named_files.specs.Crashes.{LeavesOnly}
-use Rattle.mairix_run.proofs.FilesAt.{files-known}
+use Rattle.named_files.specs.Entries.{bytes_of}
+use Rattle.mairix_run.proofs.FilesAt.{files-known, of-named}
 use Rattle.mairix_run.proofs.RunParts.{ran-made}
 use Rattle.mairix_run.proofs.RunStages.{task-index, task-once}
 use Rattle.mairix_run.specs.Inside.Running.{Ran}
@@ -74,3 +76,29 @@ returns-then-plan-clause-ran g c = λ agree.
     (ending_of c.run_search.result))
     (sym (task-once (F.holds old) (asks asked.words.now asked.text.now asked.now) p rc found.0 files c.if-plan.true))
     (c.run_search.ensures.ran found.0 files agree)
+
+-- the states are those of the archives
+pub run_search-requires-clause-states : goal.run_search-requires-clause-states
+run_search-requires-clause-states g c =
+    let K = g.F.File.KeptFile in
+    let S = g.F.File.Source in
+    let rc = c.args.asked.now.rc.now in
+    let holds = g.F.Folder.holds c.args.folder.now in
+    subst (λ s. AreStatesOf K.state_found S.rest (map (λ n. bytes_of (holds n)) rc.paths) s)
+    (sym c.as_slice-states.ensures.value)
+    (of-named (λ files. AreStatesOf K.state_found S.rest files c.in-Ok.states.items) holds c.as_slice.result.now
+        rc.paths
+    c.as_slice.ensures c.in-Ok.ensures.states)
+
+-- the states are those of the archives
+pub search_stored-requires-clause-states : goal.search_stored-requires-clause-states
+search_stored-requires-clause-states g c =
+    let K = g.F.File.KeptFile in
+    let S = g.F.File.Source in
+    let rc = c.args.asked.now.rc.now in
+    let holds = g.F.Folder.holds c.args.folder.now in
+    subst (λ s. AreStatesOf K.state_found S.rest (map (λ n. bytes_of (holds n)) rc.paths) s)
+    (sym c.as_slice-states.ensures.value)
+    (of-named (λ files. AreStatesOf K.state_found S.rest files c.in-Ok.states.items) holds c.as_slice.result.now
+        rc.paths
+    c.as_slice.ensures c.in-Ok.ensures.states)
