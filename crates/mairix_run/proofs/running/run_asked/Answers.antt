@@ -87,7 +87,7 @@ run_search-requires-clause-states g c =
     subst (λ s. AreStatesOf K.state_found S.rest (map (λ n. bytes_of (holds n)) rc.paths) s)
     (sym c.as_slice-states.ensures.value)
     (of-named (λ files. AreStatesOf K.state_found S.rest files c.in-Ok.states.items) holds c.as_slice.result.now
-        rc.paths
+    rc.paths
     c.as_slice.ensures c.in-Ok.ensures.states)
 
 -- the states are those of the archives
@@ -100,5 +100,5 @@ search_stored-requires-clause-states g c =
     subst (λ s. AreStatesOf K.state_found S.rest (map (λ n. bytes_of (holds n)) rc.paths) s)
     (sym c.as_slice-states.ensures.value)
     (of-named (λ files. AreStatesOf K.state_found S.rest files c.in-Ok.states.items) holds c.as_slice.result.now
-        rc.paths
+    rc.paths
     c.as_slice.ensures c.in-Ok.ensures.states)
