@@ -1,9 +1,8 @@
 //! Calls that are noted with their results. Each is made once, and nothing else is noted.
-ghost use Rattle.std.specs.Prelude.{◌≡◌, ◌<◌, ◌≤◌, length, IfOk, OnOk};
+ghost use Rattle.std.specs.Prelude.{◌≡◌, ◌<◌, ◌≤◌, length, IfOk};
 ghost use Rattle.std.specs.Io.KnownBytes.{ReadConsumes, WriteAppends};
 ghost use Rattle.call_record.specs.Noted.{Notes, length_told, read_at_told, read_told, write_told};
 
-use crate::checked::Checked;
 use crate::numbered_files::NumberedFiles;
 use crate::record::Record;
 use std::io::{self, ErrorKind, Read, Write};
@@ -36,27 +35,6 @@ pub fn read_noted<R: Read>(
     ensures noted { Notes (read_told result into.new) record.old record.new }
 {
     let read = reader.read(into);
-    note_read(record, &read, into);
-    read
-}
-
-/// Reads as `read_noted` does, and then checks the reader. If the check fails, so does the read, and no byte is noted.
-pub fn read_checked_noted<R: Read + Checked>(
-    reader: &mut R,
-    record: &mut Record,
-    into: &mut [u8],
-) -> io::Result<usize>
-    requires { 0 < length into.old }
-    ensures bound { IfOk result (λ n. n ≤ length into.new) }
-    ensures bytes { OnOk result (ReadConsumes (R.remaining reader.old) (R.remaining reader.new)
-        result into.new) }
-    ensures checked { OnOk result (R.may_be_used reader.new) }
-    ensures noted { Notes (read_told result into.new) record.old record.new }
-{
-    let read = match reader.read(into) {
-        Ok(n) => reader.check().and(Ok(n)),
-        failed => failed,
-    };
     note_read(record, &read, into);
     read
 }

@@ -31,15 +31,6 @@ impl Record {
         }
     }
 
-    /// Makes a record without calls that supposes the same.
-    pub fn like(&self) -> Record
-        ensures { (result.supposed ≡ self.now.supposed) × (result.calls ≡ []) }
-    {
-        Record {
-            marker: PhantomData,
-        }
-    }
-
     /// Adds a call. The numbers are its kind, an archive's number, an offset or a length, and 1 for success. Other
     /// crates can add a call only by making it.
     pub(crate) fn note(&mut self, _numbers: &[u64], _bytes: &[u8])
