@@ -230,7 +230,8 @@ fn read_archive<S: Source>(
     let mut text = MessageText::new(alloc)?;
     let mut cutter = Cutter::over(buffer, source, MOST_IN_ARCHIVE);
     let read = add_messages(&mut text, &mut cutter, room, builder, archive);
-    let _source = cutter.into_source_keeping(kept);
+    let (_source, buffer) = cutter.into_parts();
+    *kept = Some(buffer);
     read
 }
 

@@ -1,7 +1,7 @@
 -- Where the first LF is, and how long the first line is.
 use Rattle.mbox_cutter.proofs.Words.{◌≡◌, ℕ, zero, suc, ◌+◌, ◌<◌, ◌≤◌, Bool, true, false, cond, ◌==◌, List, [], ◌∷◌}
-use Rattle.mbox_cutter.proofs.Words.{◌++◌, Some, None, length, take, get_or, refl, ap, sym, ◌∙◌, arith, min, nat_lt}
-use Rattle.mbox_cutter.proofs.Words.{nat_tests, length-take, IsFirstByte, is_byte, length_before_feed, line_end_of}
+use Rattle.mbox_cutter.proofs.Words.{◌++◌, Some, None, length, take, get_or, refl, ap, ◌∙◌, arith, min}
+use Rattle.mbox_cutter.proofs.Words.{nat_tests, IsFirstByte, is_byte, length_before_feed, line_end_of}
 use Rattle.mbox_cutter.proofs.Words.{first_length}
 use Rattle.std.proofs.lemmas.List.{length-append}
 
@@ -61,40 +61,6 @@ length_before_feed-found h k f = length_before_feed-at h k f.0.high (λ j l. f.0
 
 pub length_before_feed-not_found : (h : List ℕ) → IsFirstByte (is_byte 10) h None → length_before_feed h ≡ length h
 length_before_feed-not_found h f = length_before_feed-none h (λ j l. f j (omega arith) l)
-
--- the three results of `line_end`
-pub line_end_found : (b : List ℕ) (n k : ℕ) → n ≡ min (length b) 65537 → IsFirstByte (is_byte 10) (take n b) (Some k)
-    → Some (k + 1) ≡ line_end_of b
-unfolding line_end_of
-line_end_found b n k e f =
-    let r : min n (length_before_feed b) ≡ k = sym (length_before_feed-take n b)
-    ∙ length_before_feed-found (take n b) k f in
-    let lt : k < length (take n b) = f.0.high in
-    let lt' : k < min n (length b) = omega (arith, length-take n b) in
-    let is : length_before_feed b ≡ k = omega arith in
-    rw is (let small : nat_lt 65536 k ≡ false = grind (arith, nat_tests) in let inside : nat_lt k (length b) ≡ true =
-    grind (arith, nat_tests) in rw (small, inside))
-
-pub line_end_full : (b : List ℕ) (n : ℕ) → n ≡ min (length b) 65537 → IsFirstByte (is_byte 10) (take n b) None
-    → 65536 < length (take n b) → Some 65536 ≡ line_end_of b
-unfolding line_end_of
-line_end_full b n e f long =
-    let r : min n (length_before_feed b) ≡ length (take n b) = sym (length_before_feed-take n b)
-    ∙ length_before_feed-not_found (take n b) f in
-    let lt : nat_lt 65536 (length_before_feed b) ≡ true = grind (arith, nat_tests) in
-    rw lt
-
-pub line_end_open : (b : List ℕ) (n : ℕ) → n ≡ min (length b) 65537 → IsFirstByte (is_byte 10) (take n b) None
-    → length (take n b) ≤ 65536 → None ≡ line_end_of b
-unfolding line_end_of
-line_end_open b n e f short =
-    let r : min n (length_before_feed b) ≡ length (take n b) = sym (length_before_feed-take n b)
-    ∙ length_before_feed-not_found (take n b) f in
-    let l : length (take n b) ≡ min n (length b) = length-take n b in
-    let le : length_before_feed b ≤ length b = length_before_feed-le b in
-    let is : length_before_feed b ≡ length b = omega arith in
-    rw is (let a : nat_lt 65536 (length b) ≡ false = grind (arith, nat_tests) in let c : nat_lt (length b) (length b)
-    ≡ false = grind (arith, nat_tests) in rw (a, c))
 
 pub first_length-le : (b : List ℕ) → first_length b ≤ length b
 unfolding first_length

@@ -2,6 +2,7 @@
 pub mod Words
 pub mod FirstLines
 pub mod KnownSteps
+mod LineEnds
 pub mod LineLists
 pub mod LinesAreCut
 pub mod Machine

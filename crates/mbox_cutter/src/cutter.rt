@@ -71,26 +71,15 @@ impl<'a, S: Source> Cutter<'a, S> {
         }
     }
 
-    /// Gives the source back. It has been read at least up to the last event, and perhaps further.
-    pub fn into_source(self) -> &'a mut S
-        ensures name { result.ghost_name ≡ self.entry.source.ghost_name }
-        ensures same { result.now ≡ self.entry.source.now }
-    {
-        let mut kept = None;
-        self.into_source_keeping(&mut kept)
-    }
-
-    /// Gives the source back, as `into_source` does, and puts the buffer into `kept`, for the next cutter.
-    pub fn into_source_keeping(self, kept: &mut Option<Buffer>) -> &'a mut S
-        ensures name { result.ghost_name ≡ self.entry.source.ghost_name }
-        ensures same { result.now ≡ self.entry.source.now }
-        ensures kept { IsSome kept.new }
+    /// Gives back the source, and the buffer for the next cutter. The source has been read at least up to the last event,
+    /// and perhaps further.
+    pub fn into_parts(self) -> (&'a mut S, Buffer)
+        ensures name { result.0.ghost_name ≡ self.entry.source.ghost_name }
+        ensures same { result.0.now ≡ self.entry.source.now }
     {
         let Cutter { scan } = self;
         let Scan { window, .. } = scan;
-        let (source, buffer) = window.into_parts();
-        *kept = Some(buffer);
-        source
+        window.into_parts()
     }
 
     /// Returns the next event. It takes no memory.

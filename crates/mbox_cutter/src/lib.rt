@@ -18,7 +18,7 @@ pub use cutter::Cutter;
 pub use device::{DeviceFault, Out, Source, send};
 pub use digested::Digested;
 pub use event::{CutFault, Event};
-pub use line::{MOST_IN_LINE, is_empty_line, line_end, lines_law};
+pub use line::{MOST_IN_LINE, is_empty_line, line_end, line_end_after, lines_law};
 pub use memory::{MemoryOut, MemorySource};
 pub use separator::{is_separator, without_break};
 pub use std_io::{FromRead, ToWrite};

@@ -1,6 +1,6 @@
 //! Where lines end in an archive.
-ghost use Rattle.std.specs.Prelude.{◌≡◌, ℕ, List};
-ghost use Rattle.mbox_cutter.specs.Lines.{AreLines, is_empty, line_end_of, lines};
+ghost use Rattle.std.specs.Prelude.{◌≡◌, ◌≤◌, ℕ, List};
+ghost use Rattle.mbox_cutter.specs.Lines.{AreLines, is_empty, length_before_feed, line_end_of, lines};
 
 use memchr::memchr;
 
@@ -20,9 +20,19 @@ pub fn is_empty_line(line: &[u8]) -> bool
 pub fn line_end(bytes: &[u8]) -> Option<usize>
     ensures { result ≡ line_end_of bytes.now }
 {
+    line_end_after(0, bytes)
+}
+
+/// Returns what `line_end` does. The first `searched` bytes have no LF, and aren't searched again.
+pub fn line_end_after(searched: usize, bytes: &[u8]) -> Option<usize>
+    requires free { searched ≤ length_before_feed bytes.now }
+    requires few { searched ≤ 65536 }
+    ensures { result ≡ line_end_of bytes.now }
+{
     let head = &bytes[..bytes.len().min(MOST_IN_LINE + 1)];
-    match memchr(b'\n', head) {
-        Some(at) => Some(at + 1),
+    let (_, rest) = head.split_at(searched);
+    match memchr(b'\n', rest) {
+        Some(at) => Some(searched + at + 1),
         None if head.len() > MOST_IN_LINE => Some(MOST_IN_LINE),
         None => None,
     }

@@ -9,7 +9,7 @@ mod TagLemmas
 mod TagReads
 mod Handing
 mod LineSteps
-mod LineEnds
+mod HeldLines
 mod RowTables
 mod RowsTypes
 mod RowsBodies

@@ -17,8 +17,8 @@ pub use Rattle.header_text.specs.declared.charset.Charset.{Charset}
 pub use Rattle.header_text.specs.declared.charset.Charset.TheVariants.{Latin1, Unknown, Utf8}
 pub use Rattle.header_text.specs.declared.header.Taken.TheVariants.{Ended, More}
 pub use Rattle.mail_words.specs.declared.kind.TextKind.{TextKind}
-pub use Rattle.mbox_cutter.proofs.FirstLines.{length_before_feed-found, length_before_feed-le}
-pub use Rattle.mbox_cutter.proofs.FirstLines.{length_before_feed-not_found, length_before_feed-take, line_end-more}
+pub use Rattle.mbox_cutter.proofs.FirstLines.{length_before_feed-le}
+pub use Rattle.mbox_cutter.proofs.FirstLines.{length_before_feed-take, line_end-more}
 pub use Rattle.mbox_cutter.proofs.FirstLines.{line_end-open, line_end-positive, line_end-short, line_end-whole}
 pub use Rattle.mbox_cutter.proofs.FirstLines.{line_end-within}
 pub use Rattle.mbox_cutter.specs.Lines.{length_before_feed}
@@ -73,7 +73,7 @@ pub use Rattle.mime_text.specs.declared.parts.shape.Shape.{Shape}
 pub use Rattle.mime_text.specs.declared.parts.shape.Shape.TheVariants.{Message, Multipart, Other, Text}
 pub use Rattle.std.proofs.Common.{All, Bool, Bor, IfSome, IsUtf8, List, None, Option, Some, [], add-one, ap, append-nil}
 pub use Rattle.std.proofs.Common.{append_assoc, ap₂, arith, chars, cond, drop, encode_utf8, encode_utf8_all, eq-eqb}
-pub use Rattle.std.proofs.Common.{false, get_or, if◌then◌else◌, length, length-append, map, min, nat_lt, refl}
+pub use Rattle.std.proofs.Common.{false, get_or, if◌then◌else◌, length, length-append, map, min, refl}
 pub use Rattle.std.proofs.Common.{replicate, reverse, rules, string_bytes, subst, suc, sym, take, true, zero, ℕ, ◌++◌}
 pub use Rattle.std.proofs.Common.{◌+◌, ◌-◌, ◌<◌, ◌==◌, ◌||◌, ◌∙◌, ◌∷◌, ◌≡◌, ◌≤◌}
 pub use Rattle.std.proofs.lemmas.Bool.{eqb-true, false_from_ne_true}

@@ -3,7 +3,6 @@
 pub mod decoder;
 pub mod held_line;
 pub mod leaf_reader;
-pub mod line_end;
 pub mod line_texts;
 pub mod own_text;
 pub mod tags;

@@ -41,7 +41,7 @@ fn tally_of<S: Source>(buffer: Buffer, source: &mut S, most: u64) -> Result<Tall
             Ok(Event::Line(_)) => {}
             Ok(Event::End { size, .. }) => bytes += size,
             Ok(Event::Done { .. }) => {
-                let _source = cutter.into_source();
+                let (_source, _buffer) = cutter.into_parts();
                 return Ok(Tally { count, bytes });
             }
             Err(fault) => return Err(fault),
@@ -213,10 +213,9 @@ fn a_source_without_end(rt: HostRuntime) {
 fn counts_again(alloc: Global, source: &mut MemorySource) -> Option<bool>
     requires { source.old.failures < 2 ^ 64 - 1 }
 {
-    let mut kept = None;
     let cutter = Cutter::new(alloc, source, 1000).ok()?;
-    let source = cutter.into_source_keeping(&mut kept);
-    let tally = tally_of(kept?, source, 1000).ok()?;
+    let (source, buffer) = cutter.into_parts();
+    let tally = tally_of(buffer, source, 1000).ok()?;
     Some(tally.count == 1 && tally.bytes == 19)
 }
 

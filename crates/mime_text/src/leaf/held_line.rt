@@ -8,9 +8,9 @@ ghost use Rattle.mime_text.specs.LeafReading.{pairs_of_bytes};
 
 use crate::fault::TextFault;
 use crate::leaf::decoder::Decoder;
-use crate::leaf::line_end::line_end_behind;
 use crate::leaf::line_texts::LineTexts;
 use crate::sink::TextSink;
+use mbox_cutter::line_end_after;
 use std::alloc::Global;
 use std::marker::Model;
 
@@ -53,7 +53,7 @@ fn give_lines<'a, S: TextSink>(
 {
     let mut rest = bytes;
     let mut searched = searched;
-    while let Some(len) = line_end_behind(searched, rest) {
+    while let Some(len) = line_end_after(searched, rest) {
         let (line, later) = rest.split_at(len);
         texts.give(line, sink)?;
         rest = later;

@@ -2,7 +2,7 @@
 use Rattle.mime_text.proofs.Words.{◌∙◌, ◌++◌, ℕ, List, [], ◌∷◌, sym, ap, arith, concat, still_decoded, pairs_of_bytes}
 use Rattle.mime_text.proofs.Words.{line_end-open}
 use Rattle.mime_text.proofs.Handing.{hands-along}
-use Rattle.mime_text.proofs.LineEnds.{held-free, still-free}
+use Rattle.mime_text.proofs.HeldLines.{held-free, still-free}
 use Rattle.mime_text.proofs.LineSteps.{concat-one}
 use Rattle.mime_text.proofs.leaf.held_line.take_encoded.Goals as goal
 

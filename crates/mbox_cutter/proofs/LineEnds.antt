@@ -1,9 +1,9 @@
--- The end of a line whose beginning was searched before.
-use Rattle.mime_text.proofs.Words.{◌≡◌, ◌∙◌, ◌+◌, ◌<◌, ◌≤◌, ◌==◌, ◌++◌, ℕ, zero, suc, true, false, cond, List, [], ◌∷◌}
-use Rattle.mime_text.proofs.Words.{Some, None, length, take, drop, sym, ap, arith, min, nat_lt, nat_tests, length-take}
-use Rattle.mime_text.proofs.Words.{length-drop, take-append-le, length_before_feed, line_end_of, length_before_feed-le}
-use Rattle.mime_text.proofs.Words.{length_before_feed-take, length_before_feed-found, length_before_feed-not_found}
-use Rattle.memchr.specs.Find.{IsFirstByte, is_byte}
+-- The end of a line whose beginning was searched before: the bytes that were searched have no LF.
+use Rattle.mbox_cutter.proofs.Words.{◌≡◌, ◌+◌, ◌<◌, ◌≤◌, ◌==◌, ◌++◌, ℕ, zero, suc, true, false, cond, List, [], ◌∷◌}
+use Rattle.mbox_cutter.proofs.Words.{Some, None, length, take, drop, ap, arith, min, nat_lt, nat_tests, length-take}
+use Rattle.mbox_cutter.proofs.Words.{length-drop, IsFirstByte, is_byte, length_before_feed, line_end_of}
+use Rattle.mbox_cutter.proofs.FirstLines.{length_before_feed-le, length_before_feed-take, length_before_feed-found}
+use Rattle.mbox_cutter.proofs.FirstLines.{length_before_feed-not_found}
 
 before_feed-drop : (n : ℕ) (b : List ℕ) → n ≤ length_before_feed b → length_before_feed b
     ≡ n + length_before_feed (drop n b)
@@ -14,7 +14,7 @@ before_feed-drop (suc n) (x ∷ xs) h = (elim (x == 10) as
     ≡ suc n + length_before_feed (drop n xs))
     [ true ↦ λ k. absurd (omega arith) | false ↦ λ k. omega (arith, before_feed-drop n xs (omega arith)) ]) h
 
--- the part that was searched has no line feed
+-- the part that was searched has no LF
 front-free : (b : List ℕ) (n s : ℕ) → n ≡ min (length b) 65537 → s ≤ length_before_feed b → s ≤ 65536
     → s ≤ length_before_feed (take n b)
 front-free b n s e free few = omega (arith, length_before_feed-take n b, length_before_feed-le b)
@@ -23,11 +23,11 @@ pub searched-fits : (b : List ℕ) (n s : ℕ) → n ≡ min (length b) 65537 �
     → s ≤ length (take n b)
 searched-fits b n s e free few = omega (arith, front-free b n s e free few, length_before_feed-le (take n b))
 
-pub behind-found : (b rest : List ℕ) (n s at : ℕ) → n ≡ min (length b) 65537 → s ≤ length_before_feed b → s ≤ 65536
+pub after-found : (b rest : List ℕ) (n s at : ℕ) → n ≡ min (length b) 65537 → s ≤ length_before_feed b → s ≤ 65536
     → rest ≡ drop s (take n b)
     → IsFirstByte (is_byte 10) rest (Some at) → Some (s + at + 1) ≡ line_end_of b
 unfolding line_end_of
-behind-found b rest n s at e free few is h =
+after-found b rest n s at e free few is h =
     grind (
       arith,
       before_feed-drop,
@@ -50,21 +50,21 @@ none-before b rest n s e free few is h =
     let sizes : length rest ≡ length (drop s (take n b)) = ap length is in
     omega (arith, length_before_feed-take n b, length-drop s (take n b), searched-fits b n s e free few)
 
-pub behind-full : (b rest : List ℕ) (n s : ℕ) → n ≡ min (length b) 65537 → s ≤ length_before_feed b → s ≤ 65536 → rest
+pub after-full : (b rest : List ℕ) (n s : ℕ) → n ≡ min (length b) 65537 → s ≤ length_before_feed b → s ≤ 65536 → rest
     ≡ drop s (take n b)
     → IsFirstByte (is_byte 10) rest None → 65536 < length (take n b) → Some 65536 ≡ line_end_of b
 unfolding line_end_of
-behind-full b rest n s e free few is h long =
+after-full b rest n s e free few is h long =
     let r = none-before b rest n s e free few is h in
     let past : 65536 < length_before_feed b = omega (arith, r) in
     let lt : nat_lt 65536 (length_before_feed b) ≡ true = grind (arith, nat_tests) in
     rw lt
 
-pub behind-open : (b rest : List ℕ) (n s : ℕ) → n ≡ min (length b) 65537 → s ≤ length_before_feed b → s ≤ 65536 → rest
+pub after-open : (b rest : List ℕ) (n s : ℕ) → n ≡ min (length b) 65537 → s ≤ length_before_feed b → s ≤ 65536 → rest
     ≡ drop s (take n b)
     → IsFirstByte (is_byte 10) rest None → length (take n b) ≤ 65536 → None ≡ line_end_of b
 unfolding line_end_of
-behind-open b rest n s e free few is h short =
+after-open b rest n s e free few is h short =
     let r = none-before b rest n s e free few is h in
     let size = length-take n b in
     let le = length_before_feed-le b in
@@ -72,19 +72,3 @@ behind-open b rest n s e free few is h short =
     let below : length b ≤ 65536 = omega (arith, size) in
     rw place (let a : nat_lt 65536 (length b) ≡ false = grind arith in let c : nat_lt (length b) (length b) ≡ false =
     grind arith in rw (a, c))
-
--- ---- bytes that are held
-
--- bytes whose line has no end yet have no line feed
-pub held-free : (b : List ℕ) → line_end_of b ≡ None → length_before_feed b ≡ length b
-unfolding line_end_of
-held-free b e = let le = length_before_feed-le b in grind (arith, nat_tests)
-
--- their beginning has none either, after bytes were added at the end
-pub still-free : (old new x y : List ℕ) (k : ℕ) → new ++ x ≡ old ++ y → k ≤ length old → k ≤ length new
-    → length_before_feed old ≡ length old → k ≤ length_before_feed new
-still-free old new x y k e in_old in_new free =
-    let fronts : take k new ≡ take k old = sym (take-append-le k new x in_new) ∙ ap (take k) e
-    ∙ take-append-le k old y in_old in
-    let same : length_before_feed (take k new) ≡ length_before_feed (take k old) = ap length_before_feed fronts in
-    omega (arith, same, length_before_feed-take k new, length_before_feed-take k old)
