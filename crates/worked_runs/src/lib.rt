@@ -17,7 +17,13 @@ mod devices;
 #[cfg(test)]
 mod early_end;
 #[cfg(test)]
+mod failing_calls;
+#[cfg(test)]
 mod failing_devices;
+#[cfg(test)]
+mod failing_files;
+#[cfg(test)]
+mod failing_folder;
 #[cfg(test)]
 mod fault_texts;
 #[cfg(test)]

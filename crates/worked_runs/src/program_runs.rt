@@ -1,4 +1,6 @@
 //! Runs of the program over the files of a folder: what it reads, what it makes, and what it prints.
+ghost use Rattle.std.specs.Prelude.{◌≡◌, None};
+
 use crate::fixture::{NOW, bytes_of, push_words, tells};
 use mail_dates::Moment;
 use mairix_files::{KitFolder, SupposedNames};
@@ -49,17 +51,24 @@ fn in_folder(alloc: Global, folder: &str, text: &str) -> Option<String> {
     Some(whole)
 }
 
-/// Returns what a run with these words prints.
+/// Returns what a run with these words prints over the files of the system.
 fn printed(rt: &HostRuntime, alloc: Global, line: &str) -> Option<Vec<u8>> {
+    let mut folder = KitFolder::new(rt, SupposedNames::new());
+    printed_over(&mut folder, alloc, line)
+}
+
+/// Returns what a run with these words prints over the files of a folder, and its status.
+pub fn printed_over<F: Folder>(folder: &mut F, alloc: Global, line: &str) -> Option<Vec<u8>>
+    requires { F.making folder.old ≡ None }
+{
     let now = Moment::new(NOW)?;
     let mut words = Vec::new(alloc);
     push_words(alloc, &mut words, line)?;
-    let mut folder = KitFolder::new(rt, SupposedNames::new());
     let mut reports = folder.no_reports();
     let mut out = MemoryStream::new(alloc);
     let mut err = MemoryStream::new(alloc);
     let status = run_program(
-        &mut folder,
+        folder,
         alloc,
         &mut reports,
         &ProgramTexts,
