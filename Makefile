@@ -26,7 +26,7 @@ try:
 # Leaves the executable at $(PROGRAM). The first time each crate below it is proved, those that don't stand on one another side by side,
 # as far as processors and memory go; later only what has changed.
 build:
-	RT=$(RT) tools/first_build.py --jobs $(JOBS) mairix
+	RT=$(RT) tools/build.py --jobs $(JOBS) mairix
 
 run: build
 	cd demo && ../$(PROGRAM) -f mairixrc --once -r s:hello

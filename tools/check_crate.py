@@ -1,24 +1,24 @@
 #!/usr/bin/env python3
-"""Proves a crate, tries its edits, and proves and tests the crates that stand on it, lowest first.
+"""Proves a crate, tries its edits, and proves and tests the crates that stand on it.
 
     tools/check_crate.py [--jobs N] [--alone] CRATE
+    tools/check_crate.py [--jobs N] CRATE WORD ..
 
-With --alone nothing that stands on it is looked at. What a check proved is kept, so the next one proves only what has changed.
+What is proved already isn't proved again: neither what tools/build.py has made, nor what a check of the same crate has kept. With --alone nothing
+that stands on the crate is looked at. Words of the prover, such as --only PATH or --start FUNCTION, ask it just that of the crate.
+
 The last line is `N passed, M failed`.
 """
 import argparse
-import os
 import re
+import subprocess
 import sys
-from pathlib import Path
 
 sys.dont_write_bytecode = True
+from build import TOP, Build, kept_of
 from commands import Commands
 from crates import Crates
 from machine import checks_side_by_side
-
-RT = os.environ.get("RT", "rt")
-TOP = Path(__file__).resolve().parent.parent
 
 
 def above(crates, name):
@@ -27,23 +27,59 @@ def above(crates, name):
     return sorted(found, key=lambda it: len(crates.below(it)))
 
 
-def verdict_of(what, status, lines):
-    """Prints what was proved or refused, and returns how many passed and failed."""
-    counts = re.fullmatch(r"(\d+) passed, (\d+) failed", lines[-1])
-    if status:
-        print(*lines[-40:], sep="\n")
-    print(f"{what}: {lines[-1] if counts else 'failed' if status else 'passed'}", flush=True)
-    return (int(counts[1]), int(counts[2])) if counts else (int(status == 0), int(status != 0))
+class Check:
+    """A check of a crate and of what stands on it: how much has passed and failed so far. Where a crate isn't proved, nothing follows."""
+
+    def __init__(self, crates, jobs):
+        self.crates, self.jobs = crates, jobs
+        self.passed = self.failed = 0
+        self.is_proved = True
+
+    def take(self, what, is_passed):
+        print(f"{what}: {'passed' if is_passed else 'failed'}", flush=True)
+        self.passed, self.failed = self.passed + is_passed, self.failed + (not is_passed)
+
+    def build(self, names, worked_on):
+        """Proves crates, and what isn't proved yet below them."""
+        build = Build(self.crates, names, self.jobs, worked_on)
+        self.is_proved = build.run() == 0
+        return build
+
+    def prove(self, names):
+        if self.is_proved:
+            build = self.build(names, names)
+            for name in names:
+                self.take(f"proof of {name}", name not in build.unmade)
+
+    def try_edits(self, name):
+        if self.is_proved and (self.crates.folder(name) / "must-fail").is_dir():
+            _, lines = Commands.run([str(TOP / "tools/must_fail.py"), "--jobs", str(self.jobs), name], TOP)
+            counts = re.fullmatch(r"(\d+) passed, (\d+) failed", lines[-1])
+            passed, failed = map(int, counts.groups() if counts else (0, 1))
+            if failed:
+                print(*lines[-40:], sep="\n")
+            print(f"edits of {name}: {lines[-1]}", flush=True)
+            self.passed, self.failed = self.passed + passed, self.failed + failed
+
+    def test(self, name):
+        """Proves the tests of a crate, and runs them."""
+        if self.is_proved:
+            build = self.build(self.crates.below(name), [])
+            lines = build.test(name) if self.is_proved else []
+            print(*lines[-40:], sep="\n", end="\n" if lines else "")
+            self.take(f"tests of {name}", self.is_proved and not lines)
 
 
-def checks_of(crates, name, jobs, alone):
-    """Each check of a crate and of what stands on it: its name, its command and its folder."""
-    yield f"proof of {name}", [RT, "check", "--jobs", jobs], crates.folder(name)
-    if (crates.folder(name) / "must-fail").is_dir():
-        yield f"edits of {name}", [TOP / "tools/must_fail.py", "--jobs", jobs, name], TOP
-    for it in [] if alone else above(crates, name):
-        has_tests = it.startswith("worked_")
-        yield f"{'tests' if has_tests else 'proof'} of {it}", [RT, "test" if has_tests else "check", "--jobs", jobs], crates.folder(it)
+def has_tests(name):
+    return name.startswith("worked_")
+
+
+def ask(crates, name, jobs, words):
+    """Asks the prover something of a crate, and returns its status."""
+    build = Build(crates, crates.below(name), jobs)
+    if build.run():
+        return 1
+    return subprocess.call([*build.command("check", name, jobs), "--incremental", kept_of(crates, name), *words], cwd=crates.folder(name))
 
 
 def main():
@@ -52,16 +88,21 @@ def main():
     asked.add_argument("--jobs", type=int, default=checks_side_by_side(), help="how many processes prove")
     asked.add_argument("--alone", action="store_true", help="look at nothing that stands on it")
     asked.add_argument("crate", help="the crate's name")
-    words = asked.parse_args()
+    words, of_prover = asked.parse_known_args()
     crates = Crates(TOP)
     if words.crate not in crates.libraries:
         asked.error(f"crates.txt has no crate {words.crate!r}")
-    passed = failed = 0
-    for what, command, folder in checks_of(crates, words.crate, words.jobs, words.alone):
-        counts = verdict_of(what, *Commands.run([str(it) for it in command], folder))
-        passed, failed = passed + counts[0], failed + counts[1]
-    print(f"{passed} passed, {failed} failed")
-    return 1 if failed else 0
+    if of_prover:
+        return ask(crates, words.crate, words.jobs, of_prover)
+    check = Check(crates, words.jobs)
+    others = [] if words.alone else above(crates, words.crate)
+    check.prove([it for it in [words.crate] if not has_tests(it)])
+    check.try_edits(words.crate)
+    check.prove([it for it in others if not has_tests(it)])
+    for name in [it for it in [words.crate, *others] if has_tests(it)]:
+        check.test(name)
+    print(f"{check.passed} passed, {check.failed} failed")
+    return 1 if check.failed else 0
 
 
 if __name__ == "__main__":

@@ -25,14 +25,14 @@ class Commands:
 
     @classmethod
     def stop(cls, *_):
-        """Ends all of them, and then this program, which clears its folders on its way out."""
+        """Ends all of them, and then this program, which clears its folders on its way out; none begins after that."""
+        cls.stopped = True
         cls.end()
         raise SystemExit(143)
 
     @classmethod
     def end(cls):
-        """Ends all of them; none begins after that."""
-        cls.stopped = True
+        """Ends all that run now."""
         for command in list(cls.running):
             command.terminate()
 

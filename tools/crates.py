@@ -19,6 +19,9 @@ class Crates:
     def folder(self, name):
         return self.root / "crates" / name
 
+    def is_program(self, name):
+        return (self.folder(name) / "src/main.rt").is_file()
+
     def below(self, name):
         """The repository's own libraries below a crate, lowest first."""
         found = []
@@ -27,6 +30,14 @@ class Crates:
                 found += [it for it in [*self.below(library), library] if it not in found]
         return found
 
+    def with_below(self, names):
+        """These crates and all below them, lowest first."""
+        return list(dict.fromkeys(it for name in names for it in [*self.below(name), name]))
+
+    def texts(self, name):
+        """The files of a crate that are proved."""
+        return sorted(it for part in PARTS for it in (self.folder(name) / part).rglob("*") if it.is_file())
+
     def size(self, name):
         """How many bytes of text a crate has."""
-        return sum(it.stat().st_size for part in PARTS for it in (self.folder(name) / part).rglob("*") if it.is_file())
+        return sum(it.stat().st_size for it in self.texts(name))

@@ -235,9 +235,6 @@ class Crate:
     def with_texts(self, texts):
         return replace(self, texts=texts)
 
-    def is_built(self):
-        return (self.folder / "out/rlib" / f"{self.name}.rlib").exists()
-
     def bodies(self, path):
         return bodies_of_file(self.name, path, self.text(path))
 

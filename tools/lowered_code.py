@@ -3,7 +3,7 @@
 
     tools/lowered_code.py [--largest N] [CRATE ..]
 
-It reads the libraries that tools/first_build.py left in out/statements. What the prover makes of a function's borrows is some 144 kB, and 48 kB
+It reads the libraries that tools/build.py left in out/libraries. What the prover makes of a function's borrows is some 144 kB, and 48 kB
 for each statement; the last column is that sum. --largest lists the functions with the most statements.
 """
 import argparse
@@ -12,7 +12,7 @@ import sys
 from pathlib import Path
 
 sys.dont_write_bytecode = True
-from first_build import LIBRARIES
+from build import TOP, libraries_of
 
 MB_OF_A_FUNCTION, MB_OF_A_STATEMENT = 0.144, 0.048
 
@@ -34,9 +34,9 @@ def main():
     asked.add_argument("--largest", type=int, default=0, metavar="N", help="list the N largest functions")
     asked.add_argument("wanted", nargs="*", metavar="CRATE", help="only these libraries")
     words = asked.parse_args()
-    found = {it.stem: functions_of(it) for it in sorted(LIBRARIES.glob("*.rlib")) if not words.wanted or it.stem in words.wanted}
+    found = {it.stem: functions_of(it) for it in sorted(libraries_of(TOP).glob("*.rlib")) if not words.wanted or it.stem in words.wanted}
     if not found:
-        sys.exit("no library in out/statements: make build first")
+        sys.exit("no library in out/libraries: make build first")
     for name, functions in found.items():
         tell(name, functions.values())
     every = {name: count for functions in found.values() for name, count in functions.items()}

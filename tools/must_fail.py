@@ -19,8 +19,9 @@ proofs. Alone it fails where the crate is still proved, where its functions get 
 Its line `# refused by: CLAUSE` names the clause that refuses it, and that clause has to be one of those that the prover couldn't
 show. --write writes that line where it is missing or wrong. --list tries nothing: it prints the edits by the modules that they change.
 
-Without --proved, each crate is checked first as it stands, and the copies go on from what that check kept. With it, FOLDER is a copy of
-the repository whose crates `rt ci` has just proved and left built: its texts are edited, and each check has one job.
+Without --proved, what isn't built yet is proved and built first, by tools/build.py, and the copies go on from what checks of the crate have
+kept. With it, FOLDER is a copy of the repository whose crates `rt ci` has just proved and left built: its texts are edited, and each check
+has one job.
 
 Each edit has a line, each crate one with its seconds. The last line is `N passed, M failed`.
 """
@@ -28,7 +29,6 @@ import argparse
 import os
 import re
 import shutil
-import subprocess
 import sys
 import tempfile
 import time
@@ -36,12 +36,12 @@ from concurrent.futures import ThreadPoolExecutor
 from pathlib import Path
 
 sys.dont_write_bytecode = True
+from build import Proved, kept_of
 from commands import Commands
 from crates import PARTS, Crates
 from edits import Crate, Stub, Twin, is_goal_of, read_edit
 from machine import checks_side_by_side, processors
 
-RT = os.environ.get("RT", "rt")
 # A check of 150 edits of mairix_run took 7 GB of memory.
 MOST_IN_A_ROUND = 60
 ERROR = re.compile(r"(?:\./)?(\S+?):(\d+):\d+: error\b")
@@ -56,29 +56,6 @@ CYCLE = re.compile(r"expected answers in (\S*/\+[^/\s]+)/")
 # The goals that a check couldn't show, as a reason lists them, and as an error names its own.
 UNSHOWN = re.compile(r"`search` did not prove ((?:`[^`]*`(?:, )?)+)")
 GOAL_OF_ERROR = re.compile(r": error: `([\w+:.-]+)`:")
-
-
-class Toolchain:
-    """The prover, and the libraries that each crate of a repository stands on."""
-
-    def __init__(self, root):
-        self.crates = Crates(root)
-        self.kit = Path(subprocess.run([RT, "doc"], capture_output=True, text=True, check=True).stdout.strip()).parent
-
-    def crate(self, name):
-        """A crate with the command of its check over built libraries."""
-        folder = self.crates.folder(name)
-        top = "src/main.rt" if (folder / "src/main.rt").is_file() else "src/lib.rt"
-        command = [self.kit / "bin/rattle", "check", "--crate-name", name, top, "--links", f"{name}="]
-        command += ["--antt-project", self.kit / "rattle/logic/antt-project.json", "--logic-built", self.kit / "logic_built"]
-        libraries = self.crates.libraries
-        for library in ["std", *libraries[name]]:
-            of_kit = self.kit / "rlibs" / f"{library}.rlib"
-            own = self.crates.folder(library) / "out/rlib" / f"{library}.rlib"
-            command += ["--extern", f"{library}={own if library in libraries else of_kit}"]
-        folders = [self.kit / "rlibs", *[self.crates.folder(it) / "out/rlib" for it in self.crates.below(name)]]
-        command += [word for it in folders for word in ("-L", f"dependency={it}")]
-        return Crate(name, folder, self.crates.size(name), [str(word) for word in command])
 
 
 def idle_processors():
@@ -322,16 +299,15 @@ def try_edits(room, edits):
     return [(said[edit][0], f"must-fail {edit.name}: {said[edit][1][:300]}") for edit in edits]
 
 
-def try_crate(crate, files, is_proved, writes):
+def try_crate(proved, name, files, writes):
     """Whether each edit of a crate is refused, and the lines to print."""
     started = time.monotonic()
-    status, lines = (not crate.is_built(), ["rt ci left no library"]) if is_proved else Commands.run([RT, "check", "--jobs", "1"], crate.folder)
-    if status:
-        why = next((line for line in lines if "error" in line), lines[-1])[:200]
-        return [(False, f"must-fail {crate.name}/{it.name}: NOT tried: the crate isn't proved without it: {why}") for it in files], ""
+    if name in proved.unmade:
+        return [(False, f"must-fail {name}/{it.name}: NOT tried: the crate isn't proved without it") for it in files], ""
+    crate = Crate(name, proved.crates.folder(name), proved.crates.size(name), proved.checking(proved.crates, name))
     edits = [read_edit(it, crate) for it in files]
     with tempfile.TemporaryDirectory(prefix="must-fail-") as folder:
-        room = Room(crate, folder, crate.folder / "out/incremental", writes, not is_proved)
+        room = Room(crate, folder, kept_of(proved.crates, name), writes, not proved.is_by_ci)
         tried = try_edits(room, edits)
     return tried, f"must-fail {crate.name}: {len(files)} edits, {room.checks} checks, {time.monotonic() - started:.0f} s"
 
@@ -381,14 +357,14 @@ def main():
     edits = wanted_of(edits, words.wanted) if words.wanted else edits
     if words.list:
         return list_edits(edits)
-    toolchain = Toolchain(Path(words.proved or ".").resolve())
-    crates = [toolchain.crate(name) for name in edits]
+    jobs = words.jobs or int(os.environ.get("RT_JOBS") or checks_side_by_side())
+    proved = Proved(Path(words.proved or ".").resolve(), list(edits), jobs, bool(words.proved))
     passed, failed = 0, len(strays)
     for file in strays:
         print(f"{file}: NOT an edit: an edit stands right in must-fail/, and its name ends in .edit (or in .md, if it is only to be read)")
-    with ThreadPoolExecutor(words.jobs or int(os.environ.get("RT_JOBS") or checks_side_by_side())) as pool:
-        largest_first = sorted(crates, key=lambda crate: -crate.size)
-        running = [pool.submit(try_crate, it, edits[it.name], bool(words.proved), words.write) for it in largest_first]
+    with ThreadPoolExecutor(jobs) as pool:
+        largest_first = sorted(edits, key=lambda it: -proved.crates.size(it))
+        running = [pool.submit(try_crate, proved, it, edits[it], words.write) for it in largest_first]
         for tried, summary in (it.result() for it in running):
             for is_refused, text in tried:
                 print(text)
