@@ -14,6 +14,7 @@ from pathlib import Path
 
 sys.dont_write_bytecode = True
 from crates import Crates
+from crates_elsewhere import files_of_caller
 from page_examples import TOP, Sandbox, checks_of, roff_text
 
 # Texts of faults that no run prints: the parser answers the first two itself, and a job that has failed isn't asked again.
@@ -33,8 +34,8 @@ PAGES = (*sorted((TOP / "docs").glob("*.md")), README, *CRATE_PAGES)
 # How wide a line of a page is at most, except in tables and checks (NARROW_EXCEPT), and how many words some pages have.
 PAGE_WIDTH, MOST_WORDS = 120, {README: 900, PROGRESS: 900}
 NARROW_EXCEPT = ("|", r'.\" run: ')
-# How many lines a crate's page has at most without its signatures, and how many lines these have.
-MOST_LINES, MOST_OF_SIGNATURES = 85, 95
+# How many lines a crate's page has at most without its signatures and its caller, and how many lines these have.
+MOST_LINES, MOST_OF_SIGNATURES, MOST_OF_CALLER = 85, 95, 60
 # Traits whose implementations no caller needs to know of.
 MINOR_TRAITS = {"Model", "Drop", "From", "fmt::Display", "Error"}
 BASH, ZSH, FISH = (TOP / "completions" / name for name in ("mairix.bash", "_mairix", "mairix.fish"))
@@ -297,12 +298,13 @@ def part_of_page(page, title):
 
 
 def caller_faults(page):
-    """What is wrong with the code on a crate's page: each block stands behind `From FILE:`, and each of its pieces
+    """What is wrong with the code on a crate's page: each block is a file of the caller, or stands behind `From FILE:`, and each of its pieces
     stands in that file. Signatures are left out: they come from many files."""
     text = page.read_text(encoding="utf-8").replace(part_of_page(page, "Signatures"), "")
     shown = re.findall(r"From `([^`]+)`:\n\n```\w+\n(.*?)\n```", text, re.S)
-    if not shown or len(shown) != len(re.findall(r"(?m)^```\w+$", text)):
-        yield f"{len(shown)} blocks of code name their file"
+    callers = files_of_caller(text)
+    if not callers or len(shown) + len(callers) != len(re.findall(r"(?m)^```\w+$", text)):
+        yield f"{len(callers)} blocks of code are of a caller, and {len(shown)} others name their file"
     for path, block in shown:
         file = plain((TOP / path).read_text(encoding="utf-8")) if (TOP / path).exists() else ""
         yield from (f"{path} has no {piece.splitlines()[0]!r}" for piece in block.split("\n\n") if plain(piece) not in file)
@@ -311,10 +313,11 @@ def caller_faults(page):
 def caller_checks():
     for page in CRATE_PAGES:
         yield f"callers of {page.parent.name}", ", ".join(caller_faults(page))
-        signatures = part_of_page(page, "Signatures").count("\n")
-        lines = page.read_text(encoding="utf-8").count("\n") - signatures
-        is_short = lines <= MOST_LINES and signatures <= MOST_OF_SIGNATURES
-        wrong = "" if is_short else f"{lines} lines, and {signatures} of signatures"
+        text = page.read_text(encoding="utf-8")
+        signatures, caller = part_of_page(page, "Signatures").count("\n"), "".join(files_of_caller(text).values()).count("\n")
+        lines = text.count("\n") - signatures - caller
+        is_short = lines <= MOST_LINES and signatures <= MOST_OF_SIGNATURES and caller <= MOST_OF_CALLER
+        wrong = "" if is_short else f"{lines} lines, {signatures} of signatures, and {caller} of a caller"
         yield f"length of the page of {page.parent.name}", wrong
 
 
