@@ -41,12 +41,12 @@ pub use Rattle.std.specs.declared.cmp.Ordering.{Ordering}
 pub use Rattle.std.specs.declared.cmp.Ordering.TheVariants.{Equal, Greater, Less}
 pub use Rattle.mail_index.specs.Builders.{Draft, IsBetweenArchives, IsInMessage, IsNextMessage, added, archive_count}
 pub use Rattle.mail_index.specs.Builders.{end_of, with_pair}
-pub use Rattle.mail_index.specs.Directory.{AreEntries, IsEntryAt, end_before, read_entries, text_at}
+pub use Rattle.mail_index.specs.Directory.{AreEntries, IsEntryAt, end_before, list_at, read_entries, text_at}
 unfoldable pub use Rattle.mail_index.specs.Directory.{is_entry, read_entry}
 pub use Rattle.mail_index.specs.Faults.{EntryBefore, HasArchives, HasCounts, HasDigest, HasDirectory, HasPostings}
 pub use Rattle.mail_index.specs.Faults.{HasRecords, IsEntry, IsFileOf, IsFirstFault, IsSigned, digest_start}
 pub use Rattle.mail_index.specs.Faults.{directory_start, postings_start, records_start, texts_start, version_told}
-pub use Rattle.mail_index.specs.Fields.{byte_at, u32_at, u64_at}
+pub use Rattle.mail_index.specs.Fields.{are_zeros_at, byte_at, u32_at, u64_at}
 pub use Rattle.mail_index.specs.Files.{Entry, HasSmallSections, archive_bytes, archive_section, be32, be64, bit, body}
 pub use Rattle.mail_index.specs.Files.{counts, date_number, directory_from, entries, entry_bytes, entry_of, flags_byte}
 pub use Rattle.mail_index.specs.Files.{magic, postings_of, record_bytes, sections, texts_of, zeros}
@@ -54,7 +54,7 @@ unfoldable pub use Rattle.mail_index.specs.Files.{index_file}
 pub use Rattle.mail_index.specs.KeysRead.{IsDirectory, key_at, key_of, keys_read, no_key}
 pub use Rattle.mail_index.specs.Kinds.{is_kind_number, kind_number, kind_of_number}
 pub use Rattle.mail_index.specs.Layouts.{IsChecked, IsLayout, table_of}
-pub use Rattle.mail_index.specs.Lists.{AreLists, IsList, list_at}
+pub use Rattle.mail_index.specs.Lists.{AreLists, IsList}
 pub use Rattle.mail_index.specs.LookUps.{AreSorted, bisections, bisections_within, comparisons, comparisons_within}
 pub use Rattle.mail_index.specs.LookUps.{is_key, is_of_kind, keys_beginning, keys_of, lies_below, lies_to, lies_to_run}
 pub use Rattle.mail_index.specs.LookUps.{numbers_at, text_and_numbers}

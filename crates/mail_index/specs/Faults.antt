@@ -16,6 +16,9 @@ use Rattle.mail_index.specs.Tables.{Archive, Key, Table, IsWellFormed, IsArchive
 use Rattle.mail_index.specs.Files.{magic, archive_bytes, record_bytes, Entry, entry_of, directory_from, texts_of}
 use Rattle.mail_index.specs.Files.{postings_of, index_file}
 use Rattle.mail_index.specs.Limits.{four_byte_limit}
+use Rattle.mail_index.specs.Places.{magic_size, counts_size, record_size, entry_size, digest_size, least_size}
+use Rattle.mail_index.specs.Places.{version_at, archive_count_at, message_count_at, key_count_at, archive_bytes_at}
+use Rattle.mail_index.specs.Places.{text_bytes_at, posting_bytes_at}
 use Rattle.mail_index.specs.OrderOfKeys.{key_cmp}
 
 -- the key of the first entry comes before that of the second
@@ -30,52 +33,52 @@ IsEntry version e = (kind_number e.kind ≤ last_kind version) × (0 < length e.
 module _ (bytes : List ℕ) where
   -- the version that the bytes name
   abbrev pub version_told : ℕ
-  version_told = u32_at bytes 8
+  version_told = u32_at bytes version_at
 
   -- ---- where the sections begin, by the lengths in the counts
 
   -- the offset of the records
   abbrev pub records_start : ℕ
-  records_start = 48 + u64_at bytes 24
+  records_start = counts_size + u64_at bytes archive_bytes_at
 
   -- the offset of the directory
   abbrev pub directory_start : ℕ
-  directory_start = records_start + 40 * u32_at bytes 16
+  directory_start = records_start + record_size * u32_at bytes message_count_at
 
   -- the offset of the texts
   abbrev pub texts_start : ℕ
-  texts_start = directory_start + 24 * u32_at bytes 20
+  texts_start = directory_start + entry_size * u32_at bytes key_count_at
 
   -- the offset of the postings
   abbrev pub postings_start : ℕ
-  postings_start = texts_start + u64_at bytes 32
+  postings_start = texts_start + u64_at bytes text_bytes_at
 
   -- the offset of the digest
   abbrev pub digest_start : ℕ
-  digest_start = postings_start + u64_at bytes 40
+  digest_start = postings_start + u64_at bytes posting_bytes_at
 
   -- ---- the rules in their order, each with those before it and with what it finds
 
-  -- the last 32 bytes are the SHA-256 of those before
+  -- the last bytes are the SHA-256 of those before
   abbrev pub HasDigest : Type 0
-  HasDigest = drop (length bytes - 32) bytes ≡ sha256 (take (length bytes - 32) bytes)
+  HasDigest = drop (length bytes - digest_size) bytes ≡ sha256 (take (length bytes - digest_size) bytes)
 
   -- the bytes have the length, the magic, a known version and the digest of an index file
   pub record IsSigned : Type 0 where
-    pub long : 80 ≤ length bytes
-    pub marked : take 8 bytes ≡ magic
+    pub long : least_size ≤ length bytes
+    pub marked : take magic_size bytes ≡ magic
     pub known : IsVersion version_told
     pub digest : HasDigest
 
   -- the bytes are signed, and the lengths in the counts add up to the length of the file
   abbrev pub HasCounts : Type 0
-  HasCounts = IsSigned × (digest_start + 32 ≡ length bytes)
+  HasCounts = IsSigned × (digest_start + digest_size ≡ length bytes)
 
   -- the counts are right, and the section of archives consists of these archives, and each keeps its rule
   pub record HasArchives (archives : List Archive) : Type 0 where
     pub before : HasCounts
-    pub spelled : slice_range bytes 48 records_start ≡ flat_map archive_bytes archives
-    pub counted : length archives ≡ u32_at bytes 12
+    pub spelled : slice_range bytes counts_size records_start ≡ flat_map archive_bytes archives
+    pub counted : length archives ≡ u32_at bytes archive_count_at
     pub each : AllByRecursion (IsArchive version_told) archives
 
   -- the archives are right, and the section of records consists of these records, each valid, in order
@@ -105,11 +108,13 @@ module _ (bytes : List ℕ) where
 
   -- the fault is that of the first broken rule
   abbrev pub IsFirstFault : IndexFault → Type 0
-  IsFirstFault TooShort = length bytes < 80
-  IsFirstFault BadMagic = (80 ≤ length bytes) × (take 8 bytes ≢ magic)
-  IsFirstFault BadVersion = (80 ≤ length bytes) × (take 8 bytes ≡ magic) × (¬ IsVersion version_told)
-  IsFirstFault BadDigest = (80 ≤ length bytes) × (take 8 bytes ≡ magic) × IsVersion version_told × ¬ HasDigest
-  IsFirstFault (BadLayout Counts) = IsSigned × ¬ (digest_start + 32 ≡ length bytes)
+  IsFirstFault TooShort = length bytes < least_size
+  IsFirstFault BadMagic = (least_size ≤ length bytes) × (take magic_size bytes ≢ magic)
+  IsFirstFault BadVersion = (least_size ≤ length bytes) × (take magic_size bytes ≡ magic)
+      × (¬ IsVersion version_told)
+  IsFirstFault BadDigest = (least_size ≤ length bytes) × (take magic_size bytes ≡ magic) × IsVersion version_told
+      × ¬ HasDigest
+  IsFirstFault (BadLayout Counts) = IsSigned × ¬ (digest_start + digest_size ≡ length bytes)
   IsFirstFault (BadLayout Archives) = HasCounts × ((archives : List Archive) → ¬ HasArchives archives)
   IsFirstFault (BadLayout Records) = (archives : List Archive) × HasArchives archives
       × ((ms : List Record) → ¬ HasRecords archives ms)

@@ -1,16 +1,5 @@
--- The file of a table: counts, archives, records, directory, texts, postings, and the SHA-256 of all these.
---
--- The offset of each field in its part, and its number of bytes. Numbers have the highest byte first.
---
---   front, 48 bytes            an archive                 a record, 40 bytes        an entry, 24 bytes
---    0  8  magic                0  8  its length           0  4  its archive         0  1  the kind of its key
---    8  4  version              8  4  its path's length    4  1  flags               1  3  zeros
---   12  4  archives            12  .. its path             5  3  zeros               4  4  its text's length
---   16  4  messages             .. 32 its digest           8  8  its offset          8  8  its text's place
---   20  4  keys                    (version 2)            16  8  its length         16  8  its postings' place
---   24  8  bytes of archives                              24  8  its text's length
---   32  8  bytes of texts                                 32  8  its date, or 0
---   40  8  bytes of postings
+-- The file of a table: counts, archives, records, directory, texts, postings, and the SHA-256 of all these. The fields
+-- of each part have the order of their offsets in Places.
 use Rattle.std.specs.Prelude.{ℕ, ◌+◌, ◌^◌, ◌<◌, Bool, if◌then◌else◌, ℤ, List, [], ◌∷◌, ◌++◌, length, map, Option, Some}
 use Rattle.std.specs.Prelude.{None, flat_map, is_some, unwrap_or}
 use Rattle.std.specs.Int.{w32, w64, to_be_bytes, cast_unsigned}
@@ -21,6 +10,7 @@ use Rattle.mail_index.specs.declared.record.Record.{Record}
 use Rattle.mail_index.specs.Kinds.{kind_number}
 use Rattle.mail_index.specs.Tables.{Archive, Key, Table}
 use Rattle.mail_index.specs.Postings.{postings}
+use Rattle.mail_index.specs.Places.{seen_flag, replied_flag, flagged_flag, dated_flag}
 
 -- "MAIRIX" and a line's end
 abbrev pub magic : List ℕ
@@ -46,9 +36,10 @@ archive_bytes a = concat (be64 a.length ∷ be32 (length a.path) ∷ a.path ∷ 
 abbrev pub bit : ℕ → Bool → ℕ
 bit n b = if b then n else 0
 
--- the flags of a message: 1 seen, 2 replied, 4 flagged, 8 with a date
+-- the flags of a message
 abbrev pub flags_byte : Record → ℕ
-flags_byte m = bit 1 m.flags.seen + bit 2 m.flags.replied + bit 4 m.flags.flagged + bit 8 (is_some m.date)
+flags_byte m = bit seen_flag m.flags.seen + bit replied_flag m.flags.replied + bit flagged_flag m.flags.flagged
+    + bit dated_flag (is_some m.date)
 
 -- the date in two's complement, and 0 without a date
 abbrev pub date_number : Option ℤ → ℕ

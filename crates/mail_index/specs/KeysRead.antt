@@ -8,6 +8,7 @@ use Rattle.mail_index.specs.PostingReads.{numbers_read}
 use Rattle.mail_index.specs.Directory.{read_entries, AreEntries}
 use Rattle.mail_index.specs.Lists.{AreLists}
 use Rattle.mail_index.specs.Limits.{four_byte_limit}
+use Rattle.mail_index.specs.Places.{entry_size}
 
 -- the key of an entry, with its postings read
 abbrev pub key_of : Entry → Key
@@ -20,7 +21,7 @@ keys_read texts postings count entries = map key_of (read_entries texts postings
 -- The entries are in the order of their keys, each with its own text and with postings of messages. Version and number
 -- of messages may be any.
 pub record IsDirectory (texts postings : List ℕ) (count : ℕ) (entries : List ℕ) : Type 0 where
-  pub long : length entries ≡ 24 * count
+  pub long : length entries ≡ entry_size * count
   pub version : ℕ
   pub sorted : AreEntries version texts (length postings) 0 0 0 [] count entries
   pub messages : ℕ

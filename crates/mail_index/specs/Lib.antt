@@ -1,4 +1,5 @@
 -- The definitions of an index: its limits, its table, its file, the reading of a file, and its builder.
+pub mod Places
 pub mod Limits
 pub mod Kinds
 pub mod Versions

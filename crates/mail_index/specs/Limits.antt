@@ -9,6 +9,10 @@ most_in_index = 2147483647
 abbrev pub most_in_key : ℕ
 most_in_key = 262144
 
+-- the most bytes of the path of an archive
+abbrev pub most_in_path : ℕ
+most_in_path = 4096
+
 -- the most bytes of an archive
 abbrev pub most_in_archive : ℕ
 most_in_archive = 2 ^ 40

@@ -6,7 +6,10 @@ use Rattle.std.specs.Int.{w64, cast_signed}
 use Rattle.std.specs.List.{AllByRecursion}
 use Rattle.mail_words.specs.declared.flags.Flags.{Flags}
 use Rattle.mail_index.specs.declared.record.Record.{Record}
-use Rattle.mail_index.specs.Fields.{byte_at, u32_at, u64_at}
+use Rattle.mail_index.specs.Fields.{byte_at, u32_at, u64_at, are_zeros_at}
+use Rattle.mail_index.specs.Places.{record_size, archive_length_at, path_length_at, path_start, archive_number_at}
+use Rattle.mail_index.specs.Places.{flags_at, record_zeros_at, offset_at, length_at, size_at, date_at, seen_flag}
+use Rattle.mail_index.specs.Places.{replied_flag, flagged_flag, dated_flag, all_flags}
 use Rattle.mail_index.specs.Versions.{read_digest, behind_digest}
 use Rattle.mail_index.specs.Tables.{Archive, IsArchive}
 use Rattle.mail_index.specs.Files.{archive_bytes}
@@ -17,47 +20,51 @@ use Rattle.mail_index.specs.Files.{archive_bytes}
 abbrev pub has_bit : ℕ → ℕ → Bool
 has_bit flags b = nat_eq (bit_and flags b) b
 
--- the flags of a message: 1 seen, 2 replied, 4 flagged
+-- the flags of a message
 abbrev pub read_flags : ℕ → Flags
-read_flags flags = record { seen = has_bit flags 1; replied = has_bit flags 2; flagged = has_bit flags 4 }
+read_flags flags = record {
+  seen = has_bit flags seen_flag;
+  replied = has_bit flags replied_flag;
+  flagged = has_bit flags flagged_flag;
+}
 
--- the date, if the flags have 8
+-- the date, if the flags say that there is one
 abbrev pub read_date : ℕ → ℕ → Option ℤ
-read_date flags date = cond (has_bit flags 8) (Some (cast_signed w64 date)) None
+read_date flags date = cond (has_bit flags dated_flag) (Some (cast_signed w64 date)) None
 
--- the record in the first 40 bytes
+-- the record at the front
 unfoldable pub read_record : List ℕ → Record
 read_record r = record {
-  archive = u32_at r 0;
-  offset = u64_at r 8;
-  length = u64_at r 16;
-  size = u64_at r 24;
-  date = read_date (byte_at r 4) (u64_at r 32);
-  flags = read_flags (byte_at r 4);
+  archive = u32_at r archive_number_at;
+  offset = u64_at r offset_at;
+  length = u64_at r length_at;
+  size = u64_at r size_at;
+  date = read_date (byte_at r flags_at) (u64_at r date_at);
+  flags = read_flags (byte_at r flags_at);
 }
 
 -- this many records, one after another
 abbrev pub read_records : ℕ → List ℕ → List Record
 read_records zero r = []
-read_records (suc n) r = read_record r ∷ read_records n (drop 40 r)
+read_records (suc n) r = read_record r ∷ read_records n (drop record_size r)
 
 -- whether the flags and the zeros after them are those of a record, and the date's bytes are 0 if there is no date
 unfoldable pub is_record : List ℕ → Bool
 is_record r =
-    nat_le (byte_at r 4) 15 && nat_eq (byte_at r 5) 0 && nat_eq (byte_at r 6) 0 && nat_eq (byte_at r 7) 0
-    && (has_bit (byte_at r 4) 8 || nat_eq (u64_at r 32) 0)
+    nat_le (byte_at r flags_at) all_flags && are_zeros_at r record_zeros_at
+    && (has_bit (byte_at r flags_at) dated_flag || nat_eq (u64_at r date_at) 0)
 
 -- ---- archives
 
 -- the bytes after the path of the first archive
 abbrev pub behind_path : List ℕ → List ℕ
-behind_path r = drop (u32_at r 8) (drop 12 r)
+behind_path r = drop (u32_at r path_length_at) (drop path_start r)
 
 -- the first archive
 unfoldable pub read_archive : ℕ → List ℕ → Archive
 read_archive version r = record {
-  path = take (u32_at r 8) (drop 12 r);
-  length = u64_at r 0;
+  path = take (u32_at r path_length_at) (drop path_start r);
+  length = u64_at r archive_length_at;
   digest =
       read_digest version (behind_path r);
 }
@@ -97,7 +104,7 @@ is_behind archive place m = nat_lt archive m.archive || (nat_eq archive m.archiv
 pub record IsNextRecord (version count archive place : ℕ) (rest : List ℕ) (m : Record) : Type 0 where
   pub exists : m.archive < count
   pub follows : is_behind archive place m ≡ true
-  pub within : m.offset + m.length ≤ u64_at (behind_archives version (m.archive - archive) rest) 0
+  pub within : m.offset + m.length ≤ u64_at (behind_archives version (m.archive - archive) rest) archive_length_at
   pub size : m.size < m.length
 
 -- this many records may come from this place on, each after the end of the one before it
@@ -106,4 +113,4 @@ AreRecords version count archive place rest zero r = Unit {0}
 AreRecords version count archive place rest (suc n) r =
     (is_record r ≡ true) × IsNextRecord version count archive place rest (read_record r)
     × AreRecords version count (read_record r).archive ((read_record r).offset + (read_record r).length)
-    (behind_archives version ((read_record r).archive - archive) rest) n (drop 40 r)
+    (behind_archives version ((read_record r).archive - archive) rest) n (drop record_size r)

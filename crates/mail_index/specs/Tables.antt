@@ -8,7 +8,7 @@ use Rattle.mail_index.specs.declared.kind.Kind.{Kind}
 use Rattle.mail_index.specs.declared.record.Record.{Record}
 use Rattle.mail_index.specs.Kinds.{kind_number}
 use Rattle.mail_index.specs.Versions.{IsVersion, last_kind, IsDigest}
-use Rattle.mail_index.specs.Limits.{four_byte_limit, most_in_archive}
+use Rattle.mail_index.specs.Limits.{four_byte_limit, most_in_archive, most_in_path}
 use Rattle.mail_index.specs.OrderOfKeys.{key_cmp}
 
 -- an archive: its path, its length in bytes, and the SHA-256 of its bytes, which version 1 doesn't have
@@ -32,11 +32,11 @@ pub record Table : Type 0 where
 
 -- ---- which tables are well-formed
 
--- one to 4,096 bytes of UTF-8 text without a line feed and a zero
+-- UTF-8 text within the limit, which isn't empty and has no line feed and no zero
 pub record IsPath (path : List ℕ) : Type 0 where
   pub text : IsUtf8 path
   pub some : 0 < length path
-  pub most : length path ≤ 4096
+  pub most : length path ≤ most_in_path
   pub one_line : AllByRecursion (λ b. (b ≢ 0x0A) × (b ≢ 0)) path
 
 -- an archive with a path, a length within the limit, and a digest as the version has it

@@ -1,6 +1,6 @@
 //! Numbers at an offset of a file, the highest byte first.
-ghost use Rattle.std.specs.Prelude.{◌≡◌, ◌+◌, ◌≤◌, ◌&&◌, nat_eq, length};
-ghost use Rattle.mail_index.specs.Fields.{byte_at, u32_at as u32_in, u64_at as u64_in};
+ghost use Rattle.std.specs.Prelude.{◌≡◌, ◌+◌, ◌≤◌, length};
+ghost use Rattle.mail_index.specs.Fields.{u32_at as u32_in, u64_at as u64_in, are_zeros_at as are_zeros_in};
 
 /// The four bytes from `at` on, as a number.
 pub(crate) fn u32_at(bytes: &[u8], at: usize) -> u32
@@ -23,8 +23,7 @@ pub(crate) fn u64_at(bytes: &[u8], at: usize) -> u64
 /// Whether the three bytes from `at` on are zeros.
 pub(crate) fn are_zeros_at(bytes: &[u8], at: usize) -> bool
     requires { at + 3 ≤ length bytes.now }
-    ensures { result ≡ (nat_eq (byte_at bytes.now at) 0 && nat_eq (byte_at bytes.now (at + 1)) 0
-        && nat_eq (byte_at bytes.now (at + 2)) 0) }
+    ensures { result ≡ are_zeros_in bytes.now at }
 {
     bytes.split_at(at).1.starts_with(&[0, 0, 0])
 }

@@ -1,5 +1,6 @@
 //! What an index says about one message.
 ghost use Rattle.std.specs.Prelude.{◌≡◌, ◌≤◌, length};
+ghost use Rattle.mail_index.specs.Places.{record_size};
 ghost use Rattle.mail_index.specs.Records.{has_bit as has_bit_of, is_record as is_record_of};
 
 use crate::fields::{are_zeros_at, u32_at, u64_at};
@@ -36,10 +37,10 @@ fn has_bit(flags: u8, mask: u8) -> bool
 impl Record {
     ghost use Rattle.mail_index.specs.Records.{read_record};
 
-    /// Reads a record from the first 40 bytes.
+    /// Reads the record at the front.
     #[tactic(auto, unfolding(crate::specs::Records::read_record))]
     pub(crate) fn read(bytes: &[u8]) -> Record
-        requires { 40 ≤ length bytes.now }
+        requires { record_size ≤ length bytes.now }
         ensures { result ≡ read_record bytes.now }
     {
         let flags = bytes[FLAGS_AT];
@@ -63,11 +64,11 @@ impl Record {
     }
 }
 
-/// Whether the first 40 bytes are those of a record: no unknown flag, zeros after the flags, and no date without its
+/// Whether the first bytes are those of a record: no unknown flag, zeros after the flags, and no date without its
 /// flag.
 #[tactic(auto, unfolding(crate::specs::Records::is_record))]
 pub(crate) fn is_record(bytes: &[u8]) -> bool
-    requires { 40 ≤ length bytes.now }
+    requires { record_size ≤ length bytes.now }
     ensures { result ≡ is_record_of bytes.now }
 {
     let flags = bytes[FLAGS_AT];

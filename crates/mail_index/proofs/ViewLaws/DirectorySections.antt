@@ -5,8 +5,9 @@ use Rattle.mail_index.proofs.Words.{List, [], ◌∷◌, ◌++◌, length, take,
 use Rattle.mail_index.proofs.Words.{length-drop, length-append, nat_eq, Less, AllByRecursion, transport}
 use Rattle.mail_index.proofs.Words.{take-append_seam, drop-append_seam, take-append-drop, drop-drop, nat_tests}
 use Rattle.mail_index.proofs.Words.{from_be_bytes-to_be_bytes_4, from_be_bytes-to_be_bytes_8, kind_number}
-use Rattle.mail_index.proofs.Words.{kind_of_number, is_kind_number, last_kind, byte_at, u32_at, u64_at, zeros, be32}
-use Rattle.mail_index.proofs.Words.{be64, Entry, entry_bytes, directory_from, texts_of, postings_of, AllNext, IsEntry}
+use Rattle.mail_index.proofs.Words.{kind_of_number, is_kind_number, last_kind, are_zeros_at, byte_at, u32_at, u64_at}
+use Rattle.mail_index.proofs.Words.{zeros, be32, be64, Entry, entry_bytes, directory_from, texts_of, postings_of}
+use Rattle.mail_index.proofs.Words.{AllNext, IsEntry}
 use Rattle.mail_index.proofs.Words.{EntryBefore, key_cmp, is_entry, end_before, text_at, read_entry, read_entries}
 use Rattle.mail_index.proofs.Words.{IsEntryAt, AreEntries}
 use Rattle.mail_index.proofs.Items.{empty_list}
@@ -55,14 +56,13 @@ entry_kept : (version : ℕ) (d : List ℕ) (tp pp : ℕ) (e : Entry) → AreByt
 unfolding is_entry
 entry_kept version d tp pp e h l t ek et etp epp =
     let k = byte_at d 0 in
-    let t₃ = both (is_kind_number (last_kind version) k && nat_eq (byte_at d 1) 0 && nat_eq (byte_at d 2) 0)
-    (nat_eq (byte_at d 3) 0) t in
-    let t₂ = both (is_kind_number (last_kind version) k && nat_eq (byte_at d 1) 0) (nat_eq (byte_at d 2) 0) t₃.0 in
-    let t₁ = both (is_kind_number (last_kind version) k) (nat_eq (byte_at d 1) 0) t₂.0 in
+    let t₁ = both (is_kind_number (last_kind version) k) (are_zeros_at d 1) t in
+    let t₂ = both (nat_eq (byte_at d 1) 0 && nat_eq (byte_at d 2) 0) (nat_eq (byte_at d 3) 0) t₁.1 in
+    let t₃ = both (nat_eq (byte_at d 1) 0) (nat_eq (byte_at d 2) 0) t₂.0 in
     let kind : kind_number e.kind ≡ k = ap kind_number ek ∙ kind_kept (last_kind version) k (few_kinds version) t₁.0 in
-    let zero₁ : byte_at d 1 ≡ 0 = grind (arith, nat_tests, t₁.1) in
-    let zero₂ : byte_at d 2 ≡ 0 = grind (arith, nat_tests, t₂.1) in
-    let zero₃ : byte_at d 3 ≡ 0 = grind (arith, nat_tests, t₃.1) in
+    let zero₁ : byte_at d 1 ≡ 0 = grind (arith, nat_tests, t₃.0) in
+    let zero₂ : byte_at d 2 ≡ 0 = grind (arith, nat_tests, t₃.1) in
+    let zero₃ : byte_at d 3 ≡ 0 = grind (arith, nat_tests, t₂.1) in
     let s₃ : be64 pp ++ drop 24 d ≡ drop 16 d = ap (λ (n : ℕ). be64 n ++ drop 24 d) epp
     ∙ u64_back d 16 24 h (omega (arith, l)) refl in
     let s₂ : be64 tp ++ drop 16 d ≡ drop 8 d = ap (λ (n : ℕ). be64 n ++ drop 16 d) etp
@@ -90,13 +90,7 @@ past_all n xs e = empty_list (drop n xs) (omega (arith, e, length-drop n xs))
 pub entry_kind : (version : ℕ) (d : List ℕ) → is_entry version d ≡ true
     → is_kind_number (last_kind version) (byte_at d 0) ≡ true
 unfolding is_entry
-entry_kind version d t =
-    let k = byte_at d 0 in
-    let t₃ = both (is_kind_number (last_kind version) k && nat_eq (byte_at d 1) 0 && nat_eq (byte_at d 2) 0)
-    (nat_eq (byte_at d 3) 0) t in
-    let t₂ = both (is_kind_number (last_kind version) k && nat_eq (byte_at d 1) 0) (nat_eq (byte_at d 2) 0) t₃.0 in
-    let t₁ = both (is_kind_number (last_kind version) k) (nat_eq (byte_at d 1) 0) t₂.0 in
-    t₁.0
+entry_kind version d t = (both (is_kind_number (last_kind version) (byte_at d 0)) (are_zeros_at d 1) t).0
 
 pub shows_entries : (version : ℕ) (texts postings : List ℕ) (tp pp number : ℕ) (text : List ℕ) (n : ℕ) (d : List ℕ)
     → AreBytes d → length d ≡ 24 * n
@@ -199,7 +193,7 @@ pub record FrontOf (version : ℕ) (texts postings : List ℕ) (tp pp : ℕ) (e 
   pub room : pp + length e.postings ≤ length postings
   pub ahead : IsAhead texts postings (tp + length e.text) (pp + length e.postings) es
 
-few_tests : (k : Bool) → k ≡ true → (((k && true) && true) && true) ≡ true
+few_tests : (k : Bool) → k ≡ true → (k && true) ≡ true
 few_tests k e = rw e refl
 
 front_entry : (version : ℕ) (texts postings : List ℕ) (tp pp : ℕ) (e : Entry) (es : List Entry) → IsEntry version e

@@ -3,7 +3,8 @@ use Rattle.mail_index.proofs.Words.{◌≡◌, ℕ, zero, suc, ◌+◌, ◌^◌,
 use Rattle.mail_index.proofs.Words.{[], ◌∷◌, ◌++◌, length, drop, Option, Some, None, refl, ap, ◌∙◌, arith, ℤ, IfSome}
 use Rattle.mail_index.proofs.Words.{FitsSigned, is_some, nat_eq, nat_le, w64, cast_signed, to_z-of_z, Fits-of_z}
 use Rattle.mail_index.proofs.Words.{Fits-lt-pow, from_be_bytes-to_be_bytes_4, from_be_bytes-to_be_bytes_8, Record}
-use Rattle.mail_index.proofs.Words.{byte_at, u32_at, u64_at, be32, be64, zeros, bit, flags_byte, date_number}
+use Rattle.mail_index.proofs.Words.{are_zeros_at, byte_at, u32_at, u64_at, be32, be64, zeros, bit, flags_byte}
+use Rattle.mail_index.proofs.Words.{date_number}
 use Rattle.mail_index.proofs.Words.{record_bytes, has_bit, read_flags, read_date, read_record, is_record, of_z-to_z}
 use Rattle.mail_index.proofs.Words.{leb-true, nat_tests}
 use Rattle.mail_index.proofs.FileLaws.Fronts.{before, concat_then}
@@ -96,17 +97,16 @@ pub record_kept : (r : List ℕ) → AreBytes r → 40 ≤ length r → is_recor
 unfolding read_record is_record rebuilt
 record_kept r h l e =
     let f = byte_at r 4 in
-    let t₄ = both (nat_le f 15 && nat_eq (byte_at r 5) 0 && nat_eq (byte_at r 6) 0 && nat_eq (byte_at r 7) 0)
-    (has_bit f 8 || nat_eq (u64_at r 32) 0) e in
-    let t₃ = both (nat_le f 15 && nat_eq (byte_at r 5) 0 && nat_eq (byte_at r 6) 0) (nat_eq (byte_at r 7) 0) t₄.0 in
-    let t₂ = both (nat_le f 15 && nat_eq (byte_at r 5) 0) (nat_eq (byte_at r 6) 0) t₃.0 in
-    let t₁ = both (nat_le f 15) (nat_eq (byte_at r 5) 0) t₂.0 in
-    let small : f ≤ 15 = leb-true f 15 t₁.0 in
-    let zero₅ : byte_at r 5 ≡ 0 = grind (arith, nat_tests, t₁.1) in
-    let zero₆ : byte_at r 6 ≡ 0 = grind (arith, nat_tests, t₂.1) in
+    let t₁ = both (nat_le f 15 && are_zeros_at r 5) (has_bit f 8 || nat_eq (u64_at r 32) 0) e in
+    let t₂ = both (nat_le f 15) (are_zeros_at r 5) t₁.0 in
+    let t₃ = both (nat_eq (byte_at r 5) 0 && nat_eq (byte_at r 6) 0) (nat_eq (byte_at r 7) 0) t₂.1 in
+    let t₄ = both (nat_eq (byte_at r 5) 0) (nat_eq (byte_at r 6) 0) t₃.0 in
+    let small : f ≤ 15 = leb-true f 15 t₂.0 in
+    let zero₅ : byte_at r 5 ≡ 0 = grind (arith, nat_tests, t₄.0) in
+    let zero₆ : byte_at r 6 ≡ 0 = grind (arith, nat_tests, t₄.1) in
     let zero₇ : byte_at r 7 ≡ 0 = grind (arith, nat_tests, t₃.1) in
     let d : date_number (read_date f (u64_at r 32)) ≡ u64_at r 32 =
-    date_kept (has_bit f 8) (u64_at r 32) (u64_small r 32 h (omega (arith, l))) t₄.1 in
+    date_kept (has_bit f 8) (u64_at r 32) (u64_small r 32 h (omega (arith, l))) t₁.1 in
     let flags : flags_byte (read_record r) ≡ f =
     ap (λ (b : Bool). bit 1 (has_bit f 1) + bit 2 (has_bit f 2) + bit 4 (has_bit f 4) + bit 8 b)
     (some_date (has_bit f 8) (cast_signed w64 (u64_at r 32))) ∙ flags_kept f small in
@@ -135,7 +135,7 @@ record_kept r h l e =
     ∙ s₀
 
 few_flags : (a b c d : Bool) (n : ℕ) → (d ≡ false → n ≡ 0)
-    → ((((nat_le (bit 1 a + bit 2 b + bit 4 c + bit 8 d) 15 && true) && true) && true) &&
+    → ((nat_le (bit 1 a + bit 2 b + bit 4 c + bit 8 d) 15 && true) &&
     (has_bit (bit 1 a + bit 2 b + bit 4 c + bit 8 d) 8 || nat_eq n 0)) ≡ true
 few_flags a b c d n h = grind arith
 

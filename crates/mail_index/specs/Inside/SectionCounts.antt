@@ -3,6 +3,7 @@ use Rattle.std.specs.List.{concat}
 use Rattle.std.specs.Prelude.{◌≡◌, ℕ, ◌+◌, ◌*◌, List, [], ◌∷◌, length, flat_map}
 use Rattle.mail_index.specs.declared.build.sections.Counts.{Counts}
 use Rattle.mail_index.specs.Tables.{Table}
+use Rattle.mail_index.specs.Places.{record_size, entry_size, least_size}
 use Rattle.mail_index.specs.Versions.{newest}
 use Rattle.mail_index.specs.declared.build.sections.FileSection.{FileSection}
 use Rattle.mail_index.specs.declared.build.sections.FileSection.TheVariants.{Counts as CountSection, Archives, Records}
@@ -29,7 +30,8 @@ pub record IsCountOf (t : Table) (c : Counts) : Type 0 where
 
 -- the length of a file with these counts
 abbrev pub counted_length : Counts → ℕ
-counted_length c = 80 + c.archive_bytes + 40 * c.messages + 24 * c.keys + c.text_bytes + c.posting_bytes
+counted_length c = least_size + c.archive_bytes + record_size * c.messages + entry_size * c.keys + c.text_bytes
+    + c.posting_bytes
 
 -- the bytes of a section
 abbrev pub section_of : Table → FileSection → List ℕ

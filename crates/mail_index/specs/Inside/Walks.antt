@@ -4,6 +4,7 @@ use Rattle.mail_index.specs.declared.record.Record.{Record}
 use Rattle.mail_index.specs.declared.view.record_walk.RecordPlace.{RecordPlace}
 use Rattle.mail_index.specs.declared.view.directory_walk.EntryPlace.{EntryPlace}
 use Rattle.mail_index.specs.Fields.{byte_at, u32_at}
+use Rattle.mail_index.specs.Places.{entry_size, kind_at, text_length_at}
 use Rattle.mail_index.specs.Directory.{end_before, text_at, IsEntryAt}
 use Rattle.mail_index.specs.Records.{IsNextRecord, SpellsArchives, behind_archives}
 
@@ -25,5 +26,5 @@ MayStandAt version texts total p d = IsEntryAt version texts total p.text_place 
 -- q is the place after this entry
 abbrev pub IsBehindEntry : List ℕ → ℕ → EntryPlace → List ℕ → EntryPlace → Type 0
 IsBehindEntry texts total p d q =
-    (q.text_place ≡ p.text_place + u32_at d 4) × (q.place ≡ end_before (drop 24 d) total) × (q.number ≡ byte_at d 0)
-    × (q.text.now ≡ text_at texts d)
+    (q.text_place ≡ p.text_place + u32_at d text_length_at) × (q.place ≡ end_before (drop entry_size d) total)
+    × (q.number ≡ byte_at d kind_at) × (q.text.now ≡ text_at texts d)

@@ -1,5 +1,6 @@
 //! Checks the directory of a file against the texts and the postings that its entries name.
 ghost use Rattle.std.specs.Prelude.{◌≡◌, ◌↔◌, ◌+◌, ◌-◌, ◌*◌, ◌≤◌, ◌<◌, [], length, MatchOption, IsTrue};
+ghost use Rattle.mail_index.specs.Places.{entry_size};
 ghost use Rattle.mail_index.specs.Versions.{version_number};
 ghost use Rattle.mail_index.specs.Directory.{is_entry as is_entry_of, end_before as end_before_of, AreEntries};
 ghost use Rattle.mail_index.specs.Inside.Walks.{MayStandAt, IsBehindEntry};
@@ -12,7 +13,7 @@ use crate::version::Version;
 /// Whether an entry begins with the number of a kind that the version has, and three zeros.
 #[tactic(auto, unfolding(crate::specs::Directory::is_entry))]
 fn is_entry(entry: &[u8], version: Version) -> bool
-    requires { 24 ≤ length entry.now }
+    requires { entry_size ≤ length entry.now }
     ensures { result ≡ is_entry_of (version_number version) entry.now }
 {
     let number = entry[KIND_AT];
@@ -22,7 +23,7 @@ fn is_entry(entry: &[u8], version: Version) -> bool
 /// Where the postings of the entry before these entries end: where those of the first of these begin, or at the end of
 /// all if there is no entry.
 pub(crate) fn end_before(entries: &[u8], total: u64) -> u64
-    requires { 0 < length entries.now → 24 ≤ length entries.now }
+    requires { 0 < length entries.now → entry_size ≤ length entries.now }
     ensures { result ≡ end_before_of entries.now total }
 {
     if entries.is_empty() {
@@ -51,8 +52,8 @@ fn behind_entry<'a>(
     total: u64,
     version: Version,
 ) -> Option<EntryPlace<'a>>
-    requires long { 24 ≤ length entries.now }
-    requires whole { 24 < length entries.now → 48 ≤ length entries.now }
+    requires long { entry_size ≤ length entries.now }
+    requires whole { entry_size < length entries.now → 2 * entry_size ≤ length entries.now }
     requires bound { place.text_place ≤ length texts.now }
     ensures { MatchOption result
         (¬ MayStandAt (version_number version) texts.entry.now total place.entry entries.now)
@@ -95,7 +96,7 @@ pub(crate) fn are_entries(
     total: u64,
     version: Version,
 ) -> bool
-    requires { length directory.now ≡ 24 * count }
+    requires { length directory.now ≡ entry_size * count }
     ensures { IsTrue result
         ↔ AreEntries (version_number version) texts.now total 0 0 0 [] count directory.now }
 {

@@ -1,5 +1,6 @@
 //! Where the sections of a file are.
 ghost use Rattle.std.specs.Prelude.{◌≡◌, ◌↔◌, ◌+◌, ◌*◌, ◌≤◌, [], length, MatchOption, MatchResult, IsTrue};
+ghost use Rattle.mail_index.specs.Places.{digest_size, least_size, entry_size};
 ghost use Rattle.mail_index.specs.Versions.{version_number};
 ghost use Rattle.sha2.specs.Sha256.{sha256};
 ghost use Rattle.mail_index.specs.Faults.{version_told, HasDigest, IsSigned, IsFirstFault, digest_start};
@@ -61,10 +62,10 @@ impl<'a> Layout<'a> {
 
     /// The sections, or None if their lengths, with those of counts and digest, don't add up to the file's length.
     pub(crate) fn of(bytes: &'a [u8], version: Version) -> Option<Layout<'a>>
-        requires long { 80 ≤ length bytes.now }
+        requires long { least_size ≤ length bytes.now }
         requires version { version_number version ≡ version_told bytes.now }
         ensures { MatchOption result
-            (¬ (digest_start bytes.entry.now + 32 ≡ length bytes.entry.now))
+            (¬ (digest_start bytes.entry.now + digest_size ≡ length bytes.entry.now))
             (λ layout. IsLayout bytes.entry.now layout) }
     {
         let message_count = u32_at(bytes, MESSAGE_COUNT_AT);
@@ -93,7 +94,7 @@ impl<'a> Layout<'a> {
 
     /// Whether the directory consists of entries in order, with texts and postings that fill their sections.
     pub(crate) fn has_entries(&self) -> bool
-        requires { length self.now.directory.now ≡ 24 * self.now.key_count }
+        requires { length self.now.directory.now ≡ entry_size * self.now.key_count }
         ensures { IsTrue result ↔ AreEntries (version_number self.now.version) self.now.texts.now
             (length self.now.postings.now) 0 0 0 [] self.now.key_count self.now.directory.now }
     {
@@ -109,7 +110,7 @@ impl<'a> Layout<'a> {
 
     /// Whether the postings of each entry are one or more numbers of messages.
     pub(crate) fn has_lists(&self) -> bool
-        requires { length self.now.directory.now ≡ 24 * self.now.key_count }
+        requires { length self.now.directory.now ≡ entry_size * self.now.key_count }
         ensures { IsTrue result ↔ AreLists self.now.message_count self.now.postings.now
             self.now.key_count self.now.directory.now }
     {

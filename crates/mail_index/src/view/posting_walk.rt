@@ -1,5 +1,6 @@
 //! The posting lists of a file, as its directory divides their section.
 ghost use Rattle.std.specs.Prelude.{◌≡◌, ◌↔◌, ◌-◌, ◌*◌, length, take, drop, IsTrue};
+ghost use Rattle.mail_index.specs.Places.{entry_size};
 ghost use Rattle.mail_index.specs.Lists.{AreLists};
 
 use crate::fields::u64_at;
@@ -19,7 +20,7 @@ pub(crate) fn part(bytes: &[u8], from: u64, to: u64) -> &[u8]
 
 /// Whether the postings of each of the directory's `count` entries are one or more numbers below `messages`.
 pub(crate) fn are_lists(directory: &[u8], count: u32, postings: &[u8], messages: u32) -> bool
-    requires { length directory.now ≡ 24 * count }
+    requires { length directory.now ≡ entry_size * count }
     ensures { IsTrue result ↔ AreLists messages postings.now count directory.now }
 {
     let mut rest = directory;

@@ -1,6 +1,7 @@
 //! Checks the records of a section against the archives that they name.
 ghost use Rattle.std.specs.Prelude.{◌≡◌, ◌↔◌, ◌-◌, ◌*◌, ◌≤◌, length, MatchOption, IsTrue};
 ghost use Rattle.mail_index.specs.Versions.{version_number};
+ghost use Rattle.mail_index.specs.Places.{record_size};
 ghost use Rattle.mail_index.specs.Records.{SpellsArchives, AreRecords};
 ghost use Rattle.mail_index.specs.Inside.Walks.{MayFollow, IsBehindMessage};
 
@@ -66,7 +67,7 @@ pub(crate) fn are_records(
     count: u32,
     version: Version,
 ) -> bool
-    requires whole { length section.now ≡ 40 * messages }
+    requires whole { length section.now ≡ record_size * messages }
     requires spelled { SpellsArchives (version_number version) count archives.now }
     ensures { IsTrue result
         ↔ AreRecords (version_number version) count 0 0 archives.now messages section.now }

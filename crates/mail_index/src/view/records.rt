@@ -2,6 +2,7 @@
 ghost use Rattle.std.specs.Prelude.{◌≡◌, ◌<◌, ◌*◌, length};
 ghost use Rattle.std.specs.List.{slice_get};
 ghost use Rattle.mail_index.specs.Steps.{add_steps};
+ghost use Rattle.mail_index.specs.Places.{record_size};
 ghost use Rattle.mail_index.specs.Records.{read_records};
 
 use crate::places::RECORD;
@@ -19,19 +20,20 @@ pub struct Records<'a> {
 impl<'a> Model for Records<'a> {
     ghost use Rattle.std.specs.Prelude.{List, length, ◌≡◌, ◌*◌};
     ghost use Rattle.mail_index.specs.declared.record.Record.{Record};
+    ghost use Rattle.mail_index.specs.Places.{record_size};
     ghost use Rattle.mail_index.specs.Records.{read_records};
 
     ghost Value = { List Record };
 
     ghost view = { λ s. read_records s.count s.bytes.now };
 
-    ghost invariant = { λ s. length s.bytes.now ≡ 40 * s.count };
+    ghost invariant = { λ s. length s.bytes.now ≡ record_size * s.count };
 }
 
 impl<'a> Records<'a> {
     /// The records in these bytes, of which there are `count`.
     pub(crate) fn of(bytes: &'a [u8], count: u32) -> Self
-        requires { length bytes.now ≡ 40 * count }
+        requires { length bytes.now ≡ record_size * count }
         ensures { result ≡ read_records count bytes.entry.now }
     {
         Records { bytes, count }
