@@ -342,12 +342,12 @@ def quote_checks():
 
 
 def claim_checks():
-    """The calls, clauses and definitions that the tables of claims name are there."""
+    """The calls, clauses, their parts and the definitions that the tables of claims name are there."""
     files = [*(TOP / "crates").glob("*/src/**/*.rt"), *(TOP / "crates").glob("*/specs/**/*.antt")]
     text = "\n".join(it.read_text(encoding="utf-8") for it in files)
     declared = set(re.findall(r"(?=\b(?:fn|ensures\*?|struct|enum|trait|record|ghost|pub) (\w+))", text)) | {it.name for it in (TOP / "crates").iterdir()}
     cells = re.findall(r"(?m)^\|.*\| ([^|]*) \|$", PROVED.read_text(encoding="utf-8"))
-    named = {part for cell in cells for it in re.findall(r"`([\w:]+)`", cell) for part in it.split("::")}
+    named = {part for cell in cells for it in re.findall(r"`(\w[\w:.]*)(?<!\.)`", cell) for part in re.split(r"::|\.", it)}
     yield "names in PROVED.md", ", ".join(f"nothing is called {it}" for it in sorted(named - declared))
 
 

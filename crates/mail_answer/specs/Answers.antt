@@ -4,10 +4,13 @@ use Rattle.std.specs.Prelude.{Err}
 use Rattle.std.specs.Io.KnownBytes.{Appends, Keeps}
 use Rattle.std.specs.Bool.{MatchBool}
 use Rattle.std.specs.List.{flat_map}
+use Rattle.contract_words.specs.Devices.{Counted}
+use Rattle.mbox_cutter.specs.declared.device.Out.{Ghosts as OutGhosts}
 use Rattle.mail_index.specs.Tables.{Table}
 use Rattle.mail_answer.specs.Shapes.{closed, AreSpansOf}
 use Rattle.mail_answer.specs.Faults.{is_stale, is_of_archives}
 use Rattle.mail_answer.specs.Sheets.{Tells}
+use Rattle.mail_answer.specs.declared.archives.Archives.{Ghosts}
 use Rattle.mail_answer.specs.declared.fault.AnswerFault.{AnswerFault}
 use Rattle.mail_answer.specs.declared.fault.AnswerFaultKind.{AnswerFaultKind}
 use Rattle.mail_answer.specs.declared.fault.AnswerFaultKind.TheVariants.{Stale}
@@ -54,3 +57,9 @@ AnswersStale taken taken' None (Err fault) = is_stale fault.kind ≡ false
 AnswersStale taken taken' (Some n) (Err fault) =
     MatchBool (is_of_archives fault.kind) (fault.sent ≡ 0) (fault ≡ record { kind = Stale n; sent = 0 })
     × Keeps taken taken'
+
+-- Each device's count of failures rises by one if the device failed, and stays if it didn't.
+pub record CountsFailures {A O : Type 0} (g : Ghosts A) (h : OutGhosts O) (archives_failed out_failed : Bool)
+    (old new : A) (before after : O) : Type 0 where
+  pub archives : Counted archives_failed (g.failures old) (g.failures new)
+  pub out : Counted out_failed (h.failures before) (h.failures after)

@@ -106,3 +106,12 @@ pub record SearchesArchives {A : Type 0} (g : Ghosts A) (t : Table) (s : Search)
   pub lengths : AsksFirst g t s old new result
   -- a stale archive is one of them
   pub below : IfErr result (λ fault. IfStale fault.kind (λ n. n < length t.archives))
+
+-- In which order a search reads archives, whether their bytes are known or not.
+pub record ReadsInOrder {A : Type 0} (g : Ghosts A) (t : Table) (s : Search) (old new : A)
+    (result : Result ℕ AnswerFault) : Type 0 where
+  -- if the number of archives isn't the one that was indexed, none is read, and the smaller number is stale
+  pub other_count : g.number old ≢ length t.archives → RefusesCount g t.archives old new result
+  -- If it is, the length of each is read before anything else, once and in order, up to the first that has another
+  -- length, which is stale, or that fails. A raw answer reads nothing more.
+  pub same_count : g.number old ≡ length t.archives → SearchesArchives g t s old new result

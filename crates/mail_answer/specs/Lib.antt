@@ -7,6 +7,7 @@ pub mod CursorAhead
 pub mod Cursors
 pub mod CursorNumbers
 pub mod Archives
+pub mod FailAt
 pub mod Faults
 pub mod Sheets
 pub mod Excerpts

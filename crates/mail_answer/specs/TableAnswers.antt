@@ -1,5 +1,6 @@
 -- The answer of a table to a search, over archives whose bytes may be known.
-use Rattle.std.specs.Prelude.{◌≡◌, ℕ, ⊤, ◌==◌, ◌&&◌, not, Bool, false, List, length, Option, Result, Ok, Err}
+use Rattle.std.specs.Prelude.{◌≡◌, ℕ, ⊤, ◌==◌, ◌&&◌, not, Bool, false, List, length, Option, Result, Ok, Err, IfErr}
+use Rattle.std.specs.Bool.{OnTrue}
 use Rattle.mail_index.specs.Tables.{Table}
 use Rattle.mail_query.specs.declared.query.Query as program
 use Rattle.mail_query.specs.Meaning.{meaning}
@@ -7,6 +8,7 @@ use Rattle.mail_answer.specs.declared.fault.AnswerFault.{AnswerFault}
 use Rattle.mail_answer.specs.declared.fault.AnswerFaultKind.{AnswerFaultKind}
 use Rattle.mail_answer.specs.declared.fault.AnswerFaultKind.TheVariants.{Stale, Device, OutOfMemory, OutFailed}
 use Rattle.mail_answer.specs.declared.format.Format.{Format}
+use Rattle.mail_answer.specs.declared.format.Format.TheVariants.{Raw}
 use Rattle.mail_answer.specs.Answers.{SendsAnswer}
 use Rattle.mail_answer.specs.Faults.{is_of_output}
 use Rattle.mail_answer.specs.Mail.{Mail, Search, AreChosen}
@@ -53,3 +55,10 @@ IsBeforeText (Stale n) sent = sent ≡ 0
 IsBeforeText Device sent = sent ≡ 0
 IsBeforeText OutOfMemory sent = ⊤
 IsBeforeText OutFailed sent = ⊤
+
+-- When the output is as it was.
+pub record LeavesOutput {O : Type 0} (s : Search) (old new : O) (result : Result ℕ AnswerFault) : Type 0 where
+  -- a raw answer that fails because of an archive had sent no byte
+  pub raw : s.format ≡ Raw → IfErr result (λ fault. IsBeforeText fault.kind fault.sent)
+  -- if the output didn't fail, and no byte was sent, it is as it was
+  pub unwritten : OnTrue (is_unwritten result) (new ≡ old)

@@ -2,15 +2,13 @@
 //!
 //! Changed archives are looked for before any memory is taken, because lack of memory would hide them (decision 76 in
 //! docs/DECISIONS.md).
-ghost use Rattle.std.specs.Prelude.{◌≡◌, ◌≢◌, ◌<◌, ◌-◌, ◌^◌, ℕ, List, length, IfErr, IfSome};
-ghost use Rattle.std.specs.Bool.{OnTrue};
-ghost use Rattle.contract_words.specs.Devices.{Counted};
-ghost use Rattle.mail_answer.specs.Asked.{HoldsArchives, RefusesCount, SearchesArchives};
-ghost use Rattle.mail_answer.specs.Answers.{SendsSpans, AnswersStale, fails_by};
+ghost use Rattle.std.specs.Prelude.{◌≡◌, ◌<◌, ◌-◌, ◌^◌, ℕ, List, IfSome};
+ghost use Rattle.mail_answer.specs.Asked.{HoldsArchives, ReadsInOrder};
+ghost use Rattle.mail_answer.specs.Answers.{AnswersStale, CountsFailures, SendsSpans, fails_by};
 ghost use Rattle.mail_answer.specs.Faults.{is_of_output, is_of_archives};
 ghost use Rattle.mail_answer.specs.Mail.{AreChosen};
 ghost use Rattle.mail_answer.specs.Stale.{stale_archive};
-ghost use Rattle.mail_answer.specs.TableAnswers.{TableAnswer, IsTableAnswer, Answers, IsBeforeText, mail_told, search_of, is_unwritten};
+ghost use Rattle.mail_answer.specs.TableAnswers.{Answers, IsTableAnswer, LeavesOutput, TableAnswer, mail_told, search_of};
 
 use crate::archives::Archives;
 use crate::archives::stale::check_archives;
@@ -43,7 +41,6 @@ pub fn answer<A: Archives, O: Out>(
 ) -> Result<u64, AnswerFault>
     requires archives { A.failures archives.old < 2 ^ 64 - 1 }
     requires out { O.failures out.old < 2 ^ 64 - 1 }
-    ensures keeps { HoldsArchives A.Archives archives.old archives.new }
     // What the table answers is written, or a front of it: with its number of messages, whatever the archives hold, and
     // with its text if their bytes are still known at the end or aren't needed.
     ensures answered { (a : TableAnswer)
@@ -59,25 +56,17 @@ pub fn answer<A: Archives, O: Out>(
     ensures stale { IfSome (A.held archives.new) (λ bytes.
         AnswersStale (O.taken out.old) (O.taken out.new)
         (stale_archive index.now.archives bytes) result) }
-    // If there are more or fewer archives than were indexed, the first one too many or missing is stale, and no archive
-    // is read.
-    ensures other_count { A.number archives.old ≢ length index.now.archives
-        → RefusesCount A.Archives index.now.archives archives.old archives.new result }
-    // If there are as many archives as were indexed, the length of each is read before anything else, once and in
-    // order, up to the first that has another length (Stale) or that fails (Device). A raw answer reads nothing more of
-    // the archives.
-    ensures asked { A.number archives.old ≡ length index.now.archives
-        → SearchesArchives A.Archives index.now (search_of query.now threads format)
-        archives.old archives.new result }
-    // Each device's count of failures rises by one exactly if its failure is returned.
-    ensures out_count { Counted (fails_by is_of_output result)
-        (O.failures out.old) (O.failures out.new) }
-    ensures archives_count { Counted (fails_by is_of_archives result)
-        (A.failures archives.old) (A.failures archives.new) }
     // If no byte was written and the output didn't fail, it is unchanged; so it is if a raw answer fails because of an
     // archive.
-    ensures raw { format ≡ Format.Raw → IfErr result (λ fault. IsBeforeText fault.kind fault.sent) }
-    ensures unwritten { OnTrue (is_unwritten result) (out.new ≡ out.old) }
+    ensures unsent { LeavesOutput (search_of query.now threads format) out.old out.new result }
+    // If the number of archives isn't the one that was indexed, none is read. If it is, the length of each is read
+    // before anything else, once and in order. A raw answer reads nothing more of the archives.
+    ensures order { ReadsInOrder A.Archives index.now (search_of query.now threads format)
+        archives.old archives.new result }
+    // Each device's count of failures rises by one exactly if its failure is returned.
+    ensures counts { CountsFailures A.Archives O.Out (fails_by is_of_archives result)
+        (fails_by is_of_output result) archives.old archives.new out.old out.new }
+    ensures keeps { HoldsArchives A.Archives archives.old archives.new }
 {
     // Lack of memory would hide changed archives if the query came first.
     if let Err(kind) = check_archives(index, archives) {

@@ -50,12 +50,12 @@ pub trait Archives {
     fn length(&mut self, n: u32) -> Result<u64, DeviceFault>
         requires below { n < number self.old }
         requires count { failures self.old < 2 ^ 64 - 1 }
-        ensures held { WasKnown (held self.old) (held self.new) }
-        ensures whole { (archives : List (List ℕ)) → whole self.old archives → whole self.new archives }
-        ensures number { number self.new ≡ number self.old }
         ensures bytes { IfOk result (λ bytes. IsLength n bytes (held self.new)) }
         ensures measured { measures self.old n result self.new }
-        ensures count { Counts result (failures self.old) (failures self.new) };
+        ensures count { Counts result (failures self.old) (failures self.new) }
+        ensures held { WasKnown (held self.old) (held self.new) }
+        ensures whole { (archives : List (List ℕ)) → whole self.old archives → whole self.new archives }
+        ensures number { number self.new ≡ number self.old };
 
     /// Reads the archive with this number from an offset on, and returns the number of bytes read. Into a slice that
     /// isn't empty it reads at least one byte; none only at the archive's end or after it.
@@ -63,13 +63,13 @@ pub trait Archives {
         requires below { n < number self.old }
         requires room { 0 < length into.old }
         requires count { failures self.old < 2 ^ 64 - 1 }
-        ensures held { WasKnown (held self.old) (held self.new) }
-        ensures whole { (archives : List (List ℕ)) → whole self.old archives → whole self.new archives }
-        ensures number { number self.new ≡ number self.old }
         ensures bound { IfOk result (λ bytes. bytes ≤ length into.new) }
         ensures bytes { IfOk result (λ bytes. IsRead n offset (take bytes into.new)
             (held self.new)) }
-        ensures asked { lengths_asked self.new ≡ lengths_asked self.old }
         ensures read { reads self.old n offset (bytes_told result into.new) self.new }
-        ensures count { Counts result (failures self.old) (failures self.new) };
+        ensures asked { lengths_asked self.new ≡ lengths_asked self.old }
+        ensures count { Counts result (failures self.old) (failures self.new) }
+        ensures held { WasKnown (held self.old) (held self.new) }
+        ensures whole { (archives : List (List ℕ)) → whole self.old archives → whole self.new archives }
+        ensures number { number self.new ≡ number self.old };
 }

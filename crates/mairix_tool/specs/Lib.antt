@@ -11,5 +11,7 @@ pub mod WorkedReplies
 pub mod Searching
 pub mod OldTables
 pub mod Altered
+pub mod OnceRuns
+pub mod StoredRuns
 pub mod Inside
 pub mod CutAgain

@@ -2,15 +2,19 @@
 use Rattle.std.specs.Prelude.{◌≡◌, ⊤, ℕ, List, [], take, false, nat_eq, if◌then◌else◌, Option, None, Some, Result, Ok}
 use Rattle.std.specs.Prelude.{Err}
 use Rattle.std.specs.Bool.{MatchBool, OnTrue}
+use Rattle.mail_answer.specs.Answers.{CountsFailures}
 use Rattle.mail_answer.specs.Mail.{Search}
+use Rattle.mail_answer.specs.declared.archives.Archives.{Ghosts}
 use Rattle.mail_answer.specs.declared.format.Format.TheVariants.{Raw}
+use Rattle.mbox_cutter.specs.declared.device.Out.{Ghosts as OutGhosts}
 use Rattle.run_faults.specs.declared.fault.Fault.{Fault}
 use Rattle.run_faults.specs.declared.fault.Fault.TheVariants.{Archive}
 use Rattle.mairix_tool.specs.declared.reply.Reply.{Reply}
 use Rattle.index_job.specs.ArchiveRefusals.{AreSound}
 use Rattle.index_run.specs.ArchivesIndexed.{mboxes}
 use Rattle.mairix_tool.specs.Asked.{Wanted}
-use Rattle.run_faults.specs.Faults.{status_of_fault, is_changed_or_unread, is_early, is_memory}
+use Rattle.run_faults.specs.Faults.{status_of_fault, is_changed_or_unread, is_early, is_failed_archives, is_failed_out}
+use Rattle.run_faults.specs.Faults.{is_memory}
 
 -- ---- the answer
 
@@ -53,3 +57,8 @@ AreSoundBefore _ archives _ = ⊤
 -- If a raw answer finds the archives changed or can't read them, nothing was sent.
 abbrev pub KeepsRawBack : {O : Type 0} → Search → Option Fault → O → O → Type 0
 KeepsRawBack s fault old new = s.format ≡ Raw → OnTrue (is_changed_or_unread fault) (new ≡ old)
+
+-- The count of failures of the archives rises by one exactly if their failure is the fault, and so does the output's.
+abbrev pub CountsFault : {A O : Type 0} → Ghosts A → OutGhosts O → Option Fault → A → A → O → O → Type 0
+CountsFault g h fault old new before after =
+    CountsFailures g h (is_failed_archives fault) (is_failed_out fault) old new before after

@@ -2,16 +2,16 @@
 -- and what is sent.
 use Rattle.std.specs.Prelude.{◌≡◌, ◌≢◌, ◌⊎◌, ℕ, Bool, List, length, Option, None, IfSome, Result, Ok, Err, is_err}
 use Rattle.std.specs.Prelude.{false}
-use Rattle.std.specs.Bool.{MatchBool, OnTrue}
+use Rattle.std.specs.Bool.{MatchBool}
 use Rattle.contract_words.specs.Answers.{fault_as}
 use Rattle.contract_words.specs.Knowledge.{AreStillKnown}
 use Rattle.index_job.specs.ArchiveTables.{table}
 use Rattle.index_run.specs.ArchivesIndexed.{mboxes}
 use Rattle.mail_answer.specs.Answers.{AnswersStale, SendsSpans, kind_of}
-use Rattle.mail_answer.specs.Asked.{HoldsArchives, RefusesCount, SearchesArchives}
+use Rattle.mail_answer.specs.Asked.{HoldsArchives, ReadsInOrder, RefusesCount}
 use Rattle.mail_answer.specs.Mail.{Search, AreChosen}
 use Rattle.mail_answer.specs.Stale.{stale_archive}
-use Rattle.mail_answer.specs.TableAnswers.{Answers, IsTableAnswer, TableAnswer, is_unwritten, mail_told}
+use Rattle.mail_answer.specs.TableAnswers.{Answers, IsTableAnswer, LeavesOutput, TableAnswer, mail_told}
 use Rattle.mail_answer.specs.Verified.{TellsVerified, VerifiesArchives}
 use Rattle.mail_answer.specs.declared.archives.Archives.{Ghosts}
 use Rattle.mail_answer.specs.declared.fault.AnswerFault.{AnswerFault}
@@ -35,12 +35,6 @@ pub record Searches {A O : Type 0} (g : Ghosts A) (h : OutGhosts O) (t : Table) 
     (before after : O) (reply : Reply) : Type 0 where
   pub found : Result ℕ AnswerFault
   pub replied : reply ≡ reply_of (run_of_answer found)
-  pub keeps : HoldsArchives g old new
-  -- if the number of archives isn't the one that was indexed, none is read, and the smaller number is stale
-  pub other_count : g.number old ≢ length t.archives → RefusesCount g t.archives old new found
-  -- If it is, the length of each is read before anything else, once and in order, up to the first that has another
-  -- length, which is stale, or that fails. A raw answer reads nothing more.
-  pub asked : g.number old ≡ length t.archives → SearchesArchives g t s old new found
   -- the number of the messages that the table chooses, and their text; with a fault, a front of that text
   pub answered : (a : TableAnswer) → IsTableAnswer t s (g.held new) a → Answers (h.taken before) (h.taken after) a found
   -- an mbox answer has, for each message, as many bytes as were indexed, closed; with a fault, a front of that
@@ -49,8 +43,9 @@ pub record Searches {A O : Type 0} (g : Ghosts A) (h : OutGhosts O) (t : Table) 
   -- archives whose known bytes have another number or length are stale, before anything is written
   pub stale : IfSome (g.held new) (λ bytes. AnswersStale (h.taken before) (h.taken after)
       (stale_archive t.archives bytes) found)
-  -- if an archive is faulty or memory ran out, and no byte was sent, the output is as it was
-  pub unwritten : OnTrue (is_unwritten found) (after ≡ before)
+  pub unsent : LeavesOutput s before after found
+  pub order : ReadsInOrder g t s old new found
+  pub keeps : HoldsArchives g old new
 
 -- ---- by a stored index
 

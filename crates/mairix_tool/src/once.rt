@@ -1,8 +1,7 @@
 //! A run over archives that it indexes itself.
-ghost use Rattle.std.specs.Prelude.{◌≡◌, ◌<◌, ◌^◌, ◌-◌, ◌||◌, ℕ, List, false, Some, Ok, is_err, length, map, All, IfOk, IfErr};
+ghost use Rattle.std.specs.Prelude.{◌≡◌, ◌<◌, ◌^◌, ◌-◌, ℕ, List, false, Some, Ok, length, map, All, IfOk, IfErr};
 ghost use Rattle.std.specs.Bool.{OnTrue};
 ghost use Rattle.std.specs.String.{string_bytes};
-ghost use Rattle.contract_words.specs.Devices.{Counted};
 ghost use Rattle.contract_words.specs.Knowledge.{AreStillKnown};
 ghost use Rattle.mail_answer.specs.Asked.{HoldsArchives};
 ghost use Rattle.mail_index.specs.Tables.{IsPath};
@@ -11,8 +10,9 @@ ghost use Rattle.index_job.specs.ArchiveTables.{table};
 ghost use Rattle.index_run.specs.ArchivesIndexed.{mboxes};
 ghost use Rattle.index_run.specs.Counts.{CountsSources};
 ghost use Rattle.index_run.specs.SourcesStay.{SourcesStay};
-ghost use Rattle.run_faults.specs.Faults.{fault_in, is_failed_out, is_failed_archives, is_early, is_of_indexing, IsOnceFault};
-ghost use Rattle.mairix_tool.specs.Replies.{RefusesAsked, AreSoundBefore, IsConsistent, KeepsRawBack};
+ghost use Rattle.run_faults.specs.Faults.{fault_in, is_early, is_of_indexing, IsOnceFault};
+ghost use Rattle.mairix_tool.specs.OnceRuns.{CountsOnce, FailsOnce, KeepsOnce, LeavesUnused};
+ghost use Rattle.mairix_tool.specs.Replies.{AreSoundBefore, CountsFault, KeepsRawBack};
 ghost use Rattle.mairix_tool.specs.Searching.{IndexesAndSearches};
 ghost use Rattle.mairix_tool.specs.Runs.{IsCountedWhere, IsReply, IsOnceReply, RepliesBy, reply_of};
 
@@ -70,17 +70,17 @@ pub fn once_run<S: Source, A: Archives, O: Out>(
         → RepliesBy (IsOnceReply (asks words.now rc.now now) bytes held) result
         (O.taken out.old) (O.taken out.new) }
 
-    // If the fault is one of an archive, no archive before it has one.
-    ensures first { (bytes : List (List ℕ))
-        → AreStillKnown (map S.rest sources.old) (map S.rest sources.new) bytes
-        → AreSoundBefore (asks words.now rc.now now) bytes result.fault }
-
     // Whatever bytes the archives have: the number of messages is that of the messages that the table of the indexed
     // bytes chooses.
     ensures counted { (w : Asked) (bytes : List (List ℕ)) → asks words.now rc.now now ≡ Ok w
         → AreStillKnown (map S.rest sources.old) (map S.rest sources.new) bytes
         → IsCountedWhere (table (mboxes w.paths bytes)) w.search (A.held archives.new)
         result.fault result (O.taken out.old) (O.taken out.new) }
+
+    // No device is used if words, rcfile or query are refused. If the archives aren't indexed, nothing is searched, and
+    // nothing is sent. Nor is it if a raw answer finds them changed or can't read them.
+    ensures unsent { LeavesUnused (asks words.now rc.now now) result.fault
+        sources.old sources.new archives.old archives.new out.old out.new }
 
     // Whatever bytes sources and archives have: after the sources are indexed, the archives' lengths are read, before
     // anything else, and a raw answer reads nothing more. The reply is what that finds. An mbox answer has the bytes of
@@ -89,38 +89,19 @@ pub fn once_run<S: Source, A: Archives, O: Out>(
         → IndexesAndSearches A.Archives O.Out w (map S.rest sources.old)
         (map S.rest sources.new) archives.old archives.new out.old out.new result }
 
-    // What is known of the archives' bytes at the end was known before. Their number is the same, and so are the bytes
-    // of which they keep account.
-    ensures held { HoldsArchives A.Archives archives.old archives.new }
-
-    // Each source is still what it was. All of them are read to their ends if no archive is at fault, and those before
-    // it if one is; those after it aren't read.
-    ensures stays { SourcesStay S.Source result.fault sources.old sources.new }
-
-    // No device is used if words, rcfile or query are refused, or if memory ran out before that was found.
-    ensures refused { OnTrue (is_early result.fault || is_err (asks words.now rc.now now))
-        ((sources.new ≡ sources.old) × (archives.new ≡ archives.old) × (out.new ≡ out.old)) }
-
-    // If the archives aren't indexed, nothing is searched, and nothing was sent. Nor was it if a raw answer finds them
-    // changed or can't read them.
-    ensures silent { OnTrue (is_of_indexing result.fault)
-        ((archives.new ≡ archives.old) × (out.new ≡ out.old)) }
-    ensures raw { IfOk (asks words.now rc.now now)
-        (λ w. KeepsRawBack w.search result.fault out.old out.new) }
-
-    // A refusal of words, rcfile or query is the result whatever the devices do, unless memory runs out. Each fault is
-    // one that such a run can have, and has its status and no messages. Without a fault the status is 0 with messages
-    // and 1 without.
-    ensures no_other_cause { RefusesAsked (asks words.now rc.now now) result.fault }
-    ensures status { IsConsistent IsOnceFault result result.fault }
+    // A refusal of words, rcfile or query is the result whatever the devices do, unless memory runs out. If the fault is
+    // one of an archive, no archive before it has one. Each fault is one that such a run can have, and has its status and
+    // no messages.
+    ensures cause { FailsOnce (asks words.now rc.now now) (map S.rest sources.old)
+        (map S.rest sources.new) result }
 
     // Each device's count rises by one exactly if the device's failure is the result.
-    ensures source_failed { CountsSources result.fault
-        (map S.failures sources.old) (map S.failures sources.new) }
-    ensures archives_failed { Counted (is_failed_archives result.fault)
-        (A.failures archives.old) (A.failures archives.new) }
-    ensures out_failed { Counted (is_failed_out result.fault)
-        (O.failures out.old) (O.failures out.new) }
+    ensures counts { CountsOnce S.Source A.Archives O.Out result.fault
+        sources.old sources.new archives.old archives.new out.old out.new }
+
+    // Each source is still what it was. What is known of the archives' bytes at the end was known before.
+    ensures keeps { KeepsOnce S.Source A.Archives result.fault
+        sources.old sources.new archives.old archives.new }
 {
     match Wanted::of(alloc, words, rc, now) {
         Ok(wanted) => Reply::of(answer_indexed(alloc, &wanted, sources, archives, out)),
@@ -157,7 +138,7 @@ fn answer_indexed<S: Source, A: Archives, O: Out>(
     ensures first { (bytes : List (List ℕ))
         → AreStillKnown (map S.rest sources.old) (map S.rest sources.new) bytes
         → AreSoundBefore (Ok (wanted_of wanted.now)) bytes (fault_in result) }
-    ensures held { HoldsArchives A.Archives archives.old archives.new }
+    ensures keeps { HoldsArchives A.Archives archives.old archives.new }
     ensures stays { SourcesStay S.Source (fault_in result) sources.old sources.new }
     ensures early { is_early (fault_in result) ≡ false }
     ensures silent { OnTrue (is_of_indexing (fault_in result))
@@ -166,10 +147,8 @@ fn answer_indexed<S: Source, A: Archives, O: Out>(
     ensures own { IfErr result IsOnceFault }
     ensures source_failed { CountsSources (fault_in result)
         (map S.failures sources.old) (map S.failures sources.new) }
-    ensures archives_failed { Counted (is_failed_archives (fault_in result))
-        (A.failures archives.old) (A.failures archives.new) }
-    ensures out_failed { Counted (is_failed_out (fault_in result))
-        (O.failures out.old) (O.failures out.new) }
+    ensures counts { CountsFault A.Archives O.Out (fault_in result)
+        archives.old archives.new out.old out.new }
 {
     let file = file_of_archives(alloc, wanted.paths.as_slice(), sources)?;
     let index = IndexView::of_file(file.bytes());

@@ -1,23 +1,18 @@
 //! A run over a stored index.
-ghost use Rattle.std.specs.Prelude.{◌≡◌, ◌<◌, ◌^◌, ◌-◌, ◌++◌, ℕ, List, true, false, Some, None, Ok, All, length, map, IfOk, IfErr, IfSome};
+ghost use Rattle.std.specs.Prelude.{◌≡◌, ◌<◌, ◌^◌, ◌-◌, ℕ, List, true, false, Some, None, Ok, map, IfOk, IfErr, IfSome};
 ghost use Rattle.std.specs.String.{string_bytes};
 ghost use Rattle.contract_words.specs.Devices.{Counted};
 ghost use Rattle.mail_answer.specs.Asked.{HoldsArchives};
 ghost use Rattle.mail_index.specs.Faults.{IsFileOf};
-ghost use Rattle.mail_index.specs.Files.{index_file};
-ghost use Rattle.mail_index.specs.Tables.{IsPath, Table};
+ghost use Rattle.mail_index.specs.Tables.{Table};
 ghost use Rattle.mail_index.specs.Versions.{newest};
-ghost use Rattle.index_job.specs.ArchiveRefusals.{AreSound};
-ghost use Rattle.index_job.specs.ArchiveTables.{Mbox, table};
-ghost use Rattle.mairix_tool.specs.Altered.{AreToldApart, altered_archive};
-ghost use Rattle.index_run.specs.ArchivesIndexed.{mboxes};
 ghost use Rattle.mairix_tool.specs.Asked.{asks, Wanted as Asked, wanted as wanted_of};
-ghost use Rattle.mairix_tool.specs.OldTables.{ServesFor};
 ghost use Rattle.mairix_tool.specs.Inside.Answering.{AsksIndex};
-ghost use Rattle.run_faults.specs.Faults.{fault_in, refusal_of, is_failed_out, is_failed_archives, IsOfAnswer, IsSearchFault};
-ghost use Rattle.mairix_tool.specs.Replies.{IsConsistent, KeepsRawBack};
+ghost use Rattle.run_faults.specs.Faults.{fault_in, is_failed_out, is_failed_archives, IsOfAnswer, IsSearchFault};
+ghost use Rattle.mairix_tool.specs.Replies.{CountsFault, KeepsRawBack};
 ghost use Rattle.mairix_tool.specs.Searching.{SearchesFor, SearchesStored, VerifiesWhere};
-ghost use Rattle.mairix_tool.specs.Runs.{IsReply, IsStoredReply, IsProvedAndTold, IsStaleOr, TellsProved, unproved_archive, RepliesBy, reply_of, IsRefusedAs, IsIndexRefusal, IsForNoOtherCause, IsThisOrMemory, IsCountedWhere, WereVerified, is_too_old, renamed_archive};
+ghost use Rattle.mairix_tool.specs.StoredRuns.{CountsVerified, FailsStored, LeavesUnread, RepliesByMessages};
+ghost use Rattle.mairix_tool.specs.Runs.{IsForNoOtherCause, IsIndexRefusal, IsProvedAndTold, IsStoredReply, RepliesBy, TellsProved, WereVerified, is_too_old, renamed_archive, reply_of, unproved_archive};
 
 use crate::reply::Reply;
 use crate::view_answer::{answer_view, fault_of_answer};
@@ -64,30 +59,23 @@ pub fn search_run<A: Archives, O: Out>(
         → RepliesBy (IsStoredReply (asks words.now rc.now now) index.now held) result
         (O.taken out.old) (O.taken out.new) }
 
-    // If the archives are sound, under the rcfile's paths, and the index is theirs, or says the same of them: the reply
-    // is that of their own messages.
-    ensures indexed { (w : Asked) (bytes : List (List ℕ)) → asks words.now rc.now now ≡ Ok w
-        → length w.paths ≡ length bytes → AreSound (mboxes w.paths bytes)
-        → ServesFor w (table (mboxes w.paths bytes)) index.now → A.held archives.new ≡ Some bytes
-        → RepliesBy (IsReply (Ok w) bytes) result (O.taken out.old) (O.taken out.new) }
-
-    // With `--verify`, if the index is that of any sound archives, and SHA-256 distinguishes these from those that
-    // there are now: the answer is by the archives' own messages, unless one of them is reported as altered.
-    ensures verified { (w : Asked) (before : List Mbox) (bytes : List (List ℕ))
-        → asks words.now rc.now now ≡ Ok w → w.verify ≡ true
-        → All (λ a. IsPath a.path) before → AreSound before → index.now ≡ index_file (table before)
-        → A.held archives.new ≡ Some bytes → AreToldApart (map (λ a. a.bytes) before ++ bytes)
-        → RepliesBy (IsStaleOr (altered_archive before w.paths bytes) (IsReply (Ok w) bytes)) result
+    // The reply is by the archives' own messages if the archives are sound, under the rcfile's paths, and the index is
+    // theirs, or says the same of them. With `--verify` it is so for the index of any sound archives, unless one of
+    // those that there are now is reported as altered.
+    ensures by_messages { (bytes : List (List ℕ)) → A.held archives.new ≡ Some bytes
+        → RepliesByMessages (asks words.now rc.now now) index.now bytes result
         (O.taken out.old) (O.taken out.new) }
 
     // Whatever bytes the archives have: an answer has the number of messages that the table chooses. With `--verify`
     // there is one only if the bytes that were read had the lengths and the SHA-256 that were indexed.
     ensures counted { (w : Asked) (t : Table) → asks words.now rc.now now ≡ Ok w
         → IsFileOf index.now t
-        → IsCountedWhere t w.search (A.held archives.new) result.fault result
-        (O.taken out.old) (O.taken out.new) }
-    ensures read { (w : Asked) (t : Table) → asks words.now rc.now now ≡ Ok w
-        → IsFileOf index.now t → WereVerified t.archives w.verify result.fault }
+        → CountsVerified t w (A.held archives.new) result (O.taken out.old) (O.taken out.new) }
+
+    // If words, rcfile, query, index, its version or its paths are refused, no archive is read, and nothing is sent. Nor
+    // is it if a raw answer finds the archives changed or can't read them.
+    ensures unsent { LeavesUnread (asks words.now rc.now now) index.now result.fault
+        archives.old archives.new out.old out.new }
 
     // Whatever bytes the archives have: with `--verify` they are verified first. Then their lengths are read before
     // anything else, and a raw answer reads nothing more. The reply is what that finds. An mbox answer has the bytes of
@@ -96,30 +84,17 @@ pub fn search_run<A: Archives, O: Out>(
         → IsFileOf index.now t
         → SearchesStored A.Archives O.Out w t archives.old archives.new out.old out.new result }
 
-    // What is known of the archives' bytes at the end was known before. Their number is the same, and so are the bytes
-    // of which they keep account.
-    ensures held { HoldsArchives A.Archives archives.old archives.new }
-
-    // Whatever bytes the archives have: if words, rcfile, query, index, its version or its paths are refused, the fault
-    // is that refusal, unless memory runs out; and no archive is read. Nor was anything sent if a raw answer finds the
-    // archives changed or can't read them.
-    ensures refused { (fault : Fault) → IsRefusedAs (asks words.now rc.now now) index.now fault
-        → IsThisOrMemory fault result.fault × (archives.new ≡ archives.old) × (out.new ≡ out.old) }
-    ensures raw { IfOk (asks words.now rc.now now)
-        (λ w. KeepsRawBack w.search result.fault out.old out.new) }
-
     // A fault of words, rcfile, query, index or its version comes only if that is refused with it. Each fault is one
-    // that a search can have, and has its status and no messages. Without a fault the status is 0 with messages and 1
-    // without.
-    ensures no_other_cause { IfSome result.fault
-        (IsForNoOtherCause (asks words.now rc.now now) index.now) }
-    ensures status { IsConsistent IsSearchFault result result.fault }
+    // that a search can have, and has its status and no messages.
+    ensures cause { FailsStored (asks words.now rc.now now) index.now result }
 
     // Each device's count rises by one exactly if the device's failure is the result.
-    ensures archives_failed { Counted (is_failed_archives result.fault)
-        (A.failures archives.old) (A.failures archives.new) }
-    ensures out_failed { Counted (is_failed_out result.fault)
-        (O.failures out.old) (O.failures out.new) }
+    ensures counts { CountsFault A.Archives O.Out result.fault
+        archives.old archives.new out.old out.new }
+
+    // What is known of the archives' bytes at the end was known before. Their number is the same, and so are the bytes
+    // of which they keep account.
+    ensures keeps { HoldsArchives A.Archives archives.old archives.new }
 {
     match Wanted::of(alloc, words, rc, now) {
         Ok(wanted) => Reply::of(answer_stored(alloc, index, &wanted, archives, out)),
@@ -137,28 +112,24 @@ fn answer_stored<A: Archives, O: Out>(
 ) -> Result<u64, Fault>
     requires archives { A.failures archives.old < 2 ^ 64 - 1 }
     requires out { O.failures out.old < 2 ^ 64 - 1 }
-    ensures held { HoldsArchives A.Archives archives.old archives.new }
     ensures told { (held : List (List ℕ)) → A.held archives.new ≡ Some held
         → RepliesBy (IsStoredReply (Ok (wanted_of wanted.now)) index.now held) (reply_of result)
         (O.taken out.old) (O.taken out.new) }
     ensures counted { (t : Table) → IsFileOf index.now t
-        → IsCountedWhere t (wanted_of wanted.now).search (A.held archives.new)
-        (reply_of result).fault (reply_of result) (O.taken out.old) (O.taken out.new) }
-    ensures read { (t : Table) → IsFileOf index.now t
-        → WereVerified t.archives wanted.now.verify (reply_of result).fault }
-    ensures searched { (t : Table) → IsFileOf index.now t
-        → SearchesStored A.Archives O.Out (wanted_of wanted.now) t
-        archives.old archives.new out.old out.new (reply_of result) }
+        → CountsVerified t (wanted_of wanted.now) (A.held archives.new) (reply_of result)
+        (O.taken out.old) (O.taken out.new) }
     ensures refused { (fault : Fault) → IsIndexRefusal (wanted_of wanted.now) index.now fault
         → (fault_in result ≡ Some fault) × (archives.new ≡ archives.old) × (out.new ≡ out.old) }
     ensures raw { KeepsRawBack (wanted_of wanted.now).search (fault_in result) out.old out.new }
+    ensures searched { (t : Table) → IsFileOf index.now t
+        → SearchesStored A.Archives O.Out (wanted_of wanted.now) t
+        archives.old archives.new out.old out.new (reply_of result) }
     ensures no_other_cause { IfSome (reply_of result).fault
         (IsForNoOtherCause (Ok (wanted_of wanted.now)) index.now) }
     ensures own { IfErr result IsSearchFault }
-    ensures archives_failed { Counted (is_failed_archives (fault_in result))
-        (A.failures archives.old) (A.failures archives.new) }
-    ensures out_failed { Counted (is_failed_out (fault_in result))
-        (O.failures out.old) (O.failures out.new) }
+    ensures counts { CountsFault A.Archives O.Out (fault_in result)
+        archives.old archives.new out.old out.new }
+    ensures keeps { HoldsArchives A.Archives archives.old archives.new }
 {
     let view = open_for(index, wanted)?;
     answer_opened(alloc, &view, wanted, archives, out)
@@ -175,18 +146,16 @@ fn answer_opened<A: Archives, O: Out>(
     requires digests { wanted.now.verify ≡ true → view.now.version ≡ newest }
     requires archives { A.failures archives.old < 2 ^ 64 - 1 }
     requires out { O.failures out.old < 2 ^ 64 - 1 }
-    ensures held { HoldsArchives A.Archives archives.old archives.new }
     ensures told { (held : List (List ℕ)) → A.held archives.new ≡ Some held
         → RepliesBy (IsProvedAndTold (wanted_of wanted.now) view.now held)
         (reply_of result) (O.taken out.old) (O.taken out.new) }
-    ensures counted { IsCountedWhere view.now (wanted_of wanted.now).search
-        (A.held archives.new) (reply_of result).fault (reply_of result)
-        (O.taken out.old) (O.taken out.new) }
-    ensures read { WereVerified view.now.archives wanted.now.verify (reply_of result).fault }
-    ensures asks { AsksIndex A.Archives O.Out (wanted_of wanted.now).search
-        archives.old archives.new out.old out.new result }
+    ensures counted { CountsVerified view.now (wanted_of wanted.now) (A.held archives.new)
+        (reply_of result) (O.taken out.old) (O.taken out.new) }
     ensures searched { SearchesFor A.Archives O.Out (wanted_of wanted.now) view.now
         archives.old archives.new out.old out.new (reply_of result) }
+    ensures asks { AsksIndex A.Archives O.Out (wanted_of wanted.now).search
+        archives.old archives.new out.old out.new result }
+    ensures keeps { HoldsArchives A.Archives archives.old archives.new }
 {
     prove_archives(alloc, view, wanted, archives)?;
     answer_view(alloc, view, wanted, archives, out)
@@ -201,7 +170,7 @@ fn prove_archives<A: Archives>(
 ) -> Result<(), Fault>
     requires digests { wanted.now.verify ≡ true → view.now.version ≡ newest }
     requires archives { A.failures archives.old < 2 ^ 64 - 1 }
-    ensures held { HoldsArchives A.Archives archives.old archives.new }
+    ensures keeps { HoldsArchives A.Archives archives.old archives.new }
     ensures proved { IfSome (A.held archives.new) (λ held. TellsProved
         (unproved_archive wanted.now.verify view.now.archives held) result) }
     ensures read { WereVerified view.now.archives wanted.now.verify (fault_in result) }

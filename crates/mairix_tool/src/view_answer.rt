@@ -23,7 +23,7 @@ pub(crate) fn answer_view<A: Archives, O: Out>(
 ) -> Result<u64, Fault>
     requires archives { A.failures archives.old < 2 ^ 64 - 1 }
     requires out { O.failures out.old < 2 ^ 64 - 1 }
-    ensures held { HoldsArchives A.Archives archives.old archives.new }
+    ensures keeps { HoldsArchives A.Archives archives.old archives.new }
     ensures told { (held : List (List ℕ)) → A.held archives.new ≡ Some held
         → RepliesBy (IsTold index.now (wanted_of wanted.now).search held)
         (reply_of result) (O.taken out.old) (O.taken out.new) }

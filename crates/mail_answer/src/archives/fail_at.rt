@@ -1,9 +1,10 @@
 //! Archives that fail once, for tests.
-ghost use Rattle.std.specs.Prelude.{◌≡◌, ◌≢◌, ◌<◌, ◌≤◌, ◌-◌, ◌+◌, ◌^◌, ℕ, List, length, take, nat_eq, IfOk, IsErr};
+ghost use Rattle.std.specs.Prelude.{◌≡◌, ◌<◌, ◌≤◌, ◌-◌, ◌+◌, ◌^◌, ℕ, List, length, take, nat_eq, IfOk};
 ghost use Rattle.contract_words.specs.Archives.{IsLength, IsRead};
 ghost use Rattle.contract_words.specs.Devices.{Counted, Counts};
 ghost use Rattle.contract_words.specs.Knowledge.{WasKnown};
 ghost use Rattle.mail_answer.specs.Archives.{bytes_told};
+ghost use Rattle.mail_answer.specs.FailAt.{PassesOn};
 
 use crate::archives::Archives;
 use mbox_cutter::DeviceFault;
@@ -59,9 +60,9 @@ impl<A: Archives + Drop> Archives for FailAt<A> {
 
     ghost lengths_asked = { λ s. A.lengths_asked s.inner };
 
-    ghost measures = { λ s n told t. (s.fail_at ≡ 1 → IsErr told × (t.inner ≡ s.inner)) × (s.fail_at ≢ 1 → A.measures s.inner n told t.inner) × (t.fail_at ≡ s.fail_at - 1) };
+    ghost measures = { λ s n told t. PassesOn (A.measures s.inner n told t.inner) s t told };
 
-    ghost reads = { λ s n offset told t. (s.fail_at ≡ 1 → IsErr told × (t.inner ≡ s.inner)) × (s.fail_at ≢ 1 → A.reads s.inner n offset told t.inner) × (t.fail_at ≡ s.fail_at - 1) };
+    ghost reads = { λ s n from told t. PassesOn (A.reads s.inner n from told t.inner) s t told };
 
     fn count(&self) -> u32 {
         self.inner.count()
@@ -70,19 +71,16 @@ impl<A: Archives + Drop> Archives for FailAt<A> {
     fn length(&mut self, n: u32) -> Result<u64, DeviceFault>
         requires below { n < A.number self.old.inner }
         requires count { A.failures self.old.inner + self.old.failures < 2 ^ 64 - 1 }
+        ensures bytes { IfOk result (λ bytes. IsLength n bytes (A.held self.new.inner)) }
+        ensures passed { PassesOn (A.measures self.old.inner n result self.new.inner
+            × Counts result (A.failures self.old.inner) (A.failures self.new.inner))
+            self.old self.new result }
+        ensures count { Counts result (A.failures self.old.inner + self.old.failures)
+            (A.failures self.new.inner + self.new.failures) }
         ensures held { WasKnown (A.held self.old.inner) (A.held self.new.inner) }
         ensures whole { (archives : List (List ℕ)) → A.whole self.old.inner archives
             → A.whole self.new.inner archives }
         ensures number { A.number self.new.inner ≡ A.number self.old.inner }
-        ensures bytes { IfOk result (λ bytes. IsLength n bytes (A.held self.new.inner)) }
-        ensures count { Counts result (A.failures self.old.inner + self.old.failures)
-            (A.failures self.new.inner + self.new.failures) }
-        ensures fails { self.old.fail_at ≡ 1 → IsErr result × (self.new.inner ≡ self.old.inner) }
-        ensures passes { self.old.fail_at ≢ 1 → Counts result (A.failures self.old.inner)
-            (A.failures self.new.inner) }
-        ensures measured { self.old.fail_at ≢ 1 → A.measures self.old.inner n result
-            self.new.inner }
-        ensures next { self.new.fail_at ≡ self.old.fail_at - 1 }
     {
         if self.fails() {
             return Err(DeviceFault);
@@ -94,22 +92,20 @@ impl<A: Archives + Drop> Archives for FailAt<A> {
         requires below { n < A.number self.old.inner }
         requires room { 0 < length into.old }
         requires count { A.failures self.old.inner + self.old.failures < 2 ^ 64 - 1 }
+        ensures bound { IfOk result (λ bytes. bytes ≤ length into.new) }
+        ensures bytes { IfOk result (λ bytes. IsRead n offset (take bytes into.new)
+            (A.held self.new.inner)) }
+        ensures passed { PassesOn (A.reads self.old.inner n offset (bytes_told result into.new)
+            self.new.inner
+            × Counts result (A.failures self.old.inner) (A.failures self.new.inner))
+            self.old self.new result }
+        ensures asked { A.lengths_asked self.new.inner ≡ A.lengths_asked self.old.inner }
+        ensures count { Counts result (A.failures self.old.inner + self.old.failures)
+            (A.failures self.new.inner + self.new.failures) }
         ensures held { WasKnown (A.held self.old.inner) (A.held self.new.inner) }
         ensures whole { (archives : List (List ℕ)) → A.whole self.old.inner archives
             → A.whole self.new.inner archives }
         ensures number { A.number self.new.inner ≡ A.number self.old.inner }
-        ensures bound { IfOk result (λ bytes. bytes ≤ length into.new) }
-        ensures bytes { IfOk result (λ bytes. IsRead n offset (take bytes into.new)
-            (A.held self.new.inner)) }
-        ensures count { Counts result (A.failures self.old.inner + self.old.failures)
-            (A.failures self.new.inner + self.new.failures) }
-        ensures fails { self.old.fail_at ≡ 1 → IsErr result × (self.new.inner ≡ self.old.inner) }
-        ensures passes { self.old.fail_at ≢ 1 → Counts result (A.failures self.old.inner)
-            (A.failures self.new.inner) }
-        ensures asked { A.lengths_asked self.new.inner ≡ A.lengths_asked self.old.inner }
-        ensures read { self.old.fail_at ≢ 1 → A.reads self.old.inner n offset
-            (bytes_told result into.new) self.new.inner }
-        ensures next { self.new.fail_at ≡ self.old.fail_at - 1 }
     {
         if self.fails() {
             return Err(DeviceFault);

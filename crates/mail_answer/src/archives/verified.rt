@@ -113,13 +113,14 @@ pub fn verify<A: Archives>(
 ) -> Result<(), AnswerFault>
     requires version { index.now.version ≡ 2 }
     requires archives { A.failures archives.old < 2 ^ 64 - 1 }
-    ensures keeps { HoldsArchives A.Archives archives.old archives.new }
     ensures verified { IfSome (A.held archives.new)
         (λ bytes. TellsVerified index.now.archives bytes (kind_of result)) }
     // Whether the bytes are known or not: the bytes that were read of each archive have the length and the digest that
     // were indexed.
     ensures read { OnOk result ((read : List (List ℕ)) × AreVerified index.now.archives read) }
     ensures same_count { OnOk result (A.number archives.old ≡ length index.now.archives) }
+    ensures unwritten { IfErr result
+        (λ fault. (fault.sent ≡ 0) × (is_of_output fault.kind ≡ false)) }
     // If the number of archives isn't the one that was indexed, the smaller number is stale, and no archive is read.
     ensures other_count { A.number archives.old ≢ length index.now.archives
         → RefusesCount A.Archives index.now.archives archives.old archives.new result }
@@ -129,8 +130,7 @@ pub fn verify<A: Archives>(
         → VerifiesArchives A.Archives index.now.archives archives.old archives.new result }
     ensures archives_count { Counted (fails_by is_of_archives result)
         (A.failures archives.old) (A.failures archives.new) }
-    ensures unwritten { IfErr result
-        (λ fault. (fault.sent ≡ 0) × (is_of_output fault.kind ≡ false)) }
+    ensures keeps { HoldsArchives A.Archives archives.old archives.new }
 {
     let index = index.again();
     // Lack of memory would hide changed archives if the buffer came first.

@@ -9,14 +9,15 @@ use Rattle.mairix_tool.proofs.Words.{IsOfAnswer, AreToldApart, altered_archive, 
 use Rattle.mairix_tool.proofs.Words.{Answer, refused, IsTold, IsToldOf, IsProvedAndTold, unproved_archive, TellsProved}
 use Rattle.mairix_tool.proofs.Words.{IsStaleOr, IsOldOr, is_too_old, IsReply, IsStoredReply, IsForNoOtherCause}
 use Rattle.mairix_tool.proofs.Words.{IsIndexRefusal, IsRefusedAs, RepliesBy, reply_of, renamed_archive, first_renamed}
-use Rattle.mairix_tool.proofs.Words.{IsCountedWhere, WereVerified, sound-not-refused}
+use Rattle.mairix_tool.proofs.Words.{WereVerified, sound-not-refused}
+use Rattle.mairix_tool.specs.StoredRuns.{CountsVerified, RepliesByMessages}
 use Rattle.mail_index.proofs.FileLaws.Accepts.{no_fault}
 use Rattle.mail_index.proofs.FileLaws.SameTable.{same-table}
 use Rattle.run_faults.specs.Faults.{fault_in}
 use Rattle.run_faults.specs.declared.fault.Fault.TheVariants as of
 use Rattle.std.specs.Result.{IsErrAnd, MatchResult}
 use Rattle.index_run.proofs.ArchiveLists.{mboxes-length}
-use Rattle.mairix_tool.proofs.TableLaws.Formed.{before-file, indexed-file, otherwise-file}
+use Rattle.mairix_tool.proofs.TableLaws.Formed.{before-file, indexed-file, otherwise-file, whole-file}
 use Rattle.mairix_tool.proofs.TableLaws.OldTables.{told-old, old-told, told-same, same-told, renamed-old}
 use Rattle.mairix_tool.proofs.ArchiveLaws.Unaltered.{own-verified, the-same}
 use Rattle.mairix_tool.proofs.ArchiveLaws.FirstFaults.{one-first-fault}
@@ -107,15 +108,10 @@ module _ (w : Wanted) (index : List ℕ) (few : length index < 2 ^ 64) (t : Tabl
         (IsTold t w.search held) answer) none (told-by answer is))
         reply old new given
 
-  pub stored-counted : (u : Table) (held : Option (List (List ℕ))) (fault : Option Fault) (reply : Reply)
-      (old new : Option (List ℕ)) → IsFileOf index u
-      → IsCountedWhere t w.search held fault reply old new → IsCountedWhere u w.search held fault reply old new
-  stored-counted u held fault reply old new f given =
-      subst (λ (v : Table). IsCountedWhere v w.search held fault reply old new) (one-table u f) given
-
-  pub stored-read : (u : Table) (fault : Option Fault) → IsFileOf index u → WereVerified t.archives w.verify fault
-      → WereVerified u.archives w.verify fault
-  stored-read u fault f given = subst (λ (v : Table). WereVerified v.archives w.verify fault) (one-table u f) given
+  pub stored-counted : (u : Table) (held : Option (List (List ℕ))) (reply : Reply) (old new : Option (List ℕ))
+      → IsFileOf index u → CountsVerified t w held reply old new → CountsVerified u w held reply old new
+  stored-counted u held reply old new f given =
+      subst (λ (v : Table). CountsVerified v w held reply old new) (one-table u f) given
 
 -- archives that were verified before an answer were verified, whatever its result
 pub still-verified : (named : List Archive) (verify : Bool) (fault : Option Fault) → WereVerified named verify None
@@ -191,7 +187,7 @@ module _ (w : Wanted) (index : List ℕ) (few : length index < 2 ^ 64) (bytes : 
       (λ answer told. old-told whole w.search bytes answer none told)
 
   -- with an index that serves for these archives
-  pub stored-serving : All IsPath w.paths → ServesFor w whole index → (reply : Reply) (old new : Option (List ℕ))
+  stored-serving : All IsPath w.paths → ServesFor w whole index → (reply : Reply) (old new : Option (List ℕ))
       → RepliesBy (IsStoredReply (Ok w) index bytes) reply old new
       → RepliesBy (IsReply (Ok w) bytes) reply old new
   stored-serving h h2 = grind (
@@ -230,7 +226,7 @@ module _ (w : Wanted) (index : List ℕ) (few : length index < 2 ^ 64) (before :
   by-tables b = option_or (renamed_archive (table before).archives w.paths)
       (unproved_archive b (table before).archives bytes)
 
-  pub stored-verified : (reply : Reply) (old new : Option (List ℕ))
+  stored-verified : (reply : Reply) (old new : Option (List ℕ))
       → RepliesBy (IsStoredReply (Ok w) index bytes) reply old new
       → RepliesBy (IsStaleOr (altered_archive before w.paths bytes) (IsReply (Ok w) bytes)) reply old new
   stored-verified reply old new given =
@@ -247,6 +243,19 @@ module _ (w : Wanted) (index : List ℕ) (few : length index < 2 ^ 64) (before :
       (stale-or (altered_archive before w.paths bytes) (IsReply (Ok w) bytes) (IsTold (table before) w.search bytes)
       told-again answer is)))
       reply old new given
+
+-- words, rcfile and query that are accepted have paths
+pub replies-by-messages : (asked : Result Wanted Fault) (index : List ℕ) → length index < 2 ^ 64
+    → (bytes : List (List ℕ)) → ((w : Wanted) → asked ≡ Ok w → All IsPath w.paths) → (reply : Reply)
+    (old new : Option (List ℕ)) → RepliesBy (IsStoredReply asked index bytes) reply old new
+    → RepliesByMessages asked index bytes reply old new
+replies-by-messages asked index few bytes paths reply old new given = record {
+  indexed = λ w is many sound serves.
+      stored-serving w index few bytes many sound (paths w is) serves reply old new (rw is at given);
+  verified = λ w before is verify are sound whole apart.
+      stored-verified w index few before bytes verify sound (whole-file before index are sound whole) apart reply old
+      new (rw is at given);
+}
 
 -- ---- each run has a reply
 

@@ -1,11 +1,10 @@
 -- What answering from an index does to the archives and to the output.
 use Rattle.std.specs.Prelude.{IfErr, Result}
-use Rattle.contract_words.specs.Devices.{Counted}
 use Rattle.mbox_cutter.specs.declared.device.Out.{Ghosts as OutGhosts}
 use Rattle.mail_answer.specs.Mail.{Search}
 use Rattle.mail_answer.specs.declared.archives.Archives.{Ghosts}
-use Rattle.mairix_tool.specs.Replies.{KeepsRawBack}
-use Rattle.run_faults.specs.Faults.{fault_in, is_failed_archives, is_failed_out, IsOfAnswer}
+use Rattle.mairix_tool.specs.Replies.{CountsFault, KeepsRawBack}
+use Rattle.run_faults.specs.Faults.{fault_in, IsOfAnswer}
 use Rattle.run_faults.specs.declared.fault.Fault.{Fault}
 
 -- an index was searched, over archives and into an output
@@ -14,6 +13,4 @@ pub record AsksIndex {A O T : Type 0} (g : Ghosts A) (h : OutGhosts O) (search :
   -- only a fault of an answer is returned
   pub own : IfErr result IsOfAnswer
   pub raw : KeepsRawBack search (fault_in result) before after
-  -- each device's count rises by one exactly if the device's failure is the result
-  pub archives_failed : Counted (is_failed_archives (fault_in result)) (g.failures old) (g.failures new)
-  pub out_failed : Counted (is_failed_out (fault_in result)) (h.failures before) (h.failures after)
+  pub counts : CountsFault g h (fault_in result) old new before after

@@ -27,13 +27,14 @@ returns-clause-once g c = λ bytes files agrees held.
     let are = ap (map _) c.as_mut_slice-unread.ensures.value ∙ c.in-Ok.ensures.rest ∙ files in
     let counted = counted-new rest (λ s. bytes_of (g.F.Folder.holds s.folder.now s.name.now)) (λ s. s.file)
     (λ s. s.progress) (λ s. s.failures) _ fresh (λ n. is_failed_source n run.result.fault) _
-    run.ensures.source_failed in
+    run.ensures.counts.sources in
     indexed-answers-by (IsReply asked bytes) (plain-reply asked bytes) _ _ run.result (map (λ s. s.failures) news)
-    c.result_of.result _ c.result_of.ensures counted run.ensures.silent (λ same. ap g.O.Out.taken same.1)
+    c.result_of.result _ c.result_of.ensures counted run.ensures.unsent.silent (λ same. ap g.O.Out.taken same.1)
     (λ zeros. run.ensures.reply bytes (
       are,
       known-now rest (λ s. bytes_of (g.F.Folder.holds s.folder.now s.name.now)) (λ s. s.file) (λ s. s.progress)
-          (λ s. s.failures) _ (λ old new stays. stays.whole) _ news bytes run.ensures.stays.each fresh are zeros told,
+          (λ s. s.failures) _ (λ old new stays. stays.whole) _ news bytes run.ensures.keeps.sources.each fresh are zeros
+          told,
     ) held)
 
 pub returns-clause-refused : goal.returns-clause-refused
@@ -42,6 +43,6 @@ returns-clause-refused g c = λ fault is.
     let asked = asks search.words.now search.text.now search.moment in
     let run = c.once_run-reply in
     let same = ap fault_in c.result_of.ensures ∙ fault-of run.result.status run.result.fault in (
-      subst (IsThisOrMemory fault) (sym same) (refuses-as asked fault run.result.fault is run.ensures.no_other_cause),
-      uses-none _ _ _ (is_early run.result.fault) asked fault is run.ensures.refused,
+      subst (IsThisOrMemory fault) (sym same) (refuses-as asked fault run.result.fault is run.ensures.cause.refused),
+      uses-none _ _ _ (is_early run.result.fault) asked fault is run.ensures.unsent.refused,
     )

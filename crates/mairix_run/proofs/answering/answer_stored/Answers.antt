@@ -17,11 +17,12 @@ returns-clause-stored g c = λ bytes held.
 pub returns-clause-indexed : goal.returns-clause-indexed
 returns-clause-indexed g c = λ w bytes is many sound serves held.
     answers-by (IsReply (Ok w) bytes) (plain-reply (Ok w) bytes) _ _ c.search_run.result c.result_of.result
-    c.result_of.ensures (c.search_run.ensures.indexed w bytes is many sound serves held)
+    c.result_of.ensures ((c.search_run.ensures.by_messages bytes held).indexed w is many sound serves)
 
 pub returns-clause-verified : goal.returns-clause-verified
 returns-clause-verified g c = λ w before bytes is verify paths sound file held apart.
     let altered = altered_archive before w.paths bytes in
     answers-by (IsStaleOr altered (IsReply (Ok w) bytes))
     (plain-stale altered (IsReply (Ok w) bytes) (plain-reply (Ok w) bytes)) _ _ c.search_run.result c.result_of.result
-    c.result_of.ensures (c.search_run.ensures.verified w before bytes is verify paths sound file held apart)
+    c.result_of.ensures
+    ((c.search_run.ensures.by_messages bytes held).verified w before is verify paths sound file apart)

@@ -48,8 +48,8 @@ returns-clause-counted g c = λ bytes known.
     (subst (λ (b : List ℕ). IsFileOf b (table (mboxes w.paths bytes))) (sym c.bytes.ensures) indexed.1) in
     rw same at c.answer_view.ensures.counted
 
-pub returns-in_err-file-clause-held : goal.returns-in_err-file-clause-held
-returns-in_err-file-clause-held g c = holds_self g.A.Archives c.args.archives.now
+pub returns-in_err-file-clause-keeps : goal.returns-in_err-file-clause-keeps
+returns-in_err-file-clause-keeps g c = holds_self g.A.Archives c.args.archives.now
 
 pub returns-clause-stays : goal.returns-clause-stays
 returns-clause-stays g c =

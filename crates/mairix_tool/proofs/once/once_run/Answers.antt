@@ -73,10 +73,9 @@ returns-in-Ok-clause-counted g c = λ w bytes is known.
     let same = same-asked (asked words c.args.rc.now c.args.now) (wanted c.in-Ok.wanted) w c.in-Ok.ensures.asked is in
     rw (← same, c.of-in-Ok.ensures) (c.answer_indexed.ensures.counted bytes known)
 
-pub returns-in-Err-clause-held : goal.returns-in-Err-clause-held
-returns-in-Err-clause-held g c = holds_self g.A.Archives c.args.archives.now
-
-pub returns-in-Err-clause-stays : goal.returns-in-Err-clause-stays
-returns-in-Err-clause-stays g c =
-    let sources = c.args.sources.now in
-    rw c.of-in-Err.ensures (none-read g.S.Source sources sources c.in-Err.fault c.in-Err.ensures.early)
+pub returns-in-Err-clause-keeps : goal.returns-in-Err-clause-keeps
+returns-in-Err-clause-keeps g c = record {
+  sources = rw c.of-in-Err.ensures (none-read g.S.Source c.args.sources.now c.args.sources.now c.in-Err.fault
+      c.in-Err.ensures.early);
+  archives = holds_self g.A.Archives c.args.archives.now;
+}

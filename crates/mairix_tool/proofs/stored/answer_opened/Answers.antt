@@ -32,9 +32,12 @@ returns-clause-told g c = λ held holds.
     subst (λ (o : Option ℕ). RepliesBy (IsStaleOr o (IsTold t w.search held)) (reply_of c.answer_view.result)
     (g.O.Out.taken c.args.out.now) (g.O.Out.taken c.answer_view.new.out)) (sym none) told
 
-pub returns-clause-read : goal.returns-clause-read
-returns-clause-read g c = still-verified c.args.view.now.archives c.args.wanted.now.verify
-    (reply_of c.answer_view.result).fault c.in_ok-prove_archives.ensures.read
+pub returns-clause-counted : goal.returns-clause-counted
+returns-clause-counted g c = record {
+  counted = c.answer_view.ensures.counted;
+  read = still-verified c.args.view.now.archives c.args.wanted.now.verify (reply_of c.answer_view.result).fault
+      c.in_ok-prove_archives.ensures.read;
+}
 
 pub returns-in_err-prove_archives-clause-searched : goal.returns-in_err-prove_archives-clause-searched
 returns-in_err-prove_archives-clause-searched g c =
@@ -51,7 +54,7 @@ returns-clause-searched g c =
     w.verify _ c.answer_view.new.archives c.args.out.now c.answer_view.new.out (reply_of c.answer_view.result)
     c.in_ok-prove_archives.ensures.asked c.answer_view.ensures.searched
 
-pub returns-clause-held : goal.returns-clause-held
-returns-clause-held g c =
+pub returns-clause-keeps : goal.returns-clause-keeps
+returns-clause-keeps g c =
     holds_join g.A.Archives c.args.archives.now c.prove_archives.new.archives c.answer_view.new.archives
-    c.prove_archives.ensures.held c.answer_view.ensures.held
+    c.prove_archives.ensures.keeps c.answer_view.ensures.keeps

@@ -1,7 +1,7 @@
 -- `answer_stored` replies what the index says, by the results of opening and of searching it.
 use Rattle.mairix_tool.proofs.Words.{◌^◌, ◌<◌, length, arith, Wanted, wanted, reply_of}
 use Rattle.mairix_tool.proofs.ReplyLaws.Stored.{answered-for, refused-for, refused-stored, has-digests, stored-told}
-use Rattle.mairix_tool.proofs.ReplyLaws.Stored.{stored-counted, stored-read}
+use Rattle.mairix_tool.proofs.ReplyLaws.Stored.{stored-counted}
 use Rattle.mairix_tool.proofs.ReplyLaws.Searching.{opened-searched, refused-searched}
 use Rattle.mail_answer.proofs.ArchiveLaws.CallLemmas.{holds_self}
 use Rattle.mairix_tool.proofs.stored.answer_stored.Goals as goal
@@ -29,16 +29,9 @@ returns-clause-told g c = λ held holds.
 pub returns-clause-counted : goal.returns-clause-counted
 returns-clause-counted g c = λ t file.
     let few : length c.args.index.now < 2 ^ 64 = omega (arith, c.well_formed) in
-    let reply = reply_of c.answer_opened.result in
     stored-counted (wanted c.args.wanted.now) c.args.index.now few c.in_ok-view.view c.in_ok-view.ensures.table t
-    (g.A.Archives.held c.answer_opened.new.archives) reply.fault reply (g.O.Out.taken c.args.out.now)
+    (g.A.Archives.held c.answer_opened.new.archives) (reply_of c.answer_opened.result) (g.O.Out.taken c.args.out.now)
     (g.O.Out.taken c.answer_opened.new.out) file c.answer_opened.ensures.counted
-
-pub returns-clause-read : goal.returns-clause-read
-returns-clause-read g c = λ t file.
-    let few : length c.args.index.now < 2 ^ 64 = omega (arith, c.well_formed) in
-    stored-read (wanted c.args.wanted.now) c.args.index.now few c.in_ok-view.view c.in_ok-view.ensures.table t
-    (reply_of c.answer_opened.result).fault file c.answer_opened.ensures.read
 
 pub returns-clause-no_other_cause : goal.returns-clause-no_other_cause
 returns-clause-no_other_cause g c = grind (arith, answered-for)
@@ -56,5 +49,5 @@ returns-clause-searched g c = λ t file.
     c.answer_opened.new.archives c.args.out.now c.answer_opened.new.out (reply_of c.answer_opened.result)
     c.in_ok-view.view c.in_ok-view.ensures.table c.answer_opened.ensures.searched
 
-pub returns-in_err-view-clause-held : goal.returns-in_err-view-clause-held
-returns-in_err-view-clause-held g c = holds_self g.A.Archives c.args.archives.now
+pub returns-in_err-view-clause-keeps : goal.returns-in_err-view-clause-keeps
+returns-in_err-view-clause-keeps g c = holds_self g.A.Archives c.args.archives.now

@@ -28,11 +28,10 @@ pub returns-clause-searched : goal.returns-clause-searched
 returns-clause-searched g c = record {
   found = c.answer-found.result;
   replied = ap reply_of (told-so c.answer-found.result c.map_err.result (grind arith));
-  keeps = c.answer-found.ensures.keeps;
-  other_count = c.answer-found.ensures.other_count;
-  asked = c.answer-found.ensures.asked;
   answered = c.answer-found.ensures.answered;
   spans = c.answer-found.ensures.spans;
   stale = c.answer-found.ensures.stale;
-  unwritten = c.answer-found.ensures.unwritten;
+  unsent = c.answer-found.ensures.unsent;
+  order = c.answer-found.ensures.order;
+  keeps = c.answer-found.ensures.keeps;
 }
