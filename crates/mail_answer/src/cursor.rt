@@ -36,11 +36,11 @@ pub struct Cursor<'a> {
 
 impl<'a> Model for Cursor<'a> {
     ghost use Rattle.mail_answer.specs.Cursors.{ToCome};
-    ghost use Rattle.mail_answer.specs.CursorNumbers.{numbers_from, AreWithin};
+    ghost use Rattle.mail_answer.specs.CursorNumbers.{walk_to_come, AreWithin};
 
     ghost Value = { ToCome };
 
-    ghost view = { λ s. record { numbers = numbers_from s.low s.count s.walk.truths; left = s.walk.left; postings = s.walk.postings } };
+    ghost view = { λ s. walk_to_come s.low s.count s.walk };
 
     ghost invariant = { λ s. AreWithin s.count s.walk.truths };
 }

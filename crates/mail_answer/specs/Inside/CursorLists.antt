@@ -1,9 +1,10 @@
 -- The numbers of a posting list on which a walk has begun.
-use Rattle.std.specs.Prelude.{◌≡◌, ℕ, ◌<◌, Bool, true, nat_lt, List, ◌++◌, Option, Some, None}
+use Rattle.std.specs.Prelude.{◌≡◌, ℕ, ◌<◌, Bool, true, nat_lt, List, ◌++◌, length, Option, Some, None}
 use Rattle.std.specs.List.{AllByRecursion}
 use Rattle.std.specs.Option.{option_to_list}
 use Rattle.mail_index.specs.Tables.{RisesFrom}
 use Rattle.mail_answer.specs.TableFacts.{is_among}
+use Rattle.mail_answer.specs.CursorAhead.{Ahead}
 use Rattle.mail_answer.specs.Marks.{each_number}
 
 -- the first number, if it was taken from its list already, and the others
@@ -13,6 +14,15 @@ numbers_ahead first behind = option_to_list first ++ behind
 -- for each of `count` messages, whether it is among the numbers
 abbrev pub truths_among : ℕ → List ℕ → List Bool
 truths_among count numbers = each_number count (λ n. is_among n numbers)
+
+-- what the list still gives, with one step for each number that wasn't taken from it yet
+abbrev pub list_ahead : ℕ → Option ℕ → List ℕ → Ahead
+list_ahead count first behind = record {
+  truths = truths_among count (numbers_ahead first behind);
+  left = length behind;
+  postings = length behind;
+  below = 0;
+}
 
 -- rising numbers below `count`
 pub record AreNumbers (count : ℕ) (numbers : List ℕ) : Type 0 where

@@ -2,7 +2,7 @@
 use Rattle.std.specs.Prelude.{◌≡◌, ℕ, ◌+◌, ◌^◌, ◌<◌, ◌≤◌, nat_le, Bool, true, false, ◌&&◌, List, ◌++◌, length}
 use Rattle.std.specs.Prelude.{replicate, Option, MatchOption}
 use Rattle.mail_answer.specs.Marks.{truth_at, each_number}
-use Rattle.mail_answer.specs.CursorAhead.{Ahead, IsFirst, one_or_other, united}
+use Rattle.mail_answer.specs.CursorAhead.{Ahead, IsFirst, left_in, one_or_other, united}
 use Rattle.mail_answer.specs.declared.cursor.head.Head.{Head}
 use Rattle.mail_answer.specs.declared.cursor.head.Head.TheVariants.{Unasked, Asked}
 use Rattle.mail_answer.specs.Inside.CursorTexts.{some_has}
@@ -18,6 +18,15 @@ those_from low truths = each_number (length truths) (λ n. nat_le low n && truth
 -- the messages from `low` on that are marked or are in a list
 abbrev pub truths_marked : ℕ → ℕ → List Bool → List Ahead → List Bool
 truths_marked low start marks lists = those_from low (marked_or_listed start marks lists)
+
+-- what the window and the lists still give, with one step for each number of the lists
+abbrev pub marks_ahead : ℕ → ℕ → List Bool → List Ahead → Ahead
+marks_ahead low start marks lists = record {
+  truths = truths_marked low start marks lists;
+  left = left_in lists;
+  postings = left_in lists;
+  below = 0;
+}
 
 -- what is remembered of the first number is true
 abbrev pub IsHead : List Bool → Head → Type 0

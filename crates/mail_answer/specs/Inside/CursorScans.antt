@@ -1,6 +1,6 @@
 -- A walk along the records of the messages.
 use Rattle.std.specs.Prelude.{◌≡◌, ℕ, suc, ◌<◌, ◌≤◌, Bool, true, false, nat_le, ◌&&◌, ◌||◌, List, [], Option, IfSome}
-use Rattle.std.specs.Prelude.{MatchOption}
+use Rattle.std.specs.Prelude.{◌-◌, length, MatchOption}
 use Rattle.std.specs.Option.{option_to_list}
 use Rattle.mail_index.specs.declared.record.Record.{Record}
 use Rattle.mail_query.specs.Query as query
@@ -9,6 +9,7 @@ use Rattle.mail_query.specs.Truth.{is_true}
 use Rattle.mail_answer.specs.declared.cursor.scanned.Asked.{Asked}
 use Rattle.mail_answer.specs.declared.cursor.scanned.Asked.TheVariants.{Any, Date, Size, Flag}
 use Rattle.mail_answer.specs.TableFacts.{is_among, facts_of_record, record_at}
+use Rattle.mail_answer.specs.CursorAhead.{Ahead}
 use Rattle.mail_answer.specs.Marks.{each_number}
 
 -- a condition on a record, as a query
@@ -34,6 +35,15 @@ is_ahead test next first n = is_among n (option_to_list first) || (nat_le next n
 -- for each of `count` messages, whether it still comes
 abbrev pub truths_scanned : ℕ → (ℕ → Bool) → ℕ → Option ℕ → List Bool
 truths_scanned count test next first = each_number count (is_ahead test next first)
+
+-- what the walk still gives, with at most one step for each record from the next one on
+abbrev pub scan_ahead : List Record → Asked → ℕ → Option ℕ → Ahead
+scan_ahead records asked next first = record {
+  truths = truths_scanned (length records) (satisfies records asked) next first;
+  left = length records - next;
+  postings = 0;
+  below = 0;
+}
 
 -- the message that was found is before the next record
 abbrev pub IsFound : ℕ → ℕ → Option ℕ → Type 0

@@ -20,9 +20,13 @@ coming held r = option_map (λ archives. r.unread ++ take r.left (drop r.next (a
 abbrev pub coming_count : Reading → ℕ
 coming_count r = length r.unread + r.left
 
+-- the reading with this archive, these bytes, and this offset and number
+abbrev pub reading : ℕ → List ℕ → ℕ → ℕ → Reading
+reading archive unread next left = record { archive = archive; unread = unread; next = next; left = left }
+
 -- the bytes of a message, before any is read
 abbrev pub span_reading : Record → Reading
-span_reading m = record { archive = m.archive; unread = []; next = m.offset; left = m.length }
+span_reading m = reading m.archive [] m.offset m.length
 
 -- the part is in one of this many archives
 pub record IsInside (number : ℕ) (held : Option (List (List ℕ))) (r : Reading) : Type 0 where

@@ -15,13 +15,12 @@ pub(crate) struct Listed<'a> {
 }
 
 impl<'a> Model for Listed<'a> {
-    ghost use Rattle.std.specs.Prelude.{length};
-    ghost use Rattle.mail_answer.specs.Inside.CursorLists.{numbers_ahead, truths_among, AreNumbers};
+    ghost use Rattle.mail_answer.specs.Inside.CursorLists.{list_ahead, numbers_ahead, AreNumbers};
     ghost use Rattle.mail_answer.specs.CursorAhead.{Ahead};
 
     ghost Value = { Ahead };
 
-    ghost view = { λ s. record { truths = truths_among s.count (numbers_ahead s.first s.postings); left = length s.postings; postings = length s.postings; below = 0 } };
+    ghost view = { λ s. list_ahead s.count s.first s.postings };
 
     ghost invariant = { λ s. AreNumbers s.count (numbers_ahead s.first s.postings) };
 }

@@ -33,12 +33,12 @@ pub(crate) struct Marked<'a> {
 }
 
 impl<'a> Model for Marked<'a> {
-    ghost use Rattle.mail_answer.specs.CursorAhead.{Ahead, left_in};
-    ghost use Rattle.mail_answer.specs.Inside.CursorMarks.{HaveMarks, truths_marked};
+    ghost use Rattle.mail_answer.specs.CursorAhead.{Ahead};
+    ghost use Rattle.mail_answer.specs.Inside.CursorMarks.{HaveMarks, marks_ahead};
 
     ghost Value = { Ahead };
 
-    ghost view = { λ s. record { truths = truths_marked s.low s.start s.marks s.lists.items; left = left_in s.lists.items; postings = left_in s.lists.items; below = 0 } };
+    ghost view = { λ s. marks_ahead s.low s.start s.marks s.lists.items };
 
     ghost invariant = { λ s. HaveMarks s.start s.marks s.lists.items s.ahead };
 }

@@ -75,13 +75,13 @@ pub(crate) struct Scanned<'a> {
 }
 
 impl<'a> Model for Scanned<'a> {
-    ghost use Rattle.std.specs.Prelude.{◌-◌, length};
-    ghost use Rattle.mail_answer.specs.Inside.CursorScans.{satisfies, truths_scanned, IsFound};
+    ghost use Rattle.std.specs.Prelude.{length};
+    ghost use Rattle.mail_answer.specs.Inside.CursorScans.{scan_ahead, IsFound};
     ghost use Rattle.mail_answer.specs.CursorAhead.{Ahead};
 
     ghost Value = { Ahead };
 
-    ghost view = { λ s. record { truths = truths_scanned (length s.records) (satisfies s.records s.asked) s.next s.first; left = length s.records - s.next; postings = 0; below = 0 } };
+    ghost view = { λ s. scan_ahead s.records s.asked s.next s.first };
 
     ghost invariant = { λ s. IsFound (length s.records) s.next s.first };
 }

@@ -29,11 +29,11 @@ pub(crate) struct LineReader {
 
 impl Model for LineReader {
     ghost use Rattle.std.specs.Prelude.{◌≤◌, drop, length};
-    ghost use Rattle.mail_answer.specs.Inside.Readings.{Reading};
+    ghost use Rattle.mail_answer.specs.Inside.Readings.{Reading, reading};
 
     ghost Value = { Reading };
 
-    ghost view = { λ s. record { archive = s.archive; unread = drop s.from s.held; next = s.next; left = s.left } };
+    ghost view = { λ s. reading s.archive (drop s.from s.held) s.next s.left };
 
     ghost invariant = { λ s. s.from ≤ length s.held };
 }

@@ -32,11 +32,11 @@ struct Part {
 
 impl Model for Part {
     ghost use Rattle.std.specs.Prelude.{[]};
-    ghost use Rattle.mail_answer.specs.Inside.Readings.{Reading};
+    ghost use Rattle.mail_answer.specs.Inside.Readings.{Reading, reading};
 
     ghost Value = { Reading };
 
-    ghost view = { λ s. record { archive = s.archive; unread = []; next = s.next; left = s.left } };
+    ghost view = { λ s. reading s.archive [] s.next s.left };
 }
 
 impl Part {
