@@ -2,10 +2,12 @@
 use Rattle.std.specs.Prelude.{ℕ, ◌==◌, nat_eq, nat_lt, nat_le, Bool, false, not, ◌&&◌, ◌||◌, if◌then◌else◌, List, []}
 use Rattle.std.specs.Prelude.{◌∷◌, ◌++◌, Option, Some, None, length, codes}
 use Rattle.std.specs.List.{list_any, starts_with}
+use Rattle.mail_index.specs.Limits.{most_in_path}
 
 -- whether a text can name a file: it has 1 to 4,096 bytes, none of them LF or NUL
 abbrev pub is_path : List ℕ → Bool
-is_path text = nat_lt 0 (length text) && (nat_le (length text) 4096 && not (list_any (λ b. b == 10 || b == 0) text))
+is_path text = nat_lt 0 (length text)
+    && (nat_le (length text) most_in_path && not (list_any (λ b. b == 10 || b == 0) text))
 
 -- whether a shell would expand the text: it has a `$` anywhere, or a `~` at the front
 abbrev pub has_expansion : List ℕ → Bool
