@@ -2,15 +2,17 @@
 """Counts the instructions of index runs and searches at two sizes, by valgrind, so that a change shows without a quiet machine.
 
     instructions.py [--kinds KIND,..] [PROGRAM]
+    instructions.py --small [PROGRAM]
 
 Each line is a run and its instructions in millions. The mail is of the four kinds of bench/rounds.py, with 500 and 1,000 messages, and the searches
 are of one word, of what no message has, of a part of words that most messages have, of a negation, and of the three outputs. Then come shapes of
 hostile mail, each at a hundredth of the size that bench/hostile.py gives them, and at twice that. At the larger size a line says where the
 instructions of each index run and of the search for one word go, and where C mairix is installed as `mairix`, how many it takes for each index run,
-for nothing and for the part. bench/compare.py compares two results. Past results are kept in bench/results/.
+for nothing and for the part. With --small the runs are over 200 messages of two kinds, and each is also told without SHA-256, which would hide what
+the rest takes. bench/compare.py compares two results. Past results are kept in bench/results/.
 """
-import argparse, os, re, subprocess, sys, tempfile, time
-from shutil import which
+import argparse, os, platform, re, subprocess, sys, tempfile, time
+from shutil import copy, which
 
 from hostile_mail import SHAPES, Room
 from rounds import KINDS, OWN, furnish
@@ -33,6 +35,9 @@ OF_BOTH = ("nothing, raw", "a part, raw")
 # Those that take longer than in C mairix, and a part over very many keys.
 HOSTILE = ("delimiters, 16 deep", "empty parts", "bytes of tags left open", "messages, a chain", "messages, a star", "distinct words, falling")
 SMALLER = 100
+# The small runs: mail with HTML and transfer encodings, and with letters beyond ASCII.
+SMALL_KINDS, SMALL = ("lists", "scripts"), 200
+THEIRS = which("mairix")
 # What functions do, by the beginnings of their names. The first that fits counts.
 PURPOSES = {
     "SHA-256": ("sha2::",),
@@ -40,14 +45,14 @@ PURPOSES = {
     "keys and postings": ("mail_index::", "index_job::batch"),
     "lines, headers and parts": ("mbox_cutter::", "header_text::", "mime_text::", "mail_dates::", "index_job::", "index_run::", "memchr::"),
 }
-TOLD = re.compile(r"^ *([\d,]+) \(.*?\) +[^:]*:(\S+)", re.M)
+TOLD = re.compile(r"^ *([\d,]+) \(.*?\) +[^:\n]*:(\S+)", re.M)
 
 
 def counted(command, folder):
-    """The instructions of a run, in all and by function."""
+    """The instructions of a run, in all and by function. Its environment is empty, since what stands there shifts the counts."""
     with tempfile.NamedTemporaryFile() as profile:
-        how = {"cwd": folder, "stdin": subprocess.DEVNULL, "stdout": subprocess.DEVNULL, "stderr": subprocess.PIPE, "text": True}
-        run = subprocess.run(["valgrind", "--tool=callgrind", f"--callgrind-out-file={profile.name}", *command], **how)
+        how = {"cwd": folder, "env": {}, "stdin": subprocess.DEVNULL, "stdout": subprocess.DEVNULL, "stderr": subprocess.PIPE, "text": True}
+        run = subprocess.run([which("valgrind"), "--tool=callgrind", f"--callgrind-out-file={profile.name}", *command], **how)
         if run.returncode not in (0, 1):
             sys.exit(f"{' '.join(command)}: status {run.returncode}")
         listing = subprocess.run(["callgrind_annotate", "--threshold=100", profile.name], capture_output=True, text=True).stdout
@@ -77,8 +82,8 @@ def tell_index_run(name, program, folder, has_where):
     told = tell(f"{name}, an index run", [program, "-f", "rc"], folder)
     if has_where:
         tell_where(f"{name}, an index run", *told)
-        if which("mairix"):
-            tell(f"{name}, an index run of C mairix", ["mairix", "-f", "c-rc"], folder)
+        if THEIRS:
+            tell(f"{name}, an index run of C mairix", [THEIRS, "-f", "c-rc"], folder)
 
 
 def tell_search(run, name, program, folder, has_where):
@@ -86,8 +91,8 @@ def tell_search(run, name, program, folder, has_where):
     told = tell(f"{run}, {name}", [program, "-f", "rc", *words], folder)
     if has_where and name == TOLD_WHERE:
         tell_where(f"{run}, {name}", *told)
-    if has_where and name in OF_BOTH and which("mairix"):
-        tell(f"{run}, {name}, of C mairix", ["mairix", "-f", "c-rc", *words], folder)
+    if has_where and name in OF_BOTH and THEIRS:
+        tell(f"{run}, {name}, of C mairix", [THEIRS, "-f", "c-rc", *words], folder)
 
 
 def tell_kind(kind, program):
@@ -100,6 +105,19 @@ def tell_kind(kind, program):
             tell_index_run(run, program, folder, count == SIZES[-1])
             for name in SEARCHES:
                 tell_search(run, name, program, folder, count == SIZES[-1])
+
+
+def tell_small(program):
+    """The small runs. The program has the same name in each folder, since its length shifts the counts too."""
+    for title, script in (KINDS[kind] for kind in SMALL_KINDS):
+        with tempfile.TemporaryDirectory() as folder:
+            furnish(folder, script, SMALL)
+            copy(program, os.path.join(folder, "program"))
+            for name, words in {"an index run": [], **SEARCHES}.items():
+                count, functions = counted(["./program", "-f", "rc", *words], folder)
+                rest = count - sum(own for function, own in functions if function.startswith(PURPOSES["SHA-256"]))
+                print(f"{SMALL} messages, {title}, {name}: {count / 1e6:.3f} million", flush=True)
+                print(f"{SMALL} messages, {title}, {name}, without SHA-256: {rest / 1e6:.3f} million", flush=True)
 
 
 def tell_hostile(shape, program):
@@ -118,10 +136,14 @@ def tell_hostile(shape, program):
 def main():
     asked = argparse.ArgumentParser(description="Counts the instructions of index runs and searches at two sizes.")
     asked.add_argument("--kinds", default=",".join([*KINDS, "hostile"]), help="the kinds of mail, by their names in bench/rounds.py, and `hostile`")
+    asked.add_argument("--small", action="store_true", help="only the small runs, as bench/compare.py keeps them")
     asked.add_argument("program", nargs="?", default=OWN)
     words = asked.parse_args()
     program = os.path.abspath(words.program)
-    print(time.strftime("%Y-%m-%d"))
+    valgrind = subprocess.run(["valgrind", "--version"], capture_output=True, text=True, check=True).stdout.strip()
+    print(f"{time.strftime('%Y-%m-%d')}, {valgrind}, {' '.join(platform.libc_ver())}", flush=True)
+    if words.small:
+        return tell_small(program)
     for kind in words.kinds.split(","):
         if kind in KINDS:
             tell_kind(kind, program)
