@@ -38,10 +38,10 @@ SMALLER = 100
 # The small runs: mail with HTML and transfer encodings, and with letters beyond ASCII.
 SMALL_KINDS, SMALL = ("lists", "scripts"), 200
 THEIRS = which("mairix")
-# What functions do, by the beginnings of their names. The first that fits counts.
+# What functions do, by the beginnings of their names. The first that fits counts. Finding words is a part of `give_text` in the built program.
 PURPOSES = {
     "SHA-256": ("sha2::",),
-    "words and folding": ("mail_words::", "index_job::term_sink", "index_job::folding_room"),
+    "words and folding": ("mail_words::", "mime_text::sink::give_text", "index_job::term_sink", "index_job::folding_room"),
     "keys and postings": ("mail_index::", "index_job::batch"),
     "lines, headers and parts": ("mbox_cutter::", "header_text::", "mime_text::", "mail_dates::", "index_job::", "index_run::", "memchr::"),
 }
