@@ -2,12 +2,13 @@
 """Writes a made mbox of about so many megabytes, or of so many messages, to a file: always the same bytes for the same words.
 
     make_mbox.py [--lists|--scripts] MEGABYTES FILE
-    make_mbox.py [--lists|--scripts] --messages COUNT FILE
+    make_mbox.py [--lists|--scripts] --messages COUNT FILE..
 
 Its mail is letters of plain text, one in twenty in base64, over a vocabulary that is there from the start. With --lists it is mail as
 mailing lists send it: a third of the messages is multipart with HTML, a fifth has base64, one in ten has quoted-printable, fields stand
 as lists write them, and words are new the more rarely the longer the text is (Heaps' law). With --scripts it is mail in four scripts over a
-vocabulary of 300,000 words by Zipf's law, with HTML, attachments in base64, quoted-printable, and threads of up to 200 messages.
+vocabulary of 300,000 words by Zipf's law, with HTML, attachments in base64, quoted-printable, and threads of up to 200 messages. Of several
+files each has COUNT messages, and goes on where the one before ends.
 """
 import base64, itertools, math, quopri, random, sys, textwrap
 
@@ -177,15 +178,14 @@ def script_mail(rng):
         yield lines + ["--%s--" % border]
 
 
-def main(messages, most_bytes, most_messages, path):
-    written = 0
-    with open(path, "wb") as out:
-        for number, lines in enumerate(messages(random.Random(20030518))):
-            if written >= most_bytes or number >= most_messages:
-                break
-            data = ("\n".join(lines) + "\n\n").encode()
-            out.write(data)
-            written += len(data)
+def main(messages, most_bytes, most_messages, paths):
+    made = messages(random.Random(20030518))
+    for path in paths:
+        written = number = 0
+        with open(path, "wb") as out:
+            while written < most_bytes and number < most_messages:
+                written += out.write(("\n".join(next(made)) + "\n\n").encode())
+                number += 1
 
 
 if __name__ == "__main__":
@@ -193,9 +193,9 @@ if __name__ == "__main__":
     kind = letters
     if asked[:1] in (["--lists"], ["--scripts"]):
         kind, asked = list_mail if asked[0] == "--lists" else script_mail, asked[1:]
-    if len(asked) == 3 and asked[0] == "--messages":
-        main(kind, math.inf, int(asked[1]), asked[2])
+    if len(asked) >= 3 and asked[0] == "--messages":
+        main(kind, math.inf, int(asked[1]), asked[2:])
     elif len(asked) == 2:
-        main(kind, int(asked[0]) * 1_000_000, math.inf, asked[1])
+        main(kind, int(asked[0]) * 1_000_000, math.inf, asked[1:])
     else:
         sys.exit(__doc__)

@@ -6,11 +6,11 @@
 What is measured: an index made from nothing, the index's size, a search of one word of the body, one of a sender and a word of the subject,
 and an answer of more than a third of the messages as an mbox, which mu doesn't have. Seconds are those of the processor, user and system, the
 least of five runs, but a run of more than 20 isn't repeated; memory is the most that was resident. The peers of mbox files read the archive itself;
-notmuch and mu read a Maildir with the same messages, which Python's mailbox makes of it before. That isn't measured, and neither is what a peer
+notmuch and mu read a Maildir with the same messages, which is made of it before. That isn't measured, and neither is what a peer
 is set up by, as `mu init`. Each line tells how many messages were found: notmuch also finds words of the same stem. Past runs are kept in
 bench/results/.
 """
-import mailbox, os, platform, re, shutil, subprocess, sys, tempfile, time
+import itertools, os, platform, re, shutil, subprocess, sys, tempfile, time
 
 HERE = os.path.dirname(os.path.abspath(__file__))
 RUNS = 5
@@ -64,19 +64,25 @@ class Peer:
 # ---- the mail
 
 
-def make_maildir(archive, folder):
-    maildir = mailbox.Maildir(folder)
-    for message in mailbox.mbox(archive):
-        maildir.add(message)
+def make_maildir(folder, archives):
+    """The messages of archives as files, as notmuch and mu read them."""
+    for part in "cur", "new", "tmp":
+        os.makedirs(os.path.join(folder, "maildir", part))
+    numbers = itertools.count()
+    for archive in archives:
+        with open(os.path.join(folder, archive), "rb") as file:
+            for text in re.split(rb"\n\n(?=From )", file.read()):
+                with open(os.path.join(folder, "maildir", "cur", "%d:2,S" % next(numbers)), "wb") as out:
+                    out.write(text.partition(b"\n")[2] + b"\n")
 
 
 # ---- the peers
 
 
-def mbox_peer(name, program, folder, files, body, frequent, sender, subject):
+def mbox_peer(name, program, folder, files, body, frequent, sender, subject, archives=("m.mbox",)):
     rcfile, index, hits = files
     with open(os.path.join(folder, rcfile), "w") as out:
-        out.write("base=%s\nmbox=m.mbox\ndatabase=%s/%s\nmfolder=%s\nmformat=mbox\n" % (folder, folder, index, hits))
+        out.write("base=%s\nmbox=%s\ndatabase=%s/%s\nmfolder=%s\nmformat=mbox\n" % (folder, ":".join(archives), folder, index, hits))
     start = [program, "-f", rcfile]
     searches = {"body": start + ["-r", "b:" + body], "sender": start + ["-r", "f:" + sender, "s:" + subject], "mbox": start + ["b:" + frequent]}
     return Peer(name, folder, start, searches, stored=index, hits=hits)
@@ -150,7 +156,7 @@ def main(program):
         archive = os.path.join(folder, "m.mbox")
         subprocess.run(["cc", "-O2", "-o", os.path.join(folder, "measure"), os.path.join(HERE, "measure.c")], check=True)
         subprocess.run([sys.executable, os.path.join(HERE, "make_mbox.py"), "--messages", "10000", archive], check=True)
-        make_maildir(archive, os.path.join(folder, "maildir"))
+        make_maildir(folder, ["m.mbox"])
         print("10,000 messages, %.0f MB; sought: %s" % (os.path.getsize(archive) / 1e6, " ".join(SOUGHT)))
         measure([mbox_peer("mairix", program, folder, ("rc", "m.idx", "hits"), *SOUGHT),
                  mbox_peer("C mairix", "mairix", folder, ("c-rc", "c.idx", "c-hits"), *SOUGHT),

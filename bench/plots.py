@@ -3,31 +3,42 @@
 
     plots.py [REPORT]
 
-The first shows time and memory of an index run by the number of messages, the second the time of a search by the size of its index, beside its
-digest. Both axes are logarithmic.
+The first shows time and memory of an index run by the number of messages, the second those of a search, with the digest of its index. Both axes are
+logarithmic. Prints how many times the time and the memory each takes when the number of messages doubles, from 10,000 on.
 """
 import math, os, re, sys
 from glob import glob
 
 HERE = os.path.dirname(os.path.abspath(__file__))
 DOCS = os.path.join(HERE, "..", "docs")
-COLOURS = {"mairix": "#0b6e4f", "C-mairix": "#c1440e", "notmuch": "#3d5a98", "mu": "#8a6d3b", "search": "#0b6e4f", "sha256sum": "#777777"}
-LINE = re.compile(r"(\S+) +(\d+) +([\d.]+) s +([\d.]+) MB +([\d.]+) MB")
-WIDTH, HEIGHT, LEFT, BOTTOM, TOP_EDGE, RIGHT = 420, 300, 62, 44, 30, 14
+COLOURS = {"mairix": "#0b6e4f", "C-mairix": "#c1440e", "notmuch": "#3d5a98", "mu": "#8a6d3b", "sha256sum": "#777777"}
+LINE = re.compile(r"(\S+) +(\d+) +([\d.]+) s +([\d.]+) MB")
+LARGE = 10_000
+WIDTH, HEIGHT, LEFT, BOTTOM, TOP_EDGE, RIGHT = 440, 300, 62, 44, 30, 66
 
 
 def read(report):
-    """The points of each program: messages, seconds, megabytes, megabytes of index."""
+    """The points of each line's name, by the number of messages: messages, seconds, megabytes."""
     found = {}
     with open(report, encoding="utf-8") as file:
-        for name, count, seconds, memory, size in LINE.findall(file.read()):
-            found.setdefault(name, []).append((int(count), float(seconds), float(memory), float(size)))
-    return found
+        for name, count, seconds, memory in LINE.findall(file.read()):
+            found.setdefault(name, []).append((int(count), float(seconds), float(memory)))
+    return {name: sorted(points) for name, points in found.items()}
+
+
+def tell_growth(name, line):
+    """Prints what a doubling of the messages does, where small runs' own costs no longer show."""
+    large = [it for it in line if it[0] >= LARGE]
+    if len(large) > 1:
+        (few, fast, low), (many, slow, high) = large[0], large[-1]
+        doublings = math.log2(many / few)
+        print(f"{name}: {few:,} to {many:,} messages: at each doubling {(slow / max(fast, 0.001)) ** (1 / doublings):.2f} times the time, "
+              f"{(high / low) ** (1 / doublings):.2f} times the memory")
 
 
 def ticks(low, high):
-    """Powers of ten, and twice and five times these, between two numbers."""
-    steps = [mantissa * 10.0**power for power in range(-4, 8) for mantissa in (1, 2, 5)]
+    """Powers of ten between two numbers, and if these are few, also twice and five times these."""
+    steps = [mantissa * 10.0**power for power in range(-4, 8) for mantissa in ((1, 2, 5) if high < 200 * low else (1,))]
     return [it for it in steps if low <= it <= high]
 
 
@@ -68,7 +79,7 @@ class Chart:
             way = " ".join(f"{self.x(x):.1f},{self.y(y):.1f}" for x, y in points)
             yield f'<polyline points="{way}" fill="none" stroke="{COLOURS[name]}" stroke-width="2"/>'
             last_x, last_y = points[-1]
-            yield f'<text x="{self.x(last_x) - 4:.1f}" y="{self.y(last_y) - 7:.1f}" text-anchor="end" fill="{COLOURS[name]}">{name.replace("-", " ")}</text>'
+            yield f'<text x="{self.x(last_x) + 4:.1f}" y="{self.y(last_y) + 4:.1f}" fill="{COLOURS[name]}">{name.replace("-", " ")}</text>'
 
 
 def write(name, charts):
@@ -80,15 +91,20 @@ def write(name, charts):
         file.write(text)
 
 
+def draw(name, title, points):
+    """A picture of the time and the memory of some programs."""
+    seconds = {program: [(count, second) for count, second, _ in line] for program, line in points.items()}
+    memory = {program: [(count, used) for count, _, used in line] for program, line in points.items()}
+    write(name, [Chart(0, f"{title}: time", "messages", "processor seconds", seconds), Chart(WIDTH, f"{title}: memory", "messages", "MB", memory)])
+
+
 def main(report):
     points = read(report)
-    programs = [it for it in ("mairix", "C-mairix", "notmuch", "mu") if it in points]
-    seconds = {name: [(count, second) for count, second, _, _ in points[name]] for name in programs}
-    memory = {name: [(count, used) for count, _, used, _ in points[name]] for name in programs}
-    write("index-run.svg", [Chart(0, "An index run: time", "messages", "processor seconds", seconds),
-                            Chart(WIDTH, "An index run: memory", "messages", "MB", memory)])
-    search = {name: [(size, second) for _, second, _, size in points[name]] for name in ("search", "sha256sum")}
-    write("search.svg", [Chart(0, "A search", "MB of index", "processor seconds", search)])
+    for name, line in points.items():
+        tell_growth(name, line)
+    draw("index-run.svg", "An index run", {name: points[name] for name in COLOURS if name in points and name != "sha256sum"})
+    searches = {name: points[f"{name}-search"] for name in COLOURS if f"{name}-search" in points}
+    draw("search.svg", "A search", searches | {"sha256sum": points["sha256sum"]})
 
 
 if __name__ == "__main__":

@@ -11,6 +11,7 @@ looks instead for one word in each of the four kinds of mail of bench/rounds.py,
 import collections, os, re, shutil, statistics, subprocess, sys, tempfile, time
 
 from hostile_mail import Room, falling_words
+from peers import make_maildir
 from rounds import KINDS, furnish
 
 HERE = os.path.dirname(os.path.abspath(__file__))
@@ -48,16 +49,6 @@ def frequent_word(path):
     return word.decode(), counts[word]
 
 
-def make_maildir(path, folder):
-    """The messages as files, as notmuch and mu read them."""
-    for part in "cur", "new", "tmp":
-        os.makedirs(os.path.join(folder, "maildir", part))
-    with open(path, "rb") as file:
-        for number, text in enumerate(re.split(rb"\n\n(?=From )", file.read())):
-            with open(os.path.join(folder, "maildir", "cur", "%d:2,S" % number), "wb") as out:
-                out.write(text.partition(b"\n")[2] + b"\n")
-
-
 def peers(folder, word):
     """A search of each peer that is installed, after it has indexed the mail: name, command, environment."""
     if shutil.which("mairix"):
@@ -68,7 +59,7 @@ def peers(folder, word):
         yield "C mairix, excerpts", ["mairix", "-f", "c-rc", "-x", "b:" + word], None
         yield "C mairix, mbox", ["mairix", "-f", "c-rc", "b:" + word], None
     if shutil.which("notmuch") or shutil.which("mu"):
-        make_maildir(os.path.join(folder, "m.mbox"), folder)
+        make_maildir(folder, ["m.mbox"])
     if shutil.which("notmuch"):
         environment = {"NOTMUCH_CONFIG": os.path.join(folder, "notmuch"), "HOME": folder}
         with open(environment["NOTMUCH_CONFIG"], "w") as out:
