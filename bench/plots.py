@@ -78,8 +78,15 @@ class Chart:
         for name, points in self.curves.items():
             way = " ".join(f"{self.x(x):.1f},{self.y(y):.1f}" for x, y in points)
             yield f'<polyline points="{way}" fill="none" stroke="{COLOURS[name]}" stroke-width="2"/>'
-            last_x, last_y = points[-1]
-            yield f'<text x="{self.x(last_x) + 4:.1f}" y="{self.y(last_y) + 4:.1f}" fill="{COLOURS[name]}">{name.replace("-", " ")}</text>'
+        yield from self.names()
+
+    def names(self):
+        """The name of each curve at its end, a line below another that ends as far to the right."""
+        above = {}
+        for name, points in sorted(self.curves.items(), key=lambda it: self.y(it[1][-1][1])):
+            x, y = points[-1]
+            above[x] = max(self.y(y) + 4, above.get(x, 0) + 12)
+            yield f'<text x="{self.x(x) + 4:.1f}" y="{above[x]:.1f}" fill="{COLOURS[name]}">{name.replace("-", " ")}</text>'
 
 
 def write(name, charts):
