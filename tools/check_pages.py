@@ -18,7 +18,7 @@ from crates_elsewhere import files_of_caller
 from page_examples import TOP, Sandbox, checks_of, roff_text
 
 # Texts of faults that no run prints: the parser answers the first two itself, and a job that has failed isn't asked again.
-UNTOLD = {"help", "version", "archive N: failed before", "query item N: out of memory"}
+UNTOLD = {"help", "version", "archive N: failed before"}
 # How wide the lines of help are at most, and how many tell of a query language, with their title.
 WIDTH, LINES_OF_LANGUAGE = 80, 10
 

@@ -18,7 +18,7 @@ pub use Rattle.mail_query.specs.BooleanTerms.{with_field, word_query}
 pub use Rattle.mail_query.specs.FlagGrammar.{AreFlags, EachFlag, IsFlags, NoFlag}
 pub use Rattle.mail_query.specs.Flags.{flag_of, flags_behind, some_of, with_flag}
 unfoldable pub use Rattle.mail_query.specs.Flags.{flags_of}
-pub use Rattle.mail_query.specs.Inside.Reading.{forms_of}
+pub use Rattle.mail_query.specs.Inside.Reading.{forms_of, numbered}
 pub use Rattle.mail_query.specs.Inside.Shown.{blank_count, nearest_first, run_length, shown_level, shown_stack}
 pub use Rattle.mail_query.specs.Inside.Shown.{shown_waiting}
 pub use Rattle.mail_query.specs.Kinds.{no_kinds, union}
@@ -42,7 +42,6 @@ pub use Rattle.mail_query.specs.Pieces.{cut, is_byte, is_nonempty, without_first
 pub use Rattle.mail_query.specs.Query.{Any, Date, Either, End, HasFlag, More, Not, Part, Prefix, Queries, Query, Size}
 pub use Rattle.mail_query.specs.Query.{Word, all_of, deepest, depth, either_of, have_names, kinds_inside, kinds_sought}
 pub use Rattle.mail_query.specs.Query.{members_of, queries_of, query_of, uses_names}
-pub use Rattle.mail_query.specs.Refusals.{kind_refusal, numbered, query_refusal}
 pub use Rattle.mail_query.specs.SizeGrammar.{Between, FromSize, FromZero, InBytes, InUnits, IsHigh, IsLow, IsNumber}
 pub use Rattle.mail_query.specs.SizeGrammar.{IsSize, IsSizes, ToSize, Unbounded}
 pub use Rattle.mail_query.specs.Sizes.{before_last_byte, factor_of, high_of, last_byte, low_of, scaled, size_limit}
@@ -62,6 +61,8 @@ pub use Rattle.mail_query.specs.declared.fault.QueryFaultKind.TheVariants.{Phras
 pub use Rattle.mail_query.specs.declared.kinds.Kinds.{Kinds}
 pub use Rattle.mail_words.specs.declared.flags.Flag.{Flag}
 pub use Rattle.mail_words.specs.declared.flags.Flag.TheVariants.{Flagged, Replied, Seen}
+pub use Rattle.or_memory.specs.Refusals.{refusal}
+pub use Rattle.or_memory.specs.declared.or_memory.OrMemory.{OrMemory}
 pub use Rattle.std.proofs.Common.{Bool, Box, Err, Global, IfErr, IfOk, IfSome, IsUtf8, List, MatchOption, None, Ok}
 pub use Rattle.std.proofs.Common.{Option, Result, Some, String, [], add-one, ap, append-nil, append_assoc, arith, chars}
 pub use Rattle.std.proofs.Common.{cond, drop, drop-cons, eqb, false, get_or, inl, inr, leb, length, length-append, lit<}

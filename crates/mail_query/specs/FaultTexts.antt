@@ -6,7 +6,6 @@ use Rattle.mail_query.specs.declared.fault.QueryFaultKind.{QueryFaultKind}
 use Rattle.mail_query.specs.declared.fault.QueryFaultKind.TheVariants.{NoPattern, BadPrefix, BadWord, Approximate}
 use Rattle.mail_query.specs.declared.fault.QueryFaultKind.TheVariants.{BadDate, BadSize, BadFlag, NeedsOperator}
 use Rattle.mail_query.specs.declared.fault.QueryFaultKind.TheVariants.{BadParenthesis, MissingTerm, TooDeep, Phrase}
-use Rattle.mail_query.specs.declared.fault.QueryFaultKind.TheVariants.{OutOfMemory}
 
 -- the text of a kind of fault
 abbrev pub text_of_kind : QueryFaultKind → List ℕ
@@ -22,13 +21,7 @@ text_of_kind BadParenthesis = codes "bad parenthesis"
 text_of_kind MissingTerm = codes "term missing"
 text_of_kind TooDeep = codes "too deep"
 text_of_kind Phrase = codes "phrase not supported"
-text_of_kind OutOfMemory = codes "out of memory"
 
--- the text with the number, such as `query item 2: bad word`; numbers count from 1, and lack of memory has none
-abbrev pub text_of_item : ℕ → QueryFaultKind → List ℕ
-text_of_item number OutOfMemory = text_of_kind OutOfMemory
-text_of_item number kind = codes "query item " ++ decimal number ++ 58 ∷ 32 ∷ text_of_kind kind
-
--- the text of a fault
+-- the text of a fault, such as `query item 2: bad word`; numbers count from 1
 abbrev pub text_of_query : QueryFault → List ℕ
-text_of_query fault = text_of_item fault.number fault.kind
+text_of_query fault = codes "query item " ++ decimal fault.number ++ 58 ∷ 32 ∷ text_of_kind fault.kind

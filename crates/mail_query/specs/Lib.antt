@@ -12,7 +12,6 @@ pub mod SizeGrammar
 pub mod FlagGrammar
 pub mod MairixGrammar
 pub mod MairixFaults
-pub mod Refusals
 pub mod FaultTexts
 pub mod Mail
 pub mod Tokens

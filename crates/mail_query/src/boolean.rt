@@ -1,8 +1,8 @@
 //! Reads queries in the boolean language.
-ghost use Rattle.std.specs.Prelude.{◌≡◌, Some, IfOk, IfErr};
+ghost use Rattle.std.specs.Prelude.{◌≡◌, Some, IfOk};
 ghost use Rattle.contract_words.specs.Answers.{Gives};
 ghost use Rattle.mail_query.specs.Meaning.{meaning};
-ghost use Rattle.mail_query.specs.Refusals.{query_refusal, IfRefused};
+ghost use Rattle.or_memory.specs.Refusals.{refusal, IfRefused};
 ghost use Rattle.mail_query.specs.Mail.{boolean_lexicon, boolean_query};
 ghost use Rattle.mail_query.specs.Tokens.{tokens};
 ghost use Rattle.mail_query.specs.BooleanGrammar.{Reads};
@@ -17,9 +17,10 @@ mod token;
 
 use crate::boolean::reader::Reader;
 use crate::boolean::token::next_token;
-use crate::fault::{QueryFault, QueryFaultKind};
+use crate::fault::{QueryFault, QueryFaultKind, numbered};
 use crate::query::Query;
 use mail_dates::Moment;
+use or_memory::OrMemory;
 use std::alloc::Global;
 
 /// Reads a query in the boolean language.
@@ -30,38 +31,43 @@ use std::alloc::Global;
 /// # Errors
 ///
 /// The first fault, with the number of its token, counted from 1; the end counts as a token. A text without a token
-/// is `NoPattern` with number 1, and lack of memory is `OutOfMemory` with number 0.
-pub fn read_boolean(alloc: Global, text: &str, _now: Moment) -> Result<Query, QueryFault>
-    ensures answer { Gives meaning query_refusal result (boolean_query text.now) }
+/// is `NoPattern` with number 1. `Memory` for lack of memory.
+pub fn read_boolean(alloc: Global, text: &str, _now: Moment) -> Result<Query, OrMemory<QueryFault>>
+    ensures answer { Gives meaning refusal result (boolean_query text.now) }
     ensures read { IfOk result (λ q. Reads boolean_lexicon (tokens text.now) (meaning q)) }
     ensures fault { IfRefused result
         (λ f. first_fault boolean_lexicon (tokens text.now) ≡ Some f) }
-    ensures memory { IfErr result (λ f. f.kind ≡ QueryFaultKind.OutOfMemory → f.number ≡ 0) }
 {
     let mut reader = Reader::new(alloc);
     read_tokens(alloc, &mut reader, text)
 }
 
 /// Reads all tokens of a text, with a reader that has read nothing yet.
-fn read_tokens(alloc: Global, reader: &mut Reader, text: &str) -> Result<Query, QueryFault>
+fn read_tokens(
+    alloc: Global,
+    reader: &mut Reader,
+    text: &str,
+) -> Result<Query, OrMemory<QueryFault>>
     requires { shown reader.old ≡ start }
-    ensures answer { Gives meaning query_refusal result (boolean_query text.now) }
-    ensures memory { IfErr result (λ f. f.kind ≡ QueryFaultKind.OutOfMemory → f.number ≡ 0) }
+    ensures { Gives meaning refusal result (boolean_query text.now) }
 {
     let mut rest = text;
     let mut number = 1;
     'tokens: while let Some((token, behind)) = next_token(rest) {
-        if let Err(kind) = reader.read(alloc, token) {
-            return Err(QueryFault::at(number, kind));
+        if let Err(given) = reader.read(alloc, token) {
+            return Err(numbered(number, given));
         }
         rest = behind;
         number += 1;
     }
     if number == 1 {
-        return Err(QueryFault::at(1, QueryFaultKind::NoPattern));
+        return Err(OrMemory::Refused(QueryFault {
+            number: 1,
+            kind: QueryFaultKind::NoPattern,
+        }));
     }
     match reader.end(alloc) {
         Ok(node) => Ok(Query::new(node)),
-        Err(kind) => Err(QueryFault::at(number, kind)),
+        Err(given) => Err(numbered(number, given)),
     }
 }

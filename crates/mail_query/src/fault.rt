@@ -1,7 +1,8 @@
 //! The faults with which a query is refused.
 ghost use Rattle.std.specs.Prelude.{◌≡◌};
+ghost use Rattle.mail_query.specs.Inside.Reading.{numbered};
 
-use std::alloc::{AllocError, AllocFailed};
+use or_memory::OrMemory;
 
 /// What is wrong with a query.
 #[derive(Clone, Copy, Debug)]
@@ -30,59 +31,23 @@ pub enum QueryFaultKind {
     TooDeep,
     /// A term has a `"`. Phrases aren't supported.
     Phrase,
-    /// Memory ran out.
-    OutOfMemory,
-}
-
-impl From<AllocError> for QueryFaultKind {
-    ghost use Rattle.mail_query.specs.declared.fault.QueryFaultKind.TheVariants.{OutOfMemory};
-
-    ghost from_gives = { λ _ kind. kind ≡ OutOfMemory };
-
-    fn from(_: AllocError) -> Self {
-        QueryFaultKind::OutOfMemory
-    }
-}
-
-impl<T: Drop> From<AllocFailed<T>> for QueryFaultKind {
-    ghost use Rattle.mail_query.specs.declared.fault.QueryFaultKind.TheVariants.{OutOfMemory};
-
-    ghost from_gives = { λ _ kind. kind ≡ OutOfMemory };
-
-    fn from(_: AllocFailed<T>) -> Self {
-        QueryFaultKind::OutOfMemory
-    }
 }
 
 /// Why a query is refused, and at which pattern or token.
 #[derive(Clone, Copy, Debug)]
 pub struct QueryFault {
     /// The number of the pattern, or of the token in a boolean query, counted from 1; the end counts as a token.
-    /// It is 1 if there is no pattern or token, and 0 if memory ran out.
+    /// It is 1 if there is no pattern or token.
     pub number: usize,
     pub kind: QueryFaultKind,
 }
 
-impl From<AllocError> for QueryFault {
-    ghost use Rattle.mail_query.specs.Refusals.{out_of_memory};
-
-    ghost from_gives = { λ _ fault. fault ≡ out_of_memory };
-
-    fn from(_: AllocError) -> Self {
-        QueryFault::at(0, QueryFaultKind::OutOfMemory)
-    }
-}
-
-impl QueryFault {
-    ghost use Rattle.mail_query.specs.Refusals.{numbered};
-
-    /// Returns the fault with this number. A fault of memory gets the number 0.
-    pub(crate) fn at(number: usize, kind: QueryFaultKind) -> QueryFault
-        ensures { result ≡ numbered number kind }
-    {
-        match kind {
-            QueryFaultKind::OutOfMemory => QueryFault { number: 0, kind },
-            _ => QueryFault { number, kind },
-        }
+/// Returns the fault of the pattern or token with this number. Lack of memory has no number.
+pub(crate) fn numbered(number: usize, given: OrMemory<QueryFaultKind>) -> OrMemory<QueryFault>
+    ensures { result ≡ numbered number given }
+{
+    match given {
+        OrMemory::Refused(kind) => OrMemory::Refused(QueryFault { number, kind }),
+        OrMemory::Memory => OrMemory::Memory,
     }
 }

@@ -24,7 +24,6 @@ impl fmt::Display for QueryFaultKind {
             QueryFaultKind::MissingTerm => "term missing",
             QueryFaultKind::TooDeep => "too deep",
             QueryFaultKind::Phrase => "phrase not supported",
-            QueryFaultKind::OutOfMemory => "out of memory",
         })
     }
 }
@@ -38,10 +37,7 @@ impl fmt::Display for QueryFault {
     ghost output = { λ fault. Some (text_of_query fault) };
 
     fn fmt<W: fmt::Write>(&self, f: &mut fmt::Formatter<W>) -> fmt::Result {
-        match self.kind {
-            QueryFaultKind::OutOfMemory => self.kind.fmt(f),
-            kind => write!(f, "query item {}: {kind}", self.number),
-        }
+        write!(f, "query item {}: {}", self.number, self.kind)
     }
 }
 

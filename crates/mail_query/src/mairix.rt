@@ -1,10 +1,10 @@
 //! Reads mairix patterns.
-ghost use Rattle.std.specs.Prelude.{◌≡◌, map, string_bytes, IfOk, IfErr};
+ghost use Rattle.std.specs.Prelude.{◌≡◌, map, string_bytes, IfOk};
 ghost use Rattle.contract_words.specs.Answers.{Gives};
 ghost use Rattle.mail_query.specs.Query.{query_of};
 ghost use Rattle.mail_query.specs.Meaning.{meaning};
 ghost use Rattle.mail_query.specs.Inside.Reading.{kinds_added};
-ghost use Rattle.mail_query.specs.Refusals.{kind_refusal, query_refusal, IfRefused};
+ghost use Rattle.or_memory.specs.Refusals.{refusal, IfRefused};
 ghost use Rattle.mail_query.specs.Mairix.{kinds_of, pattern_query};
 ghost use Rattle.mail_query.specs.MairixGrammar.{IsAsked, AskNothing};
 ghost use Rattle.mail_query.specs.MairixFaults.{IsFirstFault};
@@ -13,7 +13,7 @@ ghost use Rattle.mail_query.specs.Mail.{pattern_lexicon, mairix_query};
 mod forms;
 mod terms;
 
-use crate::fault::{QueryFault, QueryFaultKind};
+use crate::fault::{QueryFault, QueryFaultKind, numbered};
 use crate::flags::read_flags;
 use crate::kinds::{Kinds, kinds};
 use crate::mairix::forms::Target;
@@ -23,6 +23,7 @@ use crate::pieces::cut;
 use crate::query::Query;
 use crate::size::sizes_of;
 use mail_dates::{Moment, range_of};
+use or_memory::OrMemory;
 use std::alloc::Global;
 
 /// Reads a list of patterns. A message satisfies the query if it satisfies all of them.
@@ -33,9 +34,13 @@ use std::alloc::Global;
 /// # Errors
 ///
 /// The first faulty pattern, by its number from 1, with its first fault from the left. An empty list is `NoPattern`
-/// with number 1, and lack of memory is `OutOfMemory` with number 0.
-pub fn read_mairix(alloc: Global, patterns: &[String], now: Moment) -> Result<Query, QueryFault>
-    ensures answer { Gives meaning query_refusal result
+/// with number 1. `Memory` for lack of memory.
+pub fn read_mairix(
+    alloc: Global,
+    patterns: &[String],
+    now: Moment,
+) -> Result<Query, OrMemory<QueryFault>>
+    ensures answer { Gives meaning refusal result
         (mairix_query (map string_bytes patterns.now) now) }
     ensures read { IfOk result
         (λ q. IsAsked (pattern_lexicon now) (map string_bytes patterns.now) (meaning q)) }
@@ -43,33 +48,37 @@ pub fn read_mairix(alloc: Global, patterns: &[String], now: Moment) -> Result<Qu
         (λ _. AskNothing (pattern_lexicon now) (map string_bytes patterns.now)) }
     ensures first_fault { IfRefused result
         (IsFirstFault (pattern_lexicon now) (map string_bytes patterns.now)) }
-    ensures memory { IfErr result (λ f. f.kind ≡ QueryFaultKind.OutOfMemory → f.number ≡ 0) }
 {
     read_patterns(alloc, patterns, now)
 }
 
-// The clauses `read` to `first_fault` of `read_mairix` follow from the laws, so the proof of this loop needs only two.
-fn read_patterns(alloc: Global, patterns: &[String], now: Moment) -> Result<Query, QueryFault>
-    ensures answer { Gives meaning query_refusal result
-        (mairix_query (map string_bytes patterns.now) now) }
-    ensures memory { IfErr result (λ f. f.kind ≡ QueryFaultKind.OutOfMemory → f.number ≡ 0) }
+// The clauses `read` to `first_fault` of `read_mairix` follow from the laws, so the proof of this loop needs only one.
+fn read_patterns(
+    alloc: Global,
+    patterns: &[String],
+    now: Moment,
+) -> Result<Query, OrMemory<QueryFault>>
+    ensures { Gives meaning refusal result (mairix_query (map string_bytes patterns.now) now) }
 {
     if patterns.is_empty() {
-        return Err(QueryFault::at(1, QueryFaultKind::NoPattern));
+        return Err(OrMemory::Refused(QueryFault {
+            number: 1,
+            kind: QueryFaultKind::NoPattern,
+        }));
     }
     let mut members = Vec::new(alloc);
     for (i, pattern) in patterns.iter().enumerate() {
         match read_pattern(alloc, pattern.as_str(), now) {
             Ok(node) => add(&mut members, node)?,
-            Err(kind) => return Err(QueryFault::at(i + 1, kind)),
+            Err(given) => return Err(numbered(i + 1, given)),
         }
     }
     Ok(Query::new(all_of(members)))
 }
 
 /// Reads one pattern.
-fn read_pattern(alloc: Global, pattern: &str, now: Moment) -> Result<Node, QueryFaultKind>
-    ensures { Gives query_of kind_refusal result (pattern_query (pattern_lexicon now) pattern.now) }
+fn read_pattern(alloc: Global, pattern: &str, now: Moment) -> Result<Node, OrMemory<QueryFaultKind>>
+    ensures { Gives query_of refusal result (pattern_query (pattern_lexicon now) pattern.now) }
 {
     let Some((prefix, rest)) = cut(pattern, ':') else {
         // A bare word isn't looked for in blind copies or in names of attachments.
@@ -80,12 +89,12 @@ fn read_pattern(alloc: Global, pattern: &str, now: Moment) -> Result<Node, Query
         "m" => read_rest(alloc, Target::OwnId, rest),
         "d" => range_of(rest, now)
             .map(Node::Date)
-            .or(Err(QueryFaultKind::BadDate)),
-        "z" => sizes_of(rest).ok_or(QueryFaultKind::BadSize),
+            .or(Err(OrMemory::Refused(QueryFaultKind::BadDate))),
+        "z" => sizes_of(rest).ok_or(OrMemory::Refused(QueryFaultKind::BadSize)),
         "F" => read_flags(alloc, rest.as_bytes()),
         letters => match kinds_of(letters.as_bytes()) {
             Some(kinds) => read_rest(alloc, Target::Words(kinds), rest),
-            None => Err(QueryFaultKind::BadPrefix),
+            None => Err(OrMemory::Refused(QueryFaultKind::BadPrefix)),
         },
     }
 }

@@ -1,9 +1,8 @@
 //! The tree of a query. A node keeps its members in a plain `Vec` (decision 91 in docs/DECISIONS.md).
-ghost use Rattle.std.specs.Prelude.{◌≡◌, ◌++◌, [], ◌∷◌, IfOk, IfErr, OnOk};
+ghost use Rattle.std.specs.Prelude.{◌≡◌, ◌++◌, [], ◌∷◌, IfOk, OnOk};
 ghost use Rattle.mail_query.specs.Query.{query_of, queries_of, all_of, either_of};
 ghost use Rattle.mail_query.specs.Query as asked;
 
-use crate::fault::QueryFaultKind;
 use crate::kinds::Kinds;
 use crate::query_text::QueryText;
 use mail_dates::Range;
@@ -46,10 +45,9 @@ pub(crate) fn add(members: &mut Vec<Node>, node: Node) -> Result<(), AllocError>
     Ok(())
 }
 
-/// Returns the node that is satisfied exactly if this one isn't. It fails only for lack of memory.
-pub(crate) fn negated(alloc: Global, node: Node) -> Result<Node, QueryFaultKind>
-    ensures ok { IfOk result (λ other. query_of other ≡ asked.Not (query_of node)) }
-    ensures err { IfErr result (λ kind. kind ≡ QueryFaultKind.OutOfMemory) }
+/// Returns the node that is satisfied exactly if this one isn't.
+pub(crate) fn negated(alloc: Global, node: Node) -> Result<Node, AllocError>
+    ensures { IfOk result (λ other. query_of other ≡ asked.Not (query_of node)) }
 {
     let node = Box::new(alloc, node)?;
     Ok(Node::Not(node))

@@ -20,11 +20,11 @@ pub use Rattle.mairix_options.specs.Rcfile.{base_in, database_in, earlier, entry
 pub use Rattle.mairix_options.specs.Rcfile.{if_any, is_skipped, keyword_of, last_of, line_settings, lines_in}
 pub use Rattle.mairix_options.specs.Rcfile.{mfolder_in, mfolder_misfit, names_in, paths_in, rc_fitting, rc_from, rc_of}
 pub use Rattle.mairix_options.specs.Rcfile.{rc_with, required, setting_of, settings_from, supported, text_settings}
-pub use Rattle.mairix_options.specs.Refusals.{refusal}
+pub use Rattle.or_memory.specs.Refusals.{refusal}
 pub use Rattle.mairix_options.specs.declared.command_line.Plan.{Plan}
 pub use Rattle.mairix_options.specs.declared.command_line.UsageFault.{UsageFault}
 pub use Rattle.mairix_options.specs.declared.mail_format.MailFormat.{MailFormat}
-pub use Rattle.mairix_options.specs.declared.or_memory.OrMemory.{OrMemory}
+pub use Rattle.or_memory.specs.declared.or_memory.OrMemory.{OrMemory}
 pub use Rattle.mairix_options.specs.declared.rcfile.Rc.{Rc}
 pub use Rattle.mairix_options.specs.declared.rcfile.RcFault.{RcFault}
 pub use Rattle.mairix_options.specs.declared.rcfile.RcFault.TheVariants.{BadFormat, BadLine, Expansion, Missing}

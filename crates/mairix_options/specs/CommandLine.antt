@@ -15,8 +15,8 @@ use Rattle.contract_words.specs.Answers.{◌>>=◌}
 use Rattle.mairix_options.specs.declared.command_line.Plan.{Plan}
 use Rattle.mairix_options.specs.declared.command_line.UsageFault.{UsageFault}
 use Rattle.mairix_options.specs.declared.command_line.UsageFault.TheVariants.{Parse, TwoFormats, Help, Version}
-use Rattle.mairix_options.specs.declared.or_memory.OrMemory.{OrMemory}
-use Rattle.mairix_options.specs.declared.or_memory.OrMemory.TheVariants.{Refused, Memory}
+use Rattle.or_memory.specs.declared.or_memory.OrMemory.{OrMemory}
+use Rattle.or_memory.specs.declared.or_memory.OrMemory.TheVariants.{Refused, Memory}
 
 -- ---- the command
 

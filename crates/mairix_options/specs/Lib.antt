@@ -5,4 +5,4 @@ pub mod CommandLine
 pub mod Inside
 pub mod Path
 pub mod Rcfile
-pub mod Refusals
+pub mod FaultTexts

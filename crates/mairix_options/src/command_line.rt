@@ -4,12 +4,12 @@ ghost use Rattle.clap.specs.Words.{app_of, rule_of, found_of, rows_of, first_of,
 ghost use Rattle.contract_words.specs.Answers.{Gives};
 ghost use Rattle.mairix_options.specs.CommandLine.{bare_command, command, flag, parse, plan, plan_in, one_format, fault_of_kind, error_refusal};
 ghost use Rattle.mairix_options.specs.Inside.Arguments.{rule_in};
-ghost use Rattle.mairix_options.specs.Refusals.{refusal};
+ghost use Rattle.or_memory.specs.Refusals.{refusal};
 
-use crate::or_memory::OrMemory;
 use crate::owned_text::{Text, Texts};
 use clap::error::ErrorKind;
 use clap::{Arg, ArgAction, ArgMatches, Command};
+use or_memory::OrMemory;
 use std::alloc::{AllocError, Global};
 
 /// How a user writes an argument.

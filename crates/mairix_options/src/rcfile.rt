@@ -6,14 +6,14 @@ ghost use Rattle.mail_index.specs.Tables.{IsPath};
 ghost use Rattle.mairix_options.specs.Rcfile.{archives_misfit, first_misfit, all_paths, rc_with, rc_of};
 ghost use Rattle.mairix_options.specs.Inside.Said.{Says, rc_behind};
 ghost use Rattle.mairix_options.specs.declared.setting.Setting.{Setting};
-ghost use Rattle.mairix_options.specs.Refusals.{refusal};
+ghost use Rattle.or_memory.specs.Refusals.{refusal};
 
 use crate::mail_format::MailFormat;
-use crate::or_memory::OrMemory;
 use crate::owned_text::{Text, Texts};
 use crate::path::{add_archive_paths, archives_fit, mfolder_fits, mfolder_path};
 use crate::setting::{ArchivesLine, MfolderLine, Setting, line_setting};
 use bstr::ByteSlice;
+use or_memory::OrMemory;
 use std::alloc::{AllocError, Global};
 
 /// What an rcfile says, with paths put under its base.

@@ -5,16 +5,16 @@ ghost use Rattle.std.specs.Option.{option_to_list};
 ghost use Rattle.contract_words.specs.Answers.{Gives};
 ghost use Rattle.mairix_options.specs.Path.{is_path, has_expansion, has_wildcard};
 ghost use Rattle.mairix_options.specs.Rcfile.{keyword_of, archives_of, names_in, paths_in, supported, unexpanded, assigned, entry, line_settings};
-ghost use Rattle.mairix_options.specs.Refusals.{refusal};
+ghost use Rattle.or_memory.specs.Refusals.{refusal};
 
 use crate::blanks::{trimmed, trimmed_text};
 use crate::mail_format::MailFormat;
-use crate::or_memory::OrMemory;
 use crate::owned_text::{Text, Texts};
 use crate::path::{
     all_are_paths, archives_fit, has_expansion, has_wildcard, is_path, mfolder_fits,
 };
 use crate::rcfile::RcFault;
+use or_memory::OrMemory;
 use std::alloc::{AllocError, Global};
 use std::str;
 

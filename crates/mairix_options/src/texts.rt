@@ -7,7 +7,7 @@ use std::fmt;
 
 impl fmt::Display for UsageFault {
     ghost use Rattle.std.specs.Prelude.{Some};
-    ghost use Rattle.mairix_options.specs.Refusals.{text_of_usage};
+    ghost use Rattle.mairix_options.specs.FaultTexts.{text_of_usage};
 
     ghost output = { λ fault. Some (text_of_usage fault) };
 
@@ -25,7 +25,7 @@ impl Error for UsageFault {}
 
 impl fmt::Display for RcFault {
     ghost use Rattle.std.specs.Prelude.{Some};
-    ghost use Rattle.mairix_options.specs.Refusals.{text_of_rc};
+    ghost use Rattle.mairix_options.specs.FaultTexts.{text_of_rc};
 
     ghost output = { λ fault. Some (text_of_rc fault) };
 

@@ -3,9 +3,9 @@ use Rattle.std.proofs.Common.{◌≡◌, ◌∙◌, ◌⊎◌, inl, inr, refl, s
 use Rattle.std.proofs.Common.{IfErr, IfSome, string_bytes, Bool, true, false, not, ◌&&◌, ◌==◌, length, if◌then◌else◌}
 use Rattle.std.specs.Option.{option_map_or}
 use Rattle.contract_words.specs.Answers.{◌>>=◌, fault_as}
-use Rattle.mairix_options.specs.Refusals.{refusal}
-use Rattle.mairix_options.specs.declared.or_memory.OrMemory.{OrMemory}
-use Rattle.mairix_options.specs.declared.or_memory.OrMemory.TheVariants as given
+use Rattle.or_memory.specs.Refusals.{refusal}
+use Rattle.or_memory.specs.declared.or_memory.OrMemory.{OrMemory}
+use Rattle.or_memory.specs.declared.or_memory.OrMemory.TheVariants as given
 use Rattle.named_files.specs.Refusals.{HasCause}
 use Rattle.named_files.specs.declared.folder.Folder.{Ghosts as FolderGhosts}
 use Rattle.named_files.specs.declared.refusal.Refusal.{Refusal}

@@ -1,7 +1,7 @@
 -- How a run ends, and why one is stopped.
 use Rattle.std.specs.Prelude.{◌≡◌, ℕ, List, Result, Ok, Err}
 use Rattle.std.specs.String.{string_bytes}
-use Rattle.mairix_options.specs.declared.or_memory.OrMemory.{OrMemory}
+use Rattle.or_memory.specs.declared.or_memory.OrMemory.{OrMemory}
 use Rattle.named_files.specs.declared.refusal.Refusal.{Refusal}
 use Rattle.named_files.specs.declared.refusal.Refusal.TheVariants as why
 use Rattle.run_faults.specs.Faults.{IsOrMemory}

@@ -2,8 +2,8 @@
 ghost use Rattle.std.specs.Prelude.{◌≡◌, ℕ, List};
 ghost use Rattle.mairix_run.specs.Stops.{IsStoppedAt, IsGivenUnlessRefused, IsStoppedBy, ending_by, ending_of};
 
-use mairix_options::OrMemory;
 use named_files::Refusal;
+use or_memory::OrMemory;
 use run_faults::Fault;
 use std::alloc::{AllocError, Global};
 

@@ -22,10 +22,11 @@ pub use laws::{
     unaltered_archives_are_those_indexed,
 };
 pub use mairix_options::{
-    MailFormat, Name, OrMemory, Plan, Rc, RcFault, Text, Texts, UsageFault, answer_file,
-    answer_format, plan_of, read_rc, usage_text,
+    MailFormat, Name, Plan, Rc, RcFault, Text, Texts, UsageFault, answer_file, answer_format,
+    plan_of, read_rc, usage_text,
 };
 pub use once::once_run;
+pub use or_memory::OrMemory;
 pub use reply::Reply;
 pub use reply_laws::{once_runs_have_one_reply, stored_runs_have_one_reply};
 pub use run_faults::{Fault, fault_text};

@@ -3,14 +3,15 @@ ghost use Rattle.std.specs.Prelude.{◌≡◌, map, IfErr};
 ghost use Rattle.std.specs.String.{string_bytes};
 ghost use Rattle.contract_words.specs.Answers.{Gives};
 ghost use Rattle.mail_query.specs.Meaning.{meaning};
-ghost use Rattle.mail_query.specs.Refusals.{query_refusal};
 ghost use Rattle.mairix_tool.specs.Asked.{query_asked, format_of_mail};
+ghost use Rattle.or_memory.specs.Refusals.{refusal};
 ghost use Rattle.run_faults.specs.Faults.{refusal_of, IsEarly};
 
 use mail_answer::Format;
 use mail_dates::Moment;
 use mail_query::{Query, QueryFault, read_boolean, read_mairix};
 use mairix_options::{MailFormat, Plan, Texts, answer_format, plan_of, read_rc};
+use or_memory::OrMemory;
 use run_faults::Fault;
 use std::alloc::Global;
 
@@ -69,8 +70,8 @@ fn read_query(
     patterns: &[String],
     boolean: bool,
     now: Moment,
-) -> Result<Query, QueryFault>
-    ensures { Gives meaning query_refusal result
+) -> Result<Query, OrMemory<QueryFault>>
+    ensures { Gives meaning refusal result
         (query_asked boolean (map string_bytes patterns.now) now) }
 {
     if boolean {

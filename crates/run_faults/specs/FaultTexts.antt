@@ -2,7 +2,7 @@
 use Rattle.std.specs.Prelude.{ℕ, ◌+◌, List, ◌∷◌, ◌++◌, codes}
 use Rattle.std.specs.Fmt.{decimal}
 use Rattle.mbox_cutter.specs.FaultTexts.{text_of_cut}
-use Rattle.mairix_options.specs.Refusals.{text_of_usage, text_of_rc}
+use Rattle.mairix_options.specs.FaultTexts.{text_of_usage, text_of_rc}
 use Rattle.mail_query.specs.FaultTexts.{text_of_query}
 use Rattle.mail_index.specs.FaultTexts.{text_of_index}
 use Rattle.run_faults.specs.declared.fault.Fault.{Fault}

@@ -4,12 +4,9 @@ use Rattle.mbox_cutter.specs.declared.event.CutFault.{CutFault}
 use Rattle.mbox_cutter.specs.declared.event.CutFault.TheVariants.{Device, NotAnMbox, ArchiveTooLong, Failed}
 use Rattle.mairix_options.specs.declared.command_line.UsageFault.{UsageFault}
 use Rattle.mairix_options.specs.declared.command_line.UsageFault.TheVariants as usage
-use Rattle.mairix_options.specs.declared.or_memory.OrMemory.{OrMemory}
-use Rattle.mairix_options.specs.declared.or_memory.OrMemory.TheVariants.{Refused}
-use Rattle.mairix_options.specs.declared.or_memory.OrMemory.TheVariants as given
-use Rattle.mail_query.specs.declared.fault.QueryFault.{QueryFault}
-use Rattle.mail_query.specs.declared.fault.QueryFaultKind.{QueryFaultKind}
-use Rattle.mail_query.specs.declared.fault.QueryFaultKind.TheVariants as query
+use Rattle.or_memory.specs.declared.or_memory.OrMemory.{OrMemory}
+use Rattle.or_memory.specs.declared.or_memory.OrMemory.TheVariants.{Refused}
+use Rattle.or_memory.specs.declared.or_memory.OrMemory.TheVariants as given
 use Rattle.run_faults.specs.declared.fault.Fault.{Fault}
 use Rattle.run_faults.specs.declared.fault.Fault.TheVariants as of
 use Rattle.run_faults.specs.declared.fault.Fault.TheVariants.{Usage, Rc, Query, Archive, Index, OldIndex, Stale, Out}
@@ -21,11 +18,6 @@ status_of_usage usage.Help = 0
 status_of_usage usage.Version = 0
 status_of_usage usage.Parse = 2
 status_of_usage usage.TwoFormats = 2
-
--- the exit status of a refused query; lack of memory has its own
-abbrev pub status_of_query : QueryFaultKind → ℕ
-status_of_query query.OutOfMemory = 5
-status_of_query _ = 2
 
 -- the exit status of a fault of an archive: too long 5; not readable, or no mbox 4
 abbrev pub status_of_cut : CutFault → ℕ
@@ -40,7 +32,7 @@ status_of_cut Failed = 4
 abbrev pub status_of_fault : Fault → ℕ
 status_of_fault (Usage fault) = status_of_usage fault
 status_of_fault (Rc fault) = 2
-status_of_fault (Query fault) = status_of_query fault.kind
+status_of_fault (Query fault) = 2
 status_of_fault (Archive number fault) = status_of_cut fault
 status_of_fault (Index fault) = 3
 status_of_fault OldIndex = 3
@@ -54,15 +46,6 @@ status_of_fault TooMany = 5
 abbrev pub IsOrMemory : {E : Type 0} → (E → Fault → Type 0) → OrMemory E → Fault → Type 0
 IsOrMemory gives (Refused refusal) fault = gives refusal fault
 IsOrMemory gives given.Memory fault = fault ≡ Memory
-
--- the fault of a query of this kind; lack of memory becomes Memory
-abbrev pub of_kind : QueryFault → QueryFaultKind → Fault
-of_kind fault query.OutOfMemory = Memory
-of_kind fault _ = Query fault
-
--- the fault of a run that a query's fault becomes
-abbrev pub of_query : QueryFault → Fault
-of_query fault = of_kind fault fault.kind
 
 -- the fault, if it comes from the command line, rcfile, query, archives or index; failures of a device or memory don't
 abbrev pub refusal_of : Fault → Option Fault
@@ -112,12 +95,11 @@ abbrev pub is_memory : Option Fault → Bool
 is_memory (Some Memory) = true
 is_memory _ = false
 
--- a fault of reading the command line, the rcfile and the query: one of them is refused, or memory ran out, which is
--- always Memory
+-- a fault of reading the command line, the rcfile and the query: one of them is refused, or memory ran out
 abbrev pub IsEarly : Fault → Type 0
 IsEarly (Usage fault) = ⊤
 IsEarly (Rc fault) = ⊤
-IsEarly (Query fault) = fault.kind ≢ query.OutOfMemory
+IsEarly (Query fault) = ⊤
 IsEarly Memory = ⊤
 IsEarly _ = ⊥
 
@@ -154,12 +136,11 @@ IsOfIndexing TooMany = ⊤
 IsOfIndexing Memory = ⊤
 IsOfIndexing _ = ⊥
 
--- ---- the faults of whole runs; lack of memory is always Memory
+-- ---- the faults of whole runs
 
 -- a fault of a search that indexes the archives itself: none is of an index, and a source that failed is never read
 -- again
 abbrev pub IsOnceFault : Fault → Type 0
-IsOnceFault (Query fault) = fault.kind ≢ query.OutOfMemory
 IsOnceFault (Archive number fault) = fault ≢ Failed
 IsOnceFault (Index fault) = ⊥
 IsOnceFault OldIndex = ⊥
@@ -167,7 +148,6 @@ IsOnceFault _ = ⊤
 
 -- a fault of a search of a stored index: it indexes no archive, so it has none of indexing
 abbrev pub IsSearchFault : Fault → Type 0
-IsSearchFault (Query fault) = fault.kind ≢ query.OutOfMemory
 IsSearchFault (Archive number fault) = ⊥
 IsSearchFault TooMany = ⊥
 IsSearchFault _ = ⊤

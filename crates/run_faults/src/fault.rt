@@ -2,9 +2,10 @@
 //! docs/DECISIONS.md).
 
 use mail_index::IndexFault;
-use mail_query::{QueryFault, QueryFaultKind};
-use mairix_options::{OrMemory, RcFault, UsageFault};
+use mail_query::QueryFault;
+use mairix_options::{RcFault, UsageFault};
 use mbox_cutter::CutFault;
+use or_memory::OrMemory;
 use std::alloc::{AllocError, AllocFailed};
 
 /// The exit status of a run that found messages or made an index, and of help and version.
@@ -65,7 +66,6 @@ impl Fault {
     {
         match self {
             Fault::Usage(UsageFault::Help | UsageFault::Version) => DONE,
-            Fault::Query(fault) if matches!(fault.kind, QueryFaultKind::OutOfMemory) => NO_ROOM,
             Fault::Usage(_) | Fault::Rc(_) | Fault::Query(_) => REFUSED,
             Fault::Archive {
                 fault: CutFault::ArchiveTooLong,
@@ -122,6 +122,17 @@ impl From<RcFault> for Fault {
     }
 }
 
+impl From<QueryFault> for Fault {
+    ghost use Rattle.std.specs.Prelude.{◌≡◌};
+    ghost use Rattle.run_faults.specs.declared.fault.Fault.TheVariants.{Query};
+
+    ghost from_gives = { λ fault e. e ≡ Query fault };
+
+    fn from(fault: QueryFault) -> Self {
+        Fault::Query(fault)
+    }
+}
+
 impl<E> From<OrMemory<E>> for Fault
 where
     Fault: From<E>,
@@ -134,20 +145,6 @@ where
         match given {
             OrMemory::Refused(refusal) => Fault::from(refusal),
             OrMemory::Memory => Fault::Memory,
-        }
-    }
-}
-
-impl From<QueryFault> for Fault {
-    ghost use Rattle.std.specs.Prelude.{◌≡◌};
-    ghost use Rattle.run_faults.specs.Faults.{of_query};
-
-    ghost from_gives = { λ fault e. e ≡ of_query fault };
-
-    fn from(fault: QueryFault) -> Self {
-        match fault.kind {
-            QueryFaultKind::OutOfMemory => Fault::Memory,
-            _ => Fault::Query(fault),
         }
     }
 }

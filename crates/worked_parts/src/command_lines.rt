@@ -1,6 +1,7 @@
 //! What the words of a command line mean, and the parser's own texts.
 
-use mairix_options::{OrMemory, Plan, UsageFault, plan_of, usage_text};
+use mairix_options::{Plan, UsageFault, plan_of, usage_text};
+use or_memory::OrMemory;
 use std::alloc::{AllocError, Global};
 use std::fmt::InlineText;
 use std::test::Fail;

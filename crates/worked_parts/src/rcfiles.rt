@@ -1,6 +1,7 @@
 //! What an rcfile says.
 
-use mairix_options::{OrMemory, Rc, read_rc};
+use mairix_options::{Rc, read_rc};
+use or_memory::OrMemory;
 use std::test::Fail;
 
 /// Whether an rcfile says just these names.

@@ -48,7 +48,6 @@ Archive { number: 0, fault: Device } => 4: archive 1: read failed
 Archive { number: 1, fault: NotAnMbox } => 4: archive 2: not an mbox
 Archive { number: 18446744073709551615, fault: ArchiveTooLong } => 5: archive 18446744073709551616: too long
 Archive { number: 0, fault: Failed } => 4: archive 1: failed before
-Query(QueryFault { number: 7, kind: OutOfMemory }) => 5: out of memory
 Query(QueryFault { number: 7, kind: NoPattern }) => 2: query item 7: no pattern
 Query(QueryFault { number: 7, kind: BadPrefix }) => 2: query item 7: bad prefix
 Query(QueryFault { number: 7, kind: BadWord }) => 2: query item 7: bad word
@@ -105,8 +104,7 @@ const OF_ARCHIVES: [(u64, CutFault); 4] = [
 ];
 
 /// Faults of a query's item with this number.
-const OF_ITEMS: [(usize, Kind); 15] = [
-    (7, Kind::OutOfMemory),
+const OF_ITEMS: [(usize, Kind); 14] = [
     (7, Kind::NoPattern),
     (7, Kind::BadPrefix),
     (7, Kind::BadWord),

@@ -4,7 +4,7 @@ use Rattle.mail_query.proofs.Words.{Err, IfSome, refl, sym, ap, ◌∙◌, arith
 use Rattle.mail_query.proofs.Words.{Global, string_bytes, IsUtf8, drop_all, get_or-map, length-map, ◌>>=◌, with_front}
 use Rattle.mail_query.proofs.Words.{fault_as, with_front-append, with_front-nil, if_some_map, QueryFault}
 use Rattle.mail_query.proofs.Words.{QueryFaultKind, Query, all_of, Lexicon, each_read, pattern_query, patterns_from}
-use Rattle.mail_query.proofs.Words.{patterns_query, All, All-map, IsUtf8-string_bytes, kind_refusal, query_refusal}
+use Rattle.mail_query.proofs.Words.{patterns_query, All, All-map, IsUtf8-string_bytes, OrMemory, refusal}
 use Rattle.mail_query.proofs.Words.{numbered}
 
 -- the texts from a place on are the text there and those after it
@@ -101,11 +101,11 @@ patterns_made lexicon patterns r h h2 = grind (arith, patterns_numbered)
 
 -- if one pattern is refused, the whole list is, with that number
 pub pattern_refused : (lexicon : Lexicon) (patterns : List (List ℕ)) (qs : List Query) (n : ℕ) (text : List ℕ)
-    (kind : QueryFaultKind) → HasRead at_number (pattern_query lexicon) patterns qs n
+    (given : OrMemory QueryFaultKind) → HasRead at_number (pattern_query lexicon) patterns qs n
     → (n < length patterns) × (text ≡ get_or patterns n text)
-    → IfSome (kind_refusal kind) (λ k. pattern_query lexicon text ≡ Err k)
-    → IfSome (query_refusal (numbered (n + 1) kind)) (λ f. patterns_query lexicon patterns ≡ Err f)
-pattern_refused lexicon patterns qs n text kind h here e = grind (arith, patterns_made, refuses)
+    → IfSome (refusal given) (λ k. pattern_query lexicon text ≡ Err k)
+    → IfSome (refusal (numbered (n + 1) given)) (λ f. patterns_query lexicon patterns ≡ Err f)
+pattern_refused lexicon patterns qs n text given h here e = grind (arith, patterns_made, refuses)
 
 -- the text of a pattern at a place
 pub pattern_here : (patterns : List (String Global)) (i : ℕ) (pattern : String Global) (text : List ℕ)

@@ -2,6 +2,10 @@
 use Rattle.std.specs.Prelude.{ℕ, true, Option, Some, None, option_map}
 use Rattle.mail_words.specs.Words.{is_one_word, is_part_of_word}
 use Rattle.mail_words.specs.Folding.{folding}
+use Rattle.or_memory.specs.declared.or_memory.OrMemory.{OrMemory}
+use Rattle.or_memory.specs.declared.or_memory.OrMemory.TheVariants.{Refused, Memory}
+use Rattle.mail_query.specs.declared.fault.QueryFault.{QueryFault}
+use Rattle.mail_query.specs.declared.fault.QueryFaultKind.{QueryFaultKind}
 use Rattle.mail_query.specs.declared.kinds.Kinds.{Kinds}
 use Rattle.mail_query.specs.declared.boolean.field.Field.{Field}
 use Rattle.mail_query.specs.declared.boolean.field.Field.TheVariants as field
@@ -37,3 +41,8 @@ kinds_sought (Some field.Subject) = record no_kinds { subject = true }
 kinds_sought (Some field.Body) = record no_kinds { body = true }
 kinds_sought (Some field.Id) = record no_kinds { own_id = true }
 kinds_sought (Some field.Date) = no_kinds
+
+-- the fault of the pattern or token with this number; lack of memory has no number
+abbrev pub numbered : ℕ → OrMemory QueryFaultKind → OrMemory QueryFault
+numbered number (Refused kind) = Refused (record { number = number; kind = kind })
+numbered number Memory = Memory

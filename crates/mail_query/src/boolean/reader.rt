@@ -2,7 +2,7 @@
 ghost use Rattle.std.specs.Prelude.{◌≡◌, Ok, OnOk};
 ghost use Rattle.contract_words.specs.Answers.{Gives};
 ghost use Rattle.mail_query.specs.Query.{query_of};
-ghost use Rattle.mail_query.specs.Refusals.{kind_refusal};
+ghost use Rattle.or_memory.specs.Refusals.{refusal};
 ghost use Rattle.mail_query.specs.Mail.{boolean_lexicon};
 ghost use Rattle.mail_query.specs.Inside.Shown.{shown, shown_level, shown_waiting, shown_stack, shown_token};
 ghost use Rattle.mail_query.specs.BooleanReading.{start, placed, deeper, closed, ended, step, term_step, cut_term_step, is_negated, has_open};
@@ -13,6 +13,7 @@ use crate::boolean::token::Token;
 use crate::fault::QueryFaultKind;
 use crate::node::{Node, all_of, either_of, negated};
 use crate::pieces::cut;
+use or_memory::OrMemory;
 use std::alloc::{AllocError, Global};
 use std::mem;
 
@@ -52,8 +53,8 @@ impl Level {
         Ok(())
     }
 
-    fn into_node(mut self, alloc: Global) -> Result<Node, QueryFaultKind>
-        ensures { Gives query_of kind_refusal result (Ok (level_query (shown_level self))) }
+    fn into_node(mut self, alloc: Global) -> Result<Node, OrMemory<QueryFaultKind>>
+        ensures { Gives query_of refusal result (Ok (level_query (shown_level self))) }
     {
         self.end_each(alloc)?;
         Ok(either_of(self.eaches))
@@ -88,8 +89,12 @@ impl Reader {
     }
 
     /// Reads one more token.
-    pub(crate) fn read(&mut self, alloc: Global, token: Token<'_>) -> Result<(), QueryFaultKind>
-        ensures { Gives (λ _. shown self.new) kind_refusal result
+    pub(crate) fn read(
+        &mut self,
+        alloc: Global,
+        token: Token<'_>,
+    ) -> Result<(), OrMemory<QueryFaultKind>>
+        ensures { Gives (λ _. shown self.new) refusal result
             (step boolean_lexicon (shown self.old) (shown_token token.entry)) }
     {
         match token {
@@ -100,7 +105,9 @@ impl Reader {
                 self.wait(Waiting::ForClose(outer))
             }
             Token::Close => self.close(alloc),
-            Token::And | Token::Or if self.wanted => Err(QueryFaultKind::MissingTerm),
+            Token::And | Token::Or if self.wanted => Err(OrMemory::Refused(
+                QueryFaultKind::MissingTerm,
+            )),
             Token::And => {
                 self.level.seen = Fields::NONE;
                 self.wanted = true;
@@ -115,32 +122,32 @@ impl Reader {
     }
 
     /// Ends the query and returns its tree. Fails if a term is missing or a `(` is still open.
-    pub(crate) fn end(&mut self, alloc: Global) -> Result<Node, QueryFaultKind>
-        ensures { Gives query_of kind_refusal result (ended (shown self.old)) }
+    pub(crate) fn end(&mut self, alloc: Global) -> Result<Node, OrMemory<QueryFaultKind>>
+        ensures { Gives query_of refusal result (ended (shown self.old)) }
     {
         if self.wanted {
-            return Err(QueryFaultKind::MissingTerm);
+            return Err(OrMemory::Refused(QueryFaultKind::MissingTerm));
         }
         if has_open(self.waiting.as_slice()) {
-            return Err(QueryFaultKind::BadParenthesis);
+            return Err(OrMemory::Refused(QueryFaultKind::BadParenthesis));
         }
         let level = mem::replace(&mut self.level, Level::empty(alloc));
         level.into_node(alloc)
     }
 
-    fn read_term(&mut self, alloc: Global, term: &str) -> Result<(), QueryFaultKind>
-        ensures { Gives (λ _. shown self.new) kind_refusal result
+    fn read_term(&mut self, alloc: Global, term: &str) -> Result<(), OrMemory<QueryFaultKind>>
+        ensures { Gives (λ _. shown self.new) refusal result
             (term_step boolean_lexicon (shown self.old) term.now) }
     {
         if term.as_bytes().contains(&b'"') {
-            return Err(QueryFaultKind::Phrase);
+            return Err(OrMemory::Refused(QueryFaultKind::Phrase));
         }
         match cut(term, ':') {
             None => self.read_cut_term(alloc, None, term),
             Some((name, rest)) => {
                 let field = field_of(name);
                 if field.is_none() {
-                    return Err(QueryFaultKind::BadPrefix);
+                    return Err(OrMemory::Refused(QueryFaultKind::BadPrefix));
                 }
                 self.read_cut_term(alloc, field, rest)
             }
@@ -152,13 +159,13 @@ impl Reader {
         alloc: Global,
         prefix: Option<Field>,
         rest: &str,
-    ) -> Result<(), QueryFaultKind>
-        ensures { Gives (λ _. shown self.new) kind_refusal result
+    ) -> Result<(), OrMemory<QueryFaultKind>>
+        ensures { Gives (λ _. shown self.new) refusal result
             (cut_term_step boolean_lexicon (shown self.old) prefix rest.now) }
     {
         let negated = is_negated(self.waiting.as_slice());
         if !negated && self.level.seen.has(prefix) {
-            return Err(QueryFaultKind::NeedsOperator);
+            return Err(OrMemory::Refused(QueryFaultKind::NeedsOperator));
         }
         let node = read_parts(alloc, prefix, rest)?;
         if !negated {
@@ -168,27 +175,27 @@ impl Reader {
     }
 
     /// Opens one more `(` or `not`. Fails if 30 are open.
-    fn wait(&mut self, what: Waiting) -> Result<(), QueryFaultKind>
-        ensures { Gives (λ _. shown self.new) kind_refusal result
+    fn wait(&mut self, what: Waiting) -> Result<(), OrMemory<QueryFaultKind>>
+        ensures { Gives (λ _. shown self.new) refusal result
             (deeper (shown_stack self.old.waiting.items) (shown_waiting what)
             (shown_level self.old.level)) }
     {
         if self.waiting.len() >= MOST_WAITING {
-            return Err(QueryFaultKind::TooDeep);
+            return Err(OrMemory::Refused(QueryFaultKind::TooDeep));
         }
         self.waiting.push(what)?;
         self.wanted = true;
         Ok(())
     }
 
-    fn close(&mut self, alloc: Global) -> Result<(), QueryFaultKind>
-        ensures { Gives (λ _. shown self.new) kind_refusal result (closed (shown self.old)) }
+    fn close(&mut self, alloc: Global) -> Result<(), OrMemory<QueryFaultKind>>
+        ensures { Gives (λ _. shown self.new) refusal result (closed (shown self.old)) }
     {
         if self.wanted {
             return if has_open(self.waiting.as_slice()) {
-                Err(QueryFaultKind::MissingTerm)
+                Err(OrMemory::Refused(QueryFaultKind::MissingTerm))
             } else {
-                Err(QueryFaultKind::BadParenthesis)
+                Err(OrMemory::Refused(QueryFaultKind::BadParenthesis))
             };
         }
         match self.waiting.pop() {
@@ -197,14 +204,14 @@ impl Reader {
                 let node = inner.into_node(alloc)?;
                 self.place(alloc, node)
             }
-            Some(Waiting::ForNot) => Err(QueryFaultKind::BadParenthesis),
-            None => Err(QueryFaultKind::BadParenthesis),
+            Some(Waiting::ForNot) => Err(OrMemory::Refused(QueryFaultKind::BadParenthesis)),
+            None => Err(OrMemory::Refused(QueryFaultKind::BadParenthesis)),
         }
     }
 
     /// Adds an operand to the innermost group, negated by each `not` directly before it.
-    fn place(&mut self, alloc: Global, mut node: Node) -> Result<(), QueryFaultKind>
-        ensures { Gives (λ _. shown self.new) kind_refusal result (Ok (placed
+    fn place(&mut self, alloc: Global, mut node: Node) -> Result<(), OrMemory<QueryFaultKind>>
+        ensures { Gives (λ _. shown self.new) refusal result (Ok (placed
             (shown_stack self.old.waiting.items) (shown_level self.old.level) (query_of node))) }
     {
         'nots: while is_negated(self.waiting.as_slice()) {

@@ -2,7 +2,7 @@
 ghost use Rattle.std.specs.Prelude.{◌≡◌};
 ghost use Rattle.contract_words.specs.Answers.{Gives};
 ghost use Rattle.mail_query.specs.Query.{query_of};
-ghost use Rattle.mail_query.specs.Refusals.{kind_refusal};
+ghost use Rattle.or_memory.specs.Refusals.{refusal};
 ghost use Rattle.mail_query.specs.BooleanTerms.{word_query, parts_query};
 ghost use Rattle.mail_query.specs.Inside.Reading.{kinds_sought};
 ghost use Rattle.mail_query.specs.Mail.{boolean_lexicon};
@@ -15,6 +15,7 @@ use crate::pieces::{without_angles, without_last};
 use crate::query_text::QueryText;
 use mail_dates::iso_range;
 use mail_words::{is_one_word, is_part_of_word};
+use or_memory::OrMemory;
 use std::alloc::Global;
 
 /// Reads a term, cut into its prefix, if it has one, and the text after it.
@@ -22,17 +23,17 @@ pub(crate) fn read_parts(
     alloc: Global,
     prefix: Option<Field>,
     rest: &str,
-) -> Result<Node, QueryFaultKind>
-    ensures { Gives query_of kind_refusal result (parts_query boolean_lexicon prefix rest.now) }
+) -> Result<Node, OrMemory<QueryFaultKind>>
+    ensures { Gives query_of refusal result (parts_query boolean_lexicon prefix rest.now) }
 {
     match prefix {
         None if rest == "*" => Ok(Node::Any),
-        None if rest.eq_ignore_ascii_case("xor") => Err(QueryFaultKind::BadWord),
-        Some(_) if rest.is_empty() => Err(QueryFaultKind::MissingTerm),
+        None if rest.eq_ignore_ascii_case("xor") => Err(OrMemory::Refused(QueryFaultKind::BadWord)),
+        Some(_) if rest.is_empty() => Err(OrMemory::Refused(QueryFaultKind::MissingTerm)),
         Some(Field::Id) => {
             let id = without_angles(rest);
             if id.is_empty() {
-                return Err(QueryFaultKind::MissingTerm);
+                return Err(OrMemory::Refused(QueryFaultKind::MissingTerm));
             }
             let text = QueryText::copy_of(alloc, id)?;
             let kinds = kinds_sought(prefix);
@@ -40,7 +41,7 @@ pub(crate) fn read_parts(
         }
         Some(Field::Date) => iso_range(rest)
             .map(Node::Date)
-            .or(Err(QueryFaultKind::BadDate)),
+            .or(Err(OrMemory::Refused(QueryFaultKind::BadDate))),
         _ => read_word(alloc, kinds_sought(prefix), rest),
     }
 }
@@ -75,8 +76,8 @@ fn kinds_sought(prefix: Option<Field>) -> Kinds
 }
 
 /// Reads a word, or the beginning of a word with a `*` after it.
-fn read_word(alloc: Global, kinds: Kinds, text: &str) -> Result<Node, QueryFaultKind>
-    ensures { Gives query_of kind_refusal result (word_query boolean_lexicon kinds text.now) }
+fn read_word(alloc: Global, kinds: Kinds, text: &str) -> Result<Node, OrMemory<QueryFaultKind>>
+    ensures { Gives query_of refusal result (word_query boolean_lexicon kinds text.now) }
 {
     if is_one_word(text) {
         let text = QueryText::folded(alloc, text)?;
@@ -87,6 +88,6 @@ fn read_word(alloc: Global, kinds: Kinds, text: &str) -> Result<Node, QueryFault
             let text = QueryText::folded(alloc, piece)?;
             Ok(Node::Prefix { kinds, text })
         }
-        _ => Err(QueryFaultKind::BadWord),
+        _ => Err(OrMemory::Refused(QueryFaultKind::BadWord)),
     }
 }

@@ -17,8 +17,8 @@ new-requires c =
     let asked : run_from lexicon 1 start ts ≡ Ok q = grind arith in
     omega (arith, reads_depth lexicon ts q (start_read lexicon ts q asked))
 
-pub returns-in-Err-clause-answer : goal.returns-in-Err-clause-answer
-returns-in-Err-clause-answer c = grind arith
+pub returns-in-Err : goal.returns-in-Err
+returns-in-Err c = grind arith
 
-pub returns-in-Err-end-clause-answer : goal.returns-in-Err-end-clause-answer
-returns-in-Err-end-clause-answer c = grind arith
+pub returns-in-Err-end : goal.returns-in-Err-end
+returns-in-Err-end c = grind arith

@@ -1,6 +1,6 @@
 -- What `read_mairix` returns is also what the grammar says, because no word of mail has a byte with a meaning in
 -- patterns.
-use Rattle.mail_query.proofs.Words.{map, string_bytes, arith, pattern_lexicon, mairix_query, AskNothing, query_refusal}
+use Rattle.mail_query.proofs.Words.{map, string_bytes, arith, pattern_lexicon, mairix_query, AskNothing, refusal}
 use Rattle.mail_query.specs.Meaning.{meaning}
 use Rattle.mail_query.proofs.AnswerLemmas.{if_ok, if_err}
 use Rattle.mail_query.proofs.MairixLaws.MairixExact.{dates_plain, patterns_exact, refused_exact, fault_exact}
@@ -14,8 +14,8 @@ pub returns-clause-refused : goal.returns-clause-refused
 returns-clause-refused c =
     let lexicon = pattern_lexicon c.args.now in
     let patterns = map string_bytes c.args.patterns.now in
-    if_err meaning query_refusal c.read_patterns.result (mairix_query patterns c.args.now)
-    c.read_patterns.ensures.answer (λ _. AskNothing lexicon patterns)
+    if_err meaning refusal c.read_patterns.result (mairix_query patterns c.args.now)
+    c.read_patterns.ensures (λ _. AskNothing lexicon patterns)
     (λ f e. let exact = refused_exact lexicon (dates_plain c.args.now) patterns (texts_utf8 c.args.patterns.now)
     in exact.0 (f, e))
 

@@ -1,7 +1,7 @@
 -- `read_patterns` reads pattern by pattern and stops at the first fault; the grammar bounds how deep the query is.
-use Rattle.mail_query.proofs.Words.{◌≡◌, ◌≤◌, ◌<◌, length, map, string_bytes, Ok, QueryFaultKind, arith, length-map}
+use Rattle.mail_query.proofs.Words.{◌≡◌, ◌≤◌, ◌<◌, length, map, string_bytes, Ok, OrMemory, QueryFaultKind, arith}
 use Rattle.mail_query.proofs.Words.{nat_tests, MatchResult-at_ok, depth, queries_of, all_of, pattern_query, IsAsked}
-use Rattle.mail_query.proofs.Words.{IsFirstFault, pattern_lexicon}
+use Rattle.mail_query.proofs.Words.{IsFirstFault, length-map, pattern_lexicon}
 use Rattle.mail_query.proofs.MairixLaws.EachLemmas.{at_number, reads_none, reads_all, patterns_made, reads_more}
 use Rattle.mail_query.proofs.MairixLaws.EachLemmas.{pattern_refused, pattern_here, texts_utf8}
 use Rattle.mail_query.proofs.MairixLaws.DepthLemmas.{asked_depth}
@@ -12,12 +12,12 @@ use Rattle.mail_query.proofs.mairix.read_patterns.Goals as goal
 pub loop-i-init : goal.loop-i-init
 loop-i-init c = grind (arith, reads_none, at_number, string_bytes)
 
-pub returns-in-Err-clause-answer : goal.returns-in-Err-clause-answer
-returns-in-Err-clause-answer c =
+pub returns-in-Err : goal.returns-in-Err
+returns-in-Err c =
     let here = pattern_here c.args.patterns.now c.loop-i.i c.index-patterns-i.result c.as_str.result.now
     c.loop-i-test.true c.index-patterns-i.is c.as_str.ensures.value in
-    let refused = λ (kind : QueryFaultKind). pattern_refused (pattern_lexicon c.args.now)
-    (map string_bytes c.args.patterns.now) (queries_of c.loop-i.members.items) c.loop-i.i c.as_str.result.now kind
+    let refused = λ (given : OrMemory QueryFaultKind). pattern_refused (pattern_lexicon c.args.now)
+    (map string_bytes c.args.patterns.now) (queries_of c.loop-i.members.items) c.loop-i.i c.as_str.result.now given
     c.loop-i.invariant here in
     grind arith
 
@@ -42,5 +42,5 @@ new-requires c =
     let shallow : depth q ≤ 5 = asked_depth lexicon patterns q asked in
     rw c.all_of.ensures (omega (arith, shallow))
 
-pub returns-clause-answer : goal.returns-clause-answer
-returns-clause-answer c = grind (arith, string_bytes, length-map, nat_tests, patterns_made, reads_all, at_number)
+pub returns : goal.returns
+returns c = grind (arith, string_bytes, length-map, nat_tests, patterns_made, reads_all, at_number)

@@ -1,6 +1,6 @@
 -- `read_all` reads term by term and stops at the first fault, because it is given all parts between commas.
 use Rattle.mail_query.proofs.Words.{length, arith, lit<, Ok, ap, sym, ◌∙◌, slice_split, length_push, YieldsList-turn}
-use Rattle.mail_query.proofs.Words.{YieldsList-end, YieldsList-from_str_split, all_of, queries_of, kind_refusal}
+use Rattle.mail_query.proofs.Words.{YieldsList-end, YieldsList-from_str_split, all_of, queries_of, refusal}
 use Rattle.mail_query.proofs.Words.{is_byte, forms_of, term_query}
 use Rattle.mail_query.proofs.MairixLaws.EachLemmas.{reads_more, part_refused, parts_read}
 use Rattle.mail_query.proofs.mairix.terms.read_all.Goals as goal
@@ -18,7 +18,7 @@ returns-in_err-term c =
     let read = term_query (forms_of c.args.target) in
     let parts = slice_split (is_byte 0x2C) c.args.text.now in
     let refused = part_refused read parts all_of (queries_of c.loop-part.members.items) (length c.loop-part.yielded)
-    c.in-Some.part.now (kind_refusal c.in_err-term.field-0.0) c.loop-part.invariant turn c.in_err-term.ensures in
+    c.in-Some.part.now (refusal c.in_err-term.field-0.0) c.loop-part.invariant turn c.in_err-term.ensures in
     grind arith
 
 pub returns : goal.returns

@@ -1,7 +1,7 @@
 -- `read_rest` reads alternative by alternative and stops at the first fault, because it is given all parts between
 -- slashes.
 use Rattle.mail_query.proofs.Words.{length, arith, lit<, Ok, ap, sym, ◌∙◌, slice_split, length_push, YieldsList-turn}
-use Rattle.mail_query.proofs.Words.{YieldsList-end, YieldsList-from_str_split, either_of, queries_of, kind_refusal}
+use Rattle.mail_query.proofs.Words.{YieldsList-end, YieldsList-from_str_split, either_of, queries_of, refusal}
 use Rattle.mail_query.proofs.Words.{is_byte, forms_of, all_query}
 use Rattle.mail_query.proofs.MairixLaws.EachLemmas.{reads_more, part_refused, parts_read}
 use Rattle.mail_query.proofs.mairix.terms.read_rest.Goals as goal
@@ -19,7 +19,7 @@ returns-in_err-alternative c =
     let read = all_query (forms_of c.args.target) in
     let parts = slice_split (is_byte 0x2F) c.args.text.now in
     let refused = part_refused read parts either_of (queries_of c.loop-part.members.items) (length c.loop-part.yielded)
-    c.in-Some.part.now (kind_refusal c.in_err-alternative.field-0.0) c.loop-part.invariant turn
+    c.in-Some.part.now (refusal c.in_err-alternative.field-0.0) c.loop-part.invariant turn
     c.in_err-alternative.ensures in
     grind arith
 

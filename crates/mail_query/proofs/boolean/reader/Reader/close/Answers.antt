@@ -1,5 +1,5 @@
 -- `Reader::close` ends the innermost group as the definition does, by what was opened last: a `(`, a `not`, or nothing.
-use Rattle.mail_query.proofs.Words.{◌≡◌, ◌∙◌, Ok, Result, sym, subst, arith, Gives, query_of, kind_refusal, shown_level}
+use Rattle.mail_query.proofs.Words.{◌≡◌, ◌∙◌, Ok, Result, sym, subst, arith, Gives, query_of, refusal, shown_level}
 use Rattle.mail_query.proofs.Words.{shown_stack, State, placed, closed, level_query, QueryFaultKind}
 use Rattle.mail_query.specs.Inside.Shown.{shown}
 use Rattle.mail_query.proofs.BooleanLaws.StackLemmas.{pops-close, pops-not}
@@ -15,7 +15,7 @@ returns-in_ok-node-in-Some-ForClose c =
     (placed (shown_stack c.pop.new.self.items) (shown_level c.in-Some-ForClose.outer) node) =
     rw c.if-self.false (pops-close reader.waiting.items c.pop.new.self.items c.in-Some-ForClose.outer
     (shown_level reader.level) (rw c.in-Some-ForClose.field-0-is at c.in-Some-ForClose.ensures.items) ∙ cc) in
-    subst (λ (r : Result State QueryFaultKind). Gives (λ _. shown c.place.new.self) kind_refusal c.place.result r)
+    subst (λ (r : Result State QueryFaultKind). Gives (λ _. shown c.place.new.self) refusal c.place.result r)
     (sym whole) (rw c.replace-inner.ensures.after at c.place.ensures)
 
 pub returns-in-Some-ForNot : goal.returns-in-Some-ForNot

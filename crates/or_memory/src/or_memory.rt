@@ -1,6 +1,6 @@
 //! A refusal, or lack of memory.
 ghost use Rattle.std.specs.Prelude.{◌≡◌};
-ghost use Rattle.mairix_options.specs.declared.or_memory.OrMemory.TheVariants.{Memory};
+ghost use Rattle.or_memory.specs.declared.or_memory.OrMemory.TheVariants.{Memory};
 
 use std::alloc::{AllocError, AllocFailed};
 

@@ -1,22 +1,13 @@
--- Which faults are refusals, and the texts that report them.
-use Rattle.std.specs.Prelude.{ℕ, List, ◌∷◌, ◌++◌, codes, Option, Some, None}
+-- The texts that report refused command lines and rcfiles.
+use Rattle.std.specs.Prelude.{ℕ, List, ◌∷◌, ◌++◌, codes}
 use Rattle.std.specs.Fmt.{decimal}
 use Rattle.mairix_options.specs.declared.command_line.UsageFault.{UsageFault}
 use Rattle.mairix_options.specs.declared.command_line.UsageFault.TheVariants.{Parse, TwoFormats, Help, Version}
-use Rattle.mairix_options.specs.declared.or_memory.OrMemory.{OrMemory}
-use Rattle.mairix_options.specs.declared.or_memory.OrMemory.TheVariants.{Refused, Memory}
 use Rattle.mairix_options.specs.declared.rcfile.Name.{Name}
 use Rattle.mairix_options.specs.declared.rcfile.Name.TheVariants as name
 use Rattle.mairix_options.specs.declared.rcfile.RcFault.{RcFault}
 use Rattle.mairix_options.specs.declared.rcfile.RcFault.TheVariants.{BadLine, NotSupported, Wildcard, Expansion}
 use Rattle.mairix_options.specs.declared.rcfile.RcFault.TheVariants.{Missing, BadFormat}
-
--- the refusal, which depends only on what is read; lack of memory is none
-abbrev pub refusal : {E : Type 0} → OrMemory E → Option E
-refusal (Refused fault) = Some fault
-refusal Memory = None
-
--- ---- texts
 
 -- the text of a refused command line
 abbrev pub text_of_usage : UsageFault → List ℕ
