@@ -32,7 +32,7 @@ pub use Rattle.mail_index.specs.Tables.{AllNext, Archive, Follows, IsArchive, Is
 pub use Rattle.mail_index.specs.Tables.{Key, KeyBefore, archive_length}
 pub use Rattle.mail_index.specs.Versions.{newest}
 pub use Rattle.mail_index.specs.declared.build.build_fault.BuildFault.{BuildFault}
-pub use Rattle.mail_index.specs.declared.build.build_fault.BuildFault.TheVariants.{Device, OutOfMemory, TooMany}
+pub use Rattle.mail_index.specs.declared.build.build_fault.BuildFault.TheVariants.{OutOfMemory, TooMany}
 pub use Rattle.mail_index.specs.declared.kind.Kind.TheVariants.{LinkId, Text}
 pub use Rattle.mail_index.specs.declared.record.Record.{Record}
 pub use Rattle.mail_words.specs.Folding.{folding}

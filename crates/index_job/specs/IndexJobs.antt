@@ -32,5 +32,4 @@ IsAddFault before a (job.Cut ArchiveTooLong) = (length before < most_in_index)
 IsAddFault before a (job.Cut Failed) = ⊥
 IsAddFault before a job.OutOfMemory = ⊤
 IsAddFault before a job.TooMany = IsTooMuch (table (before ++ a ∷ []))
-IsAddFault before a job.Out = ⊥
 IsAddFault before a job.Failed = ⊥

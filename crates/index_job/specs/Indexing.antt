@@ -97,7 +97,6 @@ with_open_message d = record d { in_message = true }
 abbrev pub IsTermFault : Option Draft → BuildFault → Type 0
 IsTermFault whole build.OutOfMemory = ⊤
 IsTermFault whole build.TooMany = IfSome whole (λ d. d.most < length d.table.keys)
-IsTermFault whole build.Device = ⊥
 IsTermFault whole build.Failed = whole ≡ None
 
 -- the draft with all terms has too many keys, or an earlier call has failed
@@ -121,7 +120,6 @@ IsJobFault refusal much (job.Cut ArchiveTooLong) = refusal ≡ Some ArchiveTooLo
 IsJobFault refusal much (job.Cut Failed) = ⊥
 IsJobFault refusal much job.OutOfMemory = ⊤
 IsJobFault refusal much job.TooMany = much
-IsJobFault refusal much job.Out = ⊥
 IsJobFault refusal much job.Failed = ⊥
 
 -- any fault of a cutter but that it has failed before
@@ -129,10 +127,9 @@ abbrev pub IsCutFault : CutFault → Type 0
 IsCutFault Failed = ⊥
 IsCutFault _ = ⊤
 
--- any fault of indexing an archive: not a failure of the output, and not that an earlier call has failed
+-- any fault of indexing an archive but that an earlier call has failed
 abbrev pub IsArchiveFault : JobFault → Type 0
 IsArchiveFault (job.Cut fault) = IsCutFault fault
 IsArchiveFault job.OutOfMemory = ⊤
 IsArchiveFault job.TooMany = ⊤
-IsArchiveFault job.Out = ⊥
 IsArchiveFault job.Failed = ⊥

@@ -1,4 +1,4 @@
--- The faults of an indexing job: what causes each, and which device has failed.
+-- The faults of adding an archive to a job: what causes each, and whether the source has failed.
 use Rattle.std.specs.Prelude.{Bool, true, false, Result, Err}
 use Rattle.mail_index.specs.declared.build.build_fault.BuildFault.{BuildFault}
 use Rattle.mail_index.specs.declared.build.build_fault.BuildFault.TheVariants as build
@@ -8,13 +8,12 @@ use Rattle.mime_text.specs.declared.fault.SinkFault.TheVariants as sink
 use Rattle.mime_text.specs.declared.fault.TextFault.{TextFault}
 use Rattle.mime_text.specs.declared.fault.TextFault.TheVariants as text
 use Rattle.index_job.specs.declared.job_fault.JobFault.{JobFault}
-use Rattle.index_job.specs.declared.job_fault.JobFault.TheVariants.{Cut, OutOfMemory, TooMany, Out, Failed}
+use Rattle.index_job.specs.declared.job_fault.JobFault.TheVariants.{Cut, OutOfMemory, TooMany, Failed}
 
 -- the fault of a job for a fault of its builder
 abbrev pub of_build : BuildFault → JobFault
 of_build build.OutOfMemory = OutOfMemory
 of_build build.TooMany = TooMany
-of_build build.Device = Out
 of_build build.Failed = Failed
 
 -- the fault of a job for a refusal of the sink that gathers terms
@@ -32,8 +31,3 @@ of_text text.Failed = Failed
 abbrev pub is_source_failure : {T : Type 0} → Result T JobFault → Bool
 is_source_failure (Err (Cut Device)) = true
 is_source_failure _ = false
-
--- whether the call failed because the output did
-abbrev pub is_output_failure : {T : Type 0} → Result T JobFault → Bool
-is_output_failure (Err Out) = true
-is_output_failure _ = false

@@ -4,19 +4,20 @@ ghost use Rattle.std.specs.Io.KnownBytes.{Appends, IsAtEnd};
 ghost use Rattle.contract_words.specs.Devices.{Counted, Sends};
 ghost use Rattle.contract_words.specs.Knowledge.{still_known};
 ghost use Rattle.mbox_cutter.specs.Sources.{Stays};
+ghost use Rattle.mail_index.specs.Builders.{is_output_failure};
 ghost use Rattle.mail_index.specs.Files.{index_file, HasSmallSections};
 ghost use Rattle.mail_index.specs.Tables.{IsPath, IsWellFormed};
 ghost use Rattle.index_job.specs.ArchiveTables.{Mbox};
 ghost use Rattle.index_job.specs.IndexJobs.{IsIndexOf, IsAdded, IsAddFault};
 ghost use Rattle.index_job.specs.Indexing.{IsArchiveFault};
-ghost use Rattle.index_job.specs.JobFaults.{is_source_failure, is_output_failure};
+ghost use Rattle.index_job.specs.JobFaults.{is_source_failure};
 
 use crate::archive_reading::add_archive;
 use crate::folding_room::FoldingRoom;
 use crate::job_fault::JobFault;
-use mail_index::Builder;
+use mail_index::{Builder, WriteFault};
 use mbox_cutter::{Buffer, Out, Source};
-use std::alloc::Global;
+use std::alloc::{AllocError, Global};
 use std::marker::Model;
 
 /// The most archives, messages or keys of an index.
@@ -24,7 +25,7 @@ const MOST_IN_INDEX: u32 = 2_147_483_647;
 
 /// Makes an index of archives. Each archive is read once, from its source.
 ///
-/// After a fault nothing is kept, and every later call fails with [`JobFault::Failed`].
+/// After a fault nothing is kept, and every later call fails with `Failed`.
 #[derive(Drop)]
 pub struct IndexJob {
     alloc: Global,
@@ -50,10 +51,9 @@ impl Model for IndexJob {
 }
 
 impl IndexJob {
-    /// Begins a job without archives. Takes the memory that reading needs, and fails only if memory runs out.
-    pub fn new(alloc: Global) -> Result<Self, JobFault>
-        ensures empty { IfOk result (λ job. IsIndexOf job []) }
-        ensures memory { IfErr result (λ fault. fault ≡ JobFault.OutOfMemory) }
+    /// Begins a job without archives. Takes the memory that reading needs.
+    pub fn new(alloc: Global) -> Result<Self, AllocError>
+        ensures { IfOk result (λ job. IsIndexOf job []) }
     {
         let buffer = Buffer::new(alloc)?;
         Ok(IndexJob {
@@ -116,17 +116,17 @@ impl IndexJob {
     /// # Errors
     ///
     /// `Out` if the output fails: then only a beginning of the file was sent. `Failed` if an earlier call has failed.
-    pub fn finish<O: Out>(self, out: &mut O) -> Result<u64, JobFault>
+    pub fn finish<O: Out>(self, out: &mut O) -> Result<u64, WriteFault>
         requires { O.failures out.old < 2 ^ 64 - 1 }
         ensures formed { IfSome self (λ d. IsWellFormed d.table × HasSmallSections d.table) }
         ensures ok { IfSome self (λ d. IfOk result (λ n. (n ≡ length (index_file d.table))
             × Appends (O.taken out.old) (O.taken out.new) (index_file d.table))) }
-        ensures err { IfSome self (λ d. IfErr result (λ fault. (fault ≡ JobFault.Out)
+        ensures err { IfSome self (λ d. IfErr result (λ fault. (fault ≡ WriteFault.Out)
             × Sends (O.taken out.old) (O.taken out.new) (index_file d.table))) }
         ensures count { Counted (is_output_failure result) (O.failures out.old)
             (O.failures out.new) }
-        ensures failed { self ≡ None → (result ≡ Err JobFault.Failed) × (out.new ≡ out.old) }
+        ensures failed { self ≡ None → (result ≡ Err WriteFault.Failed) × (out.new ≡ out.old) }
     {
-        self.builder.write(out).map_err(JobFault::from)
+        self.builder.write(out)
     }
 }

@@ -1,11 +1,11 @@
-//! Why archives can't be indexed.
+//! Why an archive can't be indexed.
 use mail_index::BuildFault;
 use mbox_cutter::CutFault;
 use mime_text::{SinkFault, TextFault};
-use std::alloc::{AllocError, AllocFailed};
+use std::alloc::AllocError;
 use thiserror::Error;
 
-/// Why a job failed to make an index.
+/// Why a job couldn't add an archive.
 #[derive(Clone, Copy, Debug, Error)]
 pub enum JobFault {
     /// The archive couldn't be read, or is refused.
@@ -17,9 +17,6 @@ pub enum JobFault {
     /// There are more archives, messages or keys than an index has room for.
     #[error("too many messages or keys")]
     TooMany,
-    /// The output failed.
-    #[error("output failed")]
-    Out,
     /// An earlier call has failed.
     #[error("failed before")]
     Failed,
@@ -47,17 +44,6 @@ impl From<AllocError> for JobFault {
     }
 }
 
-impl<T: Drop> From<AllocFailed<T>> for JobFault {
-    ghost use Rattle.std.specs.Prelude.{◌≡◌};
-    ghost use Rattle.index_job.specs.declared.job_fault.JobFault.TheVariants.{OutOfMemory};
-
-    ghost from_gives = { λ _ e. e ≡ OutOfMemory };
-
-    fn from(_: AllocFailed<T>) -> Self {
-        JobFault::OutOfMemory
-    }
-}
-
 impl From<BuildFault> for JobFault {
     ghost use Rattle.std.specs.Prelude.{◌≡◌};
     ghost use Rattle.index_job.specs.JobFaults.{of_build};
@@ -68,7 +54,6 @@ impl From<BuildFault> for JobFault {
         match fault {
             BuildFault::OutOfMemory => JobFault::OutOfMemory,
             BuildFault::TooMany => JobFault::TooMany,
-            BuildFault::Device => JobFault::Out,
             BuildFault::Failed => JobFault::Failed,
         }
     }

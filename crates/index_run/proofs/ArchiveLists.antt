@@ -80,7 +80,6 @@ archive-fault archives before a number (job.Cut cut.Failed) parted same sound h 
 archive-fault archives before a number job.OutOfMemory parted same sound h = tt
 archive-fault archives before a number job.TooMany parted same sound h =
     (before, a, parted, record { sound = sound; much = h })
-archive-fault archives before a number job.Out parted same sound h = elim h [ ]
 archive-fault archives before a number job.Failed parted same sound h = elim h [ ]
 
 -- ---- which source has failed
@@ -93,7 +92,6 @@ others-run i (job.Cut cut.ArchiveTooLong) n ne = refl
 others-run i (job.Cut cut.Failed) n ne = refl
 others-run i job.OutOfMemory n ne = refl
 others-run i job.TooMany n ne = refl
-others-run i job.Out n ne = refl
 others-run i job.Failed n ne = refl
 
 -- a fault at one archive is a failure of its source exactly if the job reports it
@@ -105,5 +103,4 @@ here-counts i (job.Cut cut.ArchiveTooLong) old new h = h
 here-counts i (job.Cut cut.Failed) old new h = h
 here-counts i job.OutOfMemory old new h = h
 here-counts i job.TooMany old new h = h
-here-counts i job.Out old new h = h
 here-counts i job.Failed old new h = h

@@ -22,7 +22,6 @@ are-read : (all i : ℕ) (f : JobFault) → AreRead (Some (fault_of_job i f)) al
 are-read all i (job.Cut f) = refl
 are-read all i job.OutOfMemory = tt
 are-read all i job.TooMany = tt
-are-read all i job.Out = tt
 are-read all i job.Failed = refl
 
 module _ {S : Type 0} (g : Ghosts S) where

@@ -42,10 +42,10 @@ IsArchivesFault archives TooMany = Refuses archives TooMany
 IsArchivesFault archives Memory = ⊤
 IsArchivesFault archives _ = ⊥
 
--- the fault of a run for a job's fault at the archive with this number; the last two never come from an archive
+-- the fault of a run for a job's fault at the archive with this number; the last never comes, because the job isn't
+-- used after a fault
 abbrev pub fault_of_job : ℕ → JobFault → Fault
 fault_of_job number (job.Cut fault) = Archive number fault
 fault_of_job number job.OutOfMemory = Memory
 fault_of_job number job.TooMany = TooMany
-fault_of_job number job.Out = Memory
 fault_of_job number job.Failed = Archive number Failed

@@ -16,8 +16,8 @@ use mbox_cutter::{CutFault, Source};
 use run_faults::Fault;
 use std::alloc::Global;
 
-/// Returns the fault of a run for a job's fault at the archive with this number. `Out` and `Failed` never come from an
-/// archive: a job has no output before its end, and this one isn't used after a fault.
+/// Returns the fault of a run for a job's fault at the archive with this number. `Failed` never comes, because this job
+/// isn't used after a fault.
 fn fault_of_job(number: u64, fault: JobFault) -> Fault
     ensures { result ≡ fault_of_job number fault }
 {
@@ -25,7 +25,6 @@ fn fault_of_job(number: u64, fault: JobFault) -> Fault
         JobFault::Cut(fault) => Fault::Archive { number, fault },
         JobFault::OutOfMemory => Fault::Memory,
         JobFault::TooMany => Fault::TooMany,
-        JobFault::Out => Fault::Memory,
         JobFault::Failed => Fault::Archive {
             number,
             fault: CutFault::Failed,
@@ -56,10 +55,7 @@ pub(crate) fn job_of_archives<S: Source>(
     ensures early { is_early (fault_in result) ≡ false }
     ensures kinds { IfErr result IsOfIndexing }
 {
-    // A new job can fail only for lack of memory.
-    let Ok(mut job) = IndexJob::new(alloc) else {
-        return Err(Fault::Memory);
-    };
+    let mut job = IndexJob::new(alloc)?;
     for number in 0..sources.len() {
         if let Err(fault) = job.archive(paths[number].as_str(), &mut sources[number]) {
             return Err(fault_of_job(number as u64, fault));

@@ -9,16 +9,16 @@ use thiserror::Error;
 pub enum AnswerFaultKind {
     /// The archive with this number, counted from 0, isn't the one that was indexed. If there are more or fewer
     /// archives than were indexed, this is the smaller of both numbers.
-    #[error("archive {} has changed", u64::from(*.0) + 1)]
+    #[error("archive {}: changed since it was indexed", u64::from(*.0) + 1)]
     Stale(u32),
     /// An archive couldn't be read.
-    #[error("read failed")]
+    #[error("archive read failed")]
     Device,
     /// Memory ran out.
     #[error("out of memory")]
     OutOfMemory,
     /// The output failed.
-    #[error("write failed")]
+    #[error("output failed")]
     OutFailed,
 }
 

@@ -4,7 +4,9 @@ use Rattle.std.specs.Prelude.{◌∷◌, ◌++◌, length, Option, Some, None, I
 use Rattle.std.specs.Ordering.{match_ordering}
 use Rattle.contract_words.specs.Answers.{◌>>=◌}
 use Rattle.mail_index.specs.declared.build.build_fault.BuildFault.{BuildFault}
-use Rattle.mail_index.specs.declared.build.build_fault.BuildFault.TheVariants.{OutOfMemory, TooMany, Device, Failed}
+use Rattle.mail_index.specs.declared.build.build_fault.BuildFault.TheVariants.{OutOfMemory, TooMany, Failed}
+use Rattle.mail_index.specs.declared.build.build_fault.WriteFault.{WriteFault}
+use Rattle.mail_index.specs.declared.build.build_fault.WriteFault.TheVariants.{Out}
 use Rattle.mail_index.specs.declared.kind.Kind.{Kind}
 use Rattle.mail_index.specs.declared.record.Record.{Record}
 use Rattle.mail_index.specs.Kinds.{kind_number}
@@ -82,13 +84,12 @@ ended_archive n digest d = Ok (record d {
 abbrev pub refusal : BuildFault → Option BuildFault
 refusal OutOfMemory = None
 refusal TooMany = Some TooMany
-refusal Device = Some Device
 refusal Failed = Some Failed
 
 -- whether the call failed because the output did
-abbrev pub is_device : Result ℕ BuildFault → Bool
-is_device (Err Device) = true
-is_device _ = false
+abbrev pub is_output_failure : Result ℕ WriteFault → Bool
+is_output_failure (Err Out) = true
+is_output_failure _ = false
 
 -- a step of a builder: once a step has been refused nothing is left, and every later one fails
 abbrev pub stepped : (Draft → Result Draft BuildFault) → Option Draft → Result (Option Draft) BuildFault

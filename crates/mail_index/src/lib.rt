@@ -12,7 +12,7 @@ mod record;
 mod version;
 mod view;
 
-pub use build::build_fault::BuildFault;
+pub use build::build_fault::{BuildFault, WriteFault};
 pub use build::builder::Builder;
 pub use build::prefetched::Prefetched;
 pub use kind::Kind;

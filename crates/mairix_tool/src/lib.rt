@@ -21,6 +21,7 @@ pub use laws::{
     the_table_links_as_the_messages, the_table_shows_the_messages,
     unaltered_archives_are_those_indexed,
 };
+pub use mail_index::WriteFault;
 pub use mairix_options::{
     MailFormat, Name, Plan, Rc, RcFault, Text, Texts, UsageFault, answer_file, answer_format,
     plan_of, read_rc, usage_text,

@@ -6,7 +6,7 @@ ghost use Rattle.mail_index.specs.Tables.{IsPath};
 use crate::compared::have_numbers;
 use crate::counted::Counted;
 use crate::index_files::{ARCHIVE_DIGEST, ONLY};
-use mail_index::{BuildFault, Builder, IndexView, Kind, Prefetched, Steps, is_path};
+use mail_index::{BuildFault, Builder, IndexView, Kind, Prefetched, Steps, WriteFault, is_path};
 use mail_words::TextKind;
 use mbox_cutter::MemoryOut;
 use std::alloc::Global;
@@ -98,7 +98,7 @@ pub fn is_lost(builder: &mut Builder, answer: Result<(), BuildFault>, fault: Bui
     let has_failed = later
         .iter()
         .all(|answer| matches!(answer, Err(BuildFault::Failed)));
-    is_refused && has_failed && matches!(written, Err(BuildFault::Failed))
+    is_refused && has_failed && matches!(written, Err(WriteFault::Failed))
 }
 
 /// The parts of which a builder may have one each.

@@ -3,7 +3,7 @@ ghost use Rattle.std.specs.Prelude.{◌<◌};
 
 use crate::rows::bytes_of;
 use index_job::{IndexJob, JobFault};
-use mail_index::{IndexView, Kind, Steps, is_path};
+use mail_index::{IndexView, Kind, Steps, WriteFault, is_path};
 use mail_words::TextKind;
 use mbox_cutter::{MemoryOut, MemorySource};
 use std::alloc::Global;
@@ -119,7 +119,7 @@ pub fn has_failed(alloc: Global, mut job: IndexJob) -> Option<bool> {
     let mut source = MemorySource::new(alloc, &sound, 7, None).ok()?;
     let mut out = MemoryOut::new(alloc, None);
     let are_refused = matches!(job.archive(PATH, &mut source), Err(JobFault::Failed))
-        && matches!(job.finish(&mut out), Err(JobFault::Failed));
+        && matches!(job.finish(&mut out), Err(WriteFault::Failed));
     Some(are_refused && out.bytes().is_empty())
 }
 
@@ -152,7 +152,7 @@ fn is_front(alloc: Global, room: usize) -> Option<bool> {
     let mut out = MemoryOut::new(alloc, Some(room as u64));
     let finished = job.finish(&mut out);
     let front = FILE.get(..room)?;
-    let is_refused = matches!(answer, Ok(1)) && matches!(finished, Err(JobFault::Out));
+    let is_refused = matches!(answer, Ok(1)) && matches!(finished, Err(WriteFault::Out));
     Some(is_refused && out.bytes() == front)
 }
 

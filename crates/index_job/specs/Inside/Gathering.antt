@@ -5,7 +5,7 @@ use Rattle.mime_text.specs.declared.message_text.MessageText.{MessageText}
 use Rattle.mime_text.specs.Sinks.{Pair}
 use Rattle.mime_text.specs.Fed.{Fed}
 use Rattle.index_job.specs.declared.job_fault.JobFault.{JobFault}
-use Rattle.index_job.specs.declared.job_fault.JobFault.TheVariants.{Cut, OutOfMemory, TooMany, Out, Failed}
+use Rattle.index_job.specs.declared.job_fault.JobFault.TheVariants.{Cut, OutOfMemory, TooMany, Failed}
 use Rattle.index_job.specs.Indexing.{draft_with_terms, RefusesTerms, IsOpenAt}
 use Rattle.index_job.specs.MessageTerms.{text_terms}
 
@@ -30,5 +30,4 @@ abbrev pub IsGatherFault : Option Draft → JobFault → Type 0
 IsGatherFault whole (Cut fault) = ⊥
 IsGatherFault whole OutOfMemory = ⊤
 IsGatherFault whole TooMany = RefusesTerms whole
-IsGatherFault whole Out = ⊥
 IsGatherFault whole Failed = ⊥

@@ -6,7 +6,7 @@ use Rattle.std.specs.declared.cmp.Ordering.TheVariants.{Less, Equal, Greater}
 use Rattle.std.specs.List.{AllByRecursion, slice_index, slice_index_or}
 use Rattle.mail_index.specs.declared.kind.Kind.{Kind}
 use Rattle.mail_index.specs.declared.build.build_fault.BuildFault.{BuildFault}
-use Rattle.mail_index.specs.declared.build.build_fault.BuildFault.TheVariants.{OutOfMemory, TooMany, Device, Failed}
+use Rattle.mail_index.specs.declared.build.build_fault.BuildFault.TheVariants.{OutOfMemory, TooMany, Failed}
 use Rattle.mail_index.specs.declared.build.key_front.Fronted.{Fronted}
 use Rattle.mail_index.specs.declared.build.key_order.KeyOrder.{KeyOrder}
 use Rattle.mail_index.specs.declared.build.key_order.Place.{Place}
@@ -191,5 +191,4 @@ pub record IsPlaceFor (kind : Kind) (text : List ℕ) (entries : List Key) (orde
 abbrev pub IsWantOf : ℕ → ℕ → BuildFault → Type 0
 IsWantOf most count OutOfMemory = Unit {0}
 IsWantOf most count TooMany = most < count
-IsWantOf most count Device = ⊥
 IsWantOf most count Failed = ⊥

@@ -1,21 +1,29 @@
-//! Why an index can't be built.
+//! Why an index can't be built or written.
 ghost use Rattle.std.specs.Prelude.{◌≡◌};
 
 use std::alloc::{AllocError, AllocFailed};
 use thiserror::Error;
 
-/// Why a call of a builder failed.
+/// Why a call that builds failed.
 #[derive(Clone, Copy, Debug, Error)]
 pub enum BuildFault {
     /// Memory ran out.
     #[error("out of memory")]
     OutOfMemory,
     /// There would be more archives, messages or keys than are allowed.
-    #[error("too many archives, messages or words")]
+    #[error("too many messages or keys")]
     TooMany,
+    /// An earlier call ran out of memory, or had too many.
+    #[error("failed before")]
+    Failed,
+}
+
+/// Why an index couldn't be written.
+#[derive(Clone, Copy, Debug, Error)]
+pub enum WriteFault {
     /// The output failed.
-    #[error("write failed")]
-    Device,
+    #[error("output failed")]
+    Out,
     /// An earlier call ran out of memory, or had too many.
     #[error("failed before")]
     Failed,

@@ -5,10 +5,10 @@ ghost use Rattle.contract_words.specs.Answers.{Gives};
 ghost use Rattle.contract_words.specs.Devices.{Counted, Sends};
 ghost use Rattle.mail_index.specs.Files.{HasSmallSections, index_file};
 ghost use Rattle.mail_index.specs.Tables.{IsPath, IsWellFormed};
-ghost use Rattle.mail_index.specs.Builders.{empty_draft, begun_archive, begun_message, added, ended_message, ended_archive, refusal, is_device, stepped, archive_count, end_of, IsNextMessage, IsBetweenArchives, IsInArchive, IsInMessage, IsWithinMost, HasPair};
+ghost use Rattle.mail_index.specs.Builders.{empty_draft, begun_archive, begun_message, added, ended_message, ended_archive, refusal, is_output_failure, stepped, archive_count, end_of, IsNextMessage, IsBetweenArchives, IsInArchive, IsInMessage, IsWithinMost, HasPair};
 ghost use Rattle.mail_index.specs.Limits.{most_in_archive, most_in_index, most_in_key};
 
-use crate::build::build_fault::BuildFault;
+use crate::build::build_fault::{BuildFault, WriteFault};
 use crate::build::draft::Draft;
 use crate::build::prefetched::Prefetched;
 use crate::kind::Kind;
@@ -212,22 +212,23 @@ impl Builder {
     ///
     /// # Errors
     ///
-    /// `Device` if the output fails: then only a beginning of the file was sent. `Failed` if nothing is left after an
+    /// `Out` if the output fails: then only a beginning of the file was sent. `Failed` if nothing is left after an
     /// earlier call.
-    pub fn write<O: Out>(&self, out: &mut O) -> Result<u64, BuildFault>
+    pub fn write<O: Out>(&self, out: &mut O) -> Result<u64, WriteFault>
         requires failures { O.failures out.old < 2 ^ 64 - 1 }
         requires phase { IfSome self.now IsBetweenArchives }
         ensures formed { IfSome self.now (λ d. IsWellFormed d.table × HasSmallSections d.table) }
-        ensures failed { IfNone self.now ((result ≡ Err BuildFault.Failed) × (out.new ≡ out.old)) }
+        ensures failed { IfNone self.now ((result ≡ Err WriteFault.Failed) × (out.new ≡ out.old)) }
         ensures ok { IfSome self.now (λ d. IfOk result (λ n. (n ≡ length (index_file d.table))
             × Appends (O.taken out.old) (O.taken out.new) (index_file d.table))) }
-        ensures err { IfSome self.now (λ d. IfErr result (λ e. (e ≡ BuildFault.Device)
+        ensures err { IfSome self.now (λ d. IfErr result (λ e. (e ≡ WriteFault.Out)
             × Sends (O.taken out.old) (O.taken out.new) (index_file d.table))) }
-        ensures count { Counted (is_device result) (O.failures out.old) (O.failures out.new) }
+        ensures count { Counted (is_output_failure result) (O.failures out.old)
+            (O.failures out.new) }
     {
         match &self.draft {
-            Some(draft) => draft.write(out).or(Err(BuildFault::Device)),
-            None => Err(BuildFault::Failed),
+            Some(draft) => draft.write(out).or(Err(WriteFault::Out)),
+            None => Err(WriteFault::Failed),
         }
     }
 

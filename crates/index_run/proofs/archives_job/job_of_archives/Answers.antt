@@ -12,8 +12,8 @@ use Rattle.index_run.proofs.ArchiveLists.{archive-fault, others-run, here-counts
 use Rattle.index_run.proofs.KeptSources.{stay-self, none-read, next-stays, next-ends, stopped, all-read}
 use Rattle.index_run.proofs.archives_job.job_of_archives.Goals as goal
 
-pub returns-in_default-clause-stays : goal.returns-in_default-clause-stays
-returns-in_default-clause-stays g c = none-read g.S.Source c.args.sources.now
+pub returns-in_err-job-clause-stays : goal.returns-in_err-job-clause-stays
+returns-in_err-job-clause-stays g c = let read = none-read g.S.Source c.args.sources.now in grind arith
 
 pub loop-number-init : goal.loop-number-init
 loop-number-init g c = let stays = stay-self g.S.Source c.args.sources.now in search rules
@@ -90,7 +90,7 @@ returns-in-Err-clause-stays g c =
 pub loop-number-preserved : goal.loop-number-preserved
 loop-number-preserved g c =
     let i = c.loop-number.number in
-    let is : c.archive.result ≡ Ok c.in_default-archive.field-0 = grind arith in
+    let is : c.archive.result ≡ Ok c.in_default.field-0 = grind arith in
     record {
       unread = same_behind c.loop-number.sources c.args.sources.now i c.archive.new.source
           c.loop-number.invariant.unread;
@@ -125,15 +125,15 @@ loop-number-preserved g c =
           i c.archive.ensures.stays.known known.1 in
           let before = c.loop-number.invariant.found archives (known.0, all) in
           let a : Mbox = record { path = get_or paths i []; bytes = get_or archives i [] } in
-          let added : IsAdded (take i (mboxes paths archives)) a c.in_default-archive.field-0 c.archive.new.self =
+          let added : IsAdded (take i (mboxes paths archives)) a c.in_default.field-0 c.archive.new.self =
           subst (λ (t : List ℕ). IsAdded (take i (mboxes paths archives))
-          (record { path = t; bytes = get_or archives i [] }) c.in_default-archive.field-0 c.archive.new.self) text
+          (record { path = t; bytes = get_or archives i [] }) c.in_default.field-0 c.archive.new.self) text
           ((rw is at c.archive.ensures.ok) (take i (mboxes paths archives)) (get_or archives i []) before.0
           (known-still _ _ _ rest (known-called g.S.Source.rest c.archive.new.source c.index-sources-number.result
           c.loop-number.sources i (omega arith) known.1))) in
           let next = sym (next-taken paths archives i many within) in (
             subst (λ l. IsIndexOf c.archive.new.self l) next added.whole,
-            subst AreSound next (sound-more (take i (mboxes paths archives)) a c.in_default-archive.field-0
+            subst AreSound next (sound-more (take i (mboxes paths archives)) a c.in_default.field-0
                 c.archive.new.self before.1 added),
           );
     }
