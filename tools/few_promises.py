@@ -18,7 +18,7 @@ TOP = Path(__file__).resolve().parent.parent
 MOST = 8
 EXCEPTED = {
     "index_job": {"IndexJob::archive"},
-    "mairix_run": {"answer_names", "create_file", "settle_file"},
+    "mairix_run": {"answer_names", "create_file", "index_names", "settle_file"},
     "named_files": {"Folder::create", "Folder::remove_leftover", "Folder::rename", "clear_leftover", "replace_file"},
 }
 ROWS = re.compile(r"_as_worked_by_hand$")

@@ -10,6 +10,7 @@ pub mod MadeFiles
 pub mod MadeRuns
 pub mod MakingRuns
 pub mod NamedSources
+pub mod NamesUsed
 pub mod ReadFiles
 pub mod Replies
 pub mod RowsTasks
@@ -17,5 +18,6 @@ pub mod RunParts
 pub mod RunStages
 pub mod SearchedArchives
 pub mod Taking
+pub mod UnreadArchives
 pub mod WholeFiles
 pub mod Written

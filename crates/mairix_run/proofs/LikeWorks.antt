@@ -1,5 +1,5 @@
 -- Runs whose works are done in the same way, and refused in the same way.
-use Rattle.std.proofs.Common.{◌≡◌, ◌⊎◌, inl, inr, ⊎_elim, ℕ, List, Option, None, Some, Result, Ok, Err}
+use Rattle.std.proofs.Common.{inl, inr, ⊎_elim, ℕ, List, Option, None, Some, Result, Ok, Err}
 use Rattle.mbox_cutter.specs.declared.device.Out.{Ghosts}
 use Rattle.named_files.specs.Entries.{Entry, IsFileOf}
 use Rattle.named_files.specs.declared.folder.Folder.{Ghosts as FolderGhosts}
@@ -36,13 +36,13 @@ module _ (wanted : Result Wanted Fault) (index other : List ℕ) (bytes : List (
   abbrev New : Work
   New = SearchStored wanted other bytes
 
-  written-alike : (OutFails : Type 0) (old new : Option (List ℕ)) (result : Result ℕ Fault)
-      → IsWritten OutFails Old old new result → IsWritten OutFails New old new result
-  written-alike OutFails old new (Ok status) (text, done, sent) = (text, alike.done status text done, sent)
-  written-alike OutFails old new (Err fault) (inl is) = inl (alike.refused fault is.0, is.1)
-  written-alike OutFails old new (Err fault) (inr (failed, inl sends)) =
+  written-alike : (OutFails ReadFails : Type 0) (old new : Option (List ℕ)) (result : Result ℕ Fault)
+      → IsWritten OutFails ReadFails Old old new result → IsWritten OutFails ReadFails New old new result
+  written-alike OutFails ReadFails old new (Ok status) (text, done, sent) = (text, alike.done status text done, sent)
+  written-alike OutFails ReadFails old new (Err fault) (inl is) = inl (alike.refused fault is.0, is.1)
+  written-alike OutFails ReadFails old new (Err fault) (inr (failed, inl sends)) =
       inr (failed, inl (λ status text done. sends status text (alike.done_too status text done)))
-  written-alike OutFails old new (Err fault) (inr (failed, inr (status, text, done, sent))) =
+  written-alike OutFails ReadFails old new (Err fault) (inr (failed, inr (status, text, done, sent))) =
       inr (failed, inr (status, text, alike.done status text done, sent))
 
   text-alike : (entry : Entry) → IsFileOf (IsTextOf Old) entry → IsFileOf (IsTextOf New) entry
@@ -61,12 +61,12 @@ module _ (wanted : Result Wanted Fault) (index other : List ℕ) (bytes : List (
   keeps-alike None before now ended keeps = tt
   keeps-alike (Some name) before now ended keeps = keeps-old-alike (before name) (now name) ended keeps
 
-  puts-alike : (OutFails : Type 0) (now : Entry) (ended : Ending) → Puts OutFails Old now ended
-      → Puts OutFails New now ended
-  puts-alike OutFails now (Done status) (text, done, is) = (text, alike.done status text done, is)
-  puts-alike OutFails now (CannotOpen path) is = absurd is
-  puts-alike OutFails now (Because fault) (inl is) = inl (alike.refused fault is)
-  puts-alike OutFails now (Because fault) (inr is) = inr is
+  puts-alike : (OutFails ReadFails : Type 0) (now : Entry) (ended : Ending) → Puts OutFails ReadFails Old now ended
+      → Puts OutFails ReadFails New now ended
+  puts-alike OutFails ReadFails now (Done status) (text, done, is) = (text, alike.done status text done, is)
+  puts-alike OutFails ReadFails now (CannotOpen path) is = absurd is
+  puts-alike OutFails ReadFails now (Because fault) (inl is) = inl (alike.refused fault is)
+  puts-alike OutFails ReadFails now (Because fault) (inr is) = inr is
 
   module _ {D F S N L R O : Type 0} (f : FolderGhosts D F S N L R) (o : Ghosts O) (handed_on : O
       → Option (List ℕ)) where
@@ -74,10 +74,10 @@ module _ (wanted : Result Wanted Fault) (index other : List ℕ) (bytes : List (
         → DoesFor f o handed_on Old file read old new out out' ended
         → DoesFor f o handed_on New file read old new out out' ended
     does-alike None read old new out out' ended (result, same, written, flushed) =
-        (result, same, written-alike _ _ _ result written, flushed)
+        (result, same, written-alike _ _ _ _ result written, flushed)
     does-alike (Some name) read old new out out' ended (same, inl refused) = (same, inl refused)
     does-alike (Some name) read old new out out' ended (same, inr made) =
-        (same, inr (made.0, puts-alike _ (f.holds new name) ended made.1))
+        (same, inr (made.0, puts-alike _ _ (f.holds new name) ended made.1))
 
     left-alike : (file : Option (List ℕ)) (old : D) (n : List ℕ) (c : Entry)
         → LeavesFor (f.apart old) (f.may_leave old) Old file n c
@@ -92,10 +92,10 @@ module _ (wanted : Result Wanted Fault) (index other : List ℕ) (bytes : List (
       )) (left.1 e),
     )
 
-    pub ran-alike : (p : Plan) (rc : Rc) (old new : D) (out out' : O) (ended : Ending)
-        → Ran f o handed_on (Ok (search_task p rc Old)) old new out out' ended
-        → Ran f o handed_on (Ok (search_task p rc New)) old new out out' ended
-    ran-alike p rc old new out out' ended ran = record {
+    pub ran-alike : (names : List (List ℕ)) (p : Plan) (rc : Rc) (old new : D) (out out' : O) (ended : Ending)
+        → Ran f o handed_on names (Ok (search_task p rc Old)) old new out out' ended
+        → Ran f o handed_on names (Ok (search_task p rc New)) old new out out' ended
+    ran-alike names p rc old new out out' ended ran = record {
       run = (
         keeps-alike (search_task p rc Old).file (f.holds old) (f.holds new) ended ran.run.0,
         ⊎_elim inl (λ does. inr (does-alike (search_task p rc Old).file (search_task p rc Old).read

@@ -147,7 +147,7 @@ module _ {D F S N L R : Type 0} (f : FolderGhosts D F S N L R) (old : D) (read :
     made-read m = kept-all read (λ n. f.apart old n (passing_of name) && f.apart old n name) (f.holds old) (f.holds new)
         (fit-apart (f.apart old) read (passing_of name) name m.fit) (made-alone m)
 
-    module _ (work : Work) (OutFails : Type 0) (m : Made) where
+    module _ (work : Work) (OutFails ReadFails : Type 0) (m : Made) where
       is-apart : f.apart old name (passing_of name) ≡ true
       is-apart = apart_of_fit (f.apart old) read (passing_of name) name m.fit
 
@@ -174,14 +174,15 @@ module _ {D F S N L R : Type 0} (f : FolderGhosts D F S N L R) (old : D) (read :
         text-of : (bytes : List ℕ) → IfSome taken (λ all. bytes ≡ all) → bytes ≡ text
         text-of bytes all = subst (λ t. IfSome t (λ all. bytes ≡ all)) took all
 
-      made-leaves : (w : Result ℕ Fault) → w ≡ written → IsWritten OutFails work (Some []) taken w → Leaves work new
+      made-leaves : (w : Result ℕ Fault) → w ≡ written → IsWritten OutFails ReadFails work (Some []) taken w
+          → Leaves work new
       made-leaves (Ok status) same (text, done, sent) = follows f.moment f.left_since old mid new _ _ first m.settling
           (whole text (status, done) (taken-text taken text sent))
       made-leaves (Err fault) same is = follows f.moment f.left_since old mid new _ _ first
           (subst (λ (w : Result ℕ Fault). OnErr w (LeavesOnly f.moment f.left_since mid new
           (λ n c. f.apart mid n (passing_of name) ≡ true → f.may_leave mid n c))) (sym same) m.discarding) later
 
-    module _ (work : Work) (OutFails : Type 0) (m : Made) where
+    module _ (work : Work) (OutFails ReadFails : Type 0) (m : Made) where
       -- it led to what it led to before while the file was made
       mid-old : f.holds mid name ≡ f.holds old name
       mid-old = m.others name (apart_of_fit (f.apart old) read (passing_of name) name m.fit)
@@ -196,7 +197,8 @@ module _ {D F S N L R : Type 0} (f : FolderGhosts D F S N L R) (old : D) (read :
           (λ leads. inr (text, (status, done), leads-text (f.holds new name) taken text took leads))
           (m.old_or_new mid-apart)
 
-      made-keeps : (w r : Result ℕ Fault) → w ≡ written → IsWritten OutFails work (Some []) taken w → IsSettled w r
+      made-keeps : (w r : Result ℕ Fault) → w ≡ written → IsWritten OutFails ReadFails work (Some []) taken w
+          → IsSettled w r
           → KeepsOld work (f.holds old name) (f.holds new name) (ending_by r)
       made-keeps w (Ok status) wrote is settled = tt
       made-keeps (Ok status) (Err fault) wrote is (inl same) = absurd cc
@@ -217,15 +219,17 @@ module _ {D F S N L R : Type 0} (f : FolderGhosts D F S N L R) (old : D) (read :
         → MadeAndSettled mid new taken written result passing → All (λ n. f.holds new n ≡ f.holds old n) read
     made-settled-read passing e m = made-read (subst (λ p. MadeAndSettled mid new taken written result p) (sym e) m)
 
-    pub made-settled-leaves : (work : Work) (OutFails : Type 0) (passing : List ℕ) → passing_of name ≡ passing
-        → MadeAndSettled mid new taken written result passing → IsWritten OutFails work (Some []) taken written
+    pub made-settled-leaves : (work : Work) (OutFails ReadFails : Type 0) (passing : List ℕ) → passing_of name ≡ passing
+        → MadeAndSettled mid new taken written result passing
+        → IsWritten OutFails ReadFails work (Some []) taken written
         → Leaves work new
-    made-settled-leaves work OutFails passing e m is = made-leaves work OutFails
+    made-settled-leaves work OutFails ReadFails passing e m is = made-leaves work OutFails ReadFails
         (subst (λ p. MadeAndSettled mid new taken written result p) (sym e) m) written refl is
 
-    pub made-settled-keeps : (work : Work) (OutFails : Type 0) (passing : List ℕ) → passing_of name ≡ passing
-        → MadeAndSettled mid new taken written result passing → IsWritten OutFails work (Some []) taken written
+    pub made-settled-keeps : (work : Work) (OutFails ReadFails : Type 0) (passing : List ℕ) → passing_of name ≡ passing
+        → MadeAndSettled mid new taken written result passing
+        → IsWritten OutFails ReadFails work (Some []) taken written
         → KeepsOld work (f.holds old name) (f.holds new name) (ending_by result)
-    made-settled-keeps work OutFails passing e m is =
+    made-settled-keeps work OutFails ReadFails passing e m is =
         let at-name = subst (λ p. MadeAndSettled mid new taken written result p) (sym e) m in
-        made-keeps work OutFails at-name written result refl is at-name.settled
+        made-keeps work OutFails ReadFails at-name written result refl is at-name.settled

@@ -1,10 +1,11 @@
 -- A file that a run makes: which name is refused, and what the file has in the end.
 use Rattle.std.proofs.Common.{◌≡◌, ◌∙◌, ◌⊎◌, inl, inr, refl, sym, ap, subst, ℕ, Bool, true, false, ◌&&◌, not, List}
 use Rattle.std.proofs.Common.{[], ◌∷◌, All}
-use Rattle.std.proofs.Common.{◌++◌, Option, None, Some, Result, Ok, Err, IfErr, OnOk, if◌then◌else◌, string_bytes}
+use Rattle.std.proofs.Common.{Option, None, Some, Result, Ok, Err, IfErr, OnOk, if◌then◌else◌, string_bytes}
 use Rattle.std.proofs.Common.{arith, rules}
 use Rattle.std.proofs.lemmas.Bool.Decides.{nat_tests}
 use Rattle.std.proofs.lemmas.List.Elements.{All-cons, All-nil}
+use Rattle.std.specs.List.{Contains}
 use Rattle.std.specs.Option.{option_or}
 use Rattle.std.specs.Io.KnownBytes.{Appends}
 use Rattle.named_files.specs.Entries.{Entry, File, Leads, SameWhere}
@@ -72,7 +73,8 @@ kept-all read passes old new apart same = search (rules, apart, same)
 -- ---- a refusal
 
 module _ (holds : List ℕ → Entry) (apart : List ℕ → List ℕ → Bool) (is_leftover : List ℕ → Bool) (work : Work)
-    (read : List (List ℕ)) (name : List ℕ) (CanRefuse ReadsCanFail : Type 0) (IsMade : Ending → Type 0) where
+    (read : List (List ℕ)) (name : List ℕ) (names : List (List ℕ)) (CanRefuse ReadsCanFail : Type 0)
+    (IsMade : Ending → Type 0) where
   abbrev Unfit : Option (List ℕ)
   Unfit = unfit_name apart read (passing_of name) name
 
@@ -80,7 +82,7 @@ module _ (holds : List ℕ → Entry) (apart : List ℕ → List ℕ → Bool) (
   Taken = taken_name holds is_leftover (passing_of name) name
 
   abbrev Stops : Ending → Type 0
-  Stops ended = IsTrouble CanRefuse ReadsCanFail ended
+  Stops ended = IsTrouble names CanRefuse ReadsCanFail ended
       ⊎ MakesFor (refused_name holds apart is_leftover work read name) CanRefuse IsMade ended
 
   not-kept : (kept : Bool) (other : Option (List ℕ)) → kept ≡ false → (if kept then Some name else other) ≡ other
@@ -88,35 +90,56 @@ module _ (holds : List ℕ → Entry) (apart : List ℕ → List ℕ → Bool) (
   not-kept false other is = refl
 
   -- the file can't be made
-  pub refused-stops : is_kept work (holds name) ≡ false → (stopped : Stopped)
+  pub refused-stops : Contains names (passing_of name) → is_kept work (holds name) ≡ false → (stopped : Stopped)
       → IsRefusal Unfit Taken (passing_of name) CanRefuse stopped → Stops (ending_of_stopped stopped)
-  refused-stops new (by.CannotOpen path) (inl is) =
+  refused-stops among new (by.CannotOpen path) (inl is) =
       inr (inl (string_bytes path, not-kept (is_kept work (holds name)) (option_or Unfit Taken) new ∙ is, refl))
-  refused-stops new (by.CannotOpen path) (inr is) = inl (inl is.2)
-  refused-stops new (by.Fault fault) is = inl is
+  refused-stops among new (by.CannotOpen path) (inr is) =
+      inl (subst (λ n. Contains names n) (sym is.1) among, inl is.2)
+  refused-stops among new (by.Fault fault) is = inl is
 
   kept-name : (kept : Bool) (other : Option (List ℕ)) → kept ≡ true → (if kept then Some name else other) ≡ Some name
   kept-name true other is = refl
   kept-name false other is = absurd cc
 
   -- the name is that of mail, or that can't be seen
-  pub mail-found : (stopped : Stopped)
+  pub mail-found : Contains names name → (stopped : Stopped)
       → IsNotReplaced name ((is_kept work (holds name) ≡ true) ⊎ (CanRefuse ⊎ ReadsCanFail)) stopped
       → Stops (ending_of_stopped stopped)
-  mail-found (by.Fault fault) is = inl is
-  mail-found (by.CannotOpen path) (at, inl is) = inr (inl (
+  mail-found among (by.Fault fault) is = inl is
+  mail-found among (by.CannotOpen path) (at, inl is) = inr (inl (
     name,
     kept-name (is_kept work (holds name)) (option_or Unfit Taken) is,
     ap CannotOpen at,
   ))
-  mail-found (by.CannotOpen path) (at, inr can) = inl can
+  mail-found among (by.CannotOpen path) (at, inr can) = inl (subst (λ n. Contains names n) (sym at) among, can)
+
+  -- only one of both names is refused
+  refused-among : Contains names name → Contains names (passing_of name) → (path : List ℕ)
+      → option_or Unfit Taken ≡ Some path → Contains names path
+  refused-among here there path is = by-tests (not (has_last_part name && are_all_apart apart read name))
+      (are_all_apart apart read (passing_of name) && apart name (passing_of name)) (is_special (holds name))
+      (is_open_to holds is_leftover (passing_of name)) is where
+        by-tests : (a b c d : Bool) → option_or (if a then Some name else (if b then None else Some (passing_of name)))
+            (if c then Some name else (if d then None else Some (passing_of name))) ≡ Some path → Contains names path
+        by-tests true b c d at = let one : name ≡ path = cc in subst (λ n. Contains names n) one here
+        by-tests false false c d at = let one : passing_of name ≡ path = cc in
+            subst (λ n. Contains names n) one there
+        by-tests false true true d at = let one : name ≡ path = cc in subst (λ n. Contains names n) one here
+        by-tests false true false false at = let one : passing_of name ≡ path = cc in
+            subst (λ n. Contains names n) one there
+        by-tests false true false true at = absurd cc
 
   -- the file can't be made, and its name isn't that of mail, or that can't be seen
-  pub mail-or-refused : (is_kept work (holds name) ≡ false) ⊎ CanRefuse → (stopped : Stopped)
+  pub mail-or-refused : Contains names name → Contains names (passing_of name)
+      → (is_kept work (holds name) ≡ false) ⊎ CanRefuse → (stopped : Stopped)
       → IsRefusal Unfit Taken (passing_of name) CanRefuse stopped → Stops (ending_of_stopped stopped)
-  mail-or-refused (inl new) stopped is = refused-stops new stopped is
-  mail-or-refused (inr can) (by.CannotOpen path) is = inl (inl can)
-  mail-or-refused (inr can) (by.Fault fault) is = inl is
+  mail-or-refused here there (inl new) stopped is = refused-stops there new stopped is
+  mail-or-refused here there (inr can) (by.CannotOpen path) (inl is) =
+      inl (refused-among here there (string_bytes path) is, inl can)
+  mail-or-refused here there (inr can) (by.CannotOpen path) (inr is) =
+      inl (subst (λ n. Contains names n) (sym is.1) there, inl can)
+  mail-or-refused here there (inr can) (by.Fault fault) is = inl is
 
   free-name : (kept special free : Bool) → kept ≡ false → Unfit ≡ None → special ≡ false → free ≡ true
       → (if kept then Some name else option_or Unfit
@@ -153,27 +176,28 @@ done-with work text status other (inl same) done = let one : status ≡ other = 
 done-with work text status other (inr (inl failed)) done = absurd cc
 done-with work text status other (inr (inr failed)) done = absurd cc
 
-fails-with : (OutFails : Type 0) (status : ℕ) (fault : Fault) → IsSettled (Ok status) (Err fault)
-    → (fault ≡ Out → OutFails) → IsFailure OutFails fault
-fails-with OutFails status fault (inl same) cause = absurd cc
-fails-with OutFails status fault (inr (inl failed)) cause =
-    let one : fault ≡ Out = cc in subst (λ f. IsFailure OutFails f) (sym one) (cause one)
-fails-with OutFails status fault (inr (inr failed)) cause =
-    let one : Memory ≡ fault = cc in subst (λ f. IsFailure OutFails f) one tt
+fails-with : (OutFails ReadFails : Type 0) (status : ℕ) (fault : Fault) → IsSettled (Ok status) (Err fault)
+    → (fault ≡ Out → OutFails) → IsFailure OutFails ReadFails fault
+fails-with OutFails ReadFails status fault (inl same) cause = absurd cc
+fails-with OutFails ReadFails status fault (inr (inl failed)) cause =
+    let one : fault ≡ Out = cc in subst (λ f. IsFailure OutFails ReadFails f) (sym one) (cause one)
+fails-with OutFails ReadFails status fault (inr (inr failed)) cause =
+    let one : Memory ≡ fault = cc in subst (λ f. IsFailure OutFails ReadFails f) one tt
 
 -- the work was written, and then the file took its name or was removed
-pub puts-settled : (OutFails : Type 0) (work : Work) (taken : Option (List ℕ)) (written result : Result ℕ Fault)
-    (now : Entry) → IsWritten OutFails work (Some []) taken written → IsSettled written result
+pub puts-settled : (OutFails ReadFails : Type 0) (work : Work) (taken : Option (List ℕ))
+    (written result : Result ℕ Fault)
+    (now : Entry) → IsWritten OutFails ReadFails work (Some []) taken written → IsSettled written result
     → OnOk written (IfErr result (λ fault. fault ≡ Out → OutFails)) → OnOk result (Leads now taken)
-    → Puts OutFails work now (ending_by result)
-puts-settled OutFails work taken (Ok status) (Ok other) now (text, done, sent) settled cause leads =
+    → Puts OutFails ReadFails work now (ending_by result)
+puts-settled OutFails ReadFails work taken (Ok status) (Ok other) now (text, done, sent) settled cause leads =
     (text, done-with work text status other settled done, leads-text now taken text (taken-text taken text sent) leads)
-puts-settled OutFails work taken (Ok status) (Err fault) now is settled cause leads =
-    inr (fails-with OutFails status fault settled cause)
-puts-settled OutFails work taken (Err fault) result now (inl refused) settled cause leads =
-    subst (λ (r : Result ℕ Fault). Puts OutFails work now (ending_by r)) (sym settled) (inl refused.0)
-puts-settled OutFails work taken (Err fault) result now (inr failed) settled cause leads =
-    subst (λ (r : Result ℕ Fault). Puts OutFails work now (ending_by r)) (sym settled) (inr failed.0)
+puts-settled OutFails ReadFails work taken (Ok status) (Err fault) now is settled cause leads =
+    inr (fails-with OutFails ReadFails status fault settled cause)
+puts-settled OutFails ReadFails work taken (Err fault) result now (inl refused) settled cause leads =
+    subst (λ (r : Result ℕ Fault). Puts OutFails ReadFails work now (ending_by r)) (sym settled) (inl refused.0)
+puts-settled OutFails ReadFails work taken (Err fault) result now (inr failed) settled cause leads =
+    subst (λ (r : Result ℕ Fault). Puts OutFails ReadFails work now (ending_by r)) (sym settled) (inr failed.0)
 
 -- a search replaces any file
 pub search-not-kept : (wanted : Result Wanted Fault) (index : Option (List ℕ)) (bytes : List (List ℕ)) (entry : Entry)

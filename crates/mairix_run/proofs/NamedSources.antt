@@ -1,8 +1,8 @@
--- Sources of names whose reports agree are still known after they are indexed.
-use Rattle.std.proofs.Common.{◌≡◌, ◌∙◌, ℕ, zero, suc, Bool, List, [], ◌∷◌, map, All}
+-- Sources of names whose reports agree are still known after they are indexed. One that has failed has a cause.
+use Rattle.std.proofs.Common.{◌≡◌, ◌∙◌, ◌||◌, ◌<◌, ℕ, zero, suc, Bool, true, false, List, [], ◌∷◌, map, All}
 use Rattle.std.proofs.Common.{Option, None, Some, IsSome, refl, sym, subst, arith, slice_index}
 use Rattle.std.proofs.lemmas.List.Elements.{All-cons, All-head, All-nil, All-tail}
-use Rattle.std.specs.List.{AllZip}
+use Rattle.std.specs.List.{AllZip, list_any}
 use Rattle.contract_words.specs.Devices.{Counted}
 use Rattle.mbox_cutter.specs.Sources.{Stays}
 use Rattle.mbox_cutter.specs.declared.device.Source.{Ghosts}
@@ -54,6 +54,38 @@ module _ {S F : Type 0} (rest : F → Option (List ℕ)) (all : S → Option (Li
       (All-head IsReported new news told (zeros 0)) (subst IsSome (sym now) refl))
       (known-now g same olds news files stay.1 (All-tail IsNew old olds fresh) others (λ n. zeros (suc n))
       (All-tail IsReported new news told))
+
+  -- none is so, neither the first one nor any other
+  first-not : (a b : Bool) → (a || b) ≡ false → a ≡ false
+  first-not true b none = absurd cc
+  first-not false b none = refl
+
+  others-not : (a b : Bool) → (a || b) ≡ false → b ≡ false
+  others-not true b none = absurd cc
+  others-not false b none = none
+
+  -- If each source that has failed has a cause, unless its file isn't there or memory ran out: so has the source with
+  -- number n, which was new, and whose file is there.
+  pub has-cause : (g : Ghosts S)
+      → ((old new : S) → Stays g old new → (bytes : List ℕ) → all old ≡ Some bytes → all new ≡ Some bytes)
+      → (lacks : S → Bool) (Cause : Type 0)
+      → ((s : S) → 0 < failures s → lacks s ≡ false → IsSome (all s) → Cause)
+      → (olds news : List S) (files : List (List ℕ)) → AllZip (Stays g) olds news → All IsNew olds
+      → map left olds ≡ map Some files → list_any lacks news ≡ false
+      → (n : ℕ) → 0 < slice_index (map failures news) n → Cause
+  has-cause g same lacks Cause failed [] [] files stay fresh are none n rose = absurd (omega (arith, rose))
+  has-cause g same lacks Cause failed [] (new ∷ news) files stay fresh are none n rose = absurd stay
+  has-cause g same lacks Cause failed (old ∷ olds) [] files stay fresh are none n rose = absurd stay
+  has-cause g same lacks Cause failed (old ∷ olds) (new ∷ news) [] stay fresh are none n rose = absurd cc
+  has-cause g same lacks Cause failed (old ∷ olds) (new ∷ news) (bytes ∷ files) stay fresh are none zero rose =
+      let here : left old ≡ Some bytes = grind arith in
+      let unopened = not-opened rest (all old) (file old) (progress old) (All-head IsNew old olds fresh).1 in
+      let now = same old new stay.0 bytes (sym unopened ∙ here) in
+      failed new rose (first-not (lacks new) (list_any lacks news) none) (subst IsSome (sym now) refl)
+  has-cause g same lacks Cause failed (old ∷ olds) (new ∷ news) (bytes ∷ files) stay fresh are none (suc n) rose =
+      let others : map left olds ≡ map Some files = grind arith in
+      has-cause g same lacks Cause failed olds news files stay.1 (All-tail IsNew old olds fresh) others
+      (others-not (lacks new) (list_any lacks news) none) n rose
 
   counts-new : (sources : List S) → All IsNew sources → (n : ℕ) → slice_index (map failures sources) n ≡ 0
   counts-new [] fresh n = refl

@@ -1,5 +1,6 @@
 -- A run's reply as a result. An answer with a fault is the refusal with that fault, so nothing was sent.
 use Rattle.std.proofs.Common.{◌≡◌, ◌∙◌, ◌||◌, ℕ, Bool, true, false, List, [], Option, None, Some, Result, Ok, Err, Bor}
+use Rattle.std.proofs.Common.{◌≤◌, nat_eq, if◌then◌else◌, IfErr, IfOk, arith}
 use Rattle.std.proofs.Common.{is_err, refl, sym, ap, subst, inl, inr, append-nil, slice_index}
 use Rattle.std.specs.Bool.{MatchBool, OnTrue}
 use Rattle.std.specs.Io.KnownBytes.{Appends}
@@ -8,16 +9,19 @@ use Rattle.mail_answer.specs.Mail.{Search}
 use Rattle.mail_answer.specs.Stale.{stale_archive}
 use Rattle.mail_index.specs.Tables.{Table}
 use Rattle.mbox_cutter.specs.declared.event.CutFault.TheVariants.{Device}
-use Rattle.run_faults.specs.Faults.{fault_in, is_failed_source, is_failure, is_of_indexing}
+use Rattle.run_faults.specs.Faults.{IsOnceFault, fault_in, is_early, is_failed_source, is_failure}
+use Rattle.run_faults.specs.Faults.{is_of_indexing}
 use Rattle.run_faults.specs.declared.fault.Fault.{Fault}
-use Rattle.run_faults.specs.declared.fault.Fault.TheVariants.{Archive, Index, OldIndex, Stale}
+use Rattle.run_faults.specs.declared.fault.Fault.TheVariants as of
+use Rattle.run_faults.specs.declared.fault.Fault.TheVariants.{Usage, Rc, Query, Archive, Index, OldIndex, Stale, Out}
+use Rattle.run_faults.specs.declared.fault.Fault.TheVariants.{Memory, TooMany}
 use Rattle.mairix_tool.specs.Asked.{Wanted}
-use Rattle.mairix_tool.specs.Replies.{Answer, RefusesAsked, refused}
+use Rattle.mairix_tool.specs.Replies.{Answer, IsConsistent, RefusesAsked, refused}
 use Rattle.mairix_tool.specs.Runs.{IsFoundIn, IsOldOr, IsProvedAndTold, IsReply, IsStaleOr, IsStoredReply}
 use Rattle.mairix_tool.specs.Runs.{IsThisOrMemory, IsTold, IsToldOf, RepliesBy, answered, is_too_old, renamed_archive}
 use Rattle.mairix_tool.specs.Runs.{unproved_archive}
 use Rattle.mairix_tool.specs.declared.reply.Reply.{Reply}
-use Rattle.mairix_run.specs.Answered.{AnswersBy, IsRefusedFirst, result_by, result_of_reply}
+use Rattle.mairix_run.specs.Answered.{AnswersBy, IsRefusedFirst, comes_before, result_by, result_of_reply}
 
 -- ---- an answer with a fault is its refusal
 
@@ -157,3 +161,35 @@ pub refused-once : (asked : Result Wanted Fault) (index : Option (Bor (List ℕ)
     → IsRefusedFirst asked index fault → asked ≡ Err fault
 refused-once asked None fault none is = is
 refused-once asked (Some index) fault none is = absurd cc
+
+-- ---- without a stored index, by the fault of the reply
+
+pub once-status : (reply : Reply) (fault : Option Fault) → IsConsistent IsOnceFault reply fault
+    → IfOk (result_by reply.status fault) (λ status. status ≤ 1)
+once-status reply None is = subst (λ (n : ℕ). n ≤ 1) (sym is) (at-most (nat_eq reply.messages 0)) where
+  at-most : (none : Bool) → (if none then 1 else 0) ≤ 1
+  at-most true = omega arith
+  at-most false = omega arith
+once-status reply (Some fault) is = tt
+
+pub once-kinds : (reply : Reply) (fault : Option Fault) → IsConsistent IsOnceFault reply fault
+    → IfErr (result_by reply.status fault) IsOnceFault
+once-kinds reply None is = tt
+once-kinds reply (Some fault) is = is.0
+
+-- what is refused before the search sends nothing
+pub once-silent : (P Q R : Type 0) (reply : Reply) (refused : Bool) (fault : Option Fault)
+    → IsConsistent IsOnceFault reply fault → OnTrue (is_early fault || refused) (P × Q × R)
+    → OnTrue (is_of_indexing fault) (Q × R) → OnTrue (comes_before fault) R
+once-silent P Q R reply refused None is early silent = tt
+once-silent P Q R reply refused (Some (Usage u)) is early silent = early.2
+once-silent P Q R reply refused (Some (Rc r)) is early silent = early.2
+once-silent P Q R reply refused (Some (Query q)) is early silent = early.2
+once-silent P Q R reply refused (Some (Archive n f)) is early silent = silent.1
+once-silent P Q R reply refused (Some (Index i)) is early silent = absurd is.0
+once-silent P Q R reply refused (Some OldIndex) is early silent = absurd is.0
+once-silent P Q R reply refused (Some (Stale n)) is early silent = tt
+once-silent P Q R reply refused (Some of.Device) is early silent = tt
+once-silent P Q R reply refused (Some Out) is early silent = tt
+once-silent P Q R reply refused (Some Memory) is early silent = tt
+once-silent P Q R reply refused (Some TooMany) is early silent = silent.1

@@ -1,7 +1,9 @@
 -- What the parts of a run do, put together.
-use Rattle.std.proofs.Common.{◌≡◌, ◌∙◌, ◌⊎◌, ◌≤◌, ◌^◌, inl, inr, ⊎_elim, refl, subst, ℕ, ◌&&◌, List, [], All}
+use Rattle.std.proofs.Common.{◌≡◌, ◌⊎◌, inl, inr, ⊎_elim, refl, subst, ℕ, List, [], All}
 use Rattle.std.proofs.Common.{Option, None, Some, Result, Ok, Err, rules, arith}
+use Rattle.std.specs.List.{Contains}
 use Rattle.mbox_cutter.specs.declared.device.Out.{Ghosts}
+use Rattle.named_archives.specs.Progress.{CannotRead}
 use Rattle.named_files.specs.Crashes.{LeavesOnly}
 use Rattle.named_files.specs.Entries.{Entry, SameWhere}
 use Rattle.named_files.specs.declared.folder.Folder.{Ghosts as FolderGhosts}
@@ -11,7 +13,7 @@ use Rattle.mairix_run.specs.Stops.{Ending}
 use Rattle.mairix_run.specs.Tasks.{Task, Work}
 use Rattle.mairix_run.specs.Stops.Ending.{Done, CannotOpen, Because}
 use Rattle.mairix_run.specs.WholeRuns.{CallsFor, IsTrouble, KeepsFile, KeepsOld, LeavesFor, LeavesInMaking, MakesFor}
-use Rattle.mairix_run.specs.WholeRuns.{Puts, Writes, is_left_alone, refused_name}
+use Rattle.mairix_run.specs.WholeRuns.{Puts, Runs, Writes, is_left_alone, refused_name}
 use Rattle.run_faults.specs.declared.fault.Fault.TheVariants.{Out, Memory}
 
 -- before the first call
@@ -68,18 +70,18 @@ module _ {D F S N L R O : Type 0} (f : FolderGhosts D F S N L R) (o : Ghosts O) 
   keeps-file work (Some name) old ended = keeps-same work (f.holds old name) (f.holds old name) ended refl
 
   -- it ends so before anything is changed
-  pub ran-ended : (task : Result Task Ending) (old : D) (out : O) (ended : Ending)
+  pub ran-ended : (names : List (List ℕ)) (task : Result Task Ending) (old : D) (out : O) (ended : Ending)
       → ((n : List ℕ) (c : Entry) → f.left_since old (f.moment old) n c → f.may_leave old n c)
-      → Ends f.can_refuse f.reads_can_fail task ended
-      → Ran f o handed_on task old old out out ended
-  ran-ended (Err why) old out ended only_now ends = record {
+      → Ends names f.can_refuse f.reads_can_fail task ended
+      → Ran f o handed_on names task old old out out ended
+  ran-ended names (Err why) old out ended only_now ends = record {
     run = (refl, ends);
     read = all-same old [];
     alone = λ n alone. refl;
     any_moment = starts f.moment f.left_since old _ (λ n c left. only_now n c left);
     calls = refl;
   }
-  ran-ended (Ok task) old out ended only_now ends = record {
+  ran-ended names (Ok task) old out ended only_now ends = record {
     run = (keeps-file task.work task.file old ended, inl (refl, ends));
     read = all-same old task.read;
     alone = λ n alone. refl;
@@ -89,41 +91,45 @@ module _ {D F S N L R O : Type 0} (f : FolderGhosts D F S N L R) (o : Ghosts O) 
   }
 
   -- the answer goes to standard output
-  printed : (work : Work) (read : List (List ℕ)) (file : Option (List ℕ)) → file ≡ None → (old : D) (out out' : O)
+  printed : (names : List (List ℕ)) (work : Work) (read : List (List ℕ)) (file : Option (List ℕ)) → file ≡ None
+      → (old : D) (out out' : O)
       (ended : Ending) → ((n : List ℕ) (c : Entry) → f.left_since old (f.moment old) n c → f.may_leave old n c)
-      → Writes o handed_on work out out' ended
-      → Ran f o handed_on (Ok (record { work = work; file = file; read = read })) old old out out' ended
-  printed work read None none old out out' ended only_now writes = record {
+      → Writes o handed_on (CannotRead f.can_refuse f.reads_can_fail) work out out' ended
+      → Ran f o handed_on names (Ok (record { work = work; file = file; read = read })) old old out out' ended
+  printed names work read None none old out out' ended only_now writes = record {
     run = (tt, inr writes);
     read = all-same old read;
     alone = λ n alone. refl;
     any_moment = starts f.moment f.left_since old _ (λ n c left. only_now n c left);
     calls = refl;
   }
-  printed work read (Some name) none old out out' ended only_now writes = absurd cc
+  printed names work read (Some name) none old out out' ended only_now writes = absurd cc
 
-  pub ran-printed : (task : Task) → task.file ≡ None → (old : D) (out out' : O) (ended : Ending)
+  pub ran-printed : (names : List (List ℕ)) (task : Task) → task.file ≡ None → (old : D) (out out' : O) (ended : Ending)
       → ((n : List ℕ) (c : Entry) → f.left_since old (f.moment old) n c → f.may_leave old n c)
-      → Writes o handed_on task.work out out' ended → Ran f o handed_on (Ok task) old old out out' ended
-  ran-printed task none old out out' ended only_now writes =
-      printed task.work task.read task.file none old out out' ended only_now writes
+      → Writes o handed_on (CannotRead f.can_refuse f.reads_can_fail) task.work out out' ended
+      → Ran f o handed_on names (Ok task) old old out out' ended
+  ran-printed names task none old out out' ended only_now writes =
+      printed names task.work task.read task.file none old out out' ended only_now writes
 
   -- a file is made, or the run is stopped while it is
-  made : (work : Work) (read : List (List ℕ)) (file : Option (List ℕ)) (name : List ℕ) → file ≡ Some name
+  made : (names : List (List ℕ)) (work : Work) (read : List (List ℕ)) (file : Option (List ℕ)) (name : List ℕ) → file
+      ≡ Some name
       → (old new : D) (out : O) (ended : Ending)
-      → IsTrouble f.can_refuse f.reads_can_fail ended
+      → IsTrouble names f.can_refuse f.reads_can_fail ended
       ⊎ MakesFor (refused_name (f.holds old) (f.apart old) (f.is_leftover old) work read name) f.can_refuse
-      (Puts (f.can_refuse ⊎ f.writes_can_fail) work (f.holds new name)) ended
+      (Puts (f.can_refuse ⊎ f.writes_can_fail) (CannotRead f.can_refuse f.reads_can_fail) work (f.holds new name)) ended
       → KeepsOld work (f.holds old name) (f.holds new name) ended
       → All (λ n. f.holds new n ≡ f.holds old n) read
       → SameWhere (is_left_alone (f.apart old) (Some name)) (f.holds old) (f.holds new)
       → LeavesOnly f.moment f.left_since old new (LeavesInMaking (f.apart old) (f.may_leave old) work name)
       → CallsFor f (Some name) ended old new
-      → Ran f o handed_on (Ok (record { work = work; file = file; read = read })) old new out out ended
-  made work read None name some old new out ended makes keeps kept alone leaves calls = absurd cc
-  made work read (Some n) name some old new out ended makes keeps kept alone leaves calls =
+      → Ran f o handed_on names (Ok (record { work = work; file = file; read = read })) old new out out ended
+  made names work read None name some old new out ended makes keeps kept alone leaves calls = absurd cc
+  made names work read (Some n) name some old new out ended makes keeps kept alone leaves calls =
       let same : name ≡ n = cc in
-      subst (λ m. Ran f o handed_on (Ok (record { work = work; file = Some m; read = read })) old new out out ended)
+      subst (λ m. Ran f o handed_on names (Ok (record { work = work; file = Some m; read = read })) old new out out
+      ended)
       same
       (record {
         run = (keeps, ⊎_elim (λ trouble. inl (refl, trouble)) (λ does. inr (refl, does)) makes);
@@ -133,15 +139,45 @@ module _ {D F S N L R O : Type 0} (f : FolderGhosts D F S N L R) (o : Ghosts O) 
         calls = calls;
       })
 
-  pub ran-made : (task : Task) (name : List ℕ) → task.file ≡ Some name → (old new : D) (out : O) (ended : Ending)
-      → IsTrouble f.can_refuse f.reads_can_fail ended
+  pub ran-made : (names : List (List ℕ)) (task : Task) (name : List ℕ) → task.file ≡ Some name
+      → (old new : D) (out : O) (ended : Ending)
+      → IsTrouble names f.can_refuse f.reads_can_fail ended
       ⊎ MakesFor (refused_name (f.holds old) (f.apart old) (f.is_leftover old) task.work task.read name) f.can_refuse
-      (Puts (f.can_refuse ⊎ f.writes_can_fail) task.work (f.holds new name)) ended
+      (Puts (f.can_refuse ⊎ f.writes_can_fail) (CannotRead f.can_refuse f.reads_can_fail) task.work (f.holds new name))
+      ended
       → KeepsOld task.work (f.holds old name) (f.holds new name) ended
       → All (λ n. f.holds new n ≡ f.holds old n) task.read
       → SameWhere (is_left_alone (f.apart old) (Some name)) (f.holds old) (f.holds new)
       → LeavesOnly f.moment f.left_since old new (LeavesInMaking (f.apart old) (f.may_leave old) task.work name)
       → CallsFor f (Some name) ended old new
-      → Ran f o handed_on (Ok task) old new out out ended
-  ran-made task name some old new out ended makes keeps kept alone leaves calls =
-      made task.work task.read task.file name some old new out ended makes keeps kept alone leaves calls
+      → Ran f o handed_on names (Ok task) old new out out ended
+  ran-made names task name some old new out ended makes keeps kept alone leaves calls =
+      made names task.work task.read task.file name some old new out ended makes keeps kept alone leaves calls
+
+  -- ---- the same run, of more names
+
+  trouble-wider : (names more : List (List ℕ)) → ((path : List ℕ) → Contains names path → Contains more path)
+      → (ended : Ending) → IsTrouble names f.can_refuse f.reads_can_fail ended
+      → IsTrouble more f.can_refuse f.reads_can_fail ended
+  trouble-wider names more wider (Done status) trouble = absurd trouble
+  trouble-wider names more wider (CannotOpen path) (among, cause) = (wider path among, cause)
+  trouble-wider names more wider (Because fault) trouble = trouble
+
+  run-wider : (names more : List (List ℕ)) → ((path : List ℕ) → Contains names path → Contains more path)
+      → (task : Result Task Ending) (old new : D) (out out' : O) (ended : Ending)
+      → Runs f o handed_on names task old new out out' ended → Runs f o handed_on more task old new out out' ended
+  run-wider names more wider (Err why) old new out out' ended (same, ends) =
+      (same, ⊎_elim inl (λ trouble. inr (trouble-wider names more wider ended trouble)) ends)
+  run-wider names more wider (Ok task) old new out out' ended (keeps, runs) =
+      (keeps, ⊎_elim (λ t. inl (t.0, trouble-wider names more wider ended t.1)) inr runs)
+
+  pub ran-wider : (names more : List (List ℕ)) → ((path : List ℕ) → Contains names path → Contains more path)
+      → (task : Result Task Ending) (old new : D) (out out' : O) (ended : Ending)
+      → Ran f o handed_on names task old new out out' ended → Ran f o handed_on more task old new out out' ended
+  ran-wider names more wider task old new out out' ended ran = record {
+    run = run-wider names more wider task old new out out' ended ran.run;
+    read = ran.read;
+    alone = ran.alone;
+    any_moment = ran.any_moment;
+    calls = ran.calls;
+  }

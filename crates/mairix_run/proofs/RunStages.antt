@@ -1,19 +1,22 @@
 -- How a run ends before its task is known.
-use Rattle.std.proofs.Common.{◌≡◌, ◌∙◌, ◌⊎◌, inl, inr, refl, sym, ap, ℕ, List, Option, None, Some, Result, Ok, Err}
+use Rattle.std.proofs.Common.{◌≡◌, ◌∙◌, ◌⊎◌, inl, inr, refl, sym, ap, subst, ℕ, List, Option, None, Some, Result, Ok}
+use Rattle.std.proofs.Common.{Err}
 use Rattle.std.proofs.Common.{IfErr, IfSome, string_bytes, Bool, true, false, not, ◌&&◌, ◌==◌, length, if◌then◌else◌}
+use Rattle.std.specs.List.{Contains}
 use Rattle.std.specs.Option.{option_map_or}
 use Rattle.contract_words.specs.Answers.{◌>>=◌, fault_as}
 use Rattle.or_memory.specs.Refusals.{refusal}
 use Rattle.or_memory.specs.declared.or_memory.OrMemory.{OrMemory}
 use Rattle.or_memory.specs.declared.or_memory.OrMemory.TheVariants as given
 use Rattle.named_files.specs.Refusals.{HasCause}
-use Rattle.named_files.specs.declared.folder.Folder.{Ghosts as FolderGhosts}
 use Rattle.named_files.specs.declared.refusal.Refusal.{Refusal}
 use Rattle.named_files.specs.declared.refusal.Refusal.TheVariants as why
 use Rattle.run_faults.specs.declared.fault.Fault.{Fault}
 use Rattle.mairix_run.specs.Stops.{Ending, IsGivenUnlessRefused, IsStoppedAt, IsStoppedBy, ending_of_stopped}
 use Rattle.mairix_run.specs.Stops.Ending.{CannotOpen, Because}
-use Rattle.mairix_run.specs.Tasks.{Task, files_at, index_task, is_index_run, search_task, task_of_rc, task_over}
+use Rattle.mairix_run.specs.Tasks.{Task, files_at, index_task, is_index_run, search_stored_task, search_task}
+use Rattle.mairix_run.specs.Tasks.{task_of_rc}
+use Rattle.mairix_run.specs.Tasks.{task_over}
 use Rattle.mairix_run.specs.Tasks.Work.{SearchNew}
 use Rattle.mairix_options.specs.declared.command_line.Plan.{Plan}
 use Rattle.mairix_options.specs.declared.rcfile.Rc.{Rc}
@@ -23,36 +26,38 @@ use Rattle.mairix_run.specs.WholeRuns.{IsTrouble}
 use Rattle.mairix_run.specs.declared.stopped.Stopped.{Stopped}
 use Rattle.mairix_run.specs.declared.stopped.Stopped.TheVariants as by
 
-module _ (CanRefuse ReadsCanFail : Type 0) where
+module _ (names : List (List ℕ)) (CanRefuse ReadsCanFail : Type 0) where
   -- the run ends by its first refusal, or in trouble
   abbrev pub Ends : Result Task Ending → Ending → Type 0
-  Ends (Err why) ended = (ended ≡ why) ⊎ IsTrouble CanRefuse ReadsCanFail ended
-  Ends (Ok task) ended = IsTrouble CanRefuse ReadsCanFail ended
+  Ends (Err why) ended = (ended ≡ why) ⊎ IsTrouble names CanRefuse ReadsCanFail ended
+  Ends (Ok task) ended = IsTrouble names CanRefuse ReadsCanFail ended
 
-  pub ends-trouble : (task : Result Task Ending) (ended : Ending) → IsTrouble CanRefuse ReadsCanFail ended
+  pub ends-trouble : (task : Result Task Ending) (ended : Ending) → IsTrouble names CanRefuse ReadsCanFail ended
       → Ends task ended
   ends-trouble (Err why) ended trouble = inr trouble
   ends-trouble (Ok task) ended trouble = trouble
 
   -- a file can't be opened
   open-fails : (known : Option (List ℕ)) (name : List ℕ) (next : List ℕ → Result Task Ending) (stopped : Stopped)
-      → IsStoppedAt name stopped → (known ≡ None) ⊎ (CanRefuse ⊎ ReadsCanFail)
+      → Contains names name → IsStoppedAt name stopped → (known ≡ None) ⊎ (CanRefuse ⊎ ReadsCanFail)
       → Ends (option_map_or Ok known (Err (CannotOpen name)) >>= next) (ending_of_stopped stopped)
-  open-fails known name next (by.Fault fault) at cause = ends-trouble _ (Because fault) at
-  open-fails None name next (by.CannotOpen path) at cause = inl (ap CannotOpen at)
-  open-fails (Some bytes) name next (by.CannotOpen path) at (inl none) = absurd cc
-  open-fails (Some bytes) name next (by.CannotOpen path) at (inr can) = ends-trouble _ (CannotOpen (string_bytes
-      path)) can
+  open-fails known name next (by.Fault fault) among at cause = ends-trouble _ (Because fault) at
+  open-fails None name next (by.CannotOpen path) among at cause = inl (ap CannotOpen at)
+  open-fails (Some bytes) name next (by.CannotOpen path) among at (inl none) = absurd cc
+  open-fails (Some bytes) name next (by.CannotOpen path) among at (inr can) =
+      ends-trouble _ (CannotOpen (string_bytes path)) (subst (λ n. Contains names n) (sym at) among, can)
 
   pub read-fails : {T : Type 0} (read : Result T Refusal) (known : Option (List ℕ)) (name : List ℕ)
-      (next : List ℕ → Result Task Ending) (stopped : Stopped) → IsGivenUnlessRefused name read (Err stopped)
+      (next : List ℕ → Result Task Ending) (stopped : Stopped) → Contains names name
+      → IsGivenUnlessRefused name read (Err stopped)
       → IfErr read (λ w. HasCause w ((known ≡ None) ⊎ (CanRefuse ⊎ ReadsCanFail)))
       → Ends (option_map_or Ok known (Err (CannotOpen name)) >>= next) (ending_of_stopped stopped)
-  read-fails (Ok value) known name next stopped is cause = absurd cc
-  read-fails (Err why.Refused) known name next stopped at cause = open-fails known name next stopped at cause
-  read-fails (Err why.Memory) known name next (by.Fault fault) is cause =
+  read-fails (Ok value) known name next stopped among is cause = absurd cc
+  read-fails (Err why.Refused) known name next stopped among at cause =
+      open-fails known name next stopped among at cause
+  read-fails (Err why.Memory) known name next (by.Fault fault) among is cause =
       let same : fault ≡ _ = cc in ends-trouble _ (Because fault) same
-  read-fails (Err why.Memory) known name next (by.CannotOpen path) is cause = absurd cc
+  read-fails (Err why.Memory) known name next (by.CannotOpen path) among is cause = absurd cc
 
   -- words, or an rcfile, are refused
   pub refusal-ends : {E V : Type 0} (of : E → Fault) (defined : Result V E) (next : V
@@ -68,12 +73,19 @@ module _ (CanRefuse ReadsCanFail : Type 0) where
 
   -- an archive that is missing, or can't be opened
   pub missing-stops : {V : Type 0} (found : Result V Ending) (name : List ℕ) (stopped : Stopped)
-      → IsStoppedAt name stopped
+      → Contains names name → IsStoppedAt name stopped
       → (found ≡ Err (CannotOpen name)) ⊎ (CanRefuse ⊎ ReadsCanFail)
-      → (found ≡ Err (ending_of_stopped stopped)) ⊎ IsTrouble CanRefuse ReadsCanFail (ending_of_stopped stopped)
-  missing-stops found name (by.Fault fault) at cause = inr at
-  missing-stops found name (by.CannotOpen path) at (inl none) = inl (none ∙ ap (λ p. Err (CannotOpen p)) (sym at))
-  missing-stops found name (by.CannotOpen path) at (inr can) = inr can
+      → (found ≡ Err (ending_of_stopped stopped)) ⊎ IsTrouble names CanRefuse ReadsCanFail (ending_of_stopped stopped)
+  missing-stops found name (by.Fault fault) among at cause = inr at
+  missing-stops found name (by.CannotOpen path) among at (inl none) = inl (none ∙ ap (λ p. Err (CannotOpen p)) (sym at))
+  missing-stops found name (by.CannotOpen path) among at (inr can) =
+      inr (subst (λ n. Contains names n) (sym at) among, can)
+
+  -- the task of archives that can't all be opened
+  pub archives-end : {V : Type 0} (found : Result V Ending) (next : V → Result Task Ending) (ended : Ending)
+      → (found ≡ Err ended) ⊎ IsTrouble names CanRefuse ReadsCanFail ended → Ends (found >>= next) ended
+  archives-end found next ended (inl is) = subst (λ r. Ends (r >>= next) ended) (sym is) (inl refl)
+  archives-end found next ended (inr trouble) = ends-trouble (found >>= next) ended trouble
 
 -- what was given, if it wasn't refused
 pub given-ok : {T : Type 0} (path : List ℕ) (read : Result T Refusal) (value : T)
@@ -106,3 +118,14 @@ module _ (holds : List ℕ → Entry) (wanted : Result Wanted Fault) (p : Plan) 
   pub task-once : p.once ≡ true → task_of_rc holds wanted p rc ≡ Ok (search_task p rc (SearchNew wanted bytes))
   task-once is = over-found ∙ by-once (length p.patterns == 0) p.once is _ _ (Ok (search_task p rc (SearchNew wanted
       bytes)))
+
+  by-stored : (index once : Bool) → index ≡ false → once ≡ false → (one new other : Result Task Ending)
+      → (if index then one else (if once then new else other)) ≡ other
+  by-stored true once is not one new other = absurd cc
+  by-stored false true is not one new other = absurd cc
+  by-stored false false is not one new other = refl
+
+  pub task-stored : is_index_run p ≡ false → p.once ≡ false
+      → task_of_rc holds wanted p rc ≡ search_stored_task holds wanted p rc bytes
+  task-stored is not = over-found ∙ by-stored (is_index_run p) p.once is not _ _ (search_stored_task holds wanted p rc
+      bytes)

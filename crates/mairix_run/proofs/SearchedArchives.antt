@@ -1,7 +1,7 @@
 -- If each path leads to a file, archives of which something is still known have the bytes of these files. The first
 -- states are all states by their numbers.
 use Rattle.std.proofs.Common.{◌≡◌, ◌∙◌, ◌&&◌, ℕ, zero, suc, Bool, true, false, List, [], ◌∷◌, length, map, All}
-use Rattle.std.proofs.Common.{Option, None, Some, IfSome, IsSome, Result, Ok, Err, IfOk}
+use Rattle.std.proofs.Common.{Option, None, Some, IfSome, IsSome, Result, Ok, Err, IfErr, IfOk}
 use Rattle.std.proofs.Common.{refl, ap, subst, sym, slice_get, get_or}
 use Rattle.std.proofs.lemmas.List.{length-map}
 use Rattle.std.proofs.lemmas.List.FromFn.{fill_by_all}
@@ -18,7 +18,7 @@ all-some : (bytes : List (List ℕ)) → All IsSome (map Some bytes)
 all-some [] = All-nil IsSome
 all-some (b ∷ bytes) = All-cons IsSome (Some b) (map Some bytes) refl (all-some bytes)
 
-are-some : (files : List (Option (List ℕ))) (bytes : List (List ℕ)) → files ≡ map Some bytes → All IsSome files
+pub are-some : (files : List (Option (List ℕ))) (bytes : List (List ℕ)) → files ≡ map Some bytes → All IsSome files
 are-some files bytes is = subst (λ (l : List (Option (List ℕ))). All IsSome l) (sym is) (all-some bytes)
 
 held-files : (agrees : Bool) (files : List (Option (List ℕ))) (bytes : List (List ℕ)) → files ≡ map Some bytes
@@ -58,6 +58,11 @@ pub if-ok : {A E : Type 0} (result : Result A E) (P Q : A → Type 0) → ((x : 
     → IfOk result Q
 if-ok (Ok x) P Q f h = f x h
 if-ok (Err e) P Q f h = tt
+
+pub if-err : {A E : Type 0} (result : Result A E) (P Q : E → Type 0) → ((e : E) → P e → Q e) → IfErr result P
+    → IfErr result Q
+if-err (Ok x) P Q f h = tt
+if-err (Err e) P Q f h = f e h
 
 pub if-some : {A : Type 0} (o : Option A) (P Q : A → Type 0) → ((x : A) → P x → Q x) → IfSome o P → IfSome o Q
 if-some None P Q f h = tt

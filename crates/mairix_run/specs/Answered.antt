@@ -1,5 +1,6 @@
 -- What a search of files by their names returned and sent, compared with a right answer.
-use Rattle.std.specs.Prelude.{◌≡◌, ◌||◌, ℕ, Bool, List, [], Option, None, Some, Result, Ok, Err}
+use Rattle.std.specs.Prelude.{◌≡◌, ◌&&◌, ◌||◌, ℕ, Bool, true, false, List, [], Option, None, Some, Result, Ok, Err}
+use Rattle.std.specs.Prelude.{if◌then◌else◌}
 use Rattle.std.specs.Borrow.{Bor}
 use Rattle.std.specs.Bool.{MatchBool}
 use Rattle.std.specs.Io.KnownBytes.{Appends}
@@ -9,7 +10,9 @@ use Rattle.mairix_tool.specs.Replies.{Answer, refused}
 use Rattle.mairix_tool.specs.Runs.{IsRefusedAs}
 use Rattle.mairix_tool.specs.declared.reply.Reply.{Reply}
 use Rattle.run_faults.specs.Faults.{is_early, is_failure, is_of_index, is_of_indexing, IsOnceFault, IsSearchFault}
+use Rattle.mbox_cutter.specs.declared.event.CutFault.TheVariants.{Device as Unread}
 use Rattle.run_faults.specs.declared.fault.Fault.{Fault}
+use Rattle.run_faults.specs.declared.fault.Fault.TheVariants.{Archive, Device, Memory}
 
 -- With a status: a right answer has it and no fault, and the output took its text. With a fault of a device or of
 -- memory, the output took a front of each right answer. Any other fault is right, and nothing was sent.
@@ -43,3 +46,14 @@ IsSearchFaultBy (Some index) fault = IsSearchFault fault
 -- whether words, rcfile, query or index are refused, or the archives can't be indexed: then nothing is searched
 abbrev pub comes_before : Option Fault → Bool
 comes_before fault = is_early fault || is_of_index fault || is_of_indexing fault
+
+-- whether an archive couldn't be read
+abbrev pub is_unread : Option Fault → Bool
+is_unread (Some (Archive number Unread)) = true
+is_unread (Some Device) = true
+is_unread _ = false
+
+-- what was written; but if memory ran out as an archive was opened, its failed read is lack of memory
+abbrev pub or_lack_of_memory : Bool → Result ℕ Fault → Result ℕ Fault
+or_lack_of_memory lacks_memory (Ok status) = Ok status
+or_lack_of_memory lacks_memory (Err fault) = Err (if lacks_memory && is_unread (Some fault) then Memory else fault)

@@ -9,6 +9,7 @@ pub mod Inside
 pub mod KeptMail
 pub mod MadeFiles
 pub mod MemoryFields
+pub mod NamesUsed
 pub mod ReadFiles
 pub mod Reports
 pub mod Stops

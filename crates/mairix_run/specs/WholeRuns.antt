@@ -4,11 +4,13 @@ use Rattle.std.specs.Prelude.{None, Some}
 use Rattle.std.specs.Prelude.{Result}
 use Rattle.std.specs.Prelude.{Ok, Err, OnOk, codes}
 use Rattle.std.specs.Io.KnownBytes.{Appends}
+use Rattle.std.specs.List.{Contains}
 use Rattle.std.specs.Option.{option_or}
 use Rattle.contract_words.specs.Devices.{Sends}
 use Rattle.mbox_cutter.specs.declared.device.Out.{Ghosts}
 use Rattle.mbox_cutter.specs.declared.event.CutFault.TheVariants.{Device as Unread}
-use Rattle.named_files.specs.Entries.{Entry, File, IsFileOf, SameWhere}
+use Rattle.named_archives.specs.Progress.{CannotRead}
+use Rattle.named_files.specs.Entries.{Entry, File, IsFileOf}
 use Rattle.named_files.specs.declared.folder.Folder.{Ghosts as FolderGhosts}
 use Rattle.run_faults.specs.declared.fault.Fault.{Fault}
 use Rattle.run_faults.specs.declared.fault.Fault.TheVariants.{Archive, Device, Out, Memory}
@@ -25,45 +27,47 @@ passing_of name = name ++ codes ".new"
 
 -- ---- what stops a run though it has a task
 
--- A file can't be opened or made because the system refuses that or a read fails, or memory ran out.
-abbrev pub IsTrouble : Type 0 → Type 0 → Ending → Type 0
-IsTrouble CanRefuse ReadsCanFail (Done status) = ⊥
-IsTrouble CanRefuse ReadsCanFail (CannotOpen path) = CanRefuse ⊎ ReadsCanFail
-IsTrouble CanRefuse ReadsCanFail (Because fault) = fault ≡ Memory
+-- A file with one of these names can't be opened or made because the system refuses that or a read fails; or memory ran
+-- out.
+abbrev pub IsTrouble : List (List ℕ) → Type 0 → Type 0 → Ending → Type 0
+IsTrouble names CanRefuse ReadsCanFail (Done status) = ⊥
+IsTrouble names CanRefuse ReadsCanFail (CannotOpen path) = Contains names path × (CanRefuse ⊎ ReadsCanFail)
+IsTrouble names CanRefuse ReadsCanFail (Because fault) = fault ≡ Memory
 
--- a read failed, or memory ran out; or the output failed, which has this cause
-abbrev pub IsFailure : Type 0 → Fault → Type 0
-IsFailure OutFails (Archive number Unread) = ⊤
-IsFailure OutFails Device = ⊤
-IsFailure OutFails Out = OutFails
-IsFailure OutFails Memory = ⊤
-IsFailure OutFails _ = ⊥
+-- the output failed, or an archive couldn't be read, each for its cause; or memory ran out
+abbrev pub IsFailure : Type 0 → Type 0 → Fault → Type 0
+IsFailure OutFails ReadFails (Archive number Unread) = ReadFails
+IsFailure OutFails ReadFails Device = ReadFails
+IsFailure OutFails ReadFails Out = OutFails
+IsFailure OutFails ReadFails Memory = ⊤
+IsFailure OutFails ReadFails _ = ⊥
 
 -- ---- what is written, by its result
 
 -- An output took the whole text; or nothing, if the work is refused. After a failure it took a front of the text, or
 -- all of it.
-abbrev pub IsWritten : Type 0 → Work → Option (List ℕ) → Option (List ℕ) → Result ℕ Fault → Type 0
-IsWritten OutFails work old new (Ok status) = (text : List ℕ) × IsDone work status text × Appends old new text
-IsWritten OutFails work old new (Err fault) = (IsWorkRefused work fault × Appends old new [])
-    ⊎ (IsFailure OutFails fault × (((status : ℕ) (text : List ℕ) → IsDone work status text → Sends old new text)
+abbrev pub IsWritten : Type 0 → Type 0 → Work → Option (List ℕ) → Option (List ℕ) → Result ℕ Fault → Type 0
+IsWritten OutFails ReadFails work old new (Ok status) = (text : List ℕ) × IsDone work status text × Appends old new text
+IsWritten OutFails ReadFails work old new (Err fault) = (IsWorkRefused work fault × Appends old new [])
+    ⊎ (IsFailure OutFails ReadFails fault
+    × (((status : ℕ) (text : List ℕ) → IsDone work status text → Sends old new text)
     ⊎ ((status : ℕ) × (text : List ℕ) × IsDone work status text × Appends old new text)))
 
 -- ---- what is written to standard output
 
 -- It took what is written, and without a fault it has handed on all of it.
-abbrev pub Writes : {O : Type 0} → Ghosts O → (O → Option (List ℕ)) → Work → O → O → Ending → Type 0
-Writes o handed_on work out out' ended = (result : Result ℕ Fault) × (ended ≡ ending_by result)
-    × IsWritten (o.failures out' ≡ o.failures out + 1) work (o.taken out) (o.taken out') result
+abbrev pub Writes : {O : Type 0} → Ghosts O → (O → Option (List ℕ)) → Type 0 → Work → O → O → Ending → Type 0
+Writes o handed_on ReadFails work out out' ended = (result : Result ℕ Fault) × (ended ≡ ending_by result)
+    × IsWritten (o.failures out' ≡ o.failures out + 1) ReadFails work (o.taken out) (o.taken out') result
     × OnOk result (handed_on out' ≡ o.taken out')
 
 -- ---- what is written to a file
 
 -- the file has the whole text; otherwise the work is refused, or there was a failure
-abbrev pub Puts : Type 0 → Work → Entry → Ending → Type 0
-Puts OutFails work now (Done status) = (text : List ℕ) × IsDone work status text × (now ≡ File text)
-Puts OutFails work now (CannotOpen path) = ⊥
-Puts OutFails work now (Because fault) = IsWorkRefused work fault ⊎ IsFailure OutFails fault
+abbrev pub Puts : Type 0 → Type 0 → Work → Entry → Ending → Type 0
+Puts OutFails ReadFails work now (Done status) = (text : List ℕ) × IsDone work status text × (now ≡ File text)
+Puts OutFails ReadFails work now (CannotOpen path) = ⊥
+Puts OutFails ReadFails work now (Because fault) = IsWorkRefused work fault ⊎ IsFailure OutFails ReadFails fault
 
 -- whether a name leads to mail, which an index doesn't replace
 abbrev pub is_kept : Work → Entry → Bool
@@ -109,16 +113,19 @@ module _ {D F S N L R O : Type 0} (f : FolderGhosts D F S N L R) (o : Ghosts O) 
   -- What a task does: it writes to standard output, or makes a file and writes nothing there. The states before are
   -- `old` and `out`, those after it `new` and `out'`.
   abbrev pub DoesFor : Work → Option (List ℕ) → List (List ℕ) → D → D → O → O → Ending → Type 0
-  DoesFor work None read old new out out' ended = Writes o handed_on work out out' ended
+  DoesFor work None read old new out out' ended =
+      Writes o handed_on (CannotRead f.can_refuse f.reads_can_fail) work out out' ended
   DoesFor work (Some name) read old new out out' ended = (out' ≡ out)
       × MakesFor (refused_name (f.holds old) (f.apart old) (f.is_leftover old) work read name) f.can_refuse
-      (Puts (f.can_refuse ⊎ f.writes_can_fail) work (f.holds new name)) ended
+      (Puts (f.can_refuse ⊎ f.writes_can_fail) (CannotRead f.can_refuse f.reads_can_fail) work (f.holds new name)) ended
 
-  -- The run does its task, or ends by the first refusal. In trouble it ends earlier, and nothing is written.
-  abbrev pub Runs : Result Task Ending → D → D → O → O → Ending → Type 0
-  Runs (Err why) old new out out' ended = (out' ≡ out) × ((ended ≡ why) ⊎ IsTrouble f.can_refuse f.reads_can_fail ended)
-  Runs (Ok task) old new out out' ended = KeepsFile task.work task.file (f.holds old) (f.holds new) ended
-      × (((out' ≡ out) × IsTrouble f.can_refuse f.reads_can_fail ended)
+  -- The run does its task, or ends by the first refusal. In trouble with one of the names it uses, it ends earlier, and
+  -- nothing is written.
+  abbrev pub Runs : List (List ℕ) → Result Task Ending → D → D → O → O → Ending → Type 0
+  Runs names (Err why) old new out out' ended =
+      (out' ≡ out) × ((ended ≡ why) ⊎ IsTrouble names f.can_refuse f.reads_can_fail ended)
+  Runs names (Ok task) old new out out' ended = KeepsFile task.work task.file (f.holds old) (f.holds new) ended
+      × (((out' ≡ out) × IsTrouble names f.can_refuse f.reads_can_fail ended)
       ⊎ DoesFor task.work task.file task.read old new out out' ended)
 
 -- ---- what it leaves alone

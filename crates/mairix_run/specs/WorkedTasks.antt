@@ -1,5 +1,5 @@
--- Runs whose tasks, and names whose refusals, were worked out by hand.
-use Rattle.std.specs.Prelude.{◌≡◌, ℕ, ◌==◌, Bool, true, false, not, if◌then◌else◌, List, [], ◌∷◌, codes, Option}
+-- Runs whose tasks and names, and names whose refusals, were worked out by hand.
+use Rattle.std.specs.Prelude.{◌≡◌, ℕ, ◌==◌, Bool, true, false, not, if◌then◌else◌, List, [], ◌∷◌, ◌++◌, codes, Option}
 use Rattle.std.specs.Prelude.{None, Some, Result, Ok, Err}
 use Rattle.std.specs.List.{slice_split}
 use Rattle.std.specs.Str.{bytes_eq}
@@ -8,12 +8,14 @@ use Rattle.mail_answer.specs.declared.format.Format.TheVariants.{Mbox as AsMbox,
 use Rattle.mail_query.specs.Kinds.{no_kinds}
 use Rattle.mail_query.specs.Query.{Word}
 use Rattle.mail_query.specs.declared.fault.QueryFaultKind.TheVariants.{BadPrefix}
+use Rattle.mairix_options.specs.CommandLine.{plan}
 use Rattle.mairix_options.specs.declared.command_line.UsageFault.TheVariants.{Parse, TwoFormats}
 use Rattle.mairix_options.specs.declared.rcfile.RcFault.TheVariants.{BadLine}
 use Rattle.mairix_tool.specs.Asked.{Wanted}
 use Rattle.named_files.specs.Entries.{Entry, Nothing, File, Folder, Other}
 use Rattle.run_faults.specs.declared.fault.Fault.{Fault}
 use Rattle.run_faults.specs.declared.fault.Fault.TheVariants.{Query, Rc, Usage}
+use Rattle.mairix_run.specs.NamesUsed.{names_used}
 use Rattle.mairix_run.specs.Stops.{Ending}
 use Rattle.mairix_run.specs.Stops.Ending.{CannotOpen, Because}
 use Rattle.mairix_run.specs.Tasks.{Task, Work, task_of}
@@ -58,15 +60,25 @@ with_index = (codes "m.idx", File index) ∷ without_index
 
 -- ---- what is to be done
 
--- a run: its words, of which a space parts each two, what names lead to, and what it has to do
+-- a run: its words, of which a space parts each two, what names lead to, what it has to do, and which names it uses
 pub record Row : Type 0 where
   pub words : List ℕ
   pub names : Names
   pub task : Result Task Ending
+  pub used : List (List ℕ)
 
--- it has to do that, at noon of 18 May 2003
+-- it has to do that, at noon of 18 May 2003, and uses these names
 unfoldable pub IsWorked : Row → Type 0
-IsWorked row = task_of (led_to row.names) (slice_split (λ b. b == 32) row.words) 1053259200 ≡ row.task
+IsWorked row = let words = slice_split (λ b. b == 32) row.words in
+    (task_of (led_to row.names) words 1053259200 ≡ row.task) × (names_used (led_to row.names) (plan words) ≡ row.used)
+
+-- the rcfile and the archives
+abbrev pub mail_read : List (List ℕ)
+mail_read = codes "rc" ∷ codes "a.mbox" ∷ codes "b.mbox" ∷ []
+
+-- and the index
+abbrev pub index_read : List (List ℕ)
+index_read = mail_read ++ codes "m.idx" ∷ []
 
 -- the word `hello` in subjects, with the answer in this form
 abbrev pub hello : Format → Wanted
@@ -92,23 +104,30 @@ stored wanted = SearchStored wanted index (first ∷ second ∷ [])
 -- ---- the runs
 
 abbrev pub refused_words : Row
-refused_words = record { words = codes "-f rc -z"; names = with_index; task = Err (Because (Usage Parse)) }
+refused_words = record { words = codes "-f rc -z"; names = with_index; task = Err (Because (Usage Parse)); used = [] }
 
 abbrev pub two_formats : Row
 two_formats = record {
   words = codes "-f rc -r -x s:hello";
   names = with_index;
   task = Err (Because (Usage TwoFormats));
+  used = [];
 }
 
 abbrev pub no_rcfile : Row
-no_rcfile = record { words = codes "-f other s:hello"; names = with_index; task = Err (CannotOpen (codes "other")) }
+no_rcfile = record {
+  words = codes "-f other s:hello";
+  names = with_index;
+  task = Err (CannotOpen (codes "other"));
+  used = codes "other" ∷ [];
+}
 
 abbrev pub rcfile_is_folder : Row
 rcfile_is_folder = record {
   words = codes "-f rc s:hello";
   names = (codes "rc", Folder) ∷ [];
   task = Err (CannotOpen (codes "rc"));
+  used = codes "rc" ∷ [];
 }
 
 -- its second line has no `=`
@@ -117,6 +136,7 @@ bad_rcfile = record {
   words = codes "-f rc s:hello";
   names = (codes "rc", File (codes "mbox=a.mbox\ndatabase\n")) ∷ [];
   task = Err (Because (Rc (BadLine 2)));
+  used = codes "rc" ∷ [];
 }
 
 abbrev pub no_archive : Row
@@ -124,6 +144,7 @@ no_archive = record {
   words = codes "-f rc --once s:hello";
   names = one_archive;
   task = Err (CannotOpen (codes "b.mbox"));
+  used = mail_read ++ codes "hits.new" ∷ [];
 }
 
 abbrev pub index_run : Row
@@ -138,6 +159,7 @@ index_run = record {
     file = Some (codes "m.idx");
     read = codes "rc" ∷ codes "a.mbox" ∷ codes "b.mbox" ∷ [];
   });
+  used = index_read ++ codes "m.idx.new" ∷ [];
 }
 
 abbrev pub once : Row
@@ -145,6 +167,7 @@ once = record {
   words = codes "-f rc --once -r s:hello";
   names = without_index;
   task = search None (SearchNew (Ok (hello Raw)) (first ∷ second ∷ []));
+  used = mail_read;
 }
 
 abbrev pub no_index : Row
@@ -152,6 +175,7 @@ no_index = record {
   words = codes "-f rc -r s:hello";
   names = without_index;
   task = Err (CannotOpen (codes "m.idx"));
+  used = index_read;
 }
 
 abbrev pub printed : Row
@@ -159,6 +183,7 @@ printed = record {
   words = codes "-f rc -r s:hello";
   names = with_index;
   task = search None (stored (Ok (hello Raw)));
+  used = index_read;
 }
 
 abbrev pub to_mfolder : Row
@@ -166,6 +191,7 @@ to_mfolder = record {
   words = codes "-f rc s:hello";
   names = with_index;
   task = search (Some (codes "hits")) (stored (Ok (hello AsMbox)));
+  used = index_read ++ codes "hits.new" ∷ [];
 }
 
 abbrev pub to_name : Row
@@ -173,6 +199,7 @@ to_name = record {
   words = codes "-f rc -o out s:hello";
   names = with_index;
   task = search (Some (codes "out")) (stored (Ok (hello AsMbox)));
+  used = index_read ++ codes "out.new" ∷ [];
 }
 
 abbrev pub to_output : Row
@@ -180,6 +207,7 @@ to_output = record {
   words = codes "-f rc --stdout s:hello";
   names = with_index;
   task = search None (stored (Ok (hello AsMbox)));
+  used = index_read;
 }
 
 -- all files are read before the query is refused
@@ -188,6 +216,7 @@ bad_query = record {
   words = codes "-f rc -r q:hello";
   names = with_index;
   task = search None (stored (Err (Query (record { number = 1; kind = BadPrefix }))));
+  used = index_read;
 }
 
 -- ---- which names are refused

@@ -1,5 +1,5 @@
 //! The answer of a search of the archives to which some names lead.
-ghost use Rattle.std.specs.Prelude.{◌≡◌, ◌<◌, ◌≤◌, ◌^◌, ◌-◌, ◌++◌, ℕ, List, true, None, Some, Ok, Err, All, length, map, vec_len, IfOk, IfErr, IfSome};
+ghost use Rattle.std.specs.Prelude.{◌≡◌, ◌⊎◌, ◌<◌, ◌≤◌, ◌^◌, ◌-◌, ◌++◌, ℕ, List, true, None, Some, Ok, Err, All, length, map, vec_len, IfOk, IfErr, IfSome};
 ghost use Rattle.std.specs.Bool.{OnTrue};
 ghost use Rattle.std.specs.String.{string_bytes};
 ghost use Rattle.contract_words.specs.Devices.{Counted};
@@ -10,21 +10,23 @@ ghost use Rattle.mail_answer.specs.Asked.{HoldsArchives};
 ghost use Rattle.mail_index.specs.Files.{index_file};
 ghost use Rattle.mail_index.specs.Tables.{IsPath};
 ghost use Rattle.mairix_options.specs.declared.rcfile.Rc.{Rc};
-ghost use Rattle.mairix_run.specs.Answered.{AnswersBy, IsRefusedFirst, IsSearchFaultBy, comes_before, result_of_reply};
+ghost use Rattle.mairix_run.specs.Answered.{AnswersBy, IsRefusedFirst, IsSearchFaultBy, comes_before, is_unread, result_of_reply};
 ghost use Rattle.mairix_tool.specs.Altered.{AreToldApart, altered_archive};
 ghost use Rattle.mairix_tool.specs.Asked.{asked_rc, asks, Wanted};
 ghost use Rattle.mairix_tool.specs.OldTables.{ServesFor};
 ghost use Rattle.mairix_tool.specs.Replies.{KeepsRawBack};
 ghost use Rattle.mairix_tool.specs.Runs.{IsRefusedAs, IsReply, IsStaleOr, IsStoredReply, IsThisOrMemory};
 ghost use Rattle.named_archives.specs.Names.{files_of};
+ghost use Rattle.named_archives.specs.Progress.{CannotRead};
 ghost use Rattle.run_faults.specs.Faults.{fault_in, is_failed_out, IsSearchFault};
 ghost use Rattle.run_faults.specs.declared.fault.Fault.TheVariants.{TooMany};
 
+use crate::unread::or_lack_of_memory;
 use mail_answer::Archives;
 use mail_dates::Moment;
 use mairix_tool::{Reply, once_run, search_run};
 use mbox_cutter::{Out, Source};
-use named_archives::{NamedArchives, NamedSource, report_all, sources_of};
+use named_archives::{NamedArchives, NamedSource, lack_memory, report_all, sources_of};
 use named_files::{Folder, KeptFile};
 use run_faults::Fault;
 use std::alloc::{AllocError, Global};
@@ -59,7 +61,7 @@ pub struct Search<'a, F: Folder> {
 ///
 /// `TooMany` for 4,294,967,296 paths or more: then no file is opened. Otherwise the first refusal: of words, rcfile,
 /// query, index or archives. A failed device or lack of memory ends the run where it happens; then only a beginning of
-/// the answer is sent.
+/// the answer is sent. If memory runs out as an archive is opened, that isn't a failed read.
 pub fn answer_names<F: Folder, O: Out>(
     folder: &F,
     alloc: Global,
@@ -117,6 +119,10 @@ pub fn answer_names<F: Folder, O: Out>(
     ensures silent { OnTrue (comes_before (fault_in result)) (out.new ≡ out.old) }
     ensures raw { IfOk (asks search.now.words.now search.now.text.now search.now.moment)
         (λ w. KeepsRawBack w.search (fault_in result) out.old out.new) }
+    // A failed read of an archive that is there has a cause.
+    ensures unread { (bytes : List (List ℕ))
+        → files_of (F.holds folder.now) search.now.paths.now ≡ map Some bytes
+        → OnTrue (is_unread (fault_in result)) (CannotRead F.can_refuse F.reads_can_fail) }
     ensures out_failed { Counted (is_failed_out (fault_in result)) (O.failures out.old)
         (O.failures out.new) }
     ensures earlier { F.agree reports.new ≡ true → F.agree reports.old ≡ true }
@@ -126,8 +132,9 @@ pub fn answer_names<F: Folder, O: Out>(
         return Err(Fault::TooMany);
     };
     let answered = answer_archives(folder, alloc, reports, search, &mut archives, out);
+    let lacks_memory = archives.lacks_memory();
     archives.report(reports);
-    answered
+    or_lack_of_memory(answered, lacks_memory)
 }
 
 /// Searches these archives as the search asks for.
@@ -176,6 +183,11 @@ fn answer_archives<F: Folder, A: Archives, O: Out>(
     ensures silent { OnTrue (comes_before (fault_in result)) (out.new ≡ out.old) }
     ensures raw { IfOk (asks search.now.words.now search.now.text.now search.now.moment)
         (λ w. KeepsRawBack w.search (fault_in result) out.old out.new) }
+    // After a failed read, a call of the archives has failed; or there is a cause, if each file is there.
+    ensures unread { (bytes : List (List ℕ))
+        → files_of (F.holds folder.now) search.now.paths.now ≡ map Some bytes
+        → OnTrue (is_unread (fault_in result)) ((A.failures archives.old < A.failures archives.new)
+        ⊎ CannotRead F.can_refuse F.reads_can_fail) }
     ensures out_failed { Counted (is_failed_out (fault_in result)) (O.failures out.old)
         (O.failures out.new) }
     ensures earlier { F.agree reports.new ≡ true → F.agree reports.old ≡ true }
@@ -213,6 +225,10 @@ fn answer_once<F: Folder, A: Archives, O: Out>(
     ensures silent { OnTrue (comes_before (fault_in result)) (out.new ≡ out.old) }
     ensures raw { IfOk (asks search.now.words.now search.now.text.now search.now.moment)
         (λ w. KeepsRawBack w.search (fault_in result) out.old out.new) }
+    ensures unread { (bytes : List (List ℕ))
+        → files_of (F.holds folder.now) search.now.paths.now ≡ map Some bytes
+        → OnTrue (is_unread (fault_in result)) ((A.failures archives.old < A.failures archives.new)
+        ⊎ CannotRead F.can_refuse F.reads_can_fail) }
     ensures out_failed { Counted (is_failed_out (fault_in result)) (O.failures out.old)
         (O.failures out.new) }
     ensures earlier { F.agree reports.new ≡ true → F.agree reports.old ≡ true }
@@ -229,8 +245,9 @@ fn answer_once<F: Folder, A: Archives, O: Out>(
     };
     let unread = sources.as_mut_slice();
     let reply = once_run(alloc, words, text, unread, archives, moment, out);
+    let lacks_memory = lack_memory(sources.as_slice());
     report_all(sources, reports);
-    result_of(reply)
+    or_lack_of_memory(result_of(reply), lacks_memory)
 }
 
 /// Returns a source for each path. Its file has to be in the state in which it was when the run first looked at it.
@@ -286,6 +303,8 @@ fn answer_stored<F: Folder, A: Archives, O: Out>(
     ensures silent { OnTrue (comes_before (fault_in result)) (out.new ≡ out.old) }
     ensures raw { IfOk (asks search.now.words.now search.now.text.now search.now.moment)
         (λ w. KeepsRawBack w.search (fault_in result) out.old out.new) }
+    ensures unread { OnTrue (is_unread (fault_in result))
+        (A.failures archives.old < A.failures archives.new) }
     ensures out_failed { Counted (is_failed_out (fault_in result)) (O.failures out.old)
         (O.failures out.new) }
 {

@@ -7,13 +7,16 @@ ghost use Rattle.contract_words.specs.Devices.{Counted, Sends};
 ghost use Rattle.index_run.specs.ArchivesIndexed.{mboxes};
 ghost use Rattle.mail_index.specs.Files.{index_file};
 ghost use Rattle.mail_index.specs.Tables.{IsPath, IsWellFormed, Table};
+ghost use Rattle.mairix_run.specs.Answered.{is_unread};
 ghost use Rattle.mairix_run.specs.Indexed.{IsIndexed};
 ghost use Rattle.named_archives.specs.Names.{files_of};
+ghost use Rattle.named_archives.specs.Progress.{CannotRead};
 ghost use Rattle.run_faults.specs.Faults.{fault_in, is_failed_out, IsOfIndexing};
 
+use crate::unread::or_lack_of_memory;
 use index_run::send_index;
 use mbox_cutter::Out;
-use named_archives::{report_all, sources_of};
+use named_archives::{lack_memory, report_all, sources_of};
 use named_files::Folder;
 use run_faults::{DONE, Fault};
 use std::alloc::Global;
@@ -24,7 +27,8 @@ use std::alloc::Global;
 /// # Errors
 ///
 /// The first faulty archive, too many archives, messages or keys, or lack of memory: then nothing is sent. Without
-/// memory for the sources no file is opened. `Out` if the output fails: then only a beginning of the file is sent.
+/// memory for the sources no file is opened. If memory runs out as an archive is opened, that isn't a failed read.
+/// `Out` if the output fails: then only a beginning of the file is sent.
 pub fn index_names<F: Folder, O: Out>(
     folder: &F,
     alloc: Global,
@@ -51,6 +55,10 @@ pub fn index_names<F: Folder, O: Out>(
         (IsOfIndexing fault)) }
     ensures silent { IfErr result (λ fault. OnFalse (is_failed_out (Some fault))
         (out.new ≡ out.old)) }
+    // A failed read of an archive that is there has a cause.
+    ensures unread { (bytes : List (List ℕ))
+        → files_of (F.holds folder.now) names.now ≡ map Some bytes
+        → OnTrue (is_unread (fault_in result)) (CannotRead F.can_refuse F.reads_can_fail) }
     ensures out_failed { Counted (is_failed_out (fault_in result)) (O.failures out.old)
         (O.failures out.new) }
 {
@@ -58,6 +66,7 @@ pub fn index_names<F: Folder, O: Out>(
         return Err(Fault::Memory);
     };
     let sent = send_index(alloc, names, sources.as_mut_slice(), out);
+    let lacks_memory = lack_memory(sources.as_slice());
     report_all(sources, reports);
-    sent.and(Ok(DONE))
+    or_lack_of_memory(sent.and(Ok(DONE)), lacks_memory)
 }

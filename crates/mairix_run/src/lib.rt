@@ -21,6 +21,7 @@ mod stopped;
 mod stream;
 mod telling;
 mod texts;
+mod unread;
 mod whole_file;
 mod worked_tasks;
 mod worked_tellings;

@@ -1,12 +1,13 @@
 //! The new index that replaces an old one.
-ghost use Rattle.std.specs.Prelude.{◌≡◌, ◌⊎◌, ℕ, List, true, None, Some, All, map, string_bytes};
+ghost use Rattle.std.specs.Prelude.{◌≡◌, ◌⊎◌, ◌∷◌, ℕ, List, [], true, None, Some, All, map, string_bytes};
 ghost use Rattle.index_run.specs.ArchivesIndexed.{mboxes};
 ghost use Rattle.mail_index.specs.Tables.{IsPath};
 ghost use Rattle.mairix_run.specs.ReadFiles.{names_read};
 ghost use Rattle.mairix_run.specs.Stops.{ending_of};
 ghost use Rattle.mairix_run.specs.Tasks.Work.{Index};
-ghost use Rattle.mairix_run.specs.WholeRuns.{CallsFor, IsTrouble, KeepsOld, LeavesInMaking, MakesFor, Puts, is_left_alone, refused_name};
+ghost use Rattle.mairix_run.specs.WholeRuns.{CallsFor, IsTrouble, KeepsOld, LeavesInMaking, MakesFor, Puts, is_left_alone, passing_of, refused_name};
 ghost use Rattle.named_archives.specs.Names.{files_of};
+ghost use Rattle.named_archives.specs.Progress.{CannotRead};
 ghost use Rattle.named_files.specs.Crashes.{LeavesOnly};
 ghost use Rattle.named_files.specs.Entries.{SameWhere};
 
@@ -42,10 +43,12 @@ pub(crate) fn replace_index<F: Folder>(
         → files_of (F.holds folder.old) read.now.archives.now ≡ map Some bytes
         → F.agree reports.new ≡ true
         → let work = Index (mboxes (map string_bytes read.now.archives.now) bytes) in
-        IsTrouble F.can_refuse F.reads_can_fail (ending_of result)
+        IsTrouble (name.now ∷ passing_of name.now ∷ []) F.can_refuse F.reads_can_fail
+        (ending_of result)
         ⊎ MakesFor (refused_name (F.holds folder.old) (F.apart folder.old)
         (F.is_leftover folder.old) work (names_read read.now) name.now) F.can_refuse
-        (Puts (F.can_refuse ⊎ F.writes_can_fail) work (F.holds folder.new name.now))
+        (Puts (F.can_refuse ⊎ F.writes_can_fail) (CannotRead F.can_refuse F.reads_can_fail) work
+        (F.holds folder.new name.now))
         (ending_of result) }
     // Without success the name leads to what it led to before; or, if only its own name failed, to the whole text.
     ensures old { (bytes : List (List ℕ))

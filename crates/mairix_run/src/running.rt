@@ -1,8 +1,10 @@
 //! A whole run.
 
-ghost use Rattle.std.specs.Prelude.{◌≡◌, ◌≢◌, ◌⊎◌, ◌<◌, ◌≤◌, ◌+◌, ◌-◌, ◌^◌, ℕ, List, true, None, Some, Ok, Err, All, length, map, vec_len, IfErr, OnOk, OnErr, IfOk, string_bytes};
+ghost use Rattle.std.specs.Prelude.{◌≡◌, ◌≢◌, ◌⊎◌, ◌<◌, ◌≤◌, ◌+◌, ◌-◌, ◌^◌, ◌∷◌, ℕ, List, true, None, Some, Ok, Err, All, length, map, vec_len, IfErr, OnOk, OnErr, IfOk, string_bytes};
 ghost use Rattle.mail_index.specs.Tables.{IsPath};
+ghost use Rattle.mairix_options.specs.AnswerFiles.{answer_file};
 ghost use Rattle.mairix_options.specs.CommandLine.{plan as plan_asked};
+ghost use Rattle.mairix_run.specs.NamesUsed.{names_asked, names_planned, names_used, passing_names};
 ghost use Rattle.mairix_run.specs.Reports.{ReportsEnding};
 ghost use Rattle.mairix_run.specs.Stops.{Ending, ending_of, ending_of_stopped};
 ghost use Rattle.mairix_run.specs.Tasks.{files_at, is_index_run, search_stored_task, task_of, task_of_plan, task_of_rc};
@@ -61,9 +63,11 @@ pub fn run_program<F: Folder, T: Texts, O: Stream, E: Out>(
     requires out { O.failures out.old < 2 ^ 64 - 2 }
     requires err { E.failures err.old < 2 ^ 64 - 1 }
     // If all that was reported of the files agrees with what they hold: the run does what words, rcfile and files ask
-    // for, or ends by the first refusal or in trouble. Then it reports that ending, and returns its status.
+    // for, or ends by the first refusal, or in trouble with one of the names that it uses. Then it reports that ending,
+    // and returns its status.
     ensures run { F.agree reports.new ≡ true → (ended : Ending) × (printed : O)
         × Runs F.Folder O.Out O.handed_on
+        (names_used (F.holds folder.old) (plan_asked (map string_bytes words.now)))
         (task_of (F.holds folder.old) (map string_bytes words.now) now) folder.old folder.new
         out.old printed ended
         × ReportsEnding O.Out O.handed_on E.Out
@@ -109,6 +113,7 @@ fn run_words<F: Folder, O: Stream>(
     requires making { F.making folder.old ≡ None }
     requires out { O.failures out.old < 2 ^ 64 - 1 }
     ensures ran { F.agree reports.new ≡ true → Ran F.Folder O.Out O.handed_on
+        (names_used (F.holds folder.old) (plan_asked (map string_bytes words.now)))
         (task_of (F.holds folder.old) (map string_bytes words.now) now)
         folder.old folder.new out.old out.new (ending_of result) }
     ensures none { F.making folder.new ≡ None }
@@ -137,6 +142,7 @@ fn run_plan<F: Folder, O: Stream>(
     requires making { F.making folder.old ≡ None }
     requires out { O.failures out.old < 2 ^ 64 - 1 }
     ensures ran { F.agree reports.new ≡ true → Ran F.Folder O.Out O.handed_on
+        (names_planned (F.holds folder.old) plan.now)
         (task_of_plan (F.holds folder.old) (map string_bytes words.now) now plan.now)
         folder.old folder.new out.old out.new (ending_of result) }
     ensures none { F.making folder.new ≡ None }
@@ -176,6 +182,7 @@ fn run_asked<F: Folder, O: Stream>(
     requires making { F.making folder.old ≡ None }
     requires out { O.failures out.old < 2 ^ 64 - 1 }
     ensures ran { F.agree reports.new ≡ true → Ran F.Folder O.Out O.handed_on
+        (names_asked asked.entry.now.plan.now asked.entry.now.rc.now)
         (task_of_rc (F.holds folder.old) (asks asked.entry.now.words.now asked.entry.now.text.now asked.entry.now.now)
         asked.entry.now.plan.now asked.entry.now.rc.now)
         folder.old folder.new out.old out.new (ending_of result) }
@@ -226,7 +233,8 @@ fn states_of<F: Folder>(
     ensures err { IfErr result (λ stopped. F.agree reports.new ≡ true
         → (files_at (F.holds folder.now) (map string_bytes paths.now)
         ≡ Err (ending_of_stopped stopped))
-        ⊎ IsTrouble F.can_refuse F.reads_can_fail (ending_of_stopped stopped)) }
+        ⊎ IsTrouble (map string_bytes paths.now) F.can_refuse F.reads_can_fail
+        (ending_of_stopped stopped)) }
     ensures earlier { F.agree reports.new ≡ true → F.agree reports.old ≡ true }
     ensures right { F.reports_are_right → F.agree reports.new ≡ F.agree reports.old }
 {
@@ -256,6 +264,8 @@ fn search_stored<F: Folder, O: Stream>(
     ensures ran { (bytes : List (List ℕ))
         → files_at (F.holds folder.old) asked.entry.now.rc.now.paths ≡ Ok bytes
         → F.agree reports.new ≡ true → Ran F.Folder O.Out O.handed_on
+        (asked.entry.now.rc.now.database ∷ passing_names
+        (answer_file asked.entry.now.plan.now asked.entry.now.rc.now))
         (search_stored_task (F.holds folder.old) (asks asked.entry.now.words.now asked.entry.now.text.now asked.entry.now.now)
         asked.entry.now.plan.now asked.entry.now.rc.now bytes)
         folder.old folder.new out.old out.new (ending_of result) }

@@ -1,14 +1,17 @@
 //! A search, and where its answer goes.
 
-ghost use Rattle.std.specs.Prelude.{◌≡◌, ◌⊎◌, ◌<◌, ◌≤◌, ◌+◌, ◌-◌, ◌^◌, ◌&&◌, ℕ, List, true, None, Some, Ok, All, length, map};
+ghost use Rattle.std.specs.Prelude.{◌≡◌, ◌⊎◌, ◌<◌, ◌≤◌, ◌+◌, ◌-◌, ◌^◌, ◌&&◌, ◌∷◌, ℕ, List, [], true, None, Some, Ok, All, length, map};
 ghost use Rattle.std.specs.Option.{option_map};
+ghost use Rattle.mairix_options.specs.AnswerFiles.{answer_file as answer_file_of};
 ghost use Rattle.mairix_run.specs.Inside.Running.{Ran};
+ghost use Rattle.mairix_run.specs.NamesUsed.{passing_names};
 ghost use Rattle.mairix_run.specs.ReadFiles.{names_read};
 ghost use Rattle.mairix_run.specs.Stops.{ending_of};
 ghost use Rattle.mairix_run.specs.Tasks.{files_at, search_task, search_work};
-ghost use Rattle.mairix_run.specs.WholeRuns.{CallsFor, IsTrouble, KeepsOld, LeavesInMaking, MakesFor, Puts, Writes, is_left_alone, refused_name};
+ghost use Rattle.mairix_run.specs.WholeRuns.{CallsFor, IsTrouble, KeepsOld, LeavesInMaking, MakesFor, Puts, Writes, is_left_alone, passing_of, refused_name};
 ghost use Rattle.mairix_tool.specs.Asked.{asks};
 ghost use Rattle.named_archives.specs.Names.{files_of};
+ghost use Rattle.named_archives.specs.Progress.{CannotRead};
 ghost use Rattle.named_archives.specs.States.{AreStatesOf};
 ghost use Rattle.named_files.specs.Crashes.{LeavesOnly};
 ghost use Rattle.named_files.specs.Entries.{SameWhere, bytes_of};
@@ -51,6 +54,7 @@ pub(crate) fn run_search<F: Folder, O: Stream>(
     ensures ran { (bytes : List (List ℕ))
         → files_at (F.holds folder.old) asked.entry.now.rc.now.paths ≡ Ok bytes
         → F.agree reports.new ≡ true → Ran F.Folder O.Out O.handed_on
+        (passing_names (answer_file_of asked.entry.now.plan.now asked.entry.now.rc.now))
         (Ok (search_task asked.entry.now.plan.now asked.entry.now.rc.now (search_work
         (asks asked.entry.now.words.now asked.entry.now.text.now asked.entry.now.now)
         (option_map (λ index. index.now) index.entry) bytes)))
@@ -105,7 +109,8 @@ fn print_answer<F: Folder, O: Stream>(
     ensures run { (bytes : List (List ℕ))
         → files_of (F.holds folder.now) search.now.paths.now ≡ map Some bytes
         → F.agree reports.new ≡ true
-        → Writes O.Out O.handed_on (search_work (asks search.now.words.now search.now.text.now search.now.moment)
+        → Writes O.Out O.handed_on (CannotRead F.can_refuse F.reads_can_fail)
+        (search_work (asks search.now.words.now search.now.text.now search.now.moment)
         (option_map (λ index. index.now) search.now.index) bytes) out.old out.new (ending_of result) }
     ensures count { O.failures out.new ≤ O.failures out.old + 1 }
     ensures earlier { F.agree reports.new ≡ true → F.agree reports.old ≡ true }
@@ -131,10 +136,11 @@ fn make_answer_file<F: Folder>(
         → F.agree reports.new ≡ true
         → let work = search_work (asks search.now.words.now search.now.text.now search.now.moment)
         (option_map (λ index. index.now) search.now.index) bytes in
-        IsTrouble F.can_refuse F.reads_can_fail (ending_of result)
+        IsTrouble (passing_of name.now ∷ []) F.can_refuse F.reads_can_fail (ending_of result)
         ⊎ MakesFor (refused_name (F.holds folder.old) (F.apart folder.old)
         (F.is_leftover folder.old) work (names_read read.now) name.now) F.can_refuse
-        (Puts (F.can_refuse ⊎ F.writes_can_fail) work (F.holds folder.new name.now))
+        (Puts (F.can_refuse ⊎ F.writes_can_fail) (CannotRead F.can_refuse F.reads_can_fail) work
+        (F.holds folder.new name.now))
         (ending_of result) }
     // Without success the name leads to what it led to before; or, if only its own name failed, to the whole text.
     ensures old { (bytes : List (List ℕ))

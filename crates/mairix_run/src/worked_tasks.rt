@@ -1,8 +1,8 @@
-//! Rows: what runs have to do, and which names are refused, as worked out by hand.
+//! Rows: what runs have to do, which names they use, and which names are refused, as worked out by hand.
 ghost use Rattle.mairix_run.specs.WorkedTasks as row;
 ghost use Rattle.mairix_run.specs.WorkedTasks.{IsRefusedAsWorked, IsWorked};
 
-/// The definition of a task gives what was worked out by hand.
+/// The definitions of a task, and of the names that a run uses, give what was worked out by hand.
 pub fn tasks_are_as_worked_by_hand()
     ensures refused_words { IsWorked row.refused_words }
     ensures two_formats { IsWorked row.two_formats }

@@ -1,4 +1,5 @@
 -- The proofs about what is read of the files to which some names lead.
+pub mod Failures
 pub mod Held
 pub mod Lists
 pub mod Pieces

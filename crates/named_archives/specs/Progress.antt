@@ -1,8 +1,8 @@
 -- What a source knows of the file that it reads, by how far it has read it.
-use Rattle.std.specs.Prelude.{◌≡◌, ℕ, ◌<◌, ◌&&◌, Bool, true, List, [], Option, None, Some, IsSome, is_some}
+use Rattle.std.specs.Prelude.{◌≡◌, ◌⊎◌, ℕ, ◌<◌, ◌&&◌, Bool, true, false, List, [], Option, None, Some, IsSome, is_some}
 use Rattle.std.specs.Option.{ForSome}
 use Rattle.named_files.specs.declared.refusal.Refusal.{Refusal}
-use Rattle.named_files.specs.declared.refusal.Refusal.TheVariants.{Refused}
+use Rattle.named_files.specs.declared.refusal.Refusal.TheVariants.{Memory, Refused}
 use Rattle.named_archives.specs.declared.named_source.Progress.{Progress}
 use Rattle.named_archives.specs.declared.named_source.Progress.TheVariants.{Going, Ended, Lost}
 
@@ -37,6 +37,21 @@ IsRefusedFor why all Reason = why ≡ Refused → (Reason → ⊥) → all ≡ N
 abbrev pub HasFailed : {F : Type 0} → (F → ℕ) → Option F → Option Refusal → Type 0
 HasFailed failures None refused = IsSome refused
 HasFailed failures (Some file) refused = 0 < failures file
+
+-- whether a file wasn't opened because memory ran out
+abbrev pub is_for_memory : Option Refusal → Bool
+is_for_memory None = false
+is_for_memory (Some Memory) = true
+is_for_memory (Some Refused) = false
+
+-- files that are there can't be read, because the system refuses a call, or because a read fails
+abbrev pub CannotRead : Type 0 → Type 0 → Type 0
+CannotRead CanRefuse ReadsCanFail = ∥ CanRefuse ⊎ ReadsCanFail ∥₁
+
+-- why calls have failed, unless memory ran out as a file was opened, or a file isn't there
+abbrev pub FailsFor : Option Refusal → Type 0 → Type 0 → Type 0 → Type 0
+FailsFor refused AreThere CanRefuse ReadsCanFail =
+    is_for_memory refused ≡ false → AreThere → CannotRead CanRefuse ReadsCanFail
 
 -- a file that was opened was found in the state in which it has to be
 abbrev pub IsReadIn : {F S : Type 0} → (F → Option S) → Option S → Option F → Type 0

@@ -8,5 +8,5 @@ mod read_ahead;
 
 pub use first_look::{Unopened, first_states};
 pub use named_archives::NamedArchives;
-pub use named_source::{NamedSource, report_all, sources_of};
+pub use named_source::{NamedSource, lack_memory, report_all, sources_of};
 pub use read_ahead::ReadAhead;

@@ -6,12 +6,12 @@ ghost use Rattle.contract_words.specs.Devices.{Counts};
 ghost use Rattle.contract_words.specs.Knowledge.{WasKnown};
 ghost use Rattle.named_files.specs.Entries.{IsRead as IsReadOf};
 ghost use Rattle.named_archives.specs.Names.{files_of, held_while, IsFileAt, IsInState, IsStillOpen};
-ghost use Rattle.named_archives.specs.Progress.{has_agreed};
+ghost use Rattle.named_archives.specs.Progress.{has_agreed, is_for_memory, FailsFor};
 
 use crate::read_ahead::ReadAhead;
 use mail_answer::Archives;
 use mbox_cutter::DeviceFault;
-use named_files::{Folder, KeptFile};
+use named_files::{Folder, KeptFile, Refusal};
 use std::alloc::Global;
 
 /// The files of some names by their numbers, of which at most one is open at a time: the one that was used last. A name
@@ -34,12 +34,17 @@ pub struct NamedArchives<'p, F: Folder> {
     /// What was reported of the files that were closed.
     closed: F::Reports,
     failures: u64,
+    /// Why a file couldn't be opened when that failed last.
+    refused: Option<Refusal>,
     ghost few: { length names.now < 2 ^ 32 },
     ghost each: { length states.now ≡ length names.now },
     ghost right: { F.reports_are_right → F.agree closed ≡ true },
     ghost counted: { ForSome current (λ a. F.File.failures a.file ≤ failures) },
     ghost opened: { ForSome current (λ a. IsFileAt (files_of (F.holds folder.now) names.now) states.now
         number (F.File.bytes a.file) a.state) },
+    // No call fails without a cause.
+    ghost failed: { 0 < failures → FailsFor refused
+        (All IsSome (files_of (F.holds folder.now) names.now)) F.can_refuse F.reads_can_fail },
 }
 
 impl<'p, F: Folder> NamedArchives<'p, F> {
@@ -75,7 +80,15 @@ impl<'p, F: Folder> NamedArchives<'p, F> {
             current: None,
             closed: folder.no_reports(),
             failures: 0,
+            refused: None,
         })
+    }
+
+    /// Whether memory ran out when a file couldn't be opened last.
+    pub fn lacks_memory(&self) -> bool
+        ensures { result ≡ is_for_memory self.now.refused }
+    {
+        matches!(self.refused, Some(Refusal::Memory))
     }
 
     /// Closes the file that is open, and adds all that was reported of the files.
@@ -155,7 +168,8 @@ impl<'p, F: Folder> NamedArchives<'p, F> {
                 self.current = Some(ahead);
                 Ok(())
             }
-            Err(_) => {
+            Err(why) => {
+                self.refused = Some(why);
                 self.failures += 1;
                 Err(DeviceFault)
             }

@@ -2,14 +2,14 @@
 //!
 //! One file is open at a time, so few descriptors are enough (decision 19 in docs/DECISIONS.md).
 ghost use Rattle.std.specs.Prelude.{◌≡◌, ◌⊎◌, false, ◌<◌, ◌≤◌, ◌+◌, ◌-◌, ◌^◌, ◌&&◌, ℕ, List, length, map, true, None, Some, IsSome, All, IfOk, IfErr, IfSome, OnOk, OnErr, vec_len, slice_get};
-ghost use Rattle.std.specs.List.{list_all, range_with_len};
+ghost use Rattle.std.specs.List.{list_all, list_any, range_with_len};
 ghost use Rattle.std.specs.Option.{ForSome};
 ghost use Rattle.std.specs.String.{string_bytes};
 ghost use Rattle.std.specs.Io.KnownBytes.{ReadConsumes};
 ghost use Rattle.contract_words.specs.Devices.{Counted, Counts};
 ghost use Rattle.contract_words.specs.Knowledge.{still_known};
 ghost use Rattle.named_files.specs.Entries.{bytes_of};
-ghost use Rattle.named_archives.specs.Progress.{left_in, has_agreed, HasFailed, HasReached, IsFoundIn, IsReadIn, IsRefusedFor};
+ghost use Rattle.named_archives.specs.Progress.{left_in, has_agreed, is_for_memory, FailsFor, HasFailed, HasReached, IsFoundIn, IsReadIn, IsRefusedFor};
 
 use mbox_cutter::{DeviceFault, Source};
 use named_files::{Folder, KeptFile, Refusal};
@@ -49,6 +49,9 @@ pub struct NamedSource<'p, F: Folder> {
         (F.File.failures f) progress) },
     ghost cause: { ForSome refused (λ why.
         IsRefusedFor why (bytes_of (F.holds folder.now name.now)) F.can_refuse) },
+    // No call fails without a cause.
+    ghost failed: { 0 < failures → FailsFor refused
+        (IsSome (bytes_of (F.holds folder.now name.now))) F.can_refuse F.reads_can_fail },
 }
 
 impl<'p, F: Folder> NamedSource<'p, F> {
@@ -285,6 +288,18 @@ pub fn sources_of<'p, F: Folder>(
         sources.push(NamedSource::new(folder, alloc, name.as_str(), state))?;
     }
     Ok(sources)
+}
+
+/// Whether memory ran out when the file of one of these sources couldn't be opened last.
+pub fn lack_memory<F: Folder>(sources: &[NamedSource<'_, F>]) -> bool
+    ensures { result ≡ list_any (λ s. is_for_memory s.refused) sources.now }
+{
+    for source in sources {
+        if matches!(source.refusal(), Some(Refusal::Memory)) {
+            return true;
+        }
+    }
+    false
 }
 
 /// Gives the files of all sources back that were opened, with what was reported of their bytes.

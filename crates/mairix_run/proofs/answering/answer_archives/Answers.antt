@@ -2,6 +2,9 @@
 use Rattle.std.proofs.Common.{◌≡◌, None, arith}
 use Rattle.mairix_tool.specs.Asked.{asks}
 use Rattle.mairix_run.proofs.Replies.{refused-once}
+use Rattle.mairix_run.proofs.UnreadArchives.{or-other}
+use Rattle.mairix_run.specs.Answered.{is_unread}
+use Rattle.run_faults.specs.Faults.{fault_in}
 use Rattle.mairix_run.proofs.answering.answer_archives.Goals as goal
 
 pub returns-in-None-clause-refused : goal.returns-in-None-clause-refused
@@ -10,3 +13,8 @@ returns-in-None-clause-refused g c = λ fault is.
     let none : search.index ≡ None = grind arith in
     c.answer_once.ensures.refused fault
     (refused-once (asks search.words.now search.text.now search.moment) search.index fault none is)
+
+-- with one, only the archives are read
+pub returns-in-Some-clause-unread : goal.returns-in-Some-clause-unread
+returns-in-Some-clause-unread g c = λ bytes files.
+    or-other (is_unread (fault_in c.answer_stored.result)) _ _ c.answer_stored.ensures.unread

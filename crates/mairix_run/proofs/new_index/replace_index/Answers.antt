@@ -1,14 +1,16 @@
 -- An index is put into a file: the file isn't made, or it is made, filled and settled.
 use Rattle.std.proofs.Common.{◌≡◌, ◌∙◌, ◌⊎◌, inr, sym, subst, true, [], ◌∷◌, map}
-use Rattle.std.proofs.Common.{Option, None, Some, string_bytes}
+use Rattle.std.proofs.Common.{None, Some, string_bytes}
 use Rattle.std.specs.Option.{option_map_or}
 use Rattle.index_run.specs.ArchivesIndexed.{mboxes}
 use Rattle.named_archives.specs.Names.{files_of}
+use Rattle.named_archives.specs.Progress.{CannotRead}
 use Rattle.run_faults.specs.Faults.{fault_in, is_failed_out}
 use Rattle.mairix_run.proofs.MadeRuns.{all-after, files-same, fit-same, made-settled-keeps, made-settled-leaves}
 use Rattle.mairix_run.proofs.MadeRuns.{made-settled-read}
 use Rattle.mairix_run.proofs.MadeRuns.{none-made-keeps, none-made-leaves, none-made-read}
 use Rattle.mairix_run.proofs.MakingRuns.{mail-found, mail-or-refused, none-refused, puts-settled}
+use Rattle.mairix_run.proofs.NamesUsed.{contains-first, contains-more}
 use Rattle.mairix_run.proofs.Written.{counted-failure, indexed-written, silent-of}
 use Rattle.mairix_run.specs.MadeFiles.{IsRefusal, is_open_to, taken_name, unfit_name}
 use Rattle.mairix_run.specs.ReadFiles.{names_read}
@@ -25,8 +27,10 @@ returns-in-Err-clause-run g c = λ bytes files agree.
     let old = c.args.folder.now in
     let name = c.args.name.now in
     let work = Index (mboxes (map string_bytes c.args.read.now.archives.now) bytes) in
-    mail-found (F.holds old) (F.apart old) (F.is_leftover old) work (names_read c.args.read.now) name F.can_refuse
-    F.reads_can_fail (Puts (F.can_refuse ⊎ F.writes_can_fail) work (F.holds old name)) c.in-Err.stopped
+    mail-found (F.holds old) (F.apart old) (F.is_leftover old) work (names_read c.args.read.now) name
+    (name ∷ passing_of name ∷ []) F.can_refuse F.reads_can_fail (Puts (F.can_refuse ⊎ F.writes_can_fail)
+    (CannotRead F.can_refuse F.reads_can_fail) work (F.holds old name)) (contains-first name (passing_of name ∷ []))
+    c.in-Err.stopped
     (c.in-Err.ensures.stopped agree)
 
 pub returns-in-Err-create_file-clause-run : goal.returns-in-Err-create_file-clause-run
@@ -38,8 +42,11 @@ returns-in-Err-create_file-clause-run g c = λ bytes files agree.
     let work = Index (mboxes (map string_bytes c.args.read.now.archives.now) bytes) in
     let same : passing_of name ≡ c.as_str-passing.result.now =
     sym (c.as_str-passing.ensures.value ∙ c.in_ok-passing.ensures) in
-    mail-or-refused (F.holds old) (F.apart old) (F.is_leftover old) work read name F.can_refuse
-    F.reads_can_fail (Puts (F.can_refuse ⊎ F.writes_can_fail) work (F.holds c.create_file.new.folder name))
+    mail-or-refused (F.holds old) (F.apart old) (F.is_leftover old) work read name
+    (name ∷ passing_of name ∷ []) F.can_refuse F.reads_can_fail (Puts (F.can_refuse ⊎ F.writes_can_fail)
+    (CannotRead F.can_refuse F.reads_can_fail) work (F.holds c.create_file.new.folder name))
+    (contains-first name (passing_of name ∷ []))
+    (contains-more name (passing_of name) (passing_of name ∷ []) (contains-first (passing_of name) []))
     (c.in_default.ensures.no_mail (c.in-Err-create_file.ensures.earlier agree)) c.in-Err-create_file.stopped
     (subst (λ p. IsRefusal (unfit_name (F.apart old) read p name) (taken_name (F.holds old) (F.is_leftover old) p
     name) p
@@ -110,28 +117,31 @@ returns-clause-run g c = λ bytes files agree.
     (c.args.read.now.rcfile.now ∷ option_map_or (λ database. database.now ∷ []) c.args.read.now.database [])
     (map string_bytes archives) kept) ∙ files in
     let OutFails = F.can_refuse ⊎ F.writes_can_fail in
+    let ReadFails = CannotRead F.can_refuse F.reads_can_fail in
     let fails : is_failed_out (fault_in indexed) ≡ true → OutFails = λ is. inr (g.met.F.Folder.writes_fail filled
     (counted-failure (is_failed_out (fault_in indexed)) (N.failures first) (N.failures filled)
     c.index_names-indexed.ensures.out_failed c.in-Ok.ensures.fresh is)) in
-    let by-some : IsWritten OutFails work (N.taken first) (N.taken filled) indexed =
-    indexed-written (mboxes (map string_bytes archives) bytes) OutFails (N.taken first) (N.taken filled) indexed fails
+    let by-some : IsWritten OutFails ReadFails work (N.taken first) (N.taken filled) indexed =
+    indexed-written (mboxes (map string_bytes archives) bytes) OutFails ReadFails (N.taken first) (N.taken filled)
+    indexed fails
+    (c.index_names-indexed.ensures.unread bytes still)
     (silent-of N.taken first filled indexed c.index_names-indexed.ensures.silent)
     (c.index_names-indexed.ensures.indexed bytes still agree) in
-    let written : IsWritten OutFails work (Some []) (N.taken filled) indexed =
-    subst (λ t. IsWritten OutFails work t (N.taken filled) indexed) c.in-Ok.ensures.empty by-some in
+    let written : IsWritten OutFails ReadFails work (Some []) (N.taken filled) indexed =
+    subst (λ t. IsWritten OutFails ReadFails work t (N.taken filled) indexed) c.in-Ok.ensures.empty by-some in
     let made = c.index_names-indexed.ensures.earlier agree in
     let fit = subst (λ p. unfit_name (F.apart old) read p name ≡ None) (sym same) (c.in-Ok.ensures.fit made) in
     let free = subst (λ p. is_open_to (F.holds old) (F.is_leftover old) p ≡ true) (sym same) (c.in-Ok.ensures.free
     made) in
-    let puts = puts-settled OutFails work (N.taken filled) indexed c.settle_file.result
+    let puts = puts-settled OutFails ReadFails work (N.taken filled) indexed c.settle_file.result
     (F.holds c.settle_file.new.folder name) written c.settle_file.ensures.status c.settle_file.ensures.refused
     c.settle_file.ensures.named in
     inr (inr (
-      none-refused (F.holds old) (F.apart old) (F.is_leftover old) work read name F.can_refuse F.reads_can_fail
-          (Puts OutFails work (F.holds c.settle_file.new.folder name))
+      none-refused (F.holds old) (F.apart old) (F.is_leftover old) work read name (name ∷ passing_of name ∷ [])
+          F.can_refuse F.reads_can_fail (Puts OutFails ReadFails work (F.holds c.settle_file.new.folder name))
           (c.in_default.ensures.no_mail (c.in-Ok.ensures.earlier made)) fit
           (c.in-Ok.ensures.plain made) free,
-      subst (λ ended. Puts OutFails work (F.holds c.settle_file.new.folder name) ended) (sym
+      subst (λ ended. Puts OutFails ReadFails work (F.holds c.settle_file.new.folder name) ended) (sym
           c.status_or_stopped.ensures) puts,
     ))
 
@@ -184,17 +194,20 @@ returns-clause-any_moment g c = λ bytes files agree.
     (c.args.read.now.rcfile.now ∷ option_map_or (λ database. database.now ∷ []) c.args.read.now.database [])
     (map string_bytes archives) kept) ∙ files in
     let OutFails = F.can_refuse ⊎ F.writes_can_fail in
+    let ReadFails = CannotRead F.can_refuse F.reads_can_fail in
     let fails : is_failed_out (fault_in indexed) ≡ true → OutFails = λ is. inr (g.met.F.Folder.writes_fail filled
     (counted-failure (is_failed_out (fault_in indexed)) (N.failures first) (N.failures filled)
     c.index_names-indexed.ensures.out_failed c.in-Ok.ensures.fresh is)) in
-    let by-some : IsWritten OutFails work (N.taken first) (N.taken filled) indexed =
-    indexed-written (mboxes (map string_bytes archives) bytes) OutFails (N.taken first) (N.taken filled) indexed fails
+    let by-some : IsWritten OutFails ReadFails work (N.taken first) (N.taken filled) indexed =
+    indexed-written (mboxes (map string_bytes archives) bytes) OutFails ReadFails (N.taken first) (N.taken filled)
+    indexed fails
+    (c.index_names-indexed.ensures.unread bytes still)
     (silent-of N.taken first filled indexed c.index_names-indexed.ensures.silent)
     (c.index_names-indexed.ensures.indexed bytes still agree) in
-    let written : IsWritten OutFails work (Some []) (N.taken filled) indexed =
-    subst (λ t. IsWritten OutFails work t (N.taken filled) indexed) c.in-Ok.ensures.empty by-some in
+    let written : IsWritten OutFails ReadFails work (Some []) (N.taken filled) indexed =
+    subst (λ t. IsWritten OutFails ReadFails work t (N.taken filled) indexed) c.in-Ok.ensures.empty by-some in
     made-settled-leaves F old read name c.create_file.new.folder c.settle_file.new.folder
-    (N.taken filled) indexed c.settle_file.result work OutFails passing same
+    (N.taken filled) indexed c.settle_file.result work OutFails ReadFails passing same
     (record {
       fit = c.in-Ok.ensures.fit (c.index_names-indexed.ensures.earlier agree);
       others = c.in-Ok.ensures.others;
@@ -233,19 +246,22 @@ returns-clause-old g c = λ bytes files agree.
     (c.args.read.now.rcfile.now ∷ option_map_or (λ database. database.now ∷ []) c.args.read.now.database [])
     (map string_bytes archives) kept) ∙ files in
     let OutFails = F.can_refuse ⊎ F.writes_can_fail in
+    let ReadFails = CannotRead F.can_refuse F.reads_can_fail in
     let fails : is_failed_out (fault_in indexed) ≡ true → OutFails = λ is. inr (g.met.F.Folder.writes_fail filled
     (counted-failure (is_failed_out (fault_in indexed)) (N.failures first) (N.failures filled)
     c.index_names-indexed.ensures.out_failed c.in-Ok.ensures.fresh is)) in
-    let by-some : IsWritten OutFails work (N.taken first) (N.taken filled) indexed =
-    indexed-written (mboxes (map string_bytes archives) bytes) OutFails (N.taken first) (N.taken filled) indexed fails
+    let by-some : IsWritten OutFails ReadFails work (N.taken first) (N.taken filled) indexed =
+    indexed-written (mboxes (map string_bytes archives) bytes) OutFails ReadFails (N.taken first) (N.taken filled)
+    indexed fails
+    (c.index_names-indexed.ensures.unread bytes still)
     (silent-of N.taken first filled indexed c.index_names-indexed.ensures.silent)
     (c.index_names-indexed.ensures.indexed bytes still agree) in
-    let written : IsWritten OutFails work (Some []) (N.taken filled) indexed =
-    subst (λ t. IsWritten OutFails work t (N.taken filled) indexed) c.in-Ok.ensures.empty by-some in
+    let written : IsWritten OutFails ReadFails work (Some []) (N.taken filled) indexed =
+    subst (λ t. IsWritten OutFails ReadFails work t (N.taken filled) indexed) c.in-Ok.ensures.empty by-some in
     subst (λ ended. KeepsOld work (F.holds old name) (F.holds c.settle_file.new.folder name) ended)
     (sym c.status_or_stopped.ensures) (made-settled-keeps F old read name c.create_file.new.folder
     c.settle_file.new.folder
-    (N.taken filled) indexed c.settle_file.result work OutFails passing same
+    (N.taken filled) indexed c.settle_file.result work OutFails ReadFails passing same
     (record {
       fit = c.in-Ok.ensures.fit (c.index_names-indexed.ensures.earlier agree);
       others = c.in-Ok.ensures.others;

@@ -1,8 +1,9 @@
 -- Each archive was found, or the first that is missing can't be opened.
-use Rattle.std.proofs.Common.{◌≡◌, ◌⊎◌, ◌∙◌, inl, inr, ⊎_elim, subst, map, Some, None, string_bytes, slice_get}
+use Rattle.std.proofs.Common.{◌≡◌, ◌⊎◌, inl, inr, ⊎_elim, subst, map, Some, None, string_bytes, slice_get}
 use Rattle.named_archives.specs.Names.{files_of}
 use Rattle.named_files.specs.Refusals.{HasCause}
 use Rattle.mairix_run.proofs.FilesAt.{all-found, before-found, file-missing, named-at}
+use Rattle.mairix_run.proofs.NamesUsed.{among-names}
 use Rattle.mairix_run.proofs.RunStages.{missing-stops}
 use Rattle.mairix_run.specs.Stops.{IsStoppedAt}
 use Rattle.mairix_run.specs.Tasks.{files_at}
@@ -21,8 +22,9 @@ returns-in-Refused-clause-err g c = λ agree.
     let paths = c.args.paths.now in
     let n = c.in-Err.field-0.number in
     let name = c.index-paths-number.result in
-    missing-stops F.can_refuse F.reads_can_fail (files_at holds (map string_bytes paths)) (string_bytes name)
-    c.at.result
+    missing-stops (map string_bytes paths) F.can_refuse F.reads_can_fail (files_at holds (map string_bytes paths))
+    (string_bytes name)
+    c.at.result (among-names paths n name c.index-paths-number.is c.in-Err.ensures.refused.0)
     (subst (λ p. IsStoppedAt p c.at.result) c.as_str.ensures.value c.at.ensures.path)
     (⊎_elim (λ none. inl (file-missing holds paths n (string_bytes name)
     (before-found holds paths n (F.agree c.first_states.new.reports) (F.agree c.args.reports.now)

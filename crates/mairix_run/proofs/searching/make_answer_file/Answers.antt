@@ -1,14 +1,16 @@
 -- The answer is put into a file: the file isn't made, or it is made, filled and settled.
 use Rattle.std.proofs.Common.{◌≡◌, ◌∙◌, ◌⊎◌, ◌≤◌, ◌<◌, ◌^◌, inl, inr, ⊎_elim, sym, subst, true, [], map, All}
-use Rattle.std.proofs.Common.{Option, None, Some, length, ◌∷◌, string_bytes}
+use Rattle.std.proofs.Common.{None, Some, length, ◌∷◌, string_bytes}
 use Rattle.std.specs.Option.{option_map, option_map_or}
 use Rattle.named_archives.specs.Names.{files_of}
+use Rattle.named_archives.specs.Progress.{CannotRead}
 use Rattle.run_faults.specs.Faults.{fault_in, is_failed_out}
 use Rattle.mairix_run.proofs.IndexedFiles.{same-length}
 use Rattle.mairix_run.proofs.MadeRuns.{all-after, files-same, fit-same, made-settled-keeps, made-settled-leaves}
 use Rattle.mairix_run.proofs.MadeRuns.{made-settled-read}
 use Rattle.mairix_run.proofs.MadeRuns.{none-made-keeps, none-made-leaves, none-made-read}
 use Rattle.mairix_run.proofs.MakingRuns.{none-refused, puts-settled, refused-stops, search-not-kept}
+use Rattle.mairix_run.proofs.NamesUsed.{contains-first}
 use Rattle.mairix_run.proofs.Written.{counted-failure, few-or-many, searched-written, too-many-searched}
 use Rattle.mairix_run.specs.MadeFiles.{IsRefusal, is_open_to, taken_name, unfit_name}
 use Rattle.mairix_run.specs.ReadFiles.{names_read}
@@ -31,9 +33,11 @@ returns-in-Err-clause-run g c = λ bytes files agree.
     let same : passing_of name ≡ c.as_str-passing.result.now =
     sym (c.as_str-passing.ensures.value ∙ c.in_ok-passing.ensures) in
     refused-stops (F.holds old) (F.apart old) (F.is_leftover old) (search_work wanted index bytes) read name
-    F.can_refuse
-    F.reads_can_fail (Puts (F.can_refuse ⊎ F.writes_can_fail) (search_work wanted index bytes)
-    (F.holds c.create_file.new.folder name)) (search-not-kept wanted index bytes (F.holds old name)) c.in-Err.stopped
+    (passing_of name ∷ []) F.can_refuse
+    F.reads_can_fail (Puts (F.can_refuse ⊎ F.writes_can_fail) (CannotRead F.can_refuse F.reads_can_fail)
+    (search_work wanted index bytes)
+    (F.holds c.create_file.new.folder name)) (contains-first (passing_of name) [])
+    (search-not-kept wanted index bytes (F.holds old name)) c.in-Err.stopped
     (subst (λ p. IsRefusal (unfit_name (F.apart old) read p name) (taken_name (F.holds old) (F.is_leftover old) p
     name) p
     F.can_refuse c.in-Err.stopped) (sym same) (c.in-Err.ensures.refused agree))
@@ -108,33 +112,36 @@ returns-clause-run g c = λ bytes files agree.
     (c.args.read.now.rcfile.now ∷ option_map_or (λ database. database.now ∷ []) c.args.read.now.database [])
     (map string_bytes c.args.read.now.archives.now) kept)) ∙ files in
     let OutFails = F.can_refuse ⊎ F.writes_can_fail in
+    let ReadFails = CannotRead F.can_refuse F.reads_can_fail in
     let fails : is_failed_out (fault_in answered) ≡ true → OutFails = λ is. inr (g.met.F.Folder.writes_fail filled
     (counted-failure (is_failed_out (fault_in answered)) (N.failures first) (N.failures filled)
     c.answer_names-answered.ensures.out_failed c.in-Ok.ensures.fresh is)) in
-    let by-some : IsWritten OutFails work (N.taken first) (N.taken filled) answered = ⊎_elim
+    let by-some : IsWritten OutFails ReadFails work (N.taken first) (N.taken filled) answered = ⊎_elim
     (λ few. searched-written wanted c.args.search.now.index bytes (length paths < 2 ^ 32) (F.agree _ ≡ true)
-    (λ b. files_of (F.holds mid) paths ≡ map Some b) OutFails (N.taken first) (N.taken filled) answered few still agree
-    fails c.answer_names-answered.ensures.once c.answer_names-answered.ensures.stored)
+    (λ b. files_of (F.holds mid) paths ≡ map Some b) OutFails ReadFails (N.taken first) (N.taken filled) answered few
+    still agree
+    fails (c.answer_names-answered.ensures.unread bytes still) c.answer_names-answered.ensures.once
+    c.answer_names-answered.ensures.stored)
     (λ many. let none = c.answer_names-answered.ensures.few many in
-    subst (λ d. IsWritten OutFails work (N.taken first) (N.taken d) answered) (sym none.1)
-    (too-many-searched wanted c.args.search.now.index bytes OutFails (N.taken first) answered
+    subst (λ d. IsWritten OutFails ReadFails work (N.taken first) (N.taken d) answered) (sym none.1)
+    (too-many-searched wanted c.args.search.now.index bytes OutFails ReadFails (N.taken first) answered
     (subst (λ n. 2 ^ 32 ≤ n) (same-length _ Some paths bytes files) many) none.0))
     (few-or-many (length paths) (2 ^ 32)) in
-    let written : IsWritten OutFails work (Some []) (N.taken filled) answered =
-    subst (λ t. IsWritten OutFails work t (N.taken filled) answered) c.in-Ok.ensures.empty by-some in
+    let written : IsWritten OutFails ReadFails work (Some []) (N.taken filled) answered =
+    subst (λ t. IsWritten OutFails ReadFails work t (N.taken filled) answered) c.in-Ok.ensures.empty by-some in
     let made = c.answer_names-answered.ensures.earlier agree in
     let fit = subst (λ p. unfit_name (F.apart old) read p name ≡ None) (sym same) (c.in-Ok.ensures.fit made) in
     let free = subst (λ p. is_open_to (F.holds old) (F.is_leftover old) p ≡ true) (sym same) (c.in-Ok.ensures.free
     made) in
-    let puts = puts-settled OutFails work (N.taken filled) answered c.settle_file.result
+    let puts = puts-settled OutFails ReadFails work (N.taken filled) answered c.settle_file.result
     (F.holds c.settle_file.new.folder name) written c.settle_file.ensures.status c.settle_file.ensures.refused
     c.settle_file.ensures.named in
     inr (inr (
-      none-refused (F.holds old) (F.apart old) (F.is_leftover old) work read name F.can_refuse F.reads_can_fail
-          (Puts OutFails work (F.holds c.settle_file.new.folder name))
+      none-refused (F.holds old) (F.apart old) (F.is_leftover old) work read name (passing_of name ∷ []) F.can_refuse
+          F.reads_can_fail (Puts OutFails ReadFails work (F.holds c.settle_file.new.folder name))
           (inl (search-not-kept wanted (option_map (λ i. i.now) c.args.search.now.index) bytes (F.holds old name))) fit
           (c.in-Ok.ensures.plain made) free,
-      subst (λ ended. Puts OutFails work (F.holds c.settle_file.new.folder name) ended) (sym
+      subst (λ ended. Puts OutFails ReadFails work (F.holds c.settle_file.new.folder name) ended) (sym
           c.status_or_stopped.ensures) puts,
     ))
 
@@ -190,22 +197,25 @@ returns-clause-any_moment g c = λ bytes files agree.
     (c.args.read.now.rcfile.now ∷ option_map_or (λ database. database.now ∷ []) c.args.read.now.database [])
     (map string_bytes c.args.read.now.archives.now) kept)) ∙ files in
     let OutFails = F.can_refuse ⊎ F.writes_can_fail in
+    let ReadFails = CannotRead F.can_refuse F.reads_can_fail in
     let fails : is_failed_out (fault_in answered) ≡ true → OutFails = λ is. inr (g.met.F.Folder.writes_fail filled
     (counted-failure (is_failed_out (fault_in answered)) (N.failures first) (N.failures filled)
     c.answer_names-answered.ensures.out_failed c.in-Ok.ensures.fresh is)) in
-    let by-some : IsWritten OutFails work (N.taken first) (N.taken filled) answered = ⊎_elim
+    let by-some : IsWritten OutFails ReadFails work (N.taken first) (N.taken filled) answered = ⊎_elim
     (λ few. searched-written wanted c.args.search.now.index bytes (length paths < 2 ^ 32) (F.agree _ ≡ true)
-    (λ b. files_of (F.holds mid) paths ≡ map Some b) OutFails (N.taken first) (N.taken filled) answered few still agree
-    fails c.answer_names-answered.ensures.once c.answer_names-answered.ensures.stored)
+    (λ b. files_of (F.holds mid) paths ≡ map Some b) OutFails ReadFails (N.taken first) (N.taken filled) answered few
+    still agree
+    fails (c.answer_names-answered.ensures.unread bytes still) c.answer_names-answered.ensures.once
+    c.answer_names-answered.ensures.stored)
     (λ many. let none = c.answer_names-answered.ensures.few many in
-    subst (λ d. IsWritten OutFails work (N.taken first) (N.taken d) answered) (sym none.1)
-    (too-many-searched wanted c.args.search.now.index bytes OutFails (N.taken first) answered
+    subst (λ d. IsWritten OutFails ReadFails work (N.taken first) (N.taken d) answered) (sym none.1)
+    (too-many-searched wanted c.args.search.now.index bytes OutFails ReadFails (N.taken first) answered
     (subst (λ n. 2 ^ 32 ≤ n) (same-length _ Some paths bytes files) many) none.0))
     (few-or-many (length paths) (2 ^ 32)) in
-    let written : IsWritten OutFails work (Some []) (N.taken filled) answered =
-    subst (λ t. IsWritten OutFails work t (N.taken filled) answered) c.in-Ok.ensures.empty by-some in
+    let written : IsWritten OutFails ReadFails work (Some []) (N.taken filled) answered =
+    subst (λ t. IsWritten OutFails ReadFails work t (N.taken filled) answered) c.in-Ok.ensures.empty by-some in
     made-settled-leaves F old read name c.create_file.new.folder c.settle_file.new.folder
-    (N.taken filled) answered c.settle_file.result work OutFails passing same
+    (N.taken filled) answered c.settle_file.result work OutFails ReadFails passing same
     (record {
       fit = c.in-Ok.ensures.fit (c.answer_names-answered.ensures.earlier agree);
       others = c.in-Ok.ensures.others;
@@ -247,24 +257,27 @@ returns-clause-old g c = λ bytes files agree.
     (c.args.read.now.rcfile.now ∷ option_map_or (λ database. database.now ∷ []) c.args.read.now.database [])
     (map string_bytes c.args.read.now.archives.now) kept)) ∙ files in
     let OutFails = F.can_refuse ⊎ F.writes_can_fail in
+    let ReadFails = CannotRead F.can_refuse F.reads_can_fail in
     let fails : is_failed_out (fault_in answered) ≡ true → OutFails = λ is. inr (g.met.F.Folder.writes_fail filled
     (counted-failure (is_failed_out (fault_in answered)) (N.failures first) (N.failures filled)
     c.answer_names-answered.ensures.out_failed c.in-Ok.ensures.fresh is)) in
-    let by-some : IsWritten OutFails work (N.taken first) (N.taken filled) answered = ⊎_elim
+    let by-some : IsWritten OutFails ReadFails work (N.taken first) (N.taken filled) answered = ⊎_elim
     (λ few. searched-written wanted c.args.search.now.index bytes (length paths < 2 ^ 32) (F.agree _ ≡ true)
-    (λ b. files_of (F.holds mid) paths ≡ map Some b) OutFails (N.taken first) (N.taken filled) answered few still agree
-    fails c.answer_names-answered.ensures.once c.answer_names-answered.ensures.stored)
+    (λ b. files_of (F.holds mid) paths ≡ map Some b) OutFails ReadFails (N.taken first) (N.taken filled) answered few
+    still agree
+    fails (c.answer_names-answered.ensures.unread bytes still) c.answer_names-answered.ensures.once
+    c.answer_names-answered.ensures.stored)
     (λ many. let none = c.answer_names-answered.ensures.few many in
-    subst (λ d. IsWritten OutFails work (N.taken first) (N.taken d) answered) (sym none.1)
-    (too-many-searched wanted c.args.search.now.index bytes OutFails (N.taken first) answered
+    subst (λ d. IsWritten OutFails ReadFails work (N.taken first) (N.taken d) answered) (sym none.1)
+    (too-many-searched wanted c.args.search.now.index bytes OutFails ReadFails (N.taken first) answered
     (subst (λ n. 2 ^ 32 ≤ n) (same-length _ Some paths bytes files) many) none.0))
     (few-or-many (length paths) (2 ^ 32)) in
-    let written : IsWritten OutFails work (Some []) (N.taken filled) answered =
-    subst (λ t. IsWritten OutFails work t (N.taken filled) answered) c.in-Ok.ensures.empty by-some in
+    let written : IsWritten OutFails ReadFails work (Some []) (N.taken filled) answered =
+    subst (λ t. IsWritten OutFails ReadFails work t (N.taken filled) answered) c.in-Ok.ensures.empty by-some in
     subst (λ ended. KeepsOld work (F.holds old name) (F.holds c.settle_file.new.folder name) ended)
     (sym c.status_or_stopped.ensures) (made-settled-keeps F old read name c.create_file.new.folder
     c.settle_file.new.folder
-    (N.taken filled) answered c.settle_file.result work OutFails passing same
+    (N.taken filled) answered c.settle_file.result work OutFails ReadFails passing same
     (record {
       fit = c.in-Ok.ensures.fit (c.answer_names-answered.ensures.earlier agree);
       others = c.in-Ok.ensures.others;

@@ -1,5 +1,6 @@
 -- What is known of the file after the read is what `read_on` says of it.
-use Rattle.std.proofs.Common.{◌≡◌, ◌≤◌, ◌+◌, false, Result, Ok, Err, OnOk, is_err, subst, sym, ◌∙◌, arith}
+use Rattle.std.proofs.Common.{◌≡◌, ◌≤◌, ◌+◌, false, Result, Ok, Err, OnOk, is_err, inr, subst, sym, ◌∙◌, arith}
+use Rattle.named_archives.proofs.Failures.{on-err}
 use Rattle.named_archives.specs.Progress.{HasReached}
 use Rattle.named_archives.proofs.named_source.NamedSource.read_opened.Goals as goal
 
@@ -19,6 +20,9 @@ invariant_of-self-then-is_err g c =
           c.args.self.now.state f (g.F.File.Source.failures f) c.read_on-read.new.progress) same
           c.read_on-read.ensures.reached;
       cause = c.args.self.now.cause;
+      failed = λ some not there. ∣ inr (g.met.F.Folder.reads_fail c.read_on-read.new.file
+          (on-err c.read_on-read.result _ (sym c.is_err.ensures.value ∙ c.if-is_err.true)
+          c.read_on-read.ensures.failed)) ∣₁;
     }
 
 pub invariant_of-self-else-is_err : goal.invariant_of-self-else-is_err
@@ -35,4 +39,5 @@ invariant_of-self-else-is_err g c =
           c.args.self.now.state f (g.F.File.Source.failures f) c.read_on-read.new.progress) same
           c.read_on-read.ensures.reached;
       cause = c.args.self.now.cause;
+      failed = c.args.self.now.failed;
     }

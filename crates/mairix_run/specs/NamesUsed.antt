@@ -1,0 +1,45 @@
+-- Which names a run uses, by its words and by what names lead to. The system can refuse a call on each of them.
+use Rattle.std.specs.Prelude.{ℕ, List, [], ◌∷◌, ◌++◌, Option, None, Some, Result, Ok, Err, if◌then◌else◌}
+use Rattle.std.specs.Option.{option_map_or}
+use Rattle.mairix_options.specs.AnswerFiles.{answer_file}
+use Rattle.mairix_options.specs.Rcfile.{rc_of}
+use Rattle.mairix_options.specs.declared.command_line.Plan.{Plan}
+use Rattle.mairix_options.specs.declared.command_line.UsageFault.{UsageFault}
+use Rattle.mairix_options.specs.declared.rcfile.Rc.{Rc}
+use Rattle.mairix_options.specs.declared.rcfile.RcFault.{RcFault}
+use Rattle.named_files.specs.Entries.{Entry, bytes_of}
+use Rattle.mairix_run.specs.Tasks.{is_index_run}
+use Rattle.mairix_run.specs.WholeRuns.{passing_of}
+
+-- the name of the file that a run makes: the index, or the answer; None if it writes to standard output
+abbrev pub file_asked : Plan → Rc → Option (List ℕ)
+file_asked p rc = if is_index_run p then Some rc.database else answer_file p rc
+
+-- the name that such a file has until it is whole
+abbrev pub passing_names : Option (List ℕ) → List (List ℕ)
+passing_names None = []
+passing_names (Some name) = passing_of name ∷ []
+
+-- the name of the index, which isn't used with `--once`
+abbrev pub names_of_index : Plan → Rc → List (List ℕ)
+names_of_index p rc = if p.once then [] else rc.database ∷ []
+
+-- the names that a plan uses by an rcfile: those of the archives and of the index, and the passing name of the file
+-- that
+-- it makes
+abbrev pub names_asked : Plan → Rc → List (List ℕ)
+names_asked p rc = rc.paths ++ (names_of_index p rc ++ passing_names (file_asked p rc))
+
+-- none if the rcfile is refused
+abbrev pub names_in : Plan → Result Rc RcFault → List (List ℕ)
+names_in p (Ok rc) = names_asked p rc
+names_in p (Err fault) = []
+
+-- the name of the rcfile, and if that is there, the names that its text asks for
+abbrev pub names_planned : (List ℕ → Entry) → Plan → List (List ℕ)
+names_planned holds p = p.rcfile ∷ option_map_or (λ text. names_in p (rc_of text)) (bytes_of (holds p.rcfile)) []
+
+-- the names that the words use; none if these are refused
+abbrev pub names_used : (List ℕ → Entry) → Result Plan UsageFault → List (List ℕ)
+names_used holds (Ok p) = names_planned holds p
+names_used holds (Err fault) = []
