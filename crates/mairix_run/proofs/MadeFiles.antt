@@ -9,6 +9,7 @@ use Rattle.named_files.specs.Refusals.{HasCause, refusal_of}
 use Rattle.named_files.specs.declared.name_fault.NameFault.{NameFault}
 use Rattle.named_files.specs.declared.name_fault.NameFault.TheVariants.{NotNamed, NotSynced}
 use Rattle.named_files.specs.declared.refusal.Refusal.TheVariants as why
+use Rattle.mairix_run.specs.KeptMail.{IsNotReplaced}
 use Rattle.mairix_run.specs.MadeFiles.{IsCleared, IsRefusal, MakesFile, fault_of_refusal, unfit_name}
 use Rattle.run_faults.specs.declared.fault.Fault.TheVariants.{Out}
 use Rattle.mairix_run.specs.Stops.{IsStoppedAt}
@@ -21,32 +22,32 @@ pub ends_as_text : (r : Bool) (n s : List ℕ) → MatchBool r (HasSuffixMatch (
 ends_as_text r n s h = ends_text r n s h
 
 -- a name that doesn't fit is the first one
-pub refused_unfit : (unfit taken : Option (List ℕ)) (passing : List ℕ) (C : Type 0) (stopped : Stopped)
-    → IsRefusal unfit None passing ⊥ stopped → IsRefusal unfit taken passing C stopped
-refused_unfit (Some n) taken passing C (by.CannotOpen path) (inl h) = inl h
-refused_unfit None taken passing C (by.CannotOpen path) (inl h) = absurd cc
-refused_unfit unfit taken passing C (by.CannotOpen path) (inr h) = absurd h.2
-refused_unfit unfit taken passing C (by.Fault fault) h = h
+pub refused_unfit : (unfit taken : Option (List ℕ)) (passing name : List ℕ) (C : Type 0) (stopped : Stopped)
+    → IsRefusal unfit None passing name ⊥ stopped → IsRefusal unfit taken passing name C stopped
+refused_unfit (Some n) taken passing name C (by.CannotOpen path) (inl h) = inl h
+refused_unfit None taken passing name C (by.CannotOpen path) (inl h) = absurd cc
+refused_unfit unfit taken passing name C (by.CannotOpen path) (inr h) = absurd h.2
+refused_unfit unfit taken passing name C (by.Fault fault) h = h
 
--- if both names fit, a name of something special is the first one
+-- if both names fit, a name of something special is the first one, or the system didn't show what the name leads to
 pub refused_special : (unfit : Option (List ℕ)) (special free : Bool) (passing name : List ℕ) (C : Type 0)
-    (stopped : Stopped) → unfit ≡ None → IsRefusal None (if special then Some name else None) name ⊥ stopped
-    → IsRefusal unfit (if special then Some name else (if free then None else Some passing)) passing C stopped
-refused_special unfit true free passing name C (by.CannotOpen path) none (inl h) = rw none (inl h)
-refused_special unfit false free passing name C (by.CannotOpen path) none (inl h) = absurd cc
-refused_special unfit special free passing name C (by.CannotOpen path) none (inr h) = absurd h.2
+    (stopped : Stopped) → unfit ≡ None → IsNotReplaced name ((special ≡ true) ⊎ C) stopped
+    → IsRefusal unfit (if special then Some name else (if free then None else Some passing)) passing name C stopped
+refused_special unfit true free passing name C (by.CannotOpen path) none (at, inl is) = inl (rw none (ap Some (sym at)))
+refused_special unfit false free passing name C (by.CannotOpen path) none (at, inl is) = absurd cc
+refused_special unfit special free passing name C (by.CannotOpen path) none (at, inr can) = inr (none, inr at, can)
 refused_special unfit special free passing name C (by.Fault fault) none h = h
 
 -- then the run is stopped for the passing name
 pub refused_passing : (unfit : Option (List ℕ)) (special free : Bool) (passing name : List ℕ) (C : Type 0)
-    (stopped : Stopped) → unfit ≡ None → (special ≡ false) ⊎ C → (free ≡ false) ⊎ C → IsStoppedAt passing stopped
-    → IsRefusal unfit (if special then Some name else (if free then None else Some passing)) passing C stopped
+    (stopped : Stopped) → unfit ≡ None → special ≡ false → (free ≡ false) ⊎ C → IsStoppedAt passing stopped
+    → IsRefusal unfit (if special then Some name else (if free then None else Some passing)) passing name C stopped
 refused_passing unfit special free passing name C (by.Fault fault) none plain left at = at
-refused_passing unfit special free passing name C (by.CannotOpen path) none (inr can) left at = inr (none, at, can)
-refused_passing unfit special free passing name C (by.CannotOpen path) none plain (inr can) at = inr (none, at, can)
-refused_passing unfit true free passing name C (by.CannotOpen path) none (inl plain) (inl left) at = absurd cc
-refused_passing unfit false true passing name C (by.CannotOpen path) none (inl plain) (inl left) at = absurd cc
-refused_passing unfit false false passing name C (by.CannotOpen path) none (inl plain) (inl left) at =
+refused_passing unfit special free passing name C (by.CannotOpen path) none plain (inr can) at =
+    inr (none, inl at, can)
+refused_passing unfit true free passing name C (by.CannotOpen path) none plain (inl left) at = absurd cc
+refused_passing unfit false true passing name C (by.CannotOpen path) none plain (inl left) at = absurd cc
+refused_passing unfit false false passing name C (by.CannotOpen path) none plain (inl left) at =
     inl (rw none (ap Some (sym at)))
 
 -- ---- by which calls

@@ -83,20 +83,23 @@ module _ (holds : List ℕ → Entry) (apart : List ℕ → List ℕ → Bool) (
 
   abbrev Stops : Ending → Type 0
   Stops ended = IsTrouble names CanRefuse ReadsCanFail ended
-      ⊎ MakesFor (refused_name holds apart is_leftover work read name) CanRefuse IsMade ended
+      ⊎ MakesFor (refused_name holds apart is_leftover work read name) IsMade ended
 
   not-kept : (kept : Bool) (other : Option (List ℕ)) → kept ≡ false → (if kept then Some name else other) ≡ other
   not-kept true other is = absurd cc
   not-kept false other is = refl
 
-  -- the file can't be made
-  pub refused-stops : Contains names (passing_of name) → is_kept work (holds name) ≡ false → (stopped : Stopped)
-      → IsRefusal Unfit Taken (passing_of name) CanRefuse stopped → Stops (ending_of_stopped stopped)
-  refused-stops among new (by.CannotOpen path) (inl is) =
+  -- the file can't be made, and its name isn't that of mail
+  pub refused-stops : Contains names name → Contains names (passing_of name) → is_kept work (holds name) ≡ false
+      → (stopped : Stopped) → IsRefusal Unfit Taken (passing_of name) name CanRefuse stopped
+      → Stops (ending_of_stopped stopped)
+  refused-stops here there new (by.CannotOpen path) (inl is) =
       inr (inl (string_bytes path, not-kept (is_kept work (holds name)) (option_or Unfit Taken) new ∙ is, refl))
-  refused-stops among new (by.CannotOpen path) (inr is) =
-      inl (subst (λ n. Contains names n) (sym is.1) among, inl is.2)
-  refused-stops among new (by.Fault fault) is = inl is
+  refused-stops here there new (by.CannotOpen path) (inr (fit, inl at, can)) =
+      inl (subst (λ n. Contains names n) (sym at) there, inl can)
+  refused-stops here there new (by.CannotOpen path) (inr (fit, inr at, can)) =
+      inl (subst (λ n. Contains names n) (sym at) here, inl can)
+  refused-stops here there new (by.Fault fault) is = inl is
 
   kept-name : (kept : Bool) (other : Option (List ℕ)) → kept ≡ true → (if kept then Some name else other) ≡ Some name
   kept-name true other is = refl
@@ -114,33 +117,6 @@ module _ (holds : List ℕ → Entry) (apart : List ℕ → List ℕ → Bool) (
   ))
   mail-found among (by.CannotOpen path) (at, inr can) = inl (subst (λ n. Contains names n) (sym at) among, can)
 
-  -- only one of both names is refused
-  refused-among : Contains names name → Contains names (passing_of name) → (path : List ℕ)
-      → option_or Unfit Taken ≡ Some path → Contains names path
-  refused-among here there path is = by-tests (not (has_last_part name && are_all_apart apart read name))
-      (are_all_apart apart read (passing_of name) && apart name (passing_of name)) (is_special (holds name))
-      (is_open_to holds is_leftover (passing_of name)) is where
-        by-tests : (a b c d : Bool) → option_or (if a then Some name else (if b then None else Some (passing_of name)))
-            (if c then Some name else (if d then None else Some (passing_of name))) ≡ Some path → Contains names path
-        by-tests true b c d at = let one : name ≡ path = cc in subst (λ n. Contains names n) one here
-        by-tests false false c d at = let one : passing_of name ≡ path = cc in
-            subst (λ n. Contains names n) one there
-        by-tests false true true d at = let one : name ≡ path = cc in subst (λ n. Contains names n) one here
-        by-tests false true false false at = let one : passing_of name ≡ path = cc in
-            subst (λ n. Contains names n) one there
-        by-tests false true false true at = absurd cc
-
-  -- the file can't be made, and its name isn't that of mail, or that can't be seen
-  pub mail-or-refused : Contains names name → Contains names (passing_of name)
-      → (is_kept work (holds name) ≡ false) ⊎ CanRefuse → (stopped : Stopped)
-      → IsRefusal Unfit Taken (passing_of name) CanRefuse stopped → Stops (ending_of_stopped stopped)
-  mail-or-refused here there (inl new) stopped is = refused-stops there new stopped is
-  mail-or-refused here there (inr can) (by.CannotOpen path) (inl is) =
-      inl (refused-among here there (string_bytes path) is, inl can)
-  mail-or-refused here there (inr can) (by.CannotOpen path) (inr is) =
-      inl (subst (λ n. Contains names n) (sym is.1) there, inl can)
-  mail-or-refused here there (inr can) (by.Fault fault) is = inl is
-
   free-name : (kept special free : Bool) → kept ≡ false → Unfit ≡ None → special ≡ false → free ≡ true
       → (if kept then Some name else option_or Unfit
       (if special then Some name else (if free then None else Some (passing_of name)))) ≡ None
@@ -149,14 +125,12 @@ module _ (holds : List ℕ → Entry) (apart : List ℕ → List ℕ → Bool) (
   free-name false false false new fit plain is_free = absurd cc
   free-name false false true new fit plain is_free = rw fit refl
 
-  -- no name is refused, or the system didn't show what the name leads to
-  pub none-refused : (is_kept work (holds name) ≡ false) ⊎ CanRefuse → Unfit ≡ None
-      → (is_special (holds name) ≡ false) ⊎ CanRefuse → is_open_to holds is_leftover (passing_of name) ≡ true
-      → (refused_name holds apart is_leftover work read name ≡ None) ⊎ CanRefuse
-  none-refused (inr can) fit plain is_free = inr can
-  none-refused (inl new) fit (inr can) is_free = inr can
-  none-refused (inl new) fit (inl plain) is_free = inl (free-name (is_kept work (holds name)) (is_special (holds name))
-      (is_open_to holds is_leftover (passing_of name)) new fit plain is_free)
+  -- no name is refused
+  pub none-refused : is_kept work (holds name) ≡ false → Unfit ≡ None → is_special (holds name) ≡ false
+      → is_open_to holds is_leftover (passing_of name) ≡ true
+      → refused_name holds apart is_leftover work read name ≡ None
+  none-refused new fit plain is_free = free-name (is_kept work (holds name)) (is_special (holds name))
+      (is_open_to holds is_leftover (passing_of name)) new fit plain is_free
 
 -- ---- what the file has
 

@@ -117,7 +117,7 @@ module _ {D F S N L R O : Type 0} (f : FolderGhosts D F S N L R) (o : Ghosts O) 
       ≡ Some name
       → (old new : D) (out : O) (ended : Ending)
       → IsTrouble names f.can_refuse f.reads_can_fail ended
-      ⊎ MakesFor (refused_name (f.holds old) (f.apart old) (f.is_leftover old) work read name) f.can_refuse
+      ⊎ MakesFor (refused_name (f.holds old) (f.apart old) (f.is_leftover old) work read name)
       (Puts (f.can_refuse ⊎ f.writes_can_fail) (CannotRead f.can_refuse f.reads_can_fail) work (f.holds new name)) ended
       → KeepsOld work (f.holds old name) (f.holds new name) ended
       → All (λ n. f.holds new n ≡ f.holds old n) read
@@ -142,7 +142,7 @@ module _ {D F S N L R O : Type 0} (f : FolderGhosts D F S N L R) (o : Ghosts O) 
   pub ran-made : (names : List (List ℕ)) (task : Task) (name : List ℕ) → task.file ≡ Some name
       → (old new : D) (out : O) (ended : Ending)
       → IsTrouble names f.can_refuse f.reads_can_fail ended
-      ⊎ MakesFor (refused_name (f.holds old) (f.apart old) (f.is_leftover old) task.work task.read name) f.can_refuse
+      ⊎ MakesFor (refused_name (f.holds old) (f.apart old) (f.is_leftover old) task.work task.read name)
       (Puts (f.can_refuse ⊎ f.writes_can_fail) (CannotRead f.can_refuse f.reads_can_fail) task.work (f.holds new name))
       ended
       → KeepsOld task.work (f.holds old name) (f.holds new name) ended

@@ -44,12 +44,12 @@ abbrev pub taken_name : (List ℕ → Entry) → (List ℕ → Bool) → List �
 taken_name holds is_leftover passing name = if is_special (holds name) then Some name
     else (if is_open_to holds is_leftover passing then None else Some passing)
 
--- The run is stopped for the first name that is refused, or for the passing name because the system refused it, or for
+-- The run is stopped for the first name that is refused, or for one of both because the system refused a call, or for
 -- lack of memory.
-abbrev pub IsRefusal : Option (List ℕ) → Option (List ℕ) → List ℕ → Type 0 → Stopped → Type 0
-IsRefusal unfit taken passing CanRefuse (by.CannotOpen path) = (option_or unfit taken ≡ Some (string_bytes path))
-    ⊎ ((unfit ≡ None) × (string_bytes path ≡ passing) × CanRefuse)
-IsRefusal unfit taken passing CanRefuse (by.Fault fault) = fault ≡ Memory
+abbrev pub IsRefusal : Option (List ℕ) → Option (List ℕ) → List ℕ → List ℕ → Type 0 → Stopped → Type 0
+IsRefusal unfit taken passing name CanRefuse (by.CannotOpen path) = (option_or unfit taken ≡ Some (string_bytes path))
+    ⊎ ((unfit ≡ None) × ((string_bytes path ≡ passing) ⊎ (string_bytes path ≡ name)) × CanRefuse)
+IsRefusal unfit taken passing name CanRefuse (by.Fault fault) = fault ≡ Memory
 
 -- what a killed run left under the passing name is removed, or nothing is
 abbrev pub IsCleared : {D : Type 0} → (D → List ℕ → Bool → D → Type 0) → List ℕ → D → D → Type 0

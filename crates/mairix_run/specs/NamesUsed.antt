@@ -1,5 +1,5 @@
 -- Which names a run uses, by its words and by what names lead to. The system can refuse a call on each of them.
-use Rattle.std.specs.Prelude.{ℕ, List, [], ◌∷◌, ◌++◌, Option, None, Some, Result, Ok, Err, if◌then◌else◌}
+use Rattle.std.specs.Prelude.{ℕ, ◌||◌, List, [], ◌∷◌, ◌++◌, Option, None, Some, Result, Ok, Err, if◌then◌else◌}
 use Rattle.std.specs.Option.{option_map_or}
 use Rattle.mairix_options.specs.AnswerFiles.{answer_file}
 use Rattle.mairix_options.specs.Rcfile.{rc_of}
@@ -15,20 +15,19 @@ use Rattle.mairix_run.specs.WholeRuns.{passing_of}
 abbrev pub file_asked : Plan → Rc → Option (List ℕ)
 file_asked p rc = if is_index_run p then Some rc.database else answer_file p rc
 
--- the name that such a file has until it is whole
-abbrev pub passing_names : Option (List ℕ) → List (List ℕ)
-passing_names None = []
-passing_names (Some name) = passing_of name ∷ []
+-- both names of such a file: its own, and the one that it has until it is whole
+abbrev pub both_names : Option (List ℕ) → List (List ℕ)
+both_names None = []
+both_names (Some name) = name ∷ passing_of name ∷ []
 
--- the name of the index, which isn't used with `--once`
+-- the name of the index that is searched
 abbrev pub names_of_index : Plan → Rc → List (List ℕ)
-names_of_index p rc = if p.once then [] else rc.database ∷ []
+names_of_index p rc = if p.once || is_index_run p then [] else rc.database ∷ []
 
--- the names that a plan uses by an rcfile: those of the archives and of the index, and the passing name of the file
--- that
--- it makes
+-- the names that a plan uses by an rcfile: those of the archives, of the index that is searched, and of the file that it
+-- makes
 abbrev pub names_asked : Plan → Rc → List (List ℕ)
-names_asked p rc = rc.paths ++ (names_of_index p rc ++ passing_names (file_asked p rc))
+names_asked p rc = rc.paths ++ (names_of_index p rc ++ both_names (file_asked p rc))
 
 -- none if the rcfile is refused
 abbrev pub names_in : Plan → Result Rc RcFault → List (List ℕ)

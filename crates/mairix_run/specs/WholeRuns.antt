@@ -81,11 +81,10 @@ abbrev pub refused_name : (List ℕ → Entry) → (List ℕ → List ℕ → Bo
 refused_name holds apart is_leftover work read name = if is_kept work (holds name) then Some name
     else option_or (unfit_name apart read (passing_of name) name) (taken_name holds is_leftover (passing_of name) name)
 
--- The run ends because a name can't be had. A file is made only if there is no such name; or if the system refused to
--- show what a name leads to.
-abbrev pub MakesFor : Option (List ℕ) → Type 0 → (Ending → Type 0) → Ending → Type 0
-MakesFor refused CanRefuse IsMade ended = ((path : List ℕ) × (refused ≡ Some path) × (ended ≡ CannotOpen path))
-    ⊎ (((refused ≡ None) ⊎ CanRefuse) × IsMade ended)
+-- The run ends because a name can't be had. A file is made only if there is no such name.
+abbrev pub MakesFor : Option (List ℕ) → (Ending → Type 0) → Ending → Type 0
+MakesFor refused IsMade ended = ((path : List ℕ) × (refused ≡ Some path) × (ended ≡ CannotOpen path))
+    ⊎ ((refused ≡ None) × IsMade ended)
 
 -- ---- what the name of the file leads to
 
@@ -116,7 +115,7 @@ module _ {D F S N L R O : Type 0} (f : FolderGhosts D F S N L R) (o : Ghosts O) 
   DoesFor work None read old new out out' ended =
       Writes o handed_on (CannotRead f.can_refuse f.reads_can_fail) work out out' ended
   DoesFor work (Some name) read old new out out' ended = (out' ≡ out)
-      × MakesFor (refused_name (f.holds old) (f.apart old) (f.is_leftover old) work read name) f.can_refuse
+      × MakesFor (refused_name (f.holds old) (f.apart old) (f.is_leftover old) work read name)
       (Puts (f.can_refuse ⊎ f.writes_can_fail) (CannotRead f.can_refuse f.reads_can_fail) work (f.holds new name)) ended
 
   -- The run does its task, or ends by the first refusal. In trouble with one of the names it uses, it ends earlier, and

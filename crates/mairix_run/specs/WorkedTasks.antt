@@ -144,7 +144,7 @@ no_archive = record {
   words = codes "-f rc --once s:hello";
   names = one_archive;
   task = Err (CannotOpen (codes "b.mbox"));
-  used = mail_read ++ codes "hits.new" ∷ [];
+  used = mail_read ++ (codes "hits" ∷ codes "hits.new" ∷ []);
 }
 
 abbrev pub index_run : Row
@@ -191,7 +191,7 @@ to_mfolder = record {
   words = codes "-f rc s:hello";
   names = with_index;
   task = search (Some (codes "hits")) (stored (Ok (hello AsMbox)));
-  used = index_read ++ codes "hits.new" ∷ [];
+  used = index_read ++ (codes "hits" ∷ codes "hits.new" ∷ []);
 }
 
 abbrev pub to_name : Row
@@ -199,7 +199,7 @@ to_name = record {
   words = codes "-f rc -o out s:hello";
   names = with_index;
   task = search (Some (codes "out")) (stored (Ok (hello AsMbox)));
-  used = index_read ++ codes "out.new" ∷ [];
+  used = index_read ++ (codes "out" ∷ codes "out.new" ∷ []);
 }
 
 abbrev pub to_output : Row

@@ -22,16 +22,16 @@ const LOOKED_AT: usize = 131_072;
 ///
 /// # Errors
 ///
-/// `CannotOpen` if it does, and if the file can't be read, because then that is unknown; or lack of memory.
+/// `CannotOpen` if it does, and if the system doesn't show what has the name, or the file can't be read, because then that
+/// is unknown; or lack of memory.
 pub fn check_no_mail<F: Folder>(
     folder: &F,
     alloc: Global,
     reports: &mut F::Reports,
     name: &str,
 ) -> Result<(), Stopped>
-    // If the system refuses to show what has the name, that is taken for no mail.
     ensures no_mail { OnOk result (F.agree reports.new ≡ true
-        → (begins_as_mail (F.holds folder.now name.now) ≡ false) ⊎ F.can_refuse) }
+        → begins_as_mail (F.holds folder.now name.now) ≡ false) }
     ensures stopped { IfErr result (λ stopped. F.agree reports.new ≡ true → IsNotReplaced name.now
         ((begins_as_mail (F.holds folder.now name.now) ≡ true) ⊎ (F.can_refuse ⊎ F.reads_can_fail))
         stopped) }
@@ -41,7 +41,7 @@ pub fn check_no_mail<F: Folder>(
     match folder.look(alloc, reports, name) {
         Ok(Look::File(_)) => {}
         Ok(_) => return Ok(()),
-        Err(Refusal::Refused) => return Ok(()),
+        Err(Refusal::Refused) => return Err(Stopped::at(alloc, name)),
         Err(Refusal::Memory) => return Err(Stopped::Fault(Fault::Memory)),
     }
     match is_mail(folder, alloc, reports, name) {

@@ -4,6 +4,7 @@ ghost use Rattle.named_files.specs.Crashes.{LeavesNoMoreWhere, LeavesOnly};
 ghost use Rattle.named_files.specs.Entries.{Entry, File, Leads, SameWhere};
 ghost use Rattle.named_files.specs.Refusals.{HasCause, refusal_of};
 ghost use Rattle.named_files.specs.TakingNames.{Replaces};
+ghost use Rattle.mairix_run.specs.KeptMail.{IsNotReplaced};
 ghost use Rattle.mairix_run.specs.MadeFiles.{IsRefusal, IsSettled, MakesFile, fault_of_refusal, SettlesFile, has_last_part, is_open_to, is_special, taken_name, unfit_name};
 ghost use Rattle.mairix_run.specs.ReadFiles.{are_all_apart, names_read};
 ghost use Rattle.run_faults.specs.declared.fault.Fault.TheVariants.{Out};
@@ -27,7 +28,7 @@ pub fn passing_name(alloc: Global, name: &str) -> Result<String, AllocError>
 ///
 /// `CannotOpen`, with nothing touched, if the name has no last part; if another file under one of both names would change
 /// one that the run reads; if another file under the passing name would change what the name leads to; and if the name
-/// leads to a device, a pipe or a socket. The same, with at most what a killed run left removed, if no file can be made
+/// leads to a device, a pipe or a socket, or the system doesn't show what it leads to. The same, with at most what a killed run left removed, if no file can be made
 /// under the passing name: another run is making its own there, or anything is there that no killed run left, or the
 /// system refuses. Otherwise lack of memory.
 #[tactic(auto, using(crate::proofs::MadeFiles::apart_of_fit, crate::proofs::MadeFiles::refused_unfit, crate::proofs::MadeFiles::refused_special, crate::proofs::MadeFiles::refused_passing))]
@@ -47,14 +48,14 @@ pub fn create_file<F: Folder>(
     ensures names_apart { OnOk result (F.agree reports.new ≡ true
         → F.apart folder.old name.now passing.now ≡ true) }
     ensures plain { OnOk result (F.agree reports.new ≡ true
-        → (is_special (F.holds folder.old name.now) ≡ false) ⊎ F.can_refuse) }
+        → is_special (F.holds folder.old name.now) ≡ false) }
     ensures free { OnOk result (F.agree reports.new ≡ true
         → is_open_to (F.holds folder.old) (F.is_leftover folder.old) passing.now ≡ true) }
     // It doesn't give up by itself, and names the path that is refused.
     ensures refused { IfErr result (λ stopped. F.agree reports.new ≡ true → IsRefusal
         (unfit_name (F.apart folder.old) (names_read read.now) passing.now name.now)
         (taken_name (F.holds folder.old) (F.is_leftover folder.old) passing.now name.now)
-        passing.now F.can_refuse stopped) }
+        passing.now name.now F.can_refuse stopped) }
     // If a name is refused, whatever it leads to, nothing is touched.
     ensures untouched { OnErr result (F.agree reports.new ≡ true
         → (unfit_name (F.apart folder.old) (names_read read.now) passing.now name.now ≡ None)
@@ -106,7 +107,7 @@ fn check_names<F: Folder>(
         → unfit_name (F.apart folder.now) (names_read read.now) passing.now name.now ≡ None) }
     ensures err { IfErr result (λ stopped. F.agree reports.new ≡ true → IsRefusal
         (unfit_name (F.apart folder.now) (names_read read.now) passing.now name.now)
-        None passing.now ⊥ stopped) }
+        None passing.now name.now ⊥ stopped) }
     ensures earlier { F.agree reports.new ≡ true → F.agree reports.old ≡ true }
     ensures right { F.reports_are_right → F.agree reports.new ≡ F.agree reports.old }
 {
@@ -154,8 +155,8 @@ fn has_last_part(name: &str) -> bool
     !name.is_empty() && !name.ends_with("/")
 }
 
-/// Checks that a name doesn't lead to a device, a pipe or a socket. If the system doesn't show what it leads to, it
-/// counts as none of these.
+/// Checks that a name doesn't lead to a device, a pipe or a socket. It is refused too if the system doesn't show what it
+/// leads to.
 fn check_not_special<F: Folder>(
     folder: &F,
     alloc: Global,
@@ -163,17 +164,17 @@ fn check_not_special<F: Folder>(
     name: &str,
 ) -> Result<(), Stopped>
     ensures ok { OnOk result (F.agree reports.new ≡ true
-        → (is_special (F.holds folder.now name.now) ≡ false) ⊎ F.can_refuse) }
-    ensures err { IfErr result (λ stopped. F.agree reports.new ≡ true → IsRefusal None
-        (if is_special (F.holds folder.now name.now) then Some name.now else None)
-        name.now ⊥ stopped) }
+        → is_special (F.holds folder.now name.now) ≡ false) }
+    ensures err { IfErr result (λ stopped. F.agree reports.new ≡ true → IsNotReplaced name.now
+        ((is_special (F.holds folder.now name.now) ≡ true) ⊎ F.can_refuse) stopped) }
     ensures earlier { F.agree reports.new ≡ true → F.agree reports.old ≡ true }
     ensures right { F.reports_are_right → F.agree reports.new ≡ F.agree reports.old }
 {
     match folder.look(alloc, reports, name) {
         Ok(Look::Other) => Err(Stopped::at(alloc, name)),
+        Ok(_) => Ok(()),
+        Err(Refusal::Refused) => Err(Stopped::at(alloc, name)),
         Err(Refusal::Memory) => Err(Stopped::Fault(Fault::Memory)),
-        _ => Ok(()),
     }
 }
 

@@ -46,7 +46,7 @@ pub(crate) fn replace_index<F: Folder>(
         IsTrouble (name.now ∷ passing_of name.now ∷ []) F.can_refuse F.reads_can_fail
         (ending_of result)
         ⊎ MakesFor (refused_name (F.holds folder.old) (F.apart folder.old)
-        (F.is_leftover folder.old) work (names_read read.now) name.now) F.can_refuse
+        (F.is_leftover folder.old) work (names_read read.now) name.now)
         (Puts (F.can_refuse ⊎ F.writes_can_fail) (CannotRead F.can_refuse F.reads_can_fail) work
         (F.holds folder.new name.now))
         (ending_of result) }

@@ -4,7 +4,7 @@ ghost use Rattle.std.specs.Prelude.{◌≡◌, ◌≢◌, ◌⊎◌, ◌<◌, �
 ghost use Rattle.mail_index.specs.Tables.{IsPath};
 ghost use Rattle.mairix_options.specs.AnswerFiles.{answer_file};
 ghost use Rattle.mairix_options.specs.CommandLine.{plan as plan_asked};
-ghost use Rattle.mairix_run.specs.NamesUsed.{names_asked, names_planned, names_used, passing_names};
+ghost use Rattle.mairix_run.specs.NamesUsed.{names_asked, names_planned, names_used, both_names};
 ghost use Rattle.mairix_run.specs.Reports.{ReportsEnding};
 ghost use Rattle.mairix_run.specs.Stops.{Ending, ending_of, ending_of_stopped};
 ghost use Rattle.mairix_run.specs.Tasks.{files_at, is_index_run, search_stored_task, task_of, task_of_plan, task_of_rc};
@@ -264,7 +264,7 @@ fn search_stored<F: Folder, O: Stream>(
     ensures ran { (bytes : List (List ℕ))
         → files_at (F.holds folder.old) asked.entry.now.rc.now.paths ≡ Ok bytes
         → F.agree reports.new ≡ true → Ran F.Folder O.Out O.handed_on
-        (asked.entry.now.rc.now.database ∷ passing_names
+        (asked.entry.now.rc.now.database ∷ both_names
         (answer_file asked.entry.now.plan.now asked.entry.now.rc.now))
         (search_stored_task (F.holds folder.old) (asks asked.entry.now.words.now asked.entry.now.text.now asked.entry.now.now)
         asked.entry.now.plan.now asked.entry.now.rc.now bytes)

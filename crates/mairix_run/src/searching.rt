@@ -4,7 +4,7 @@ ghost use Rattle.std.specs.Prelude.{◌≡◌, ◌⊎◌, ◌<◌, ◌≤◌, �
 ghost use Rattle.std.specs.Option.{option_map};
 ghost use Rattle.mairix_options.specs.AnswerFiles.{answer_file as answer_file_of};
 ghost use Rattle.mairix_run.specs.Inside.Running.{Ran};
-ghost use Rattle.mairix_run.specs.NamesUsed.{passing_names};
+ghost use Rattle.mairix_run.specs.NamesUsed.{both_names};
 ghost use Rattle.mairix_run.specs.ReadFiles.{names_read};
 ghost use Rattle.mairix_run.specs.Stops.{ending_of};
 ghost use Rattle.mairix_run.specs.Tasks.{files_at, search_task, search_work};
@@ -54,7 +54,7 @@ pub(crate) fn run_search<F: Folder, O: Stream>(
     ensures ran { (bytes : List (List ℕ))
         → files_at (F.holds folder.old) asked.entry.now.rc.now.paths ≡ Ok bytes
         → F.agree reports.new ≡ true → Ran F.Folder O.Out O.handed_on
-        (passing_names (answer_file_of asked.entry.now.plan.now asked.entry.now.rc.now))
+        (both_names (answer_file_of asked.entry.now.plan.now asked.entry.now.rc.now))
         (Ok (search_task asked.entry.now.plan.now asked.entry.now.rc.now (search_work
         (asks asked.entry.now.words.now asked.entry.now.text.now asked.entry.now.now)
         (option_map (λ index. index.now) index.entry) bytes)))
@@ -136,9 +136,9 @@ fn make_answer_file<F: Folder>(
         → F.agree reports.new ≡ true
         → let work = search_work (asks search.now.words.now search.now.text.now search.now.moment)
         (option_map (λ index. index.now) search.now.index) bytes in
-        IsTrouble (passing_of name.now ∷ []) F.can_refuse F.reads_can_fail (ending_of result)
+        IsTrouble (name.now ∷ passing_of name.now ∷ []) F.can_refuse F.reads_can_fail (ending_of result)
         ⊎ MakesFor (refused_name (F.holds folder.old) (F.apart folder.old)
-        (F.is_leftover folder.old) work (names_read read.now) name.now) F.can_refuse
+        (F.is_leftover folder.old) work (names_read read.now) name.now)
         (Puts (F.can_refuse ⊎ F.writes_can_fail) (CannotRead F.can_refuse F.reads_can_fail) work
         (F.holds folder.new name.now))
         (ending_of result) }

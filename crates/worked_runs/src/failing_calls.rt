@@ -23,12 +23,9 @@ const RUNS: [(&str, &str, &[(u64, &str)]); 4] = [
             (1, "exit 0 m.idx.new m.idx"),
             (2, "mairix: cannot open rc|exit 4"),
             (2, "mairix: cannot open m.mbox|exit 4"),
-            // What can't be looked at counts as no mail.
-            (1, "exit 0 m.idx.new m.idx"),
-            (3, "mairix: cannot open m.idx|exit 4"),
+            (4, "mairix: cannot open m.idx|exit 4"),
             (5, "mairix: out of memory|exit 5"),
-            // Nor does it count as a device.
-            (1, "exit 0 m.idx.new m.idx"),
+            (1, "mairix: cannot open m.idx|exit 4"),
             (2, "mairix: cannot open m.idx.new|exit 4"),
             (1, "mairix: cannot open m.idx.new|exit 4 m.idx.new"),
             (3, "mairix: archive 1: read failed|exit 4 m.idx.new"),
@@ -50,7 +47,7 @@ const RUNS: [(&str, &str, &[(u64, &str)]); 4] = [
             (1, "exit 0 hits.new hits"),
             (2, "mairix: cannot open m.idx|exit 4"),
             (7, "mairix: out of memory|exit 5"),
-            (1, "exit 0 hits.new hits"),
+            (1, "mairix: cannot open hits|exit 4"),
             (2, "mairix: cannot open hits.new|exit 4"),
             (1, "mairix: cannot open hits.new|exit 4 hits.new"),
             (5, "mairix: archive read failed|exit 4 hits.new"),

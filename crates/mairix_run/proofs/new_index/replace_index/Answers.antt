@@ -9,7 +9,7 @@ use Rattle.run_faults.specs.Faults.{fault_in, is_failed_out}
 use Rattle.mairix_run.proofs.MadeRuns.{all-after, files-same, fit-same, made-settled-keeps, made-settled-leaves}
 use Rattle.mairix_run.proofs.MadeRuns.{made-settled-read}
 use Rattle.mairix_run.proofs.MadeRuns.{none-made-keeps, none-made-leaves, none-made-read}
-use Rattle.mairix_run.proofs.MakingRuns.{mail-found, mail-or-refused, none-refused, puts-settled}
+use Rattle.mairix_run.proofs.MakingRuns.{mail-found, none-refused, puts-settled, refused-stops}
 use Rattle.mairix_run.proofs.NamesUsed.{contains-first, contains-more}
 use Rattle.mairix_run.proofs.Written.{counted-failure, indexed-written, silent-of}
 use Rattle.mairix_run.specs.MadeFiles.{IsRefusal, is_open_to, taken_name, unfit_name}
@@ -42,14 +42,14 @@ returns-in-Err-create_file-clause-run g c = λ bytes files agree.
     let work = Index (mboxes (map string_bytes c.args.read.now.archives.now) bytes) in
     let same : passing_of name ≡ c.as_str-passing.result.now =
     sym (c.as_str-passing.ensures.value ∙ c.in_ok-passing.ensures) in
-    mail-or-refused (F.holds old) (F.apart old) (F.is_leftover old) work read name
+    refused-stops (F.holds old) (F.apart old) (F.is_leftover old) work read name
     (name ∷ passing_of name ∷ []) F.can_refuse F.reads_can_fail (Puts (F.can_refuse ⊎ F.writes_can_fail)
     (CannotRead F.can_refuse F.reads_can_fail) work (F.holds c.create_file.new.folder name))
     (contains-first name (passing_of name ∷ []))
     (contains-more name (passing_of name) (passing_of name ∷ []) (contains-first (passing_of name) []))
     (c.in_default.ensures.no_mail (c.in-Err-create_file.ensures.earlier agree)) c.in-Err-create_file.stopped
     (subst (λ p. IsRefusal (unfit_name (F.apart old) read p name) (taken_name (F.holds old) (F.is_leftover old) p
-    name) p
+    name) p name
     F.can_refuse c.in-Err-create_file.stopped) (sym same) (c.in-Err-create_file.ensures.refused agree))
 
 pub returns-in-Err-create_file-clause-read : goal.returns-in-Err-create_file-clause-read

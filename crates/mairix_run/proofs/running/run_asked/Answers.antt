@@ -15,7 +15,7 @@ use Rattle.mairix_run.proofs.NamesUsed.{archives-asked, new-index-asked, once-as
 use Rattle.mairix_run.proofs.RunParts.{ran-ended, ran-made, ran-wider}
 use Rattle.mairix_run.proofs.RunStages.{archives-end, task-index, task-once, task-stored}
 use Rattle.mairix_run.specs.Inside.Running.{Ran}
-use Rattle.mairix_run.specs.NamesUsed.{names_asked, passing_names}
+use Rattle.mairix_run.specs.NamesUsed.{names_asked, both_names}
 use Rattle.mairix_run.specs.Stops.{ending_of, ending_of_stopped}
 use Rattle.mairix_run.specs.Tasks.{files_at, index_task, names_indexed, search_stored_task, search_task, task_of_rc}
 use Rattle.mairix_run.specs.Tasks.{task_over}
@@ -47,7 +47,7 @@ returns-then-is_index_run-clause-ran g c = λ agree.
     λ i. c.as_str.ensures i ∷ c.as_slice-then-is_index_run.ensures i in
     let made = subst (λ (paths : List (List ℕ)). IsTrouble both F.can_refuse F.reads_can_fail ended
     ⊎ MakesFor (refused_name (F.holds old) (F.apart old) (F.is_leftover old) (Index (mboxes paths bytes))
-    (c.as_str.result.now ∷ map string_bytes archives) name) F.can_refuse
+    (c.as_str.result.now ∷ map string_bytes archives) name)
     (Puts (F.can_refuse ⊎ F.writes_can_fail) (CannotRead F.can_refuse F.reads_can_fail) (Index (mboxes paths bytes))
     (F.holds new name)) ended)
     c.as_slice-then-is_index_run.ensures (c.replace_index.ensures.run bytes known agree) in
@@ -63,7 +63,7 @@ returns-then-is_index_run-clause-ran g c = λ agree.
     c.args.out.now ended
     (subst (λ (r : List (List ℕ)). IsTrouble both F.can_refuse F.reads_can_fail ended
     ⊎ MakesFor (refused_name (F.holds old) (F.apart old) (F.is_leftover old) (Index (mboxes rc.paths bytes)) r name)
-    F.can_refuse (Puts (F.can_refuse ⊎ F.writes_can_fail) (CannotRead F.can_refuse F.reads_can_fail)
+    (Puts (F.can_refuse ⊎ F.writes_can_fail) (CannotRead F.can_refuse F.reads_can_fail)
     (Index (mboxes rc.paths bytes)) (F.holds new name)) ended)
     same
     made)
@@ -92,7 +92,7 @@ returns-then-plan-clause-ran g c = λ agree.
     subst (λ t. Ran F g.O.Out g.O.Stream.handed_on (names_asked p rc) t old c.run_search.new.folder c.args.out.now
     c.run_search.new.out (ending_of c.run_search.result))
     (sym (task-once (F.holds old) (asks asked.words.now asked.text.now asked.now) p rc found.0 files c.if-plan.true))
-    (ran-wider F g.O.Out g.O.Stream.handed_on (passing_names (answer_file p rc)) (names_asked p rc)
+    (ran-wider F g.O.Out g.O.Stream.handed_on (both_names (answer_file p rc)) (names_asked p rc)
     (once-asked p rc c.if-plan.true) (Ok task) old c.run_search.new.folder c.args.out.now c.run_search.new.out
     (ending_of c.run_search.result) (c.run_search.ensures.ran found.0 files agree))
 
@@ -162,6 +162,6 @@ returns-clause-ran g c = λ agree.
     let task = search_stored_task (F.holds old) wanted p rc found.0 in
     subst (λ t. Ran F g.O.Out g.O.Stream.handed_on (names_asked p rc) t old run.new.folder c.args.out.now run.new.out
     (ending_of run.result)) (sym (task-stored (F.holds old) wanted p rc found.0 files new-index c.if-plan.false))
-    (ran-wider F g.O.Out g.O.Stream.handed_on (rc.database ∷ passing_names (answer_file p rc)) (names_asked p rc)
+    (ran-wider F g.O.Out g.O.Stream.handed_on (rc.database ∷ both_names (answer_file p rc)) (names_asked p rc)
     (stored-asked p rc new-index c.if-plan.false) task old run.new.folder c.args.out.now run.new.out
     (ending_of run.result) (run.ensures.ran found.0 files agree))

@@ -11,7 +11,7 @@ use Rattle.mairix_run.proofs.RunParts.{ran-ended, ran-wider}
 use Rattle.mairix_run.proofs.RunStages.{Ends, given-ok, read-fails}
 use Rattle.mairix_run.specs.Inside.Running.{Ran}
 use Rattle.mairix_run.specs.IndexReads.{IsIndexRead}
-use Rattle.mairix_run.specs.NamesUsed.{passing_names}
+use Rattle.mairix_run.specs.NamesUsed.{both_names}
 use Rattle.mairix_run.specs.Stops.{Ending, ending_of, ending_of_stopped}
 use Rattle.mairix_run.specs.Stops.Ending.{CannotOpen}
 use Rattle.mairix_run.specs.Tasks.{Task, search_stored_task, search_task}
@@ -38,7 +38,7 @@ returns-clause-ran g c = λ bytes files agree.
     let is : IsIndexRead all c.as_slice.result.now =
     subst (λ b. IsIndexRead all b) (sym c.as_slice.ensures.value) read.1 in
     let ended = ending_of c.run_search.result in
-    let names = passing_names (answer_file p rc) in
+    let names = both_names (answer_file p rc) in
     let ran : Ran F g.O.Out g.O.Stream.handed_on names (Ok (search_task p rc (SearchStored wanted all bytes))) old
     c.run_search.new.folder c.args.out.now c.run_search.new.out ended =
     ran-alike wanted c.as_slice.result.now all bytes (alike-read wanted all c.as_slice.result.now bytes is)
@@ -66,7 +66,7 @@ returns-in-Err-clause-ran g c = λ bytes files agree.
     let old = c.args.folder.now in
     let wanted = asks asked.words.now asked.text.now asked.now in
     let path = c.as_str-database.result.now in
-    let made = passing_names (answer_file p rc) in
+    let made = both_names (answer_file p rc) in
     let names = rc.database ∷ made in
     let ended = ending_of_stopped c.in-Err.stopped in
     let next : List ℕ → Result Task Ending = λ index. Ok (search_task p rc (SearchStored wanted index bytes)) in

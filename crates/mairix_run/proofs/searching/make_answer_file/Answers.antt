@@ -10,7 +10,7 @@ use Rattle.mairix_run.proofs.MadeRuns.{all-after, files-same, fit-same, made-set
 use Rattle.mairix_run.proofs.MadeRuns.{made-settled-read}
 use Rattle.mairix_run.proofs.MadeRuns.{none-made-keeps, none-made-leaves, none-made-read}
 use Rattle.mairix_run.proofs.MakingRuns.{none-refused, puts-settled, refused-stops, search-not-kept}
-use Rattle.mairix_run.proofs.NamesUsed.{contains-first}
+use Rattle.mairix_run.proofs.NamesUsed.{contains-first, contains-more}
 use Rattle.mairix_run.proofs.Written.{counted-failure, few-or-many, searched-written, too-many-searched}
 use Rattle.mairix_run.specs.MadeFiles.{IsRefusal, is_open_to, taken_name, unfit_name}
 use Rattle.mairix_run.specs.ReadFiles.{names_read}
@@ -33,13 +33,14 @@ returns-in-Err-clause-run g c = λ bytes files agree.
     let same : passing_of name ≡ c.as_str-passing.result.now =
     sym (c.as_str-passing.ensures.value ∙ c.in_ok-passing.ensures) in
     refused-stops (F.holds old) (F.apart old) (F.is_leftover old) (search_work wanted index bytes) read name
-    (passing_of name ∷ []) F.can_refuse
+    (name ∷ passing_of name ∷ []) F.can_refuse
     F.reads_can_fail (Puts (F.can_refuse ⊎ F.writes_can_fail) (CannotRead F.can_refuse F.reads_can_fail)
     (search_work wanted index bytes)
-    (F.holds c.create_file.new.folder name)) (contains-first (passing_of name) [])
+    (F.holds c.create_file.new.folder name)) (contains-first name (passing_of name ∷ []))
+    (contains-more name (passing_of name) (passing_of name ∷ []) (contains-first (passing_of name) []))
     (search-not-kept wanted index bytes (F.holds old name)) c.in-Err.stopped
     (subst (λ p. IsRefusal (unfit_name (F.apart old) read p name) (taken_name (F.holds old) (F.is_leftover old) p
-    name) p
+    name) p name
     F.can_refuse c.in-Err.stopped) (sym same) (c.in-Err.ensures.refused agree))
 
 pub returns-in-Err-clause-read : goal.returns-in-Err-clause-read
@@ -137,9 +138,9 @@ returns-clause-run g c = λ bytes files agree.
     (F.holds c.settle_file.new.folder name) written c.settle_file.ensures.status c.settle_file.ensures.refused
     c.settle_file.ensures.named in
     inr (inr (
-      none-refused (F.holds old) (F.apart old) (F.is_leftover old) work read name (passing_of name ∷ []) F.can_refuse
-          F.reads_can_fail (Puts OutFails ReadFails work (F.holds c.settle_file.new.folder name))
-          (inl (search-not-kept wanted (option_map (λ i. i.now) c.args.search.now.index) bytes (F.holds old name))) fit
+      none-refused (F.holds old) (F.apart old) (F.is_leftover old) work read name (name ∷ passing_of name ∷ [])
+          F.can_refuse F.reads_can_fail (Puts OutFails ReadFails work (F.holds c.settle_file.new.folder name))
+          (search-not-kept wanted (option_map (λ i. i.now) c.args.search.now.index) bytes (F.holds old name)) fit
           (c.in-Ok.ensures.plain made) free,
       subst (λ ended. Puts OutFails ReadFails work (F.holds c.settle_file.new.folder name) ended) (sym
           c.status_or_stopped.ensures) puts,

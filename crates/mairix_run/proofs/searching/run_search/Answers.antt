@@ -8,7 +8,7 @@ use Rattle.named_archives.specs.Progress.{CannotRead}
 use Rattle.mairix_run.proofs.FilesAt.{files-known}
 use Rattle.mairix_run.proofs.RunParts.{ran-made, ran-printed}
 use Rattle.mairix_run.specs.Inside.Running.{Ran}
-use Rattle.mairix_run.specs.NamesUsed.{passing_names}
+use Rattle.mairix_run.specs.NamesUsed.{both_names}
 use Rattle.mairix_run.specs.Stops.{ending_of}
 use Rattle.mairix_run.specs.Tasks.{files_at, names_searched, search_task, search_work}
 use Rattle.mairix_run.specs.WholeRuns.{IsTrouble, MakesFor, Puts, passing_of, refused_name}
@@ -36,12 +36,12 @@ returns-in-Some-clause-ran g c = λ bytes files agree.
     let known : files_of (F.holds old) paths ≡ map Some bytes =
     files-known (F.holds old) paths bytes (ap (files_at (F.holds old)) c.as_slice-paths.ensures ∙ files) in
     let ended = ending_of c.make_answer_file.result in
-    let names = passing_of name ∷ [] in
-    subst (λ (file : Option (List ℕ)). Ran F g.O.Out g.O.Stream.handed_on (passing_names file)
+    let names = name ∷ passing_of name ∷ [] in
+    subst (λ (file : Option (List ℕ)). Ran F g.O.Out g.O.Stream.handed_on (both_names file)
     (Ok (search_task p rc work)) old new c.args.out.now c.args.out.now ended) (sym some)
     (ran-made F g.O.Out g.O.Stream.handed_on names (search_task p rc work) name some old new c.args.out.now ended
     (subst (λ (r : List (List ℕ)). IsTrouble names F.can_refuse F.reads_can_fail ended
-    ⊎ MakesFor (refused_name (F.holds old) (F.apart old) (F.is_leftover old) work r name) F.can_refuse
+    ⊎ MakesFor (refused_name (F.holds old) (F.apart old) (F.is_leftover old) work r name)
     (Puts (F.can_refuse ⊎ F.writes_can_fail) (CannotRead F.can_refuse F.reads_can_fail) work (F.holds new name)) ended)
     same
     (c.make_answer_file.ensures.run bytes known agree))
@@ -62,7 +62,7 @@ returns-in-None-clause-ran g c = λ bytes files agree.
     bytes in
     let known : files_of (F.holds old) paths ≡ map Some bytes =
     files-known (F.holds old) paths bytes (ap (files_at (F.holds old)) c.as_slice-paths.ensures ∙ files) in
-    ran-printed F g.O.Out g.O.Stream.handed_on (passing_names (answer_file asked.plan.now asked.rc.now))
+    ran-printed F g.O.Out g.O.Stream.handed_on (both_names (answer_file asked.plan.now asked.rc.now))
     (search_task asked.plan.now asked.rc.now work)
     (sym c.in-Ok.ensures ∙ c.in-None.is) old c.args.out.now c.print_answer.new.out (ending_of c.print_answer.result)
     (g.met.F.Folder.only_now old) (c.print_answer.ensures.run bytes known agree)
