@@ -1,5 +1,6 @@
 -- Which bytes of a file are read where an index is looked for.
 use Rattle.std.specs.Prelude.{◌≡◌, ◌⊎◌, ℕ, Bool, true, false, List, take, Option, Some, IsSome}
+use Rattle.mail_index.specs.Places.{least_size}
 use Rattle.mail_index.specs.Faults.{IsFirstFault}
 use Rattle.mail_index.specs.declared.view.fault.IndexFault.{IndexFault}
 use Rattle.mail_index.specs.declared.view.fault.IndexFault.TheVariants.{TooShort, BadMagic, BadVersion, BadDigest}
@@ -20,7 +21,7 @@ IsRefusedEarly bytes = (fault : IndexFault) × (seen_early fault ≡ true) × Is
 -- What is read of a file with the bytes `all`: the first 80 bytes, if they show that it is no index, or of an unknown
 -- version; otherwise all.
 abbrev pub IsIndexRead : List ℕ → List ℕ → Type 0
-IsIndexRead all bytes = (IsRefusedEarly all × (bytes ≡ take 80 all)) ⊎ ((¬ IsRefusedEarly all) × (bytes ≡ all))
+IsIndexRead all bytes = (IsRefusedEarly all × (bytes ≡ take least_size all)) ⊎ ((¬ IsRefusedEarly all) × (bytes ≡ all))
 
 -- the same of a source, if something is known of it after it was read
 abbrev pub IsKnownRead : Option (List ℕ) → Option (List ℕ) → List ℕ → Type 0
