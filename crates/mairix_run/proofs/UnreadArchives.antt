@@ -17,7 +17,7 @@ use Rattle.run_faults.specs.declared.fault.Fault.TheVariants.{Device, Out}
 use Rattle.run_faults.specs.declared.fault.Fault.TheVariants.{Memory, TooMany}
 use Rattle.mairix_tool.specs.Replies.{Answer, IsConsistent}
 use Rattle.mairix_tool.specs.declared.reply.Reply.{Reply}
-use Rattle.mairix_run.specs.Answered.{AnswersBy, IsSearchFaultBy, is_unread, or_lack_of_memory}
+use Rattle.mairix_run.specs.Answered.{AnswersBy, IsSearchFaultBy, is_unread, by_memory}
 
 -- the faults of an archive that couldn't be read
 unread-cases : (P : Fault → Type 0) → ((n : ℕ) → P (Archive n Unread)) → P Device → (fault : Fault)
@@ -41,7 +41,7 @@ unread-cases P source archives TooMany is = absurd cc
 
 module _ (P : Result ℕ Fault → Type 0) (source : (n : ℕ) → P (Err (Archive n Unread)) → P (Err Memory))
     (archives : P (Err Device) → P (Err Memory)) where
-  by-memory : (lacks : Bool) (r : Result ℕ Fault) → P r → P (or_lack_of_memory lacks r)
+  by-memory : (lacks : Bool) (r : Result ℕ Fault) → P r → P (by_memory lacks r)
   by-memory lacks (Ok status) is = is
   by-memory false (Err fault) is = is
   by-memory true (Err fault) is = by-unread (is_unread (Some fault)) refl where
@@ -50,12 +50,12 @@ module _ (P : Result ℕ Fault → Type 0) (source : (n : ℕ) → P (Err (Archi
     by-unread false unread = is
 
   -- what is so of what was written is so of this
-  pub with-memory : (lacks : Bool) (r result : Result ℕ Fault) → result ≡ or_lack_of_memory lacks r → P r → P result
+  pub with-memory : (lacks : Bool) (r result : Result ℕ Fault) → result ≡ by_memory lacks r → P r → P result
   with-memory lacks r result made is = subst P (sym made) (by-memory lacks r is)
 
 -- an answer, or a front of one
 pub answers-memory : (Is : Answer → Type 0) (old new : Option (List ℕ)) (lacks : Bool) (r result : Result ℕ Fault)
-    → result ≡ or_lack_of_memory lacks r → AnswersBy Is r old new → AnswersBy Is result old new
+    → result ≡ by_memory lacks r → AnswersBy Is r old new → AnswersBy Is result old new
 answers-memory Is old new = with-memory (λ r. AnswersBy Is r old new) (λ n h. h) (λ h. h)
 
 -- lack of memory is a fault of any search
@@ -77,23 +77,23 @@ module _ (Cause : Type 0) (lacks : Bool) (r : Result ℕ Fault)
       (λ same. archives same not) fault unread is
   by-fault fault is false unread not = tt
 
-  by-lack : (fault : Fault) → r ≡ Err fault → (b : Bool) → lacks ≡ b → HasCause (or_lack_of_memory b (Err fault))
+  by-lack : (fault : Fault) → r ≡ Err fault → (b : Bool) → lacks ≡ b → HasCause (by_memory b (Err fault))
   by-lack fault is false not = by-fault fault is (is_unread (Some fault)) refl not
   by-lack fault is true has = when (is_unread (Some fault)) refl where
     when : (b : Bool) → is_unread (Some fault) ≡ b → HasCause (Err (if b then Memory else fault))
     when true unread = tt
     when false unread = subst (λ b. OnTrue b Cause) (sym unread) tt
 
-  by-result : (one : Result ℕ Fault) → r ≡ one → HasCause (or_lack_of_memory lacks one)
+  by-result : (one : Result ℕ Fault) → r ≡ one → HasCause (by_memory lacks one)
   by-result (Ok status) is = tt
   by-result (Err fault) is = by-lack fault is lacks refl
 
-  pub unread-cause : (result : Result ℕ Fault) → result ≡ or_lack_of_memory lacks r → HasCause result
+  pub unread-cause : (result : Result ℕ Fault) → result ≡ by_memory lacks r → HasCause result
   unread-cause result made = subst HasCause (sym made) (by-result r refl)
 
 -- an archive that couldn't be read has a cause, since the count of failures that rose has one
 pub reads-fail : (Cause : Type 0) (failures old : ℕ) (lacks : Bool) (r result : Result ℕ Fault)
-    → result ≡ or_lack_of_memory lacks r → OnTrue (is_unread (fault_in r)) ((old < failures) ⊎ Cause)
+    → result ≡ by_memory lacks r → OnTrue (is_unread (fault_in r)) ((old < failures) ⊎ Cause)
     → (0 < failures → lacks ≡ false → Cause) → OnTrue (is_unread (fault_in result)) Cause
 reads-fail Cause failures old lacks r result made is cause = unread-cause Cause lacks r
     (λ n same not. of not (subst (λ (x : Result ℕ Fault). OnTrue (is_unread (fault_in x)) ((old < failures) ⊎ Cause))

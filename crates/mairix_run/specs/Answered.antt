@@ -54,6 +54,6 @@ is_unread (Some Device) = true
 is_unread _ = false
 
 -- what was written; but if memory ran out as an archive was opened, its failed read is lack of memory
-abbrev pub or_lack_of_memory : Bool → Result ℕ Fault → Result ℕ Fault
-or_lack_of_memory lacks_memory (Ok status) = Ok status
-or_lack_of_memory lacks_memory (Err fault) = Err (if lacks_memory && is_unread (Some fault) then Memory else fault)
+abbrev pub by_memory : Bool → Result ℕ Fault → Result ℕ Fault
+by_memory lacks_memory (Ok status) = Ok status
+by_memory lacks_memory (Err fault) = Err (if lacks_memory && is_unread (Some fault) then Memory else fault)

@@ -24,8 +24,8 @@ both_names (Some name) = name ∷ passing_of name ∷ []
 abbrev pub names_of_index : Plan → Rc → List (List ℕ)
 names_of_index p rc = if p.once || is_index_run p then [] else rc.database ∷ []
 
--- the names that a plan uses by an rcfile: those of the archives, of the index that is searched, and of the file that it
--- makes
+-- the names that a plan uses by an rcfile: those of the archives, of the index that is searched, and of the file that
+-- is made
 abbrev pub names_asked : Plan → Rc → List (List ℕ)
 names_asked p rc = rc.paths ++ (names_of_index p rc ++ both_names (file_asked p rc))
 

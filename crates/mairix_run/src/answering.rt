@@ -21,7 +21,7 @@ ghost use Rattle.named_archives.specs.Progress.{CannotRead};
 ghost use Rattle.run_faults.specs.Faults.{fault_in, is_failed_out, IsSearchFault};
 ghost use Rattle.run_faults.specs.declared.fault.Fault.TheVariants.{TooMany};
 
-use crate::unread::or_lack_of_memory;
+use crate::unread::by_memory;
 use mail_answer::Archives;
 use mail_dates::Moment;
 use mairix_tool::{Reply, once_run, search_run};
@@ -134,7 +134,7 @@ pub fn answer_names<F: Folder, O: Out>(
     let answered = answer_archives(folder, alloc, reports, search, &mut archives, out);
     let lacks_memory = archives.lacks_memory();
     archives.report(reports);
-    or_lack_of_memory(answered, lacks_memory)
+    by_memory(answered, lacks_memory)
 }
 
 /// Searches these archives as the search asks for.
@@ -247,7 +247,7 @@ fn answer_once<F: Folder, A: Archives, O: Out>(
     let reply = once_run(alloc, words, text, unread, archives, moment, out);
     let lacks_memory = lack_memory(sources.as_slice());
     report_all(sources, reports);
-    or_lack_of_memory(result_of(reply), lacks_memory)
+    by_memory(result_of(reply), lacks_memory)
 }
 
 /// Returns a source for each path. Its file has to be in the state in which it was when the run first looked at it.

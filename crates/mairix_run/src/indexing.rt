@@ -13,7 +13,7 @@ ghost use Rattle.named_archives.specs.Names.{files_of};
 ghost use Rattle.named_archives.specs.Progress.{CannotRead};
 ghost use Rattle.run_faults.specs.Faults.{fault_in, is_failed_out, IsOfIndexing};
 
-use crate::unread::or_lack_of_memory;
+use crate::unread::by_memory;
 use index_run::send_index;
 use mbox_cutter::Out;
 use named_archives::{lack_memory, report_all, sources_of};
@@ -68,5 +68,5 @@ pub fn index_names<F: Folder, O: Out>(
     let sent = send_index(alloc, names, sources.as_mut_slice(), out);
     let lacks_memory = lack_memory(sources.as_slice());
     report_all(sources, reports);
-    or_lack_of_memory(sent.and(Ok(DONE)), lacks_memory)
+    by_memory(sent.and(Ok(DONE)), lacks_memory)
 }

@@ -39,13 +39,14 @@ returns-clause-once g c = λ bytes files agrees held.
     let counted = counted-new rest (λ s. bytes_of (g.F.Folder.holds s.folder.now s.name.now)) (λ s. s.file)
     (λ s. s.progress) (λ s. s.failures) _ fresh (λ n. is_failed_source n run.result.fault) _
     run.ensures.counts.sources in
-    answers-memory (IsReply asked bytes) _ _ _ c.result_of.result c.or_lack_of_memory.result c.or_lack_of_memory.ensures
+    answers-memory (IsReply asked bytes) _ _ _ c.result_of.result c.by_memory.result c.by_memory.ensures
     (indexed-answers-by (IsReply asked bytes) (plain-reply asked bytes) _ _ run.result (map (λ s. s.failures) news)
     c.result_of.result _ c.result_of.ensures counted run.ensures.unsent.silent (λ same. ap g.O.Out.taken same.1)
     (λ zeros. run.ensures.reply bytes (
       are,
       known-now rest (λ s. bytes_of (g.F.Folder.holds s.folder.now s.name.now)) (λ s. s.file) (λ s. s.progress)
-          (λ s. s.failures) _ (λ old new stays. stays.whole) _ news bytes run.ensures.keeps.sources.each fresh are zeros told,
+          (λ s. s.failures) _ (λ old new stays. stays.whole) _ news bytes run.ensures.keeps.sources.each fresh are zeros
+          told,
     ) held))
 
 pub returns-clause-refused : goal.returns-clause-refused
@@ -55,7 +56,7 @@ returns-clause-refused g c = λ fault is.
     let run = c.once_run-reply in
     let same = ap fault_in c.result_of.ensures ∙ fault-of run.result.status run.result.fault in
     with-memory (λ r. IsThisOrMemory fault (fault_in r) × (run.new.out ≡ c.args.out.now)) (λ n h. (tt, h.1))
-    (λ h. (tt, h.1)) _ c.result_of.result c.or_lack_of_memory.result c.or_lack_of_memory.ensures (
+    (λ h. (tt, h.1)) _ c.result_of.result c.by_memory.result c.by_memory.ensures (
       subst (IsThisOrMemory fault) (sym same) (refuses-as asked fault run.result.fault is run.ensures.cause.refused),
       uses-none _ _ _ (is_early run.result.fault) asked fault is run.ensures.unsent.refused,
     )
@@ -89,7 +90,7 @@ returns-clause-unread g c = λ bytes files.
     (sym lacks ∙ not) n (source-counted (map (λ s. s.failures) news) n run.result.fault (same ∙ ap fault_in is)
     counted)))
     (λ is not. inl (archives-counted run.result.fault _ _ (same ∙ ap fault_in is) run.ensures.counts.others.archives))
-    c.or_lack_of_memory.result c.or_lack_of_memory.ensures
+    c.by_memory.result c.by_memory.ensures
 
 -- ---- lack of memory in place of it
 
@@ -98,25 +99,26 @@ returns-clause-status g c =
     let reply = c.once_run-reply.result in
     let right = subst (λ r. IfOk r (λ status. status ≤ 1)) (sym c.result_of.ensures)
     (once-status reply reply.fault c.once_run-reply.ensures.cause.status) in
-    with-memory (λ r. IfOk r (λ status. status ≤ 1)) (λ n h. h) (λ h. h) _ c.result_of.result c.or_lack_of_memory.result
-    c.or_lack_of_memory.ensures right
+    with-memory (λ r. IfOk r (λ status. status ≤ 1)) (λ n h. h) (λ h. h) _ c.result_of.result c.by_memory.result
+    c.by_memory.ensures right
 
 pub returns-clause-kinds : goal.returns-clause-kinds
 returns-clause-kinds g c =
     let reply = c.once_run-reply.result in
     let right = subst (λ r. IfErr r (IsSearchFaultBy None)) (sym c.result_of.ensures)
     (once-kinds reply reply.fault c.once_run-reply.ensures.cause.status) in
-    with-memory (λ r. IfErr r (IsSearchFaultBy None)) (λ n h. tt) (λ h. tt) _ c.result_of.result c.or_lack_of_memory.result
-    c.or_lack_of_memory.ensures right
+    with-memory (λ r. IfErr r (IsSearchFaultBy None)) (λ n h. tt) (λ h. tt) _ c.result_of.result c.by_memory.result
+    c.by_memory.ensures right
 
 pub returns-clause-silent : goal.returns-clause-silent
 returns-clause-silent g c =
     let run = c.once_run-reply in
     let same = ap fault_in c.result_of.ensures ∙ fault-of run.result.status run.result.fault in
     let right = subst (λ f. OnTrue (comes_before f) (run.new.out ≡ c.args.out.now)) (sym same)
-    (once-silent _ _ _ run.result _ run.result.fault run.ensures.cause.status run.ensures.unsent.refused run.ensures.unsent.silent) in
+    (once-silent _ _ _ run.result _ run.result.fault run.ensures.cause.status run.ensures.unsent.refused
+    run.ensures.unsent.silent) in
     with-memory (λ r. OnTrue (comes_before (fault_in r)) (run.new.out ≡ c.args.out.now)) (λ n h. tt) (λ h. tt) _
-    c.result_of.result c.or_lack_of_memory.result c.or_lack_of_memory.ensures right
+    c.result_of.result c.by_memory.result c.by_memory.ensures right
 
 pub returns-clause-raw : goal.returns-clause-raw
 returns-clause-raw g c =
@@ -128,7 +130,7 @@ returns-clause-raw g c =
     run.ensures.unsent.raw in
     with-memory (λ r. IfOk asked (λ w. KeepsRawBack w.search (fault_in r) c.args.out.now run.new.out))
     (λ n h. if-ok asked _ _ (λ w raw is. tt) h) (λ h. if-ok asked _ _ (λ w raw is. tt) h) _ c.result_of.result
-    c.or_lack_of_memory.result c.or_lack_of_memory.ensures right
+    c.by_memory.result c.by_memory.ensures right
 
 pub returns-clause-out_failed : goal.returns-clause-out_failed
 returns-clause-out_failed g c =
@@ -137,5 +139,5 @@ returns-clause-out_failed g c =
     let right = subst (λ f. Counted (is_failed_out f) (g.O.Out.failures c.args.out.now)
     (g.O.Out.failures run.new.out)) (sym same) run.ensures.counts.others.out in
     with-memory (λ r. Counted (is_failed_out (fault_in r)) (g.O.Out.failures c.args.out.now)
-    (g.O.Out.failures run.new.out)) (λ n h. h) (λ h. h) _ c.result_of.result c.or_lack_of_memory.result c.or_lack_of_memory.ensures
+    (g.O.Out.failures run.new.out)) (λ n h. h) (λ h. h) _ c.result_of.result c.by_memory.result c.by_memory.ensures
     right

@@ -62,7 +62,7 @@ returns-clause-indexed g c = λ bytes files agrees.
     let lengths = length-map news (λ s. s.failures) ∙ of_news ∙ of_items ∙ many ∙ sym many-archives in
     let archives = mboxes (map string_bytes names) bytes in
     with-memory (IsIndexed archives (g.O.Out.taken c.args.out.now) (g.O.Out.taken sent.new.out)) (λ n h. tt) (λ h. tt)
-    _ c.and.result c.or_lack_of_memory.result c.or_lack_of_memory.ensures
+    _ c.and.result c.by_memory.result c.by_memory.ensures
     (indexed-by archives _ _ (map (λ s. s.failures) news) sent.result
     c.and.result c.and.ensures lengths counted (λ zeros. sent.ensures.known bytes (
       are,
@@ -99,7 +99,7 @@ returns-clause-unread g c = λ bytes files.
     counted))
     (λ is not. indexing-reads (CannotRead F.can_refuse F.reads_can_fail) sent.result sent.ensures.kinds
     (same ∙ ap fault_in is))
-    c.or_lack_of_memory.result c.or_lack_of_memory.ensures
+    c.by_memory.result c.by_memory.ensures
 
 -- ---- lack of memory in place of it
 
@@ -108,7 +108,7 @@ returns-clause-formed g c =
     let sent = c.send_index-sent in
     let P = (t : Table) × IsWellFormed t
     × Appends (g.O.Out.taken c.args.out.now) (g.O.Out.taken sent.new.out) (index_file t) in
-    with-memory (λ r. OnOk r P) (λ n h. h) (λ h. h) _ c.and.result c.or_lack_of_memory.result c.or_lack_of_memory.ensures
+    with-memory (λ r. OnOk r P) (λ n h. h) (λ h. h) _ c.and.result c.by_memory.result c.by_memory.ensures
     (subst (λ r. OnOk r P) (sym c.and.ensures) (sent-ok sent.result P sent.ensures.formed))
 
 pub returns-clause-front : goal.returns-clause-front
@@ -117,21 +117,21 @@ returns-clause-front g c =
     let P = (t : Table) × IsWellFormed t
     × Sends (g.O.Out.taken c.args.out.now) (g.O.Out.taken sent.new.out) (index_file t) in
     let same = ap fault_in c.and.ensures ∙ sent-fault sent.result in
-    with-memory (λ r. OnTrue (is_failed_out (fault_in r)) P) (λ n h. h) (λ h. h) _ c.and.result c.or_lack_of_memory.result
-    c.or_lack_of_memory.ensures (subst (λ f. OnTrue (is_failed_out f) P) (sym same) sent.ensures.front)
+    with-memory (λ r. OnTrue (is_failed_out (fault_in r)) P) (λ n h. h) (λ h. h) _ c.and.result c.by_memory.result
+    c.by_memory.ensures (subst (λ f. OnTrue (is_failed_out f) P) (sym same) sent.ensures.front)
 
 pub returns-clause-kinds : goal.returns-clause-kinds
 returns-clause-kinds g c =
     let sent = c.send_index-sent in
     let P = λ (fault : Fault). OnFalse (is_failed_out (Some fault)) (IsOfIndexing fault) in
-    with-memory (λ r. IfErr r P) (λ n h. tt) (λ h. tt) _ c.and.result c.or_lack_of_memory.result c.or_lack_of_memory.ensures
+    with-memory (λ r. IfErr r P) (λ n h. tt) (λ h. tt) _ c.and.result c.by_memory.result c.by_memory.ensures
     (subst (λ r. IfErr r P) (sym c.and.ensures) (sent-err sent.result P sent.ensures.kinds))
 
 pub returns-clause-silent : goal.returns-clause-silent
 returns-clause-silent g c =
     let sent = c.send_index-sent in
     let P = λ (fault : Fault). OnFalse (is_failed_out (Some fault)) (sent.new.out ≡ c.args.out.now) in
-    with-memory (λ r. IfErr r P) (λ n h. h) (λ h. h) _ c.and.result c.or_lack_of_memory.result c.or_lack_of_memory.ensures
+    with-memory (λ r. IfErr r P) (λ n h. h) (λ h. h) _ c.and.result c.by_memory.result c.by_memory.ensures
     (subst (λ r. IfErr r P) (sym c.and.ensures) (sent-err sent.result P sent.ensures.silent))
 
 pub returns-clause-out_failed : goal.returns-clause-out_failed
@@ -141,5 +141,5 @@ returns-clause-out_failed g c =
     let old = g.O.Out.failures c.args.out.now in
     let new = g.O.Out.failures sent.new.out in
     with-memory (λ r. Counted (is_failed_out (fault_in r)) old new) (λ n h. h) (λ h. h) _ c.and.result
-    c.or_lack_of_memory.result c.or_lack_of_memory.ensures
+    c.by_memory.result c.by_memory.ensures
     (subst (λ f. Counted (is_failed_out f) old new) (sym same) sent.ensures.out_failed)

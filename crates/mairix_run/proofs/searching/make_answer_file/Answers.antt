@@ -1,5 +1,5 @@
 -- The answer is put into a file: the file isn't made, or it is made, filled and settled.
-use Rattle.std.proofs.Common.{◌≡◌, ◌∙◌, ◌⊎◌, ◌≤◌, ◌<◌, ◌^◌, inl, inr, ⊎_elim, sym, subst, true, [], map, All}
+use Rattle.std.proofs.Common.{◌≡◌, ◌∙◌, ◌⊎◌, ◌≤◌, ◌<◌, ◌^◌, inr, ⊎_elim, sym, subst, true, [], map, All}
 use Rattle.std.proofs.Common.{None, Some, length, ◌∷◌, string_bytes}
 use Rattle.std.specs.Option.{option_map, option_map_or}
 use Rattle.named_archives.specs.Names.{files_of}
