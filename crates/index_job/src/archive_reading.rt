@@ -1,5 +1,5 @@
 //! Reads one archive, and adds its messages to a builder.
-ghost use Rattle.std.specs.Prelude.{◌≡◌, ◌<◌, ◌+◌, ◌-◌, ◌^◌, ℕ, List, Option, Some, None, Err, IfOk, IfErr, IfSome, OnOk, length};
+ghost use Rattle.std.specs.Prelude.{◌≡◌, ◌<◌, ◌+◌, ◌-◌, ◌^◌, ℕ, List, Option, Some, None, Err, IfOk, IfErr, IfSome, OnOk, length, IsSome};
 ghost use Rattle.std.specs.Io.KnownBytes.{IsAtEnd};
 ghost use Rattle.std.specs.Option.{MatchOption};
 ghost use Rattle.contract_words.specs.Devices.{Counted};
@@ -230,9 +230,19 @@ fn read_archive<S: Source>(
     let mut text = MessageText::new(alloc)?;
     let mut cutter = Cutter::over(buffer, source, MOST_IN_ARCHIVE);
     let read = add_messages(&mut text, &mut cutter, room, builder, archive);
-    let (_source, buffer) = cutter.into_parts();
-    *kept = Some(buffer);
+    let _source = source_of(cutter, kept);
     read
+}
+
+/// Gives back the source of a cutter, and keeps its buffer for the next one.
+fn source_of<'a, S: Source>(cutter: Cutter<'a, S>, kept: &mut Option<Buffer>) -> &'a mut S
+    ensures name { result.ghost_name ≡ cutter.entry.source.ghost_name }
+    ensures same { result.now ≡ cutter.entry.source.now }
+    ensures kept { IsSome kept.new }
+{
+    let (source, buffer) = cutter.into_parts();
+    *kept = Some(buffer);
+    source
 }
 
 /// Adds an archive, with the digest of the bytes that one read of its source gives, and returns the number of its
