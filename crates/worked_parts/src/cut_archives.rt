@@ -41,12 +41,21 @@ fn tally_of<S: Source>(buffer: Buffer, source: &mut S, most: u64) -> Result<Tall
             Ok(Event::Line(_)) => {}
             Ok(Event::End { size, .. }) => bytes += size,
             Ok(Event::Done { .. }) => {
-                let (_source, _buffer) = cutter.into_parts();
+                let _source = source_of(cutter);
                 return Ok(Tally { count, bytes });
             }
             Err(fault) => return Err(fault),
         }
     }
+}
+
+/// Gives back the source of a cutter.
+fn source_of<'a, S: Source>(cutter: Cutter<'a, S>) -> &'a mut S
+    ensures name { result.ghost_name ≡ cutter.entry.source.ghost_name }
+    ensures same { result.now ≡ cutter.entry.source.now }
+{
+    let (source, _buffer) = cutter.into_parts();
+    source
 }
 
 /// The events of an archive as a text, with the lengths of the lines; and the lines themselves, one after another.
