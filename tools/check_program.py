@@ -315,7 +315,7 @@ def long_command_lines(program):
         (RAW + ["s:hello" + "/hello" * (most_in_one // 6 - 2)] * 15, {}, found),
         (RAW + ["--boolean", "subject:hello"] + ["and subject:hello"] * (most // 27), {}, found),
         (["-z"] * (most // 12), {}, (2, b"", ...)),
-        (ONCE + ["-o", long, "s:hello"], environment, (4, b"", fault(b"cannot open %s.new" % long.encode()))),
+        (ONCE + ["-o", long, "s:hello"], environment, (4, b"", fault(b"cannot open " + long.encode()))),
         (["-f", long, *[long] * 14], {}, (4, b"", fault(b"cannot open " + long.encode()))),
     ]
     bad = []

@@ -126,12 +126,16 @@ def links_to_processes(program):
 
 
 def other_links(program):
-    """A link to a file, over others or to nowhere, is replaced; one that leads in a circle too."""
+    """A link to a file, over others or to nowhere, is replaced. One that leads in a circle is refused, since the system doesn't show what it
+    leads to."""
     for text in ("other", "./other", "other_link", "nowhere", "l"):
         with tempfile.TemporaryDirectory() as folder:
             write(folder, {"rc": RC, "m.mbox": HELLO, "other": b"other", "other_link": LINK(["other"]), "l": LINK([text])})
-            want = {**contents(folder), "l": HELLO}
-            yield text, wrong(run(program, ONCE + ["-o", "./l", "s:hello"], folder, capture_output=True), (0, b"", b""), folder, want)
+            before = contents(folder)
+            is_replaced = text != "l"
+            said = (0, b"", b"") if is_replaced else (4, b"", fault(b"cannot open ./l"))
+            want = {**before, "l": HELLO} if is_replaced else before
+            yield text, wrong(run(program, ONCE + ["-o", "./l", "s:hello"], folder, capture_output=True), said, folder, want)
 
 
 def exchanged_leftovers(program):

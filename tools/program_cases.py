@@ -283,7 +283,7 @@ REFUSED_ANSWERS = [
     ("an answer with no name", {"m.mbox": HELLO}, ONCE + ["-o", "", "s:hello"], 4, b"", fault(b"cannot open ")),
     ("an answer with no name in the base", {"d": None, "d/m.mbox": HELLO, "rc": under(b"d", b"mfolder=hits")}, ONCE + ["-o", "", "s:hello"], 4, b"", fault(b"cannot open d/")),
     ("an answer with no name in a folder", {"m.mbox": HELLO, "d": None}, ONCE + ["-o", "d/", "s:hello"], 4, b"", fault(b"cannot open d/")),
-    ("an answer with too long a name", {"m.mbox": HELLO}, ONCE + ["-o", "x" * 300, "s:hello"], 4, b"", fault(b"cannot open " + b"x" * 300 + b".new")),
+    ("an answer with too long a name", {"m.mbox": HELLO}, ONCE + ["-o", "x" * 300, "s:hello"], 4, b"", fault(b"cannot open " + b"x" * 300)),
     ("a bad query in a missing folder", {"m.mbox": HELLO}, ONCE + ["-o", "d/hits", "q:x"], 4, b"", fault(b"cannot open d/hits.new")),
     ("the archive as the answer", {"m.mbox": HELLO}, ONCE + ["-o", "m.mbox", "s:hello"], 4, b"", fault(b"cannot open m.mbox")),
     ("the archive as the rcfile's answer", {"m.mbox": HELLO, "rc": b"mbox=m.mbox\ndatabase=m.idx\nmfolder=m.mbox\n"}, ONCE + ["s:hello"], 4, b"", fault(b"cannot open m.mbox")),

@@ -60,16 +60,18 @@ def indexed(name):
 
 
 def looked_at(name):
-    """The calls on an old index that is to be replaced: its beginning is read."""
-    return {call + name: [unopened(name)] for call in ("open ", "read ")}
+    """The calls on an old index that is to be replaced: it is looked at, its beginning is read, and it is looked at again."""
+    read = {call + name: [unopened(name)] for call in ("open ", "read ")}
+    return {**read, "statx " + name: [unopened(name), *[None] * INDEX_COMPARED, unopened(name), None]}
 
 
 def found(name, compared):
-    """The calls that come before a file is written: its passing name is compared with this many names, what was left is looked for, it is
-    made, locked, seen to be the one that was locked, and marked. Without the mark it is private alone."""
+    """The calls that come before a file is written: both its names are compared with this many names, what it replaces is looked at, what was
+    left is looked for, it is made, locked, seen to be the one that was locked, and marked. Without the mark it is private alone."""
     new = name + ".new"
     told = {call + new: [unopened(new)] for call in ("create ", "flock ")}
-    return {**told, "statx " + new: [None] * compared + [unopened(new)] * 3 + [None]}
+    seen = [None] * compared + [unopened(name), None]
+    return {**told, "statx " + name: seen, "statx " + new: [None] * compared + [unopened(new)] * 3 + [None]}
 
 
 def made(name, compared):
@@ -153,7 +155,7 @@ def swept_runs(program):
     thread = {**THREAD, "m.idx": index_of(THREAD, program), "hits": b"old"}
     threads = FIRST_OF_THREAD + SECOND_OF_THREAD
     return [
-        Swept("an index run", {**hello, "m.idx": b"old"}, INDEX, changes={"m.idx": HELLO_INDEX}, told={**whole("rc"), **indexed("m.mbox"), **looked_at("m.idx"), **made("m.idx", INDEX_COMPARED)}),
+        Swept("an index run", {**hello, "m.idx": b"old"}, INDEX, changes={"m.idx": HELLO_INDEX}, told={**whole("rc"), **indexed("m.mbox"), **made("m.idx", INDEX_COMPARED), **looked_at("m.idx")}),
         Swept("lines", hello, STORED + ["s:hello"], out=b"0 58 m.mbox\n", told={**STORED_CALLS, **PRINT_CALLS}),
         Swept("excerpts", alice, INDEX + ["-x", "t:alice"], out=ALICE_EXCERPT, told={**STORED_CALLS, **PRINT_CALLS}),
         Swept("threads", thread, INDEX + ["--stdout", "-t", "b:hi"], out=threads, told={**STORED_CALLS, **searched("n"), **PRINT_CALLS}),
