@@ -77,7 +77,8 @@ class Chart:
         yield f'<text x="{self.left + 14}" y="{HEIGHT / 2}" text-anchor="middle" transform="rotate(-90 {self.left + 14} {HEIGHT / 2})">{self.up}</text>'
         for name, points in self.curves.items():
             way = " ".join(f"{self.x(x):.1f},{self.y(y):.1f}" for x, y in points)
-            yield f'<polyline points="{way}" fill="none" stroke="{COLOURS[name]}" stroke-width="2"/>'
+            yield f'<polyline points="{way}"'
+            yield f' fill="none" stroke="{COLOURS[name]}" stroke-width="2"/>'
         yield from self.names()
 
     def names(self):
