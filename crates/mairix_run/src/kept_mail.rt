@@ -22,8 +22,8 @@ const LOOKED_AT: usize = 131_072;
 ///
 /// # Errors
 ///
-/// `CannotOpen` if it does, and if the system doesn't show what has the name, or the file can't be read, because then that
-/// is unknown; or lack of memory.
+/// `CannotOpen` if it does, and if the system doesn't show what has the name, or the file can't be read, because then
+/// that is unknown; or lack of memory.
 pub fn check_no_mail<F: Folder>(
     folder: &F,
     alloc: Global,

@@ -28,9 +28,9 @@ pub fn passing_name(alloc: Global, name: &str) -> Result<String, AllocError>
 ///
 /// `CannotOpen`, with nothing touched, if the name has no last part; if another file under one of both names would change
 /// one that the run reads; if another file under the passing name would change what the name leads to; and if the name
-/// leads to a device, a pipe or a socket, or the system doesn't show what it leads to. The same, with at most what a killed run left removed, if no file can be made
-/// under the passing name: another run is making its own there, or anything is there that no killed run left, or the
-/// system refuses. Otherwise lack of memory.
+/// leads to a device, a pipe or a socket, or the system doesn't show what it leads to. The same, with at most what a
+/// killed run left removed, if no file can be made under the passing name: another run is making its own there, or
+/// anything is there that no killed run left, or the system refuses. Otherwise lack of memory.
 #[tactic(auto, using(crate::proofs::MadeFiles::apart_of_fit, crate::proofs::MadeFiles::refused_unfit, crate::proofs::MadeFiles::refused_special, crate::proofs::MadeFiles::refused_passing))]
 pub fn create_file<F: Folder>(
     folder: &mut F,
