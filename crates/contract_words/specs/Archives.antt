@@ -11,7 +11,7 @@ abbrev pub IsLength : ℕ → ℕ → Option (List (List ℕ)) → Type 0
 IsLength n bytes held = IfSome held (λ archives. bytes ≡ length (archive_at archives n))
 
 -- These bytes are in the archive from the offset on. None are read only if none are there.
-abbrev pub IsRead : ℕ → ℕ → List ℕ → Option (List (List ℕ)) → Type 0
-IsRead n offset bytes held = IfSome held (λ archives.
+abbrev pub IsReadFromArchive : ℕ → ℕ → List ℕ → Option (List (List ℕ)) → Type 0
+IsReadFromArchive n offset bytes held = IfSome held (λ archives.
     (bytes ≡ take (length bytes) (drop offset (archive_at archives n)))
     × (length bytes ≡ 0 → drop offset (archive_at archives n) ≡ []))

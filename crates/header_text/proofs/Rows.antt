@@ -1,7 +1,7 @@
 -- Worked examples of fields, unfolding, ids, escapes and base64. The values on the right come from a separate reading
 -- of the rules.
 use Rattle.header_text.proofs.Words.{◌≡◌, ℕ, List, [], ◌∷◌, map, refl, codes, is_empty, before_blanks, HeaderField}
-use Rattle.header_text.proofs.Words.{fields_of, lines_within, most_in_header, unfolded, ids_of, q_bytes, sextet}
+use Rattle.header_text.proofs.Words.{fields_of, lines_within, most_in_header, unfolded_body, ids_of, q_bytes, sextet}
 use Rattle.header_text.proofs.Words.{bytes_of_sextets, base64_bytes}
 
 abbrev field : List ℕ → List ℕ → HeaderField
@@ -27,7 +27,7 @@ rows : Each fields_of ((codes "A: b\n" ∷ codes " c\n" ∷ codes "\n" ∷ [], f
     ∷ (codes "A:b\n" ∷ codes " \n" ∷ codes "\tC:d\n" ∷ [], field (codes "A") (codes "b\n \n\tC:d\n") ∷ [])
     ∷ (codes "A:b" ∷ codes "c:d\n" ∷ [], field (codes "A") (codes "b") ∷ field (codes "c") (codes "d\n") ∷ [])
     ∷ (codes "A:b\n" ∷ [] ∷ codes " c\n" ∷ [], field (codes "A") (codes "b\n") ∷ []) ∷ (codes "A b: c\n" ∷ [], []) ∷ [])
-    × Each unfolded ((codes " b\n c\n", codes "b c") ∷ (codes "\r\n", []) ∷ (codes " \n \t", [])
+    × Each unfolded_body ((codes " b\n c\n", codes "b c") ∷ (codes "\r\n", []) ∷ (codes " \n \t", [])
     ∷ (codes "a\r\r\nb", codes "a\rb") ∷ (codes "a\rb", codes "a\rb") ∷ (codes "a\n\nb", codes "ab")
     ∷ (codes "\t x \n", codes "x") ∷ ([], []) ∷ (codes "a\r", codes "a\r")
     ∷ (codes "\r\n\r\n a\r\n b ", codes "a b") ∷ [])
@@ -47,5 +47,5 @@ rows : Each fields_of ((codes "A: b\n" ∷ codes " c\n" ∷ codes "\n" ∷ [], f
     × (lines_within 6 (codes "A:b\n" ∷ codes "C:d" ∷ codes "E:" ∷ []) ≡ codes "A:b\n" ∷ [])
     × (lines_within 5 (codes "A:bc\n" ∷ codes "DE\n" ∷ codes "F" ∷ []) ≡ codes "A:bc\n" ∷ [])
     × (most_in_header ≡ 262144)
-unfolding is_empty before_blanks fields_of unfolded ids_of q_bytes sextet bytes_of_sextets base64_bytes
+unfolding is_empty before_blanks fields_of unfolded_body ids_of q_bytes sextet bytes_of_sextets base64_bytes
 rows = (refl, refl, refl, refl, refl, refl, refl, refl, refl)

@@ -6,7 +6,8 @@ pub use Rattle.bstr.specs.Utf8.{lossy_chars, or_replacement}
 unfoldable pub use Rattle.bstr.specs.Utf8.{pieces_from}
 pub use Rattle.header_text.specs.Base64.{bytes_of_symbols}
 unfoldable pub use Rattle.header_text.specs.Base64.{base64_bytes, bytes_of_sextets, sextet}
-pub use Rattle.header_text.specs.Blanks.{after_blanks, is_blank, split_while}
+pub use Rattle.header_text.specs.Blanks.{after_blanks, split_while}
+pub use Rattle.contract_words.specs.Blanks.{is_blank}
 unfoldable pub use Rattle.header_text.specs.Blanks.{before_blanks}
 pub use Rattle.header_text.specs.Names.{is_named}
 pub use Rattle.header_text.specs.Charsets.{character, charset_named, plain_label, windows_1252_upper}
@@ -14,30 +15,32 @@ unfoldable pub use Rattle.header_text.specs.Charsets.{charset_of, text_of}
 pub use Rattle.header_text.specs.Cuts.{cut_at}
 pub use Rattle.header_text.specs.EncodedWords.{AreLeftmost, BeginsWord, EncodedWord, NoneBegins, Pieces, WordAfter}
 pub use Rattle.header_text.specs.EncodedWords.{after, equals_sign, is_b, is_charset_byte, is_q, is_text_byte}
-pub use Rattle.header_text.specs.EncodedWords.{is_well_formed, later_words_text, onto_front, pieces, pieces_behind}
-pub use Rattle.header_text.specs.EncodedWords.{plain_text, question, spelled, text_between, word_of, word_text}
+pub use Rattle.header_text.specs.EncodedWords.{is_well_formed, later_words_text, onto_front, value_pieces}
+pub use Rattle.header_text.specs.EncodedWords.{pieces_behind}
+pub use Rattle.header_text.specs.EncodedWords.{plain_text, question, spelling_of, text_between, word_of, word_text}
 pub use Rattle.header_text.specs.EncodedWords.{words_text, ◌>>=◌}
-unfoldable pub use Rattle.header_text.specs.EncodedWords.{decoded, word_and_later, word_at}
-pub use Rattle.header_text.specs.Escapes.{behind_equals, escaped, unescaped_by}
-unfoldable pub use Rattle.header_text.specs.Escapes.{q_bytes, unescaped}
+unfoldable pub use Rattle.header_text.specs.EncodedWords.{decoded_value, word_and_later, word_at}
+pub use Rattle.header_text.specs.Escapes.{behind_equals, escaped_byte, unescaped_by}
+unfoldable pub use Rattle.header_text.specs.Escapes.{q_bytes, unescaped_bytes}
 pub use Rattle.header_text.specs.Headers.{HeaderField, continued_and_fields, field_of_line, fields_in, fields_size}
 pub use Rattle.header_text.specs.Headers.{header, is_continuation, is_field_name_byte, lines_before_empty, lines_within}
-pub use Rattle.header_text.specs.Headers.{most_in_header, named, with_continuations}
+pub use Rattle.header_text.specs.Headers.{most_in_header, field_of_name, with_continuations}
 unfoldable pub use Rattle.header_text.specs.Headers.{fields_of}
-pub use Rattle.header_text.specs.Ids.{begins_with, close_sign, ids_size, is_id, is_id_byte, is_inside_id, kept_ids}
+pub use Rattle.header_text.specs.Ids.{begins_with_byte, close_sign, ids_size, is_id_range, is_id_byte, is_inside_id}
+pub use Rattle.header_text.specs.Ids.{kept_ids}
 pub use Rattle.header_text.specs.Ids.{open_sign}
 unfoldable pub use Rattle.header_text.specs.Ids.{ids_of}
 pub use Rattle.header_text.specs.Inside.Alphabet.{is_symbol}
-pub use Rattle.header_text.specs.Inside.Breaks.{led, without_final_cr}
+pub use Rattle.header_text.specs.Inside.Breaks.{added_part, without_final_cr}
 pub use Rattle.header_text.specs.Inside.Fronts.{IsFront}
-pub use Rattle.header_text.specs.Inside.Ids.{after_last_open, closed_texts, ids_in, onto_first}
+pub use Rattle.header_text.specs.Inside.Ids.{after_last_open, closed_texts, ids_of_texts, onto_first}
 pub use Rattle.header_text.specs.Inside.ShownWords.{no_word, shown_found, shown_word, word_first}
-pub use Rattle.header_text.specs.OpenFields.{fields_with, is_open_after, is_open_behind, onto_last}
+pub use Rattle.header_text.specs.OpenFields.{fields_with, is_field_open_after, is_field_open_after_lines, onto_last}
 pub use Rattle.header_text.specs.Stages.{has_empty, lines_size, stage_behind}
 unfoldable pub use Rattle.header_text.specs.Stages.{stage_of}
 pub use Rattle.header_text.specs.Symbols.{symbols_of}
 pub use Rattle.header_text.specs.Unfolding.{without_breaks}
-unfoldable pub use Rattle.header_text.specs.Unfolding.{unfolded}
+unfoldable pub use Rattle.header_text.specs.Unfolding.{unfolded_body}
 pub use Rattle.header_text.specs.declared.charset.Charset.{Charset}
 pub use Rattle.header_text.specs.declared.charset.Charset.TheVariants.{Latin1, Latin9, Unknown, Utf8, Windows1252}
 pub use Rattle.header_text.specs.declared.field_list.FieldPlace.{FieldPlace}

@@ -1,9 +1,6 @@
--- Spaces and tabs, and how bytes are split where a test ends.
-use Rattle.std.specs.Prelude.{ℕ, Bool, true, false, ◌||◌, ◌==◌, List, [], ◌∷◌, reverse}
-
--- whether a byte is a space or a tab
-abbrev pub is_blank : ℕ → Bool
-is_blank b = (b == 0x20) || (b == 0x09)
+-- Bytes without spaces and tabs, and how bytes are split where a test ends.
+use Rattle.std.specs.Prelude.{ℕ, Bool, true, false, List, [], ◌∷◌, reverse}
+use Rattle.contract_words.specs.Blanks.{is_blank}
 
 -- the bytes at the front that pass, and what follows them
 abbrev pub split_while : (ℕ → Bool) → List ℕ → List ℕ × List ℕ
@@ -24,5 +21,5 @@ unfoldable pub before_blanks : List ℕ → List ℕ
 before_blanks bs = reverse (after_blanks (reverse bs))
 
 -- the bytes without the spaces and tabs at both ends
-abbrev pub trimmed : List ℕ → List ℕ
-trimmed bs = before_blanks (after_blanks bs)
+abbrev pub without_outer_blanks : List ℕ → List ℕ
+without_outer_blanks bs = before_blanks (after_blanks bs)

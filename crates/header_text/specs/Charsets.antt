@@ -13,8 +13,8 @@ abbrev pub plain_label : List ℕ → List ℕ
 plain_label label = (split_while (λ b. not (b == 0x2A)) label).0
 
 -- whether a label is one of these, in any ASCII case
-abbrev pub is_among : List (List ℕ) → List ℕ → Bool
-is_among labels label = list_any (is_named label) labels
+abbrev pub is_label_among : List (List ℕ) → List ℕ → Bool
+is_label_among labels label = list_any (is_named label) labels
 
 -- the labels of UTF-8: the empty one, those of US-ASCII, and its own
 abbrev pub utf8_labels : List (List ℕ)
@@ -35,10 +35,10 @@ windows_1252_labels = codes "windows-1252" ∷ codes "cp1252" ∷ []
 -- the charset of a label without a language
 abbrev pub charset_named : List ℕ → Charset
 charset_named label =
-    if is_among utf8_labels label then Utf8
-    else if is_among latin1_labels label then Latin1
-    else if is_among latin9_labels label then Latin9
-    else if is_among windows_1252_labels label then Windows1252
+    if is_label_among utf8_labels label then Utf8
+    else if is_label_among latin1_labels label then Latin1
+    else if is_label_among latin9_labels label then Latin9
+    else if is_label_among windows_1252_labels label then Windows1252
     else Unknown
 
 -- the charset of a label, by the part before its first `*`

@@ -4,7 +4,7 @@ use Rattle.std.specs.Prelude.{List, [], ◌∷◌, ◌++◌, length, Option, Som
 use Rattle.std.specs.Prelude.{encode_utf8_all}
 use Rattle.std.specs.List.{list_all}
 use Rattle.bstr.specs.Utf8.{lossy_chars}
-use Rattle.header_text.specs.Blanks.{is_blank}
+use Rattle.contract_words.specs.Blanks.{is_blank}
 use Rattle.header_text.specs.Cuts.{cut_at}
 use Rattle.header_text.specs.Escapes.{q_bytes}
 use Rattle.header_text.specs.Base64.{base64_bytes}
@@ -25,8 +25,8 @@ abbrev pub equals_sign : ℕ
 equals_sign = 0x3D
 
 -- the bytes of an encoded word as written
-abbrev pub spelled : EncodedWord → List ℕ
-spelled w = equals_sign ∷ question ∷ (w.charset ++ question ∷ w.encoding ∷ question ∷
+abbrev pub spelling_of : EncodedWord → List ℕ
+spelling_of w = equals_sign ∷ question ∷ (w.charset ++ question ∷ w.encoding ∷ question ∷
     (w.text ++ question ∷ equals_sign ∷ []))
 
 -- whether a byte is allowed in the name of a charset: 33 to 126, but no `?`
@@ -53,7 +53,7 @@ is_well_formed w =
 
 -- the bytes begin with this encoded word
 abbrev pub BeginsWord : List ℕ → EncodedWord → Type 0
-BeginsWord bytes w = IsTrue (is_well_formed w) × ((later : List ℕ) × (bytes ≡ spelled w ++ later))
+BeginsWord bytes w = IsTrue (is_well_formed w) × ((later : List ℕ) × (bytes ≡ spelling_of w ++ later))
 
 -- ---- the encoded word that begins some bytes, if there is one; there is at most one
 
@@ -112,14 +112,14 @@ abbrev pub pieces_behind : ℕ → List ℕ → Pieces
 pieces_behind skipped [] = record { words = []; rest = [] }
 pieces_behind (suc skipped) (b ∷ bs) = pieces_behind skipped bs
 pieces_behind zero (b ∷ bs) = elim (word_at (b ∷ bs)) [
-  | Some w ↦ let later : Pieces = pieces_behind (length (spelled w) - 1) bs
+  | Some w ↦ let later : Pieces = pieces_behind (length (spelling_of w) - 1) bs
       in record { words = record { between = []; word = w } ∷ later.words; rest = later.rest }
   | None ↦ let later : Pieces = pieces_behind zero bs in onto_front b later.words later.rest
 ]
 
 -- the pieces of a value
-abbrev pub pieces : List ℕ → Pieces
-pieces value = pieces_behind zero value
+abbrev pub value_pieces : List ℕ → Pieces
+value_pieces value = pieces_behind zero value
 
 -- no encoded word begins at any byte of a text that `later` follows
 abbrev pub NoneBegins : List ℕ → List ℕ → Type 0
@@ -129,9 +129,9 @@ NoneBegins (b ∷ bs) later = ((w : EncodedWord) → ¬ BeginsWord (b ∷ (bs ++
 -- these are the value's encoded words, each the leftmost at or after the end of the one before
 abbrev pub AreLeftmost : List ℕ → List WordAfter → List ℕ → Type 0
 AreLeftmost value [] rest = (value ≡ rest) × NoneBegins rest []
-AreLeftmost value (w ∷ ws) rest = (later : List ℕ) × (value ≡ w.between ++ (spelled w.word ++ later))
+AreLeftmost value (w ∷ ws) rest = (later : List ℕ) × (value ≡ w.between ++ (spelling_of w.word ++ later))
     × IsTrue (is_well_formed w.word)
-    × NoneBegins w.between (spelled w.word ++ later) × AreLeftmost later ws rest
+    × NoneBegins w.between (spelling_of w.word ++ later) × AreLeftmost later ws rest
 
 -- ---- the text of a value
 
@@ -158,5 +158,5 @@ words_text [] = []
 words_text (w ∷ ws) = plain_text w.between ++ (word_text w.word ++ later_words_text ws)
 
 -- the text of an unfolded value
-unfoldable pub decoded : List ℕ → List ℕ
-decoded value = words_text (pieces value).words ++ plain_text (pieces value).rest
+unfoldable pub decoded_value : List ℕ → List ℕ
+decoded_value value = words_text (value_pieces value).words ++ plain_text (value_pieces value).rest

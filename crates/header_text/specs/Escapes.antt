@@ -11,8 +11,8 @@ hex_value b =
     else if nat_le 0x61 b && nat_le b 0x66 then Some (b - 0x61 + 10) else None
 
 -- the byte that three bytes encode, if they are `=` and two hexadecimal digits
-abbrev pub escaped : ℕ → ℕ → ℕ → Option ℕ
-escaped a b c = if a == 0x3D then option_and_then (λ high. option_map (λ low. high * 16 + low) (hex_value c))
+abbrev pub escaped_byte : ℕ → ℕ → ℕ → Option ℕ
+escaped_byte a b c = if a == 0x3D then option_and_then (λ high. option_map (λ low. high * 16 + low) (hex_value c))
     (hex_value b) else None
 
 -- `other` says what becomes of a byte that isn't in an escape.
@@ -22,12 +22,12 @@ module _ (other : ℕ → ℕ) where
   unescaped_by [] = []
   unescaped_by (a ∷ []) = other a ∷ []
   unescaped_by (a ∷ b ∷ []) = other a ∷ other b ∷ []
-  unescaped_by (a ∷ b ∷ c ∷ bytes) = elim (escaped a b c)
+  unescaped_by (a ∷ b ∷ c ∷ bytes) = elim (escaped_byte a b c)
       [ Some n ↦ n ∷ unescaped_by bytes | None ↦ other a ∷ unescaped_by (b ∷ c ∷ bytes) ]
 
 -- bytes decoded as in quoted-printable: any byte outside an escape stays
-unfoldable pub unescaped : List ℕ → List ℕ
-unescaped = unescaped_by (λ b. b)
+unfoldable pub unescaped_bytes : List ℕ → List ℕ
+unescaped_bytes = unescaped_by (λ b. b)
 
 -- bytes decoded as in Q: outside an escape `_` becomes a space, and any other byte stays
 unfoldable pub q_bytes : List ℕ → List ℕ
@@ -36,5 +36,5 @@ q_bytes = unescaped_by (λ b. if b == 0x5F then 0x20 else b)
 -- an `=` before these bytes, decoded: the byte of the escape and what follows it, or the `=` and these bytes if it
 -- begins no escape
 abbrev pub behind_equals : List ℕ → ℕ × List ℕ
-behind_equals (b ∷ c ∷ bytes) = elim (escaped 0x3D b c) [ Some n ↦ (n, bytes) | None ↦ (0x3D, b ∷ c ∷ bytes) ]
+behind_equals (b ∷ c ∷ bytes) = elim (escaped_byte 0x3D b c) [ Some n ↦ (n, bytes) | None ↦ (0x3D, b ∷ c ∷ bytes) ]
 behind_equals bytes = (0x3D, bytes)

@@ -1,7 +1,8 @@
 -- The fields of a header (RFC 5322, 2.2), found in its lines.
 use Rattle.std.specs.Prelude.{ℕ, ◌+◌, ◌-◌, Bool, true, false, not, ◌&&◌, ◌==◌, nat_le, List, [], ◌∷◌, ◌++◌, length}
 use Rattle.std.specs.Prelude.{Option, Some, None}
-use Rattle.header_text.specs.Blanks.{is_blank, split_while, after_blanks}
+use Rattle.header_text.specs.Blanks.{split_while, after_blanks}
+use Rattle.contract_words.specs.Blanks.{is_blank}
 use Rattle.mbox_cutter.specs.Lines.{is_empty}
 
 -- a field's name, and all bytes after its colon, with those of its continuation lines
@@ -37,13 +38,14 @@ abbrev pub is_field_name_byte : ℕ → Bool
 is_field_name_byte b = nat_le 33 b && nat_le b 126 && not (b == 0x3A)
 
 -- the field of a name and what follows it, if the name isn't empty and a colon comes first after it
-abbrev pub named : List ℕ → List ℕ → Option HeaderField
-named (b ∷ name) (c ∷ body) = elim (c == 0x3A) [ true ↦ Some (record { name = b ∷ name; body = body }) | false ↦ None ]
-named name rest = None
+abbrev pub field_of_name : List ℕ → List ℕ → Option HeaderField
+field_of_name (b ∷ name) (c ∷ body) = elim (c == 0x3A)
+    [ true ↦ Some (record { name = b ∷ name; body = body }) | false ↦ None ]
+field_of_name name rest = None
 
 -- the field that a line begins: one or more bytes of a name, then any spaces and tabs, then a colon
 abbrev pub field_of_line : List ℕ → Option HeaderField
-field_of_line l = let parts = split_while is_field_name_byte l in named parts.0 (after_blanks parts.1)
+field_of_line l = let parts = split_while is_field_name_byte l in field_of_name parts.0 (after_blanks parts.1)
 
 -- the fields from a line on: the field that the line begins, if it does, with the bytes of the continuation lines after
 -- it, and then the later fields; without a field these bytes are skipped

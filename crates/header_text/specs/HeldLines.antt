@@ -1,7 +1,7 @@
 -- The state of a Header after the lines that were pushed.
 use Rattle.std.specs.Prelude.{◌≡◌, ℕ, Bool, false, List, if◌then◌else◌}
 use Rattle.header_text.specs.Headers.{HeaderField, header, fields_of}
-use Rattle.header_text.specs.OpenFields.{is_open_behind}
+use Rattle.header_text.specs.OpenFields.{is_field_open_after_lines}
 use Rattle.header_text.specs.Stages.{has_empty, lines_size, stage_of}
 use Rattle.header_text.specs.declared.header.Taken.{Taken}
 use Rattle.header_text.specs.declared.header.Taken.TheVariants.{More, Ended}
@@ -18,7 +18,7 @@ pub record Holds (fields : List HeaderField) (size : ℕ) (in_field : Bool) (sta
   where
     pub fields_are : fields ≡ fields_of ls
     pub size_is : size ≡ lines_size (header ls)
-    pub in_field_is : in_field ≡ is_open_behind false (header ls)
+    pub in_field_is : in_field ≡ is_field_open_after_lines false (header ls)
     pub stage_is : stage ≡ stage_of ls
 
 -- these are the lines that were pushed

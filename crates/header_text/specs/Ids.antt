@@ -3,7 +3,7 @@ use Rattle.std.specs.Prelude.{ℕ, ◌+◌, Bool, false, not, ◌&&◌, ◌||◌
 use Rattle.std.specs.Prelude.{slice_range}
 use Rattle.std.specs.List.{list_all}
 use Rattle.contract_words.specs.Ranges.{ranges_from, passes_at}
-use Rattle.header_text.specs.Blanks.{is_blank}
+use Rattle.contract_words.specs.Blanks.{is_blank}
 
 -- the byte `<`
 abbrev pub open_sign : ℕ
@@ -14,9 +14,9 @@ abbrev pub close_sign : ℕ
 close_sign = 0x3E
 
 -- whether there is a first byte and it is this one
-abbrev pub begins_with : ℕ → List ℕ → Bool
-begins_with c [] = false
-begins_with c (b ∷ bs) = b == c
+abbrev pub begins_with_byte : ℕ → List ℕ → Bool
+begins_with_byte c [] = false
+begins_with_byte c (b ∷ bs) = b == c
 
 -- whether a byte is neither `<` nor `>`
 abbrev pub is_inside_id : ℕ → Bool
@@ -24,13 +24,14 @@ is_inside_id b = not ((b == open_sign) || (b == close_sign))
 
 -- Whether a range of a value is an id: it is directly between a `<` and a `>`, and has neither. The range is given as
 -- the bytes before it, the nearest first, those inside it, and those after it.
-abbrev pub is_id : List ℕ → List ℕ → List ℕ → Bool
-is_id before inside behind = begins_with open_sign before && list_all is_inside_id inside && begins_with close_sign
+abbrev pub is_id_range : List ℕ → List ℕ → List ℕ → Bool
+is_id_range before inside behind = begins_with_byte open_sign before && list_all is_inside_id inside && begins_with_byte
+    close_sign
     behind
 
 -- the ranges of a value that are ids, in order
 abbrev pub id_ranges : List ℕ → List (ℕ × ℕ)
-id_ranges value = filter (passes_at is_id value) (ranges_from 0 value)
+id_ranges value = filter (passes_at is_id_range value) (ranges_from 0 value)
 
 -- whether a byte is neither a space, a tab, a CR nor an LF
 abbrev pub is_id_byte : ℕ → Bool

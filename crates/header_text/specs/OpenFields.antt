@@ -11,13 +11,13 @@ onto_last more (f ∷ g ∷ fs) = f ∷ onto_last more (g ∷ fs)
 
 -- Whether the last field may be continued after a line. After a continuation line it may if it could before; after any
 -- other line it may if the line begins a field.
-abbrev pub is_open_after : Bool → List ℕ → Bool
-is_open_after open_before l = if is_continuation l then open_before else is_some (field_of_line l)
+abbrev pub is_field_open_after : Bool → List ℕ → Bool
+is_field_open_after open_before l = if is_continuation l then open_before else is_some (field_of_line l)
 
 -- whether the last field may be continued after these lines
-abbrev pub is_open_behind : Bool → List (List ℕ) → Bool
-is_open_behind open_before [] = open_before
-is_open_behind open_before (l ∷ ls) = is_open_behind (is_open_after open_before l) ls
+abbrev pub is_field_open_after_lines : Bool → List (List ℕ) → Bool
+is_field_open_after_lines open_before [] = open_before
+is_field_open_after_lines open_before (l ∷ ls) = is_field_open_after_lines (is_field_open_after open_before l) ls
 
 -- the fields with one more line: a continuation goes to the last field if that may be continued, and otherwise it is
 -- skipped

@@ -1,7 +1,8 @@
 //! Spaces and tabs in the bytes of a header. For the text of an rcfile mairix_options has its own, because it doesn't
 //! use this crate.
 ghost use Rattle.std.specs.Prelude.{◌≡◌};
-ghost use Rattle.header_text.specs.Blanks.{is_blank as is_blank_of, after_blanks as after_blanks_of, before_blanks as before_blanks_of, trimmed as trimmed_of};
+ghost use Rattle.header_text.specs.Blanks.{after_blanks as after_blanks_of, before_blanks as before_blanks_of, without_outer_blanks};
+ghost use Rattle.contract_words.specs.Blanks.{is_blank as is_blank_of};
 
 /// Returns whether a byte is a space or a tab.
 pub fn is_blank(b: u8) -> bool
@@ -38,7 +39,7 @@ pub fn before_blanks(bytes: &[u8]) -> &[u8]
 
 /// Returns the bytes without the spaces and tabs at both ends.
 pub fn trimmed(bytes: &[u8]) -> &[u8]
-    ensures { result.now ≡ trimmed_of bytes.now }
+    ensures { result.now ≡ without_outer_blanks bytes.now }
 {
     before_blanks(after_blanks(bytes))
 }

@@ -2,8 +2,8 @@
 ghost use Rattle.std.specs.Prelude.{◌≡◌, ◌<◌, ◌≤◌, ◌+◌, ◌*◌, ◌∷◌, ◌++◌, [], Some, None, length, option_map, MatchOption, IfSome, IfOk, OnOk, string_bytes, if◌then◌else◌};
 ghost use Rattle.std.specs.List.{list_all};
 ghost use Rattle.bstr.specs.Text.{Extends};
-ghost use Rattle.header_text.specs.Blanks.{is_blank as is_blank_of};
-ghost use Rattle.header_text.specs.EncodedWords.{is_charset_byte, is_text_byte, word_of as word_of_parts, word_and_later, pieces, text_between, plain_text, word_text, decoded};
+ghost use Rattle.contract_words.specs.Blanks.{is_blank as is_blank_of};
+ghost use Rattle.header_text.specs.EncodedWords.{is_charset_byte, is_text_byte, word_of as word_of_parts, word_and_later, value_pieces, text_between, plain_text, word_text, decoded_value};
 ghost use Rattle.header_text.specs.Inside.ShownWords.{shown_word, shown_found, no_word, word_first};
 
 use crate::base64_reader::decode_base64_into;
@@ -83,8 +83,8 @@ fn word_behind(bytes: &[u8]) -> Option<(EncodedWord<'_>, &[u8])>
 
 /// Finds the leftmost encoded word.
 fn find_word(value: &[u8]) -> Option<Found<'_>>
-    ensures pieces { MatchOption result (pieces value.now ≡ no_word value.now)
-        (λ f. pieces value.now ≡ word_first (shown_found f) f.later.now) }
+    ensures pieces { MatchOption result (value_pieces value.now ≡ no_word value.now)
+        (λ f. value_pieces value.now ≡ word_first (shown_found f) f.later.now) }
     ensures smaller { IfSome result (λ f. length f.between.now + length f.word.text.now + length
         f.later.now < length value.now) }
 {
@@ -167,12 +167,12 @@ pub fn decode_words_into(
     into: &mut String,
 ) -> Result<(), AllocError>
     ensures text { OnOk result (string_bytes into.new
-        ≡ string_bytes into.old ++ decoded unfolded.now) }
+        ≡ string_bytes into.old ++ decoded_value unfolded.now) }
     ensures size { OnOk result (length (string_bytes into.new)
         ≤ length (string_bytes into.old) + 3 * length unfolded.now) }
     ensures kept { Extends (string_bytes into.old) (string_bytes into.new) }
     ensures front { Extends (string_bytes into.new)
-        (string_bytes into.old ++ decoded unfolded.now) }
+        (string_bytes into.old ++ decoded_value unfolded.now) }
 {
     let mut rest = unfolded;
     let mut follows_word = false;
@@ -191,7 +191,7 @@ pub fn decode_words_into(
 ///
 /// `AllocError` if memory runs out.
 pub fn decode_words(alloc: Global, unfolded: &[u8]) -> Result<String, AllocError>
-    ensures text { IfOk result (λ text. string_bytes text ≡ decoded unfolded.now) }
+    ensures text { IfOk result (λ text. string_bytes text ≡ decoded_value unfolded.now) }
     ensures size { IfOk result (λ text. length (string_bytes text) ≤ 3 * length unfolded.now) }
 {
     let mut text = String::new(alloc);

@@ -1,7 +1,7 @@
 //! Decodes bytes that are written as `=` and two hexadecimal digits.
 ghost use Rattle.std.specs.Prelude.{◌≡◌, ◌<◌, ◌≤◌, ◌+◌, ◌++◌, length, IfSome, OnOk, OnErr};
 ghost use Rattle.bstr.specs.Text.{Extends};
-ghost use Rattle.header_text.specs.Escapes.{hex_value, behind_equals as behind_equals_of, unescaped, q_bytes};
+ghost use Rattle.header_text.specs.Escapes.{hex_value, behind_equals as behind_equals_of, unescaped_bytes, q_bytes};
 
 use crate::cut::cut_at;
 use std::alloc::AllocError;
@@ -46,7 +46,7 @@ fn add_plain(plain: &[u8], into: &mut Vec<u8>) -> Result<(), AllocError>
 
 /// Adds bytes with their escapes decoded. If memory runs out, a front of them may have been added.
 fn add_unescaped(bytes: &[u8], into: &mut Vec<u8>) -> Result<(), AllocError>
-    ensures bytes { OnOk result (into.new.items ≡ into.old.items ++ unescaped bytes.now) }
+    ensures bytes { OnOk result (into.new.items ≡ into.old.items ++ unescaped_bytes bytes.now) }
     ensures kept { Extends into.old.items into.new.items }
 {
     let mut rest = bytes;
@@ -67,7 +67,7 @@ fn add_unescaped(bytes: &[u8], into: &mut Vec<u8>) -> Result<(), AllocError>
 ///
 /// `AllocError` if memory runs out. Then nothing is added.
 pub fn unescape_into(bytes: &[u8], into: &mut Vec<u8>) -> Result<(), AllocError>
-    ensures bytes { OnOk result (into.new.items ≡ into.old.items ++ unescaped bytes.now) }
+    ensures bytes { OnOk result (into.new.items ≡ into.old.items ++ unescaped_bytes bytes.now) }
     ensures size { OnOk result (length into.new.items ≤ length into.old.items + length bytes.now) }
     ensures refused { OnErr result (into.new.items ≡ into.old.items) }
 {

@@ -55,11 +55,11 @@ impl<'a> Model for Fields<'a> {
     ghost Value = { List HeaderField };
 
     ghost use Rattle.std.specs.Prelude.{length};
-    ghost use Rattle.header_text.specs.Inside.Places.{AreInOrder, fields_at};
+    ghost use Rattle.header_text.specs.Inside.Places.{ArePlacesInOrder, fields_at};
 
     ghost view = { λ s. fields_at s.bytes.now s.places.now };
 
-    ghost invariant = { λ s. AreInOrder (length s.bytes.now) s.places.now };
+    ghost invariant = { λ s. ArePlacesInOrder (length s.bytes.now) s.places.now };
 }
 
 /// Makes room for one more place. For the first one it takes the memory that a header usually needs, so that few

@@ -1,7 +1,7 @@
 //! Reads a header line by line.
 ghost use Rattle.std.specs.Prelude.{◌≡◌, ℕ, ◌+◌, ◌≤◌, Bool, true, List, [], ◌∷◌, ◌++◌, length, IfOk, OnOk, OnErr};
 ghost use Rattle.header_text.specs.Headers.{fields_of, fields_size, most_in_header};
-ghost use Rattle.header_text.specs.OpenFields.{is_open_after, fields_with};
+ghost use Rattle.header_text.specs.OpenFields.{is_field_open_after, fields_with};
 ghost use Rattle.header_text.specs.Stages.{stage_behind as stage_behind_of};
 
 use crate::field::field_of_line;
@@ -139,7 +139,7 @@ fn stage_behind(stage: Stage, size: usize, line: &[u8]) -> Stage
 /// before this line. If memory runs out, nothing changes.
 fn add_line(fields: &mut FieldList, in_field: bool, line: &[u8]) -> Result<bool, AllocError>
     requires { fields_size fields.old + length line.now ≤ most_in_header }
-    ensures in_field { IfOk result (λ after. after ≡ is_open_after in_field line.now) }
+    ensures in_field { IfOk result (λ after. after ≡ is_field_open_after in_field line.now) }
     ensures fields { OnOk result (fields.new ≡ fields_with in_field line.now fields.old) }
     ensures refused { OnErr result (fields.new ≡ fields.old) }
 {

@@ -1,7 +1,7 @@
 //! Finds the message ids of a value.
 ghost use Rattle.std.specs.Prelude.{◌≡◌, ◌<◌, ◌≤◌, ◌∷◌, ◌++◌, length, map, filter, option_map, All, IfOk, OnOk, OnErr, if◌then◌else◌, nat_lt, []};
 ghost use Rattle.header_text.specs.Ids.{ids_of, ids_size, is_id_byte};
-ghost use Rattle.header_text.specs.Inside.Ids.{ids_in, after_last_open as after_last_open_of};
+ghost use Rattle.header_text.specs.Inside.Ids.{ids_of_texts, after_last_open as after_last_open_of};
 ghost use Rattle.header_text.specs.Inside.Fronts.{IsFront};
 
 use crate::cut::cut_at;
@@ -19,7 +19,7 @@ fn after_last_open(text: &[u8]) -> Option<&[u8]>
 /// Adds the id that is at the end of the text before a `>`, if there is one.
 fn push_id(alloc: Global, ids: &mut Vec<Vec<u8>>, text: &[u8]) -> Result<(), AllocError>
     ensures ids { OnOk result (map (λ id. id.items) ids.new.items
-        ≡ map (λ id. id.items) ids.old.items ++ ids_in (text.now ∷ [])) }
+        ≡ map (λ id. id.items) ids.old.items ++ ids_of_texts (text.now ∷ [])) }
     ensures kept { IsFront ids.old.items ids.new.items }
 {
     if let Some(inner) = after_last_open(text) {

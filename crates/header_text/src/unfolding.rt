@@ -2,8 +2,8 @@
 ghost use Rattle.std.specs.Prelude.{◌≡◌, ◌++◌, ◌+◌, ◌≤◌, length, take, drop, nat_lt, IfOk, OnOk, OnErr, is_ok, vec_len, if◌then◌else◌};
 ghost use Rattle.bstr.specs.Text.{Extends};
 ghost use Rattle.header_text.specs.Blanks.{after_blanks as after_blanks_of, before_blanks as before_blanks_of};
-ghost use Rattle.header_text.specs.Unfolding.{unfolded, without_breaks};
-ghost use Rattle.header_text.specs.Inside.Breaks.{led};
+ghost use Rattle.header_text.specs.Unfolding.{unfolded_body, without_breaks};
+ghost use Rattle.header_text.specs.Inside.Breaks.{added_part};
 
 use crate::blanks::{after_blanks, before_blanks};
 use crate::cut::cut_at;
@@ -12,7 +12,7 @@ use std::alloc::{AllocError, Global};
 /// Adds a part of a body. Until a byte of the body was added at `start`, the spaces and tabs at the front of each part
 /// are left out.
 fn add_part(into: &mut Vec<u8>, start: usize, part: &[u8]) -> Result<(), AllocError>
-    ensures part { OnOk result (into.new.items ≡ into.old.items ++ led
+    ensures part { OnOk result (into.new.items ≡ into.old.items ++ added_part
         (nat_lt start (length into.old.items)) part.now) }
     ensures kept { Extends into.old.items into.new.items }
 {
@@ -47,7 +47,7 @@ fn add_lines(body: &[u8], start: usize, into: &mut Vec<u8>) -> Result<(), AllocE
 ///
 /// `AllocError` if memory runs out. Then nothing is added.
 pub fn unfold_into(body: &[u8], into: &mut Vec<u8>) -> Result<(), AllocError>
-    ensures text { OnOk result (into.new.items ≡ into.old.items ++ unfolded body.now) }
+    ensures text { OnOk result (into.new.items ≡ into.old.items ++ unfolded_body body.now) }
     ensures size { OnOk result (length into.new.items ≤ length into.old.items + length body.now) }
     ensures refused { OnErr result (into.new.items ≡ into.old.items) }
 {
@@ -67,7 +67,7 @@ pub fn unfold_into(body: &[u8], into: &mut Vec<u8>) -> Result<(), AllocError>
 ///
 /// `AllocError` if memory runs out.
 pub fn unfold(alloc: Global, body: &[u8]) -> Result<Vec<u8>, AllocError>
-    ensures text { IfOk result (λ value. value.items ≡ unfolded body.now) }
+    ensures text { IfOk result (λ value. value.items ≡ unfolded_body body.now) }
     ensures size { IfOk result (λ value. length value.items ≤ length body.now) }
 {
     let mut value = Vec::new(alloc);

@@ -3,7 +3,8 @@ use Rattle.index_job.proofs.Words.{true, false, nat_lt, if◌then◌else◌, ◌
 use Rattle.index_job.proofs.Words.{◌∷◌, length, Option, Some, option_map, unwrap_or, refl, sym, ap, subst, arith}
 use Rattle.index_job.proofs.Words.{append_assoc, append-nil, ⊎_elim, Ok, Err, length-map, map-append, ◌>>=◌, Draft}
 use Rattle.index_job.proofs.Words.{archive_count, begun_archive, stepped, TooMany, nat_tests, Key, Message, text}
-use Rattle.index_job.proofs.Words.{CutFault, Coming, JobFault, coming_ahead, Heads, AddsMessages, HasDone, with_terms}
+use Rattle.index_job.proofs.Words.{CutFault, ComingEvents, JobFault, coming_ahead, Heads, AddsMessages, HasDone}
+use Rattle.index_job.proofs.Words.{with_terms}
 use Rattle.index_job.proofs.Words.{with_messages, with_open_archive, draft_with_messages, HasTooMany, IsJobFault}
 use Rattle.index_job.proofs.Words.{message_terms}
 use Rattle.std.proofs.lemmas.List.{length-append}
@@ -51,7 +52,7 @@ module _ (number : ℕ) (d : Draft) (all : ℕ) (ms : Option (List Message)) (re
   whole_draft = draft_with_messages number (unwrap_or ms []) d
 
   -- before the first message none is done
-  pub done-none : (builder : Option Draft) (coming : Option Coming) → builder ≡ Some d → coming
+  pub done-none : (builder : Option Draft) (coming : Option ComingEvents) → builder ≡ Some d → coming
       ≡ Some (coming_ahead all ms refusal) → HasDone number d all ms refusal 0 builder coming
   done-none builder coming is comes = record {
     done = [];
@@ -65,13 +66,13 @@ module _ (number : ℕ) (d : Draft) (all : ℕ) (ms : Option (List Message)) (re
       same : (o : Option (List Message)) → o ≡ option_map (λ later. [] ++ later) o
       same o = grind arith
 
-  module _ (count : ℕ) (builder : Option Draft) (coming : Option Coming)
+  module _ (count : ℕ) (builder : Option Draft) (coming : Option ComingEvents)
       (h : HasDone number d all ms refusal count builder coming) where
     -- a fault between two messages is a fault of the archive
     pub between-fault : (f : JobFault) → IsJobFault refusal ⊥ f → IsJobFault refusal (HasTooMany whole_draft) f
     between-fault f = weaker refusal ⊥ (HasTooMany whole_draft) (λ never. elim never [ ]) f
 
-    module _ (start : ℕ) (next : Option Coming) (m : Message) (later : List Message)
+    module _ (start : ℕ) (next : Option ComingEvents) (m : Message) (later : List Message)
         (rest-is : h.rest ≡ Some (m ∷ later)) where
       ms-is : ms ≡ Some ((h.done ++ m ∷ []) ++ later)
       ms-is = h.whole ∙ ap (option_map (λ l. h.done ++ l)) rest-is ∙ ap Some (sym (append_assoc h.done (m ∷ []) later))
@@ -90,7 +91,7 @@ module _ (number : ℕ) (d : Draft) (all : ℕ) (ms : Option (List Message)) (re
           f
 
       -- after one more message, that one is done too
-      pub done-more : (builder' : Option Draft) (coming' : Option Coming) → builder'
+      pub done-more : (builder' : Option Draft) (coming' : Option ComingEvents) → builder'
           ≡ Some (draft_with_messages number (m ∷ []) (draft_with_messages number h.done d))
           → coming' ≡ Some (coming_ahead all (Some later) refusal)
           → HasDone number d all ms refusal (count + 1) builder' coming'

@@ -1,11 +1,11 @@
 -- What comes between two messages of a known archive.
 use Rattle.index_job.proofs.Words.{ℕ, List, [], ◌∷◌, Option, None, Some, refl, arith, Message, CutFault, Start, Done}
-use Rattle.index_job.proofs.Words.{Coming, TakesKnown, coming_ahead, Heads}
+use Rattle.index_job.proofs.Words.{ComingEvents, TakesKnown, coming_ahead, Heads}
 use Rattle.index_job.specs.declared.archive_reading.Heading.TheVariants as heading
 
 -- if a message begins, it is the first of those that were to come
 pub heads-message : (all : ℕ) (ms : Option (List Message)) (refusal : Option CutFault) (at : ℕ) (line : List ℕ)
-    (new : Option Coming)
+    (new : Option ComingEvents)
     → TakesKnown (Start at line) (Some (coming_ahead all ms refusal)) new
     → Heads (heading.Message at) all ms refusal new
 heads-message all None refusal at line new (after, is, (events, same)) = absurd cc
@@ -13,7 +13,8 @@ heads-message all (Some []) refusal at line new (after, is, (events, same)) = ab
 heads-message all (Some (m ∷ later)) refusal at line new (after, is, (events, same)) = grind arith
 
 -- if the archive ends, no message was to come, and nothing is refused
-pub heads-end : (all : ℕ) (ms : Option (List Message)) (refusal : Option CutFault) (length : ℕ) (new : Option Coming)
+pub heads-end : (all : ℕ) (ms : Option (List Message)) (refusal : Option CutFault) (length : ℕ)
+    (new : Option ComingEvents)
     → TakesKnown (Done length) (Some (coming_ahead all ms refusal)) new → Heads (heading.End length) all ms refusal new
 heads-end all None refusal length new (after, is, (events, none, same)) = absurd cc
 heads-end all (Some (m ∷ ms)) refusal length new (after, is, (events, none, same)) = absurd cc

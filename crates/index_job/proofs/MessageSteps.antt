@@ -1,7 +1,8 @@
 -- What reading a whole message makes of a builder's draft.
 use Rattle.index_job.proofs.Words.{◌≡◌, ◌∙◌, ◌+◌, ◌++◌, ℕ, nat_eq, if◌then◌else◌, List, [], ◌∷◌, Option, Some}
 use Rattle.index_job.proofs.Words.{option_map, refl, ap, arith, Result, Ok, Err, IfErr, OnOk, fields_of, Record, Draft}
-use Rattle.index_job.proofs.Words.{end_of, IsInArchive, Message, text, size, span_length, Coming, Facts, MessageText}
+use Rattle.index_job.proofs.Words.{end_of, IsInArchive, Message, text, size, span_length, ComingEvents, Facts}
+use Rattle.index_job.proofs.Words.{MessageText}
 use Rattle.index_job.proofs.Words.{facts_of, texts_of_message, JobFault, Span, Awaited, HasReadAll, IsMessageFault}
 use Rattle.index_job.proofs.Words.{AddsMessage, HasGathered, IsGatherFault, with_texts, draft_with_terms}
 use Rattle.index_job.proofs.Words.{draft_with_messages, with_open_message, HasTooMany, IsReady, IsOpenAt}
@@ -61,7 +62,7 @@ module _ (span : Span) (d : Draft) where
       ≡ draft_with_messages span.archive (m ∷ []) d
   ended-is m phase offset length-is size-is = grind (arith, with_terms-append)
 
-  pub adds-message : {T : Type 0} (w : Awaited) (coming : Option Coming) (r : Result T JobFault)
+  pub adds-message : {T : Type 0} (w : Awaited) (coming : Option ComingEvents) (r : Result T JobFault)
       (gathered : MessageText) (builder new : Option Draft) → IsInArchive d → w.message.offset ≡ span.offset
       → HasReadAll (Some (with_open_message d)) w (record { length = span.length; size = span.size }) gathered builder
       coming

@@ -1,20 +1,20 @@
 -- The lines of a message, as its archive gives them and as they are gathered.
 use Rattle.index_job.proofs.Words.{still_known, ◌≡◌, ◌∙◌, ◌++◌, ℕ, List, [], ◌∷◌, Option, Some, sym, ap, subst}
 use Rattle.index_job.proofs.Words.{append_assoc, append-nil, arith, Draft, text, size, span_length, CutFault, Line, End}
-use Rattle.index_job.proofs.Words.{Coming, TakesKnown, MessageText, texts_of_message, Ended, JobFault, Awaited}
+use Rattle.index_job.proofs.Words.{ComingEvents, TakesKnown, MessageText, texts_of_message, Ended, JobFault, Awaited}
 use Rattle.index_job.proofs.Words.{coming_inside, coming_between, IsReading, HasReadAll, IsMessageFault, HasGathered}
 use Rattle.index_job.proofs.Words.{IsGatherFault, with_texts, RefusesTerms, IsJobFault, IsArchiveFault}
 use Rattle.index_job.proofs.Gatherings.{texts-fail}
 use Rattle.contract_words.proofs.StillKnown.{still-other}
 
 -- what is known to come agrees with the text that is left
-behind-line : (w : Awaited) (rest : List (List ℕ)) (l : List ℕ) (now' : Option Coming)
+behind-line : (w : Awaited) (rest : List (List ℕ)) (l : List ℕ) (now' : Option ComingEvents)
     → TakesKnown (Line l) (Some (coming_inside w rest)) now'
     → (left : List (List ℕ)) × (rest ≡ l ∷ left) × (now' ≡ Some (coming_inside w left))
 behind-line w [] l now' (after, is, takes) = absurd cc
 behind-line w (l' ∷ left) l now' (after, is, (events, refusal)) = grind arith
 
-behind-end : (w : Awaited) (rest : List (List ℕ)) (span told_size : ℕ) (now' : Option Coming)
+behind-end : (w : Awaited) (rest : List (List ℕ)) (span told_size : ℕ) (now' : Option ComingEvents)
     → TakesKnown (End span told_size) (Some (coming_inside w rest)) now'
     → (rest ≡ []) × (span ≡ span_length w.message) × (told_size ≡ size w.message)
     × (now' ≡ Some (coming_between w.all w.later w.refusal))
@@ -30,7 +30,7 @@ pub gather-own : (whole : Option Draft) (f : JobFault) → IsGatherFault whole f
 gather-own whole f h = grind arith
 
 module _ (d : Option Draft) (w : Awaited) (ls rest : List (List ℕ)) (gathered : MessageText) (builder : Option Draft)
-    (now now' : Option Coming) (l : List ℕ) where
+    (now now' : Option ComingEvents) (l : List ℕ) where
   -- one more line is read
   pub reads-line : (gathered' : MessageText) (builder' : Option Draft) → IsReading d w ls rest gathered builder now
       → TakesKnown (Line l) now now'
@@ -58,7 +58,7 @@ module _ (d : Option Draft) (w : Awaited) (ls rest : List (List ℕ)) (gathered 
 
 -- the end of the message is read
 pub reads-end : (d : Option Draft) (w : Awaited) (ls rest : List (List ℕ)) (gathered : MessageText)
-    (builder : Option Draft) (now now' : Option Coming) (ended : Ended)
+    (builder : Option Draft) (now now' : Option ComingEvents) (ended : Ended)
     → IsReading d w ls rest gathered builder now → TakesKnown (End ended.length ended.size) now now'
     → HasReadAll d w ended gathered builder now'
 reads-end d w ls rest gathered builder now now' ended r takes =
@@ -74,8 +74,9 @@ reads-end d w ls rest gathered builder now now' ended r takes =
 
 -- what is read of a message's text, if it is still known what is to come
 pub still-reading : {T C : Type 0} (d : Option Draft) (w : Awaited) (ls rest : List (List ℕ)) (gathered : MessageText)
-    (builder : Option Draft) (first : Option T) (now : Option Coming) (last : Option C) (x : T)
+    (builder : Option Draft) (first : Option T) (now : Option ComingEvents) (last : Option C) (x : T)
     → still_known first last ≡ Some x → IsReading d w ls rest gathered builder now
     → IsReading d w ls rest gathered builder (still_known now last)
 still-reading d w ls rest gathered builder first now last x known r =
-    subst (λ (o : Option Coming). IsReading d w ls rest gathered builder o) (sym (still-other first now last x known)) r
+    subst (λ (o : Option ComingEvents). IsReading d w ls rest gathered builder o)
+    (sym (still-other first now last x known)) r

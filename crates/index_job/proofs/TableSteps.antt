@@ -2,7 +2,7 @@
 use Rattle.index_job.proofs.Words.{◌≡◌, ◌∙◌, ◌+◌, ◌<◌, ◌++◌, ℕ, suc, List, [], ◌∷◌, length, map, Option, Some, refl}
 use Rattle.index_job.proofs.Words.{sym, ap, arith, append_assoc, append-nil, ⊎_elim, Result, Ok, Err, IfSome}
 use Rattle.index_job.proofs.Words.{flat_map-append, length-map, map-append, sha256, Draft, IsWithinMost, begun_archive}
-use Rattle.index_job.proofs.Words.{ended_archive, stepped, messages, coming_of, events, refusal_of, ReadArchive}
+use Rattle.index_job.proofs.Words.{ended_archive, stepped, messages, coming_of, events, archive_refusal, ReadArchive}
 use Rattle.index_job.proofs.Words.{JobFault, coming_ahead, AddsMessages, most_in_archive, most_in_index, IsTooMuch}
 use Rattle.index_job.proofs.Words.{Mbox, messages_in, all_messages, record_of, records_from, with_messages, table}
 use Rattle.index_job.proofs.Words.{IsAdded, IsAddFault, draft_of, draft_with_messages, draft_ended, with_open_archive}
@@ -12,7 +12,7 @@ use Rattle.index_job.proofs.ArchiveSteps.{begun-is, with_messages-append}
 
 -- what is to come of an archive's bytes
 pub comes-known : (bytes : List ℕ) → coming_of most_in_archive bytes
-    ≡ coming_ahead (length bytes) (messages bytes) (refusal_of most_in_archive bytes)
+    ≡ coming_ahead (length bytes) (messages bytes) (archive_refusal most_in_archive bytes)
 unfolding events
 comes-known bytes = refl
 
@@ -64,7 +64,7 @@ module _ (archives : List Mbox) (a : Mbox) where
       (given : stepped (begun_archive a.path) (Some (draft_of archives)) ≡ Ok begun) where
     abbrev Adds : Result ReadArchive JobFault → Option Draft → Type 0
     Adds r builder = (d : Draft) → begun ≡ Some d
-        → AddsMessages number d (length a.bytes) (messages a.bytes) (refusal_of most_in_archive a.bytes) r builder
+        → AddsMessages number d (length a.bytes) (messages a.bytes) (archive_refusal most_in_archive a.bytes) r builder
 
     room : length archives < most_in_index
     room = grind (arith, length-map, begun-is)
@@ -78,7 +78,7 @@ module _ (archives : List Mbox) (a : Mbox) where
         ended (adds (with_open_archive a.path (draft_of archives)) (begun-is a.path (draft_of archives) begun given).1)
       where
         ended : AddsMessages number (with_open_archive a.path (draft_of archives)) (length a.bytes) (messages a.bytes)
-            (refusal_of most_in_archive a.bytes) (Ok read) builder → IsAdded archives a read.messages new
+            (archive_refusal most_in_archive a.bytes) (Ok read) builder → IsAdded archives a read.messages new
         ended (sound, is, counted, long) = grind (arith, table-more)
 
     pub add-fault : (builder : Option Draft) (f : JobFault) → Adds (Err f) builder → IsAddFault archives a f
@@ -86,7 +86,7 @@ module _ (archives : List Mbox) (a : Mbox) where
         (begun-is a.path (draft_of archives) begun given).1)
       where
         refused : AddsMessages number (with_open_archive a.path (draft_of archives)) (length a.bytes) (messages a.bytes)
-            (refusal_of most_in_archive a.bytes) (Err f) builder → IsAddFault archives a f
+            (archive_refusal most_in_archive a.bytes) (Err f) builder → IsAddFault archives a f
         refused h = grind (arith, room, too-much)
 
 -- the number of archives that have ended

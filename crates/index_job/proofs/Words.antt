@@ -39,13 +39,14 @@ pub use Rattle.mail_words.specs.Folding.{folding}
 pub use Rattle.mail_words.specs.Words.{HasWordLength, range_bytes, word_ranges}
 unfoldable pub use Rattle.mail_words.specs.Words.{words}
 pub use Rattle.mail_words.specs.declared.kind.TextKind.{TextKind}
-pub use Rattle.mbox_cutter.specs.Archives.{Message, grouped, is_refused, marked, messages_from, size, span_length, text}
+pub use Rattle.mbox_cutter.specs.Archives.{Message, grouped_lines, is_refused, marked_lines, messages_from, size}
+pub use Rattle.mbox_cutter.specs.Archives.{span_length, text}
 pub use Rattle.mbox_cutter.specs.Archives.{total, without_closing}
 unfoldable pub use Rattle.mbox_cutter.specs.Archives.{messages}
-pub use Rattle.mbox_cutter.specs.Coming.{Answers, TakesKnown}
-pub use Rattle.mbox_cutter.specs.Events.{Coming, Done, End, Line, Start, coming_of}
-unfoldable pub use Rattle.mbox_cutter.specs.Events.{events, refusal_of}
-pub use Rattle.mbox_cutter.specs.Places.{left}
+pub use Rattle.mbox_cutter.specs.Coming.{AnswersAsComing, TakesKnown}
+pub use Rattle.mbox_cutter.specs.Events.{ComingEvents, Done, End, Line, Start, coming_of}
+unfoldable pub use Rattle.mbox_cutter.specs.Events.{events, archive_refusal}
+pub use Rattle.mbox_cutter.specs.Places.{events_left}
 pub use Rattle.mbox_cutter.specs.Progress.{Advances, Progress, shown_result}
 pub use Rattle.mbox_cutter.specs.declared.event.CutFault.{CutFault}
 pub use Rattle.mbox_cutter.specs.declared.event.Event.{Event}

@@ -3,7 +3,7 @@ use Rattle.std.specs.Prelude.{◌≡◌, ◌⊎◌, ◌<◌, ◌≤◌, List, []
 use Rattle.mail_index.specs.Limits.{most_in_archive, most_in_index}
 use Rattle.mail_index.specs.Tables.{Table}
 use Rattle.mbox_cutter.specs.declared.event.CutFault.{CutFault}
-use Rattle.mbox_cutter.specs.Events.{refusal_of}
+use Rattle.mbox_cutter.specs.Events.{archive_refusal}
 use Rattle.index_job.specs.ArchiveTables.{Mbox, table}
 
 -- the table has more archives, messages or keys than an index may have
@@ -19,11 +19,11 @@ pub record IsWithinLimit (t : Table) : Type 0 where
 
 -- the archive's bytes are refused with this fault
 abbrev pub HasCutFault : Mbox → CutFault → Type 0
-HasCutFault a fault = refusal_of most_in_archive a.bytes ≡ Some fault
+HasCutFault a fault = archive_refusal most_in_archive a.bytes ≡ Some fault
 
 -- no archive is refused, and all together are within the limits
 pub record AreSound (archives : List Mbox) : Type 0 where
-  pub each : All (λ a. refusal_of most_in_archive a.bytes ≡ None) archives
+  pub each : All (λ a. archive_refusal most_in_archive a.bytes ≡ None) archives
   pub few : IsWithinLimit (table archives)
 
 -- The archives before the last are sound, and the bytes of the last are refused. There is room for one archive more:

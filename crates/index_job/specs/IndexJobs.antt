@@ -2,7 +2,7 @@
 use Rattle.std.specs.Prelude.{◌≡◌, ⊤, ℕ, ◌<◌, List, [], ◌∷◌, ◌++◌, length, Option, None, Some}
 use Rattle.mail_index.specs.Builders.{Draft}
 use Rattle.mbox_cutter.specs.declared.event.CutFault.TheVariants.{Device, NotAnMbox, ArchiveTooLong, Failed}
-use Rattle.mbox_cutter.specs.Events.{refusal_of}
+use Rattle.mbox_cutter.specs.Events.{archive_refusal}
 use Rattle.index_job.specs.declared.job_fault.JobFault.{JobFault}
 use Rattle.index_job.specs.declared.job_fault.JobFault.TheVariants as job
 use Rattle.index_job.specs.ArchiveTables.{Mbox, messages_in, table}
@@ -16,7 +16,7 @@ IsIndexOf job archives = job ≡ Some (draft_of archives)
 
 -- the job has the table of these archives and one more, which isn't refused and has this many messages
 pub record IsAdded (before : List Mbox) (a : Mbox) (count : ℕ) (job : Option Draft) : Type 0 where
-  pub sound : refusal_of most_in_archive a.bytes ≡ None
+  pub sound : archive_refusal most_in_archive a.bytes ≡ None
   pub within : IsWithinLimit (table (before ++ a ∷ []))
   pub counted : count ≡ length (messages_in a.bytes)
   pub whole : IsIndexOf job (before ++ a ∷ [])
@@ -26,9 +26,9 @@ pub record IsAdded (before : List Mbox) (a : Mbox) (count : ℕ) (job : Option D
 abbrev pub IsAddFault : List Mbox → Mbox → JobFault → Type 0
 IsAddFault before a (job.Cut Device) = ⊤
 IsAddFault before a (job.Cut NotAnMbox) = (length before < most_in_index)
-    × (refusal_of most_in_archive a.bytes ≡ Some NotAnMbox)
+    × (archive_refusal most_in_archive a.bytes ≡ Some NotAnMbox)
 IsAddFault before a (job.Cut ArchiveTooLong) = (length before < most_in_index)
-    × (refusal_of most_in_archive a.bytes ≡ Some ArchiveTooLong)
+    × (archive_refusal most_in_archive a.bytes ≡ Some ArchiveTooLong)
 IsAddFault before a (job.Cut Failed) = ⊥
 IsAddFault before a job.OutOfMemory = ⊤
 IsAddFault before a job.TooMany = IsTooMuch (table (before ++ a ∷ []))

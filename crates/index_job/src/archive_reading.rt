@@ -9,7 +9,7 @@ ghost use Rattle.mail_index.specs.Tables.{IsPath};
 ghost use Rattle.mbox_cutter.specs.Archives.{Message, messages as messages_of, text as text_of};
 ghost use Rattle.mbox_cutter.specs.Sources.{Stays};
 ghost use Rattle.mbox_cutter.specs.declared.event.CutFault.{CutFault};
-ghost use Rattle.mbox_cutter.specs.Events.{refusal_of};
+ghost use Rattle.mbox_cutter.specs.Events.{archive_refusal};
 ghost use Rattle.mbox_cutter.specs.declared.scan.Phase.TheVariants as Phase;
 ghost use Rattle.mail_index.specs.Limits.{most_in_archive};
 ghost use Rattle.index_job.specs.Inside.ArchiveReading.{Awaited, AwaitsEnd, AddsMessages, coming_inside, coming_ahead, IsHeading, Heads, ReadsToEnd, AddsMessage, IsInside, GoesFurther, HasEnded, IsReading, HasReadAll, IsMessageFault, ReadsSource};
@@ -220,7 +220,7 @@ fn read_archive<S: Source>(
     ensures known { (d : Draft) (bytes : List ℕ) → builder.old ≡ Some d
         → still_known (S.rest source.old) (S.rest source.new) ≡ Some bytes
         → AddsMessages archive d (length bytes) (messages_of bytes)
-        (refusal_of most_in_archive bytes) result builder.new }
+        (archive_refusal most_in_archive bytes) result builder.new }
     ensures own { IfErr result IsArchiveFault }
 {
     let buffer = match kept.take() {

@@ -1,7 +1,8 @@
 -- Laws of archives indexed one after another: what is known so far, and which source has failed.
 use Rattle.index_run.proofs.Words.{◌≡◌, ◌∙◌, ◌+◌, ◌<◌, ◌≤◌, ◌++◌, ℕ, zero, suc, List, [], ◌∷◌, length, take, drop}
 use Rattle.index_run.proofs.Words.{get_or, None, Some, false, inl, inr, refl, sym, ap, arith, drop-cons, take_more}
-use Rattle.index_run.proofs.Words.{take-append-drop, length-take-le, All-append, All-cons, All-nil, Draft, refusal_of}
+use Rattle.index_run.proofs.Words.{take-append-drop, length-take-le, All-append, All-cons, All-nil, Draft}
+use Rattle.index_run.proofs.Words.{archive_refusal}
 use Rattle.index_run.proofs.Words.{Mbox, most_in_archive, AreSound, mboxes, Parted, IsArchivesFault, fault_of_job}
 use Rattle.index_run.proofs.Words.{IsAdded, IsAddFault, Err, ◌≢◌, eqb_tells, is_failed_source}
 use Rattle.mbox_cutter.specs.declared.event.CutFault.TheVariants as cut
@@ -61,9 +62,9 @@ module _ (paths bytes : List (List ℕ)) (i : ℕ) (same : length paths ≡ leng
 pub sound-more : (before : List Mbox) (a : Mbox) (n : ℕ) (j : Option Draft) → AreSound before → IsAdded before a n j
     → AreSound (before ++ a ∷ [])
 sound-more before a n j sound added = record {
-  each = All-append (λ (b : Mbox). refusal_of most_in_archive b.bytes ≡ None) before (a ∷ []) sound.each
-      (All-cons (λ (b : Mbox). refusal_of most_in_archive b.bytes ≡ None) a [] added.sound
-      (All-nil (λ (b : Mbox). refusal_of most_in_archive b.bytes ≡ None)));
+  each = All-append (λ (b : Mbox). archive_refusal most_in_archive b.bytes ≡ None) before (a ∷ []) sound.each
+      (All-cons (λ (b : Mbox). archive_refusal most_in_archive b.bytes ≡ None) a [] added.sound
+      (All-nil (λ (b : Mbox). archive_refusal most_in_archive b.bytes ≡ None)));
   few = added.within;
 }
 

@@ -1,7 +1,7 @@
 -- Either all archives are sound, or there is a first one that is refused, by induction over the archives.
 use Rattle.index_run.proofs.Words.{◌≡◌, ◌∙◌, ◌+◌, ◌<◌, ◌≤◌, ◌++◌, ℕ, List, [], ◌∷◌, length, None, Some, refl, sym}
 use Rattle.index_run.proofs.Words.{subst, arith, append-nil, append_assoc, ⊎_elim, inl, inr, ◌⊎◌, leb_tells}
-use Rattle.index_run.proofs.Words.{length-append, length-map, All-append, All-cons, All-nil, CutFault, refusal_of}
+use Rattle.index_run.proofs.Words.{length-append, length-map, All-append, All-cons, All-nil, CutFault, archive_refusal}
 use Rattle.index_run.proofs.Words.{Fault, most_in_archive, most_in_index, AreSound, IsTooMuch, IsWithinLimit, Mbox}
 use Rattle.index_run.proofs.Words.{table, entry_of, Parted, Refuses}
 use Rattle.std.proofs.Common.{Option}
@@ -28,7 +28,7 @@ within-or-too-much archives =
 
 pub none-sound : AreSound []
 none-sound = record {
-  each = All-nil (λ (b : Mbox). refusal_of most_in_archive b.bytes ≡ None);
+  each = All-nil (λ (b : Mbox). archive_refusal most_in_archive b.bytes ≡ None);
   few = record { archives = omega arith; messages = omega arith; keys = omega arith };
 }
 
@@ -54,18 +54,18 @@ module _ (archives before rest : List Mbox) (a : Mbox) (whole : archives ≡ bef
       length-append before (a ∷ []),
     )))
 
-    sound-with : refusal_of most_in_archive a.bytes ≡ None → IsWithinLimit (table (before ++ a ∷ []))
+    sound-with : archive_refusal most_in_archive a.bytes ≡ None → IsWithinLimit (table (before ++ a ∷ []))
         → AreSound (before ++ a ∷ [])
     sound-with taken few = record {
-      each = All-append (λ (b : Mbox). refusal_of most_in_archive b.bytes ≡ None) before (a ∷ []) sound.each
-          (All-cons (λ (b : Mbox). refusal_of most_in_archive b.bytes ≡ None) a [] taken
-          (All-nil (λ (b : Mbox). refusal_of most_in_archive b.bytes ≡ None)));
+      each = All-append (λ (b : Mbox). archive_refusal most_in_archive b.bytes ≡ None) before (a ∷ []) sound.each
+          (All-cons (λ (b : Mbox). archive_refusal most_in_archive b.bytes ≡ None) a [] taken
+          (All-nil (λ (b : Mbox). archive_refusal most_in_archive b.bytes ≡ None)));
       few = few;
     }
 
     -- if there is room for this archive: it is refused, or the archives after it decide
     by-bytes : length before + 1 ≤ most_in_index → (AreSound (before ++ a ∷ []) → IsDecided archives)
-        → (o : Option CutFault) → refusal_of most_in_archive a.bytes ≡ o → IsDecided archives
+        → (o : Option CutFault) → archive_refusal most_in_archive a.bytes ≡ o → IsDecided archives
     by-bytes room onward (Some fault) is = inr (
       Archive (length before) fault,
       (
@@ -82,7 +82,7 @@ module _ (archives before rest : List Mbox) (a : Mbox) (whole : archives ≡ bef
     step : (AreSound (before ++ a ∷ []) → IsDecided archives) → IsDecided archives
     step onward =
         ⊎_elim
-        (λ room. by-bytes room onward (refusal_of most_in_archive a.bytes) refl)
+        (λ room. by-bytes room onward (archive_refusal most_in_archive a.bytes) refl)
         no-room
         (within-or-over (length before + 1))
 

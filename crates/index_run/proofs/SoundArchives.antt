@@ -1,7 +1,7 @@
 -- Sound archives aren't refused, because the counts of a front of them are no larger.
 use Rattle.index_run.proofs.Words.{◌≡◌, ◌∙◌, ◌+◌, ◌<◌, ◌≤◌, ◌++◌, List, [], ◌∷◌, length, All, get_or, None, Some, sym}
 use Rattle.index_run.proofs.Words.{ap, subst, arith, append_assoc, ⊎_elim, length-append, length-map, All-get_or}
-use Rattle.index_run.proofs.Words.{get_or-append_seam, CutFault, refusal_of, Fault, most_in_archive, AreSound}
+use Rattle.index_run.proofs.Words.{get_or-append_seam, CutFault, archive_refusal, Fault, most_in_archive, AreSound}
 use Rattle.index_run.proofs.Words.{IsTooMuch, IsWithinLimit, Mbox, table, all_messages, messages_in, with_messages}
 use Rattle.index_run.proofs.Words.{entry_of, Refuses}
 use Rattle.std.proofs.lemmas.Grind.{flat_map-append}
@@ -46,17 +46,17 @@ never-too-much archives before behind a whole few much =
     much
 
 never-cut-off : (archives before behind : List Mbox) (a : Mbox) (f : CutFault) → archives ≡ before ++ a ∷ behind
-    → AreSound archives → refusal_of most_in_archive a.bytes ≡ Some f → ⊥
+    → AreSound archives → archive_refusal most_in_archive a.bytes ≡ Some f → ⊥
 never-cut-off archives before behind a f whole sound is =
-    let all : All (λ (b : Mbox). refusal_of most_in_archive b.bytes ≡ None) (before ++ a ∷ behind) =
-    subst (λ l. All (λ (b : Mbox). refusal_of most_in_archive b.bytes ≡ None) l) whole sound.each in
+    let all : All (λ (b : Mbox). archive_refusal most_in_archive b.bytes ≡ None) (before ++ a ∷ behind) =
+    subst (λ l. All (λ (b : Mbox). archive_refusal most_in_archive b.bytes ≡ None) l) whole sound.each in
     let inside : length before < length (before ++ a ∷ behind) = omega (arith, length-append before (a ∷ behind)) in
-    let none : refusal_of most_in_archive (get_or (before ++ a ∷ behind) (length before) a).bytes ≡ None =
-    All-get_or (λ (b : Mbox). refusal_of most_in_archive b.bytes ≡ None) (before ++ a ∷ behind) (length before) a
+    let none : archive_refusal most_in_archive (get_or (before ++ a ∷ behind) (length before) a).bytes ≡ None =
+    All-get_or (λ (b : Mbox). archive_refusal most_in_archive b.bytes ≡ None) (before ++ a ∷ behind) (length before) a
     inside all in
     let here : get_or (before ++ a ∷ behind) (length before) a ≡ a = get_or-append_seam before a behind a in
-    let none-here : refusal_of most_in_archive a.bytes ≡ None =
-    subst (λ (b : Mbox). refusal_of most_in_archive b.bytes ≡ None) here none in
+    let none-here : archive_refusal most_in_archive a.bytes ≡ None =
+    subst (λ (b : Mbox). archive_refusal most_in_archive b.bytes ≡ None) here none in
     cc
 
 pub sound-not-refused : (archives : List Mbox) (f : Fault) → AreSound archives → Refuses archives f → ⊥

@@ -7,7 +7,7 @@ pub use Rattle.index_run.specs.ArchivesIndexed.{IsArchivesFault, Parted, Refuses
 pub use Rattle.mail_index.specs.Builders.{Draft}
 pub use Rattle.mail_index.specs.Limits.{most_in_archive, most_in_index}
 pub use Rattle.mail_index.specs.Tables.{IsPath, IsWellFormed}
-pub use Rattle.mbox_cutter.specs.Events.{refusal_of}
+pub use Rattle.mbox_cutter.specs.Events.{archive_refusal}
 pub use Rattle.mbox_cutter.specs.declared.event.CutFault.{CutFault}
 pub use Rattle.run_faults.specs.Faults.{is_failed_source}
 pub use Rattle.run_faults.specs.declared.fault.Fault.{Fault}

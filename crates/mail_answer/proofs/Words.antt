@@ -1,6 +1,6 @@
 -- The words of std and of the definitions that proofs use, from one place.
 pub use Rattle.contract_words.proofs.Sending.{appends-nil, appends_join}
-pub use Rattle.contract_words.specs.Archives.{IsRead, archive_at}
+pub use Rattle.contract_words.specs.Archives.{IsReadFromArchive, archive_at}
 pub use Rattle.contract_words.specs.Knowledge.{WasKnown}
 pub use Rattle.header_text.specs.Headers.{HeaderField, fields_in, lines_before_empty, lines_within, most_in_header}
 unfoldable pub use Rattle.header_text.specs.Headers.{fields_of}
@@ -80,11 +80,12 @@ pub use Rattle.mbox_cutter.proofs.FirstLines.{first_length-le, first_length-posi
 pub use Rattle.mbox_cutter.proofs.FirstLines.{length_before_feed-le, line_end-more, line_end-positive, line_end-whole}
 pub use Rattle.mbox_cutter.proofs.FirstLines.{line_end-within}
 pub use Rattle.mbox_cutter.proofs.LineLists.{lines-cons, lines-nil}
-pub use Rattle.mbox_cutter.specs.Archives.{Message, cut, grouped, is_refused, marked, messages_from, span_length, total}
+pub use Rattle.mbox_cutter.specs.Archives.{Message, spans_of, grouped_lines, is_refused, marked_lines, messages_from}
+pub use Rattle.mbox_cutter.specs.Archives.{span_length, total}
 unfoldable pub use Rattle.mbox_cutter.specs.Archives.{messages}
 pub use Rattle.mbox_cutter.specs.Lines.{AreCut, AreLines, IsLine, length_before_feed}
 unfoldable pub use Rattle.mbox_cutter.specs.Lines.{first_length, is_empty, line_end_of, lines}
-pub use Rattle.mbox_cutter.specs.Separators.{has_time_then_year, tokens}
+pub use Rattle.mbox_cutter.specs.Separators.{has_time_then_year, separator_tokens}
 unfoldable pub use Rattle.mbox_cutter.specs.Separators.{has_form, is_separator, without_break}
 pub use Rattle.mbox_cutter.specs.declared.device.DeviceFault.{DeviceFault}
 pub use Rattle.sha2.specs.Sha256.{sha256}

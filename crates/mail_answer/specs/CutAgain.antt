@@ -1,7 +1,7 @@
 -- How an mbox answer is cut again into its messages.
 use Rattle.std.specs.Prelude.{◌≡◌, ℕ, ◌+◌, Bool, false, ◌==◌, List, [], ◌∷◌, ◌++◌, Some, length, take, drop}
 use Rattle.std.specs.List.{concat}
-use Rattle.mbox_cutter.specs.Archives.{cut}
+use Rattle.mbox_cutter.specs.Archives.{spans_of}
 
 -- whether the last byte is CR
 abbrev pub ends_in_return : List ℕ → Bool
@@ -15,7 +15,7 @@ pub record IsCutOut (text : List ℕ) : Type 0 where
   pub before : List (ℕ × ℕ)
   pub here : ℕ × ℕ
   pub behind : List (ℕ × ℕ)
-  pub is_cut : cut archive ≡ Some (before ++ here ∷ behind)
+  pub is_cut : spans_of archive ≡ Some (before ++ here ∷ behind)
   pub is_text : text ≡ take here.1 (drop here.0 archive)
 
 -- the offset and the length of each of these texts, if they are one after another from an offset on
@@ -26,4 +26,4 @@ places_from offset (text ∷ texts) = (offset, length text) ∷ places_from (off
 -- the bytes are these texts, one after another, and cutting the bytes gives one span for each text
 pub record IsCutInto (bytes : List ℕ) (texts : List (List ℕ)) : Type 0 where
   pub joined : concat texts ≡ bytes
-  pub spans : cut bytes ≡ Some (places_from 0 texts)
+  pub spans : spans_of bytes ≡ Some (places_from 0 texts)

@@ -4,8 +4,8 @@ use Rattle.std.specs.List.{flat_map}
 use Rattle.mbox_cutter.specs.Lines.{lines}
 use Rattle.header_text.specs.Headers.{HeaderField, fields_of}
 use Rattle.header_text.specs.Names.{first_body}
-use Rattle.header_text.specs.Unfolding.{unfolded}
-use Rattle.header_text.specs.EncodedWords.{decoded}
+use Rattle.header_text.specs.Unfolding.{unfolded_body}
+use Rattle.header_text.specs.EncodedWords.{decoded_value}
 
 -- the body of the first field with this name, empty if there is none
 abbrev pub body_of : List ℕ → List HeaderField → List ℕ
@@ -27,7 +27,8 @@ spaced (b ∷ bs) = 32 ∷ b ∷ bs
 
 -- the line of a field: the name, a colon, the value, LF
 abbrev pub field_line : List HeaderField → List ℕ → List ℕ
-field_line fields name = name ++ 58 ∷ spaced (without_controls (decoded (unfolded (body_of name fields)))) ++ 10 ∷ []
+field_line fields name = name ++ 58 ∷ spaced (without_controls (decoded_value (unfolded_body (body_of name fields)))) ++
+    10 ∷ []
 
 -- the names of the fields in an excerpt
 abbrev pub excerpt_names : List (List ℕ)

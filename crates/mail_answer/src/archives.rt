@@ -3,7 +3,7 @@
 //! Two relations, `measures` and `reads`, describe what a call does to archives. So a contract can say in which order
 //! archives are read, whether their bytes are known or not (decision 92 in docs/DECISIONS.md).
 ghost use Rattle.std.specs.Prelude.{◌≡◌, ◌<◌, ◌≤◌, ◌-◌, ◌^◌, ⊤, ℕ, List, Option, Result, length, take, IfOk};
-ghost use Rattle.contract_words.specs.Archives.{IsLength, IsRead};
+ghost use Rattle.contract_words.specs.Archives.{IsLength, IsReadFromArchive};
 ghost use Rattle.contract_words.specs.Devices.{Counts};
 ghost use Rattle.contract_words.specs.Knowledge.{WasKnown};
 ghost use Rattle.mbox_cutter.specs.declared.device.DeviceFault.{DeviceFault};
@@ -64,7 +64,7 @@ pub trait Archives {
         requires room { 0 < length into.old }
         requires count { failures self.old < 2 ^ 64 - 1 }
         ensures bound { IfOk result (λ bytes. bytes ≤ length into.new) }
-        ensures bytes { IfOk result (λ bytes. IsRead n offset (take bytes into.new)
+        ensures bytes { IfOk result (λ bytes. IsReadFromArchive n offset (take bytes into.new)
             (held self.new)) }
         ensures read { reads self.old n offset (bytes_told result into.new) self.new }
         ensures asked { lengths_asked self.new ≡ lengths_asked self.old }

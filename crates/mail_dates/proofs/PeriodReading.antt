@@ -20,9 +20,9 @@ use Rattle.mail_dates.specs.Periods as periods
 use Rattle.mail_dates.specs.Periods.{unit_of, last_unit, before_last_letter, day_of, yearly_day, has_long_count}
 use Rattle.mail_dates.specs.Periods.{period_days_by}
 use Rattle.mail_dates.specs.Ranges.{named_days_by}
-use Rattle.mail_dates.specs.PeriodGrammar.{Names, Form, DaysAgo, FullDate, WholeYear, NamedMonth, DayThenMonth}
+use Rattle.mail_dates.specs.PeriodGrammar.{NamesDays, Form, DaysAgo, FullDate, WholeYear, NamedMonth, DayThenMonth}
 use Rattle.mail_dates.specs.PeriodGrammar.{MonthThenDay, IsPeriod, CountOfUnits, YearMonthDay, Year, Month, DayMonth}
-use Rattle.mail_dates.specs.PeriodGrammar.{MonthDay, IsLongCount, DigitsAndUnit, IsRefused, LongCount, NoPeriod}
+use Rattle.mail_dates.specs.PeriodGrammar.{MonthDay, IsLongCount, DigitsAndUnit, IsRefusedPeriod, LongCount, NoPeriod}
 use Rattle.mail_dates.proofs.PeriodForms.{number_is, name_is, formed, no_form, same_form}
 
 -- the period that is read from a text of this form
@@ -323,7 +323,7 @@ module _ (today by : ℤ) where
           let none : None ≡ Some form = sym (no_form text (is_long text e)) ∙ formed today by text form said h
           in absurd cc
 
-  pub names_read : (text : List ℕ) (days : Days) → Names today by text days → named text ≡ Ok days
+  pub names_read : (text : List ℕ) (days : Days) → NamesDays today by text days → named text ≡ Ok days
   unfolding period_of chosen
   names_read text days n =
       let r = reads text n.form (Some days) n.period in
@@ -343,7 +343,7 @@ module _ (today by : ℤ) where
       (λ period. ok_or (period_days_by day_number today by period) BadDate)) ≡ Ok days → HasRead text days
   was_read long text days e = grind arith
 
-  pub read_names : (text : List ℕ) (days : Days) → named text ≡ Ok days → Names today by text days
+  pub read_names : (text : List ℕ) (days : Days) → named text ≡ Ok days → NamesDays today by text days
   unfolding period_of chosen
   read_names text days e =
       let h = was_read (has_long_count text) text days e in
@@ -384,24 +384,24 @@ module _ (today by : ℤ) where
       both : Some r.period ≡ Some s.period
       both = sym r.is ∙ (ap (λ form. read form text) same ∙ s.is)
 
-  pub named_law : (text : List ℕ) (days : Days) → (named text ≡ Ok days) ↔ Names today by text days
+  pub named_law : (text : List ℕ) (days : Days) → (named text ≡ Ok days) ↔ NamesDays today by text days
   named_law text days = (read_names text days, names_read text days)
 
-  pub refused_law : (text : List ℕ) (fault : DateFault) → (named text ≡ Err fault) ↔ IsRefused today by text fault
+  pub refused_law : (text : List ℕ) (fault : DateFault) → (named text ≡ Err fault) ↔ IsRefusedPeriod today by text fault
   refused_law text fault = (refused fault, is_refused fault)
     where
-      refused : (fault : DateFault) → named text ≡ Err fault → IsRefused today by text fault
+      refused : (fault : DateFault) → named text ≡ Err fault → IsRefusedPeriod today by text fault
       refused BadNumber e = LongCount (read_long text e)
       refused BadDate e =
           NoPeriod (λ days n. let ok : Ok days ≡ Err BadDate = sym (names_read text days n) ∙ e in cc)
           (λ long. let other : Err BadNumber ≡ Err BadDate = sym (long_read text long) ∙ e in cc)
 
-      go : (r : Result Days DateFault) → named text ≡ r → ((days : Days) → Names today by text days → ⊥)
+      go : (r : Result Days DateFault) → named text ≡ r → ((days : Days) → NamesDays today by text days → ⊥)
           → (IsLongCount text → ⊥) → named text ≡ Err BadDate
       go (Ok days) e h k = absurd (h days (read_names text days e))
       go (Err BadDate) e h k = e
       go (Err BadNumber) e h k = absurd (k (read_long text e))
 
-      is_refused : (fault : DateFault) → IsRefused today by text fault → named text ≡ Err fault
+      is_refused : (fault : DateFault) → IsRefusedPeriod today by text fault → named text ≡ Err fault
       is_refused fault (LongCount long) = long_read text long
       is_refused fault (NoPeriod h k) = go (named text) refl h k

@@ -14,7 +14,7 @@ use Rattle.mail_dates.specs.declared.days.Days.{Days}
 use Rattle.mail_dates.specs.declared.period.Unit.{Unit}
 use Rattle.mail_dates.specs.Periods.{unit_of}
 use Rattle.mail_dates.specs.Ranges.{named_days_by, range_of_days, range_of_period_by, range_between_by, range_from_by}
-use Rattle.mail_dates.specs.PeriodGrammar.{Names, Form, IsPeriod, CountOfUnits, YearMonthDay, Year, Month, DayMonth}
+use Rattle.mail_dates.specs.PeriodGrammar.{NamesDays, Form, IsPeriod, CountOfUnits, YearMonthDay, Year, Month, DayMonth}
 use Rattle.mail_dates.specs.PeriodGrammar.{MonthDay, IsLongCount, DigitsAndUnit}
 use Rattle.mail_dates.specs.RangeGrammar.{day_at, IsRange, InPeriod, Between, Until, Since, IsEnd, NoEnd, NamedEnd}
 use Rattle.mail_dates.specs.RangeGrammar.{HasLongCount, AsPeriod, AsEnd, AsStart, IsFault, TooLong, NoRange}
@@ -93,7 +93,7 @@ period_free today by text form said (DayMonth digits name day month d e) =
 period_free today by text form said (MonthDay name digits month day e d) =
     let n = day_is digits day d in append_free name digits (name_free name month e) (digits_free digits n.digits)
 
-names_free : (today by : ℤ) (text : List ℕ) (days : Days) → Names today by text days → Free text
+names_free : (today by : ℤ) (text : List ℕ) (days : Days) → NamesDays today by text days → Free text
 names_free today by text days n = period_free today by text n.form (Some days) n.period
 
 long_free : (text : List ℕ) → IsLongCount text → Free text
@@ -200,7 +200,7 @@ module _ (now : ℕ) where
 
   record IsStart (end : ℤ) (start : List ℕ) (until : ℤ) (range : Range) : Type 0 where
     first : Days
-    names : Names (day_at now) end start first
+    names : NamesDays (day_at now) end start first
     is : record { from = Some (start_of_day first.first); until = Some until } ≡ range
 
   read_start : (end : ℤ) (a : ℕ) (more : List ℕ) (until : ℤ) (range : Range)

@@ -1,6 +1,6 @@
 -- Worked examples of header dates: fields, and the second that each says.
 use Rattle.mail_dates.proofs.Words.{ℕ, List, [], ◌∷◌, ◌++◌, map, refl, Option, Some, None, ℤ, pos, negsuc, codes}
-use Rattle.mail_dates.proofs.Words.{month_of, date_of, date_by, tokens, time_of, offset_of, hours_west}
+use Rattle.mail_dates.proofs.Words.{month_of, date_of, date_by, date_tokens, time_of, offset_of, hours_west}
 use Rattle.mail_dates.proofs.RowTables.{Holds, hold, all_say}
 
 abbrev Dated : List (List ℕ × ℤ) → Type 0
@@ -68,5 +68,5 @@ rows : Dated ((codes "Thu, 2 Jan 2003 10:00:00 +0100 (CET)", pos 1041498000)
     ∷ codes "2 Jan 2003 10::00" ∷ (codes "D" ++ (0xC3 ∷ 0xB6 ∷ []) ++ codes ", 2 Jan 2003 10:00")
     ∷ (codes "2 J" ++ (0xC3 ∷ 0xA4 ∷ []) ++ codes "n 2003 10:00")
     ∷ ((0xD9 ∷ 0xA2 ∷ []) ++ codes " Jan 2003 10:00") ∷ (codes "2 Jan 2003 10:00" ++ (0x00 ∷ [])) ∷ [])
-unfolding date_of tokens time_of offset_of hours_west month_of
+unfolding date_of date_tokens time_of offset_of hours_west month_of
 rows = (hold date_by refl, hold date_by refl, hold date_by refl)

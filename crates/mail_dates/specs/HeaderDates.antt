@@ -20,13 +20,13 @@ abbrev pub is_parenthesis : ℕ → Bool
 is_parenthesis b = b == 0x28
 
 -- the tokens of a text: what is between gaps and isn't empty
-unfoldable pub tokens : List ℕ → List (List ℕ)
-tokens text = filter (λ token. not (length token == 0)) (slice_split is_gap text)
+unfoldable pub date_tokens : List ℕ → List (List ℕ)
+date_tokens text = filter (λ token. not (length token == 0)) (slice_split is_gap text)
 
 -- a token and those of the rest; an empty token means that there is none
 abbrev pub with_first : List ℕ → List ℕ → List (List ℕ)
 with_first [] rest = []
-with_first (b ∷ bs) rest = (b ∷ bs) ∷ tokens rest
+with_first (b ∷ bs) rest = (b ∷ bs) ∷ date_tokens rest
 
 -- the text before its first `(`
 abbrev pub without_comments : List ℕ → List ℕ
@@ -131,7 +131,7 @@ module _ (day_number : ℤ → ℕ → ℕ → Option ℤ) where
 
   -- the second that the field says
   abbrev pub date_by : List ℕ → Option ℤ
-  date_by text = date_of_tokens_by (without_day_name (tokens (without_comments text)))
+  date_by text = date_of_tokens_by (without_day_name (date_tokens (without_comments text)))
 
 -- the second that the field says, by the numbers of the calendar
 unfoldable pub date_of : List ℕ → Option ℤ

@@ -41,7 +41,7 @@ pub data IsPeriod (today by : ℤ) : List ℕ → Form → Option Days → Type 
       → IsPeriod today by (name ++ digits) MonthThenDay (latest_days_by day_number (days.Day month day) by)
 
 -- the text has one of the forms, and the calendar has these days
-pub record Names (today by : ℤ) (text : List ℕ) (days : Days) : Type 0 where
+pub record NamesDays (today by : ℤ) (text : List ℕ) (days : Days) : Type 0 where
   pub form : Form
   pub period : IsPeriod today by text form (Some days)
 
@@ -52,6 +52,7 @@ pub data IsLongCount : List ℕ → Type 0 where
       → IsLongCount (digits ++ letter ∷ [])
 
 -- why a text names no days
-pub data IsRefused (today by : ℤ) (text : List ℕ) : DateFault → Type 0 where
-  LongCount : IsLongCount text → IsRefused today by text BadNumber
-  NoPeriod : ((days : Days) → Names today by text days → ⊥) → (IsLongCount text → ⊥) → IsRefused today by text BadDate
+pub data IsRefusedPeriod (today by : ℤ) (text : List ℕ) : DateFault → Type 0 where
+  LongCount : IsLongCount text → IsRefusedPeriod today by text BadNumber
+  NoPeriod : ((days : Days) → NamesDays today by text days → ⊥) → (IsLongCount text → ⊥)
+      → IsRefusedPeriod today by text BadDate

@@ -2,7 +2,7 @@
 
 ghost use Rattle.std.specs.Prelude.{◌≡◌, ◌<◌, IfSome};
 ghost use Rattle.mail_dates.specs.Calendar.{day_number};
-ghost use Rattle.mail_dates.specs.HeaderDates.{year_of, tokens, with_first, without_day_name, date_of_parts_by, date_of};
+ghost use Rattle.mail_dates.specs.HeaderDates.{year_of, date_tokens, with_first, without_day_name, date_of_parts_by, date_of};
 
 use crate::calendar::{day_number, month_of};
 use crate::number::number_in;
@@ -32,7 +32,7 @@ pub fn read_date(text: &str) -> Option<i64>
 /// Returns the first token after the name of a day of the week, if there is such a name, and what follows this token.
 /// Any token of letters alone counts as such a name.
 fn day_token(text: &[u8]) -> (&[u8], &[u8])
-    ensures { without_day_name (tokens text.now) ≡ with_first result.0.now result.1.now }
+    ensures { without_day_name (date_tokens text.now) ≡ with_first result.0.now result.1.now }
 {
     let (first, rest) = next_token(text);
     if are_letters(first) {

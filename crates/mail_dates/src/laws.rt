@@ -7,7 +7,7 @@ ghost use Rattle.mail_dates.specs.declared.days.DaysOfYear.{DaysOfYear};
 ghost use Rattle.mail_dates.specs.declared.range.Range.{Range};
 ghost use Rattle.mail_dates.specs.Calendar.{day_number, latest_year, IsLatestYear};
 ghost use Rattle.mail_dates.specs.Periods.{fit_by};
-ghost use Rattle.mail_dates.specs.PeriodGrammar.{Form, IsPeriod, Names, IsRefused};
+ghost use Rattle.mail_dates.specs.PeriodGrammar.{Form, IsPeriod, NamesDays, IsRefusedPeriod};
 ghost use Rattle.mail_dates.specs.Ranges.{named_days_by, range_at};
 ghost use Rattle.mail_dates.specs.RangeGrammar.{IsRange, IsFault};
 
@@ -27,13 +27,14 @@ pub fn forms_of_periods_exclude_one_another()
 /// The days that are read from a text are those that it names by the grammar.
 pub fn a_period_is_read_as_the_grammar_says()
     ensures { (today by : ℤ) (text : List ℕ) (days : Days)
-        → (named_days_by day_number today by text ≡ Ok days) ↔ Names today by text days }
+        → (named_days_by day_number today by text ≡ Ok days) ↔ NamesDays today by text days }
 {}
 
 /// A text is refused exactly if it names no days by the grammar, and with the fault that the grammar gives.
 pub fn what_is_no_period_is_refused()
     ensures { (today by : ℤ) (text : List ℕ) (fault : DateFault)
-        → (named_days_by day_number today by text ≡ Err fault) ↔ IsRefused today by text fault }
+        → (named_days_by day_number today by text ≡ Err fault)
+        ↔ IsRefusedPeriod today by text fault }
 {}
 
 /// The range that is read from a text is the one that it means by the grammar.

@@ -3,7 +3,7 @@
 ghost use Rattle.std.specs.Prelude.{◌≡◌, ◌<◌, [], ◌∷◌, length, position, MatchOption, IfSome};
 ghost use Rattle.std.specs.List.{list_all, slice_split};
 ghost use Rattle.std.specs.Char.{is_ascii_alphabetic};
-ghost use Rattle.mail_dates.specs.HeaderDates.{is_gap, tokens, with_first, without_comments};
+ghost use Rattle.mail_dates.specs.HeaderDates.{is_gap, date_tokens, with_first, without_comments};
 
 use crate::text::place_of;
 
@@ -19,7 +19,7 @@ pub fn without_comments(text: &[u8]) -> &[u8]
 
 /// Returns the first token, and what follows it. If there is no token, both are empty.
 pub fn next_token(text: &[u8]) -> (&[u8], &[u8])
-    ensures tokens { tokens text.now ≡ with_first result.0.now result.1.now }
+    ensures tokens { date_tokens text.now ≡ with_first result.0.now result.1.now }
     ensures none { result.0.now ≡ [] → result.1.now ≡ [] }
 {
     let mut rest = text;

@@ -8,7 +8,7 @@ use Rattle.std.specs.Io.KnownBytes.{ReadConsumes}
 use Rattle.contract_words.specs.Knowledge.{still_known}
 use Rattle.call_record.specs.Noted.{Notes, held_by, left_of, read_told, read_at_told, length_told}
 use Rattle.call_record.proofs.Reading.{noted-read}
-use Rattle.named_files.specs.Entries.{IsRead}
+use Rattle.named_files.specs.Entries.{IsReadFromFile}
 use Rattle.mairix_files.specs.KitFiles.{bytes_held, rest_held, if_any}
 use Rattle.mairix_files.proofs.NotedCalls.{is-read, is-length}
 
@@ -20,7 +20,8 @@ of_only (bytes ∷ others) None P h = tt
 of_only (bytes ∷ others) (Some archives) P h = h
 
 pub only_read : (old new : Record) (offset n : ℕ) (into : List ℕ)
-    → Notes (read_at_told {E = Unit {0}} 0 offset (Ok n) into) old new → IsRead offset (take n into) (bytes_held new)
+    → Notes (read_at_told {E = Unit {0}} 0 offset (Ok n) into) old new
+    → IsReadFromFile offset (take n into) (bytes_held new)
 only_read old new offset n into notes =
     of_only new.supposed (held_by new) _ (is-read {E = Unit {0}} old new 0 offset (Ok n) into notes)
 

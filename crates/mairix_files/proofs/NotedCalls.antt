@@ -6,7 +6,7 @@ use Rattle.std.specs.Option.{ForSome}
 use Rattle.std.proofs.lemmas.Bool.Decides.{nat_tests}
 use Rattle.std.proofs.lemmas.Slice.Eq.{bytes_eq-Decides}
 use Rattle.std.proofs.lemmas.Grind.{common_steps}
-use Rattle.contract_words.specs.Archives.{IsLength, IsRead, archive_at}
+use Rattle.contract_words.specs.Archives.{IsLength, IsReadFromArchive, archive_at}
 use Rattle.call_record.specs.declared.record.Record.{Record}
 use Rattle.call_record.specs.Calls.{Call, read_at, measured, is_front, agrees_with, held_after}
 use Rattle.call_record.specs.Noted.{Notes, held_by, read_at_told, length_told}
@@ -48,7 +48,7 @@ measured-agrees n bytes archives h = grind (arith, nat_tests)
 -- the bytes of a noted read are in its archive
 pub is-read : {E : Type 0} (old new : Record) (n offset : ℕ) (told : Result ℕ E) (into : List ℕ)
     → Notes (read_at_told n offset told into) old new
-    → IfOk told (λ count. IsRead n offset (take count into) (held_by new))
+    → IfOk told (λ count. IsReadFromArchive n offset (take count into) (held_by new))
 is-read old new n offset (Ok count) into notes =
     rw (notes.0, notes.1) (says old.supposed (read_at n offset (Some (take count into))) old.calls _
     (front (take count into) (drop offset (archive_at old.supposed n))))

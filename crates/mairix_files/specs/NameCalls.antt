@@ -2,7 +2,7 @@
 use Rattle.std.specs.Prelude.{◌≡◌, ℕ, Bool, true, false, List, [], ◌∷◌, not, if◌then◌else◌}
 use Rattle.std.specs.Str.{bytes_eq}
 use Rattle.named_files.specs.Entries.{Entry, Nothing, File}
-use Rattle.named_files.specs.Logs.{Held, Change, Named, Synced, held_after}
+use Rattle.named_files.specs.Logs.{Held, Change, Named, Synced, held_after_changes}
 use Rattle.mairix_files.specs.declared.supposed_names.SupposedNames.{SupposedNames}
 
 -- a call on a name that was done
@@ -58,4 +58,4 @@ supposed_first supposed n =
 
 -- what a name leads to after these calls, if the system carries them out
 abbrev pub supposed_now : SupposedNames → List NameCall → List ℕ → Entry
-supposed_now supposed calls n = (held_after (supposed_first supposed) (changes_by calls) n).entry
+supposed_now supposed calls n = (held_after_changes (supposed_first supposed) (changes_by calls) n).entry

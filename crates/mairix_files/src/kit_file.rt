@@ -5,7 +5,7 @@ ghost use Rattle.contract_words.specs.Archives.{archive_at};
 ghost use Rattle.contract_words.specs.Devices.{Counts};
 ghost use Rattle.contract_words.specs.Knowledge.{WasKnown, still_known};
 ghost use Rattle.call_record.specs.Noted.{length_told, read_at_told, read_told};
-ghost use Rattle.named_files.specs.Entries.{IsRead};
+ghost use Rattle.named_files.specs.Entries.{IsReadFromFile};
 ghost use Rattle.mairix_files.specs.KitFiles.{GivesOn, NotesIf, bytes_held, file_supposed, held_is_supposed, rest_held};
 
 use crate::file_state::FileState;
@@ -139,7 +139,7 @@ impl<F: Read + OpenFile + FileExt + Drop> KeptFile for KitFile<F> {
         ensures whole { (bytes : List ℕ) → archive_at self.old.record.supposed 0 ≡ bytes
             → archive_at self.new.record.supposed 0 ≡ bytes }
         ensures bound { IfOk result (λ n. n ≤ length into.new) }
-        ensures bytes { IfOk result (λ n. IsRead offset (take n into.new)
+        ensures bytes { IfOk result (λ n. IsReadFromFile offset (take n into.new)
             (bytes_held self.new.record)) }
         ensures count { Counts result self.old.failures self.new.failures }
         ensures noted { NotesIf (is_some self.old.opened) (read_at_told 0 offset result into.new)

@@ -2,7 +2,7 @@
 ghost use Rattle.std.specs.Prelude.{◌≡◌, [], ⊤, ℕ, List, true, Some, None, length, IfOk, IfSome};
 ghost use Rattle.std.specs.Option.{option_map};
 ghost use Rattle.std.specs.String.{string_bytes};
-ghost use Rattle.named_files.specs.Logs.{held_after, MayLeave, MayHaveLeft, left_now, only_left};
+ghost use Rattle.named_files.specs.Logs.{held_after_changes, MayLeave, MayHaveLeft, left_now, only_left};
 ghost use Rattle.mairix_files.specs.NameCalls.{Made, Renamed, Kept, Discarded, Cleared, GoesOn, are_apart, changes_by, supposed_first, supposed_now};
 
 use crate::kit_calls::{
@@ -158,7 +158,7 @@ impl<'r, R: Files<File = File>> Folder for KitFolder<'r, R> {
     ghost making = { λ f. option_map string_bytes f.passing };
 
     ghost is_on_disk = { λ f n.
-        (held_after (supposed_first f.supposed) (changes_by f.calls.done) n).is_on_disk };
+        (held_after_changes (supposed_first f.supposed) (changes_by f.calls.done) n).is_on_disk };
 
     ghost is_leftover = { λ _ _. true };
 

@@ -8,7 +8,7 @@ pub use Rattle.clap.specs.declared.parser.matches.ArgMatches.{ArgMatches}
 pub use Rattle.contract_words.proofs.Collecting.{if_some_map}
 pub use Rattle.contract_words.specs.Answers.{Gives, ◌>>=◌}
 pub use Rattle.mail_index.specs.Tables.{IsPath}
-pub use Rattle.mairix_options.specs.Blanks.{is_blank}
+pub use Rattle.contract_words.specs.Blanks.{is_blank}
 unfoldable pub use Rattle.mairix_options.specs.Blanks.{trimmed}
 pub use Rattle.mairix_options.specs.CommandLine.{command, error_refusal, fault_of_kind, kind_refusal, one_format}
 pub use Rattle.mairix_options.specs.CommandLine.{parse_by, plan_in, plan_of_rows, refusal_of_kind}

@@ -2,7 +2,8 @@
 //! texts have to stay UTF-8.
 ghost use Rattle.std.specs.Prelude.{◌≡◌, ◌≤◌, length};
 ghost use Rattle.std.specs.List.{prefix_len, suffix_len};
-ghost use Rattle.mairix_options.specs.Blanks.{is_blank, trimmed};
+ghost use Rattle.mairix_options.specs.Blanks.{trimmed};
+ghost use Rattle.contract_words.specs.Blanks.{is_blank};
 
 fn is_blank(byte: u8) -> bool
     ensures { result ≡ is_blank byte }

@@ -6,9 +6,10 @@ use Rattle.std.specs.List.{find}
 use Rattle.std.specs.Option.{option_map_or}
 use Rattle.contract_words.specs.Devices.{Counted}
 use Rattle.mbox_cutter.proofs.Machine.{separator-full}
-use Rattle.mbox_cutter.specs.Archives.{grouped, is_refused, marked, messages}
-use Rattle.mbox_cutter.specs.Coming.{Answers, is_device_fault}
-use Rattle.mbox_cutter.specs.Events.{ArchiveEvent, Start, Line, End, Done, Coming, coming_of, events, refusal_of}
+use Rattle.mbox_cutter.specs.Archives.{grouped_lines, is_refused, marked_lines, messages}
+use Rattle.mbox_cutter.specs.Coming.{AnswersAsComing, is_device_fault}
+use Rattle.mbox_cutter.specs.Events.{ArchiveEvent, Start, Line, End, Done, ComingEvents, coming_of, events}
+use Rattle.mbox_cutter.specs.Events.{archive_refusal}
 use Rattle.mbox_cutter.specs.Lines.{is_empty, lines}
 use Rattle.mbox_cutter.specs.Places.{CutterPlace}
 use Rattle.mbox_cutter.specs.Progress.{shown_result}
@@ -28,11 +29,11 @@ module _ (ls : List (List ℕ)) where
   begins = option_map_or is_separator (find (λ line. not (is_empty line)) ls) false
 
   abbrev refused : Bool
-  refused = is_refused (marked true ls)
+  refused = is_refused (marked_lines true ls)
 
   -- the lines of each message
   abbrev groups : List (List ℕ × List (List ℕ))
-  groups = (grouped (marked true ls)).1
+  groups = (grouped_lines (marked_lines true ls)).1
 
   -- the lines are refused; or none of them is a separator; or they begin with one
   abbrev IsCut : Type 0
@@ -68,17 +69,17 @@ module _ (bytes : List ℕ) where
   unfolding events messages
   never_an_end span size es is = grind (arith, is_cut (lines bytes))
 
-  no_mbox : refusal_of 131072 bytes ≡ Some NotAnMbox → begins_as_mbox bytes ≡ false
-  unfolding refusal_of
+  no_mbox : archive_refusal 131072 bytes ≡ Some NotAnMbox → begins_as_mbox bytes ≡ false
+  unfolding archive_refusal
   no_mbox is = grind (arith, is_cut (lines bytes))
 
-  never_too_long : length bytes ≤ 131072 → refusal_of 131072 bytes ≡ Some ArchiveTooLong → ⊥
-  unfolding refusal_of
+  never_too_long : length bytes ≤ 131072 → archive_refusal 131072 bytes ≡ Some ArchiveTooLong → ⊥
+  unfolding archive_refusal
   never_too_long few is = grind arith
 
   -- the first answer of a cutter
-  pub first_answer : (answer : Result ArchiveEvent CutFault) (next : Option Coming) → length bytes ≤ 131072
-      → Answers (Some (coming_of 131072 bytes)) answer next → is_device_fault answer ≡ false
+  pub first_answer : (answer : Result ArchiveEvent CutFault) (next : Option ComingEvents) → length bytes ≤ 131072
+      → AnswersAsComing (Some (coming_of 131072 bytes)) answer next → is_device_fault answer ≡ false
       → (answer ≡ Err Failed → ⊥) → is_start answer ≡ begins_as_mbox bytes
   first_answer (Ok (Start at line)) next few h device failed = sym (starts at line h.0.events h.2.0)
   first_answer (Ok (Line line)) next few h device failed = absurd (never_a_line line h.0.events h.2.0)

@@ -5,7 +5,7 @@ use Rattle.std.proofs.lemmas.Str.Pattern.{ends_text}
 use Rattle.std.specs.Bool.{MatchBool}
 use Rattle.std.specs.List.{ends_with}
 use Rattle.std.specs.Str.Pattern.{FindsTextSuffix, HasSuffixMatch}
-use Rattle.named_files.specs.Refusals.{HasCause, refusal_of}
+use Rattle.named_files.specs.Refusals.{HasCause, refusal_of_name}
 use Rattle.named_files.specs.declared.name_fault.NameFault.{NameFault}
 use Rattle.named_files.specs.declared.name_fault.NameFault.TheVariants.{NotNamed, NotSynced}
 use Rattle.named_files.specs.declared.refusal.Refusal.TheVariants as why
@@ -73,8 +73,8 @@ pub apart_of_fit : (apart : List ℕ → List ℕ → Bool) (read : List (List �
 apart_of_fit apart read passing name fit = grind arith
 
 -- the output failed, and not memory: that has a cause
-pub fails_to_take : (C : Type 0) (fault : NameFault) → HasCause (refusal_of fault) C
-    → fault_of_refusal (refusal_of fault) ≡ Out → C
+pub fails_to_take : (C : Type 0) (fault : NameFault) → HasCause (refusal_of_name fault) C
+    → fault_of_refusal (refusal_of_name fault) ≡ Out → C
 fails_to_take C (NotNamed why.Refused) cause is = cause
 fails_to_take C (NotSynced why.Refused) cause is = cause
 fails_to_take C (NotNamed why.Memory) cause is = absurd cc

@@ -2,7 +2,7 @@
 ghost use Rattle.std.specs.Prelude.{◌≡◌, ◌≢◌, ◌⊎◌, ◌<◌, ◌-◌, ◌^◌, ◌++◌, ◌&&◌, if◌then◌else◌, ℕ, true, false, List, [], None, Some, codes, is_ok, string_bytes, IfOk, IfErr, OnOk, OnErr, IfSome};
 ghost use Rattle.named_files.specs.Crashes.{LeavesNoMoreWhere, LeavesOnly};
 ghost use Rattle.named_files.specs.Entries.{Entry, File, Leads, SameWhere};
-ghost use Rattle.named_files.specs.Refusals.{HasCause, refusal_of};
+ghost use Rattle.named_files.specs.Refusals.{HasCause, refusal_of_name};
 ghost use Rattle.named_files.specs.TakingNames.{Replaces};
 ghost use Rattle.mairix_run.specs.KeptMail.{IsNotReplaced};
 ghost use Rattle.mairix_run.specs.MadeFiles.{IsRefusal, IsSettled, MakesFile, fault_of_refusal, SettlesFile, has_last_part, is_open_to, is_special, taken_name, unfit_name};
@@ -272,7 +272,7 @@ pub fn settle_file<F: Folder>(
 
 /// Returns the fault of a run whose file doesn't have its name for good.
 fn fault_of_name(fault: NameFault) -> Fault
-    ensures { result ≡ fault_of_refusal (refusal_of fault) }
+    ensures { result ≡ fault_of_refusal (refusal_of_name fault) }
 {
     match fault {
         NameFault::NotNamed(Refusal::Memory) | NameFault::NotSynced(Refusal::Memory) =>

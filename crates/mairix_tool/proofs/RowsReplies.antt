@@ -16,11 +16,11 @@ use Rattle.unicode.proofs.CategoryComputing.{ucd_category}
 use Rattle.unicode.proofs.DerivedComputing.{ucd_derived}
 use Rattle.header_text.specs.Blanks.{before_blanks}
 use Rattle.header_text.specs.Charsets.{charset_of, text_of}
-use Rattle.header_text.specs.EncodedWords.{decoded, word_and_later, word_at}
-use Rattle.header_text.specs.Escapes.{q_bytes, unescaped}
+use Rattle.header_text.specs.EncodedWords.{decoded_value, word_and_later, word_at}
+use Rattle.header_text.specs.Escapes.{q_bytes, unescaped_bytes}
 use Rattle.header_text.specs.Headers.{fields_of}
 use Rattle.header_text.specs.Ids.{ids_of}
-use Rattle.header_text.specs.Unfolding.{unfolded}
+use Rattle.header_text.specs.Unfolding.{unfolded_body}
 use Rattle.index_run.proofs.ArchivesDecided.{none-sound}
 use Rattle.mail_answer.specs.Excerpts.{excerpt}
 use Rattle.mail_answer.specs.Shapes.{closed}
@@ -34,7 +34,7 @@ use Rattle.mail_words.specs.Words.{is_joiner, is_one_word, is_part_of_word, is_w
 use Rattle.mairix_options.specs.Blanks.{trimmed}
 use Rattle.mairix_options.specs.CommandLine.{parse, plan}
 use Rattle.mbox_cutter.specs.Archives.{messages}
-use Rattle.mbox_cutter.specs.Events.{refusal_of}
+use Rattle.mbox_cutter.specs.Events.{archive_refusal}
 use Rattle.mbox_cutter.specs.Lines.{first_length, is_empty, lines}
 use Rattle.mbox_cutter.specs.Separators.{has_form, is_separator, without_break}
 use Rattle.mime_text.specs.LeafTexts.{leaf_texts}
@@ -61,8 +61,10 @@ asking = tt
 
 -- what a proof unfolds to compute what archives say
 unfoldable saying : Unit {0}
-unfolding messages refusal_of lines first_length is_empty is_separator without_break has_form fields_of before_blanks
-    unfolded ids_of charset_of text_of decoded word_and_later word_at q_bytes unescaped facts_of leaf_texts piece_of
+unfolding messages archive_refusal lines first_length is_empty is_separator without_break has_form fields_of
+    before_blanks
+    unfolded_body ids_of charset_of text_of decoded_value word_and_later word_at q_bytes unescaped_bytes facts_of
+    leaf_texts piece_of
     parameter is_delimiter texts_of_message shape_of_value charset_of_value transfer_named words is_word is_joiner
     is_word_character ucd_derived ucd_category chars encode_utf8 caseless computing closed excerpt digits
 saying = tt
@@ -78,10 +80,10 @@ unfolding IsWorked
 of-archives row w h h2 = subst (λ r. IsReply r row.archives row.answer) (sym h) h2
 
 abbrev NotRefused : Archived → Type 0
-NotRefused a = refusal_of most_in_archive a.bytes ≡ None
+NotRefused a = archive_refusal most_in_archive a.bytes ≡ None
 
 each-sound : (archives : List Archived)
-    → map (λ (a : Archived). refusal_of most_in_archive a.bytes) archives ≡ map (λ _. None) archives
+    → map (λ (a : Archived). archive_refusal most_in_archive a.bytes) archives ≡ map (λ _. None) archives
     → All NotRefused archives
 each-sound [] h = All-nil NotRefused
 each-sound (a ∷ archives) h = All-cons NotRefused a archives (cc) (each-sound archives (cc))
@@ -89,7 +91,7 @@ each-sound (a ∷ archives) h = All-cons NotRefused a archives (cc) (each-sound 
 -- each of these archives is sound, by computation
 abbrev Pass : List Archived → Type 0
 Pass archives =
-    (map (λ (a : Archived). refusal_of most_in_archive a.bytes) archives ≡ map (λ _. None) archives)
+    (map (λ (a : Archived). archive_refusal most_in_archive a.bytes) archives ≡ map (λ _. None) archives)
     × (nat_le (length (table archives).archives) most_in_index ≡ true)
     × (nat_le (length (table archives).messages) most_in_index ≡ true)
     × (nat_le (length (table archives).keys) most_in_index ≡ true)

@@ -56,7 +56,7 @@ pub use Rattle.mairix_tool.specs.Runs.{IsThisOrMemory, IsTold, IsToldOf, IsUnind
 pub use Rattle.mairix_tool.specs.Runs.{WereVerified, answered, fault_of_answer_kind, first_renamed, is_too_old}
 pub use Rattle.mairix_tool.specs.Runs.{renamed_archive, reply_of, unproved_archive}
 pub use Rattle.mairix_tool.specs.declared.reply.Reply.{Reply}
-pub use Rattle.mbox_cutter.specs.Archives.{Message, cut, messages, span_length, text}
+pub use Rattle.mbox_cutter.specs.Archives.{Message, spans_of, messages, span_length, text}
 unfoldable pub use Rattle.mime_text.specs.MessageFacts.{facts_of}
 pub use Rattle.mime_text.specs.Sinks.{Pair}
 pub use Rattle.mime_text.specs.Texts.{texts_of_message}

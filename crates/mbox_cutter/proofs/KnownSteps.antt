@@ -1,7 +1,8 @@
 -- The steps of a cutter, stated for bytes that may be known or not.
 use Rattle.mbox_cutter.proofs.Words.{still_known, IsSome, ◌≡◌, ℕ, ◌+◌, ◌<◌, List, Option, Some, IfSome, take, arith}
 use Rattle.mbox_cutter.proofs.Words.{option_map, CutFault, ArchiveTooLong, Phase, Between, first_length, ArchiveEvent}
-use Rattle.mbox_cutter.proofs.Words.{coming_of, Takes, TakesKnown, Refuses, CutterPlace, FailsFirst, coming_at, resume}
+use Rattle.mbox_cutter.proofs.Words.{coming_of, TakesEvent, TakesKnown, IsRefusalToCome, CutterPlace, FailsFirst}
+use Rattle.mbox_cutter.proofs.Words.{coming_at, resume}
 use Rattle.mbox_cutter.proofs.Steps.{resume-beginning}
 
 -- ---- facts of known values
@@ -31,7 +32,7 @@ IsFirst n line b = (n ≡ first_length b) × (line ≡ take n b)
 pub known-step : (bytes after last : Option (List ℕ)) (old new : CutterPlace) (was : Phase) (event : ArchiveEvent)
     (P : List ℕ → Type 0) (left : List ℕ → List ℕ) → old.phase ≡ was →
     IfSome (still_known bytes last) P → IfSome (still_known bytes last) (λ b. after ≡ Some (left b)) →
-    ((b : List ℕ) → P b → Takes event (resume was old.offset old.most b)
+    ((b : List ℕ) → P b → TakesEvent event (resume was old.offset old.most b)
     (resume new.phase new.offset new.most (left b))) →
     TakesKnown event (still_known (coming_at old bytes) last) (coming_at new after)
 known-step bytes after last old new was event P left is h leaves each = grind (arith, both)
@@ -39,8 +40,9 @@ known-step bytes after last old new was event P left is h leaves each = grind (a
 -- the first line isn't found
 pub known-fault : (bytes last : Option (List ℕ)) (p : CutterPlace) (was : Phase) (fault : CutFault) →
     p.phase ≡ was → FailsFirst p.offset p.most (still_known bytes last) fault →
-    ((b : List ℕ) → p.most < p.offset + first_length b → Refuses ArchiveTooLong (resume was p.offset p.most b)) →
-    IfSome (still_known (coming_at p bytes) last) (Refuses fault)
+    ((b : List ℕ) → p.most < p.offset + first_length b → IsRefusalToCome ArchiveTooLong (resume was p.offset p.most b))
+    →
+    IfSome (still_known (coming_at p bytes) last) (IsRefusalToCome fault)
 known-fault bytes last p was fault h h2 h3 = grind (arith, each_some)
 
 -- what comes at the beginning

@@ -1,7 +1,8 @@
 -- How the events go on from one line to the next.
 use Rattle.mbox_cutter.proofs.Words.{◌≡◌, ℕ, ◌+◌, ◌-◌, ◌≤◌, Bool, true, false, ◌||◌, ◌⊎◌, inl, inr, List, [], ◌∷◌}
 use Rattle.mbox_cutter.proofs.Words.{length, refl, ap, arith, add_assoc, add-zero, zero-add, is_empty, is_separator}
-use Rattle.mbox_cutter.proofs.Words.{marked, grouped, without_closing, Start, Line, End, told_between, told_inside}
+use Rattle.mbox_cutter.proofs.Words.{marked_lines, grouped_lines, without_closing, Start, Line, End, told_between}
+use Rattle.mbox_cutter.proofs.Words.{told_inside}
 use Rattle.std.specs.Str.{bytes_eq}
 use Rattle.std.proofs.lemmas.Slice.Eq.{bytes_eq-Decides}
 use Rattle.mbox_cutter.proofs.FirstLines.{not_true}
@@ -30,7 +31,7 @@ module _ (l : List ℕ) (ls : List (List ℕ)) (k : ℕ) (len : length l ≡ k) 
   pub inside-line : (all at start size : ℕ) → is_empty l ≡ false → told_inside all at start size (l ∷ ls)
       ≡ Line l ∷ told_inside all (at + k) start (size + k) ls
   inside-line all at start size e = rw (← len)
-      (rw e (rw (without_closing-full l (grouped (marked false ls)).0 e) (simp add_assoc)))
+      (rw e (rw (without_closing-full l (grouped_lines (marked_lines false ls)).0 e) (simp add_assoc)))
 
   -- the archive ends with an empty line
   pub inside-closing_last : (all at start size : ℕ) → is_empty l ≡ true → ls ≡ []

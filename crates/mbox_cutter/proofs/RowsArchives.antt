@@ -1,7 +1,7 @@
 -- Worked rows: offset, length and size of the messages of archives.
 use Rattle.mbox_cutter.proofs.Words.{◌≡◌, ℕ, List, [], ◌∷◌, ◌++◌, Option, None, Some, map, refl, codes, option_map}
 use Rattle.mbox_cutter.proofs.Words.{lines, first_length, is_empty, is_separator, without_break, has_form, messages}
-use Rattle.mbox_cutter.proofs.Words.{cut, span_length, size}
+use Rattle.mbox_cutter.proofs.Words.{spans_of, span_length, size}
 use Rattle.mbox_cutter.proofs.RowTables.{Each}
 
 abbrev cut_with_sizes : List ℕ → Option (List (ℕ × ℕ × ℕ))
@@ -49,6 +49,6 @@ rows : Each cut_with_sizes ((codes "", Some []) ∷ (codes "\n\n", Some []) ∷ 
       Some ((0, 21, 2) ∷ (21, 19, 0) ∷ (40, 19, 1) ∷ []),
     )
     ∷ (codes "From a 10:00 2003\n\nx\n\nFrom c\n", Some ((0, 29, 11) ∷ [])) ∷ [])
-    × (cut two ≡ Some ((0, 75) ∷ (75, 49) ∷ []))
+    × (spans_of two ≡ Some ((0, 75) ∷ (75, 49) ∷ []))
 unfolding messages lines first_length is_separator is_empty without_break has_form
 rows = (refl, refl)

@@ -1,12 +1,12 @@
 -- Worked rows: the events of archives, and their refusals.
 use Rattle.mbox_cutter.proofs.Words.{ℕ, List, [], ◌∷◌, ◌++◌, Option, None, Some, refl, codes, CutFault, NotAnMbox}
 use Rattle.mbox_cutter.proofs.Words.{ArchiveTooLong, lines, first_length, is_empty, is_separator, without_break}
-use Rattle.mbox_cutter.proofs.Words.{has_form, messages, events, refusal_of, Start, Line, End, Done}
+use Rattle.mbox_cutter.proofs.Words.{has_form, messages, events, archive_refusal, Start, Line, End, Done}
 use Rattle.mbox_cutter.proofs.RowTables.{Each}
 
 -- the refusal of an archive, if this many bytes are allowed
 abbrev refusal : ℕ × List ℕ → Option CutFault
-refusal asked = refusal_of asked.0 asked.1
+refusal asked = archive_refusal asked.0 asked.1
 
 abbrev hello : List ℕ
 hello = codes "From a@x.org Thu Jan  2 10:00:00 2003\nSubject: Hello\n\nhi"
@@ -61,5 +61,5 @@ rows : Each events ((codes "hello\n", []) ∷ (codes "", Done 0 ∷ []) ∷ (cod
     ∷ ((7, codes "\n\nhello\n\n"), Some ArchiveTooLong) ∷ ((3, codes "\n\n\n\n"), Some ArchiveTooLong)
     ∷ ((4, codes "\n\n\n\n"), None) ∷ ((0, codes ""), None) ∷ ((0, codes "\n"), Some ArchiveTooLong)
     ∷ ((0, codes "x"), Some ArchiveTooLong) ∷ [])
-unfolding events refusal_of messages lines first_length is_separator is_empty without_break has_form
+unfolding events archive_refusal messages lines first_length is_separator is_empty without_break has_form
 rows = (refl, refl)

@@ -3,8 +3,10 @@ use Rattle.mbox_cutter.proofs.Words.{still_known, IsSome, MutBor, known_until, �
 use Rattle.mbox_cutter.proofs.Words.{false, List, Option, Some, Result, Ok, Err, IfSome, IfOk, length, take, drop, ap}
 use Rattle.mbox_cutter.proofs.Words.{sym, ◌∙◌, subst, arith, IsAtEnd, length-take-le, Ghosts, CutFault, Device}
 use Rattle.mbox_cutter.proofs.Words.{NotAnMbox, ArchiveTooLong, Phase, Between, Inside, Ended, first_length, is_empty}
-use Rattle.mbox_cutter.proofs.Words.{IsLine, is_separator, Line, Refuses, Takes, is_device, CutterPlace, Moves, HasLine}
-use Rattle.mbox_cutter.proofs.Words.{known, ReadsOn, resume, closes_at, coming, place_of, told_at, IsPlace, IsWithin}
+use Rattle.mbox_cutter.proofs.Words.{IsLine, is_separator, Line, IsRefusalToCome, TakesEvent, is_device, CutterPlace}
+use Rattle.mbox_cutter.proofs.Words.{Moves, HasLine}
+use Rattle.mbox_cutter.proofs.Words.{known_bytes, ReadsOn, resume, closes_at, coming_events, place_of, told_at, IsPlace}
+use Rattle.mbox_cutter.proofs.Words.{IsWithin}
 use Rattle.mbox_cutter.proofs.Words.{IsScan, IsFresh, FindsLine, Passes, Steps}
 use Rattle.mbox_cutter.specs.declared.scan.Scan.{Scan}
 use Rattle.mbox_cutter.specs.declared.scan.Step.{Step}
@@ -38,7 +40,7 @@ pub record Taken {S : Type 0} (g : Ghosts S) (old new : Scan S) (n : ℕ) (phase
   pub some : 0 < n
   pub place : place_of new ≡ further phase n (place_of old)
   pub reads : Serves g false old.window.source new.window.source
-  pub moved : IfSome (known_until g.rest old.window new.window) (λ b. known g.rest new.window ≡ Some (drop n b))
+  pub moved : IfSome (known_until g.rest old.window new.window) (λ b. known_bytes g.rest new.window ≡ Some (drop n b))
   pub first : IfSome (known_until g.rest old.window new.window) (IsFirst n line)
   pub fits : old.offset + n ≤ old.most
   pub is : new.window.line ≡ line
@@ -55,9 +57,9 @@ module _ {S : Type 0} (g : Ghosts S) (old mid : Scan S) (n : ℕ) (line : List �
         reads = f.reads;
         first = both (known_until g.rest old.window mid.window) (λ b. n ≡ first_length b) (λ b. line ≡ take n b)
             f.first.first
-            (at_same (known_until g.rest old.window mid.window) (known g.rest mid.window) (λ b. line ≡ take n b)
+            (at_same (known_until g.rest old.window mid.window) (known_bytes g.rest mid.window) (λ b. line ≡ take n b)
             f.reads.bytes
-            (subst (λ (l : List ℕ). IfSome (known g.rest mid.window) (λ b. l ≡ take n b)) (sym is)
+            (subst (λ (l : List ℕ). IfSome (known_bytes g.rest mid.window) (λ b. l ≡ take n b)) (sym is)
             (line_taken n mid.window.unread (g.rest mid.window.source.now) within)));
         fits = f.fits;
         within = within;
@@ -72,7 +74,7 @@ module _ {S : Type 0} (g : Ghosts S) (old mid : Scan S) (n : ℕ) (line : List �
     some = h.some;
     place = same ∙ h.place;
     reads = ReadsOn-join g false old.window mid.window far.window h.reads r;
-    first = still-on (known g.rest old.window) (g.rest mid.window.source.now) (g.rest far.window.source.now)
+    first = still-on (known_bytes g.rest old.window) (g.rest mid.window.source.now) (g.rest far.window.source.now)
         (IsFirst n line) r.stays.known h.first;
     fits = h.fits;
     within = let more : length mid.window.unread ≤ length far.window.unread =
@@ -83,19 +85,19 @@ module _ {S : Type 0} (g : Ghosts S) (old mid : Scan S) (n : ℕ) (line : List �
 
   -- what `closes` returns, in terms of the bytes at the call
   closes-far : (far : Scan S) (is wanted : Bool) →
-      IfSome (known_until g.rest old.window mid.window) (λ b. known g.rest mid.window ≡ Some b) →
+      IfSome (known_until g.rest old.window mid.window) (λ b. known_bytes g.rest mid.window ≡ Some b) →
       (IsSome (g.rest far.window.source.now) → IsSome (g.rest mid.window.source.now)) →
       IfSome (known_until g.rest mid.window far.window) (λ b. is ≡ closes_at n b) → is ≡ wanted →
       IfSome (known_until g.rest old.window far.window) (λ b. wanted ≡ closes_at n b)
   closes-far far is wanted same still h e = grind (arith, at_same)
 
   pub closes-known : (far new : Scan S) (is wanted : Bool) → new.window.source ≡ far.window.source →
-      IfSome (known_until g.rest old.window mid.window) (λ b. known g.rest mid.window ≡ Some b) →
+      IfSome (known_until g.rest old.window mid.window) (λ b. known_bytes g.rest mid.window ≡ Some b) →
       (IsSome (g.rest far.window.source.now) → IsSome (g.rest mid.window.source.now)) →
       IfSome (known_until g.rest mid.window far.window) (λ b. is ≡ closes_at n b) → is ≡ wanted →
       IfSome (known_until g.rest old.window new.window) (λ b. wanted ≡ closes_at n b)
   closes-known far new is wanted source same still h e =
-      subst (λ (m : MutBor S). IfSome (still_known (known g.rest old.window) (g.rest m.now))
+      subst (λ (m : MutBor S). IfSome (still_known (known_bytes g.rest old.window) (g.rest m.now))
       (λ b. wanted ≡ closes_at n b))
       (sym source) (closes-far far is wanted same still h e)
 
@@ -116,8 +118,8 @@ told-steps : {S : Type 0} (g : Ghosts S) (old new : Scan S) (was : Phase) (p : C
     → p.most ≡ old.most → IsPlace p →
     (p.phase ≡ Ended → IsAtEnd (g.rest new.window.source.now)) →
     IfSome (known_until g.rest old.window new.window) P
-    → IfSome (known_until g.rest old.window new.window) (λ b. known g.rest new.window ≡ Some (left b)) →
-    ((b : List ℕ) → P b → Takes (told_at s line) (resume was old.offset old.most b)
+    → IfSome (known_until g.rest old.window new.window) (λ b. known_bytes g.rest new.window ≡ Some (left b)) →
+    ((b : List ℕ) → P b → TakesEvent (told_at s line) (resume was old.offset old.most b)
     (resume p.phase p.offset p.most (left b))) →
     Moves (told_at s line) (place_of old) p → HasLine (told_at s line) → Steps g old (Ok s) new
 told-steps g old new was p s line P left reads at is before most place end h leaves takes moves lends =
@@ -128,7 +130,7 @@ module _ {S : Type 0} (g : Ghosts S) (old new : Scan S) (n : ℕ) (line : List �
   taken-steps : (was phase : Phase) (s : Step) (P : List ℕ → Type 0) → old.phase ≡ was → Taken g old new n phase line
       → IsWithin phase (old.offset + n) → (phase ≡ Ended → ⊥) →
       IfSome (known_until g.rest old.window new.window) P
-      → ((b : List ℕ) → P b → Takes (told_at s line) (resume was old.offset old.most b)
+      → ((b : List ℕ) → P b → TakesEvent (told_at s line) (resume was old.offset old.most b)
       (resume phase (old.offset + n) old.most (drop n b))) →
       Moves (told_at s line) (place_of old) (further phase n (place_of old)) → HasLine (told_at s line)
       → Steps g old (Ok s) new
@@ -146,7 +148,7 @@ module _ {S : Type 0} (g : Ghosts S) (old new : Scan S) (n : ℕ) (line : List �
     -- a line of the open message's text
     text-steps : (P : List ℕ → Type 0) → Taken g old new n (Inside start (size + n)) line
         → IfSome (known_until g.rest old.window new.window) P →
-        ((b : List ℕ) → P b → Takes (Line line) (resume (Inside start size) old.offset old.most b)
+        ((b : List ℕ) → P b → TakesEvent (Line line) (resume (Inside start size) old.offset old.most b)
         (resume (Inside start (size + n)) (old.offset + n) old.most (drop n b))) →
         Steps g old (Ok step.Line) new
     text-steps P t h takes = grind (arith, taken-steps, begun)
@@ -172,7 +174,7 @@ module _ {S : Type 0} (g : Ghosts S) (old new : Scan S) (n : ℕ) (line : List �
 module _ {S : Type 0} (g : Ghosts S) (old mid : Scan S) (n : ℕ) (found_none : FindsLine g old (Ok n) mid) (none : n ≡ 0)
     (was : IsScan g.rest old) where
   none-steps : (before phase : Phase) (s : Step) → old.phase ≡ before → IsWithin phase old.offset →
-      ((b : List ℕ) → 0 ≡ first_length b → Takes (told_at s mid.window.line) (resume before old.offset old.most b)
+      ((b : List ℕ) → 0 ≡ first_length b → TakesEvent (told_at s mid.window.line) (resume before old.offset old.most b)
       (resume phase old.offset old.most b)) →
       Moves (told_at s mid.window.line) (place_of old) (record { phase = phase; offset = old.offset; most = old.most })
       → HasLine (told_at s mid.window.line) →
@@ -200,14 +202,15 @@ module _ {S : Type 0} (g : Ghosts S) (old mid : Scan S) (fault : CutFault) (was 
   -- a step that fails leaves the scan in its place
   fails-steps : (old.phase ≡ Ended → ⊥) → Serves g (is_device fault) old.window.source mid.window.source → place_of mid
       ≡ place_of old →
-      IfSome (still_known (coming g.rest old) (g.rest mid.window.source.now)) (Refuses fault) → IsFresh fault
+      IfSome (still_known (coming_events g.rest old) (g.rest mid.window.source.now)) (IsRefusalToCome fault)
+      → IsFresh fault
       → Steps g old (Err fault) mid
   fails-steps not_ended reads same refuses fresh = grind arith
 
   -- no line was found
   unfound-steps : (before : Phase) → old.phase ≡ before → (old.phase ≡ Ended → ⊥)
       → ((b : List ℕ) → old.most < old.offset + first_length b
-      → Refuses ArchiveTooLong (resume before old.offset old.most b)) →
+      → IsRefusalToCome ArchiveTooLong (resume before old.offset old.most b)) →
       FindsLine g old (Err fault) mid → Steps g old (Err fault) mid
   unfound-steps before is not_ended long f = grind (arith, fails-steps, served, known-fault)
 
@@ -244,7 +247,8 @@ pub record Skipped {S : Type 0} (g : Ghosts S) (old now : Scan S) : Type 0 where
   pub scan : IsScan g.rest now
   pub later : old.offset ≤ now.offset
   pub most : now.most ≡ old.most
-  pub still : IfSome (still_known (coming g.rest old) (g.rest now.window.source.now)) (λ k. coming g.rest now ≡ Some k)
+  pub still : IfSome (still_known (coming_events g.rest old) (g.rest now.window.source.now))
+      (λ k. coming_events g.rest now ≡ Some k)
 
 pub skipped-none : {S : Type 0} (g : Ghosts S) (old : Scan S) → old.phase ≡ Between → IsScan g.rest old
     → Skipped g old old
@@ -268,7 +272,13 @@ skipped-steps g old now new result k s = grind (arith, Serves-join, moves-skippe
 
 -- the state of a cutter over this scan, as callers see it
 abbrev pub shown_as : {S : Type 0} → Ghosts S → Scan S → Progress S
-shown_as g s = record { coming = coming g.rest s; place = place_of s; line = s.window.line; source = s.window.source }
+shown_as g s = record {
+  coming = coming_events g.rest s;
+  place = place_of s;
+  line = s.window.line;
+  source =
+      s.window.source;
+}
 
 -- a step that reports an event advances the cutter
 pub steps-advance : {S : Type 0} (g : Ghosts S) (old new : Scan S) (s : Step) → Steps g old (Ok s) new

@@ -1,5 +1,5 @@
 -- What one read leaves as it is, several reads one after another leave too.
-use Rattle.mbox_cutter.proofs.Words.{◌≡◌, Bool, false, refl, ◌∙◌, arith, Counted, Ghosts, Ahead, ReadsOn}
+use Rattle.mbox_cutter.proofs.Words.{◌≡◌, Bool, false, refl, ◌∙◌, arith, Counted, Ghosts, BytesAhead, ReadsOn}
 use Rattle.std.specs.Borrow.{MutBor}
 use Rattle.mbox_cutter.specs.Sources.{Stays}
 
@@ -27,6 +27,6 @@ pub Serves-join : {S : Type 0} (g : Ghosts S) (failed : Bool) (a b c : MutBor S)
     → Serves g failed b c → Serves g failed a c
 Serves-join g failed a b c h k = grind (arith, Stays-join)
 
-pub served : {S : Type 0} (g : Ghosts S) (failed : Bool) (old new : Ahead S) → ReadsOn g failed old new
+pub served : {S : Type 0} (g : Ghosts S) (failed : Bool) (old new : BytesAhead S) → ReadsOn g failed old new
     → Serves g failed old.source new.source
 served g failed old new r = record { source = r.source; count = r.count; stays = r.stays }

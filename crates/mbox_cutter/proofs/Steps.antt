@@ -4,8 +4,10 @@ use Rattle.mbox_cutter.proofs.Words.{nat_lt, nat_le, List, [], ◌∷◌, Option
 use Rattle.mbox_cutter.proofs.Words.{sym, ◌∙◌, arith, add_assoc, add-zero, zero-add, nat_tests, length-drop}
 use Rattle.mbox_cutter.proofs.Words.{length-take-le, option_map_or, CutFault, NotAnMbox, ArchiveTooLong, Between}
 use Rattle.mbox_cutter.proofs.Words.{Inside, Ended, lines, first_length, is_empty, is_separator, Message, messages}
-use Rattle.mbox_cutter.proofs.Words.{marked, grouped, is_refused, total, messages_from, ArchiveEvent, Start, Line, End}
-use Rattle.mbox_cutter.proofs.Words.{Done, told, events, first_full_end, refusal_of, Coming, coming_of, Takes, Refuses}
+use Rattle.mbox_cutter.proofs.Words.{marked_lines, grouped_lines, is_refused, total, messages_from, ArchiveEvent, Start}
+use Rattle.mbox_cutter.proofs.Words.{Line, End}
+use Rattle.mbox_cutter.proofs.Words.{Done, events_of, events, first_full_end, archive_refusal, ComingEvents, coming_of}
+use Rattle.mbox_cutter.proofs.Words.{TakesEvent, IsRefusalToCome}
 use Rattle.mbox_cutter.proofs.Words.{closes_at, told_between, told_inside, refusal_between, too_long, resume}
 use Rattle.mbox_cutter.proofs.FirstLines.{first_length-le, first_length-positive}
 use Rattle.mbox_cutter.proofs.LineLists.{lines-cons, lines-nil}
@@ -40,7 +42,7 @@ refusal-long : (at most rest : ℕ) (l : List ℕ) (ls : List (List ℕ)) → mo
 refusal-long at most rest l ls h k = grind (arith, first_full_end-le, nat_tests, too_long-beyond)
 
 same_coming : {a b : List ArchiveEvent} {r q : Option CutFault} → a ≡ b → r ≡ q
-    → ◌≡◌ {A = Coming} (record { events = a; refusal = r }) (record { events = b; refusal = q })
+    → ◌≡◌ {A = ComingEvents} (record { events = a; refusal = r }) (record { events = b; refusal = q })
 same_coming e f = cc
 
 -- ---- the end
@@ -51,18 +53,18 @@ no_bytes (x ∷ xs) e = let h : 0 < first_length (x ∷ xs) = first_length-posit
     in absurd (omega arith)
 
 pub step-done : (at most : ℕ) (b : List ℕ) → 0 ≡ first_length b → at ≤ most
-    → Takes (Done at) (resume Between at most b) (resume Ended at most b)
+    → TakesEvent (Done at) (resume Between at most b) (resume Ended at most b)
 unfolding resume
 step-done at most b e h =
     let t : nat_lt most at ≡ false = grind (arith, nat_tests) in
     rw (no_bytes b e) (rw lines-nil (rw (add-zero, t) (refl, refl, refl)))
 
 pub step-end : (at most start size : ℕ) (b : List ℕ) → 0 ≡ first_length b
-    → Takes (End (at - start) size) (resume (Inside start size) at most b) (resume Between at most b)
+    → TakesEvent (End (at - start) size) (resume (Inside start size) at most b) (resume Between at most b)
 unfolding resume
 step-end at most start size b e = rw (no_bytes b e) (rw lines-nil (inside-nil (at + 0) at start size, refl))
 
-pub ended-stays : (at most : ℕ) (b : List ℕ) → Takes (Done at) (resume Ended at most b) (resume Ended at most b)
+pub ended-stays : (at most : ℕ) (b : List ℕ) → TakesEvent (Done at) (resume Ended at most b) (resume Ended at most b)
 unfolding resume
 ended-stays at most b = (refl, refl, refl)
 
@@ -86,7 +88,7 @@ module _ (b : List ℕ) (n : ℕ) (e : n ≡ first_length b) where
   first-all at = let rest : length b ≡ n + length (drop n b) = first-rest in omega arith
 
 pub step-long : (at most : ℕ) (b : List ℕ) → at ≤ most → most < at + first_length b
-    → Refuses ArchiveTooLong (resume Between at most b)
+    → IsRefusalToCome ArchiveTooLong (resume Between at most b)
 unfolding resume
 step-long at most b le h =
     let len : length (take (first_length b) b) ≡ first_length b = first-taken b (first_length b) refl in
@@ -95,7 +97,7 @@ step-long at most b le h =
     (rw len (first_length-le b)))
 
 pub step-long_inside : (at most start size : ℕ) (b : List ℕ) → most < at + first_length b
-    → Refuses ArchiveTooLong (resume (Inside start size) at most b)
+    → IsRefusalToCome ArchiveTooLong (resume (Inside start size) at most b)
 unfolding resume
 step-long_inside at most start size b h =
     too_long-beyond most (at + length b) (let le : first_length b ≤ length b = first_length-le b in omega arith)
@@ -116,7 +118,7 @@ module _ (at most n : ℕ) (b : List ℕ) (e : n ≡ first_length b) (h : 0 < n)
   all-same = ap (too_long most) (sym (first-all b n e at))
 
   pub step-start : is_separator (take n b) ≡ true
-      → Takes (Start at (take n b)) (resume Between at most b) (resume (Inside at 0) (at + n) most (drop n b))
+      → TakesEvent (Start at (take n b)) (resume Between at most b) (resume (Inside at 0) (at + n) most (drop n b))
   unfolding resume
   step-start s =
       let full : is_empty (take n b) ≡ false = separator-full (take n b) s in (
@@ -137,7 +139,7 @@ module _ (at most n : ℕ) (b : List ℕ) (e : n ≡ first_length b) (h : 0 < n)
       (length (drop n b)) len s f (first-rest b n e))
 
   pub step-refused : is_separator (take n b) ≡ false → is_empty (take n b) ≡ false → at + n ≤ most
-      → Refuses NotAnMbox (resume Between at most b)
+      → IsRefusalToCome NotAnMbox (resume Between at most b)
   unfolding resume
   step-refused s f fits = refusal-none at most (length b) (take n b) (lines (drop n b)) (lines b) (first-lines b n e h)
       s f (rw len fits)
@@ -146,7 +148,7 @@ module _ (at most n : ℕ) (b : List ℕ) (e : n ≡ first_length b) (h : 0 < n)
 
   module _ (start size : ℕ) where
     pub step-line : is_empty (take n b) ≡ false
-        → Takes (Line (take n b)) (resume (Inside start size) at most b)
+        → TakesEvent (Line (take n b)) (resume (Inside start size) at most b)
         (resume (Inside start (size + n)) (at + n) most (drop n b))
     unfolding resume
     step-line f = (
@@ -158,7 +160,7 @@ module _ (at most n : ℕ) (b : List ℕ) (e : n ≡ first_length b) (h : 0 < n)
     -- another empty line
     step-kept : (m : ℕ) → is_empty (take n b) ≡ true → m ≡ first_length (drop n b) → 0 < m
         → is_separator (take m (drop n b)) ≡ false →
-        Takes (Line (take n b)) (resume (Inside start size) at most b)
+        TakesEvent (Line (take n b)) (resume (Inside start size) at most b)
         (resume (Inside start (size + n)) (at + n) most (drop n b))
     unfolding resume
     step-kept m f d k s = (
@@ -171,7 +173,7 @@ module _ (at most n : ℕ) (b : List ℕ) (e : n ≡ first_length b) (h : 0 < n)
     -- an empty line before a start
     step-closing : (m : ℕ) → is_empty (take n b) ≡ true → m ≡ first_length (drop n b) → 0 < m
         → is_separator (take m (drop n b)) ≡ true →
-        Takes (End ((at + n) - start) size) (resume (Inside start size) at most b)
+        TakesEvent (End ((at + n) - start) size) (resume (Inside start size) at most b)
         (resume Between (at + n) most (drop n b))
     unfolding resume
     step-closing m f d k s =
@@ -186,7 +188,7 @@ module _ (at most n : ℕ) (b : List ℕ) (e : n ≡ first_length b) (h : 0 < n)
 
     -- an empty line at the end
     step-closing_last : is_empty (take n b) ≡ true → 0 ≡ first_length (drop n b) →
-        Takes (End ((at + n) - start) size) (resume (Inside start size) at most b)
+        TakesEvent (End ((at + n) - start) size) (resume (Inside start size) at most b)
         (resume Between (at + n) most (drop n b))
     unfolding resume
     step-closing_last f d =
@@ -199,19 +201,19 @@ module _ (at most n : ℕ) (b : List ℕ) (e : n ≡ first_length b) (h : 0 < n)
 
     closed-cases : (m : ℕ) → is_empty (take n b) ≡ true → m ≡ first_length (drop n b)
         → (nat_eq m 0 || is_separator (take m (drop n b))) ≡ true →
-        Takes (End ((at + n) - start) size) (resume (Inside start size) at most b)
+        TakesEvent (End ((at + n) - start) size) (resume (Inside start size) at most b)
         (resume Between (at + n) most (drop n b))
     closed-cases zero f d c = step-closing_last f d
     closed-cases (suc m) f d c = step-closing (suc m) f d (omega arith)
         (let z : nat_eq (suc m) 0 ≡ false = grind (arith, nat_tests) in rw z at c)
 
     pub step-closed : is_empty (take n b) ≡ true → closes_at n b ≡ true
-        → Takes (End ((at + n) - start) size) (resume (Inside start size) at most b)
+        → TakesEvent (End ((at + n) - start) size) (resume (Inside start size) at most b)
         (resume Between (at + n) most (drop n b))
     step-closed f c = closed-cases (first_length (drop n b)) f refl c
 
     pub step-open : is_empty (take n b) ≡ true → closes_at n b ≡ false
-        → Takes (Line (take n b)) (resume (Inside start size) at most b)
+        → TakesEvent (Line (take n b)) (resume (Inside start size) at most b)
         (resume (Inside start (size + n)) (at + n) most (drop n b))
     step-open f c =
         let k = split_closes (first_length (drop n b)) (is_separator (take (first_length (drop n b)) (drop n b))) c in
@@ -222,17 +224,17 @@ module _ (at most n : ℕ) (b : List ℕ) (e : n ≡ first_length b) (h : 0 < n)
 
 -- ---- the beginning
 
-accepted : (t : Bool) (all : ℕ) (ms : List Message) → cond t [] (told all ms)
-    ≡ option_map_or (told all) (cond t None (Some ms)) []
+accepted : (t : Bool) (all : ℕ) (ms : List Message) → cond t [] (events_of all ms)
+    ≡ option_map_or (events_of all) (cond t None (Some ms)) []
 accepted t all ms = grind arith
 
 events-beginning : (b : List ℕ) → told_between (0 + length b) 0 (lines b) ≡ events b
 unfolding events messages
 events-beginning b =
-    let groups = grouped (marked true (lines b)) in
-    rw (zero-add, zero-add) (accepted (is_refused (marked true (lines b))) (length b)
+    let groups = grouped_lines (marked_lines true (lines b)) in
+    rw (zero-add, zero-add) (accepted (is_refused (marked_lines true (lines b))) (length b)
     (messages_from (total groups.0) groups.1))
 
 pub resume-beginning : (most : ℕ) (b : List ℕ) → resume Between 0 most b ≡ coming_of most b
-unfolding resume refusal_of
+unfolding resume archive_refusal
 resume-beginning most b = same_coming (events-beginning b) (simp zero-add)

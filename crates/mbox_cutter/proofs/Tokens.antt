@@ -1,16 +1,17 @@
 -- Reading the pieces of a text one after another finds a time and a later year.
 use Rattle.mbox_cutter.proofs.Words.{◌≡◌, ℕ, ◌+◌, Bool, true, false, ◌&&◌, ◌||◌, ◌==◌, List, [], ◌∷◌, Some, None, take}
 use Rattle.mbox_cutter.proofs.Words.{drop, get_or, refl, ap, sym, ◌∙◌, subst, arith, list_any, get_or_default}
-use Rattle.mbox_cutter.proofs.Words.{drop-drop, IsFirstByte, is_byte, tokens, has_time_then_year, is_time, is_year}
+use Rattle.mbox_cutter.proofs.Words.{drop-drop, IsFirstByte, is_byte, separator_tokens, has_time_then_year, is_time}
+use Rattle.mbox_cutter.proofs.Words.{is_year}
 use Rattle.std.proofs.lemmas.List.Sums.{position_or_len_is}
 use Rattle.std.proofs.lemmas.List.Splits.{slice_split_first, slice_split_none}
 use Rattle.mbox_cutter.proofs.FirstLines.{not_true}
 
-pub tokens-at : (rest : List ℕ) (k : ℕ) → IsFirstByte (is_byte 32) rest (Some k) → tokens rest
-    ≡ take k rest ∷ tokens (drop (k + 1) rest)
+pub tokens-at : (rest : List ℕ) (k : ℕ) → IsFirstByte (is_byte 32) rest (Some k) → separator_tokens rest
+    ≡ take k rest ∷ separator_tokens (drop (k + 1) rest)
 tokens-at rest k f = grind (arith, position_or_len_is, not_true, slice_split_first)
 
-pub tokens-none : (rest : List ℕ) → IsFirstByte (is_byte 32) rest None → tokens rest ≡ rest ∷ []
+pub tokens-none : (rest : List ℕ) → IsFirstByte (is_byte 32) rest None → separator_tokens rest ≡ rest ∷ []
 tokens-none rest f = slice_split_none (λ (x : ℕ). x == 32) rest
     (λ k d l. not_true (get_or rest k d == 32)
     (λ e. f k (omega arith) l (subst (λ (x : ℕ). (x == 32) ≡ true) (get_or_default rest k d 0 l) e)))
@@ -34,12 +35,12 @@ pub last_token : (ts : List (List ℕ)) (token : List ℕ) (timed : Bool) → ts
 last_token ts token timed e = rw e (last-or timed (is_year token) (is_time token))
 
 pub tokens-split : (rest token more after : List ℕ) (k : ℕ) → IsFirstByte (is_byte 32) rest (Some k) → token
-    ≡ take k rest → more ≡ drop k rest → after ≡ drop 1 more → tokens rest ≡ token ∷ tokens after
+    ≡ take k rest → more ≡ drop k rest → after ≡ drop 1 more → separator_tokens rest ≡ token ∷ separator_tokens after
 tokens-split rest token more after k f t m a =
     tokens-at rest k f ∙ cc (
-      ap tokens (sym (drop-drop 1 k rest)),
-      ap (λ (x : List ℕ). tokens (drop 1 x)) m,
-      ap tokens a,
+      ap separator_tokens (sym (drop-drop 1 k rest)),
+      ap (λ (x : List ℕ). separator_tokens (drop 1 x)) m,
+      ap separator_tokens a,
     )
 
 -- a piece that isn't the year, before a time or after one

@@ -3,7 +3,7 @@ use Rattle.mbox_cutter.proofs.Words.{still_known, IsSome, ◌≡◌, ℕ, ◌+�
 use Rattle.mbox_cutter.proofs.Words.{◌++◌, Option, Some, None, IfSome, IfOk, length, take, drop, append-nil, ap, ◌∙◌}
 use Rattle.mbox_cutter.proofs.Words.{arith, append_assoc, subst, ReadConsumes, IsAtEnd, prepend_known, take-append-add}
 use Rattle.mbox_cutter.proofs.Words.{take-append-le, length-take-le, drop-append-le, Counted, Ghosts, line_end_of}
-use Rattle.mbox_cutter.proofs.Words.{first_length, Ahead, known, ReadsBehind, ReadsOn, Extends}
+use Rattle.mbox_cutter.proofs.Words.{first_length, BytesAhead, known_bytes, ReadsAfter, ReadsOn, Extends}
 use Rattle.std.specs.Result.{IsErr, is_err}
 use Rattle.std.proofs.lemmas.List.{length-append}
 use borrow.Rule.Slice.PartMut.{put_mid}
@@ -20,7 +20,7 @@ take_behind front into post held n e h =
 pub reads_behind : (held : ℕ) (old new : Option (List ℕ)) (result : Result ℕ DeviceFault) (before into : List ℕ) →
     held < length before → length into ≡ length before - held → IfOk result (λ n. n ≤ length into)
     → ReadConsumes old new result into →
-    ReadsBehind held old new result before (put_mid held (length before - held) before into)
+    ReadsAfter held old new result before (put_mid held (length before - held) before into)
 reads_behind held old new result before into h h2 h3 h4 = grind (arith, length-take-le, take_behind, take_front)
 
 -- the end of the line is in what was read
@@ -56,18 +56,19 @@ join_known : {B C : Type 0} (a b c : Option (List ℕ)) (mid : Option B) (new : 
     → IfSome (still_known a new) (λ x. c ≡ Some x)
 join_known a b c mid new h h2 h3 = grind arith
 
-pub ReadsOn-failed : {S T E : Type 0} (g : Ghosts S) (r : Result T E) (old new : Ahead S) → IsErr r
+pub ReadsOn-failed : {S T E : Type 0} (g : Ghosts S) (r : Result T E) (old new : BytesAhead S) → IsErr r
     → ReadsOn g true old new → ReadsOn g (is_err r) old new
 ReadsOn-failed g r old new h h2 = grind arith
 
 -- one read after another
-pub ReadsOn-join : {S : Type 0} (g : Ghosts S) (failed : Bool) (a b c : Ahead S) → ReadsOn g false a b
+pub ReadsOn-join : {S : Type 0} (g : Ghosts S) (failed : Bool) (a b c : BytesAhead S) → ReadsOn g false a b
     → ReadsOn g failed b c → ReadsOn g failed a c
 ReadsOn-join g failed a b c h k = record {
   source = k.source ∙ h.source;
   count = subst (λ (n : ℕ). Counted failed n (g.failures c.source.now)) h.count k.count;
   stays = Stays-join g a.source.now b.source.now c.source.now h.stays k.stays;
-  bytes = join_known (known g.rest a) (known g.rest b) (known g.rest c) (g.rest b.source.now) (g.rest c.source.now)
+  bytes = join_known (known_bytes g.rest a) (known_bytes g.rest b) (known_bytes g.rest c) (g.rest b.source.now)
+      (g.rest c.source.now)
       k.stays.known h.bytes k.bytes;
   keeps = Extends-join a.unread b.unread c.unread h.keeps k.keeps;
 }

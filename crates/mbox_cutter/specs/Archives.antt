@@ -13,19 +13,20 @@ total [] = 0
 total (line ∷ ls) = length line + total ls
 
 -- each line, with whether a message starts at it; the flag says whether one may start at the first line
-abbrev pub marked : Bool → List (List ℕ) → List (Bool × List ℕ)
-marked may_start [] = []
-marked may_start (line ∷ ls) = (may_start && is_separator line, line) ∷ marked (is_empty line) ls
+abbrev pub marked_lines : Bool → List (List ℕ) → List (Bool × List ℕ)
+marked_lines may_start [] = []
+marked_lines may_start (line ∷ ls) = (may_start && is_separator line, line) ∷ marked_lines (is_empty line) ls
 
 -- whether there is a line that isn't empty, and no message starts at the first such line
 abbrev pub is_refused : List (Bool × List ℕ) → Bool
 is_refused marks = option_map_or (λ mark. not mark.0) (find (λ mark. not (is_empty mark.1)) marks) false
 
 -- the lines before the first start; and for each start its line, with the lines after it up to the next start
-abbrev pub grouped : List (Bool × List ℕ) → List (List ℕ) × List (List ℕ × List (List ℕ))
-grouped [] = ([], [])
-grouped (mark ∷ marks) =
-    let groups = grouped marks in if mark.0 then ([], (mark.1, groups.0) ∷ groups.1) else (mark.1 ∷ groups.0, groups.1)
+abbrev pub grouped_lines : List (Bool × List ℕ) → List (List ℕ) × List (List ℕ × List (List ℕ))
+grouped_lines [] = ([], [])
+grouped_lines (mark ∷ marks) =
+    let groups = grouped_lines marks in if mark.0 then ([], (mark.1, groups.0) ∷ groups.1)
+    else (mark.1 ∷ groups.0, groups.1)
 
 -- a message: the offset where its span begins, its separator, and the lines of the span after the separator
 pub record Message : Type 0 where
@@ -61,9 +62,9 @@ messages_from offset (group ∷ groups) =
 -- the messages of an archive, or None if it is refused
 unfoldable pub messages : List ℕ → Option (List Message)
 messages bytes =
-    let marks = marked true (lines bytes) in let groups = grouped marks in
+    let marks = marked_lines true (lines bytes) in let groups = grouped_lines marks in
     if is_refused marks then None else Some (messages_from (total groups.0) groups.1)
 
 -- the spans of an archive's messages, each as an offset and a length, or None if it is refused
-abbrev pub cut : List ℕ → Option (List (ℕ × ℕ))
-cut bytes = option_map (map (λ m. (m.offset, span_length m))) (messages bytes)
+abbrev pub spans_of : List ℕ → Option (List (ℕ × ℕ))
+spans_of bytes = option_map (map (λ m. (m.offset, span_length m))) (messages bytes)

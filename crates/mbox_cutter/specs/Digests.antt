@@ -25,6 +25,6 @@ module _ {S : Type 0} where
   AreWholeBelow whole below d (suc number) bytes = below (inner d).now number bytes
 
   -- a read gave the first n bytes of the slice, and none if it failed
-  abbrev pub Gives : Digested S → Result ℕ DeviceFault → List ℕ → Digested S → Type 0
-  Gives old result into new = (given : List ℕ) → HasGiven old given
+  abbrev pub GivesBytes : Digested S → Result ℕ DeviceFault → List ℕ → Digested S → Type 0
+  GivesBytes old result into new = (given : List ℕ) → HasGiven old given
       → MatchResult result (λ n. HasGiven new (given ++ take n into)) (λ _. HasGiven new given)

@@ -29,7 +29,7 @@ pub record Starts (at : ℕ) (line : List ℕ) (old new : CutterPlace) : Type 0 
   pub offset : new.offset ≡ at + length line
 
 -- a line of the present message's text is taken
-pub record GoesOn (line : List ℕ) (old new : CutterPlace) : Type 0 where
+pub record TakesTextLine (line : List ℕ) (old new : CutterPlace) : Type 0 where
   pub start : ℕ
   pub size : ℕ
   pub was : old.phase ≡ Inside start size
@@ -55,7 +55,7 @@ pub record Finishes (all : ℕ) (old new : CutterPlace) : Type 0 where
 -- an event moves a cutter from one place to another
 abbrev pub Moves : ArchiveEvent → CutterPlace → CutterPlace → Type 0
 Moves (Start at line) old new = Starts at line old new
-Moves (Line line) old new = GoesOn line old new
+Moves (Line line) old new = TakesTextLine line old new
 Moves (End span size) old new = Ends span size old new
 Moves (Done all) old new = Finishes all old new
 
@@ -74,15 +74,15 @@ open_events Ended = 0
 open_events Failed = 0
 
 -- how many events can still come at most, without Done
-abbrev pub left : CutterPlace → ℕ
-left p = 2 * (p.most - p.offset) + open_events p.phase
+abbrev pub events_left : CutterPlace → ℕ
+events_left p = 2 * (p.most - p.offset) + open_events p.phase
 
 -- an event leaves fewer events to come; only Done may leave as many
 abbrev pub Nears : ArchiveEvent → CutterPlace → CutterPlace → Type 0
-Nears (Start at line) old new = left new < left old
-Nears (Line line) old new = left new < left old
-Nears (End span size) old new = left new < left old
-Nears (Done all) old new = left new ≤ left old
+Nears (Start at line) old new = events_left new < events_left old
+Nears (Line line) old new = events_left new < events_left old
+Nears (End span size) old new = events_left new < events_left old
+Nears (Done all) old new = events_left new ≤ events_left old
 
 -- at the archive's end all bytes have been read
 abbrev pub ReadsAll : ArchiveEvent → Option (List ℕ) → Type 0

@@ -8,8 +8,8 @@ use Rattle.mbox_cutter.specs.declared.event.CutFault.{CutFault}
 use Rattle.mbox_cutter.specs.declared.event.Event.{Event}
 use Rattle.mbox_cutter.specs.declared.event.Event.TheVariants as event
 use Rattle.mbox_cutter.specs.declared.scan.Phase.TheVariants.{Failed}
-use Rattle.mbox_cutter.specs.Events.{ArchiveEvent, Start, Line, End, Done, Coming}
-use Rattle.mbox_cutter.specs.Coming.{Answers, is_device_fault}
+use Rattle.mbox_cutter.specs.Events.{ArchiveEvent, Start, Line, End, Done, ComingEvents}
+use Rattle.mbox_cutter.specs.Coming.{AnswersAsComing, is_device_fault}
 use Rattle.mbox_cutter.specs.Places.{CutterPlace, HasLine, Moves, Nears, ReadsAll}
 use Rattle.contract_words.specs.Knowledge.{still_known}
 use Rattle.mbox_cutter.specs.Sources.{Stays}
@@ -17,21 +17,21 @@ use Rattle.mbox_cutter.specs.Sources.{Stays}
 -- the state: what still comes, if the source's bytes are known; the place in the archive; the line that was taken last;
 -- and the source
 pub record Progress (S : Type 0) : Type 0 where
-  pub coming : Option Coming
+  pub coming : Option ComingEvents
   pub place : CutterPlace
   pub line : List ℕ
   pub source : MutBor S
 
 -- an event, without where its line is in memory
-abbrev pub shown : Event → ArchiveEvent
-shown (event.Start at line) = Start at line.now
-shown (event.Line line) = Line line.now
-shown (event.End span size) = End span size
-shown (event.Done all) = Done all
+abbrev pub shown_event : Event → ArchiveEvent
+shown_event (event.Start at line) = Start at line.now
+shown_event (event.Line line) = Line line.now
+shown_event (event.End span size) = End span size
+shown_event (event.Done all) = Done all
 
 -- the result of a call, without where its line is in memory
 abbrev pub shown_result : Result Event CutFault → Result ArchiveEvent CutFault
-shown_result (Ok e) = Ok (shown e)
+shown_result (Ok e) = Ok (shown_event e)
 shown_result (Err fault) = Err fault
 
 -- how a call with this result changes a cutter
@@ -44,7 +44,7 @@ pub record Advances {S : Type 0} (g : Ghosts S) (old : Progress S) (answer : Res
   -- what no read changes stays as it was
   pub stays : Stays g old.source.now new.source.now
   -- if it is known what comes, an event is the first that comes, and a refusal is the archive's
-  pub answers : Answers (still_known old.coming (g.rest new.source.now)) answer new.coming
+  pub answers : AnswersAsComing (still_known old.coming (g.rest new.source.now)) answer new.coming
   -- events come in order, and their offsets, lengths and sizes fit what was taken, whether bytes are known or not
   pub moves : IfOk answer (λ e. Moves e old.place new.place)
   -- fewer events are left, so they end
@@ -60,4 +60,4 @@ pub record Advances {S : Type 0} (g : Ghosts S) (old : Progress S) (answer : Res
 
 -- the line of an event, if it has one, is a line
 abbrev pub LendsLine : Event → Type 0
-LendsLine e = HasLine (shown e)
+LendsLine e = HasLine (shown_event e)

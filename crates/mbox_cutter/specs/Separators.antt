@@ -14,8 +14,8 @@ without_break line =
     else if bytes_eq (drop (length line - 1) line) (10 ∷ []) then take (length line - 1) line else line
 
 -- the pieces of a text between spaces
-abbrev pub tokens : List ℕ → List (List ℕ)
-tokens text = slice_split (λ byte. byte == 32) text
+abbrev pub separator_tokens : List ℕ → List (List ℕ)
+separator_tokens text = slice_split (λ byte. byte == 32) text
 
 -- whether a sign fits a byte: `d` fits any digit, and any other sign fits itself
 abbrev pub stands_for : ℕ → ℕ → Bool
@@ -40,4 +40,5 @@ has_time_then_year (token ∷ later) = (is_time token && list_any is_year later)
 
 -- whether a line is a separator: it begins with `From `, and then has a time and a later year
 unfoldable pub is_separator : List ℕ → Bool
-is_separator line = bytes_eq (take 5 line) (codes "From ") && has_time_then_year (tokens (without_break (drop 5 line)))
+is_separator line = bytes_eq (take 5 line) (codes "From ") && has_time_then_year
+    (separator_tokens (without_break (drop 5 line)))

@@ -37,7 +37,7 @@ impl<'a, S: Source> Cutter<'a, S> {
     ghost use Rattle.mbox_cutter.specs.Events.{coming_of};
     ghost use Rattle.mbox_cutter.specs.NextEvent.{OnceLetGo};
     ghost use Rattle.mbox_cutter.specs.Places.{is_failed, HasLine};
-    ghost use Rattle.mbox_cutter.specs.Progress.{Advances, LendsLine, shown, shown_result};
+    ghost use Rattle.mbox_cutter.specs.Progress.{Advances, LendsLine, shown_event, shown_result};
     ghost use Rattle.mbox_cutter.specs.Inside.Scan.{told_at, told_result};
 
     /// Makes a cutter of the bytes that the source still gives. At most `most` bytes are allowed. It takes all the
@@ -132,7 +132,7 @@ impl<'a, S: Source> Cutter<'a, S> {
 
     /// Makes the event of a step, with the line that was taken last.
     fn event(&self, step: Step) -> Event<'_>
-        ensures { shown result ≡ told_at step self.now.line }
+        ensures { shown_event result ≡ told_at step self.now.line }
     {
         let line = self.scan.window.taken_line();
         match step {

@@ -50,7 +50,7 @@ impl<'a, S: Source> Digested<'a, S> {
 }
 
 impl<'a, S: Source> Source for Digested<'a, S> {
-    ghost use Rattle.mbox_cutter.specs.Digests.{inner, AreWhole, AreWholeBelow, Gives};
+    ghost use Rattle.mbox_cutter.specs.Digests.{inner, AreWhole, AreWholeBelow, GivesBytes};
 
     ghost rest = { λ d. S.rest (inner d).now };
 
@@ -78,7 +78,7 @@ impl<'a, S: Source> Source for Digested<'a, S> {
             → AreWholeBelow S.whole S.below self.new number bytes }
         ensures through { (inner self.new).ghost_name ∷ S.through (inner self.new).now
             ≡ (inner self.old).ghost_name ∷ S.through (inner self.old).now }
-        ensures gives { Gives self.old result into.new self.new }
+        ensures gives { GivesBytes self.old result into.new self.new }
     {
         let n = self.source.read_next(into)?;
         self.hasher.update(&into[..n]);

@@ -48,7 +48,7 @@ pub(crate) struct Scan<'a, S: Source> {
 impl<'a, S: Source> Scan<'a, S> {
     ghost use Rattle.mbox_cutter.specs.Coming.{is_device_fault};
     ghost use Rattle.mbox_cutter.specs.Places.{is_failed};
-    ghost use Rattle.mbox_cutter.specs.Inside.Ahead.{known, known_until, ReadsOn};
+    ghost use Rattle.mbox_cutter.specs.Inside.Ahead.{known_bytes, known_until, ReadsOn};
     ghost use Rattle.mbox_cutter.specs.Inside.Scan.{closes_at, place_of, FindsLine, IsScan, Passes, Steps};
 
     /// Returns the length of the next line, or 0 at the end. Fails if the source does, or if the line goes over the

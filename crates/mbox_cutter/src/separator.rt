@@ -1,7 +1,7 @@
 //! Which lines are separators. `From ` alone isn't enough: a time and then a year must follow (decision 23 in
 //! docs/DECISIONS.md).
 ghost use Rattle.std.specs.Prelude.{◌≡◌};
-ghost use Rattle.mbox_cutter.specs.Separators.{has_form, has_time_then_year, is_separator, is_time, is_year, stands_for, tokens, without_break};
+ghost use Rattle.mbox_cutter.specs.Separators.{has_form, has_time_then_year, is_separator, is_time, is_year, stands_for, separator_tokens, without_break};
 
 use memchr::memchr;
 
@@ -32,7 +32,7 @@ pub fn without_break(line: &[u8]) -> &[u8]
 
 /// Returns whether a piece between spaces is a time, and a later one is a year.
 fn has_time_then_year(text: &[u8]) -> bool
-    ensures { result ≡ has_time_then_year (tokens text.now) }
+    ensures { result ≡ has_time_then_year (separator_tokens text.now) }
 {
     let mut rest = text;
     let mut timed = false;

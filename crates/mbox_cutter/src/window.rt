@@ -1,7 +1,7 @@
 //! The part of a source that is in the buffer.
 ghost use Rattle.std.specs.Prelude.{◌≡◌, ◌⊎◌, ℕ, List, true, false, ◌+◌, ◌-◌, ◌^◌, ◌<◌, ◌≤◌, is_err, length, take, drop, slice_range, IfOk, OnOk, IfSome};
 ghost use Rattle.contract_words.specs.Devices.{Counts};
-ghost use Rattle.mbox_cutter.specs.Inside.Ahead.{known, IsLineLength, ReadsBehind, ReadsOn, TakesLine};
+ghost use Rattle.mbox_cutter.specs.Inside.Ahead.{known_bytes, IsLineLength, ReadsAfter, ReadsOn, TakesLine};
 ghost use Rattle.contract_words.specs.Knowledge.{still_known};
 ghost use Rattle.mbox_cutter.specs.Sources.{Stays};
 
@@ -24,13 +24,13 @@ pub(crate) struct Window<'a, S: Source> {
 }
 
 impl<'a, S: Source> Model for Window<'a, S> {
-    ghost use Rattle.mbox_cutter.specs.Inside.Ahead.{Ahead};
+    ghost use Rattle.mbox_cutter.specs.Inside.Ahead.{BytesAhead};
 
-    ghost Value = { Ahead S };
+    ghost Value = { BytesAhead S };
 
-    ghost use Rattle.mbox_cutter.specs.Inside.Window.{ahead, IsWindow};
+    ghost use Rattle.mbox_cutter.specs.Inside.Window.{ahead_of_window, IsWindow};
 
-    ghost view = { ahead };
+    ghost view = { ahead_of_window };
 
     ghost invariant = { IsWindow S.rest };
 }
@@ -39,7 +39,7 @@ impl<'a, S: Source> Window<'a, S> {
     pub(crate) fn over(buffer: Buffer, source: &'a mut S) -> Self
         ensures source { result.source.ghost_name ≡ source.entry.ghost_name }
         ensures same { result.source.now ≡ source.old }
-        ensures known { known S.rest result ≡ S.rest source.old }
+        ensures known { known_bytes S.rest result ≡ S.rest source.old }
     {
         Window {
             source,
@@ -90,7 +90,7 @@ impl<'a, S: Source> Window<'a, S> {
     pub(crate) fn part(&self, skip: usize, n: usize) -> &[u8]
         requires { skip + n ≤ length self.now.unread }
         ensures unread { result.now ≡ take n (drop skip self.now.unread) }
-        ensures known { IfSome (known S.rest self.now)
+        ensures known { IfSome (known_bytes S.rest self.now)
             (λ bytes. result.now ≡ take n (drop skip bytes)) }
         ensures length { length result.now ≡ n }
     {
@@ -157,7 +157,7 @@ fn read_behind<S: Source>(
     requires count { S.failures source.old < 2 ^ 64 - 1 }
     ensures count { Counts result (S.failures source.old) (S.failures source.new) }
     ensures stays { Stays S.Source source.old source.new }
-    ensures bytes { ReadsBehind held (still_known (S.rest source.old) (S.rest source.new))
+    ensures bytes { ReadsAfter held (still_known (S.rest source.old) (S.rest source.new))
         (S.rest source.new) result buffer.old buffer.new }
 {
     source.read_next(&mut buffer[held..])

@@ -1,6 +1,6 @@
 -- The letters of the Status and X-Status fields, collected field by field.
 use Rattle.mime_text.proofs.Words.{◌≡◌, ◌∙◌, ◌<◌, ◌==◌, ℕ, Bool, true, List, [], ◌∷◌, refl, arith, ◌||◌, reverse}
-use Rattle.mime_text.proofs.Words.{reverse-append, list_any, HeaderField, after_blanks, before_blanks, unfolded}
+use Rattle.mime_text.proofs.Words.{reverse-append, list_any, HeaderField, after_blanks, before_blanks, unfolded_body}
 use Rattle.mime_text.proofs.Words.{is_status, has_letter}
 use Rattle.std.proofs.lemmas.List.Folds.{list_any-append}
 use Rattle.header_text.specs.Unfolding.{without_breaks}
@@ -23,8 +23,8 @@ module _ (letter : ℕ) (high : 0x20 < letter) where
   in-without_breaks (b ∷ []) = grind arith
   in-without_breaks (b ∷ c ∷ bs) = grind (arith, in-without_breaks (c ∷ bs))
 
-  in-unfolded : (body : List ℕ) → is_in (unfolded body) ≡ is_in body
-  unfolding unfolded before_blanks
+  in-unfolded : (body : List ℕ) → is_in (unfolded_body body) ≡ is_in body
+  unfolding unfolded_body before_blanks
   in-unfolded body = in-reverse _ ∙ in-after_blanks _ ∙ in-reverse _ ∙ in-after_blanks _ ∙ in-without_breaks body
 
   -- the flag with one more such field

@@ -1,7 +1,8 @@
 -- Parameters piece by piece: each piece is shorter than the bytes that it begins, so the recursion ends.
 use Rattle.mime_text.proofs.Words.{◌≡◌, ◌∙◌, ◌<◌, ◌≤◌, ◌+◌, ◌++◌, ◌==◌, ℕ, zero, suc, Bool, true, false, List, [], ◌∷◌}
 use Rattle.mime_text.proofs.Words.{Option, Some, None, length, cond, refl, sym, ap, arith, length-append, option_map}
-use Rattle.mime_text.proofs.Words.{unwrap_or, find, option_map_or, option_to_list, split_while, after_blanks, trimmed}
+use Rattle.mime_text.proofs.Words.{unwrap_or, find, option_map_or, option_to_list, split_while, after_blanks}
+use Rattle.mime_text.proofs.Words.{without_outer_blanks}
 use Rattle.mime_text.proofs.Words.{cut_at, length-split_while, split_while-joined, IsCut-from, Parameter, Piece, quoted}
 use Rattle.mime_text.proofs.Words.{value_and_rest, is_parameter_name_byte, behind_semicolon, piece_of}
 use Rattle.mime_text.proofs.Words.{parameters_within, parameters_behind, first_named, parameter}
@@ -63,7 +64,8 @@ unfolding piece_of piece_behind
 later-shorter bs rest h = grind (
   arith,
   length-split_while is_parameter_name_byte bs,
-  later-shorter_behind (trimmed (split_while is_parameter_name_byte bs).0) (split_while is_parameter_name_byte bs).1
+  later-shorter_behind (without_outer_blanks (split_while is_parameter_name_byte bs).0)
+      (split_while is_parameter_name_byte bs).1
       rest h,
 )
 
@@ -132,8 +134,11 @@ later-measure before now a (Some rest) is e = grind (arith, later-shorter (now a
 -- a piece that is a name, `=` and a value
 pub piece-parameter : (text rest : List ℕ) (sign : ℕ) → (split_while is_parameter_name_byte text).1 ≡ sign ∷ rest
     → (sign == 0x3D) ≡ true
-    → (piece_of text).parameter ≡ Some (record
-    { name = trimmed (split_while is_parameter_name_byte text).0; value = (value_and_rest (after_blanks rest)).0 })
+    → (piece_of text).parameter ≡ Some (record {
+      name = without_outer_blanks (split_while is_parameter_name_byte text).0;
+      value =
+          (value_and_rest (after_blanks rest)).0;
+    })
 unfolding piece_of
 piece-parameter text rest sign e f = rw (e, f, piece_of) refl
 
@@ -161,7 +166,8 @@ unfolding piece_of piece_behind
 size-piece bs = grind (
   arith,
   length-split_while is_parameter_name_byte bs,
-  size-piece_behind (trimmed (split_while is_parameter_name_byte bs).0) (split_while is_parameter_name_byte bs).1,
+  size-piece_behind (without_outer_blanks (split_while is_parameter_name_byte bs).0)
+      (split_while is_parameter_name_byte bs).1,
 )
 
 size-within : (n : ℕ) (name bs found : List ℕ) → first_named name (parameters_within n bs) ≡ Some found

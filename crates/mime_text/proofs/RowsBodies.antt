@@ -6,7 +6,7 @@ use Rattle.mime_text.proofs.Words.{Latin1, printable_bytes, decoded_bytes, lines
 use Rattle.mime_text.proofs.Words.{QuotedPrintable, Base64}
 use Rattle.std.specs.Char.{encode_utf8}
 use Rattle.std.specs.Str.{chars}
-use Rattle.header_text.specs.Escapes.{unescaped}
+use Rattle.header_text.specs.Escapes.{unescaped_bytes}
 use Rattle.mime_text.proofs.RowTables.{Each}
 
 rows : Each (decoded_bytes QuotedPrintable) ((codes "lunch=\n" ∷ codes "break\n" ∷ [], codes "lunchbreak\n")
@@ -35,6 +35,6 @@ rows : Each (decoded_bytes QuotedPrintable) ((codes "lunch=\n" ∷ codes "break\
     × (leaf_texts QuotedPrintable Latin1 true (codes "a<=FC\n" ∷ codes "=FC>b\n" ∷ [])
     ≡ codes "a   " ∷ codes "  b\n" ∷ [])
     × (decoded_bytes Identity (codes "a=3D\n" ∷ codes "b" ∷ []) ≡ codes "a=3D\nb")
-unfolding is_empty without_break before_blanks unescaped sextet bytes_of_sextets base64_bytes printable_bytes
+unfolding is_empty without_break before_blanks unescaped_bytes sextet bytes_of_sextets base64_bytes printable_bytes
     first_length lines charset_of text_of leaf_texts chars encode_utf8
 rows = (refl, refl, refl, refl, refl, refl, refl, refl, refl, refl)

@@ -1,6 +1,7 @@
 -- Rows of names. The values on the right were found by reading the rules separately.
 use Rattle.mime_text.proofs.Words.{◌≡◌, ℕ, zero, suc, List, [], ◌∷◌, ◌++◌, replicate, Option, None, Some, refl, codes}
-use Rattle.mime_text.proofs.Words.{is_empty, lines, first_length, without_break, before_blanks, fields_of, unfolded}
+use Rattle.mime_text.proofs.Words.{is_empty, lines, first_length, without_break, before_blanks, fields_of}
+use Rattle.mime_text.proofs.Words.{unfolded_body}
 use Rattle.mime_text.proofs.Words.{piece_of, parameter, shape_of, shape_of_value, name_of, Part, Entity, Counted, Leaf}
 use Rattle.mime_text.proofs.Words.{is_delimiter, parts_of_message}
 use Rattle.mime_text.proofs.RowTables.{Each}
@@ -64,6 +65,7 @@ rows : Each (λ text. names (parts_of_message shape_of (lines text)))
     × (names (parts_of_message shape_of (nested 16)) ≡ replicate 16 None ++ (Some (codes "a") ∷ []))
     × (names (parts_of_message shape_of (nested 15)) ≡ replicate 15 None ++ (Some (codes "a") ∷ Some (codes "b") ∷ []))
     × (names (parts_of_message shape_of (nested 17)) ≡ replicate 17 None)
-unfolding is_empty lines first_length without_break before_blanks fields_of unfolded piece_of parameter shape_of_value
+unfolding is_empty lines first_length without_break before_blanks fields_of unfolded_body piece_of parameter
+    shape_of_value
     is_delimiter names nested
 rows = (refl, refl, refl, refl)

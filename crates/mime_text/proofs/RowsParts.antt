@@ -1,6 +1,6 @@
 -- Rows of the tree of parts. The values on the right were found by reading the rules separately.
 use Rattle.mime_text.proofs.Words.{◌≡◌, ℕ, zero, suc, List, [], ◌∷◌, ◌++◌, length, refl, codes, map, is_empty, lines}
-use Rattle.mime_text.proofs.Words.{first_length, without_break, before_blanks, HeaderField, fields_of, unfolded}
+use Rattle.mime_text.proofs.Words.{first_length, without_break, before_blanks, HeaderField, fields_of, unfolded_body}
 use Rattle.mime_text.proofs.Words.{piece_of, parameter, shape_of, shape_of_value, Part, Entity, Counted, Leaf}
 use Rattle.mime_text.proofs.Words.{is_delimiter, parts_of_message}
 use Rattle.mime_text.proofs.RowTables.{Each}
@@ -75,6 +75,7 @@ rows : Each (λ text. bodies (parts_of_message shape_of (lines text)))
     × (bodies (parts_of_message shape_of (nested 16)) ≡ (codes "a\n" ∷ []) ∷ [])
     × (bodies (parts_of_message shape_of (nested 17)) ≡ [])
     × (length (names (parts_of_message shape_of (nested 17))) ≡ 17)
-unfolding is_empty lines first_length without_break before_blanks fields_of unfolded piece_of parameter shape_of_value
+unfolding is_empty lines first_length without_break before_blanks fields_of unfolded_body piece_of parameter
+    shape_of_value
     is_delimiter bodies names nested
 rows = (refl, refl, refl, refl, refl)

@@ -1,6 +1,6 @@
 -- Rows of types and parameters. The values on the right were found by reading the rules separately.
 use Rattle.mime_text.proofs.Words.{◌≡◌, ℕ, true, false, List, [], ◌∷◌, ◌++◌, refl, codes, is_empty, before_blanks}
-use Rattle.mime_text.proofs.Words.{HeaderField, fields_of, unfolded, charset_of, Utf8, Latin1, Unknown, Parameter}
+use Rattle.mime_text.proofs.Words.{HeaderField, fields_of, unfolded_body, charset_of, Utf8, Latin1, Unknown, Parameter}
 use Rattle.mime_text.proofs.Words.{piece_of, parameters, parameter, shape_of, shape_of_value, charset_in}
 use Rattle.mime_text.proofs.Words.{charset_of_value, transfer_in, transfer_named, TextPlain, MessageRfc822, Multipart}
 use Rattle.mime_text.proofs.Words.{Message, Text, Other, Identity, QuotedPrintable, Base64}
@@ -63,6 +63,6 @@ rows : Each (λ value. shape_of TextPlain (typed value))
     × (shape_of TextPlain (fields_of (codes "X: y\n" ∷ codes "content-TYPE:text/html\n" ∷ [])) ≡ Text true)
     × (charset_in [] ≡ Utf8)
     × (transfer_in [] ≡ Identity)
-unfolding is_empty before_blanks fields_of unfolded piece_of parameter shape_of_value charset_of_value charset_of
+unfolding is_empty before_blanks fields_of unfolded_body piece_of parameter shape_of_value charset_of_value charset_of
     transfer_named
 rows = (refl, refl, refl, refl, refl, refl, refl, refl, refl, refl)

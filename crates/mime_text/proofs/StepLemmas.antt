@@ -1,7 +1,7 @@
 -- The place of a reader after one more line.
 use Rattle.mime_text.proofs.Words.{◌≡◌, ◌∙◌, ◌++◌, ℕ, zero, suc, Bool, true, false, ◌||◌, List, [], ◌∷◌, Option, Some}
 use Rattle.mime_text.proofs.Words.{None, refl, sym, ap, append_assoc, arith, flat_map, flat_map-append, is_empty, lines}
-use Rattle.mime_text.proofs.Words.{fields_of, before_blanks, unfolded, has_empty, base64_bytes, bytes_of_sextets}
+use Rattle.mime_text.proofs.Words.{fields_of, before_blanks, unfolded_body, has_empty, base64_bytes, bytes_of_sextets}
 use Rattle.mime_text.proofs.Words.{Charset, DefaultType, TextPlain, Shape, Multipart, Message, Text, Other, Frame}
 use Rattle.mime_text.proofs.Words.{Identity, QuotedPrintable, Base64, Pair, Coming, texts_of_fields, piece_of}
 use Rattle.mime_text.proofs.Words.{parameter, shape_of, charset_in, transfer_in, name_texts, leaf_texts, body_pairs}
@@ -57,7 +57,7 @@ unfolding fields_of
 fields-none = refl
 
 name-none : name_texts (fields_of []) ≡ []
-unfolding before_blanks fields_of unfolded piece_of parameter
+unfolding before_blanks fields_of unfolded_body piece_of parameter
 name-none = refl
 
 pub leaf_texts-none : (transfer : TransferEncoding) (charset : Charset) (is_html : Bool)

@@ -3,7 +3,7 @@ pub use Rattle.header_text.proofs.CutLemmas.{IsCut, IsCut-from, Lacks, Lacks-fro
 pub use Rattle.header_text.proofs.CutLemmas.{split_while-cut, split_while-free}
 pub use Rattle.header_text.proofs.Fronts.{length-split_while, split_while-joined, take-split_while}
 unfoldable pub use Rattle.header_text.specs.Base64.{base64_bytes, bytes_of_sextets, sextet}
-pub use Rattle.header_text.specs.Blanks.{after_blanks, split_while, trimmed}
+pub use Rattle.header_text.specs.Blanks.{after_blanks, split_while, without_outer_blanks}
 unfoldable pub use Rattle.header_text.specs.Blanks.{before_blanks}
 unfoldable pub use Rattle.header_text.specs.Charsets.{charset_of, text_of}
 pub use Rattle.header_text.specs.Cuts.{cut_at}
@@ -12,7 +12,7 @@ unfoldable pub use Rattle.header_text.specs.Headers.{fields_of}
 pub use Rattle.header_text.specs.HeldLines.{HasLines, taken_of}
 pub use Rattle.header_text.specs.Ids.{ids_of, ids_size}
 pub use Rattle.header_text.specs.Stages.{has_empty}
-unfoldable pub use Rattle.header_text.specs.Unfolding.{unfolded}
+unfoldable pub use Rattle.header_text.specs.Unfolding.{unfolded_body}
 pub use Rattle.header_text.specs.declared.charset.Charset.{Charset}
 pub use Rattle.header_text.specs.declared.charset.Charset.TheVariants.{Latin1, Unknown, Utf8}
 pub use Rattle.header_text.specs.declared.header.Taken.TheVariants.{Ended, More}

@@ -3,8 +3,8 @@ use Rattle.std.specs.Prelude.{ℕ, List, Option, Some, None, if◌then◌else◌
 use Rattle.std.specs.List.{filter_map}
 use Rattle.header_text.specs.Headers.{HeaderField}
 use Rattle.header_text.specs.Names.{is_named}
-use Rattle.header_text.specs.Unfolding.{unfolded}
-use Rattle.header_text.specs.EncodedWords.{decoded}
+use Rattle.header_text.specs.Unfolding.{unfolded_body}
+use Rattle.header_text.specs.EncodedWords.{decoded_value}
 use Rattle.mail_words.specs.declared.kind.TextKind.{TextKind}
 use Rattle.mail_words.specs.declared.kind.TextKind.TheVariants as kind
 
@@ -20,7 +20,7 @@ kind_of_field name =
 
 -- the text of a field's body: unfolded, its encoded words decoded
 abbrev pub text_of_body : List ℕ → List ℕ
-text_of_body body = decoded (unfolded body)
+text_of_body body = decoded_value (unfolded_body body)
 
 -- the texts of a header: one for each To, Cc, Bcc, From and Subject field, in order
 abbrev pub texts_of_fields : List HeaderField → List (TextKind × List ℕ)

@@ -4,7 +4,7 @@ use Rattle.std.specs.Prelude.{Option, Some, None, option_map, codes}
 use Rattle.std.specs.List.{list_any}
 use Rattle.header_text.specs.Headers.{HeaderField, most_in_header}
 use Rattle.header_text.specs.Names.{is_named, first_body}
-use Rattle.header_text.specs.Unfolding.{unfolded}
+use Rattle.header_text.specs.Unfolding.{unfolded_body}
 use Rattle.header_text.specs.Ids.{ids_of}
 use Rattle.mail_words.specs.declared.flags.Flags.{Flags}
 use Rattle.mime_text.specs.declared.header.facts.Facts.{Facts}
@@ -25,7 +25,7 @@ is_status name = is_named name (codes "status") || is_named name (codes "x-statu
 
 -- whether the letter is in the value of a Status or X-Status field
 abbrev pub has_letter : ℕ → List HeaderField → Bool
-has_letter letter fields = list_any (λ f. is_status f.name && list_any (λ b. b == letter) (unfolded f.body)) fields
+has_letter letter fields = list_any (λ f. is_status f.name && list_any (λ b. b == letter) (unfolded_body f.body)) fields
 
 -- the flags: R for read, A for replied, F for flagged
 abbrev pub flags_of : List HeaderField → Flags

@@ -2,7 +2,7 @@
 use Rattle.std.specs.Prelude.{ℕ, List, [], ◌∷◌, Option, None, Some, option_map, codes}
 use Rattle.std.specs.Option.{option_or, option_to_list}
 use Rattle.header_text.specs.Headers.{HeaderField}
-use Rattle.header_text.specs.EncodedWords.{decoded}
+use Rattle.header_text.specs.EncodedWords.{decoded_value}
 use Rattle.mail_words.specs.declared.kind.TextKind.TheVariants as kind
 use Rattle.mime_text.specs.Sinks.{Pair}
 use Rattle.mime_text.specs.Parameters.{parameter}
@@ -28,7 +28,7 @@ name_of fields = option_or (unless_empty (filename_of fields)) (unless_empty (ty
 
 -- the name's text, with encoded words decoded as in other fields of a header; it may be empty even if the name isn't
 abbrev pub name_text : List HeaderField → Option (List ℕ)
-name_text fields = option_map decoded (name_of fields)
+name_text fields = option_map decoded_value (name_of fields)
 
 -- the text of an entity's name as a list, which is empty if the entity has no name
 abbrev pub name_texts : List HeaderField → List Pair

@@ -3,9 +3,11 @@ use Rattle.std.specs.Prelude.{ℕ, zero, suc, Bool, true, false, not, ◌||◌, 
 use Rattle.std.specs.Prelude.{length, Option, None, Some, option_map}
 use Rattle.std.specs.List.{find}
 use Rattle.std.specs.Option.{option_map_or, option_to_list}
-use Rattle.header_text.specs.Blanks.{is_blank, split_while, after_blanks, trimmed}
+use Rattle.header_text.specs.Blanks.{split_while, after_blanks, without_outer_blanks}
+use Rattle.contract_words.specs.Blanks.{is_blank}
 use Rattle.header_text.specs.Cuts.{cut_at}
 use Rattle.header_text.specs.Names.{is_named}
+use Rattle.header_text.specs.EncodedWords.{equals_sign}
 
 -- a parameter: its name and its value without quotes
 pub record Parameter : Type 0 where
@@ -15,10 +17,6 @@ pub record Parameter : Type 0 where
 -- `;`, which comes before each parameter
 abbrev pub semicolon : ℕ
 semicolon = 0x3B
-
--- `=`, which comes between a parameter's name and its value
-abbrev pub equals_sign : ℕ
-equals_sign = 0x3D
 
 -- `"`, which begins and ends a quoted value
 abbrev pub quote : ℕ
@@ -73,7 +71,7 @@ piece_of bs = let front = split_while is_parameter_name_byte bs in elim (front.1
     | false ↦ record { parameter = None; later = Some rest }
     | true ↦ let found = value_and_rest (after_blanks rest) in
         record {
-          parameter = Some (record { name = trimmed front.0; value = found.0 });
+          parameter = Some (record { name = without_outer_blanks front.0; value = found.0 });
           later =
               behind_semicolon found.1;
         }

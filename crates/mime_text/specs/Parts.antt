@@ -4,7 +4,7 @@ use Rattle.std.specs.Prelude.{if◌then◌else◌}
 use Rattle.std.specs.List.{list_all}
 use Rattle.mbox_cutter.specs.Lines.{is_empty}
 use Rattle.mbox_cutter.specs.Separators.{without_break}
-use Rattle.header_text.specs.Blanks.{is_blank}
+use Rattle.contract_words.specs.Blanks.{is_blank}
 use Rattle.header_text.specs.EncodedWords.{after}
 use Rattle.header_text.specs.Headers.{HeaderField, fields_of}
 use Rattle.mime_text.specs.declared.parts.shape.DefaultType.{DefaultType}

@@ -4,7 +4,7 @@ use Rattle.std.specs.List.{concat}
 use Rattle.std.specs.Str.{bytes_eq}
 use Rattle.mbox_cutter.specs.Separators.{without_break}
 use Rattle.header_text.specs.Blanks.{before_blanks}
-use Rattle.header_text.specs.Escapes.{unescaped}
+use Rattle.header_text.specs.Escapes.{unescaped_bytes}
 use Rattle.header_text.specs.Base64.{base64_bytes}
 use Rattle.mime_text.specs.declared.leaf.transfer.TransferEncoding.{TransferEncoding}
 use Rattle.mime_text.specs.declared.leaf.transfer.TransferEncoding.TheVariants.{Identity, QuotedPrintable, Base64}
@@ -25,7 +25,7 @@ feed_of line = if ends_in 0x0A line then 0x0A ∷ [] else []
 -- 5); any other line break is LF. Then `=` and two hexadecimal digits are a byte; any other `=` stays.
 unfoldable pub printable_bytes : List ℕ → List ℕ
 printable_bytes line = let text = printable_text line in
-    if ends_in 0x3D text then unescaped (take (length text - 1) text) else unescaped text ++ feed_of line
+    if ends_in 0x3D text then unescaped_bytes (take (length text - 1) text) else unescaped_bytes text ++ feed_of line
 
 -- the bytes of a body: quoted-printable is decoded line by line, base64 over all lines together
 abbrev pub decoded_bytes : TransferEncoding → List (List ℕ) → List ℕ

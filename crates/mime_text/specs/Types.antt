@@ -2,10 +2,10 @@
 use Rattle.std.specs.Prelude.{ℕ, Bool, true, false, not, ◌&&◌, ◌==◌, nat_le, if◌then◌else◌, List, [], length, take}
 use Rattle.std.specs.Prelude.{Option, None, Some, unwrap_or, codes}
 use Rattle.std.specs.List.{list_any}
-use Rattle.header_text.specs.Blanks.{split_while, trimmed}
+use Rattle.header_text.specs.Blanks.{split_while, without_outer_blanks}
 use Rattle.header_text.specs.Headers.{HeaderField}
 use Rattle.header_text.specs.Names.{is_named, first_body}
-use Rattle.header_text.specs.Unfolding.{unfolded}
+use Rattle.header_text.specs.Unfolding.{unfolded_body}
 use Rattle.header_text.specs.Charsets.{charset_of}
 use Rattle.header_text.specs.declared.charset.Charset.{Charset}
 use Rattle.mime_text.specs.Limits.{most_in_boundary}
@@ -19,7 +19,7 @@ use Rattle.mime_text.specs.declared.leaf.transfer.TransferEncoding.TheVariants.{
 
 -- the value of the first field with this name, empty if there is none
 abbrev pub first_value : List ℕ → List HeaderField → List ℕ
-first_value name fields = unfolded (unwrap_or (first_body name fields) [])
+first_value name fields = unfolded_body (unwrap_or (first_body name fields) [])
 
 -- the value of the first Content-Type field
 abbrev pub content_type : List HeaderField → List ℕ
@@ -32,7 +32,7 @@ default_type MessageRfc822 = codes "message/rfc822"
 
 -- what is before the first semicolon of a value, even of one in quotes, without blanks around it
 abbrev pub type_text : List ℕ → List ℕ
-type_text value = trimmed (split_while (λ b. not (b == semicolon)) value).0
+type_text value = without_outer_blanks (split_while (λ b. not (b == semicolon)) value).0
 
 -- whether there is a `/` in a text
 abbrev pub has_slash : List ℕ → Bool

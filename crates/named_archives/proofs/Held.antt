@@ -6,8 +6,8 @@ use Rattle.std.proofs.Common.{refl, sym, ap, subst, arith}
 use Rattle.std.specs.List.{AllByRecursion}
 use Rattle.std.specs.Option.{ForSome, option_map}
 use Rattle.std.proofs.lemmas.List.Elements.{recursion_from_All}
-use Rattle.contract_words.specs.Archives.{IsLength, IsRead, archive_at}
-use Rattle.named_files.specs.Entries.{IsRead as IsReadOf}
+use Rattle.contract_words.specs.Archives.{IsLength, IsReadFromArchive, archive_at}
+use Rattle.named_files.specs.Entries.{IsReadFromFile}
 use Rattle.named_archives.specs.Names.{all_known, held_while, IsFileAt, IsInState}
 use Rattle.named_archives.specs.Progress.{has_agreed}
 use Rattle.named_archives.proofs.Lists.{and-true}
@@ -107,8 +107,9 @@ module _ {A S : Type 0} (agreed : Bool) (rest bytes : A → Option (List ℕ)) (
   pub read-is : {E : Type 0} (told : Result ℕ E) (offset : ℕ) (into : List ℕ) (current : Option A)
       → ForSome current (λ file. IsFileAt files states n (bytes file) (state file))
       → OnOk told (IsInState found states n current)
-      → IfOk told (λ k. IfSome current (λ file. IsReadOf offset (take k into) (bytes file)))
-      → IfOk told (λ k. IsRead n offset (take k into) (held_while (agreed && has_agreed rest bytes current) files))
+      → IfOk told (λ k. IfSome current (λ file. IsReadFromFile offset (take k into) (bytes file)))
+      → IfOk told (λ k. IsReadFromArchive n offset (take k into)
+      (held_while (agreed && has_agreed rest bytes current) files))
   read-is (Ok k) offset into None at in_state is = absurd in_state
   read-is (Ok k) offset into (Some file) at in_state is = if-some _ _ (λ all e.
       if-some-at (bytes file) _ (archive_at all n) is (is-archive file (at file refl) all e))

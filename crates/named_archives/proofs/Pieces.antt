@@ -3,7 +3,7 @@ use Rattle.std.proofs.Common.{◌≡◌, ◌≤◌, ℕ, ◌+◌, ◌-◌, min, 
 use Rattle.std.proofs.Common.{slice_range, sym, ap, ◌∙◌, subst, arith, length-drop, length-take-le}
 use Rattle.std.specs.Option.{ForSome}
 use Rattle.std.proofs.lemmas.List.{take-take, drop-drop, drop-take}
-use Rattle.named_files.specs.Entries.{IsRead}
+use Rattle.named_files.specs.Entries.{IsReadFromFile}
 use Rattle.named_archives.specs.Ahead.{IsPiece}
 
 pub if-some : {A : Type 0} (o : Option A) (P : A → Type 0) → ForSome o P → IfSome o P
@@ -14,7 +14,7 @@ for-some : {A : Type 0} (o : Option A) (P : A → Type 0) → IfSome o P → For
 for-some None P h = λ x e. cc
 for-some (Some y) P h = λ x e. let same : y ≡ x = grind arith in subst P same h
 
-pub is-piece : (offset : ℕ) (bytes : List ℕ) (known : Option (List ℕ)) → IsRead offset bytes known
+pub is-piece : (offset : ℕ) (bytes : List ℕ) (known : Option (List ℕ)) → IsReadFromFile offset bytes known
     → IsPiece offset bytes known
 is-piece offset bytes known h = λ all e. (for-some known _ h all e).0
 

@@ -1,10 +1,10 @@
 //! The files of some names as archives, which are read at any place.
 ghost use Rattle.std.specs.Prelude.{⊤, ◌≡◌, ◌<◌, ◌≤◌, ◌-◌, ◌^◌, ◌&&◌, ◌↔◌, List, ℕ, true, None, Some, IsSome, All, map, length, take, slice_get, IfOk, IfSome, OnOk, OnErr};
 ghost use Rattle.std.specs.Option.{ForSome};
-ghost use Rattle.contract_words.specs.Archives.{IsLength, IsRead};
+ghost use Rattle.contract_words.specs.Archives.{IsLength, IsReadFromArchive};
 ghost use Rattle.contract_words.specs.Devices.{Counts};
 ghost use Rattle.contract_words.specs.Knowledge.{WasKnown};
-ghost use Rattle.named_files.specs.Entries.{IsRead as IsReadOf};
+ghost use Rattle.named_files.specs.Entries.{IsReadFromFile};
 ghost use Rattle.named_archives.specs.Names.{files_of, held_while, IsFileAt, IsInState, IsStillOpen};
 ghost use Rattle.named_archives.specs.Progress.{has_agreed, is_for_memory, FailsFor};
 
@@ -242,7 +242,7 @@ impl<'p, F: Folder> Archives for NamedArchives<'p, F> {
             → files_of (F.holds self.new.folder.now) self.new.names.now ≡ map Some archives }
         ensures number { length self.new.names.now ≡ length self.old.names.now }
         ensures bound { IfOk result (λ bytes. bytes ≤ length into.new) }
-        ensures bytes { IfOk result (λ bytes. IsRead n offset (take bytes into.new)
+        ensures bytes { IfOk result (λ bytes. IsReadFromArchive n offset (take bytes into.new)
             (held_while (F.agree self.new.closed && has_agreed (λ a. F.File.rest a.file)
             (λ a. F.File.bytes a.file) self.new.current)
             (files_of (F.holds self.new.folder.now) self.new.names.now))) }
@@ -293,7 +293,7 @@ impl<'p, F: Folder> NamedArchives<'p, F> {
             self.old.current self.new.current }
         ensures bound { IfOk result (λ n. n ≤ length into.new) }
         ensures bytes { IfOk result (λ n. IfSome self.new.current (λ a.
-            IsReadOf offset (take n into.new) (F.File.bytes a.file))) }
+            IsReadFromFile offset (take n into.new) (F.File.bytes a.file))) }
         ensures in_state { OnOk result (IsInState (λ a. F.File.state_found a.file)
             self.new.states.now self.new.number self.new.current) }
         ensures same { (self.new.folder.now ≡ self.old.folder.now)

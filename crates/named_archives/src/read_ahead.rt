@@ -2,7 +2,7 @@
 ghost use Rattle.std.specs.Prelude.{◌≡◌, ◌<◌, ◌≤◌, ◌-◌, ◌^◌, Some, length, take, drop, min, IfOk, IfSome, OnOk, vec_len, vec_items};
 ghost use Rattle.contract_words.specs.Devices.{Counts};
 ghost use Rattle.contract_words.specs.Knowledge.{WasKnown};
-ghost use Rattle.named_files.specs.Entries.{IsRead};
+ghost use Rattle.named_files.specs.Entries.{IsReadFromFile};
 ghost use Rattle.named_archives.specs.Ahead.{IsPiece};
 ghost use Rattle.named_archives.specs.declared.read_ahead.TheConstants.{MOST};
 
@@ -99,7 +99,7 @@ impl<F: KeptFile> ReadAhead<F> {
         ensures known { WasKnown (F.bytes self.old.file) (F.bytes self.new.file) }
         ensures rest { F.rest self.new.file ≡ F.rest self.old.file }
         ensures bound { IfOk result (λ n. n ≤ length into.new) }
-        ensures bytes { IfOk result (λ n. IsRead offset (take n into.new)
+        ensures bytes { IfOk result (λ n. IsReadFromFile offset (take n into.new)
             (F.bytes self.new.file)) }
         // All that is given was read while the file was in its state.
         ensures in_state { OnOk result (F.state_found self.new.file ≡ Some self.new.state) }
@@ -132,7 +132,7 @@ impl<F: KeptFile> ReadAhead<F> {
         ensures known { WasKnown (F.bytes self.old.file) (F.bytes self.new.file) }
         ensures rest { F.rest self.new.file ≡ F.rest self.old.file }
         ensures bound { IfOk result (λ n. n ≤ length into.new) }
-        ensures bytes { IfOk result (λ n. IsRead offset (take n into.new)
+        ensures bytes { IfOk result (λ n. IsReadFromFile offset (take n into.new)
             (F.bytes self.new.file)) }
         ensures in_state { OnOk result (F.state_found self.new.file ≡ Some self.new.state) }
         ensures count { Counts result (F.failures self.old.file) (F.failures self.new.file) }
@@ -174,7 +174,7 @@ impl<F: KeptFile> ReadAhead<F> {
         ensures known { WasKnown (F.bytes self.old.file) (F.bytes self.new.file) }
         ensures rest { F.rest self.new.file ≡ F.rest self.old.file }
         ensures bound { IfOk result (λ n. n ≤ length into.new) }
-        ensures bytes { IfOk result (λ n. IsRead offset (take n into.new)
+        ensures bytes { IfOk result (λ n. IsReadFromFile offset (take n into.new)
             (F.bytes self.new.file)) }
         ensures in_state { OnOk result (F.state_found self.new.file ≡ Some self.new.state) }
         ensures count { Counts result (F.failures self.old.file) (F.failures self.new.file) }
@@ -195,7 +195,7 @@ impl<F: KeptFile> ReadAhead<F> {
         ensures known { WasKnown (F.bytes self.old.file) (F.bytes self.new.file) }
         ensures rest { F.rest self.new.file ≡ F.rest self.old.file }
         ensures bound { IfOk result (λ n. n ≤ length into.new) }
-        ensures bytes { IfOk result (λ n. IsRead offset (take n into.new)
+        ensures bytes { IfOk result (λ n. IsReadFromFile offset (take n into.new)
             (F.bytes self.new.file)) }
         ensures in_state { OnOk result (F.state_found self.new.file ≡ Some self.new.state) }
         ensures count { Counts result (F.failures self.old.file) (F.failures self.new.file) }
@@ -228,7 +228,7 @@ impl<F: KeptFile> ReadAhead<F> {
         ensures known { WasKnown (F.bytes self.old.file) (F.bytes self.new.file) }
         ensures rest { F.rest self.new.file ≡ F.rest self.old.file }
         ensures offset { self.new.offset ≡ offset }
-        ensures bytes { OnOk result (IsRead offset
+        ensures bytes { OnOk result (IsReadFromFile offset
             (take self.new.held (vec_items self.new.room)) (F.bytes self.new.file)) }
         ensures in_state { OnOk result (F.state_found self.new.file ≡ Some self.new.state) }
         ensures count { Counts result (F.failures self.old.file) (F.failures self.new.file) }
@@ -255,7 +255,7 @@ fn fill<F: KeptFile>(
     ensures known { WasKnown (F.bytes file.old) (F.bytes file.new) }
     ensures rest { F.rest file.new ≡ F.rest file.old }
     ensures bound { IfOk result (λ n. n ≤ length room.new) }
-    ensures bytes { IfOk result (λ n. IsRead offset (take n room.new) (F.bytes file.new)) }
+    ensures bytes { IfOk result (λ n. IsReadFromFile offset (take n room.new) (F.bytes file.new)) }
     ensures in_state { OnOk result (F.state_found file.new ≡ Some state) }
     ensures count { Counts result (F.failures file.old) (F.failures file.new) }
 {
@@ -275,7 +275,7 @@ fn read_in_state<F: KeptFile>(
     ensures known { WasKnown (F.bytes file.old) (F.bytes file.new) }
     ensures rest { F.rest file.new ≡ F.rest file.old }
     ensures bound { IfOk result (λ n. n ≤ length into.new) }
-    ensures bytes { IfOk result (λ n. IsRead offset (take n into.new) (F.bytes file.new)) }
+    ensures bytes { IfOk result (λ n. IsReadFromFile offset (take n into.new) (F.bytes file.new)) }
     ensures in_state { OnOk result (F.state_found file.new ≡ Some state) }
     ensures count { Counts result (F.failures file.old) (F.failures file.new) }
 {

@@ -10,7 +10,7 @@ use Rattle.std.specs.Option.{unwrap_or}
 use Rattle.std.specs.Str.{bytes_eq}
 use Rattle.named_files.specs.Crashes.{Elapses, LeavesNoMoreWhere}
 use Rattle.named_files.specs.Entries.{Entry, File, IsFileOf}
-use Rattle.named_files.specs.Logs.{Held, Change, Named, Synced, held_after, MayBe, MayLeave, MayHaveLeft}
+use Rattle.named_files.specs.Logs.{Held, Change, Named, Synced, held_after_changes, MayBe, MayLeave, MayHaveLeft}
 
 -- a file
 abbrev pub file_of : List ℕ → Bool → Bool → Held
@@ -28,29 +28,31 @@ head_same x y xs ys is = cc
 module _ (first : List ℕ → Held) (changes : List Change) where
   -- ---- a name leads to something else
 
-  pub held_named : (name n : List ℕ) (held : Held) → n ≡ name → held_after first (Named name held ∷ changes) n ≡ held
+  pub held_named : (name n : List ℕ) (held : Held) → n ≡ name → held_after_changes first (Named name held ∷ changes) n
+      ≡ held
   held_named name n held is =
-      ap (λ b. unwrap_or (if b then Some held else None) (held_after first changes n)) ((bytes_eq-Decides n name).1 is)
+      ap (λ b. unwrap_or (if b then Some held else None) (held_after_changes first changes n))
+      ((bytes_eq-Decides n name).1 is)
 
   pub held_others : (name n : List ℕ) (held : Held) → not (bytes_eq n name) ≡ true
-      → held_after first (Named name held ∷ changes) n ≡ held_after first changes n
+      → held_after_changes first (Named name held ∷ changes) n ≡ held_after_changes first changes n
   held_others name n held is_apart = grind (arith, nat_tests)
 
   -- a crash undoes the change or not
   undone_or_not : (change : Change) (n : List ℕ) (c : Entry) → MayLeave first (change ∷ changes) n c
-      → MayBe (held_after first (change ∷ changes) n) c ⊎ ((change ≢ Synced n) × MayLeave first changes n c)
+      → MayBe (held_after_changes first (change ∷ changes) n) c ⊎ ((change ≢ Synced n) × MayLeave first changes n c)
   undone_or_not change n c left = cases left.0 left.1 left.2 left.3 left.4
     where
       cases : (undone kept : List Change) → change ∷ changes ≡ undone ++ kept → All (λ change. change ≢ Synced n) undone
-          → MayBe (held_after first kept n) c
-          → MayBe (held_after first (change ∷ changes) n) c ⊎ ((change ≢ Synced n) × MayLeave first changes n c)
-      cases [] kept is none may = inl (subst (λ l. MayBe (held_after first l n) c) (sym is) may)
+          → MayBe (held_after_changes first kept n) c
+          → MayBe (held_after_changes first (change ∷ changes) n) c ⊎ ((change ≢ Synced n) × MayLeave first changes n c)
+      cases [] kept is none may = inl (subst (λ l. MayBe (held_after_changes first l n) c) (sym is) may)
       cases (x ∷ undone) kept is none may = inr (
         λ synced. none 0 x (omega arith) (sym (head_same change x changes (undone ++ kept) is) ∙ synced),
         (undone, kept, tail_same change x changes (undone ++ kept) is, All-tail (λ y. y ≢ Synced n) x undone none, may),
       )
 
-  nothing_undone : (n : List ℕ) (c : Entry) → MayBe (held_after first changes n) c → MayLeave first changes n c
+  nothing_undone : (n : List ℕ) (c : Entry) → MayBe (held_after_changes first changes n) c → MayLeave first changes n c
   nothing_undone n c may = ([], changes, refl, λ k d lt. absurd (omega (arith, lt)), may)
 
   -- what a crash leaves under another name
@@ -97,8 +99,8 @@ module _ (first : List ℕ → Held) (changes : List Change) where
 
 -- the same of a folder whose changes are these
 module _ (first : List ℕ → Held) (old new : List Change) where
-  pub is_named : (name : List ℕ) (held : Held) → new ≡ Named name held ∷ old → held_after first new name ≡ held
-  is_named name held is = ap (λ l. held_after first l name) is ∙ held_named first old name name held refl
+  pub is_named : (name : List ℕ) (held : Held) → new ≡ Named name held ∷ old → held_after_changes first new name ≡ held
+  is_named name held is = ap (λ l. held_after_changes first l name) is ∙ held_named first old name name held refl
 
   pub no_more_others : (name : List ℕ) (held : Held) → new ≡ Named name held ∷ old
       → LeavesNoMoreWhere (λ n. not (bytes_eq n name)) (MayLeave first old) (MayLeave first new)
@@ -125,11 +127,12 @@ module _ (first : List ℕ → Held) (old new : List Change) where
   no_more_synced name is n c left = less_synced first old name n c (subst (λ l. MayLeave first l n c) is left)
 
   -- after a name is brought to the disk, a crash leaves what it leads to
-  pub only_synced : (name : List ℕ) → new ≡ Synced name ∷ old → (held_after first old name).is_on_disk ≡ true
-      → (c : Entry) → MayLeave first new name c → c ≡ (held_after first old name).entry
+  pub only_synced : (name : List ℕ) → new ≡ Synced name ∷ old → (held_after_changes first old name).is_on_disk ≡ true
+      → (c : Entry) → MayLeave first new name c → c ≡ (held_after_changes first old name).entry
   only_synced name is kept c left =
       elim (undone_or_not first old (Synced name) name c (subst (λ l. MayLeave first l name c) is left)) [
-        | inl may ↦ subst (λ b. MatchBool b (c ≡ (held_after first old name).entry) (IsFileOf (λ _. Unit {0}) c)) kept
+        | inl may ↦ subst (λ b. MatchBool b (c ≡ (held_after_changes first old name).entry)
+            (IsFileOf (λ _. Unit {0}) c)) kept
             may
         | inr before ↦ absurd (before.0 refl)
       ]

@@ -5,7 +5,7 @@ use Rattle.std.proofs.lemmas.Bool.Decides.{nat_tests}
 use Rattle.std.specs.Io.KnownBytes.{Appends}
 use Rattle.named_files.specs.Crashes.{Elapses, LeavesNoMoreWhere, LeavesOnly}
 use Rattle.named_files.specs.Entries.{Entry, IsFileOf}
-use Rattle.named_files.specs.TakingNames.{AreAll, Replaces}
+use Rattle.named_files.specs.TakingNames.{AreAllTaken, Replaces}
 use Rattle.named_files.proofs.Moments.{started, goes_on, joins}
 
 both_first : (a b : Bool) → (a && b) ≡ true → a ≡ true
@@ -58,7 +58,7 @@ module _ {D : Type 0} (moment : D → ℕ) (left_since : D → ℕ → List ℕ 
   left_by_rename : (new : D) (may_hold : List ℕ → Type 0)
       → LeavesNoMoreWhere (λ n. apart old n passing && apart old n name) (may_leave old) (may_leave new)
       → ((c : Entry) → may_leave new name c → may_leave old name c ⊎ IsFileOf may_hold c)
-      → ((bytes : List ℕ) → may_hold bytes → AreAll taken bytes)
+      → ((bytes : List ℕ) → may_hold bytes → AreAllTaken taken bytes)
       → (n : List ℕ) (c : Entry) → may_leave new n c → Left n c
   left_by_rename new may_hold less named whole n c left = (
     λ both. less n c both left,
@@ -71,7 +71,7 @@ module _ {D : Type 0} (moment : D → ℕ) (left_since : D → ℕ → List ℕ 
       → LeavesNoMoreWhere (λ n. apart old n passing && apart old n name) (may_leave old) (may_leave new)
       → (may_hold : List ℕ → Type 0)
       → ((c : Entry) → may_leave new name c → may_leave old name c ⊎ IsFileOf may_hold c)
-      → ((bytes : List ℕ) → may_hold bytes → AreAll taken bytes)
+      → ((bytes : List ℕ) → may_hold bytes → AreAllTaken taken bytes)
       → LeaveOnlyThat new
   after_rename only_now new time less may_hold named whole =
       after_call old new (at_first only_now) time (left_by_rename new may_hold less named whole)

@@ -17,8 +17,8 @@ bytes_of Folder = None
 bytes_of Other = None
 
 -- These bytes are in a file from the offset on, if the file's bytes are known. None are read only if none are there.
-abbrev pub IsRead : ℕ → List ℕ → Option (List ℕ) → Type 0
-IsRead offset bytes known = IfSome known (λ all.
+abbrev pub IsReadFromFile : ℕ → List ℕ → Option (List ℕ) → Type 0
+IsReadFromFile offset bytes known = IfSome known (λ all.
     (bytes ≡ take (length bytes) (drop offset all)) × (length bytes ≡ 0 → drop offset all ≡ []))
 
 -- a file of bytes that have P

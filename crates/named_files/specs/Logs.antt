@@ -30,9 +30,9 @@ named_by (Named name held) n = if bytes_eq n name then Some held else None
 named_by (Synced name) n = None
 
 -- what a name leads to after these changes: what the newest one that names it says
-abbrev pub held_after : (List ℕ → Held) → List Change → List ℕ → Held
-held_after first [] n = first n
-held_after first (change ∷ older) n = unwrap_or (named_by change n) (held_after first older n)
+abbrev pub held_after_changes : (List ℕ → Held) → List Change → List ℕ → Held
+held_after_changes first [] n = first n
+held_after_changes first (change ∷ older) n = unwrap_or (named_by change n) (held_after_changes first older n)
 
 -- what a crash may leave of it: a file of any bytes, if its bytes aren't on the disk
 abbrev pub MayBe : Held → Entry → Type 0
@@ -41,7 +41,7 @@ MayBe held c = MatchBool held.is_on_disk (c ≡ held.entry) (IsFileOf (λ _. ⊤
 -- A crash undoes some of the newest changes, up to the last one that brought the name to the disk.
 abbrev pub MayLeave : (List ℕ → Held) → List Change → List ℕ → Entry → Type 0
 MayLeave first changes n c = (undone : List Change) × (kept : List Change) × (changes ≡ undone ++ kept)
-    × All (λ change. change ≢ Synced n) undone × MayBe (held_after first kept n) c
+    × All (λ change. change ≢ Synced n) undone × MayBe (held_after_changes first kept n) c
 
 -- a crash may have left this at a moment from which on the folder had at least t changes
 abbrev pub MayHaveLeft : (List ℕ → Held) → List Change → ℕ → List ℕ → Entry → Type 0

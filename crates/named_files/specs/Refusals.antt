@@ -11,9 +11,9 @@ HasCause Memory Cause = ⊤
 HasCause Refused Cause = Cause
 
 -- the refusal by which a file didn't take its name for good
-abbrev pub refusal_of : NameFault → Refusal
-refusal_of (NotNamed why) = why
-refusal_of (NotSynced why) = why
+abbrev pub refusal_of_name : NameFault → Refusal
+refusal_of_name (NotNamed why) = why
+refusal_of_name (NotSynced why) = why
 
 -- whether a file has its name: also if only the name couldn't be brought to the disk
 abbrev pub has_name : Result (Unit {0}) NameFault → Bool

@@ -2,7 +2,7 @@
 ghost use Rattle.std.specs.Prelude.{◌≡◌, ◌<◌, ◌≤◌, ◌-◌, ◌^◌, ℕ, List, Option, Some, length, take, IfOk, IfSome, OnOk};
 ghost use Rattle.contract_words.specs.Devices.{Counts};
 ghost use Rattle.contract_words.specs.Knowledge.{WasKnown};
-ghost use Rattle.named_files.specs.Entries.{IsRead};
+ghost use Rattle.named_files.specs.Entries.{IsReadFromFile};
 
 use mbox_cutter::{DeviceFault, Source};
 
@@ -30,7 +30,8 @@ pub trait KeptFile: Source + Drop {
         ensures whole { (bytes : List ℕ) → Self.whole self.old bytes → Self.whole self.new bytes }
         ensures through { Self.through self.new ≡ Self.through self.old }
         ensures bound { IfOk result (λ n. n ≤ length into.new) }
-        ensures bytes { IfOk result (λ n. IsRead offset (take n into.new) (bytes self.new)) }
+        ensures bytes { IfOk result (λ n. IsReadFromFile offset (take n into.new)
+            (bytes self.new)) }
         ensures count { Counts result (Self.failures self.old) (Self.failures self.new) };
 
     /// Returns the length in bytes of a plain file. Anything else has none: then the call fails.

@@ -6,7 +6,7 @@ ghost use Rattle.std.specs.Option.{option_map, option_map_or};
 ghost use Rattle.std.specs.String.{string_bytes};
 ghost use Rattle.named_files.specs.Entries.{Nothing, File, bytes_of};
 ghost use Rattle.named_files.specs.Logs.{Named, MayLeave, MayHaveLeft, left_now, only_left};
-ghost use Rattle.named_files.specs.MemoryFolders.{changes_of, change_of, entry_of, held_in, held_of, nothing, nothing_first};
+ghost use Rattle.named_files.specs.MemoryFolders.{changes_of, change_of, entry_of_item, held_in, held_of, held_nothing, nothing_first};
 
 pub mod item;
 pub mod memory_file;
@@ -56,7 +56,7 @@ impl MemoryFolder {
     /// Lets a name lead to something else. The bytes of a file are on the disk, but its name isn't until it is brought
     /// there.
     pub fn put(&mut self, alloc: Global, name: &str, item: Item) -> Result<(), AllocError>
-        ensures held { OnOk result ((held_in self.new name.now).entry ≡ entry_of item) }
+        ensures held { OnOk result ((held_in self.new name.now).entry ≡ entry_of_item item) }
         ensures others { (n : List ℕ) → not (bytes_eq n name.now) ≡ true
             → held_in self.new n ≡ held_in self.old n }
         ensures stays { OnErr result ((n : List ℕ) → held_in self.new n ≡ held_in self.old n) }
@@ -105,7 +105,7 @@ impl MemoryFolder {
 
     /// Returns what a name leads to; None if it never led to anything.
     fn found(&self, name: &str) -> Option<&Found>
-        ensures { option_map_or (λ found. held_of found.now) result nothing
+        ensures { option_map_or (λ found. held_of found.now) result held_nothing
             ≡ held_in self.now name.now }
     {
         let mut found = None;

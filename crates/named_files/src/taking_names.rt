@@ -2,7 +2,7 @@
 ghost use Rattle.std.specs.Prelude.{◌≡◌, ◌≢◌, ◌⊎◌, ◌<◌, ◌-◌, ◌^◌, ℕ, true, false, List, None, Some, IfErr, IfSome, OnOk, ◌&&◌};
 ghost use Rattle.named_files.specs.Crashes.{LeavesOnly};
 ghost use Rattle.named_files.specs.Entries.{Entry, File, Nothing, Leads, SameWhere};
-ghost use Rattle.named_files.specs.Refusals.{HasCause, has_name, refusal_of};
+ghost use Rattle.named_files.specs.Refusals.{HasCause, has_name, refusal_of_name};
 ghost use Rattle.named_files.specs.TakingNames.{Replaces, TakesName};
 
 use crate::folder::Folder;
@@ -49,7 +49,7 @@ pub fn take_name<F: Folder>(
     // named.
     ensures calls { TakesName F.renames F.syncs F.discards name.now result folder.old folder.new }
     // It doesn't give up by itself.
-    ensures refused { IfErr result (λ fault. HasCause (refusal_of fault)
+    ensures refused { IfErr result (λ fault. HasCause (refusal_of_name fault)
         (F.can_refuse ⊎ F.writes_can_fail)) }
 {
     let _ = passing;
@@ -103,7 +103,7 @@ pub fn replace_file<F: Folder>(
         → c ≡ File bytes.now) }
     ensures none { F.making folder.new ≡ None }
     // It doesn't give up by itself.
-    ensures refused { IfErr result (λ fault. HasCause (refusal_of fault)
+    ensures refused { IfErr result (λ fault. HasCause (refusal_of_name fault)
         ((F.holds folder.old passing.now ≢ Nothing) ⊎ (F.can_refuse ⊎ F.writes_can_fail))) }
 {
     let mut new = match folder.create(alloc, reports, passing) {

@@ -1,6 +1,6 @@
 //! Answers over an archive that ends before the length that it reports.
 ghost use Rattle.std.specs.Prelude.{◌≡◌, ◌<◌, ◌≤◌, ◌-◌, ◌^◌, None, length, take, IfOk};
-ghost use Rattle.contract_words.specs.Archives.{IsLength, IsRead};
+ghost use Rattle.contract_words.specs.Archives.{IsLength, IsReadFromArchive};
 ghost use Rattle.contract_words.specs.Devices.{Counts};
 
 use crate::answered::{COUSINS, Told, held, indexed, is_front, is_whole, text_of, told};

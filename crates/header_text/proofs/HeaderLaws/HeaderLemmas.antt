@@ -3,8 +3,9 @@ use Rattle.header_text.proofs.Words.{get_or, take, drop, take_rest, eq-eqb, ◌-
 use Rattle.header_text.proofs.Words.{true, false, List, [], ◌∷◌, Option, Some, None, length, refl, sym, ap, arith}
 use Rattle.header_text.proofs.Words.{length-append, append_assoc, append-nil, is_some, HeaderField, is_continuation}
 use Rattle.header_text.proofs.Words.{field_of_line, with_continuations, continued_and_fields, fields_in, fields_size}
-use Rattle.header_text.proofs.Words.{named, is_field_name_byte, split_while, after_blanks, onto_last, is_open_after}
-use Rattle.header_text.proofs.Words.{is_open_behind, fields_with}
+use Rattle.header_text.proofs.Words.{field_of_name, is_field_name_byte, split_while, after_blanks, onto_last}
+use Rattle.header_text.proofs.Words.{is_field_open_after}
+use Rattle.header_text.proofs.Words.{is_field_open_after_lines, fields_with}
 use Rattle.std.specs.Option.{option_to_list}
 use Rattle.header_text.proofs.Fronts.{split_while-joined}
 
@@ -65,17 +66,18 @@ length-with_continuations : (o : Option HeaderField) (more : List ℕ) (fs : Lis
 length-with_continuations o more fs = grind arith
 
 continued : (o : Option HeaderField) (ls : List (List ℕ)) (l : List ℕ) → is_continuation l ≡ true
-    → Continued o ls l (is_open_behind (is_some o) ls)
+    → Continued o ls l (is_field_open_after_lines (is_some o) ls)
 continued None [] l e = record { goes = λ no. absurd (cc); skips = λ _. rw (e, continued_and_fields) refl }
 continued (Some f) [] l e = grind (arith, append-nil)
 continued o (k ∷ ks) l e = go (λ p. continued p ks l e) (is_continuation k) refl
   where
-    go : ((p : Option HeaderField) → Continued p ks l (is_open_behind (is_some p) ks)) → (t : Bool) → is_continuation k
+    go : ((p : Option HeaderField) → Continued p ks l (is_field_open_after_lines (is_some p) ks)) → (t : Bool)
+        → is_continuation k
         ≡ t
-        → Continued o (k ∷ ks) l (is_open_behind (is_open_after (is_some o) k) ks)
+        → Continued o (k ∷ ks) l (is_field_open_after_lines (is_field_open_after (is_some o) k) ks)
     go each true f =
         let later = each (grown o k) in
-        let same : is_open_after (is_some o) k ≡ is_some (grown o k) = rw f (sym (is_some-grown o k)) in
+        let same : is_field_open_after (is_some o) k ≡ is_some (grown o k) = rw f (sym (is_some-grown o k)) in
         let now = whole-cons_yes o k ks f in
         let next = whole-cons_yes o k (ks ++ l ∷ []) f in
         rw same (record {
@@ -84,7 +86,7 @@ continued o (k ∷ ks) l e = go (λ p. continued p ks l e) (is_continuation k) r
         })
     go each false f =
         let later = each (field_of_line k) in
-        let same : is_open_after (is_some o) k ≡ is_some (field_of_line k) = rw f refl in
+        let same : is_field_open_after (is_some o) k ≡ is_some (field_of_line k) = rw f refl in
         let now = whole-cons_no o k ks f in
         let next = whole-cons_no o k (ks ++ l ∷ []) f in
         rw same (record {
@@ -98,23 +100,24 @@ continued o (k ∷ ks) l e = go (λ p. continued p ks l e) (is_continuation k) r
 
 -- one more line
 pub fields_in-push : (ls : List (List ℕ)) (l : List ℕ) → fields_in (ls ++ l ∷ [])
-    ≡ fields_with (is_open_behind false ls) l (fields_in ls)
-fields_in-push ls l = go (is_continuation l) refl (is_open_behind false ls) refl
+    ≡ fields_with (is_field_open_after_lines false ls) l (fields_in ls)
+fields_in-push ls l = go (is_continuation l) refl (is_field_open_after_lines false ls) refl
   where
     last : (o : Option HeaderField) → whole o [] ≡ option_to_list o
     last o = grind (arith, append-nil)
 
-    go : (t : Bool) → is_continuation l ≡ t → (u : Bool) → is_open_behind false ls ≡ u → fields_in (ls ++ l ∷ [])
-        ≡ fields_with (is_open_behind false ls) l (fields_in ls)
+    go : (t : Bool) → is_continuation l ≡ t → (u : Bool) → is_field_open_after_lines false ls ≡ u
+        → fields_in (ls ++ l ∷ [])
+        ≡ fields_with (is_field_open_after_lines false ls) l (fields_in ls)
     go false e u f = whole-push_no None ls l e
         ∙ rw e (ap (λ (fs : List HeaderField). fields_in ls ++ fs) (last (field_of_line l)))
     go true e true f = ((continued None ls l e).goes f).0 ∙ rw (e, f) refl
     go true e false f = (continued None ls l e).skips f ∙ rw (e, f) refl
 
-pub is_open_behind-push : (b : Bool) (ls : List (List ℕ)) (l : List ℕ) → is_open_behind b (ls ++ l ∷ [])
-    ≡ is_open_after (is_open_behind b ls) l
+pub is_open_behind-push : (b : Bool) (ls : List (List ℕ)) (l : List ℕ) → is_field_open_after_lines b (ls ++ l ∷ [])
+    ≡ is_field_open_after (is_field_open_after_lines b ls) l
 is_open_behind-push b [] l = refl
-is_open_behind-push b (k ∷ ks) l = is_open_behind-push (is_open_after b k) ks l
+is_open_behind-push b (k ∷ ks) l = is_open_behind-push (is_field_open_after b k) ks l
 
 -- ---- how many bytes fields have
 
@@ -131,7 +134,7 @@ pub length-after_blanks : (bs : List ℕ) → length (after_blanks bs) ≤ lengt
 length-after_blanks [] = omega arith
 length-after_blanks (b ∷ bs) = grind (arith, length-after_blanks bs)
 
-named-size : (name rest : List ℕ) → fields_size (option_to_list (named name rest)) ≤ length name + length rest
+named-size : (name rest : List ℕ) → fields_size (option_to_list (field_of_name name rest)) ≤ length name + length rest
 named-size name rest = grind arith
 
 field_of_line-size : (l : List ℕ) → fields_size (option_to_list (field_of_line l)) ≤ length l
@@ -143,11 +146,11 @@ field_of_line-size l =
 
 -- a name that isn't empty, and a colon
 pub named-begins : (name rest : List ℕ) → 0 < length name → 1 ≤ length rest → get_or rest 0 0 ≡ 0x3A
-    → Some (record { name = name; body = take (length rest - 1) (drop 1 rest) }) ≡ named name rest
+    → Some (record { name = name; body = take (length rest - 1) (drop 1 rest) }) ≡ field_of_name name rest
 named-begins [] rest some one is = absurd (omega arith)
 named-begins (b ∷ name) [] some one is = absurd (omega arith)
 named-begins (b ∷ name) (c ∷ rest) some one is =
-    rw (eq-eqb c 0x3A is, named) (ap (λ (l : List ℕ). Some (record { name = b ∷ name; body = l }))
+    rw (eq-eqb c 0x3A is, field_of_name) (ap (λ (l : List ℕ). Some (record { name = b ∷ name; body = l }))
     (take_rest (c ∷ rest) 1))
 
 -- a line adds no more bytes than it has

@@ -2,7 +2,8 @@
 use Rattle.header_text.proofs.Words.{◌≡◌, ◌∙◌, ◌+◌, ◌<◌, ◌≤◌, ◌++◌, ◌==◌, ℕ, zero, suc, Bool, true, false, nat_lt, List}
 use Rattle.header_text.proofs.Words.{[], ◌∷◌, Option, Some, None, length, drop, get_or, slice_index, map, refl, sym, ap}
 use Rattle.header_text.proofs.Words.{subst, arith, filter, IfSome, Vec, filter_map, length-map, get_or-map, ltb-true}
-use Rattle.header_text.proofs.Words.{is_id_byte, ids_of, ids_size, onto_first, closed_texts, after_last_open, ids_in}
+use Rattle.header_text.proofs.Words.{is_id_byte, ids_of, ids_size, onto_first, closed_texts, after_last_open}
+use Rattle.header_text.proofs.Words.{ids_of_texts}
 use Rattle.std.specs.Global.{Global}
 use Rattle.std.specs.Prelude.{All}
 use Rattle.header_text.proofs.HeaderLaws.IdRanges.{ids_of-closed}
@@ -76,12 +77,12 @@ filter-short : (p : ℕ → Bool) (xs : List ℕ) → length (filter p xs) ≤ l
 filter-short p [] = omega arith
 filter-short p (x ∷ xs) = grind (arith, filter-short p xs)
 
-ids_in-sized : (n : ℕ) (ts : List (List ℕ)) → AreShort n ts → AreSized n (ids_in ts)
+ids_in-sized : (n : ℕ) (ts : List (List ℕ)) → AreShort n ts → AreSized n (ids_of_texts ts)
 ids_in-sized n [] h = tt
 ids_in-sized n (t ∷ ts) h = go (after_last_open t) refl (after_last_open-short t) (ids_in-sized n ts h.1)
   where
     go : (o : Option (List ℕ)) → after_last_open t ≡ o → IfSome (after_last_open t) (λ u. length u < length t)
-        → AreSized n (ids_in ts) → AreSized n (ids_in (t ∷ ts))
+        → AreSized n (ids_of_texts ts) → AreSized n (ids_of_texts (t ∷ ts))
     go None e short later = rw e later
     go (Some u) e short later = rw e (last (nat_lt 0 (length (filter is_id_byte u))) refl)
       where
@@ -102,7 +103,7 @@ closed_texts-size : (bs : List ℕ) → closed_size (closed_texts bs) ≤ length
 closed_texts-size [] = omega arith
 closed_texts-size (b ∷ bs) = grind (arith, closed_texts-size bs)
 
-ids_in-size : (ts : List (List ℕ)) → ids_size (ids_in ts) ≤ closed_size ts
+ids_in-size : (ts : List (List ℕ)) → ids_size (ids_of_texts ts) ≤ closed_size ts
 ids_in-size [] = omega arith
 ids_in-size (t ∷ ts) = grind (arith, after_last_open-short t, ids_in-size ts, filter-short)
 

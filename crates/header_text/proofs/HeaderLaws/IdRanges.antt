@@ -2,8 +2,9 @@
 use Rattle.header_text.proofs.Words.{◌≡◌, ◌∙◌, ◌++◌, ◌&&◌, ◌==◌, ℕ, Bool, true, false, cond, List, [], ◌∷◌, Option}
 use Rattle.header_text.proofs.Words.{Some, None, refl, sym, ap, ap₂, append_assoc, append-nil, inl, inr, ◌⊎◌, nat_lt}
 use Rattle.header_text.proofs.Words.{arith, list_all, map-append, filter-append, filter_map-append, eqb-true, open_sign}
-use Rattle.header_text.proofs.Words.{close_sign, begins_with, is_inside_id, is_id, kept_ids, ids_of, closed_texts}
-use Rattle.header_text.proofs.Words.{after_last_open, ids_in}
+use Rattle.header_text.proofs.Words.{close_sign, begins_with_byte, is_inside_id, is_id_range, kept_ids, ids_of}
+use Rattle.header_text.proofs.Words.{closed_texts}
+use Rattle.header_text.proofs.Words.{after_last_open, ids_of_texts}
 use Rattle.std.proofs.lemmas.List.Folds.{list_all-append}
 use Rattle.contract_words.proofs.RangePlaces.{seen_on, seen_from, if_passes, seen_behind-places}
 use Rattle.header_text.proofs.CutLemmas.{Lacks}
@@ -19,18 +20,19 @@ all_three a b c e f g = rw (e, f, g) refl
 -- ---- the ids that begin with some bytes, and those that begin in the rest
 
 abbrev ids_on : List ℕ → List ℕ → List ℕ → List (List ℕ)
-ids_on = seen_on is_id (λ bs. bs)
+ids_on = seen_on is_id_range (λ bs. bs)
 
 abbrev pub ids_from : List ℕ → List ℕ → List (List ℕ)
-ids_from = seen_from is_id (λ bs. bs)
+ids_from = seen_from is_id_range (λ bs. bs)
 
 abbrev one : List ℕ → List ℕ → List ℕ → List (List ℕ)
-one = if_passes is_id (λ bs. bs)
+one = if_passes is_id_range (λ bs. bs)
 
-refused : (before inside behind : List ℕ) → is_id before inside behind ≡ false → one before inside behind ≡ []
+refused : (before inside behind : List ℕ) → is_id_range before inside behind ≡ false → one before inside behind ≡ []
 refused before inside behind e = ap (λ (t : Bool). cond t (inside ∷ []) []) e
 
-taken : (before inside behind : List ℕ) → is_id before inside behind ≡ true → one before inside behind ≡ inside ∷ []
+taken : (before inside behind : List ℕ) → is_id_range before inside behind ≡ true → one before inside behind
+    ≡ inside ∷ []
 taken before inside behind e = ap (λ (t : Bool). cond t (inside ∷ []) []) e
 
 -- one more byte inside
@@ -52,7 +54,7 @@ is_inside : (b : ℕ) → (b == open_sign) ≡ false → (b == close_sign) ≡ f
 is_inside b e f = rw (e, f) refl
 
 -- no `<` is directly before them
-on-unopened : (before inside rest : List ℕ) → begins_with open_sign before ≡ false → ids_on before inside rest ≡ []
+on-unopened : (before inside rest : List ℕ) → begins_with_byte open_sign before ≡ false → ids_on before inside rest ≡ []
 on-unopened before inside [] e = refl
 on-unopened before inside (c ∷ cs) e = grind
     (arith, refused, before, not_first, on-unopened before (inside ++ c ∷ []) cs e)
@@ -60,7 +62,8 @@ on-unopened before inside (c ∷ cs) e = grind
 refused_broken : (before inside behind : List ℕ) → list_all is_inside_id inside ≡ false → one before inside behind ≡ []
 refused_broken before inside behind e = grind (arith, refused, before, behind)
 
-refused_open : (before inside behind : List ℕ) → begins_with close_sign behind ≡ false → one before inside behind ≡ []
+refused_open : (before inside behind : List ℕ) → begins_with_byte close_sign behind ≡ false → one before inside behind
+    ≡ []
 refused_open before inside behind e = grind (arith, refused, before, behind)
 
 -- a `<` or a `>` is among them
@@ -72,8 +75,8 @@ on-broken before inside (c ∷ cs) e = grind
 on-sign : (before inside rest : List ℕ) (c : ℕ) → is_inside_id c ≡ false → ids_on before inside (c ∷ rest) ≡ []
 on-sign before inside rest c e = grind (arith, refused_broken, before, broken_by, on-broken)
 
-not_closed : (x rest : List ℕ) → Lacks close_sign x → begins_with close_sign rest ≡ false
-    → begins_with close_sign (x ++ rest) ≡ false
+not_closed : (x rest : List ℕ) → Lacks close_sign x → begins_with_byte close_sign rest ≡ false
+    → begins_with_byte close_sign (x ++ rest) ≡ false
 not_closed [] rest free e = e
 not_closed (b ∷ x) rest free e = free.0
 
@@ -94,7 +97,8 @@ abbrev unless_none : List ℕ → List ℕ → List (List ℕ)
 unless_none [] text = []
 unless_none (b ∷ bs) text = text ∷ []
 
-on-found : (before inside u rest : List ℕ) → begins_with open_sign before ≡ true → list_all is_inside_id inside ≡ true
+on-found : (before inside u rest : List ℕ) → begins_with_byte open_sign before ≡ true → list_all is_inside_id inside
+    ≡ true
     → Lacks open_sign u → Lacks close_sign u
     → ids_on before inside (u ++ close_sign ∷ rest) ≡ unless_none u (inside ++ u)
 on-found before inside [] rest e f unopened unclosed = on-sign before inside rest close_sign refl
@@ -109,12 +113,14 @@ on-found before inside (b ∷ c ∷ u) rest e f unopened unclosed =
 
 -- ---- of the bytes before, it matters only whether a `<` comes last
 
-on-same : (x y inside rest : List ℕ) → begins_with open_sign x ≡ begins_with open_sign y → ids_on x inside rest
+on-same : (x y inside rest : List ℕ) → begins_with_byte open_sign x ≡ begins_with_byte open_sign y
+    → ids_on x inside rest
     ≡ ids_on y inside rest
 on-same x y inside [] e = refl
 on-same x y inside (c ∷ cs) e = grind (arith, on-same x y (inside ++ c ∷ []) cs e)
 
-from-same : (x y rest : List ℕ) → begins_with open_sign x ≡ begins_with open_sign y → ids_from x rest ≡ ids_from y rest
+from-same : (x y rest : List ℕ) → begins_with_byte open_sign x ≡ begins_with_byte open_sign y → ids_from x rest
+    ≡ ids_from y rest
 from-same x y [] e = refl
 from-same x y (c ∷ cs) e = ap₂ ◌++◌ (on-same x y [] (c ∷ cs) e) (from-same (c ∷ x) (c ∷ y) cs refl)
 
@@ -125,7 +131,7 @@ from-reopened before [] rest free = ap₂ ◌++◌ (on-reopened before [] [] res
 from-reopened before (b ∷ x) rest free =
     ap₂ ◌++◌ (on-reopened before [] (b ∷ x) rest free) (from-reopened (b ∷ before) x rest free.1)
 
-from-unopened : (before u rest : List ℕ) → begins_with open_sign before ≡ false → Lacks open_sign u
+from-unopened : (before u rest : List ℕ) → begins_with_byte open_sign before ≡ false → Lacks open_sign u
     → ids_from before (u ++ close_sign ∷ rest) ≡ ids_from [] rest
 from-unopened before [] rest e free = ap₂ ◌++◌ (on-unopened before [] (close_sign ∷ rest) e)
     (from-same (close_sign ∷ before) [] rest refl)
@@ -148,7 +154,8 @@ from-end before (b ∷ x) free = ap₂ ◌++◌ (on-end before [] (b ∷ x) free
 kept-append : (xs ys : List (List ℕ)) → kept_ids (xs ++ ys) ≡ kept_ids xs ++ kept_ids ys
 kept-append xs ys = grind (arith, nat_lt, map-append, filter-append)
 
-pub ids_in-cons : (text : List ℕ) (texts : List (List ℕ)) → ids_in (text ∷ texts) ≡ ids_in (text ∷ []) ++ ids_in texts
+pub ids_in-cons : (text : List ℕ) (texts : List (List ℕ)) → ids_of_texts (text ∷ texts)
+    ≡ ids_of_texts (text ∷ []) ++ ids_of_texts texts
 ids_in-cons text texts = grind (arith, filter_map-append, kept-append)
 
 -- a `<` is in the text, and none after it
@@ -194,7 +201,7 @@ last_open (b ∷ bs) free = elim (last_open bs free.1) [
     go false t none = inl (ap (judged b bs) none.0 ∙ rw (judged, t) refl, (t, none.1))
 
 from-text : (text rest : List ℕ) → Lacks close_sign text → kept_ids (ids_from [] (text ++ close_sign ∷ rest))
-    ≡ ids_in (text ∷ []) ++ kept_ids (ids_from [] rest)
+    ≡ ids_of_texts (text ∷ []) ++ kept_ids (ids_from [] rest)
 from-text text rest free = grind (arith, last_open, from-unopened, append_assoc, from-reopened, from-found, kept-append)
 
 -- ---- all texts
@@ -213,27 +220,27 @@ lacks_more [] b free e = (e, tt)
 lacks_more (a ∷ front) b free e = (free.0, lacks_more front b free.1 e)
 
 from-texts : (front bs : List ℕ) → Lacks close_sign front → kept_ids (ids_from [] (front ++ bs))
-    ≡ ids_in (onto_text front (closed_texts bs))
+    ≡ ids_of_texts (onto_text front (closed_texts bs))
 from-texts front [] free = ap kept_ids (ap (ids_from []) (append-nil front) ∙ from-end [] front free)
 from-texts front (b ∷ bs) free = go (b == close_sign) refl (from-texts [] bs tt)
     (λ e. from-texts (front ++ b ∷ []) bs (lacks_more front b free e))
   where
-    go : (t : Bool) → (b == close_sign) ≡ t → kept_ids (ids_from [] bs) ≡ ids_in (onto_text [] (closed_texts bs))
+    go : (t : Bool) → (b == close_sign) ≡ t → kept_ids (ids_from [] bs) ≡ ids_of_texts (onto_text [] (closed_texts bs))
         → ((b == close_sign) ≡ false → kept_ids (ids_from [] ((front ++ b ∷ []) ++ bs))
-        ≡ ids_in (onto_text (front ++ b ∷ []) (closed_texts bs)))
-        → kept_ids (ids_from [] (front ++ b ∷ bs)) ≡ ids_in (onto_text front (closed_texts (b ∷ bs)))
+        ≡ ids_of_texts (onto_text (front ++ b ∷ []) (closed_texts bs)))
+        → kept_ids (ids_from [] (front ++ b ∷ bs)) ≡ ids_of_texts (onto_text front (closed_texts (b ∷ bs)))
     go true t behind longer =
         let texts : closed_texts (b ∷ bs) ≡ [] ∷ closed_texts bs = rw (t, closed_texts) refl in
-        let later : kept_ids (ids_from [] bs) ≡ ids_in (closed_texts bs) = behind
-        ∙ ap ids_in (onto_text-nil (closed_texts bs)) in
+        let later : kept_ids (ids_from [] bs) ≡ ids_of_texts (closed_texts bs) = behind
+        ∙ ap ids_of_texts (onto_text-nil (closed_texts bs)) in
         ap (λ (c : ℕ). kept_ids (ids_from [] (front ++ c ∷ bs))) (eqb-true b close_sign t) ∙ from-text front bs free
-        ∙ ap (λ (l : List (List ℕ)). ids_in (front ∷ []) ++ l) later ∙ sym (ids_in-cons front (closed_texts bs))
-        ∙ ap (λ (l : List ℕ). ids_in (l ∷ closed_texts bs)) (sym (append-nil front))
-        ∙ ap (λ (l : List (List ℕ)). ids_in (onto_text front l)) (sym texts)
+        ∙ ap (λ (l : List (List ℕ)). ids_of_texts (front ∷ []) ++ l) later ∙ sym (ids_in-cons front (closed_texts bs))
+        ∙ ap (λ (l : List ℕ). ids_of_texts (l ∷ closed_texts bs)) (sym (append-nil front))
+        ∙ ap (λ (l : List (List ℕ)). ids_of_texts (onto_text front l)) (sym texts)
     go false t behind longer = grind (arith, append_assoc)
 
-pub ids_of-closed : (value : List ℕ) → ids_of value ≡ ids_in (closed_texts value)
+pub ids_of-closed : (value : List ℕ) → ids_of value ≡ ids_of_texts (closed_texts value)
 unfolding ids_of
 ids_of-closed value =
-    ap kept_ids (seen_behind-places is_id (λ bs. bs) [] value) ∙ from-texts [] value tt
-    ∙ ap ids_in (onto_text-nil (closed_texts value))
+    ap kept_ids (seen_behind-places is_id_range (λ bs. bs) [] value) ∙ from-texts [] value tt
+    ∙ ap ids_of_texts (onto_text-nil (closed_texts value))

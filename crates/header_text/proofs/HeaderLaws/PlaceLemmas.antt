@@ -4,7 +4,7 @@ use Rattle.header_text.proofs.Words.{sym, ap, ap₂, arith, length-append, appen
 use Rattle.header_text.proofs.Words.{drop-append-le, take_all, take_at, drop_at, length-take-le, FieldPlace}
 use Rattle.header_text.proofs.Words.{HeaderField, fields_size, most_in_header, onto_last}
 use Rattle.std.proofs.lemmas.List.{length-drop}
-use Rattle.header_text.specs.Inside.Places.{next_start, AreInOrder, AreKept, fields_at}
+use Rattle.header_text.specs.Inside.Places.{next_start, ArePlacesInOrder, AreKept, fields_at}
 
 length-slice_range : (xs : List ℕ) (i j : ℕ) → i ≤ j → j ≤ length xs → length (slice_range xs i j) ≡ j - i
 length-slice_range xs i j low high = let left : length (drop i xs) ≡ length xs - i = length-drop i xs
@@ -20,13 +20,13 @@ pub slice_range-append_end : (xs ys : List ℕ) (i : ℕ) → i ≤ length xs �
     ≡ slice_range xs i (length xs) ++ ys
 slice_range-append_end xs ys i low = grind (arith, length-append, length-drop, drop-append-le, take_all)
 
-pub next_start-le : (end : ℕ) (ps : List FieldPlace) → AreInOrder end ps → next_start ps end ≤ end
+pub next_start-le : (end : ℕ) (ps : List FieldPlace) → ArePlacesInOrder end ps → next_start ps end ≤ end
 next_start-le end [] h = omega arith
 next_start-le end (p ∷ ps) h = let later = next_start-le end ps h.2 in omega (arith, h.0, h.1, later)
 
 -- places with one more field
-AreInOrder-push : (end : ℕ) (ps : List FieldPlace) (p : FieldPlace) (more : ℕ) → AreInOrder end ps → p.name ≡ end
-    → p.name < p.body → p.body ≤ more → AreInOrder more (ps ++ p ∷ [])
+AreInOrder-push : (end : ℕ) (ps : List FieldPlace) (p : FieldPlace) (more : ℕ) → ArePlacesInOrder end ps → p.name ≡ end
+    → p.name < p.body → p.body ≤ more → ArePlacesInOrder more (ps ++ p ∷ [])
 AreInOrder-push end [] p more h e low high = (low, high, tt)
 AreInOrder-push end (q ∷ []) p more h e low high = (h.0, omega (arith, h.1), (low, high, tt))
 AreInOrder-push end (q ∷ r ∷ ps) p more h e low high = (h.0, h.1, AreInOrder-push end (r ∷ ps) p more h.2 e low high)
@@ -36,18 +36,19 @@ next_start-push : (end : ℕ) (ps : List FieldPlace) (p : FieldPlace) (more : �
 next_start-push end ps p more h = grind arith
 
 -- places with more bytes after the last field
-AreInOrder-more : (end more : ℕ) (ps : List FieldPlace) → AreInOrder end ps → end ≤ more → AreInOrder more ps
+AreInOrder-more : (end more : ℕ) (ps : List FieldPlace) → ArePlacesInOrder end ps → end ≤ more
+    → ArePlacesInOrder more ps
 AreInOrder-more end more [] h le = tt
 AreInOrder-more end more (q ∷ []) h le = (h.0, omega (arith, h.1), tt)
 AreInOrder-more end more (q ∷ r ∷ ps) h le = (h.0, h.1, AreInOrder-more end more (r ∷ ps) h.2 le)
 
 -- each field has a byte of its own
-length-places : (end : ℕ) (ps : List FieldPlace) → AreInOrder end ps → length ps + next_start ps end ≤ end
+length-places : (end : ℕ) (ps : List FieldPlace) → ArePlacesInOrder end ps → length ps + next_start ps end ≤ end
 length-places end [] h = omega arith
 length-places end (p ∷ ps) h = omega (arith, h.0, h.1, length-places end ps h.2)
 
 -- the number of places is limited by the number of bytes
-kept : (bytes : List ℕ) (ps : List FieldPlace) → AreInOrder (length bytes) ps → next_start ps (length bytes) ≡ 0
+kept : (bytes : List ℕ) (ps : List FieldPlace) → ArePlacesInOrder (length bytes) ps → next_start ps (length bytes) ≡ 0
     → length bytes ≤ most_in_header → AreKept bytes ps
 kept bytes ps order first few = record {
   order = order;
@@ -78,7 +79,8 @@ last_field bytes name body at from e f =
     ap₂ (λ (x y : List ℕ). one x y) named (ap (λ (l : List ℕ). take (length all - from) l) rest
     ∙ take_all (length all - from) body size)
 
-pub fields_at-push : (bytes name body : List ℕ) (ps : List FieldPlace) (p : FieldPlace) → AreInOrder (length bytes) ps
+pub fields_at-push : (bytes name body : List ℕ) (ps : List FieldPlace) (p : FieldPlace)
+    → ArePlacesInOrder (length bytes) ps
     → p.name ≡ length bytes → p.body ≡ length bytes + length name
     → fields_at (bytes ++ (name ++ body)) (ps ++ p ∷ []) ≡ fields_at bytes ps ++ one name body ∷ []
 fields_at-push bytes name body [] p h e f =
@@ -88,7 +90,7 @@ fields_at-push bytes name body (q ∷ r ∷ ps) p h e f =
     grind (arith, next_start-le, slice_range-append, fields_at-push bytes name body (r ∷ ps) p h.2 e f)
 
 -- more bytes for the last field
-pub fields_at-append : (bytes more : List ℕ) (ps : List FieldPlace) → AreInOrder (length bytes) ps
+pub fields_at-append : (bytes more : List ℕ) (ps : List FieldPlace) → ArePlacesInOrder (length bytes) ps
     → fields_at (bytes ++ more) ps ≡ onto_last more (fields_at bytes ps)
 fields_at-append bytes more [] h = refl
 fields_at-append bytes more (q ∷ []) h = grind (arith, slice_range-append, slice_range-append_end)
@@ -96,7 +98,7 @@ fields_at-append bytes more (q ∷ r ∷ ps) h =
     grind (arith, next_start-le, slice_range-append, fields_at-append bytes more (r ∷ ps) h.2)
 
 -- names and bodies fill the bytes from the first name on
-fields_size-at : (bytes : List ℕ) (ps : List FieldPlace) → AreInOrder (length bytes) ps
+fields_size-at : (bytes : List ℕ) (ps : List FieldPlace) → ArePlacesInOrder (length bytes) ps
     → fields_size (fields_at bytes ps) + next_start ps (length bytes) ≡ length bytes
 fields_size-at bytes [] h = omega arith
 fields_size-at bytes (p ∷ ps) h = grind (arith, next_start-le, length-slice_range, fields_size-at bytes ps h.2)

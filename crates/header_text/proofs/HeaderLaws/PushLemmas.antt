@@ -2,7 +2,8 @@
 use Rattle.header_text.proofs.Words.{◌≡◌, ◌∙◌, ◌+◌, ◌-◌, ◌≤◌, ◌<◌, ◌++◌, ◌||◌, ◌⊎◌, inl, inr, ℕ, Bool, true, false}
 use Rattle.header_text.proofs.Words.{nat_le, nat_lt, List, [], ◌∷◌, length, refl, sym, ap, ap₂, arith, length-append}
 use Rattle.header_text.proofs.Words.{cases_lt, nat_tests, is_empty, HeaderField, most_in_header, lines_before_empty}
-use Rattle.header_text.proofs.Words.{lines_within, header, fields_in, fields_of, is_open_after, is_open_behind}
+use Rattle.header_text.proofs.Words.{lines_within, header, fields_in, fields_of, is_field_open_after}
+use Rattle.header_text.proofs.Words.{is_field_open_after_lines}
 use Rattle.header_text.proofs.Words.{fields_with, has_empty, lines_size, stage_of, stage_behind, Open, Full, Ended}
 use Rattle.header_text.specs.HeldLines.{Holds, taken_of}
 use Rattle.header_text.specs.declared.header.Stage.{Stage}
@@ -212,7 +213,7 @@ module _ (fs : List HeaderField) (size : ℕ) (in_field : Bool) (stage : Stage) 
 
   -- a line that counts
   pub holds-counted : (new : List HeaderField) (after : Bool) → stage_behind stage size l ≡ Open → new
-      ≡ fields_with in_field l fs → after ≡ is_open_after in_field l
+      ≡ fields_with in_field l fs → after ≡ is_field_open_after in_field l
       → Holds new (size + length l) after stage (ls ++ l ∷ [])
   unfolding fields_of
   holds-counted new after e f g =
@@ -223,8 +224,8 @@ module _ (fs : List HeaderField) (size : ℕ) (in_field : Bool) (stage : Stage) 
             ∙ sym (fields_in-push (header ls) l) ∙ ap fields_in (sym more);
         size_is = ap (λ (n : ℕ). n + length l) h.size_is ∙ sym (lines_size-push (header ls) l)
             ∙ ap lines_size (sym more);
-        in_field_is = g ∙ ap (λ (b : Bool). is_open_after b l) h.in_field_is
-            ∙ sym (is_open_behind-push false (header ls) l) ∙ ap (is_open_behind false) (sym more);
+        in_field_is = g ∙ ap (λ (b : Bool). is_field_open_after b l) h.in_field_is
+            ∙ sym (is_open_behind-push false (header ls) l) ∙ ap (is_field_open_after_lines false) (sym more);
         stage_is = stepped.was_open still ∙ sym still;
       }
 
@@ -238,7 +239,7 @@ module _ (fs : List HeaderField) (size : ℕ) (in_field : Bool) (stage : Stage) 
       record {
         fields_are = h.fields_are ∙ ap fields_in (sym same);
         size_is = h.size_is ∙ ap lines_size (sym same);
-        in_field_is = h.in_field_is ∙ ap (is_open_behind false) (sym same);
+        in_field_is = h.in_field_is ∙ ap (is_field_open_after_lines false) (sym same);
         stage_is = is;
       }
 

@@ -2,8 +2,8 @@
 use Rattle.header_text.proofs.Words.{suc, Some, ◌≡◌, ◌+◌, ◌-◌, Bor, Option, MatchOption, unwrap_or, bytes_eq, ◌∙◌, ◌++◌}
 use Rattle.header_text.proofs.Words.{◌&&◌, ℕ, Bool, true, false, nat_lt, List, [], ◌∷◌, None, length, take, drop, refl}
 use Rattle.header_text.proofs.Words.{sym, ap, ap₂, arith, length-append, append_assoc, append-nil, nat_tests, lt-ltb}
-use Rattle.header_text.proofs.Words.{take_at, drop_at, after_blanks, before_blanks, without_breaks, unfolded}
-use Rattle.header_text.proofs.Words.{without_final_cr, led, cut_at}
+use Rattle.header_text.proofs.Words.{take_at, drop_at, after_blanks, before_blanks, without_breaks, unfolded_body}
+use Rattle.header_text.proofs.Words.{without_final_cr, added_part, cut_at}
 use Rattle.header_text.proofs.CutLemmas.{Lacks, IsCut, Lacks-from}
 
 -- ---- a CR at the end
@@ -67,13 +67,14 @@ abbrev pub is_some_bytes : List ℕ → Bool
 is_some_bytes [] = false
 is_some_bytes (b ∷ bs) = true
 
-after_blanks-append : (p w : List ℕ) → after_blanks p ++ led (is_some_bytes (after_blanks p)) w ≡ after_blanks (p ++ w)
+after_blanks-append : (p w : List ℕ) → after_blanks p ++ added_part (is_some_bytes (after_blanks p)) w
+    ≡ after_blanks (p ++ w)
 after_blanks-append [] w = refl
 after_blanks-append (b ∷ p) w = grind (arith, after_blanks-append p w)
 
 -- one more part
-led-append : (done p w : List ℕ) → (done ++ led (is_some_bytes done) p) ++ led
-    (is_some_bytes (done ++ led (is_some_bytes done) p)) w ≡ done ++ led (is_some_bytes done) (p ++ w)
+led-append : (done p w : List ℕ) → (done ++ added_part (is_some_bytes done) p) ++ added_part
+    (is_some_bytes (done ++ added_part (is_some_bytes done) p)) w ≡ done ++ added_part (is_some_bytes done) (p ++ w)
 led-append done p w = grind (arith, after_blanks-append, append_assoc)
 
 is_some-test : (old done : List ℕ) → nat_lt (length old) (length (old ++ done)) ≡ is_some_bytes done
@@ -85,46 +86,49 @@ is_some-test old done = grind (arith, nat_tests, append-nil, length-append, lt-l
 pub record Unfolds (old body items rest : List ℕ) : Type 0 where
   pub done : List ℕ
   pub items_are : items ≡ old ++ done
-  pub sofar : done ++ led (is_some_bytes done) (without_breaks rest) ≡ after_blanks (without_breaks body)
+  pub sofar : done ++ added_part (is_some_bytes done) (without_breaks rest) ≡ after_blanks (without_breaks body)
 
 pub unfolds-start : (old body : List ℕ) → Unfolds old body old body
 unfolds-start old body = record { done = []; items_are = sym (append-nil old); sofar = refl }
 
 pub unfolds-line : (old body items rest line behind new : List ℕ) → Unfolds old body items rest
     → IsCut 0x0A rest line behind
-    → new ≡ items ++ led (nat_lt (length old) (length items)) (without_final_cr line) → Unfolds old body new behind
+    → new ≡ items ++ added_part (nat_lt (length old) (length items)) (without_final_cr line)
+    → Unfolds old body new behind
 unfolds-line old body items rest line behind new h cut e =
     let part : List ℕ = without_final_cr line in
     let test : nat_lt (length old) (length items) ≡ is_some_bytes h.done = rw h.items_are (is_some-test old h.done) in
-    let more : List ℕ = led (is_some_bytes h.done) part in
+    let more : List ℕ = added_part (is_some_bytes h.done) part in
     let split : without_breaks rest ≡ part ++ without_breaks behind = ap without_breaks cut.joined
     ∙ breaks-cut line behind cut.free in
     record {
       done = h.done ++ more;
-      items_are = e ∙ ap₂ (λ (l : List ℕ) (t : Bool). l ++ led t part) h.items_are test ∙ append_assoc old h.done more;
+      items_are = e ∙ ap₂ (λ (l : List ℕ) (t : Bool). l ++ added_part t part) h.items_are test
+          ∙ append_assoc old h.done more;
       sofar = led-append h.done part (without_breaks behind)
-          ∙ ap (λ (l : List ℕ). h.done ++ led (is_some_bytes h.done) l) (sym split) ∙ h.sofar;
+          ∙ ap (λ (l : List ℕ). h.done ++ added_part (is_some_bytes h.done) l) (sym split) ∙ h.sofar;
     }
 
 pub unfolds-end : (old body items rest new : List ℕ) → Unfolds old body items rest → Lacks 0x0A rest
-    → new ≡ items ++ led (nat_lt (length old) (length items)) rest → new ≡ old ++ after_blanks (without_breaks body)
+    → new ≡ items ++ added_part (nat_lt (length old) (length items)) rest → new
+    ≡ old ++ after_blanks (without_breaks body)
 unfolds-end old body items rest new h free e =
     let test : nat_lt (length old) (length items) ≡ is_some_bytes h.done = rw h.items_are (is_some-test old h.done) in
-    let more : List ℕ = led (is_some_bytes h.done) rest in
-    e ∙ ap₂ (λ (l : List ℕ) (t : Bool). l ++ led t rest) h.items_are test ∙ append_assoc old h.done more
-    ∙ ap (λ (l : List ℕ). old ++ l) (ap (λ (l : List ℕ). h.done ++ led (is_some_bytes h.done) l)
+    let more : List ℕ = added_part (is_some_bytes h.done) rest in
+    e ∙ ap₂ (λ (l : List ℕ) (t : Bool). l ++ added_part t rest) h.items_are test ∙ append_assoc old h.done more
+    ∙ ap (λ (l : List ℕ). old ++ l) (ap (λ (l : List ℕ). h.done ++ added_part (is_some_bytes h.done) l)
     (sym (breaks-free rest free)) ∙ h.sofar)
 
 -- the end is trimmed
 pub unfolded-trimmed : (old body items : List ℕ) → items ≡ old ++ after_blanks (without_breaks body)
-    → take (length old) items ++ before_blanks (drop (length old) items) ≡ old ++ unfolded body
-unfolding unfolded
+    → take (length old) items ++ before_blanks (drop (length old) items) ≡ old ++ unfolded_body body
+unfolding unfolded_body
 unfolded-trimmed old body items e = grind (arith, take_at, drop_at)
 
 -- the rest has no break
 pub unfolds-rest : (old body items rest new : List ℕ) (start : ℕ) → start ≡ length old → Unfolds old body items rest
     → cut_at 0x0A rest ≡ None
-    → new ≡ items ++ led (nat_lt start (length items)) rest → new ≡ old ++ after_blanks (without_breaks body)
+    → new ≡ items ++ added_part (nat_lt start (length items)) rest → new ≡ old ++ after_blanks (without_breaks body)
 unfolds-rest old body items rest new start s h none e =
     unfolds-end old body items rest new h (Lacks-from 0x0A rest none)
-    (e ∙ ap (λ (n : ℕ). items ++ led (nat_lt n (length items)) rest) s)
+    (e ∙ ap (λ (n : ℕ). items ++ added_part (nat_lt n (length items)) rest) s)

@@ -1,6 +1,6 @@
 -- An unfolded body is no longer than the body, because bytes are only dropped.
 use Rattle.header_text.proofs.Words.{◌≤◌, ◌==◌, ℕ, suc, Bool, true, false, List, [], ◌∷◌, length, ap, arith}
-use Rattle.header_text.proofs.Words.{length-append, after_blanks, before_blanks, without_breaks, unfolded}
+use Rattle.header_text.proofs.Words.{length-append, after_blanks, before_blanks, without_breaks, unfolded_body}
 use Rattle.header_text.proofs.Fronts.{after_blanks-joined, before_blanks-joined}
 
 -- a byte before others, which is dropped or kept
@@ -28,6 +28,6 @@ length-before_blanks bs =
     let whole = before_blanks-joined bs in
     omega (arith, ap length whole.1, length-append (before_blanks bs) whole.0)
 
-pub length-unfolded : (body : List ℕ) → length (unfolded body) ≤ length body
-unfolding unfolded
+pub length-unfolded : (body : List ℕ) → length (unfolded_body body) ≤ length body
+unfolding unfolded_body
 length-unfolded body = grind (arith, length-before_blanks, length-after_blanks, length-without_breaks)

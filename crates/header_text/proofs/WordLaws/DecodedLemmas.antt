@@ -1,15 +1,17 @@
 -- The text of a value, word by word.
 use Rattle.header_text.proofs.Words.{◌≡◌, ◌++◌, ℕ, Bool, true, false, List, refl, append_assoc, arith, if◌then◌else◌}
-use Rattle.header_text.proofs.Words.{WordAfter, Pieces, pieces, word_text, plain_text, text_between, later_words_text}
-use Rattle.header_text.proofs.Words.{words_text, decoded, word_first}
+use Rattle.header_text.proofs.Words.{WordAfter, Pieces, value_pieces, word_text, plain_text, text_between}
+use Rattle.header_text.proofs.Words.{later_words_text}
+use Rattle.header_text.proofs.Words.{words_text, decoded_value, word_first}
 
 -- the text of words, which follow a word or are at the front
 abbrev pub words_behind : Bool → List WordAfter → List ℕ
 words_behind follows ws = if follows then later_words_text ws else words_text ws
 
-pub decoded-start : (value : List ℕ) → words_behind false (pieces value).words ++ plain_text (pieces value).rest
-    ≡ decoded value
-unfolding decoded
+pub decoded-start : (value : List ℕ) → words_behind false (value_pieces value).words ++ plain_text
+    (value_pieces value).rest
+    ≡ decoded_value value
+unfolding decoded_value
 decoded-start value = refl
 
 abbrev pub rest_text : Bool → Pieces → List ℕ
@@ -18,7 +20,7 @@ rest_text follows p = words_behind follows p.words ++ plain_text p.rest
 -- one more word
 pub decoded-step : (follows : Bool) (w : WordAfter) (p : Pieces) (later old new newer : List ℕ) → p ≡ word_first w later
     → new ≡ old ++ (if follows then text_between w.between else plain_text w.between) → newer ≡ new ++ word_text w.word
-    → newer ++ rest_text true (pieces later) ≡ old ++ rest_text follows p
+    → newer ++ rest_text true (value_pieces later) ≡ old ++ rest_text follows p
 decoded-step follows w p later old new newer e f g = grind (arith, append_assoc)
 
 -- no more words

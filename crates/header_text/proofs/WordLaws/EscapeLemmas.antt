@@ -1,7 +1,7 @@
 -- Decoding escapes part by part gives the whole text decoded.
 use Rattle.header_text.proofs.Words.{◌≡◌, ◌∙◌, ◌==◌, ◌≤◌, ◌++◌, ℕ, false, List, [], ◌∷◌, Option, Some, None, length}
-use Rattle.header_text.proofs.Words.{refl, sym, ap, arith, append_assoc, append-nil, if◌then◌else◌, escaped}
-use Rattle.header_text.proofs.Words.{unescaped_by, unescaped, q_bytes, behind_equals}
+use Rattle.header_text.proofs.Words.{refl, sym, ap, arith, append_assoc, append-nil, if◌then◌else◌, escaped_byte}
+use Rattle.header_text.proofs.Words.{unescaped_by, unescaped_bytes, q_bytes, behind_equals}
 use Rattle.header_text.proofs.CutLemmas.{Lacks, IsCut}
 
 module _ (other : ℕ → ℕ) where
@@ -12,12 +12,12 @@ module _ (other : ℕ → ℕ) where
         (b ∷ c ∷ bytes)
   ]
 
-  u-none : (a b c : ℕ) (bytes : List ℕ) → escaped a b c ≡ None → unescaped_by other (a ∷ b ∷ c ∷ bytes)
+  u-none : (a b c : ℕ) (bytes : List ℕ) → escaped_byte a b c ≡ None → unescaped_by other (a ∷ b ∷ c ∷ bytes)
       ≡ other a ∷ unescaped_by other (b ∷ c ∷ bytes)
   unfolding placed
   u-none a b c bytes e = ap (placed a b c bytes) e
 
-  u-some : (a b c n : ℕ) (bytes : List ℕ) → escaped a b c ≡ Some n → unescaped_by other (a ∷ b ∷ c ∷ bytes)
+  u-some : (a b c n : ℕ) (bytes : List ℕ) → escaped_byte a b c ≡ Some n → unescaped_by other (a ∷ b ∷ c ∷ bytes)
       ≡ n ∷ unescaped_by other bytes
   unfolding placed
   u-some a b c n bytes e = ap (placed a b c bytes) e
@@ -31,16 +31,16 @@ module _ (other : ℕ → ℕ) where
   u-size [] = omega arith
   u-size (a ∷ []) = omega arith
   u-size (a ∷ b ∷ []) = omega arith
-  u-size (a ∷ b ∷ c ∷ bytes) = go (escaped a b c) refl (u-size bytes) (u-size (b ∷ c ∷ bytes))
+  u-size (a ∷ b ∷ c ∷ bytes) = go (escaped_byte a b c) refl (u-size bytes) (u-size (b ∷ c ∷ bytes))
     where
-      go : (o : Option ℕ) → escaped a b c ≡ o → length (unescaped_by other bytes) ≤ length bytes
+      go : (o : Option ℕ) → escaped_byte a b c ≡ o → length (unescaped_by other bytes) ≤ length bytes
           → length (unescaped_by other (b ∷ c ∷ bytes)) ≤ length (b ∷ c ∷ bytes)
           → length (unescaped_by other (a ∷ b ∷ c ∷ bytes)) ≤ length (a ∷ b ∷ c ∷ bytes)
       go (Some n) e later after = rw (u-some a b c n bytes e) (omega arith)
       go None e later after = rw (u-none a b c bytes e) (omega arith)
 
-pub length-unescaped : (bytes : List ℕ) → length (unescaped bytes) ≤ length bytes
-unfolding unescaped
+pub length-unescaped : (bytes : List ℕ) → length (unescaped_bytes bytes) ≤ length bytes
+unfolding unescaped_bytes
 length-unescaped bytes = u-size (λ b. b) bytes
 
 pub length-q_bytes : (bytes : List ℕ) → length (q_bytes bytes) ≤ length bytes
@@ -48,19 +48,20 @@ unfolding q_bytes
 length-q_bytes bytes = u-size (λ b. if b == 0x5F then 0x20 else b) bytes
 
 -- bytes without `=` stay
-pub unescaped-plain : (plain bytes : List ℕ) → Lacks 0x3D plain → unescaped (plain ++ bytes) ≡ plain ++ unescaped bytes
-unfolding unescaped
+pub unescaped-plain : (plain bytes : List ℕ) → Lacks 0x3D plain → unescaped_bytes (plain ++ bytes)
+    ≡ plain ++ unescaped_bytes bytes
+unfolding unescaped_bytes
 unescaped-plain [] bytes free = refl
 unescaped-plain (a ∷ plain) bytes free = u-plain (λ b. b) a (plain ++ bytes) free.0
     ∙ ap (λ (l : List ℕ). a ∷ l) (unescaped-plain plain bytes free.1)
 
-pub unescaped-nil : unescaped [] ≡ []
-unfolding unescaped
+pub unescaped-nil : unescaped_bytes [] ≡ []
+unfolding unescaped_bytes
 unescaped-nil = refl
 
-pub unescaped-equals : (bytes : List ℕ) → unescaped (0x3D ∷ bytes)
-    ≡ (behind_equals bytes).0 ∷ unescaped (behind_equals bytes).1
-unfolding unescaped
+pub unescaped-equals : (bytes : List ℕ) → unescaped_bytes (0x3D ∷ bytes)
+    ≡ (behind_equals bytes).0 ∷ unescaped_bytes (behind_equals bytes).1
+unfolding unescaped_bytes
 unescaped-equals [] = refl
 unescaped-equals (b ∷ []) = refl
 unescaped-equals (b ∷ c ∷ bytes) = grind arith
@@ -79,16 +80,16 @@ q-then_space : (a : ℕ) (later : List ℕ) → (a == 0x5F) ≡ false → unesca
 q-then_space a later h = grind (arith, u-plain)
 
 pub q_bytes-space : (stretch later : List ℕ) → Lacks 0x5F stretch → q_bytes (stretch ++ 0x5F ∷ later)
-    ≡ unescaped stretch ++ 0x20 ∷ q_bytes later
-unfolding q_bytes unescaped
+    ≡ unescaped_bytes stretch ++ 0x20 ∷ q_bytes later
+unfolding q_bytes unescaped_bytes
 q_bytes-space [] later free = u-plain q 0x5F later refl
 q_bytes-space (a ∷ []) later free = q-then_space a later free.0
 q_bytes-space (a ∷ b ∷ []) later free = grind (arith, u-none, q-then_space)
 q_bytes-space (a ∷ b ∷ c ∷ stretch) later free =
     grind (arith, q_bytes-space stretch later free.1.1.1, q_bytes-space (b ∷ c ∷ stretch) later free.1)
 
-pub q_bytes-free : (stretch : List ℕ) → Lacks 0x5F stretch → q_bytes stretch ≡ unescaped stretch
-unfolding q_bytes unescaped
+pub q_bytes-free : (stretch : List ℕ) → Lacks 0x5F stretch → q_bytes stretch ≡ unescaped_bytes stretch
+unfolding q_bytes unescaped_bytes
 q_bytes-free [] free = refl
 q_bytes-free (a ∷ []) free = rw free.0 refl
 q_bytes-free (a ∷ b ∷ []) free = rw (free.0, free.1.0) refl
@@ -99,11 +100,11 @@ q_bytes-free (a ∷ b ∷ c ∷ stretch) free =
 
 pub unescaped-step : (rest plain behind later : List ℕ) (byte : ℕ) → IsCut 0x3D rest plain behind → byte
     ≡ (behind_equals behind).0 → later ≡ (behind_equals behind).1
-    → unescaped rest ≡ plain ++ byte ∷ unescaped later
+    → unescaped_bytes rest ≡ plain ++ byte ∷ unescaped_bytes later
 unescaped-step rest plain behind later byte cut e f = grind (arith, unescaped-plain, unescaped-equals)
 
-pub unescaped-rest : (rest : List ℕ) → Lacks 0x3D rest → unescaped rest ≡ rest
-unescaped-rest rest free = ap unescaped (sym (append-nil rest)) ∙ unescaped-plain rest [] free
+pub unescaped-rest : (rest : List ℕ) → Lacks 0x3D rest → unescaped_bytes rest ≡ rest
+unescaped-rest rest free = ap unescaped_bytes (sym (append-nil rest)) ∙ unescaped-plain rest [] free
     ∙ ap (λ (l : List ℕ). rest ++ l) unescaped-nil ∙ append-nil rest
 
 -- after what was written come a part, a byte and the rest

@@ -2,9 +2,10 @@
 use Rattle.header_text.proofs.Words.{◌≡◌, ◌∙◌, ◌==◌, ◌&&◌, ◌||◌, ◌≤◌, ◌++◌, ℕ, zero, suc, Bool, true, false, nat_lt}
 use Rattle.header_text.proofs.Words.{nat_le, List, [], ◌∷◌, Option, Some, None, length, refl, sym, ap, subst, arith}
 use Rattle.header_text.proofs.Words.{length-append, append-nil, not, option_map, unwrap_or, list_all, eqb-true}
-use Rattle.header_text.proofs.Words.{and_parts, not-true, ne_eqb, EncodedWord, spelled, is_charset_byte, is_text_byte}
+use Rattle.header_text.proofs.Words.{and_parts, not-true, ne_eqb, EncodedWord, spelling_of, is_charset_byte}
+use Rattle.header_text.proofs.Words.{is_text_byte}
 use Rattle.header_text.proofs.Words.{is_q, is_b, is_well_formed, question, equals_sign, word_and_later, word_at}
-use Rattle.header_text.proofs.Words.{WordAfter, Pieces, pieces, BeginsWord, NoneBegins, AreLeftmost, no_word}
+use Rattle.header_text.proofs.Words.{WordAfter, Pieces, value_pieces, BeginsWord, NoneBegins, AreLeftmost, no_word}
 use Rattle.header_text.proofs.Words.{word_first}
 use Rattle.header_text.proofs.CutLemmas.{Lacks, cut_at-is}
 use Rattle.header_text.proofs.WordLaws.WordLemmas.{spells, spelled-append, chain, with_charset, with_encoding}
@@ -64,7 +65,7 @@ pub record Begins (bytes : List ℕ) (w : EncodedWord) : Type 0 where
   pub rest : List ℕ
   pub later : List ℕ
   pub equals : bytes ≡ equals_sign ∷ rest
-  pub joined : bytes ≡ spelled w ++ later
+  pub joined : bytes ≡ spelling_of w ++ later
   pub well : is_well_formed w ≡ true
 
 pub begins : (bytes : List ℕ) (w : EncodedWord) → word_at bytes ≡ Some w → Begins bytes w
@@ -82,7 +83,7 @@ begins (b ∷ bs) w h = go (b == equals_sign) refl
           rest = bs;
           later = later;
           equals = ap (λ (x : ℕ). x ∷ bs) e;
-          joined = ap (λ (x : ℕ). x ∷ bs) e ∙ is.joined ∙ ap (λ (x : EncodedWord). spelled x ++ later) same;
+          joined = ap (λ (x : ℕ). x ∷ bs) e ∙ is.joined ∙ ap (λ (x : EncodedWord). spelling_of x ++ later) same;
           well = ap is_well_formed (sym same) ∙ is.well;
         }
 
@@ -102,21 +103,23 @@ more_in_front : (b : ℕ) (bs : List ℕ) (ws : List WordAfter) (rest : List ℕ
 more_in_front b bs [] rest e h = grind (arith, rest, append-nil, none_begins)
 more_in_front b bs (v ∷ ws) rest e h = grind (arith, none_begins)
 
-within : (n : ℕ) (value : List ℕ) → length value ≤ n → AreLeftmost value (pieces value).words (pieces value).rest
+within : (n : ℕ) (value : List ℕ) → length value ≤ n
+    → AreLeftmost value (value_pieces value).words (value_pieces value).rest
 within n [] le = (refl, tt)
 within zero (b ∷ bs) le = absurd (omega arith)
 within (suc n) (b ∷ bs) le = go (word_at (b ∷ bs)) refl (within n)
   where
     go : (o : Option EncodedWord) → word_at (b ∷ bs) ≡ o
-        → ((value : List ℕ) → length value ≤ n → AreLeftmost value (pieces value).words (pieces value).rest)
-        → AreLeftmost (b ∷ bs) (pieces (b ∷ bs)).words (pieces (b ∷ bs)).rest
+        → ((value : List ℕ) → length value ≤ n → AreLeftmost value (value_pieces value).words (value_pieces value).rest)
+        → AreLeftmost (b ∷ bs) (value_pieces (b ∷ bs)).words (value_pieces (b ∷ bs)).rest
     go None e each =
         subst (λ (p : Pieces). AreLeftmost (b ∷ bs) p.words p.rest) (sym (pieces-none b bs e))
-        (more_in_front b bs (pieces bs).words (pieces bs).rest e (each bs (omega arith)))
+        (more_in_front b bs (value_pieces bs).words (value_pieces bs).rest e (each bs (omega arith)))
     go (Some w) e each =
         let is = begins (b ∷ bs) w e in
         let here : word_at (equals_sign ∷ is.rest) ≡ Some w = ap word_at (sym is.equals) ∙ e in
-        let first : pieces (b ∷ bs) ≡ word_first (record { between = []; word = w }) is.later = ap pieces is.equals
+        let first : value_pieces (b ∷ bs) ≡ word_first (record { between = []; word = w }) is.later =
+        ap value_pieces is.equals
         ∙ pieces-some is.rest is.later w here (sym is.equals ∙ is.joined) in
         let sizes = ap length is.joined ∙ ap length (spelled-append w is.later) in
         let a = length-append w.charset (question ∷ w.encoding ∷ question ∷
@@ -125,7 +128,7 @@ within (suc n) (b ∷ bs) le = go (word_at (b ∷ bs)) refl (within n)
         subst (λ (p : Pieces). AreLeftmost (b ∷ bs) p.words p.rest) (sym first)
         (is.later, is.joined, is.well, tt, each is.later (omega (arith, sizes, a, c)))
 
-pub are_leftmost : (value : List ℕ) → AreLeftmost value (pieces value).words (pieces value).rest
+pub are_leftmost : (value : List ℕ) → AreLeftmost value (value_pieces value).words (value_pieces value).rest
 are_leftmost value = within (length value) value (omega arith)
 
 -- ---- no other words are
@@ -137,23 +140,25 @@ nowhere bytes h = go (word_at bytes) refl
     go None e = e
     go (Some w) e = let is = begins bytes w e in absurd (h w (is.well, (is.later, is.joined)))
 
-past : (front later : List ℕ) → NoneBegins front later → pieces (front ++ later) ≡ in_front front (pieces later)
+past : (front later : List ℕ) → NoneBegins front later → value_pieces (front ++ later)
+    ≡ in_front front (value_pieces later)
 past [] later h = grind arith
 past (b ∷ front) later h = grind (arith, pieces-none, later, nowhere, in_front, in_front-append, past front later h.1)
 
-pub only_leftmost : (value : List ℕ) (ws : List WordAfter) (rest : List ℕ) → AreLeftmost value ws rest → pieces value
+pub only_leftmost : (value : List ℕ) (ws : List WordAfter) (rest : List ℕ) → AreLeftmost value ws rest
+    → value_pieces value
     ≡ record { words = ws; rest = rest }
-only_leftmost value [] rest h = ap pieces (h.0 ∙ sym (append-nil rest)) ∙ past rest [] h.1
+only_leftmost value [] rest h = ap value_pieces (h.0 ∙ sym (append-nil rest)) ∙ past rest [] h.1
     ∙ ap no_word (append-nil rest)
 only_leftmost value (w ∷ ws) rest h =
     let later : List ℕ = h.0 in
     let spelling : List ℕ = question ∷ (w.word.charset ++ question ∷ w.word.encoding ∷ question ∷
     (w.word.text ++ question ∷ equals_sign ∷ later)) in
-    let written : spelled w.word ++ later ≡ equals_sign ∷ spelling = spelled-append w.word later in
+    let written : spelling_of w.word ++ later ≡ equals_sign ∷ spelling = spelled-append w.word later in
     let here : word_at (equals_sign ∷ spelling) ≡ Some w.word = ap word_at (sym written)
-    ∙ word_at-begins (spelled w.word ++ later) w.word (h.2, (later, refl)) in
-    let first : pieces (spelled w.word ++ later) ≡ word_first (record { between = []; word = w.word }) later =
-    ap pieces written ∙ pieces-some spelling later w.word here (sym written) in
-    ap pieces h.1 ∙ past w.between (spelled w.word ++ later) h.3 ∙ ap (in_front w.between) first
+    ∙ word_at-begins (spelling_of w.word ++ later) w.word (h.2, (later, refl)) in
+    let first : value_pieces (spelling_of w.word ++ later) ≡ word_first (record { between = []; word = w.word }) later =
+    ap value_pieces written ∙ pieces-some spelling later w.word here (sym written) in
+    ap value_pieces h.1 ∙ past w.between (spelling_of w.word ++ later) h.3 ∙ ap (in_front w.between) first
     ∙ ap (λ (l : List ℕ). word_first (record { between = l; word = w.word }) later) (append-nil w.between)
     ∙ ap (λ (p : Pieces). record { words = w ∷ p.words; rest = p.rest }) (only_leftmost later ws rest h.4)

@@ -1,9 +1,10 @@
 -- Searching for encoded words one after another gives the pieces of a value.
 use Rattle.header_text.proofs.Words.{◌≡◌, ◌∙◌, ◌==◌, ◌<◌, ◌+◌, ◌-◌, ◌++◌, ℕ, zero, suc, true, false, List, [], ◌∷◌}
 use Rattle.header_text.proofs.Words.{Option, Some, None, length, take, drop, refl, sym, ap, ap₂, arith, length-append}
-use Rattle.header_text.proofs.Words.{append_assoc, append-nil, option_map, take_at, cut_at, EncodedWord, spelled}
+use Rattle.header_text.proofs.Words.{append_assoc, append-nil, option_map, take_at, cut_at, EncodedWord, spelling_of}
 use Rattle.header_text.proofs.Words.{is_well_formed, question, equals_sign, after, word_of, ◌>>=◌, word_and_later}
-use Rattle.header_text.proofs.Words.{word_at, WordAfter, Pieces, onto_front, pieces_behind, pieces, no_word, word_first}
+use Rattle.header_text.proofs.Words.{word_at, WordAfter, Pieces, onto_front, pieces_behind, value_pieces, no_word}
+use Rattle.header_text.proofs.Words.{word_first}
 use Rattle.header_text.proofs.CutLemmas.{Lacks, IsCut-from, Lacks-from}
 
 -- ---- the bytes of a word
@@ -12,7 +13,7 @@ after-one : (c : ℕ) (bytes rest : List ℕ) → after (c ∷ []) bytes ≡ Som
 after-one c bytes rest h = grind arith
 
 pub record Spells (bytes : List ℕ) (w : EncodedWord) (later : List ℕ) : Type 0 where
-  pub joined : equals_sign ∷ bytes ≡ spelled w ++ later
+  pub joined : equals_sign ∷ bytes ≡ spelling_of w ++ later
   pub well : is_well_formed w ≡ true
 
 record IsWordOf (charset encoding text : List ℕ) (w : EncodedWord) : Type 0 where
@@ -66,13 +67,13 @@ word_made o later f h = grind arith
 
 -- an encoded word and what follows it, written out
 pub spelled-append : (w : EncodedWord) (later : List ℕ)
-    → spelled w ++ later ≡ equals_sign ∷ question ∷
+    → spelling_of w ++ later ≡ equals_sign ∷ question ∷
     (w.charset ++ question ∷ w.encoding ∷ question ∷ (w.text ++ question ∷ equals_sign ∷ later))
 spelled-append w later = grind (arith, append_assoc)
 
 joined_parts : (bytes a b0 b1 c0 c1 d0 d1 e later : List ℕ) (w : EncodedWord) → bytes ≡ question ∷ a → a
     ≡ b0 ++ question ∷ b1 → b1 ≡ c0 ++ question ∷ c1 → c1 ≡ d0 ++ question ∷ d1
-    → d1 ≡ equals_sign ∷ e → e ≡ later → IsWordOf b0 c0 d0 w → equals_sign ∷ bytes ≡ spelled w ++ later
+    → d1 ≡ equals_sign ∷ e → e ≡ later → IsWordOf b0 c0 d0 w → equals_sign ∷ bytes ≡ spelling_of w ++ later
 joined_parts bytes a b0 b1 c0 c1 d0 d1 e later w r0 r1 r2 r3 r4 r5 is =
     let text : c1 ≡ w.text ++ question ∷ equals_sign ∷ later = r3
     ∙ ap₂ (λ (x y : List ℕ). x ++ question ∷ y) is.text_is (r4 ∙ ap (λ (l : List ℕ). equals_sign ∷ l) r5) in
@@ -130,35 +131,36 @@ in_front-append seen more p = grind (arith, append_assoc)
 
 judged : ℕ → List ℕ → Option EncodedWord → Pieces
 judged b bs o = elim o [
-  | Some w ↦ let later : Pieces = pieces_behind (length (spelled w) - 1) bs
+  | Some w ↦ let later : Pieces = pieces_behind (length (spelling_of w) - 1) bs
       in record { words = record { between = []; word = w } ∷ later.words; rest = later.rest }
   | None ↦ let later : Pieces = pieces_behind zero bs in onto_front b later.words later.rest
 ]
 
-pieces-cons : (b : ℕ) (bs : List ℕ) → pieces (b ∷ bs) ≡ judged b bs (word_at (b ∷ bs))
+pieces-cons : (b : ℕ) (bs : List ℕ) → value_pieces (b ∷ bs) ≡ judged b bs (word_at (b ∷ bs))
 unfolding judged
 pieces-cons b bs = refl
 
-pub pieces-none : (b : ℕ) (bs : List ℕ) → word_at (b ∷ bs) ≡ None → pieces (b ∷ bs) ≡ in_front (b ∷ []) (pieces bs)
+pub pieces-none : (b : ℕ) (bs : List ℕ) → word_at (b ∷ bs) ≡ None → value_pieces (b ∷ bs)
+    ≡ in_front (b ∷ []) (value_pieces bs)
 unfolding judged
 pieces-none b bs e = grind (arith, pieces-cons)
 
 -- the pieces after the skipped bytes are those of the rest
-pieces_behind-skip : (front later : List ℕ) → pieces_behind (length front) (front ++ later) ≡ pieces later
+pieces_behind-skip : (front later : List ℕ) → pieces_behind (length front) (front ++ later) ≡ value_pieces later
 pieces_behind-skip [] [] = refl
 pieces_behind-skip [] (b ∷ later) = refl
 pieces_behind-skip (b ∷ front) later = pieces_behind-skip front later
 
 pub pieces-some : (bytes later : List ℕ) (w : EncodedWord) → word_at (equals_sign ∷ bytes) ≡ Some w
-    → equals_sign ∷ bytes ≡ spelled w ++ later
-    → pieces (equals_sign ∷ bytes) ≡ word_first (record { between = []; word = w }) later
+    → equals_sign ∷ bytes ≡ spelling_of w ++ later
+    → value_pieces (equals_sign ∷ bytes) ≡ word_first (record { between = []; word = w }) later
 unfolding judged
 pieces-some bytes later w e joined =
     let front : List ℕ = question ∷ (w.charset ++ question ∷ w.encoding ∷ question ∷
     (w.text ++ question ∷ equals_sign ∷ [])) in
     let rest : bytes ≡ front ++ later = ap (λ (l : List ℕ). drop 1 l) joined in
-    let size : length (spelled w) - 1 ≡ length front = omega arith in
-    let skipped : pieces_behind (length (spelled w) - 1) bytes ≡ pieces later =
+    let size : length (spelling_of w) - 1 ≡ length front = omega arith in
+    let skipped : pieces_behind (length (spelling_of w) - 1) bytes ≡ value_pieces later =
     rw (size, rest) (pieces_behind-skip front later) in
     pieces-cons equals_sign bytes ∙ ap (judged equals_sign bytes) e
     ∙ ap (λ (p : Pieces). record { words = record { between = []; word = w } ∷ p.words; rest = p.rest }) skipped
@@ -173,9 +175,9 @@ pub word_at-equals : (bs : List ℕ) → word_at (equals_sign ∷ bs)
 unfolding word_at
 word_at-equals bs = refl
 
-pub pieces-plain : (plain later : List ℕ) → Lacks equals_sign plain → pieces (plain ++ later)
-    ≡ in_front plain (pieces later)
-pieces-plain [] later free = sym (in_front-nil (pieces later))
+pub pieces-plain : (plain later : List ℕ) → Lacks equals_sign plain → value_pieces (plain ++ later)
+    ≡ in_front plain (value_pieces later)
+pieces-plain [] later free = sym (in_front-nil (value_pieces later))
 pieces-plain (b ∷ plain) later free = grind
     (arith, pieces-none, word_at-other, in_front-append, pieces-plain plain later free.1)
 
@@ -185,7 +187,7 @@ pieces-plain (b ∷ plain) later free = grind
 pub record Seen (value rest : List ℕ) : Type 0 where
   pub seen : List ℕ
   pub joined : value ≡ seen ++ rest
-  pub found : pieces value ≡ in_front seen (pieces rest)
+  pub found : value_pieces value ≡ in_front seen (value_pieces rest)
 
 -- an `=` at which no word begins
 pub seen-more : (value rest plain behind : List ℕ) → Seen value rest → Some (plain, behind) ≡ cut_at equals_sign rest
@@ -194,22 +196,23 @@ seen-more value rest plain behind s h e =
     let cut = IsCut-from equals_sign rest plain behind (sym h) in
     let none : word_at (equals_sign ∷ behind) ≡ None = word_at-equals behind
     ∙ ap (option_map (λ (found : EncodedWord × List ℕ). found.0)) e in
-    let passed : pieces rest ≡ in_front (plain ++ equals_sign ∷ []) (pieces behind) =
-    ap pieces cut.joined ∙ pieces-plain plain (equals_sign ∷ behind) cut.free
+    let passed : value_pieces rest ≡ in_front (plain ++ equals_sign ∷ []) (value_pieces behind) =
+    ap value_pieces cut.joined ∙ pieces-plain plain (equals_sign ∷ behind) cut.free
     ∙ ap (in_front plain) (pieces-none equals_sign behind none)
-    ∙ sym (in_front-append plain (equals_sign ∷ []) (pieces behind)) in
+    ∙ sym (in_front-append plain (equals_sign ∷ []) (value_pieces behind)) in
     record {
       seen = s.seen ++ (plain ++ equals_sign ∷ []);
       joined = s.joined ∙ ap (λ (l : List ℕ). s.seen ++ l)
           (cut.joined ∙ sym (append_assoc plain (equals_sign ∷ []) behind))
           ∙ sym (append_assoc s.seen (plain ++ equals_sign ∷ []) behind);
       found = s.found ∙ ap (in_front s.seen) passed
-          ∙ sym (in_front-append s.seen (plain ++ equals_sign ∷ []) (pieces behind));
+          ∙ sym (in_front-append s.seen (plain ++ equals_sign ∷ []) (value_pieces behind));
     }
 
 -- an `=` at which a word begins
 pub record First (value behind later : List ℕ) (w : EncodedWord) : Type 0 where
-  pub found : pieces value ≡ word_first (record { between = take (length value - length behind - 1) value; word = w })
+  pub found : value_pieces value ≡ word_first
+      (record { between = take (length value - length behind - 1) value; word = w })
       later
   pub size : length (take (length value - length behind - 1) value) + length w.text + length later < length value
 
@@ -229,10 +232,10 @@ seen-first value rest plain behind later w s h e =
     let taken : take (length value - length behind - 1) value ≡ front =
     ap (λ (l : List ℕ). take (length value - length behind - 1) l) split
     ∙ take_at front (equals_sign ∷ behind) (length value - length behind - 1) n in
-    let first : pieces rest ≡ in_front plain (word_first (record { between = []; word = w }) later) =
-    ap pieces cut.joined ∙ pieces-plain plain (equals_sign ∷ behind) cut.free
+    let first : value_pieces rest ≡ in_front plain (word_first (record { between = []; word = w }) later) =
+    ap value_pieces cut.joined ∙ pieces-plain plain (equals_sign ∷ behind) cut.free
     ∙ ap (in_front plain) (pieces-some behind later w here is.joined) in
-    let all : pieces value ≡ word_first (record { between = front; word = w }) later =
+    let all : value_pieces value ≡ word_first (record { between = front; word = w }) later =
     s.found ∙ ap (in_front s.seen) first ∙ ap (λ (l : List ℕ). word_first (record { between = l; word = w }) later)
     (ap (λ (l : List ℕ). s.seen ++ l) (append-nil plain)) in
     let written = ap length (is.joined ∙ spelled-append w later) in
@@ -244,10 +247,11 @@ seen-first value rest plain behind later w s h e =
     }
 
 -- no `=` is left
-pub seen-end : (value rest : List ℕ) → Seen value rest → cut_at equals_sign rest ≡ None → pieces value ≡ no_word value
+pub seen-end : (value rest : List ℕ) → Seen value rest → cut_at equals_sign rest ≡ None → value_pieces value
+    ≡ no_word value
 seen-end value rest s e =
     let free = Lacks-from equals_sign rest e in
-    let alone : pieces rest ≡ no_word rest = ap pieces (sym (append-nil rest)) ∙ pieces-plain rest [] free
+    let alone : value_pieces rest ≡ no_word rest = ap value_pieces (sym (append-nil rest)) ∙ pieces-plain rest [] free
     ∙ ap no_word (append-nil rest) in
     s.found ∙ ap (in_front s.seen) alone ∙ ap no_word (sym s.joined)
 

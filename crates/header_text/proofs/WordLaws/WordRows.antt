@@ -1,10 +1,10 @@
 -- Worked examples of encoded words and charsets. The values on the right come from a separate reading of the rules.
 use Rattle.header_text.proofs.Words.{ℕ, List, [], ◌∷◌, refl, codes, encode_utf8, pieces_from, q_bytes, sextet}
 use Rattle.header_text.proofs.Words.{bytes_of_sextets, base64_bytes, charset_of, text_of, word_and_later, word_at}
-use Rattle.header_text.proofs.Words.{decoded, Charset, Utf8, Latin1, Latin9, Windows1252, Unknown}
+use Rattle.header_text.proofs.Words.{decoded_value, Charset, Utf8, Latin1, Latin9, Windows1252, Unknown}
 use Rattle.header_text.proofs.Rows.{Each}
 
-rows : Each decoded ((codes "=?utf-8*en?q?a_b?=", codes "a b")
+rows : Each decoded_value ((codes "=?utf-8*en?q?a_b?=", codes "a b")
     ∷ (codes "=?x-none?Q?=E9t?=", 239 ∷ 191 ∷ 189 ∷ 116 ∷ [])
     ∷ (codes "=?utf-8?Q?a?= =?utf-8?Q?b?= c", codes "ab c")
     ∷ (codes "a =?utf-8?B?w7w=?= b", 97 ∷ 32 ∷ 195 ∷ 188 ∷ 32 ∷ 98 ∷ [])
@@ -63,5 +63,5 @@ rows : Each decoded ((codes "=?utf-8*en?q?a_b?=", codes "a b")
     ∷ (codes "utf-16", Unknown)
     ∷ (codes " utf-8", Unknown) ∷ [])
 unfolding encode_utf8 pieces_from q_bytes sextet bytes_of_sextets base64_bytes charset_of text_of word_and_later word_at
-    decoded
+    decoded_value
 rows = (refl, refl, refl)

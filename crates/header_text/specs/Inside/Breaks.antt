@@ -9,5 +9,5 @@ without_final_cr (b ∷ []) = if b == 0x0D then [] else b ∷ []
 without_final_cr (b ∷ c ∷ bs) = b ∷ without_final_cr (c ∷ bs)
 
 -- what is added of a part: all of it if a byte was added before; otherwise what follows its spaces and tabs
-abbrev pub led : Bool → List ℕ → List ℕ
-led started bytes = if started then bytes else after_blanks bytes
+abbrev pub added_part : Bool → List ℕ → List ℕ
+added_part started bytes = if started then bytes else after_blanks bytes

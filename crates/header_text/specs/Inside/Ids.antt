@@ -20,5 +20,5 @@ after_last_open (b ∷ bs) = elim (after_last_open bs)
     [ Some id ↦ Some id | None ↦ elim (b == open_sign) [ true ↦ Some bs | false ↦ None ] ]
 
 -- the ids of texts that end at a `>`
-abbrev pub ids_in : List (List ℕ) → List (List ℕ)
-ids_in texts = kept_ids (filter_map after_last_open texts)
+abbrev pub ids_of_texts : List (List ℕ) → List (List ℕ)
+ids_of_texts texts = kept_ids (filter_map after_last_open texts)

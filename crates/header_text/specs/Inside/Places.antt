@@ -10,14 +10,14 @@ next_start (p ∷ ps) end = p.name
 
 -- The places are in order. Each name has a byte or more and ends where its body begins; the body ends where the next
 -- name begins, or at `end`.
-abbrev pub AreInOrder : ℕ → List FieldPlace → Type 0
-AreInOrder end [] = Unit {0}
-AreInOrder end (p ∷ ps) = (p.name < p.body) × (p.body ≤ next_start ps end) × AreInOrder end ps
+abbrev pub ArePlacesInOrder : ℕ → List FieldPlace → Type 0
+ArePlacesInOrder end [] = Unit {0}
+ArePlacesInOrder end (p ∷ ps) = (p.name < p.body) × (p.body ≤ next_start ps end) × ArePlacesInOrder end ps
 
 -- The fields fill the bytes from the first to the last, one after another. There are at most 262,144 bytes, and at most
 -- as many fields.
 pub record AreKept (bytes : List ℕ) (places : List FieldPlace) : Type 0 where
-  pub order : AreInOrder (length bytes) places
+  pub order : ArePlacesInOrder (length bytes) places
   pub first : next_start places (length bytes) ≡ 0
   pub few_bytes : length bytes ≤ most_in_header
   pub few_places : length places ≤ most_in_header

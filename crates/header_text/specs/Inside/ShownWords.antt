@@ -1,6 +1,6 @@
 -- The encoded words of the code, as contracts see them.
 use Rattle.std.specs.Prelude.{ℕ, List, [], ◌∷◌}
-use Rattle.header_text.specs.EncodedWords.{EncodedWord, WordAfter, Pieces, pieces}
+use Rattle.header_text.specs.EncodedWords.{EncodedWord, WordAfter, Pieces, value_pieces}
 use Rattle.header_text.specs.declared.encoded_word.EncodedWord.{EncodedWord as WordInBytes}
 use Rattle.header_text.specs.declared.encoded_word.Found.{Found}
 
@@ -18,4 +18,4 @@ no_word value = record { words = []; rest = value }
 
 -- the pieces of a value that has this word first, and `later` after it
 abbrev pub word_first : WordAfter → List ℕ → Pieces
-word_first w later = record { words = w ∷ (pieces later).words; rest = (pieces later).rest }
+word_first w later = record { words = w ∷ (value_pieces later).words; rest = (value_pieces later).rest }

@@ -11,7 +11,7 @@ use Rattle.mail_dates.specs.Calendar.{day_number, month_of, start_of_day}
 use Rattle.mail_dates.specs.Numbers.{number_in, ◌>>=◌}
 use Rattle.mail_dates.specs.HeaderDates.{zones, hours_west, offset_size, numeric_offset, offset_of, zone_offset}
 use Rattle.mail_dates.specs.HeaderDates.{second_of_day, time_by, time_of_parts, is_colon, time_of, year_of}
-use Rattle.mail_dates.specs.HeaderDates.{date_of_parts_by, date_of_tokens_by, date_of, tokens, without_comments}
+use Rattle.mail_dates.specs.HeaderDates.{date_of_parts_by, date_of_tokens_by, date_of, date_tokens, without_comments}
 use Rattle.mail_dates.specs.HeaderDates.{without_day_name}
 use Rattle.mail_dates.proofs.CivilDays.{IsCivilDay, numbered, year_within}
 
@@ -147,7 +147,7 @@ tokens-fit ts = grind (arith, parts-fit, zone_offset-small)
 
 date-fits : (text : List ℕ) → IfSome (date_of text) (FitsSigned w64)
 unfolding date_of
-date-fits text = tokens-fit (without_day_name (tokens (without_comments text)))
+date-fits text = tokens-fit (without_day_name (date_tokens (without_comments text)))
 
 pub told-fits : (text : Option (List ℕ)) → IfSome (date_told text) (FitsSigned w64)
 told-fits None = tt

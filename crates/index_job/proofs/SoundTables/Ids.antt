@@ -5,7 +5,7 @@ use Rattle.index_job.proofs.Words.{AllByRecursion, ltb-true, leb-true, length-ta
 use Rattle.index_job.proofs.Words.{most_in_header, lines_before_empty, lines_within, header, field_of_line}
 use Rattle.index_job.proofs.Words.{with_continuations, continued_and_fields, fields_of, total, first_of, facts_of}
 use Rattle.header_text.specs.Blanks.{after_blanks, split_while}
-use Rattle.header_text.specs.Headers.{is_field_name_byte, named}
+use Rattle.header_text.specs.Headers.{is_field_name_byte, field_of_name}
 use Rattle.header_text.specs.Ids.{id_ranges, kept_ids, ids_of}
 use Rattle.header_text.proofs.Fronts.{length-split_while}
 use Rattle.header_text.proofs.HeaderLaws.HeaderLemmas.{length-after_blanks}
@@ -54,7 +54,7 @@ continued-bodies : (most : ℕ) (o : Option HeaderField) (more : List ℕ) (late
     → AreBodies most (with_continuations o more later)
 continued-bodies most o more later h h2 = grind (arith, length-append)
 
-named-body : (name rest : List ℕ) → IfSome (named name rest) (λ f. length f.body ≤ length rest)
+named-body : (name rest : List ℕ) → IfSome (field_of_name name rest) (λ f. length f.body ≤ length rest)
 named-body name rest = grind arith
 
 line-body : (most : ℕ) (l more : List ℕ) → length l + length more ≤ most

@@ -1,8 +1,9 @@
 -- The messages of an archive come one after another within it, and each is longer than its text.
 use Rattle.index_job.proofs.Words.{◌≡◌, ◌∙◌, ℕ, ◌+◌, ◌<◌, ◌≤◌, Bool, true, false, cond, nat_lt, List, [], ◌∷◌, length}
 use Rattle.index_job.proofs.Words.{map, Some, None, refl, ap, arith, length-append, unwrap_or, AllByRecursion, concat}
-use Rattle.index_job.proofs.Words.{and_parts, ltb-false, Message, total, marked, grouped, is_refused, without_closing}
-use Rattle.index_job.proofs.Words.{size, span_length, messages_from, messages, refusal_of, messages_in}
+use Rattle.index_job.proofs.Words.{and_parts, ltb-false, Message, total, marked_lines, grouped_lines, is_refused}
+use Rattle.index_job.proofs.Words.{without_closing}
+use Rattle.index_job.proofs.Words.{size, span_length, messages_from, messages, archive_refusal, messages_in}
 use Rattle.mbox_cutter.specs.Lines.{lines, is_empty}
 use Rattle.mbox_cutter.specs.Separators.{is_separator}
 use Rattle.mbox_cutter.specs.declared.event.CutFault.TheVariants.{NotAnMbox, ArchiveTooLong}
@@ -31,7 +32,8 @@ total-joined (l ∷ ls) = omega (arith, total-joined ls, length-append l (concat
 lines-total : (bytes : List ℕ) → total (lines bytes) ≡ length bytes
 lines-total bytes = total-joined (lines bytes) ∙ ap length (lines-AreLines bytes).joined
 
-marked-lines : (may_start : Bool) (ls : List (List ℕ)) → map (λ (mark : Bool × List ℕ). mark.1) (marked may_start ls)
+marked-lines : (may_start : Bool) (ls : List (List ℕ))
+    → map (λ (mark : Bool × List ℕ). mark.1) (marked_lines may_start ls)
     ≡ ls
 marked-lines may_start [] = refl
 marked-lines may_start (l ∷ ls) = ap (λ (rest : List (List ℕ)). l ∷ rest) (marked-lines (is_empty l) ls)
@@ -45,7 +47,7 @@ separator-some (b ∷ l) is = omega arith
 abbrev StartsSome : Bool × List ℕ → Type 0
 StartsSome mark = mark.0 ≡ true → 0 < length mark.1
 
-marked-some : (may_start : Bool) (ls : List (List ℕ)) → AllByRecursion StartsSome (marked may_start ls)
+marked-some : (may_start : Bool) (ls : List (List ℕ)) → AllByRecursion StartsSome (marked_lines may_start ls)
 marked-some may_start [] = tt
 marked-some may_start (l ∷ ls) = (
   λ is. separator-some l (and_parts may_start (is_separator l) is).1,
@@ -61,30 +63,30 @@ groups_total : List Group → ℕ
 groups_total [] = 0
 groups_total (g ∷ gs) = length g.0 + total g.1 + groups_total gs
 
-grouped-total : (marks : List (Bool × List ℕ)) → total (grouped marks).0 + groups_total (grouped marks).1
+grouped-total : (marks : List (Bool × List ℕ)) → total (grouped_lines marks).0 + groups_total (grouped_lines marks).1
     ≡ total (map (λ (mark : Bool × List ℕ). mark.1) marks)
 unfolding groups_total
 grouped-total [] = omega arith
 grouped-total (mark ∷ marks) = go mark.0 (grouped-total marks)
   where
-    go : (starts : Bool) → total (grouped marks).0 + groups_total (grouped marks).1
+    go : (starts : Bool) → total (grouped_lines marks).0 + groups_total (grouped_lines marks).1
         ≡ total (map (λ (mark : Bool × List ℕ). mark.1) marks)
         → (let gs : List (List ℕ) × List Group =
-        cond starts ([], (mark.1, (grouped marks).0) ∷ (grouped marks).1)
-        (mark.1 ∷ (grouped marks).0, (grouped marks).1) in total gs.0 + groups_total gs.1)
+        cond starts ([], (mark.1, (grouped_lines marks).0) ∷ (grouped_lines marks).1)
+        (mark.1 ∷ (grouped_lines marks).0, (grouped_lines marks).1) in total gs.0 + groups_total gs.1)
         ≡ length mark.1 + total (map (λ (mark : Bool × List ℕ). mark.1) marks)
     go starts h = grind arith
 
 grouped-some : (marks : List (Bool × List ℕ)) → AllByRecursion StartsSome marks
-    → AllByRecursion (λ (g : Group). 0 < length g.0) (grouped marks).1
+    → AllByRecursion (λ (g : Group). 0 < length g.0) (grouped_lines marks).1
 grouped-some [] all = tt
 grouped-some (mark ∷ marks) all = go mark.0 refl (grouped-some marks all.1)
   where
-    go : (starts : Bool) → mark.0 ≡ starts → AllByRecursion (λ (g : Group). 0 < length g.0) (grouped marks).1
+    go : (starts : Bool) → mark.0 ≡ starts → AllByRecursion (λ (g : Group). 0 < length g.0) (grouped_lines marks).1
         → AllByRecursion (λ (g : Group). 0 < length g.0)
         (let gs : List (List ℕ) × List Group =
-        cond starts ([], (mark.1, (grouped marks).0) ∷ (grouped marks).1)
-        (mark.1 ∷ (grouped marks).0, (grouped marks).1) in gs.1)
+        cond starts ([], (mark.1, (grouped_lines marks).0) ∷ (grouped_lines marks).1)
+        (mark.1 ∷ (grouped_lines marks).0, (grouped_lines marks).1) in gs.1)
     go starts h h2 = grind arith
 
 -- ---- messages
@@ -103,24 +105,26 @@ from-groups low at end (g ∷ gs) behind within some = (
 
 pub messages-spanned : (bytes : List ℕ) → AreSpanned 0 (length bytes) (messages_in bytes)
 unfolding messages
-messages-spanned bytes = go (is_refused (marked true (lines bytes)))
+messages-spanned bytes = go (is_refused (marked_lines true (lines bytes)))
   where
-    all : total (grouped (marked true (lines bytes))).0 + groups_total (grouped (marked true (lines bytes))).1
+    all : total (grouped_lines (marked_lines true (lines bytes))).0 + groups_total
+        (grouped_lines (marked_lines true (lines bytes))).1
         ≡ length bytes
-    all = grouped-total (marked true (lines bytes)) ∙ ap total (marked-lines true (lines bytes)) ∙ lines-total bytes
+    all = grouped-total (marked_lines true (lines bytes)) ∙ ap total (marked-lines true (lines bytes))
+        ∙ lines-total bytes
 
     go : (refused : Bool) → AreSpanned 0 (length bytes)
-        (unwrap_or (cond refused None (Some (messages_from (total (grouped (marked true (lines bytes))).0)
-        (grouped (marked true (lines bytes))).1))) [])
+        (unwrap_or (cond refused None (Some (messages_from (total (grouped_lines (marked_lines true (lines bytes))).0)
+        (grouped_lines (marked_lines true (lines bytes))).1))) [])
     go true = tt
-    go false = from-groups 0 (total (grouped (marked true (lines bytes))).0) (length bytes)
-        (grouped (marked true (lines bytes))).1 (omega arith) (omega (arith, all))
-        (grouped-some (marked true (lines bytes)) (marked-some true (lines bytes)))
+    go false = from-groups 0 (total (grouped_lines (marked_lines true (lines bytes))).0) (length bytes)
+        (grouped_lines (marked_lines true (lines bytes))).1 (omega arith) (omega (arith, all))
+        (grouped-some (marked_lines true (lines bytes)) (marked-some true (lines bytes)))
 
 -- ---- the archive
 
-pub unrefused-short : (most : ℕ) (bytes : List ℕ) → refusal_of most bytes ≡ None → length bytes ≤ most
-unfolding refusal_of
+pub unrefused-short : (most : ℕ) (bytes : List ℕ) → archive_refusal most bytes ≡ None → length bytes ≤ most
+unfolding archive_refusal
 unrefused-short most bytes = go _ (nat_lt most (length bytes)) refl
   where
     go : (no_mbox long : Bool) → nat_lt most (length bytes) ≡ long

@@ -1,6 +1,7 @@
 -- The table of archives is well-formed if each has a path, none is refused, and all together are within the limits.
 use Rattle.index_job.proofs.Words.{◌≡◌, All, List, [], ◌∷◌, map, None, arith, AllByRecursion, recursion_from_All}
-use Rattle.index_job.proofs.Words.{most_in_archive, IsPath, IsArchive, IsWellFormed, newest, refusal_of, AreSound, Mbox}
+use Rattle.index_job.proofs.Words.{most_in_archive, IsPath, IsArchive, IsWellFormed, newest, archive_refusal, AreSound}
+use Rattle.index_job.proofs.Words.{Mbox}
 use Rattle.index_job.proofs.Words.{entry_of, table}
 use Rattle.sha2.proofs.Facts256.{length-sha256}
 use Rattle.index_job.proofs.SoundTables.Keys.{messages-listed, messages-sorted}
@@ -9,7 +10,7 @@ use Rattle.index_job.proofs.SoundTables.Spans.{unrefused-short}
 use Rattle.index_job.proofs.TableSteps.{records-count}
 
 archives-named : (archives : List Mbox) → AllByRecursion (λ (a : Mbox). IsPath a.path) archives
-    → AllByRecursion (λ (a : Mbox). refusal_of most_in_archive a.bytes ≡ None) archives
+    → AllByRecursion (λ (a : Mbox). archive_refusal most_in_archive a.bytes ≡ None) archives
     → AllByRecursion (IsArchive newest) (map entry_of archives)
 archives-named [] paths sound = tt
 archives-named (a ∷ archives) paths sound =

@@ -11,8 +11,8 @@ use Rattle.mbox_cutter.specs.Archives.{text, size, span_length}
 use Rattle.mbox_cutter.specs.declared.device.Source.{Ghosts}
 use Rattle.mbox_cutter.specs.declared.event.CutFault.{CutFault}
 use Rattle.mbox_cutter.specs.declared.scan.Phase.TheVariants.{Between, Inside}
-use Rattle.mbox_cutter.specs.Events.{Coming, told, told_rest}
-use Rattle.mbox_cutter.specs.Places.{CutterPlace, left}
+use Rattle.mbox_cutter.specs.Events.{ComingEvents, events_of, events_from_inside}
+use Rattle.mbox_cutter.specs.Places.{CutterPlace, events_left}
 use Rattle.mbox_cutter.specs.Sources.{Stays}
 use Rattle.mime_text.specs.declared.message_text.MessageText.{MessageText}
 use Rattle.index_job.specs.declared.archive_reading.Ended.{Ended}
@@ -37,16 +37,16 @@ pub record Awaited : Type 0 where
   pub refusal : Option CutFault
 
 -- what is to come inside the message, if these lines of its text are left
-abbrev pub coming_inside : Awaited → List (List ℕ) → Coming
-coming_inside w lines = record { events = told_rest w.all w.message lines w.later; refusal = w.refusal }
+abbrev pub coming_inside : Awaited → List (List ℕ) → ComingEvents
+coming_inside w lines = record { events = events_from_inside w.all w.message lines w.later; refusal = w.refusal }
 
 -- what is to come between messages, if these messages are left
-abbrev pub coming_between : ℕ → List archives.Message → Option CutFault → Coming
-coming_between all ms refusal = record { events = told all ms; refusal = refusal }
+abbrev pub coming_between : ℕ → List archives.Message → Option CutFault → ComingEvents
+coming_between all ms refusal = record { events = events_of all ms; refusal = refusal }
 
 -- what is to come of an archive with these messages; only the refusal, if the archive is refused and so has no messages
-abbrev pub coming_ahead : ℕ → Option (List archives.Message) → Option CutFault → Coming
-coming_ahead all ms refusal = record { events = option_map_or (told all) ms []; refusal = refusal }
+abbrev pub coming_ahead : ℕ → Option (List archives.Message) → Option CutFault → ComingEvents
+coming_ahead all ms refusal = record { events = option_map_or (events_of all) ms []; refusal = refusal }
 
 -- ---- the source
 
@@ -70,7 +70,7 @@ pub record GoesFurther (old new : CutterPlace) : Type 0 where
   pub most : new.most ≡ old.most
   pub within : new.offset ≤ new.most
   pub later : old.offset ≤ new.offset
-  pub nearer : left new < left old
+  pub nearer : events_left new < events_left old
 
 -- the message that began at this offset has ended, and the cutter is after it
 pub record HasEnded (start : ℕ) (ended : Ended) (new : CutterPlace) : Type 0 where
@@ -81,7 +81,7 @@ pub record HasEnded (start : ℕ) (ended : Ended) (new : CutterPlace) : Type 0 w
 -- the cutter has come to a message that begins, or to the archive's end
 abbrev pub IsHeading : Heading → CutterPlace → CutterPlace → Type 0
 IsHeading (Message start) old new = (new.phase ≡ Inside start 0) × (old.offset ≤ start) × (start < new.offset)
-    × (left new < left old)
+    × (events_left new < events_left old)
 IsHeading (End length) old new = (old.offset ≤ length) × (length ≤ new.most)
 
 -- if the heading is the archive's end, all bytes have been read
@@ -90,7 +90,7 @@ ReadsToEnd (Message start) bytes = ⊤
 ReadsToEnd (End length) bytes = IsAtEnd bytes
 
 -- the heading is the next of what was to come: the first of the messages that are left, or the end if none is left
-abbrev pub Heads : Heading → ℕ → Option (List archives.Message) → Option CutFault → Option Coming → Type 0
+abbrev pub Heads : Heading → ℕ → Option (List archives.Message) → Option CutFault → Option ComingEvents → Type 0
 Heads (Message start) all ms refusal new =
     (m : archives.Message) × (later : List archives.Message) × (ms ≡ Some (m ∷ later)) × (m.offset ≡ start)
     × (new ≡ Some (coming_inside (record { all = all; message = m; later = later; refusal = refusal }) (text m)))
@@ -100,26 +100,27 @@ Heads (End length) all ms refusal new = (ms ≡ Some []) × (length ≡ all) × 
 
 -- of the message's text, these lines were gathered, and the rest is to come
 pub record IsReading (draft : Option Draft) (w : Awaited) (lines rest : List (List ℕ)) (gathered : MessageText)
-    (builder : Option Draft) (coming : Option Coming) : Type 0 where
+    (builder : Option Draft) (coming : Option ComingEvents) : Type 0 where
   pub so_far : HasGathered gathered builder draft lines
   pub whole : text w.message ≡ lines ++ rest
   pub comes : coming ≡ Some (coming_inside w rest)
 
 -- the whole text was gathered, and what is to come is what follows the message
 pub record HasReadAll (draft : Option Draft) (w : Awaited) (ended : Ended) (gathered : MessageText)
-    (builder : Option Draft) (coming : Option Coming) : Type 0 where
+    (builder : Option Draft) (coming : Option ComingEvents) : Type 0 where
   pub whole : HasGathered gathered builder draft (text w.message)
   pub length : ended.length ≡ span_length w.message
   pub told_size : ended.size ≡ size w.message
   pub comes : coming ≡ Some (coming_between w.all w.later w.refusal)
 
 -- the message that was to come is being read: its first lines were gathered, and the rest is to come
-abbrev pub IsReadingSome : Option Draft → Awaited → MessageText → Option Draft → Option Coming → Type 0
+abbrev pub IsReadingSome : Option Draft → Awaited → MessageText → Option Draft → Option ComingEvents → Type 0
 IsReadingSome draft w gathered builder coming = (lines rest : List (List ℕ))
     × IsReading draft w lines rest gathered builder coming
 
 -- the message is added to the draft, or the fault is one of the message or of its archive
-abbrev pub AddsMessage : {T : Type 0} → ℕ → Draft → Awaited → Result T JobFault → Option Draft → Option Coming → Type 0
+abbrev pub AddsMessage : {T : Type 0} → ℕ → Draft → Awaited → Result T JobFault → Option Draft → Option ComingEvents
+    → Type 0
 AddsMessage archive d w (Ok _) builder coming = (builder ≡ Some (draft_with_messages archive (w.message ∷ []) d))
     × (coming ≡ Some (coming_between w.all w.later w.refusal))
 AddsMessage archive d w (Err fault) builder coming =
@@ -149,7 +150,7 @@ IsMessageFault draft w fault = IsJobFault w.refusal
 
 -- of an archive's messages, this many are done and added to the draft, and the others are to come
 pub record HasDone (number : ℕ) (d : Draft) (all : ℕ) (ms : Option (List archives.Message)) (refusal : Option CutFault)
-    (count : ℕ) (builder : Option Draft) (coming : Option Coming) : Type 0 where
+    (count : ℕ) (builder : Option Draft) (coming : Option ComingEvents) : Type 0 where
   pub done : List archives.Message
   pub rest : Option (List archives.Message)
   pub whole : ms ≡ option_map (λ later. done ++ later) rest

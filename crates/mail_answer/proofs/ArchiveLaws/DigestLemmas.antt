@@ -1,7 +1,8 @@
 -- The digest of an archive that is read piece by piece is that of all its bytes, because the pieces are its front.
 use Rattle.mail_answer.proofs.Words.{◌≡◌, ℕ, ◌+◌, List, [], ◌∷◌, ◌++◌, append-nil, length, length-append, take}
 use Rattle.mail_answer.proofs.Words.{take-add, take_all, Option, Some, IfSome, Ok, ap, ap₂, sym, ◌∙◌, le-leb, subst}
-use Rattle.mail_answer.proofs.Words.{arith, concat-append, concat, sha256, WasKnown, archive_at, IsRead, front_digest}
+use Rattle.mail_answer.proofs.Words.{arith, concat-append, concat, sha256, WasKnown, archive_at, IsReadFromArchive}
+use Rattle.mail_answer.proofs.Words.{front_digest}
 use Rattle.mail_answer.proofs.Words.{AbsorbsPart, ReadsDigest, TellPieces, ReadsFront, Ghosts}
 use Rattle.sha2.specs.Hashers.{Holds256}
 use Rattle.sha2.specs.declared.Sha256.{Sha256}
@@ -16,7 +17,7 @@ pub record AbsorbedTo {A : Type 0} (g : Ghosts A) (archive at : ℕ) (first now 
 
 more_in_front : (held : Option (List (List ℕ))) (archive at count : ℕ) (bytes more : List ℕ) → length more ≡ count
     → IfSome held (λ archives. bytes ≡ take at (archive_at archives archive))
-    → IsRead archive at more held → IfSome held
+    → IsReadFromArchive archive at more held → IfSome held
     (λ archives. bytes ++ more ≡ take (at + count) (archive_at archives archive))
 more_in_front held archive at count bytes more h h2 h3 = grind (arith, take-add)
 

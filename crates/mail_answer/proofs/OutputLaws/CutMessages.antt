@@ -2,7 +2,8 @@
 use Rattle.mail_answer.proofs.Words.{◌≡◌, ◌∙◌, ℕ, ◌+◌, Bool, true, cond, ◌&&◌, List, [], ◌∷◌, ◌++◌, Option, None, Some}
 use Rattle.mail_answer.proofs.Words.{length, take, drop, map, refl, ap, sym, subst, arith, concat, option_map}
 use Rattle.mail_answer.proofs.Words.{take-append_seam, drop-append_seam, drop-drop, concat-append, Message, messages}
-use Rattle.mail_answer.proofs.Words.{messages_from, marked, grouped, is_refused, total, span_length, lines, is_empty}
+use Rattle.mail_answer.proofs.Words.{messages_from, marked_lines, grouped_lines, is_refused, total, span_length, lines}
+use Rattle.mail_answer.proofs.Words.{is_empty}
 use Rattle.mail_answer.proofs.Words.{AreCut, AreLines, IsCutOut}
 use Rattle.mbox_cutter.proofs.LinesAreCut.{lines-AreLines}
 use Rattle.mail_answer.proofs.OutputLaws.MessageLines.{Each, StartsNowhere, Group, IsMessage, lines_of, all_lines}
@@ -23,7 +24,7 @@ record IsGrouped (may : Bool) (ls : List (List ℕ)) (r : List (List ℕ) × Lis
 and-second : (a b : Bool) → (a && b) ≡ true → b ≡ true
 and-second a b h = grind arith
 
-grouped-is : (may : Bool) (ls : List (List ℕ)) → IsGrouped may ls (grouped (marked may ls))
+grouped-is : (may : Bool) (ls : List (List ℕ)) → IsGrouped may ls (grouped_lines (marked_lines may ls))
 grouped-is may [] = record { joined = refl; front = tt; each = tt }
 grouped-is may (l ∷ ls) = grind (arith, and-second, grouped-is (is_empty l) ls)
 
@@ -71,7 +72,7 @@ messages-are archive offset (g ∷ gs) is c e =
 pub messages-in : (archive : List ℕ) (ms : List Message) → messages archive ≡ Some ms → Each (IsIn archive) ms
 unfolding messages
 messages-in archive ms e =
-    let groups : List (List ℕ) × List Group = grouped (marked true (lines archive)) in
+    let groups : List (List ℕ) × List Group = grouped_lines (marked_lines true (lines archive)) in
     let h : IsGrouped true (lines archive) groups = grouped-is true (lines archive) in
     let are : AreLines archive (lines archive) = lines-AreLines archive in
     let whole : archive ≡ concat groups.0 ++ concat (all_lines groups.1) =
@@ -81,7 +82,7 @@ messages-in archive ms e =
     ∙ drop-append_seam (concat groups.0) (concat (all_lines groups.1)) in
     let each : AreCut (all_lines groups.1) =
     cut-behind groups.0 (all_lines groups.1) (subst AreCut (sym h.joined) are.each) in
-    subst (Each (IsIn archive)) (accepted (is_refused (marked true (lines archive)))
+    subst (Each (IsIn archive)) (accepted (is_refused (marked_lines true (lines archive)))
     (messages_from (total groups.0) groups.1) e) (messages-are archive (total groups.0) groups.1 h.each each behind)
   where
     accepted : (refused : Bool) (all : List Message) → cond refused None (Some all) ≡ Some ms → all ≡ ms

@@ -1,7 +1,8 @@
 -- Messages with a closing line that follow one another are cut into these messages, line by line.
 use Rattle.mail_answer.proofs.Words.{◌≡◌, ◌∙◌, ℕ, ◌+◌, Bool, true, false, cond, ◌&&◌, ◌||◌, ◌==◌, suc, List, [], ◌∷◌}
 use Rattle.mail_answer.proofs.Words.{◌++◌, Some, length, map, refl, ap, sym, arith, append-nil, length-append, concat}
-use Rattle.mail_answer.proofs.Words.{eqb-true, concat-append, Message, cut, messages, messages_from, marked, grouped}
+use Rattle.mail_answer.proofs.Words.{eqb-true, concat-append, Message, spans_of, messages, messages_from, marked_lines}
+use Rattle.mail_answer.proofs.Words.{grouped_lines}
 use Rattle.mail_answer.proofs.Words.{is_refused, total, span_length, lines, is_empty, length_before_feed, AreCut}
 use Rattle.mail_answer.proofs.Words.{is_separator, places_from}
 use Rattle.mbox_cutter.proofs.OnlyLines.{only_lines}
@@ -45,15 +46,16 @@ abbrev pub text_of : Group → List ℕ
 text_of g = concat (lines_of g)
 
 grouped-behind : (may : Bool) (ls rest : List (List ℕ)) → StartsNowhere may ls
-    → grouped (marked may (ls ++ rest)) ≡ (
-      ls ++ (grouped (marked (may_behind may ls) rest)).0,
-      (grouped (marked (may_behind may ls) rest)).1,
+    → grouped_lines (marked_lines may (ls ++ rest)) ≡ (
+      ls ++ (grouped_lines (marked_lines (may_behind may ls) rest)).0,
+      (grouped_lines (marked_lines (may_behind may ls) rest)).1,
     )
 grouped-behind may [] rest h = refl
 grouped-behind may (l ∷ ls) rest h = grind (arith, grouped-behind (is_empty l) ls rest h.1)
 
 -- messages with a closing line are grouped again as they are
-grouped-messages : (gs : List Group) → Each IsMessage gs → Each IsClosed gs → grouped (marked true (all_lines gs))
+grouped-messages : (gs : List Group) → Each IsMessage gs → Each IsClosed gs
+    → grouped_lines (marked_lines true (all_lines gs))
     ≡ ([], gs)
 grouped-messages [] is closed = refl
 grouped-messages (g ∷ gs) is closed = grind (arith, grouped-behind, append-nil, grouped-messages gs is.1 closed.1)
@@ -67,7 +69,7 @@ separator-some (x ∷ xs) h = go (x == 70) refl h
     go : (v : Bool) → (x == 70) ≡ v → is_separator (x ∷ xs) ≡ true → is_empty (x ∷ xs) ≡ false
     go v h h2 = grind (arith, eqb-true)
 
-accepted : (gs : List Group) → Each IsMessage gs → is_refused (marked true (all_lines gs)) ≡ false
+accepted : (gs : List Group) → Each IsMessage gs → is_refused (marked_lines true (all_lines gs)) ≡ false
 accepted [] is = refl
 accepted (g ∷ gs) is = rw (separator-some g.0 is.0.starts, is.0.starts) refl
 
@@ -123,7 +125,7 @@ all-cut (g ∷ gs) closed each = behind-closed g.0 g.1 (all_lines gs) each.0 clo
 
 -- messages with a closing line, joined, are cut into these messages
 pub messages-cut : (gs : List Group) → Each IsMessage gs → Each IsClosed gs → Each (λ g. AreCut (lines_of g)) gs
-    → cut (concat (map text_of gs)) ≡ Some (places_from 0 (map text_of gs))
+    → spans_of (concat (map text_of gs)) ≡ Some (places_from 0 (map text_of gs))
 unfolding messages
 messages-cut gs is closed each =
     let all : lines (concat (map text_of gs)) ≡ all_lines gs = ap lines (sym (joined gs))

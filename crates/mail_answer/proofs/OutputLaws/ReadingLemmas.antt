@@ -2,7 +2,8 @@
 use Rattle.mail_answer.proofs.Words.{◌≡◌, ℕ, ◌+◌, ◌-◌, ◌<◌, ◌≤◌, List, ◌++◌, Option, None, Some, IfSome, Result, IfOk}
 use Rattle.mail_answer.proofs.Words.{length, take, drop, refl, ap, sym, ◌∙◌, append_assoc, append-nil, arith}
 use Rattle.mail_answer.proofs.Words.{take-append-add, take-append-le, drop-drop, DeviceFault, line_end_of, first_length}
-use Rattle.mail_answer.proofs.Words.{line_end-more, line_end-whole, archive_at, IsRead, Reading, coming, ReadsBehind}
+use Rattle.mail_answer.proofs.Words.{line_end-more, line_end-whole, archive_at, IsReadFromArchive, Reading, coming}
+use Rattle.mail_answer.proofs.Words.{ReadsBehind}
 use Rattle.mail_answer.proofs.Words.{ReadsTail, coming_count, IsInside}
 use Rattle.std.proofs.Math.Seq.{take-add}
 use Rattle.std.proofs.lemmas.List.{length-take-le, length-append, length-drop}
@@ -14,13 +15,13 @@ take_behind front into post held n e h =
     rw (← e) (take-append-add front (into ++ post) n ∙ ap (λ (s : List ℕ). front ++ s) (take-append-le n into post h))
 
 pub tail_read : (archive offset from n k : ℕ) (held : Option (List (List ℕ))) (old into : List ℕ) → from < length old
-    → n ≤ length into → IsRead archive offset (take n into) held
+    → n ≤ length into → IsReadFromArchive archive offset (take n into) held
     → ReadsTail archive offset from n held old (put_mid from k old into)
 tail_read archive offset from n k held old into room bound r = grind (arith, take_behind, length-take-le)
 
 pub tail_result : (archive offset from k : ℕ) (held : Option (List (List ℕ))) (old into : List ℕ)
     (r : Result ℕ DeviceFault) → from < length old → IfOk r (λ n. n ≤ length into)
-    → IfOk r (λ n. IsRead archive offset (take n into) held)
+    → IfOk r (λ n. IsReadFromArchive archive offset (take n into) held)
     → IfOk r (λ n. ReadsTail archive offset from n held old (put_mid from k old into))
 tail_result archive offset from k held old into r h h2 h3 = grind (arith, tail_read)
 

@@ -2,7 +2,8 @@
 use Rattle.mail_answer.proofs.Words.{◌≡◌, ◌∙◌, ℕ, zero, suc, ◌+◌, ◌-◌, ◌<◌, Bool, true, false, ◌&&◌, ◌==◌, List, []}
 use Rattle.mail_answer.proofs.Words.{◌∷◌, ◌++◌, length, take, drop, refl, ap, sym, arith, length-append, codes}
 use Rattle.mail_answer.proofs.Words.{take-append_seam, drop-append_seam, and_right, or_parts, false_from_ne_true}
-use Rattle.mail_answer.proofs.Words.{drop-append-le, bytes_eq-Decides, is_empty, is_separator, without_break, tokens}
+use Rattle.mail_answer.proofs.Words.{drop-append-le, bytes_eq-Decides, is_empty, is_separator, without_break}
+use Rattle.mail_answer.proofs.Words.{separator_tokens}
 use Rattle.mail_answer.proofs.Words.{has_time_then_year, feed, has_feed, ends_in_return}
 use Rattle.std.specs.Str.{bytes_eq}
 
@@ -104,6 +105,6 @@ separator-feed (a ∷ b ∷ c ∷ d ∷ []) none other =
     neither ((a == 70) && ((b == 114) && ((c == 111) && ((d == 109) && false)))) _ _
     (and_right (a == 70) _ (and_right (b == 114) _ (and_right (c == 111) _ (and_right (d == 109) false refl))))
 separator-feed (a ∷ b ∷ c ∷ d ∷ e ∷ rest) none other =
-    ap (λ (t : List ℕ). bytes_eq (a ∷ b ∷ c ∷ d ∷ e ∷ []) (codes "From ") && has_time_then_year (tokens t))
+    ap (λ (t : List ℕ). bytes_eq (a ∷ b ∷ c ∷ d ∷ e ∷ []) (codes "From ") && has_time_then_year (separator_tokens t))
     (feed-broken rest (return-dropped a b c d e rest other)
     ∙ sym (unbroken rest (feed-dropped 5 (a ∷ b ∷ c ∷ d ∷ e ∷ rest) none)))

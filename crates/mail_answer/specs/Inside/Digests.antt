@@ -1,6 +1,6 @@
 -- What is read of an archive for its digest.
 use Rattle.std.specs.Prelude.{◌≡◌, ℕ, List, [], length, take, Option, None, Some, Ok, nat_le, if◌then◌else◌}
-use Rattle.contract_words.specs.Archives.{IsRead}
+use Rattle.contract_words.specs.Archives.{IsReadFromArchive}
 use Rattle.sha2.specs.Sha256.{sha256}
 use Rattle.sha2.specs.declared.Sha256.{Sha256}
 use Rattle.mail_index.specs.Inside.Signing.{Absorbs}
@@ -24,5 +24,5 @@ pub record AbsorbsPart {A : Type 0} (g : Ghosts A) (archive offset count : ℕ) 
   pub bytes : List ℕ
   pub number : length bytes ≡ count
   pub part : Absorbs old new bytes
-  pub read : IsRead archive offset bytes held
+  pub read : IsReadFromArchive archive offset bytes held
   pub told : g.reads before archive offset (Ok bytes) after

@@ -1,7 +1,7 @@
 -- What is read of a part of an archive, line by line.
 use Rattle.std.specs.Prelude.{◌≡◌, ℕ, ◌+◌, ◌<◌, ◌≤◌, ◌^◌, List, [], ◌++◌, length, take, drop, Option, IfSome}
 use Rattle.std.specs.Option.{option_map}
-use Rattle.contract_words.specs.Archives.{IsRead, archive_at}
+use Rattle.contract_words.specs.Archives.{IsReadFromArchive, archive_at}
 use Rattle.mail_index.specs.declared.record.Record.{Record}
 
 -- a reading: the archive, the bytes of the part that were read and not passed, and the offset and the number of those
@@ -47,4 +47,4 @@ pub record ReadsTail (archive offset from count : ℕ) (held : Option (List (Lis
   pub bytes : List ℕ
   pub behind : take (from + count) new ≡ take from old ++ bytes
   pub number : length bytes ≡ count
-  pub read : IsRead archive offset bytes held
+  pub read : IsReadFromArchive archive offset bytes held

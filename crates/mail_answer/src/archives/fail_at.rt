@@ -1,6 +1,6 @@
 //! Archives that fail once, for tests.
 ghost use Rattle.std.specs.Prelude.{◌≡◌, ◌<◌, ◌≤◌, ◌-◌, ◌+◌, ◌^◌, ℕ, List, length, take, nat_eq, IfOk};
-ghost use Rattle.contract_words.specs.Archives.{IsLength, IsRead};
+ghost use Rattle.contract_words.specs.Archives.{IsLength, IsReadFromArchive};
 ghost use Rattle.contract_words.specs.Devices.{Counted, Counts};
 ghost use Rattle.contract_words.specs.Knowledge.{WasKnown};
 ghost use Rattle.mail_answer.specs.Archives.{bytes_told};
@@ -93,7 +93,7 @@ impl<A: Archives + Drop> Archives for FailAt<A> {
         requires room { 0 < length into.old }
         requires count { A.failures self.old.inner + self.old.failures < 2 ^ 64 - 1 }
         ensures bound { IfOk result (λ bytes. bytes ≤ length into.new) }
-        ensures bytes { IfOk result (λ bytes. IsRead n offset (take bytes into.new)
+        ensures bytes { IfOk result (λ bytes. IsReadFromArchive n offset (take bytes into.new)
             (A.held self.new.inner)) }
         ensures passed { PassesOn (A.reads self.old.inner n offset (bytes_told result into.new)
             self.new.inner

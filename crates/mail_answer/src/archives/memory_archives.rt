@@ -1,6 +1,6 @@
 //! Archives in memory.
 ghost use Rattle.std.specs.Prelude.{◌≡◌, ◌<◌, ◌≤◌, ◌-◌, ◌^◌, ◌++◌, ◌∷◌, ℕ, List, [], Some, Ok, length, take, drop, min, IfOk, OnOk, OnErr};
-ghost use Rattle.contract_words.specs.Archives.{IsLength, IsRead, archive_at};
+ghost use Rattle.contract_words.specs.Archives.{IsLength, IsReadFromArchive, archive_at};
 ghost use Rattle.contract_words.specs.Devices.{Counts};
 
 use crate::archives::Archives;
@@ -88,7 +88,7 @@ impl Archives for MemoryArchives {
         ensures whole { (archives : List (List ℕ)) → self.old ≡ archives → self.new ≡ archives }
         ensures number { length self.new ≡ length self.old }
         ensures bound { IfOk result (λ bytes. bytes ≤ length into.new) }
-        ensures bytes { IfOk result (λ bytes. IsRead n offset (take bytes into.new)
+        ensures bytes { IfOk result (λ bytes. IsReadFromArchive n offset (take bytes into.new)
             (Some self.old)) }
         ensures count { Counts result 0 0 }
         ensures never { result ≡ Ok (min (length (drop offset (archive_at self.old n)))

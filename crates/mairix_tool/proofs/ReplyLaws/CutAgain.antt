@@ -3,7 +3,8 @@ use Rattle.contract_words.specs.Archives.{archive_at}
 use Rattle.mairix_tool.proofs.Words.{◌≡◌, ◌∙◌, ℕ, zero, suc, ◌<◌, false, List, [], ◌∷◌, ◌++◌, Option, Some, None}
 use Rattle.mairix_tool.proofs.Words.{length, map, take, drop, unwrap_or, refl, sym, ap, subst, arith, append_assoc}
 use Rattle.mairix_tool.proofs.Words.{slice_index_or, option_map, map-append, length-map, length_push, get_or_at}
-use Rattle.mairix_tool.proofs.Words.{All-map, flat_map-map, Record, Message, cut, messages, span_length, closed, span}
+use Rattle.mairix_tool.proofs.Words.{All-map, flat_map-map, Record, Message, spans_of, messages, span_length, closed}
+use Rattle.mairix_tool.proofs.Words.{span}
 use Rattle.mairix_tool.proofs.Words.{answer_text, record_at, no_record, Mbox, messages_in, record_of, records_from}
 use Rattle.mairix_tool.proofs.Words.{table}
 use Rattle.std.specs.List.{All}
@@ -32,7 +33,7 @@ each-cut : (all : List Mbox) (n : ℕ) (bytes : List ℕ) (before ms : List Mess
     → messages bytes ≡ Some (before ++ ms) → Each (IsOf all) (map (record_of n) ms)
 each-cut all n bytes before [] is cuts = tt
 each-cut all n bytes before (m ∷ ms) is cuts =
-    let spans : cut bytes ≡ Some (map span_of before ++ span_of m ∷ map span_of ms) =
+    let spans : spans_of bytes ≡ Some (map span_of before ++ span_of m ∷ map span_of ms) =
     ap (option_map (map span_of)) cuts ∙ ap Some (map-append span_of before (m ∷ ms)) in
     let here : IsCutOut (take (span_length m) (drop m.offset bytes)) =
     record {

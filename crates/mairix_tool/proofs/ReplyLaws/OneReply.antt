@@ -17,8 +17,8 @@ use Rattle.mail_answer.proofs.OutputLaws.EveryAnswer.{one-choice}
 use Rattle.mail_index.proofs.FileLaws.Accepts.{no_fault}
 use Rattle.mail_index.proofs.FileLaws.SameTable.{same-table}
 use Rattle.mail_index.specs.Limits.{most_in_archive}
-use Rattle.mbox_cutter.specs.Archives.{grouped, is_refused, marked, messages, messages_from, total}
-use Rattle.mbox_cutter.specs.Events.{first_full_end, refusal_of}
+use Rattle.mbox_cutter.specs.Archives.{grouped_lines, is_refused, marked_lines, messages, messages_from, total}
+use Rattle.mbox_cutter.specs.Events.{first_full_end, archive_refusal}
 use Rattle.mbox_cutter.specs.Lines.{lines}
 use Rattle.mbox_cutter.specs.declared.event.CutFault.{CutFault}
 use Rattle.mbox_cutter.specs.declared.event.CutFault.TheVariants.{ArchiveTooLong, NotAnMbox}
@@ -110,7 +110,7 @@ cut-by no_mbox long f h = grind arith
 
 module _ (bytes : List ℕ) where
   abbrev starts-late : Bool
-  starts-late = is_refused (marked true (lines bytes))
+  starts-late = is_refused (marked_lines true (lines bytes))
 
   abbrev ends-early : Bool
   ends-early = nat_le (first_full_end (lines bytes)) most_in_archive
@@ -118,16 +118,16 @@ module _ (bytes : List ℕ) where
   abbrev is-long : Bool
   is-long = nat_lt most_in_archive (length bytes)
 
-  none-in : refusal_of most_in_archive bytes ≡ Some NotAnMbox → messages_in bytes ≡ []
-  unfolding refusal_of messages
+  none-in : archive_refusal most_in_archive bytes ≡ Some NotAnMbox → messages_in bytes ≡ []
+  unfolding archive_refusal messages
   none-in h =
-      let groups = grouped (marked true (lines bytes)) in
+      let groups = grouped_lines (marked_lines true (lines bytes)) in
       ap (λ (b : Bool). unwrap_or (cond b None (Some (messages_from (total groups.0) groups.1))) [])
       (by-no-mbox starts-late ends-early is-long h)
 
   -- if an archive is refused by its bytes, there are two possible faults
-  cut-so : (f : CutFault) → refusal_of most_in_archive bytes ≡ Some f → (f ≡ NotAnMbox) ⊎ (f ≡ ArchiveTooLong)
-  unfolding refusal_of
+  cut-so : (f : CutFault) → archive_refusal most_in_archive bytes ≡ Some f → (f ≡ NotAnMbox) ⊎ (f ≡ ArchiveTooLong)
+  unfolding archive_refusal
   cut-so f h = cut-by (starts-late && ends-early) is-long f h
 
 none-more : (before : List Mbox) (a : Mbox) → messages_in a.bytes ≡ [] → all_messages (before ++ a ∷ [])

@@ -12,34 +12,34 @@ use Rattle.mbox_cutter.specs.Sources.{Stays}
 
 -- the state: the line that was taken last; the bytes that were read and not taken; whether the source has reported its
 -- end; and the source
-pub record Ahead (S : Type 0) : Type 0 where
+pub record BytesAhead (S : Type 0) : Type 0 where
   pub line : List ℕ
   pub unread : List ℕ
   pub ended : Bool
   pub source : MutBor S
 
 -- all bytes to come, if they are known
-abbrev pub known : {S : Type 0} → (S → Option (List ℕ)) → Ahead S → Option (List ℕ)
-known rest w = prepend_known w.unread (rest w.source.now)
+abbrev pub known_bytes : {S : Type 0} → (S → Option (List ℕ)) → BytesAhead S → Option (List ℕ)
+known_bytes rest w = prepend_known w.unread (rest w.source.now)
 
 -- all bytes to come at a window, if they are known, and if something is still known at a later one
-abbrev pub known_until : {S : Type 0} → (S → Option (List ℕ)) → Ahead S → Ahead S → Option (List ℕ)
-known_until rest old new = still_known (known rest old) (rest new.source.now)
+abbrev pub known_until : {S : Type 0} → (S → Option (List ℕ)) → BytesAhead S → BytesAhead S → Option (List ℕ)
+known_until rest old new = still_known (known_bytes rest old) (rest new.source.now)
 
 -- the new bytes are the old ones, with perhaps more after them
 abbrev pub Extends : List ℕ → List ℕ → Type 0
 Extends old new = (more : List ℕ) × (new ≡ old ++ more)
 
 -- a read puts its bytes after the first `held` bytes of a buffer, and keeps these
-abbrev pub ReadsBehind : ℕ → Option (List ℕ) → Option (List ℕ) → Result ℕ DeviceFault → List ℕ → List ℕ → Type 0
-ReadsBehind held old new result before after =
+abbrev pub ReadsAfter : ℕ → Option (List ℕ) → Option (List ℕ) → Result ℕ DeviceFault → List ℕ → List ℕ → Type 0
+ReadsAfter held old new result before after =
     MatchResult result
     (λ n. (got : List ℕ) × (held + n ≤ length before) × (length got ≡ n)
     × (take (held + n) after ≡ take held before ++ got) × Consumes old new got × (n ≡ 0 → IsAtEnd new))
     (λ _. Keeps old new × (take held after ≡ take held before))
 
 -- how a call that takes no byte changes a window: it may read more
-pub record ReadsOn {S : Type 0} (g : Ghosts S) (failed : Bool) (old new : Ahead S) : Type 0 where
+pub record ReadsOn {S : Type 0} (g : Ghosts S) (failed : Bool) (old new : BytesAhead S) : Type 0 where
   -- the source is the same
   pub source : new.source.ghost_name ≡ old.source.ghost_name
   -- its count of failures rises by one if it failed, and stays if it didn't
@@ -47,12 +47,12 @@ pub record ReadsOn {S : Type 0} (g : Ghosts S) (failed : Bool) (old new : Ahead 
   -- what no read changes stays as it was
   pub stays : Stays g old.source.now new.source.now
   -- the bytes to come are the same, if they are known
-  pub bytes : IfSome (known_until g.rest old new) (λ bytes. known g.rest new ≡ Some bytes)
+  pub bytes : IfSome (known_until g.rest old new) (λ bytes. known_bytes g.rest new ≡ Some bytes)
   -- what was read before still comes first
   pub keeps : Extends old.unread new.unread
 
 -- the line after the next `skip` bytes has n bytes, and 0 at the end; `old` is the window before more was read
-pub record IsLineLength {S : Type 0} (g : Ghosts S) (skip : ℕ) (old new : Ahead S) (n : ℕ) : Type 0 where
+pub record IsLineLength {S : Type 0} (g : Ghosts S) (skip : ℕ) (old new : BytesAhead S) (n : ℕ) : Type 0 where
   -- its bytes have been read
   pub within : skip + n ≤ length new.unread
   -- they are a line
@@ -63,7 +63,7 @@ pub record IsLineLength {S : Type 0} (g : Ghosts S) (skip : ℕ) (old new : Ahea
   pub end : n ≡ 0 → IsAtEnd (g.rest new.source.now)
 
 -- the next n bytes were taken
-pub record TakesLine {S : Type 0} (n : ℕ) (old new : Ahead S) : Type 0 where
+pub record TakesLine {S : Type 0} (n : ℕ) (old new : BytesAhead S) : Type 0 where
   -- nothing was read
   pub source : new.source ≡ old.source
   -- they are the line that was taken last

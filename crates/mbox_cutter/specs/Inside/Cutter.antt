@@ -2,12 +2,12 @@
 use Rattle.std.specs.Prelude.{ℕ, List, Option}
 use Rattle.mbox_cutter.specs.declared.cutter.Cutter.TheInside.{Inside}
 use Rattle.mbox_cutter.specs.Progress.{Progress}
-use Rattle.mbox_cutter.specs.Inside.Scan.{IsScan, coming, place_of}
+use Rattle.mbox_cutter.specs.Inside.Scan.{IsScan, coming_events, place_of}
 
 -- the state of a cutter
 abbrev pub progress : {S : Type 0} → (S → Option (List ℕ)) → Inside S → Progress S
 progress rest c = record {
-  coming = coming rest c.scan;
+  coming = coming_events rest c.scan;
   place = place_of c.scan;
   line = c.scan.window.line;
   source =

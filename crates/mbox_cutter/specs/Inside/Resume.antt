@@ -8,21 +8,21 @@ use Rattle.mbox_cutter.specs.declared.event.CutFault.TheVariants.{NotAnMbox, Arc
 use Rattle.mbox_cutter.specs.declared.scan.Phase.{Phase}
 use Rattle.mbox_cutter.specs.declared.scan.Phase.TheVariants.{Between, Inside, Ended, Failed}
 use Rattle.mbox_cutter.specs.Lines.{lines}
-use Rattle.mbox_cutter.specs.Archives.{marked, grouped, is_refused, total, messages_from, without_closing}
-use Rattle.mbox_cutter.specs.Events.{ArchiveEvent, Line, End, Done, told, first_full_end, Coming}
+use Rattle.mbox_cutter.specs.Archives.{marked_lines, grouped_lines, is_refused, total, messages_from, without_closing}
+use Rattle.mbox_cutter.specs.Events.{ArchiveEvent, Line, End, Done, events_of, first_full_end, ComingEvents}
 use Rattle.mbox_cutter.specs.Places.{CutterPlace}
 
 -- the events from between two messages, or from before the first, with these lines left of an archive of `all` bytes
 abbrev pub told_between : ℕ → ℕ → List (List ℕ) → List ArchiveEvent
 told_between all at ls =
-    let marks = marked true ls in let groups = grouped marks in
-    if is_refused marks then [] else told all (messages_from (at + total groups.0) groups.1)
+    let marks = marked_lines true ls in let groups = grouped_lines marks in
+    if is_refused marks then [] else events_of all (messages_from (at + total groups.0) groups.1)
 
 -- the events from inside a message, after `size` bytes of its text
 abbrev pub told_inside : ℕ → ℕ → ℕ → ℕ → List (List ℕ) → List ArchiveEvent
 told_inside all at start size ls =
-    let groups = grouped (marked false ls) in let text = without_closing groups.0 in
-    map Line text ++ End ((at + total groups.0) - start) (size + total text) ∷ told all
+    let groups = grouped_lines (marked_lines false ls) in let text = without_closing groups.0 in
+    map Line text ++ End ((at + total groups.0) - start) (size + total text) ∷ events_of all
     (messages_from (at + total groups.0) groups.1)
 
 -- the refusal of an archive of `all` bytes, if that is more than the limit
@@ -32,11 +32,11 @@ too_long most all = if nat_lt most all then Some ArchiveTooLong else None
 -- the refusal from between two messages, or from before the first, with these lines, of `rest` bytes, left
 abbrev pub refusal_between : ℕ → ℕ → List (List ℕ) → ℕ → Option CutFault
 refusal_between at most ls rest =
-    if is_refused (marked true ls) && nat_le (at + first_full_end ls) most then Some NotAnMbox
+    if is_refused (marked_lines true ls) && nat_le (at + first_full_end ls) most then Some NotAnMbox
     else too_long most (at + rest)
 
 -- what still comes in a phase, at an offset, with these bytes left
-unfoldable pub resume : Phase → ℕ → ℕ → List ℕ → Coming
+unfoldable pub resume : Phase → ℕ → ℕ → List ℕ → ComingEvents
 resume Between at most bytes = record {
   events = told_between (at + length bytes) at (lines bytes);
   refusal =
@@ -52,5 +52,5 @@ resume Ended at most bytes = record { events = Done at ∷ []; refusal = None }
 resume Failed at most bytes = record { events = []; refusal = None }
 
 -- what still comes at a place, if the bytes left are known
-abbrev pub coming_at : CutterPlace → Option (List ℕ) → Option Coming
+abbrev pub coming_at : CutterPlace → Option (List ℕ) → Option ComingEvents
 coming_at p bytes = option_map (resume p.phase p.offset p.most) bytes

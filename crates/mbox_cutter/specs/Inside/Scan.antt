@@ -13,12 +13,12 @@ use Rattle.mbox_cutter.specs.declared.scan.Step.TheVariants as step
 use Rattle.mbox_cutter.specs.declared.scan.Scan.{Scan}
 use Rattle.mbox_cutter.specs.Lines.{first_length}
 use Rattle.mbox_cutter.specs.Separators.{is_separator}
-use Rattle.mbox_cutter.specs.Events.{ArchiveEvent, Start, Line, End, Done, Coming}
-use Rattle.mbox_cutter.specs.Coming.{Answers, is_device_fault}
+use Rattle.mbox_cutter.specs.Events.{ArchiveEvent, Start, Line, End, Done, ComingEvents}
+use Rattle.mbox_cutter.specs.Coming.{AnswersAsComing, is_device_fault}
 use Rattle.mbox_cutter.specs.Places.{CutterPlace, HasLine, Moves}
 use Rattle.contract_words.specs.Knowledge.{still_known}
 use Rattle.mbox_cutter.specs.Sources.{Stays}
-use Rattle.mbox_cutter.specs.Inside.Ahead.{known, known_until, IsLineLength, ReadsOn, TakesLine}
+use Rattle.mbox_cutter.specs.Inside.Ahead.{known_bytes, known_until, IsLineLength, ReadsOn, TakesLine}
 use Rattle.mbox_cutter.specs.Inside.Resume.{coming_at}
 
 -- inside a message, its separator and the bytes of its text so far have been taken
@@ -71,8 +71,8 @@ module _ {S : Type 0} where
   place_of s = record { phase = s.phase; offset = s.offset; most = s.most }
 
   -- what still comes, if the bytes are known
-  abbrev pub coming : (S → Option (List ℕ)) → Scan S → Option Coming
-  coming rest s = coming_at (place_of s) (known rest s.window)
+  abbrev pub coming_events : (S → Option (List ℕ)) → Scan S → Option ComingEvents
+  coming_events rest s = coming_at (place_of s) (known_bytes rest s.window)
 
   -- what holds of a scan after each step
   pub record IsScan (rest : S → Option (List ℕ)) (s : Scan S) : Type 0 where
@@ -108,8 +108,8 @@ module _ {S : Type 0} (g : Ghosts S) where
     -- the limit stays
     pub most : new.most ≡ old.most
     -- if it is known what comes, the event is the first that comes, and a refusal is the archive's
-    pub answers : Answers (still_known (coming g.rest old) (g.rest new.window.source.now))
-        (told_result new.window.line result) (coming g.rest new)
+    pub answers : AnswersAsComing (still_known (coming_events g.rest old) (g.rest new.window.source.now))
+        (told_result new.window.line result) (coming_events g.rest new)
     -- the place moves as the event says
     pub moves : IfOk result (λ step. Moves (told_at step new.window.line) (place_of old) (place_of new))
     -- the line of an event, if it has one, is a line

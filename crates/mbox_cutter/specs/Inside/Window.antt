@@ -2,11 +2,11 @@
 use Rattle.std.specs.Prelude.{◌≡◌, ℕ, ◌-◌, ◌≤◌, List, Option, true, vec_len, slice_range}
 use Rattle.std.specs.Io.KnownBytes.{IsAtEnd}
 use Rattle.mbox_cutter.specs.declared.window.Window.TheInside.{Inside}
-use Rattle.mbox_cutter.specs.Inside.Ahead.{Ahead}
+use Rattle.mbox_cutter.specs.Inside.Ahead.{BytesAhead}
 
 -- the state of a window
-abbrev pub ahead : {S : Type 0} → Inside S → Ahead S
-ahead w = record {
+abbrev pub ahead_of_window : {S : Type 0} → Inside S → BytesAhead S
+ahead_of_window w = record {
   line = slice_range w.buffer.items (w.from - w.taken) w.from;
   unread = slice_range w.buffer.items w.from w.to;
   ended = w.ended;

@@ -24,7 +24,7 @@ pub struct EntityType {
 }
 
 /// Writes the unfolded value of the first field with this name, in any ASCII case; nothing if there is none.
-#[tactic(auto, unfolding(header_text::specs::Unfolding::unfolded, header_text::specs::Blanks::before_blanks))]
+#[tactic(auto, unfolding(header_text::specs::Unfolding::unfolded_body, header_text::specs::Blanks::before_blanks))]
 fn read_first_value(fields: Fields<'_>, name: &[u8], into: &mut Vec<u8>) -> Result<(), AllocError>
     ensures value { OnOk result (into.new.items ≡ first_value name.now fields.entry) }
     ensures size { OnOk result (length into.new.items ≤ fields_size fields.entry) }

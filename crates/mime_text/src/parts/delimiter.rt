@@ -1,7 +1,7 @@
 //! Delimiter lines (RFC 2046, 5.1.1).
 ghost use Rattle.std.specs.Prelude.{◌≡◌, false, Some, None, option_map};
 ghost use Rattle.std.specs.List.{list_all};
-ghost use Rattle.header_text.specs.Blanks.{is_blank as is_blank_of};
+ghost use Rattle.contract_words.specs.Blanks.{is_blank as is_blank_of};
 ghost use Rattle.header_text.specs.EncodedWords.{after as after_of};
 ghost use Rattle.mime_text.specs.Parts.{are_blanks as are_blanks_of};
 ghost use Rattle.mime_text.specs.Frames.{dash_dash, dashes, delimiter_of, kind_behind};

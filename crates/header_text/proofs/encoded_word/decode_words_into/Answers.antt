@@ -1,7 +1,7 @@
 -- `decode_words_into` adds the text of a value word by word. A fault leaves a front of it, because each step adds at
 -- the end.
 use Rattle.header_text.proofs.Words.{◌∙◌, ◌++◌, true, refl, arith, append_assoc, string_bytes, Extends-refl}
-use Rattle.header_text.proofs.Words.{Extends-trans, pieces, word_text, shown_found}
+use Rattle.header_text.proofs.Words.{Extends-trans, value_pieces, word_text, shown_found}
 use Rattle.header_text.proofs.WordLaws.DecodedLemmas.{rest_text, decoded-start, decoded-step}
 use Rattle.header_text.proofs.TextFronts.{front-more}
 use Rattle.header_text.proofs.encoded_word.decode_words_into.Goals as goal
@@ -11,7 +11,7 @@ loop-found-init c = grind (arith, decoded-start, Extends-refl)
 
 pub loop-found-preserved : goal.loop-found-preserved
 loop-found-preserved c = record {
-  sofar = decoded-step c.loop-found.follows_word (shown_found c.in-Some.found) (pieces c.loop-found.rest.now)
+  sofar = decoded-step c.loop-found.follows_word (shown_found c.in-Some.found) (value_pieces c.loop-found.rest.now)
       c.in-Some.found.later.now (string_bytes c.loop-found.into)
       (string_bytes c.push_between.new.into) (string_bytes c.push_word.new.into) c.in-Some.ensures.pieces
       c.in_ok-push_between.ensures.text c.in_ok-push_word.ensures.text
@@ -49,10 +49,11 @@ returns-in_err-push_word-clause-front c =
     let found = shown_found c.in-Some.found in
     let before = string_bytes c.push_between.new.into in
     let some = before ++ word_text found.word in
-    let step = decoded-step c.loop-found.follows_word found (pieces c.loop-found.rest.now) c.in-Some.found.later.now
+    let step = decoded-step c.loop-found.follows_word found (value_pieces c.loop-found.rest.now)
+    c.in-Some.found.later.now
     (string_bytes c.loop-found.into) before some
     c.in-Some.ensures.pieces c.in_ok-push_between.ensures.text refl in
-    front-more _ some (rest_text true (pieces c.in-Some.found.later.now)) _ c.push_word.ensures.front
+    front-more _ some (rest_text true (value_pieces c.in-Some.found.later.now)) _ c.push_word.ensures.front
     (step ∙ c.loop-found.invariant.sofar)
 
 pub returns-clause-front : goal.returns-clause-front

@@ -1,6 +1,6 @@
 -- `add_unescaped` adds the bytes up to each `=` as they are, and then what the `=` and the bytes after it mean.
 use Rattle.header_text.proofs.Words.{◌≡◌, ◌∙◌, ◌≤◌, ◌++◌, ℕ, List, [], ◌∷◌, length, sym, ap, arith, length-append}
-use Rattle.header_text.proofs.Words.{Extends-append, Extends-trans, unescaped, behind_equals}
+use Rattle.header_text.proofs.Words.{Extends-append, Extends-trans, unescaped_bytes, behind_equals}
 use Rattle.header_text.proofs.CutLemmas.{IsCut, IsCut-from, Lacks-from}
 use Rattle.header_text.proofs.WordLaws.EscapeLemmas.{unescaped-step, unescaped-rest, written, length-behind_equals}
 use Rattle.header_text.proofs.escape.add_unescaped.Goals as goal
@@ -24,7 +24,7 @@ loop-plain-preserved c =
     let plain = c.in-Some.plain.now in
     let byte : ℕ = c.behind_equals-byte.result.0 in
     let items : List ℕ = c.loop-plain.into.items in
-    let behind = unescaped c.behind_equals-byte.result.1.now in
+    let behind = unescaped_bytes c.behind_equals-byte.result.1.now in
     let e : byte ≡ (behind_equals c.in-Some.behind.now).0 = ap (λ (p : ℕ × List ℕ). p.0) c.behind_equals-byte.ensures in
     record {
       sofar = ap (λ (l : List ℕ). l ++ behind)

@@ -1,5 +1,6 @@
 -- `decode_q_into` adds the text between two `_` unescaped, and a space for each `_`, because no escape has a `_` in it.
-use Rattle.header_text.proofs.Words.{◌∙◌, ◌++◌, ℕ, List, [], ◌∷◌, length, sym, ap, arith, length-append, unescaped}
+use Rattle.header_text.proofs.Words.{◌∙◌, ◌++◌, ℕ, List, [], ◌∷◌, length, sym, ap, arith, length-append}
+use Rattle.header_text.proofs.Words.{unescaped_bytes}
 use Rattle.header_text.proofs.Words.{q_bytes}
 use Rattle.header_text.proofs.CutLemmas.{IsCut, IsCut-from, Lacks-from}
 use Rattle.header_text.proofs.WordLaws.EscapeLemmas.{q_bytes-space, q_bytes-free, written, length-q_bytes}
@@ -20,7 +21,7 @@ loop-stretch-preserved c =
     let items : List ℕ = c.loop-stretch.into.items in
     ap (λ (l : List ℕ). l ++ q_bytes behind)
     (c.in_ok-push.ensures.items ∙ ap (λ (l : List ℕ). l ++ 0x20 ∷ []) c.in_ok-unescape_into.ensures.bytes)
-    ∙ written items (unescaped stretch) (q_bytes behind) 0x20
+    ∙ written items (unescaped_bytes stretch) (q_bytes behind) 0x20
     ∙ ap (λ (l : List ℕ). items ++ l) (sym (ap q_bytes (cut c).joined ∙ q_bytes-space stretch behind (cut c).free))
     ∙ c.loop-stretch.invariant
 

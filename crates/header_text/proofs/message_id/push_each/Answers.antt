@@ -1,6 +1,6 @@
 -- `push_each` adds the ids of a value text by text, because the text before each `>` has at most one.
 use Rattle.header_text.proofs.Words.{◌≡◌, ◌∙◌, ◌++◌, ℕ, List, [], ◌∷◌, length, map, sym, ap, arith, length-append}
-use Rattle.header_text.proofs.Words.{append_assoc, append-nil, ids_in, closed_texts}
+use Rattle.header_text.proofs.Words.{append_assoc, append-nil, ids_of_texts, closed_texts}
 use Rattle.header_text.proofs.CutLemmas.{IsCut, IsCut-from, Lacks-from}
 use Rattle.header_text.proofs.HeaderLaws.IdLemmas.{closed_texts-cut, closed_texts-free}
 use Rattle.header_text.proofs.TextFronts.{front-refl, front-trans}
@@ -26,10 +26,10 @@ loop-text-preserved c =
     ∙ closed_texts-cut text behind (cut c).free in
     let old = map (λ id. id.items) c.loop-text.ids.items in
     record {
-      sofar = ap (λ (ids : List (List ℕ)). ids ++ ids_in (closed_texts behind)) c.in_ok-push_id.ensures.ids
-          ∙ append_assoc old (ids_in (text ∷ [])) (ids_in (closed_texts behind))
+      sofar = ap (λ (ids : List (List ℕ)). ids ++ ids_of_texts (closed_texts behind)) c.in_ok-push_id.ensures.ids
+          ∙ append_assoc old (ids_of_texts (text ∷ [])) (ids_of_texts (closed_texts behind))
           ∙ ap (λ (ids : List (List ℕ)). old ++ ids)
-          (sym (ids_in-cons text (closed_texts behind)) ∙ ap ids_in (sym texts)) ∙ c.loop-text.invariant.sofar;
+          (sym (ids_in-cons text (closed_texts behind)) ∙ ap ids_of_texts (sym texts)) ∙ c.loop-text.invariant.sofar;
       kept = front-trans _ _ _ c.loop-text.invariant.kept c.push_id.ensures.kept;
     }
 

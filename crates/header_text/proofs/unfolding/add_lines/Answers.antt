@@ -1,6 +1,6 @@
 -- `add_lines` adds a body line by line without its breaks, and nothing before the first byte that isn't a blank.
 use Rattle.header_text.proofs.Words.{◌≡◌, Bor, ◌∙◌, ◌++◌, ℕ, List, ◌∷◌, length, nat_lt, sym, ap, ap₂, arith}
-use Rattle.header_text.proofs.Words.{length-append, Extends-refl, Extends-trans, led, without_final_cr}
+use Rattle.header_text.proofs.Words.{length-append, Extends-refl, Extends-trans, added_part, without_final_cr}
 use Rattle.header_text.proofs.CutLemmas.{IsCut, IsCut-from}
 use Rattle.header_text.proofs.HeaderLaws.UnfoldLemmas.{without_final_cr-stripped, unfolds-start, unfolds-line}
 use Rattle.header_text.proofs.HeaderLaws.UnfoldLemmas.{unfolds-rest}
@@ -26,9 +26,9 @@ pub loop-line-preserved : goal.loop-line-preserved
 loop-line-preserved c =
     let line = c.in-Some.line.now in
     let items : List ℕ = c.loop-line.into.items in
-    let added : c.add_part.new.into.items ≡ items ++ led (nat_lt (length c.args.into.now.items) (length items))
+    let added : c.add_part.new.into.items ≡ items ++ added_part (nat_lt (length c.args.into.now.items) (length items))
     (without_final_cr line) =
-    c.in_ok-add_part.ensures.part ∙ ap₂ (λ (n : ℕ) (part : List ℕ). items ++ led (nat_lt n (length items)) part)
+    c.in_ok-add_part.ensures.part ∙ ap₂ (λ (n : ℕ) (part : List ℕ). items ++ added_part (nat_lt n (length items)) part)
     c.requires
     (ap (λ (b : Bor (List ℕ)). b.now) c.unwrap_or.ensures
     ∙ without_final_cr-stripped c.in-Some.line c.strip_suffix.result c.strip_suffix.ensures.cases) in

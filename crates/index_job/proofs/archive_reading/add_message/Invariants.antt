@@ -1,5 +1,5 @@
 -- The message is open, and its first lines are gathered. The loop ends because each event leaves fewer to come.
-use Rattle.index_job.proofs.Words.{still_known, false, ◌≡◌, ◌≤◌, ℕ, List, Some, Draft, text, left, Awaited}
+use Rattle.index_job.proofs.Words.{still_known, false, ◌≡◌, ◌≤◌, ℕ, List, Some, Draft, text, events_left, Awaited}
 use Rattle.index_job.proofs.Words.{coming_inside, IsInside, IsReadingSome, ReadsSource, HasGathered, with_open_message}
 use Rattle.index_job.proofs.archive_reading.add_message.Given as goal
 
@@ -11,7 +11,7 @@ invariant-lines g l = record {
   inside : IsInside l.offset l.cutter.place;
   most : l.cutter.place.most ≡ l.initial.cutter.place.most;
   later : l.initial.cutter.place.offset ≤ l.cutter.place.offset;
-  nearer : left l.cutter.place ≤ left l.initial.cutter.place;
+  nearer : events_left l.cutter.place ≤ events_left l.initial.cutter.place;
   gathers : (d : Draft) → l.fn.builder ≡ Some d → (ls : List (List ℕ))
       × HasGathered l.text l.builder (Some (with_open_message d)) ls;
   comes : (d : Draft) (w : Awaited) → l.fn.builder ≡ Some d
@@ -21,4 +21,4 @@ invariant-lines g l = record {
 }
 
 abbrev pub decreases-lines : goal.decreases-lines
-decreases-lines g l = left l.cutter.place
+decreases-lines g l = events_left l.cutter.place

@@ -1,5 +1,6 @@
 -- The messages so far are added, and none is open. The loop ends because each message leaves fewer events to come.
-use Rattle.index_job.proofs.Words.{still_known, false, ◌≡◌, ◌≤◌, ℕ, List, Option, Some, Draft, Message, CutFault, left}
+use Rattle.index_job.proofs.Words.{still_known, false, ◌≡◌, ◌≤◌, ℕ, List, Option, Some, Draft, Message, CutFault}
+use Rattle.index_job.proofs.Words.{events_left}
 use Rattle.index_job.proofs.Words.{coming_ahead, HasDone, ReadsSource, IsBuilderReady}
 use Rattle.mbox_cutter.specs.declared.scan.Phase.TheVariants.{Between}
 use Rattle.index_job.proofs.archive_reading.add_messages.Given as goal
@@ -18,4 +19,4 @@ invariant-messages g l = record {
 }
 
 abbrev pub decreases-messages : goal.decreases-messages
-decreases-messages g l = left l.cutter.place
+decreases-messages g l = events_left l.cutter.place

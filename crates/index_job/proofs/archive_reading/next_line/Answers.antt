@@ -1,6 +1,6 @@
 -- `next_line` gathers a line or ends the message, because no other event comes inside a message.
 use Rattle.index_job.proofs.Words.{still_known, ◌∙◌, [], ap, subst, Result, Ok, Err, err_from_is_err_and, Event}
-use Rattle.index_job.proofs.Words.{CutFault, Answers, TakesKnown, shown_result, Line, End}
+use Rattle.index_job.proofs.Words.{CutFault, AnswersAsComing, TakesKnown, shown_result, Line, End}
 use Rattle.index_job.proofs.ReadingLines.{reads-line, reads-end, line-is-fault, gather-own}
 use Rattle.index_job.proofs.SourceReads.{event-reads, reads-before, text-fault}
 use Rattle.index_job.proofs.archive_reading.next_line.Goals as goal
@@ -14,9 +14,10 @@ returns-in_err-feed_line-in-Line-clause-fault g c =
     let after = c.next_event.follows.lender-at-none in
     let now = still_known c.args.cutter.now.coming (g.S.Source.rest after.source.now) in
     let next = after.coming in
-    let answers : Answers now (shown_result c.next_event.result) next = a.answers in
+    let answers : AnswersAsComing now (shown_result c.next_event.result) next = a.answers in
     let takes : TakesKnown (Line c.in-Line.line.now) now next =
-    subst (λ (r : Result Event CutFault). Answers now (shown_result r) next) (c.in_ok-line.was ∙ ap Ok c.in-Line.is)
+    subst (λ (r : Result Event CutFault). AnswersAsComing now (shown_result r) next)
+    (c.in_ok-line.was ∙ ap Ok c.in-Line.is)
     answers in
     rw (p.1, p.2) (λ d w ls rest r. line-is-fault d w ls rest c.args.text.now c.args.builder.now now next
     c.in-Line.line.now _ r takes
@@ -39,9 +40,10 @@ returns-in_ok-feed_line-in-Line-clause-known g c =
     let after = c.next_event.follows.lender-at-none in
     let now = still_known c.args.cutter.now.coming (g.S.Source.rest after.source.now) in
     let next = after.coming in
-    let answers : Answers now (shown_result c.next_event.result) next = a.answers in
+    let answers : AnswersAsComing now (shown_result c.next_event.result) next = a.answers in
     let takes : TakesKnown (Line c.in-Line.line.now) now next =
-    subst (λ (r : Result Event CutFault). Answers now (shown_result r) next) (c.in_ok-line.was ∙ ap Ok c.in-Line.is)
+    subst (λ (r : Result Event CutFault). AnswersAsComing now (shown_result r) next)
+    (c.in_ok-line.was ∙ ap Ok c.in-Line.is)
     answers in
     λ d w ls rest r. reads-line d w ls rest c.args.text.now c.args.builder.now now next c.in-Line.line.now
     c.feed_line.new.text c.feed_line.new.builder r takes (c.in_ok-feed_line-in-Line.ensures.ok ls d r.so_far)
@@ -52,9 +54,10 @@ returns-in-End-clause-known g c =
     let after = c.next_event.follows.lender-at-none in
     let now = still_known c.args.cutter.now.coming (g.S.Source.rest after.source.now) in
     let next = after.coming in
-    let answers : Answers now (shown_result c.next_event.result) next = a.answers in
+    let answers : AnswersAsComing now (shown_result c.next_event.result) next = a.answers in
     let takes : TakesKnown (End c.in-End.length c.in-End.size) now next =
-    subst (λ (r : Result Event CutFault). Answers now (shown_result r) next) (c.in_ok-line.was ∙ ap Ok c.in-End.is)
+    subst (λ (r : Result Event CutFault). AnswersAsComing now (shown_result r) next)
+    (c.in_ok-line.was ∙ ap Ok c.in-End.is)
     answers in
     λ d w ls rest r. reads-end d w ls rest c.args.text.now c.args.builder.now now next
     (record { length = c.in-End.length; size = c.in-End.size }) r takes

@@ -1,13 +1,13 @@
 -- `day_token` passes the name of a day as the definition does: if the first token is letters alone, the next one comes
 -- first.
-use Rattle.mail_dates.proofs.Words.{◌≡◌, ℕ, List, [], ◌∷◌, true, refl, sym, ◌∙◌, ap, list_all, tokens, with_first}
+use Rattle.mail_dates.proofs.Words.{◌≡◌, ℕ, List, [], ◌∷◌, true, refl, sym, ◌∙◌, ap, list_all, date_tokens, with_first}
 use Rattle.mail_dates.proofs.Words.{without_day_name}
 use Rattle.std.specs.Char.{is_ascii_alphabetic}
 use Rattle.mail_dates.proofs.header_date.day_token.Goals as goal
 
 named : (first rest day later : List ℕ) → (first ≡ [] → rest ≡ []) → list_all is_ascii_alphabetic first ≡ true
-    → tokens rest ≡ with_first day later → without_day_name (with_first first rest) ≡ with_first day later
-unfolding tokens
+    → date_tokens rest ≡ with_first day later → without_day_name (with_first first rest) ≡ with_first day later
+unfolding date_tokens
 named [] rest day later none e f = rw (none refl) at f
 named (x ∷ xs) rest day later none e f = rw e f
 

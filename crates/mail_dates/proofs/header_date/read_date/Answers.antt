@@ -1,7 +1,7 @@
 -- `read_date` reads the tokens as the definition does, because a missing token is read as an empty one, which says
 -- nothing.
 use Rattle.mail_dates.proofs.Words.{◌≡◌, ◌∙◌, ℕ, pos, List, [], ◌∷◌, Option, Some, None, w32, FitsSigned, to_z-of_z}
-use Rattle.mail_dates.proofs.Words.{rules, refl, sym, ap, tokens, with_first, without_day_name, number_in, ◌>>=◌}
+use Rattle.mail_dates.proofs.Words.{rules, refl, sym, ap, date_tokens, with_first, without_day_name, number_in, ◌>>=◌}
 use Rattle.mail_dates.proofs.Words.{day_number, month_of, year_of, time_of, offset_of, hours_west, date_of_parts_by}
 use Rattle.mail_dates.proofs.Words.{date_of_tokens_by, date_of}
 use Rattle.mail_dates.specs.HeaderDates.{without_comments}
@@ -12,8 +12,9 @@ nothing None f h = refl
 nothing (Some x) f h = h x
 
 -- the date if a token is missing
-read : (day month year time zone r s t u v : List ℕ) → tokens r ≡ with_first month s → tokens s ≡ with_first year t
-    → tokens t ≡ with_first time u → tokens u ≡ with_first zone v
+read : (day month year time zone r s t u v : List ℕ) → date_tokens r ≡ with_first month s → date_tokens s
+    ≡ with_first year t
+    → date_tokens t ≡ with_first time u → date_tokens u ≡ with_first zone v
     → date_of_parts_by day_number day month year time (offset_of zone) ≡ date_of_tokens_by day_number (with_first day r)
 unfolding month_of time_of offset_of hours_west
 read [] month year time zone r s t u v e f g h = refl
@@ -43,5 +44,5 @@ returns c =
     c.next_token.ensures.tokens c.next_token-2.ensures.tokens c.next_token-3.ensures.tokens
     c.next_token-4.ensures.tokens
     ∙ ap (date_of_tokens_by day_number) (sym c.day_token.ensures
-    ∙ ap (λ (t : List ℕ). without_day_name (tokens t))
+    ∙ ap (λ (t : List ℕ). without_day_name (date_tokens t))
     (c.without_comments.ensures ∙ ap without_comments c.as_bytes.ensures.value))

@@ -1,7 +1,7 @@
 -- The first answer of a cutter over bytes in memory says whether they begin as an mbox.
 use Rattle.std.proofs.Common.{rules, ◌≡◌, ◌∙◌, subst, Some, Option}
-use Rattle.mbox_cutter.specs.Coming.{Answers}
-use Rattle.mbox_cutter.specs.Events.{Coming, coming_of}
+use Rattle.mbox_cutter.specs.Coming.{AnswersAsComing}
+use Rattle.mbox_cutter.specs.Events.{ComingEvents, coming_of}
 use Rattle.mbox_cutter.specs.Progress.{shown_result}
 use Rattle.mbox_cutter.specs.declared.scan.Phase.TheVariants.{Between}
 use Rattle.mairix_run.proofs.KeptMail.{first_answer, never_failed, none_counted}
@@ -14,8 +14,8 @@ returns c =
     let answer = shown_result c.next_event.result in
     let comes : c.in_ok-cutter.cutter.coming ≡ Some (coming_of 131072 c.args.bytes.now) = search rules in
     let place : c.in_ok-cutter.cutter.place ≡ record { phase = Between; offset = 0; most = 131072 } = search rules in
-    let answers : Answers (Some (coming_of 131072 c.args.bytes.now)) answer after.coming =
-    subst (λ (o : Option Coming). Answers o answer after.coming) comes holds.answers in
+    let answers : AnswersAsComing (Some (coming_of 131072 c.args.bytes.now)) answer after.coming =
+    subst (λ (o : Option ComingEvents). AnswersAsComing o answer after.coming) comes holds.answers in
     c.is_start.ensures
     ∙ first_answer c.args.bytes.now answer after.coming c.requires answers (none_counted _ holds.count)
     (never_failed c.in_ok-cutter.cutter.place 131072 c.next_event.result place c.next_event.ensures.once)

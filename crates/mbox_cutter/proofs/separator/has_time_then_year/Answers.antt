@@ -1,12 +1,13 @@
 -- `has_time_then_year` looks for a time and then for a year, piece by piece; the last piece has no space after it.
-use Rattle.mbox_cutter.proofs.Words.{◌≡◌, Bool, true, false, ◌&&◌, ◌∷◌, drop, refl, sym, ◌∙◌, tokens}
+use Rattle.mbox_cutter.proofs.Words.{◌≡◌, Bool, true, false, ◌&&◌, ◌∷◌, drop, refl, sym, ◌∙◌, separator_tokens}
 use Rattle.mbox_cutter.proofs.Tokens.{tokens-split, tokens-none, turn_untimed, turn_timed, found, last_token}
 use Rattle.mbox_cutter.proofs.separator.has_time_then_year.Goals as goal
 use Rattle.mbox_cutter.proofs.separator.has_time_then_year.Goals.{then-not-timed, else-not-timed+else-is_year}
 
 pub tokens-preserved : goal.tokens-preserved
 tokens-preserved c =
-    let e : tokens c.tokens.rest.now ≡ c.split_at.result.0.now ∷ tokens c.split_at-in-Some.result.1.now =
+    let e : separator_tokens c.tokens.rest.now
+    ≡ c.split_at.result.0.now ∷ separator_tokens c.split_at-in-Some.result.1.now =
     tokens-split c.tokens.rest.now c.split_at.result.0.now c.split_at.result.1.now c.split_at-in-Some.result.1.now
     c.in-Some.end c.in-Some.ensures c.split_at.ensures.front c.split_at.ensures.back c.split_at-in-Some.ensures.back
     in
@@ -17,7 +18,8 @@ tokens-preserved c =
 
 pub returns-then-is_year : goal.returns-then-is_year
 returns-then-is_year c =
-    let e : tokens c.tokens.rest.now ≡ c.split_at.result.0.now ∷ tokens (drop 1 c.split_at.result.1.now) =
+    let e : separator_tokens c.tokens.rest.now
+    ≡ c.split_at.result.0.now ∷ separator_tokens (drop 1 c.split_at.result.1.now) =
     tokens-split c.tokens.rest.now c.split_at.result.0.now c.split_at.result.1.now (drop 1 c.split_at.result.1.now)
     c.in-Some.end c.in-Some.ensures c.split_at.ensures.front c.split_at.ensures.back refl in
     found _ _ _ c.tokens.timed e (cc) (cc) ∙ sym c.tokens.invariant

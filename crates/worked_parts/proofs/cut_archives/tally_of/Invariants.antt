@@ -2,7 +2,7 @@
 -- fewer.
 use Rattle.std.proofs.Common.{◌≡◌, ◌+◌, ◌≤◌}
 use Rattle.contract_words.specs.Knowledge.{still_known}
-use Rattle.mbox_cutter.specs.Places.{left}
+use Rattle.mbox_cutter.specs.Places.{events_left}
 use Rattle.worked_parts.proofs.Tallies.{Tallied, IsBehind}
 use Rattle.worked_parts.proofs.cut_archives.tally_of.Given as goal
 
@@ -12,10 +12,10 @@ invariant-events g l = record {
   failures : g.S.Source.failures l.cutter.source.now ≡ g.S.Source.failures l.initial.cutter.source.now;
   tallied : Tallied (still_known l.initial.cutter.coming (g.S.Source.rest l.cutter.source.now)) l.count l.bytes
       l.cutter.coming;
-  events : l.count + left l.cutter.place ≤ left l.initial.cutter.place;
+  events : l.count + events_left l.cutter.place ≤ events_left l.initial.cutter.place;
   behind : IsBehind l.bytes l.cutter.place.phase l.cutter.place.offset;
   most : l.cutter.place.most ≡ l.initial.cutter.place.most;
 }
 
 abbrev pub decreases-events : goal.decreases-events
-decreases-events g l = left l.cutter.place
+decreases-events g l = events_left l.cutter.place

@@ -1,6 +1,7 @@
 -- `Window::line_length_after` returns the length of the next line, because it reads on until nothing to come can change
 -- it.
-use Rattle.mbox_cutter.proofs.Words.{ℕ, List, ◌<◌, length, take, ap, ◌∙◌, subst, sym, arith, IsAtEnd, take_all, Ahead}
+use Rattle.mbox_cutter.proofs.Words.{ℕ, List, ◌<◌, length, take, ap, ◌∙◌, subst, sym, arith, IsAtEnd, take_all}
+use Rattle.mbox_cutter.proofs.Words.{BytesAhead}
 use Rattle.mbox_cutter.proofs.Words.{IsLine, line_end_of}
 use Rattle.mbox_cutter.proofs.FirstLines.{line_end-positive, line_end-within, line_end-open}
 use Rattle.mbox_cutter.proofs.LinesAreCut.{line_end-IsLine, open_end-IsLine}
@@ -20,7 +21,7 @@ returns-in-Some-clause-length g c = record {
 
 pub returns-in-None-clause-length : goal.returns-in-None-clause-length
 returns-in-None-clause-length g c =
-    let over = subst (λ (w : Ahead _). IsAtEnd (g.S.Source.rest w.source.now)) c.self.view_is
+    let over = subst (λ (w : BytesAhead _). IsAtEnd (g.S.Source.rest w.source.now)) c.self.view_is
     (c.self.invariant.end c.if-self.true) in
     record {
       within = omega arith;

@@ -1,6 +1,6 @@
 -- `media_type` returns the text before the first semicolon if it has a slash, and the default if not, as defined.
 use Rattle.mime_text.proofs.Words.{◌≡◌, ◌∙◌, ◌==◌, ℕ, Bool, true, false, List, Bor, Option, Some, None, refl, sym, ap}
-use Rattle.mime_text.proofs.Words.{rules, not, if◌then◌else◌, option_map, unwrap_or, trimmed, split_while}
+use Rattle.mime_text.proofs.Words.{rules, not, if◌then◌else◌, option_map, unwrap_or, without_outer_blanks, split_while}
 use Rattle.mime_text.proofs.Words.{split_while-cut, split_while-free, cut_at, DefaultType}
 use Rattle.mime_text.specs.Types.{type_text, has_slash, default_type, media_type}
 use Rattle.mime_text.specs.declared.parts.shape.DefaultType.TheVariants.{TextPlain, MessageRfc822}
@@ -15,10 +15,10 @@ front value e (Some (a, b)) h = sym (split_while-cut 0x3B value.now a.now b.now 
 chosen : (default : DefaultType) (value e : Bor (List ℕ)) (o : Option (Bor (List ℕ) × Bor (List ℕ)))
     (parts : Bor (List ℕ) × Bor (List ℕ)) (text : List ℕ) (b : Bool)
     → option_map (λ p. (p.0.now, p.1.now)) o ≡ cut_at 0x3B value.now → parts ≡ unwrap_or o (value, e) → text
-    ≡ trimmed parts.0.now → has_slash text ≡ b
+    ≡ without_outer_blanks parts.0.now → has_slash text ≡ b
     → (if b then text else default_type default) ≡ media_type default value.now
 chosen default value e o parts text b h i j k =
-    let named : text ≡ type_text value.now = j ∙ ap trimmed (ap (λ p. p.0.now) i ∙ front value e o h) in
+    let named : text ≡ type_text value.now = j ∙ ap without_outer_blanks (ap (λ p. p.0.now) i ∙ front value e o h) in
     rw (← named, k) refl
 
 pub returns-then-contains : goal.returns-then-contains

@@ -1,6 +1,6 @@
 -- `read_piece` reads a name and, after a `=`, its value, because the name is all of the text before the bytes after it.
 use Rattle.mime_text.proofs.Words.{◌≡◌, ◌∙◌, ◌-◌, ◌++◌, ℕ, List, Some, length, take, sym, ap, ap₂, eq-eqb, split_while}
-use Rattle.mime_text.proofs.Words.{after_blanks, trimmed, length-split_while, take-split_while, Parameter}
+use Rattle.mime_text.proofs.Words.{after_blanks, without_outer_blanks, length-split_while, take-split_while, Parameter}
 use Rattle.mime_text.proofs.Words.{is_parameter_name_byte, value_and_rest}
 use Rattle.mime_text.proofs.ParameterLemmas.{piece-parameter}
 use Rattle.mime_text.proofs.parts.parameter.read_piece.Goals as goal
@@ -16,8 +16,9 @@ unfolding parameter_of
 returns-in_ok-after-in-Some-clause-parameter c =
     let text : List ℕ = c.args.text.now in
     let rest : List ℕ = c.in-Some.rest.now in
-    let name : c.trimmed.result.now ≡ trimmed (split_while is_parameter_name_byte text).0 =
-    c.trimmed.ensures ∙ ap trimmed (ap (λ (r : List ℕ). take (length text - length r) text) c.after_name-behind.ensures
+    let name : c.trimmed.result.now ≡ without_outer_blanks (split_while is_parameter_name_byte text).0 =
+    c.trimmed.ensures ∙ ap without_outer_blanks
+    (ap (λ (r : List ℕ). take (length text - length r) text) c.after_name-behind.ensures
     ∙ take-split_while is_parameter_name_byte text) in
     let value : c.read_value.new.into.items ≡ (value_and_rest (after_blanks rest)).0 =
     c.in_ok-after-in-Some.ensures.value ∙ ap (λ (l : List ℕ). l ++ (value_and_rest c.after_blanks.result.now).0)

@@ -1,6 +1,6 @@
 -- The bytes are those of the archive with this number, since its file is open.
 use Rattle.std.proofs.Common.{◌≡◌, ◌∙◌, ◌&&◌, ℕ, IfOk, take, subst}
-use Rattle.contract_words.specs.Archives.{IsRead}
+use Rattle.contract_words.specs.Archives.{IsReadFromArchive}
 use Rattle.named_archives.specs.Names.{files_of, held_while}
 use Rattle.named_archives.specs.Progress.{has_agreed}
 use Rattle.named_archives.specs.declared.read_ahead.ReadAhead.{ReadAhead}
@@ -12,7 +12,8 @@ returns-clause-bytes g c =
     let new = c.read_here.new.self in
     let files = files_of (g.F.Folder.holds new.folder.now) new.names.now in
     let here : new.number ≡ c.args.n = c.read_here.ensures.same.4 ∙ c.in_ok-turn_to.ensures.opened.0 in
-    subst (λ (k : ℕ). IfOk c.read_here.result (λ bytes. IsRead k c.args.offset (take bytes c.read_here.new.into)
+    subst (λ (k : ℕ). IfOk c.read_here.result
+    (λ bytes. IsReadFromArchive k c.args.offset (take bytes c.read_here.new.into)
     (held_while (g.F.Folder.agree new.closed && has_agreed {F = ReadAhead g.row.F-File.Denot g.row.F-File-State.Denot
     g.F.File.KeptFile g.F.File.Source} (λ x. g.F.File.Source.rest x.file) (λ x. g.F.File.KeptFile.bytes x.file)
     new.current) files))) here

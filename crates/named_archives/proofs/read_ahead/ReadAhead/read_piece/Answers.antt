@@ -1,7 +1,7 @@
 -- The room has what was read, and that is in the file; without a piece nothing is said.
 use Rattle.std.proofs.Common.{◌≡◌, ℕ, List, take, length, vec_len, refl, sym, subst, arith}
 use Rattle.std.proofs.lemmas.List.{with_items_is}
-use Rattle.named_files.specs.Entries.{IsRead}
+use Rattle.named_files.specs.Entries.{IsReadFromFile}
 use Rattle.named_archives.specs.Ahead.{IsPiece}
 use Rattle.named_archives.proofs.Pieces.{is-piece}
 use Rattle.named_archives.proofs.read_ahead.ReadAhead.read_piece.Goals as goal
@@ -37,5 +37,5 @@ returns-clause-bytes g c =
     let long : length c.fill.new.room ≡ vec_len ahead.room =
     omega (arith, c.fill.auto.room, c.as_mut_slice-room.ensures.len) in
     subst
-    (λ (items : List ℕ). IsRead c.args.offset (take read items) (g.F.KeptFile.bytes c.fill.new.file))
+    (λ (items : List ℕ). IsReadFromFile c.args.offset (take read items) (g.F.KeptFile.bytes c.fill.new.file))
     (sym (with_items_is ahead.room c.fill.new.room long)) c.in_ok-read.ensures.bytes
