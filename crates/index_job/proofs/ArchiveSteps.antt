@@ -2,7 +2,7 @@
 use Rattle.index_job.proofs.Words.{true, false, nat_lt, if◌then◌else◌, ◌≡◌, ◌∙◌, ◌+◌, ◌≤◌, ◌<◌, ◌++◌, ℕ, suc, List, []}
 use Rattle.index_job.proofs.Words.{◌∷◌, length, Option, Some, option_map, unwrap_or, refl, sym, ap, subst, arith}
 use Rattle.index_job.proofs.Words.{append_assoc, append-nil, ⊎_elim, Ok, Err, length-map, map-append, ◌>>=◌, Draft}
-use Rattle.index_job.proofs.Words.{archive_count, begun_archive, stepped, TooMany, nat_tests, Key, Message, text}
+use Rattle.index_job.proofs.Words.{archive_count, draft_in_archive, draft_after, TooMany, nat_tests, Key, Message, text}
 use Rattle.index_job.proofs.Words.{CutFault, ComingEvents, JobFault, coming_ahead, Heads, AddsMessages, HasDone}
 use Rattle.index_job.proofs.Words.{with_terms}
 use Rattle.index_job.proofs.Words.{with_messages, with_open_archive, draft_with_messages, HasTooMany, IsJobFault}
@@ -112,7 +112,7 @@ module _ (number : ℕ) (d : Draft) (all : ℕ) (ms : Option (List Message)) (re
 -- ---- an archive with its path
 
 -- if an archive has begun, there was room for it
-pub begun-is : (path : List ℕ) (d : Draft) (new : Option Draft) → stepped (begun_archive path) (Some d) ≡ Ok new
+pub begun-is : (path : List ℕ) (d : Draft) (new : Option Draft) → draft_after (draft_in_archive path) (Some d) ≡ Ok new
     → (archive_count d < d.most) × (new ≡ Some (with_open_archive path d))
 begun-is path d new given =
     (elim (nat_lt (length d.table.archives) d.most)

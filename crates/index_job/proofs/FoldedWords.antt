@@ -2,7 +2,8 @@
 use Rattle.index_job.proofs.Words.{◌≡◌, ◌≤◌, ◌<◌, ◌+◌, ℕ, List, [], ◌∷◌, ◌++◌, length, map, take, drop, get_or, refl}
 use Rattle.index_job.proofs.Words.{sym, ap, ap₂, subst, ◌∙◌, arith, IsAscii, length-append, append-nil, Global, String}
 use Rattle.index_job.proofs.Words.{string_bytes, string_len, sum, AllByRecursion, concat, drop_more, map-append, Text}
-use Rattle.index_job.proofs.Words.{TextKind, folding, words, cut, HoldsWords, HasTermLength, Term, word_terms}
+use Rattle.index_job.proofs.Words.{TextKind, folding, words, parts_of_lengths, HoldsWords, HasTermLength, Term}
+use Rattle.index_job.proofs.Words.{word_terms}
 use Rattle.index_job.proofs.Words.{text_terms}
 use Rattle.std.proofs.Math.Seq.{take-append_seam, drop-append_seam}
 use Rattle.std.proofs.lemmas.List.Folds.{concat-append}
@@ -16,7 +17,7 @@ use Rattle.index_job.specs.declared.folding_room.FoldingRoom.{FoldingRoom}
 
 -- ---- a room
 
-pub cut-words : (ws : List (List ℕ)) → cut (map length ws) (concat ws) ≡ ws
+pub cut-words : (ws : List (List ℕ)) → parts_of_lengths (map length ws) (concat ws) ≡ ws
 cut-words [] = refl
 cut-words (w ∷ ws) = grind (arith, take-append_seam, drop-append_seam, cut-words ws)
 
@@ -56,23 +57,23 @@ holds-push old new ws w h bytes lengths sized = grind (arith, append-nil, concat
 
 -- the bytes of a room, cut to its lengths, are its words
 pub held-cut : (room : FoldingRoom) (ws : List (List ℕ)) → HoldsWords room ws
-    → cut room.lengths.items (string_bytes room.folded) ≡ ws
-held-cut room ws h = ap₂ cut h.lengths h.bytes ∙ cut-words ws
+    → parts_of_lengths room.lengths.items (string_bytes room.folded) ≡ ws
+held-cut room ws h = ap₂ parts_of_lengths h.lengths h.bytes ∙ cut-words ws
 
 pub held-within : (room : FoldingRoom) (ws : List (List ℕ)) → HoldsWords room ws
     → sum room.lengths.items ≤ length (string_bytes room.folded)
 held-within room ws h = omega (arith, ap sum h.lengths, sum-lengths ws, ap length h.bytes)
 
 pub held-sizes : (room : FoldingRoom) (ws : List (List ℕ)) → HoldsWords room ws
-    → AllByRecursion HasTermLength (cut room.lengths.items (string_bytes room.folded))
+    → AllByRecursion HasTermLength (parts_of_lengths room.lengths.items (string_bytes room.folded))
 held-sizes room ws h = subst (AllByRecursion HasTermLength) (sym (held-cut room ws h)) h.sizes
 
 -- ---- the next of the words that are left to cut
 
 pub next-cut : (lengths : List ℕ) (i : ℕ) (rest : List ℕ) → i < length lengths
-    → cut (drop i lengths) rest ≡ take (get_or lengths i 0) rest ∷ cut (drop (i + 1) lengths)
+    → parts_of_lengths (drop i lengths) rest ≡ take (get_or lengths i 0) rest ∷ parts_of_lengths (drop (i + 1) lengths)
     (drop (get_or lengths i 0) rest)
-next-cut lengths i rest below = ap (λ (ns : List ℕ). cut ns rest) (drop_more lengths i 0 below)
+next-cut lengths i rest below = ap (λ (ns : List ℕ). parts_of_lengths ns rest) (drop_more lengths i 0 below)
 
 pub next-sum : (lengths : List ℕ) (i : ℕ) → i < length lengths → sum (drop i lengths)
     ≡ get_or lengths i 0 + sum (drop (i + 1) lengths)
@@ -102,6 +103,6 @@ terms-of-whole kind text folded is = ap (word_terms kind) is ∙ folded-terms ki
 
 -- the terms of a text whose words were folded into a room
 pub terms-of-held : (kind : TextKind) (text : List ℕ) (room : FoldingRoom) → HoldsWords room (map folding (words text))
-    → word_terms kind (cut room.lengths.items (string_bytes room.folded)) ≡ text_terms (kind, text)
+    → word_terms kind (parts_of_lengths room.lengths.items (string_bytes room.folded)) ≡ text_terms (kind, text)
 terms-of-held kind text room h = ap (word_terms kind) (held-cut room (map folding (words text)) h)
     ∙ folded-terms kind (words text)

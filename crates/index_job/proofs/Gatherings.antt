@@ -8,7 +8,7 @@ use Rattle.index_job.proofs.Words.{message_terms}
 use Rattle.mime_text.specs.declared.fault.SinkFault.{SinkFault}
 use Rattle.mime_text.specs.declared.fault.SinkFault.TheVariants as sink
 use Rattle.mime_text.specs.declared.fault.TextFault.{TextFault}
-use Rattle.mime_text.specs.Fed.{Feeds, FeedsPart, Finishes, FinishesPart, has_ended}
+use Rattle.mime_text.specs.Fed.{Feeds, FeedsPart, FinishesTexts, FinishesPart, has_ended}
 use Rattle.index_job.specs.declared.term_sink.TermSink.{TermSink}
 use Rattle.index_job.proofs.Terms.{joined, still-refuses}
 
@@ -79,7 +79,7 @@ line-fails (Err f) text old new line h = λ ls ms d g.
 
 -- the end of the text
 pub gathers-end : (text : MessageText) (old new : TermSink) (builder : Option Draft)
-    → Finishes Takes Refuses text old new
+    → FinishesTexts Takes Refuses text old new
     → (old.builder.ghost_name ≡ new.builder.ghost_name → builder ≡ new.builder.now)
     → (ls : List (List ℕ)) (d : Option Draft) → HasGathered text old.builder.now d ls → builder
     ≡ with_texts (texts_of_message ls) d

@@ -5,7 +5,7 @@ use Rattle.index_job.proofs.Words.{end_of, IsInArchive, Message, text, size, spa
 use Rattle.index_job.proofs.Words.{MessageText}
 use Rattle.index_job.proofs.Words.{facts_of, texts_of_message, JobFault, Span, Awaited, HasReadAll, IsMessageFault}
 use Rattle.index_job.proofs.Words.{AddsMessage, HasGathered, IsGatherFault, with_texts, draft_with_terms}
-use Rattle.index_job.proofs.Words.{draft_with_messages, with_open_message, HasTooMany, IsReady, IsOpenAt}
+use Rattle.index_job.proofs.Words.{draft_with_messages, with_open_message, HasTooMany, IsReadyForMessage, IsOpenAt}
 use Rattle.index_job.proofs.Words.{IsBuilderReady, IsJobFault, IsArchiveFault, ended_with, Term, text_terms}
 use Rattle.index_job.proofs.Words.{message_terms}
 use Rattle.index_job.proofs.Terms.{with_terms-append}
@@ -29,21 +29,22 @@ message-fault archive d w f h = grind arith
 
 -- ---- the open message
 
-pub opens : (archive place : ℕ) (d : Draft) → IsReady archive place d → IsOpenAt archive place (with_open_message d)
+pub opens : (archive place : ℕ) (d : Draft) → IsReadyForMessage archive place d
+    → IsOpenAt archive place (with_open_message d)
 opens archive place d h = record { phase = (h.phase.0, refl); most = h.most; archive = h.archive; behind = h.behind }
 
 -- ---- its end
 
 module _ (span : Span) (d : Draft) where
   -- the draft at the end of a message is ready for the next
-  pub ended-ready : (facts : Facts) (ts : List Term) → IsReady span.archive span.offset d
-      → IsReady span.archive (span.offset + span.length)
+  pub ended-ready : (facts : Facts) (ts : List Term) → IsReadyForMessage span.archive span.offset d
+      → IsReadyForMessage span.archive (span.offset + span.length)
       (ended_with facts span (draft_with_terms ts (with_open_message d)))
   ended-ready facts ts h = grind (arith, end_of-last)
 
   pub ready-behind : {T : Type 0} (place : ℕ) (r : Result T JobFault) (gathered : MessageText)
       (builder new : Option Draft) (ls : List (List ℕ)) → HasGathered gathered builder (Some (with_open_message d)) ls
-      → IsReady span.archive span.offset d → place ≡ span.offset + span.length
+      → IsReadyForMessage span.archive span.offset d → place ≡ span.offset + span.length
       → OnOk r ((ls : List (List ℕ)) (d : Option Draft) → HasGathered gathered builder d ls → new
       ≡ option_map (ended_with (facts_of (fields_of ls)) span) (with_texts (texts_of_message ls) d))
       → OnOk r (IsBuilderReady span.archive place new)

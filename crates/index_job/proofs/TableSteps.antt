@@ -1,11 +1,14 @@
 -- The table of archives with one more archive.
 use Rattle.index_job.proofs.Words.{◌≡◌, ◌∙◌, ◌+◌, ◌<◌, ◌++◌, ℕ, suc, List, [], ◌∷◌, length, map, Option, Some, refl}
 use Rattle.index_job.proofs.Words.{sym, ap, arith, append_assoc, append-nil, ⊎_elim, Result, Ok, Err, IfSome}
-use Rattle.index_job.proofs.Words.{flat_map-append, length-map, map-append, sha256, Draft, IsWithinMost, begun_archive}
-use Rattle.index_job.proofs.Words.{ended_archive, stepped, messages, coming_of, events, archive_refusal, ReadArchive}
+use Rattle.index_job.proofs.Words.{flat_map-append, length-map, map-append, sha256, Draft, IsWithinMost}
+use Rattle.index_job.proofs.Words.{draft_in_archive}
+use Rattle.index_job.proofs.Words.{draft_after_archive, draft_after, messages, coming_of, events, archive_refusal}
+use Rattle.index_job.proofs.Words.{ReadArchive}
 use Rattle.index_job.proofs.Words.{JobFault, coming_ahead, AddsMessages, most_in_archive, most_in_index, IsTooMuch}
 use Rattle.index_job.proofs.Words.{Mbox, messages_in, all_messages, record_of, records_from, with_messages, table}
-use Rattle.index_job.proofs.Words.{IsAdded, IsAddFault, draft_of, draft_with_messages, draft_ended, with_open_archive}
+use Rattle.index_job.proofs.Words.{IsAdded, IsAddFault, draft_of_archives, draft_with_messages, draft_ended}
+use Rattle.index_job.proofs.Words.{with_open_archive}
 use Rattle.index_job.proofs.Words.{HasTooMany, IsIdle}
 use Rattle.std.proofs.lemmas.List.{length-append}
 use Rattle.index_job.proofs.ArchiveSteps.{begun-is, with_messages-append}
@@ -45,7 +48,7 @@ keys-more archives a = grind (arith, records-count, zero_more, with_messages-app
 module _ (archives : List Mbox) (a : Mbox) where
   abbrev pub read_draft : Draft
   read_draft = draft_with_messages (length archives) (messages_in a.bytes)
-      (with_open_archive a.path (draft_of archives))
+      (with_open_archive a.path (draft_of_archives archives))
 
   messages-are : read_draft.table.messages ≡ (table (archives ++ a ∷ [])).messages
   messages-are = ap (λ k. records_from 0 archives ++ map (record_of k) (messages_in a.bytes))
@@ -54,14 +57,14 @@ module _ (archives : List Mbox) (a : Mbox) where
   keys-are : read_draft.table.keys ≡ (table (archives ++ a ∷ [])).keys
   keys-are = keys-more archives a
 
-  table-more : draft_ended (length a.bytes) (sha256 a.bytes) read_draft ≡ draft_of (archives ++ a ∷ [])
+  table-more : draft_ended (length a.bytes) (sha256 a.bytes) read_draft ≡ draft_of_archives (archives ++ a ∷ [])
   table-more = grind (arith, map-append, messages-are, keys-are)
 
   too-much : HasTooMany read_draft → IsTooMuch (table (archives ++ a ∷ []))
   too-much h = grind (arith, ⊎_elim, messages-are, keys-are)
 
   module _ (number : ℕ) (begun : Option Draft) (same : number ≡ length archives)
-      (given : stepped (begun_archive a.path) (Some (draft_of archives)) ≡ Ok begun) where
+      (given : draft_after (draft_in_archive a.path) (Some (draft_of_archives archives)) ≡ Ok begun) where
     abbrev Adds : Result ReadArchive JobFault → Option Draft → Type 0
     Adds r builder = (d : Draft) → begun ≡ Some d
         → AddsMessages number d (length a.bytes) (messages a.bytes) (archive_refusal most_in_archive a.bytes) r builder
@@ -72,24 +75,28 @@ module _ (archives : List Mbox) (a : Mbox) where
     -- the archive has ended, with its length and its digest
     pub one-added : (read : ReadArchive) (builder : Option Draft) (digest : List ℕ) (new : Option Draft)
         → Adds (Ok read) builder
-        → digest ≡ sha256 a.bytes → stepped (ended_archive read.length digest) builder ≡ Ok new
+        → digest ≡ sha256 a.bytes → draft_after (draft_after_archive read.length digest) builder ≡ Ok new
         → IfSome new IsWithinMost → IsAdded archives a read.messages new
     one-added read builder digest new adds digest-is gives within =
-        ended (adds (with_open_archive a.path (draft_of archives)) (begun-is a.path (draft_of archives) begun given).1)
+        ended (adds (with_open_archive a.path (draft_of_archives archives))
+        (begun-is a.path (draft_of_archives archives) begun given).1)
       where
-        ended : AddsMessages number (with_open_archive a.path (draft_of archives)) (length a.bytes) (messages a.bytes)
+        ended : AddsMessages number (with_open_archive a.path (draft_of_archives archives)) (length a.bytes)
+            (messages a.bytes)
             (archive_refusal most_in_archive a.bytes) (Ok read) builder → IsAdded archives a read.messages new
         ended (sound, is, counted, long) = grind (arith, table-more)
 
     pub add-fault : (builder : Option Draft) (f : JobFault) → Adds (Err f) builder → IsAddFault archives a f
-    add-fault builder f adds = refused (adds (with_open_archive a.path (draft_of archives))
-        (begun-is a.path (draft_of archives) begun given).1)
+    add-fault builder f adds = refused (adds (with_open_archive a.path (draft_of_archives archives))
+        (begun-is a.path (draft_of_archives archives) begun given).1)
       where
-        refused : AddsMessages number (with_open_archive a.path (draft_of archives)) (length a.bytes) (messages a.bytes)
+        refused : AddsMessages number (with_open_archive a.path (draft_of_archives archives)) (length a.bytes)
+            (messages a.bytes)
             (archive_refusal most_in_archive a.bytes) (Err f) builder → IsAddFault archives a f
         refused h = grind (arith, room, too-much)
 
 -- the number of archives that have ended
-pub number-is : (number : ℕ) (archives : List Mbox) (builder : Option Draft) → builder ≡ Some (draft_of archives)
+pub number-is : (number : ℕ) (archives : List Mbox) (builder : Option Draft) → builder
+    ≡ Some (draft_of_archives archives)
     → IfSome builder (IsIdle number) → number ≡ length archives
 number-is number archives builder is idle = grind (arith, length-map)

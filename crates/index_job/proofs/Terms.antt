@@ -2,8 +2,10 @@
 use Rattle.index_job.proofs.Words.{◌≡◌, ◌<◌, ◌≤◌, ℕ, zero, Bor, List, [], ◌∷◌, ◌++◌, length, Option, IfSome, Ok, Err}
 use Rattle.index_job.proofs.Words.{option_map, refl, ap, ◌∙◌, subst, arith, suc, drop, take, map, append_assoc, get_or}
 use Rattle.index_job.proofs.Words.{◌+◌, Vec, BuildFault, Global, AllByRecursion, nat_tests, drop_more, map-append}
-use Rattle.index_job.proofs.Words.{length-map, length-take-le, LinkId, Text, TextKind, Key, Draft, with_pair, added}
-use Rattle.index_job.proofs.Words.{refusal, stepped, IsInMessage, with_terms, draft_with_terms, IsTermFault}
+use Rattle.index_job.proofs.Words.{length-map, length-take-le, LinkId, Text, TextKind, Key, Draft, with_pair}
+use Rattle.index_job.proofs.Words.{draft_with_key}
+use Rattle.index_job.proofs.Words.{build_refusal, draft_after, IsInMessage, with_terms, draft_with_terms}
+use Rattle.index_job.proofs.Words.{IsFaultOfAdding}
 use Rattle.index_job.proofs.Words.{RefusesTerms, Term, link_terms, word_terms, HasTermLength}
 use Rattle.mail_index.specs.declared.kind.Kind.{Kind}
 use Rattle.mail_index.specs.Builders.{HasPair}
@@ -30,18 +32,19 @@ with_terms-append n (t ∷ ts) us ks = with_terms-append n ts us (with_pair t.0 
 
 -- a term is added, and then the others
 pub added-terms : (kind : Kind) (text : List ℕ) (ts : List Term) (old new : Option Draft)
-    → stepped (added kind text) old ≡ Ok new
+    → draft_after (draft_with_key kind text) old ≡ Ok new
     → option_map (draft_with_terms ((kind, text) ∷ ts)) old ≡ option_map (draft_with_terms ts) new
 added-terms kind text ts old new h = grind (arith, option_map, added-is)
 
 -- a term is refused
 pub add-fails : (kind : Kind) (text : List ℕ) (ts : List Term) (old new : Option Draft) (fault : BuildFault)
-    → IfSome (refusal fault) (λ f. stepped (added kind text) old ≡ Err f)
-    → IsTermFault (option_map (draft_with_terms ((kind, text) ∷ ts)) old) fault
+    → IfSome (build_refusal fault) (λ f. draft_after (draft_with_key kind text) old ≡ Err f)
+    → IsFaultOfAdding (option_map (draft_with_terms ((kind, text) ∷ ts)) old) fault
 add-fails kind text ts old new fault h = grind (arith, nat_tests, with_terms-more)
 
 -- a term that is added leaves the message open
-pub in-message-kept : (kind : Kind) (text : List ℕ) (old new : Option Draft) → stepped (added kind text) old ≡ Ok new
+pub in-message-kept : (kind : Kind) (text : List ℕ) (old new : Option Draft)
+    → draft_after (draft_with_key kind text) old ≡ Ok new
     → IfSome old IsInMessage → IfSome new IsInMessage
 in-message-kept kind text old new h h2 = grind (arith, added-is)
 
@@ -59,13 +62,13 @@ pub joined : (ts us : List Term) (o : Option Draft) → option_map (draft_with_t
 joined ts us o = grind (arith, with_terms-append)
 
 -- a draft with too many keys has too many with more terms, too
-still-fails : (us : List Term) (o : Option Draft) (fault : BuildFault) → IsTermFault o fault
-    → IsTermFault (option_map (draft_with_terms us) o) fault
+still-fails : (us : List Term) (o : Option Draft) (fault : BuildFault) → IsFaultOfAdding o fault
+    → IsFaultOfAdding (option_map (draft_with_terms us) o) fault
 still-fails us o fault h = grind (arith, with_terms-more)
 
 pub fails-first : (ts us : List Term) (old : Option Draft) (fault : BuildFault)
-    → IsTermFault (option_map (draft_with_terms ts) old) fault
-    → IsTermFault (option_map (draft_with_terms (ts ++ us)) old) fault
+    → IsFaultOfAdding (option_map (draft_with_terms ts) old) fault
+    → IsFaultOfAdding (option_map (draft_with_terms (ts ++ us)) old) fault
 fails-first ts us old fault h = grind (arith, joined, still-fails, option_map)
 
 pub still-refuses : (us : List Term) (o : Option Draft) → RefusesTerms o

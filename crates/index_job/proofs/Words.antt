@@ -5,17 +5,18 @@ pub use Rattle.header_text.specs.Headers.{HeaderField, continued_and_fields, fie
 pub use Rattle.header_text.specs.Headers.{lines_within, most_in_header, with_continuations}
 unfoldable pub use Rattle.header_text.specs.Headers.{fields_of}
 pub use Rattle.index_job.specs.ArchiveRefusals.{AreSound, IsTooMuch}
-pub use Rattle.index_job.specs.ArchiveTables.{Mbox, all_messages, date_told, entry_of, messages_in, record_of}
+pub use Rattle.index_job.specs.ArchiveTables.{Mbox, all_messages, date_told, entry_of_archive, messages_in, record_of}
 pub use Rattle.index_job.specs.ArchiveTables.{records_from, table, with_messages, with_terms}
 pub use Rattle.index_job.specs.IndexJobs.{IsAddFault, IsAdded}
 pub use Rattle.index_job.specs.Indexing.{HasTooMany, IsArchiveFault, IsBuilderOpen, IsBuilderReady, IsIdle, IsJobFault}
-pub use Rattle.index_job.specs.Indexing.{IsOpenAt, IsReady, IsTermFault, RefusesTerms, draft_ended, draft_of}
+pub use Rattle.index_job.specs.Indexing.{IsOpenAt, IsReadyForMessage, IsFaultOfAdding, RefusesTerms, draft_ended}
+pub use Rattle.index_job.specs.Indexing.{draft_of_archives}
 pub use Rattle.index_job.specs.Indexing.{draft_with_messages, draft_with_terms, with_open_archive, with_open_message}
 pub use Rattle.index_job.specs.Inside.ArchiveReading.{AddsMessage, AddsMessages, Awaited, HasDone, HasEnded, HasReadAll}
-pub use Rattle.index_job.specs.Inside.ArchiveReading.{Heads, IsHeading, IsInside, IsMessageFault, IsReading}
+pub use Rattle.index_job.specs.Inside.ArchiveReading.{Heads, IsHeading, IsInsideMessage, IsMessageFault, IsReading}
 pub use Rattle.index_job.specs.Inside.ArchiveReading.{IsReadingSome, ReadsSource, coming_ahead, coming_between}
 pub use Rattle.index_job.specs.Inside.ArchiveReading.{coming_inside}
-pub use Rattle.index_job.specs.Inside.FoldedWords.{HoldsWords, cut}
+pub use Rattle.index_job.specs.Inside.FoldedWords.{HoldsWords, parts_of_lengths}
 pub use Rattle.index_job.specs.Inside.Gathering.{HasGathered, IsGatherFault, with_texts}
 pub use Rattle.index_job.specs.Inside.MessageEnds.{ended_with}
 pub use Rattle.index_job.specs.JobFaults.{is_source_failure, of_text}
@@ -25,8 +26,9 @@ pub use Rattle.index_job.specs.declared.archive_reading.Ended.{Ended}
 pub use Rattle.index_job.specs.declared.archive_reading.ReadArchive.{ReadArchive}
 pub use Rattle.index_job.specs.declared.job_fault.JobFault.{JobFault}
 pub use Rattle.index_job.specs.declared.message_end.Span.{Span}
-pub use Rattle.mail_index.specs.Builders.{Draft, IsInArchive, IsInMessage, IsWithinMost, added, archive_count}
-pub use Rattle.mail_index.specs.Builders.{begun_archive, end_of, ended_archive, refusal, stepped, with_pair}
+pub use Rattle.mail_index.specs.Builders.{Draft, IsInArchive, IsInMessage, IsWithinMost, draft_with_key, archive_count}
+pub use Rattle.mail_index.specs.Builders.{draft_in_archive, end_of, draft_after_archive, build_refusal, draft_after}
+pub use Rattle.mail_index.specs.Builders.{with_pair}
 pub use Rattle.mail_index.specs.Limits.{most_in_archive, most_in_index}
 pub use Rattle.mail_index.specs.Tables.{AllNext, Archive, Follows, IsArchive, IsKey, IsMessage, IsPath, IsWellFormed}
 pub use Rattle.mail_index.specs.Tables.{Key, KeyBefore, archive_length}

@@ -67,14 +67,14 @@ with_messages n (m ∷ ms) ks = with_messages (suc n) ms (with_terms n (message_
 -- ---- tables
 
 -- the entry of an archive in the table: its path, its length and its digest
-abbrev pub entry_of : Mbox → Archive
-entry_of a = record { path = a.path; length = length a.bytes; digest = Some (sha256 a.bytes) }
+abbrev pub entry_of_archive : Mbox → Archive
+entry_of_archive a = record { path = a.path; length = length a.bytes; digest = Some (sha256 a.bytes) }
 
 -- the archives; a record for each message; and each term of a message, with the numbers of all messages that have it
 abbrev pub table : List Mbox → Table
 table archives = record {
   version = newest;
-  archives = map entry_of archives;
+  archives = map entry_of_archive archives;
   messages = records_from 0 archives;
   keys = with_messages 0 (all_messages archives) [];
 }

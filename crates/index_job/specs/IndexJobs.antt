@@ -8,11 +8,11 @@ use Rattle.index_job.specs.declared.job_fault.JobFault.TheVariants as job
 use Rattle.index_job.specs.ArchiveTables.{Mbox, messages_in, table}
 use Rattle.mail_index.specs.Limits.{most_in_archive, most_in_index}
 use Rattle.index_job.specs.ArchiveRefusals.{IsTooMuch, IsWithinLimit}
-use Rattle.index_job.specs.Indexing.{draft_of}
+use Rattle.index_job.specs.Indexing.{draft_of_archives}
 
 -- the job has the table of these archives
 abbrev pub IsIndexOf : Option Draft → List Mbox → Type 0
-IsIndexOf job archives = job ≡ Some (draft_of archives)
+IsIndexOf job archives = job ≡ Some (draft_of_archives archives)
 
 -- the job has the table of these archives and one more, which isn't refused and has this many messages
 pub record IsAdded (before : List Mbox) (a : Mbox) (count : ℕ) (job : Option Draft) : Type 0 where

@@ -16,8 +16,8 @@ use Rattle.mail_index.specs.Limits.{most_in_index}
 use Rattle.index_job.specs.MessageTerms.{Term}
 
 -- the draft of archives that have all ended
-abbrev pub draft_of : List Mbox → Draft
-draft_of archives = record { most = most_in_index; path = None; in_message = false; table = table archives }
+abbrev pub draft_of_archives : List Mbox → Draft
+draft_of_archives archives = record { most = most_in_index; path = None; in_message = false; table = table archives }
 
 -- the draft with these terms added to the open message
 abbrev pub draft_with_terms : List Term → Draft → Draft
@@ -40,7 +40,7 @@ abbrev pub HasTooMany : Draft → Type 0
 HasTooMany d = (d.most < length d.table.messages) ⊎ (d.most < length d.table.keys)
 
 -- the archive with this number is open, no message is, and its messages so far end at this place or before it
-pub record IsReady (number place : ℕ) (d : Draft) : Type 0 where
+pub record IsReadyForMessage (number place : ℕ) (d : Draft) : Type 0 where
   pub phase : IsInArchive d
   pub most : d.most ≡ most_in_index
   pub archive : archive_count d ≡ number
@@ -55,7 +55,7 @@ pub record IsOpenAt (number place : ℕ) (d : Draft) : Type 0 where
 
 -- the builder hasn't failed, and its draft is ready for the next message
 abbrev pub IsBuilderReady : ℕ → ℕ → Option Draft → Type 0
-IsBuilderReady number place builder = (d : Draft) × (builder ≡ Some d) × IsReady number place d
+IsBuilderReady number place builder = (d : Draft) × (builder ≡ Some d) × IsReadyForMessage number place d
 
 -- the builder hasn't failed, and its draft has an open message
 abbrev pub IsBuilderOpen : ℕ → ℕ → Option Draft → Type 0
@@ -94,10 +94,10 @@ with_open_message d = record d { in_message = true }
 -- ---- terms
 
 -- a fault of adding terms; `whole` is the draft with all of them, and None if an earlier call has failed
-abbrev pub IsTermFault : Option Draft → BuildFault → Type 0
-IsTermFault whole build.OutOfMemory = ⊤
-IsTermFault whole build.TooMany = IfSome whole (λ d. d.most < length d.table.keys)
-IsTermFault whole build.Failed = whole ≡ None
+abbrev pub IsFaultOfAdding : Option Draft → BuildFault → Type 0
+IsFaultOfAdding whole build.OutOfMemory = ⊤
+IsFaultOfAdding whole build.TooMany = IfSome whole (λ d. d.most < length d.table.keys)
+IsFaultOfAdding whole build.Failed = whole ≡ None
 
 -- the draft with all terms has too many keys, or an earlier call has failed
 abbrev pub RefusesTerms : Option Draft → Type 0
@@ -107,7 +107,7 @@ RefusesTerms (Some whole) = whole.most < length whole.table.keys
 -- these terms are added, or the fault is one of adding them
 abbrev pub AddsTerms : {T : Type 0} → List Term → Result T BuildFault → Option Draft → Option Draft → Type 0
 AddsTerms ts result old new = MatchResult result (λ _. new ≡ option_map (draft_with_terms ts) old)
-    (IsTermFault (option_map (draft_with_terms ts) old))
+    (IsFaultOfAdding (option_map (draft_with_terms ts) old))
 
 -- ---- faults
 

@@ -6,7 +6,7 @@ use Rattle.mail_index.specs.LookUps.{numbers_at}
 use Rattle.mail_index.specs.Tables.{AllNext, KeyBefore, Table}
 use Rattle.mail_index.specs.Versions.{newest}
 use Rattle.mbox_cutter.specs.Archives.{Message, text}
-use Rattle.index_job.specs.ArchiveTables.{Mbox, all_messages, entry_of, records_from}
+use Rattle.index_job.specs.ArchiveTables.{Mbox, all_messages, entry_of_archive, records_from}
 use Rattle.index_job.specs.MessageTerms.{has_term, message_terms}
 
 -- the rising list of the numbers of the messages that have this term
@@ -18,7 +18,7 @@ numbers_with kind term ms = map (λ m. m.0)
 -- sorted list of all terms of messages, each with the rising list of the numbers of all messages that have it.
 pub record IsTableOf (archives : List Mbox) (t : Table) : Type 0 where
   pub version : t.version ≡ newest
-  pub named : t.archives ≡ map entry_of archives
+  pub named : t.archives ≡ map entry_of_archive archives
   pub records : t.messages ≡ records_from 0 archives
   pub sorted : AllNext KeyBefore t.keys
   pub some_number : AllByRecursion (λ k. 0 < length k.numbers) t.keys

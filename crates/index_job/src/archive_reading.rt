@@ -12,7 +12,7 @@ ghost use Rattle.mbox_cutter.specs.declared.event.CutFault.{CutFault};
 ghost use Rattle.mbox_cutter.specs.Events.{archive_refusal};
 ghost use Rattle.mbox_cutter.specs.declared.scan.Phase.TheVariants as Phase;
 ghost use Rattle.mail_index.specs.Limits.{most_in_archive};
-ghost use Rattle.index_job.specs.Inside.ArchiveReading.{Awaited, AwaitsEnd, AddsMessages, coming_inside, coming_ahead, IsHeading, Heads, ReadsToEnd, AddsMessage, IsInside, GoesFurther, HasEnded, IsReading, HasReadAll, IsMessageFault, ReadsSource};
+ghost use Rattle.index_job.specs.Inside.ArchiveReading.{Awaited, AwaitsEnd, AddsMessages, coming_inside, coming_ahead, IsHeading, Heads, ReadsToEnd, AddsMessage, IsInsideMessage, GoesFurther, HasEnded, IsReading, HasReadAll, IsMessageFault, ReadsSource};
 ghost use Rattle.index_job.specs.Inside.Gathering.{HasGathered};
 ghost use Rattle.index_job.specs.ArchiveTables.{Mbox};
 ghost use Rattle.index_job.specs.IndexJobs.{IsIndexOf, IsAdded, IsAddFault};
@@ -88,13 +88,13 @@ fn next_line<'a, S: Source>(
     builder: &mut Builder,
     start: u64,
 ) -> Result<Option<Ended>, JobFault>
-    requires inside { IsInside start cutter.old.place }
+    requires inside { IsInsideMessage start cutter.old.place }
     requires phase { IfSome builder.old IsInMessage }
     requires count { S.failures cutter.old.source.now < 2 ^ 64 - 1 }
     ensures reads { ReadsSource S.Source (is_source_failure result) cutter.old.source
         cutter.new.source }
     ensures further { OnOk result (GoesFurther cutter.old.place cutter.new.place) }
-    ensures place { IfOk result (λ end. MatchOption end (IsInside start cutter.new.place)
+    ensures place { IfOk result (λ end. MatchOption end (IsInsideMessage start cutter.new.place)
         (λ e. HasEnded start e cutter.new.place)) }
     ensures gathers { OnOk result ((d : Option Draft) (ls : List (List ℕ))
         → HasGathered text.old builder.old d ls
@@ -133,7 +133,7 @@ fn add_message<'a, S: Source>(
     archive: u32,
     offset: u64,
 ) -> Result<(), JobFault>
-    requires inside { IsInside offset cutter.old.place }
+    requires inside { IsInsideMessage offset cutter.old.place }
     requires most { cutter.old.place.most ≡ most_in_archive }
     requires count { S.failures cutter.old.source.now < 2 ^ 64 - 1 }
     requires ready { IsBuilderReady archive offset builder.old }

@@ -1,7 +1,7 @@
 //! Folded words that are added to an index together.
 ghost use Rattle.std.specs.Prelude.{◌≡◌, ◌<◌, nat_le, [], ◌∷◌, ◌++◌, IfSome, IfErr, OnOk, length, option_map};
 ghost use Rattle.mail_index.specs.Builders.{IsInMessage};
-ghost use Rattle.index_job.specs.Indexing.{draft_with_terms, AddsTerms, IsTermFault};
+ghost use Rattle.index_job.specs.Indexing.{draft_with_terms, AddsTerms, IsFaultOfAdding};
 ghost use Rattle.index_job.specs.MessageTerms.{word_terms, HasTermLength};
 
 use mail_index::{BuildFault, Builder, Kind, Prefetched};
@@ -89,7 +89,7 @@ impl<'a> Batch<'a> {
         ensures ok { OnOk result (option_map (draft_with_terms
             (word_terms kind (self.old ++ word.now ∷ []))) builder.old
             ≡ option_map (draft_with_terms (word_terms kind self.new)) builder.new) }
-        ensures err { IfErr result (IsTermFault (option_map
+        ensures err { IfErr result (IsFaultOfAdding (option_map
             (draft_with_terms (word_terms kind self.old)) builder.old)) }
         ensures phase { IfSome builder.new IsInMessage }
     {

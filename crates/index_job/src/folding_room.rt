@@ -5,7 +5,7 @@ ghost use Rattle.mail_index.specs.Builders.{IsInMessage};
 ghost use Rattle.mail_words.specs.Folding.{folding};
 ghost use Rattle.mail_words.specs.Words.{HasWordLength, words};
 ghost use Rattle.index_job.specs.Indexing.{AddsTerms};
-ghost use Rattle.index_job.specs.Inside.FoldedWords.{cut, HoldsWords};
+ghost use Rattle.index_job.specs.Inside.FoldedWords.{parts_of_lengths, HoldsWords};
 ghost use Rattle.index_job.specs.MessageTerms.{word_terms, HasTermLength};
 
 use crate::batch::Batch;
@@ -82,8 +82,8 @@ pub(crate) fn add_cut_words(
 ) -> Result<(), BuildFault>
     requires phase { IfSome builder.old IsInMessage }
     requires within { sum lengths.now ≤ length bytes.now }
-    requires sizes { AllByRecursion HasTermLength (cut lengths.now bytes.now) }
-    ensures terms { AddsTerms (word_terms kind (cut lengths.now bytes.now)) result
+    requires sizes { AllByRecursion HasTermLength (parts_of_lengths lengths.now bytes.now) }
+    ensures terms { AddsTerms (word_terms kind (parts_of_lengths lengths.now bytes.now)) result
         builder.old builder.new }
     ensures phase { IfSome builder.new IsInMessage }
 {

@@ -6,7 +6,7 @@ ghost use Rattle.mime_text.specs.MessageFacts.{HasSizedIds, facts_of};
 ghost use Rattle.mime_text.specs.Texts.{texts_of_message};
 ghost use Rattle.mail_index.specs.Limits.{most_in_archive};
 ghost use Rattle.index_job.specs.ArchiveTables.{date_told};
-ghost use Rattle.index_job.specs.Inside.Gathering.{HasGathered, IsGathering, IsGatherFault, with_texts};
+ghost use Rattle.index_job.specs.Inside.Gathering.{HasGathered, IsGatheringMessage, IsGatherFault, with_texts};
 ghost use Rattle.index_job.specs.Indexing.{draft_with_terms, IsBuilderOpen};
 ghost use Rattle.index_job.specs.JobFaults.{is_source_failure};
 ghost use Rattle.index_job.specs.Inside.MessageEnds.{ended_with};
@@ -70,7 +70,7 @@ pub(crate) fn finish_message(
     builder: &mut Builder,
     span: Span,
 ) -> Result<(), JobFault>
-    requires opened { IsGathering span.archive span.offset text.old builder.old }
+    requires opened { IsGatheringMessage span.archive span.offset text.old builder.old }
     requires size { span.size < span.length }
     requires within { span.offset + span.length ≤ most_in_archive }
     ensures source { is_source_failure result ≡ false }

@@ -3,7 +3,7 @@ use Rattle.index_run.proofs.Words.{◌≡◌, ◌∙◌, ◌+◌, ◌<◌, ◌�
 use Rattle.index_run.proofs.Words.{subst, arith, append-nil, append_assoc, ⊎_elim, inl, inr, ◌⊎◌, leb_tells}
 use Rattle.index_run.proofs.Words.{length-append, length-map, All-append, All-cons, All-nil, CutFault, archive_refusal}
 use Rattle.index_run.proofs.Words.{Fault, most_in_archive, most_in_index, AreSound, IsTooMuch, IsWithinLimit, Mbox}
-use Rattle.index_run.proofs.Words.{table, entry_of, Parted, Refuses}
+use Rattle.index_run.proofs.Words.{table, entry_of_archive, Parted, RefusesArchives}
 use Rattle.std.proofs.Common.{Option}
 use Rattle.run_faults.specs.declared.fault.Fault.TheVariants.{Archive, TooMany}
 
@@ -36,7 +36,7 @@ none-sound = record {
 
 -- all archives are sound, or they are refused
 abbrev pub IsDecided : List Mbox → Type 0
-IsDecided archives = AreSound archives ⊎ ((fault : Fault) × Refuses archives fault)
+IsDecided archives = AreSound archives ⊎ ((fault : Fault) × RefusesArchives archives fault)
 
 module _ (archives before rest : List Mbox) (a : Mbox) (whole : archives ≡ before ++ a ∷ rest) (sound : AreSound before)
   where
@@ -50,7 +50,7 @@ module _ (archives before rest : List Mbox) (a : Mbox) (whole : archives ≡ bef
     no-room full = too-many (inl (omega (
       arith,
       full,
-      length-map (before ++ a ∷ []) entry_of,
+      length-map (before ++ a ∷ []) entry_of_archive,
       length-append before (a ∷ []),
     )))
 

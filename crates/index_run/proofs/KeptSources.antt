@@ -15,10 +15,10 @@ use Rattle.mbox_cutter.proofs.Sources.{Stays-self, Stays-join}
 use Rattle.index_job.specs.declared.job_fault.JobFault.{JobFault}
 use Rattle.index_job.specs.declared.job_fault.JobFault.TheVariants as job
 use Rattle.run_faults.specs.declared.fault.Fault.TheVariants.{Memory}
-use Rattle.index_run.specs.SourcesStay.{AreRead, SourcesStay}
+use Rattle.index_run.specs.SourcesStay.{AreReadToEnd, SourcesStay}
 
 -- a fault at an archive says that those before it are read, if it says how many are
-are-read : (all i : ℕ) (f : JobFault) → AreRead (Some (fault_of_job i f)) all i
+are-read : (all i : ℕ) (f : JobFault) → AreReadToEnd (Some (fault_of_job i f)) all i
 are-read all i (job.Cut f) = refl
 are-read all i job.OutOfMemory = tt
 are-read all i job.TooMany = tt

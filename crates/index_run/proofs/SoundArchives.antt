@@ -3,7 +3,7 @@ use Rattle.index_run.proofs.Words.{◌≡◌, ◌∙◌, ◌+◌, ◌<◌, ◌�
 use Rattle.index_run.proofs.Words.{ap, subst, arith, append_assoc, ⊎_elim, length-append, length-map, All-get_or}
 use Rattle.index_run.proofs.Words.{get_or-append_seam, CutFault, archive_refusal, Fault, most_in_archive, AreSound}
 use Rattle.index_run.proofs.Words.{IsTooMuch, IsWithinLimit, Mbox, table, all_messages, messages_in, with_messages}
-use Rattle.index_run.proofs.Words.{entry_of, Refuses}
+use Rattle.index_run.proofs.Words.{entry_of_archive, RefusesArchives}
 use Rattle.std.proofs.lemmas.Grind.{flat_map-append}
 use Rattle.run_faults.specs.declared.fault.Fault.TheVariants as of
 use Rattle.index_job.proofs.ArchiveSteps.{with_messages-append, with_messages-more}
@@ -30,7 +30,12 @@ keys-grow xs ys =
     )
 
 archives-grow : (xs ys : List Mbox) → length (table xs).archives ≤ length (table (xs ++ ys)).archives
-archives-grow xs ys = omega (arith, length-map xs entry_of, length-map (xs ++ ys) entry_of, length-append xs ys)
+archives-grow xs ys = omega (
+  arith,
+  length-map xs entry_of_archive,
+  length-map (xs ++ ys) entry_of_archive,
+  length-append xs ys,
+)
 
 never-too-much : (archives before behind : List Mbox) (a : Mbox) → archives ≡ before ++ a ∷ behind
     → IsWithinLimit (table archives) → IsTooMuch (table (before ++ a ∷ [])) → ⊥
@@ -59,7 +64,7 @@ never-cut-off archives before behind a f whole sound is =
     subst (λ (b : Mbox). archive_refusal most_in_archive b.bytes ≡ None) here none in
     cc
 
-pub sound-not-refused : (archives : List Mbox) (f : Fault) → AreSound archives → Refuses archives f → ⊥
+pub sound-not-refused : (archives : List Mbox) (f : Fault) → AreSound archives → RefusesArchives archives f → ⊥
 sound-not-refused archives (of.Archive number fault) sound (before, a, parted, same, h) =
     never-cut-off archives before parted.behind a fault parted.whole sound h.refused
 sound-not-refused archives of.TooMany sound (before, a, parted, h) =

@@ -21,11 +21,11 @@ pub record Parted (archives before : List Mbox) (a : Mbox) : Type 0 where
 
 -- the archives are refused with this fault: the first archive that is refused, or the first that is too much together
 -- with those before it
-abbrev pub Refuses : List Mbox → Fault → Type 0
-Refuses archives (Archive number fault) = (before : List Mbox) × (a : Mbox) × Parted archives before a
+abbrev pub RefusesArchives : List Mbox → Fault → Type 0
+RefusesArchives archives (Archive number fault) = (before : List Mbox) × (a : Mbox) × Parted archives before a
     × (number ≡ length before) × IsCutOff before a fault
-Refuses archives TooMany = (before : List Mbox) × (a : Mbox) × Parted archives before a × IsOneTooMany before a
-Refuses archives _ = ⊥
+RefusesArchives archives TooMany = (before : List Mbox) × (a : Mbox) × Parted archives before a × IsOneTooMany before a
+RefusesArchives archives _ = ⊥
 
 -- the source with this number failed: it is that of an archive, and all archives before it are sound
 abbrev pub FailsAt : List Mbox → ℕ → Type 0
@@ -35,10 +35,10 @@ FailsAt archives number = (before : List Mbox) × (a : Mbox) × Parted archives 
 -- a fault that indexing these archives can have: their refusal, a failed source, or lack of memory
 abbrev pub IsArchivesFault : List Mbox → Fault → Type 0
 IsArchivesFault archives (Archive number Device) = FailsAt archives number
-IsArchivesFault archives (Archive number NotAnMbox) = Refuses archives (Archive number NotAnMbox)
-IsArchivesFault archives (Archive number ArchiveTooLong) = Refuses archives (Archive number ArchiveTooLong)
+IsArchivesFault archives (Archive number NotAnMbox) = RefusesArchives archives (Archive number NotAnMbox)
+IsArchivesFault archives (Archive number ArchiveTooLong) = RefusesArchives archives (Archive number ArchiveTooLong)
 IsArchivesFault archives (Archive number Failed) = ⊥
-IsArchivesFault archives TooMany = Refuses archives TooMany
+IsArchivesFault archives TooMany = RefusesArchives archives TooMany
 IsArchivesFault archives Memory = ⊤
 IsArchivesFault archives _ = ⊥
 

@@ -10,11 +10,11 @@ use Rattle.run_faults.specs.declared.fault.Fault.TheVariants.{Archive, Out}
 -- Of all the sources, this many are read to their ends: all of them if no archive is at fault, and those before it if
 -- one
 -- is. Other faults don't say how many.
-abbrev pub AreRead : Option Fault → ℕ → ℕ → Type 0
-AreRead None all read = read ≡ all
-AreRead (Some Out) all read = read ≡ all
-AreRead (Some (Archive number fault)) all read = read ≡ number
-AreRead _ all read = ⊤
+abbrev pub AreReadToEnd : Option Fault → ℕ → ℕ → Type 0
+AreReadToEnd None all read = read ≡ all
+AreReadToEnd (Some Out) all read = read ≡ all
+AreReadToEnd (Some (Archive number fault)) all read = read ≡ number
+AreReadToEnd _ all read = ⊤
 
 -- the sources before and after they are indexed with this fault, or with none
 pub record SourcesStay {S : Type 0} (g : Ghosts S) (fault : Option Fault) (old new : List S) : Type 0 where
@@ -23,6 +23,6 @@ pub record SourcesStay {S : Type 0} (g : Ghosts S) (fault : Option Fault) (old n
   -- the first ones are read to their ends
   pub read : ℕ
   pub ends : All (λ s. IsAtEnd (g.rest s)) (take read new)
-  pub many : AreRead fault (length old) read
+  pub many : AreReadToEnd fault (length old) read
   -- the next one may be read in part, and those after it aren't read
   pub unread : drop (read + 1) new ≡ drop (read + 1) old

@@ -3,7 +3,7 @@ ghost use Rattle.std.specs.Prelude.{◌≡◌, ◌<◌, ◌^◌, ◌-◌, ℕ, L
 ghost use Rattle.std.specs.Result.{MatchResult};
 ghost use Rattle.std.specs.String.{string_bytes};
 ghost use Rattle.contract_words.specs.Knowledge.{AreStillKnown};
-ghost use Rattle.mail_index.specs.Faults.{IsFileOf};
+ghost use Rattle.mail_index.specs.Faults.{IsFileOfTable};
 ghost use Rattle.mail_index.specs.Tables.{Table, IsPath};
 ghost use Rattle.index_job.specs.ArchiveRefusals.{AreSound};
 ghost use Rattle.index_job.specs.ArchiveTables.{table};
@@ -27,11 +27,11 @@ pub fn file_of_archives<S: Source>(
     requires many { length paths.now ≡ length sources.old }
     requires paths { All IsPath (map string_bytes paths.now) }
     requires count { All (λ s. S.failures s < 2 ^ 64 - 1) sources.old }
-    ensures formed { IfOk result (λ file. (t : Table) × IsFileOf file.taken t) }
+    ensures formed { IfOk result (λ file. (t : Table) × IsFileOfTable file.taken t) }
     ensures known { (archives : List (List ℕ))
         → AreStillKnown (map S.rest sources.old) (map S.rest sources.new) archives
         → MatchResult result (λ file. AreSound (mboxes (map string_bytes paths.now) archives)
-        × IsFileOf file.taken (table (mboxes (map string_bytes paths.now) archives)))
+        × IsFileOfTable file.taken (table (mboxes (map string_bytes paths.now) archives)))
         (IsArchivesFault (mboxes (map string_bytes paths.now) archives)) }
     ensures count { CountsSources (fault_in result) (map S.failures sources.old)
         (map S.failures sources.new) }

@@ -71,7 +71,7 @@ pub use Rattle.mail_index.specs.declared.record.Record.{Record}
 pub use Rattle.mail_query.specs.Kinds.{has_kind, no_kinds}
 pub use Rattle.mail_query.specs.Query.{All, Any, Date, Either, End, HasFlag, Not, Part, Prefix, Query, Size, Word}
 pub use Rattle.mail_query.specs.Query.{members_of, queries_of, query_of}
-pub use Rattle.mail_query.specs.Truth.{begins_with, contains_text, each_is_true, is_true, some_is_true, some_word}
+pub use Rattle.mail_query.specs.Truth.{word_begins_with, contains_text, each_is_true, is_true, some_is_true, some_word}
 pub use Rattle.mail_query.specs.Truth.{text_kinds}
 pub use Rattle.mail_query.specs.declared.kinds.Kinds.{Kinds}
 pub use Rattle.mail_query.specs.declared.node.Node.{Node, the_lemmas}

@@ -8,7 +8,7 @@ use Rattle.mail_index.specs.LookUps.{keys_of, comparisons, comparisons_of_run}
 use Rattle.mail_query.specs.declared.kinds.Kinds.{Kinds}
 use Rattle.mail_query.specs.Kinds.{has_kind}
 use Rattle.mail_query.specs.Query.{Query, Word, Part, Prefix, Not, All, Either, Queries, End, More}
-use Rattle.mail_query.specs.Truth.{text_kinds, contains_text, begins_with}
+use Rattle.mail_query.specs.Truth.{text_kinds, contains_text, word_begins_with}
 
 -- the rising numbers of the messages that still come, how many steps are left at most, and how many of these are
 -- postings
@@ -44,7 +44,7 @@ abbrev mutual
   pub most_left : Table → Query → ℕ
   most_left t (Word kinds text) = numbers_named (bytes_eq text) t.keys (kinds_in kinds)
   most_left t (Part kinds text) = numbers_named (contains_text text) t.keys (kinds_in kinds)
-  most_left t (Prefix kinds text) = numbers_named (begins_with text) t.keys (kinds_in kinds)
+  most_left t (Prefix kinds text) = numbers_named (word_begins_with text) t.keys (kinds_in kinds)
   most_left t (Not q) = most_left t q
   most_left t (All qs) = most_left_of_all t qs
   most_left t (Either qs) = most_left_of_all t qs

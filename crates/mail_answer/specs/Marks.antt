@@ -1,7 +1,7 @@
 -- Lists with a truth for each message, and how they grow.
 use Rattle.std.specs.Prelude.{◌≡◌, ℕ, ◌<◌, Bool, false, ◌&&◌, ◌||◌, List, length, map, bytes_eq}
 use Rattle.std.specs.List.{list_any, range_with_len, slice_index_or}
-use Rattle.mail_query.specs.Truth.{contains_text, begins_with}
+use Rattle.mail_query.specs.Truth.{contains_text, word_begins_with}
 use Rattle.mail_answer.specs.TableFacts.{is_among}
 use Rattle.mail_answer.specs.declared.cursor.texts.Fit.{Fit}
 use Rattle.mail_answer.specs.declared.cursor.texts.Fit.TheVariants.{Whole, Within, Front}
@@ -23,7 +23,7 @@ pub record Adds (test : ℕ → Bool) (old new : List Bool) : Type 0 where
 abbrev pub fits : Fit → List ℕ → List ℕ → Bool
 fits Whole = bytes_eq
 fits Within = contains_text
-fits Front = begins_with
+fits Front = word_begins_with
 
 -- whether one of these keys, each with its numbers, passes and has the number
 abbrev pub some_key : (List ℕ → Bool) → ℕ → List (List ℕ × List ℕ) → Bool

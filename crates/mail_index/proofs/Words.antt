@@ -39,16 +39,19 @@ pub use Rattle.std.specs.Ordering.{ordering_then}
 pub use Rattle.std.specs.Prelude.{bytes_eq, is_some, slice_range, unwrap_or, ◌⊎◌}
 pub use Rattle.std.specs.declared.cmp.Ordering.{Ordering}
 pub use Rattle.std.specs.declared.cmp.Ordering.TheVariants.{Equal, Greater, Less}
-pub use Rattle.mail_index.specs.Builders.{Draft, IsBetweenArchives, IsInMessage, IsNextMessage, added, archive_count}
+pub use Rattle.mail_index.specs.Builders.{Draft, IsBetweenArchives, IsInMessage, IsNextMessage, draft_with_key}
+pub use Rattle.mail_index.specs.Builders.{archive_count}
 pub use Rattle.mail_index.specs.Builders.{end_of, with_pair}
 pub use Rattle.mail_index.specs.Directory.{AreEntries, IsEntryAt, end_before, list_at, read_entries, text_at}
 unfoldable pub use Rattle.mail_index.specs.Directory.{is_entry, read_entry}
 pub use Rattle.mail_index.specs.Faults.{EntryBefore, HasArchives, HasCounts, HasDigest, HasDirectory, HasPostings}
-pub use Rattle.mail_index.specs.Faults.{HasRecords, IsEntry, IsFileOf, IsFirstFault, IsSigned, digest_start}
+pub use Rattle.mail_index.specs.Faults.{HasRecords, IsEntry, IsFileOfTable, IsFirstFaultOfFile, IsSigned, digest_start}
 pub use Rattle.mail_index.specs.Faults.{directory_start, postings_start, records_start, texts_start, version_told}
 pub use Rattle.mail_index.specs.Fields.{are_zeros_at, byte_at, u32_at, u64_at}
-pub use Rattle.mail_index.specs.Files.{Entry, HasSmallSections, archive_bytes, archive_section, be32, be64, bit, body}
-pub use Rattle.mail_index.specs.Files.{counts, date_number, directory_from, entries, entry_bytes, entry_of, flags_byte}
+pub use Rattle.mail_index.specs.Files.{DirectoryEntry, HasSmallSections, archive_bytes, archive_section, be32, be64}
+pub use Rattle.mail_index.specs.Files.{bit, body}
+pub use Rattle.mail_index.specs.Files.{counts, date_number, directory_from, entries, entry_bytes, entry_of_key}
+pub use Rattle.mail_index.specs.Files.{flags_byte}
 pub use Rattle.mail_index.specs.Files.{magic, postings_of, record_bytes, sections, texts_of, zeros}
 unfoldable pub use Rattle.mail_index.specs.Files.{index_file}
 pub use Rattle.mail_index.specs.KeysRead.{IsDirectory, key_at, key_of, keys_read, no_key}
@@ -59,8 +62,8 @@ pub use Rattle.mail_index.specs.LookUps.{AreSorted, bisections, bisections_withi
 pub use Rattle.mail_index.specs.LookUps.{is_key, is_of_kind, keys_beginning, keys_of, lies_below, lies_to, lies_to_run}
 pub use Rattle.mail_index.specs.LookUps.{numbers_at, text_and_numbers}
 pub use Rattle.mail_index.specs.OrderOfKeys.{key_cmp}
-pub use Rattle.mail_index.specs.Pairs.{IsIn, Tells}
-pub use Rattle.mail_index.specs.PostingLists.{IsPosted, Told, end_from, told, told_whole}
+pub use Rattle.mail_index.specs.Pairs.{IsIn, HasPosting}
+pub use Rattle.mail_index.specs.PostingLists.{IsPosted, Told, end_from, numbers_so_far, told_whole}
 unfoldable pub use Rattle.mail_index.specs.PostingLists.{numbers_of, told_more, with_number}
 pub use Rattle.mail_index.specs.PostingReads.{ArePosted, ArePostings, IsShort, numbers_behind, shown_split}
 unfoldable pub use Rattle.mail_index.specs.PostingReads.{numbers_read}

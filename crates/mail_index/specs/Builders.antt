@@ -42,18 +42,19 @@ empty_draft most = record {
 }
 
 -- the draft with an open archive that has this path, if there is room for one more archive
-abbrev pub begun_archive : List ℕ → Draft → Result Draft BuildFault
-begun_archive path d = if nat_lt (length d.table.archives) d.most then Ok (record d { path = Some path })
+abbrev pub draft_in_archive : List ℕ → Draft → Result Draft BuildFault
+draft_in_archive path d = if nat_lt (length d.table.archives) d.most then Ok (record d { path = Some path })
     else Err TooMany
 
 -- the draft with an open message, if there is room for one more message
-abbrev pub begun_message : Draft → Result Draft BuildFault
-begun_message d = if nat_lt (length d.table.messages) d.most then Ok (record d { in_message = true }) else Err TooMany
+abbrev pub draft_in_message : Draft → Result Draft BuildFault
+draft_in_message d = if nat_lt (length d.table.messages) d.most then Ok (record d { in_message = true })
+    else Err TooMany
 
 -- the draft with this key added to the open message, whose number counts the messages of all archives; if there is room
 -- for the key
-abbrev pub added : Kind → List ℕ → Draft → Result Draft BuildFault
-added kind text d =
+abbrev pub draft_with_key : Kind → List ℕ → Draft → Result Draft BuildFault
+draft_with_key kind text d =
     let keys = with_pair kind text (length d.table.messages) d.table.keys in
     if nat_le (length keys) d.most then Ok (record d { table = record d.table { keys = keys } }) else Err TooMany
 
@@ -62,16 +63,16 @@ abbrev pub HasPair : Kind → List ℕ → Draft → Type 0
 HasPair kind text d = with_pair kind text (length d.table.messages) d.table.keys ≡ d.table.keys
 
 -- the draft with its open message ended, which has this record
-abbrev pub ended_message : Record → Draft → Result Draft BuildFault
-ended_message r d = Ok (record d {
+abbrev pub draft_after_message : Record → Draft → Result Draft BuildFault
+draft_after_message r d = Ok (record d {
   in_message = false;
   table =
       record d.table { messages = d.table.messages ++ r ∷ [] };
 })
 
 -- the draft with its open archive ended, which has this length and this digest
-abbrev pub ended_archive : ℕ → List ℕ → Draft → Result Draft BuildFault
-ended_archive n digest d = Ok (record d {
+abbrev pub draft_after_archive : ℕ → List ℕ → Draft → Result Draft BuildFault
+draft_after_archive n digest d = Ok (record d {
   path = None;
   table =
       record d.table {
@@ -81,10 +82,10 @@ ended_archive n digest d = Ok (record d {
 })
 
 -- the fault that the definition gives; None for lack of memory, of which the definition says nothing
-abbrev pub refusal : BuildFault → Option BuildFault
-refusal OutOfMemory = None
-refusal TooMany = Some TooMany
-refusal Failed = Some Failed
+abbrev pub build_refusal : BuildFault → Option BuildFault
+build_refusal OutOfMemory = None
+build_refusal TooMany = Some TooMany
+build_refusal Failed = Some Failed
 
 -- whether the call failed because the output did
 abbrev pub is_output_failure : Result ℕ WriteFault → Bool
@@ -92,9 +93,9 @@ is_output_failure (Err Out) = true
 is_output_failure _ = false
 
 -- a step of a builder: once a step has been refused nothing is left, and every later one fails
-abbrev pub stepped : (Draft → Result Draft BuildFault) → Option Draft → Result (Option Draft) BuildFault
-stepped step None = Err Failed
-stepped step (Some d) = step d >>= λ e. Ok (Some e)
+abbrev pub draft_after : (Draft → Result Draft BuildFault) → Option Draft → Result (Option Draft) BuildFault
+draft_after step None = Err Failed
+draft_after step (Some d) = step d >>= λ e. Ok (Some e)
 
 -- ---- what the caller must meet
 

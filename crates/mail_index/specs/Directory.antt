@@ -8,7 +8,7 @@ use Rattle.mail_index.specs.Versions.{last_kind}
 use Rattle.mail_index.specs.Fields.{byte_at, u32_at, u64_at, are_zeros_at}
 use Rattle.mail_index.specs.Places.{entry_size, kind_at, entry_zeros_at, text_length_at, text_place_at}
 use Rattle.mail_index.specs.Places.{posting_place_at}
-use Rattle.mail_index.specs.Files.{Entry}
+use Rattle.mail_index.specs.Files.{DirectoryEntry}
 use Rattle.mail_index.specs.OrderOfKeys.{key_cmp}
 
 -- the first byte is the number of a kind that the version has, and three zeros follow
@@ -30,7 +30,7 @@ list_at postings d = take (end_before (drop entry_size d) (length postings) - u6
     (drop (u64_at d posting_place_at) postings)
 
 -- the directory's first entry, with its text and its postings
-unfoldable pub read_entry : List ℕ → List ℕ → List ℕ → Entry
+unfoldable pub read_entry : List ℕ → List ℕ → List ℕ → DirectoryEntry
 read_entry texts postings d = record {
   kind = kind_of_number (byte_at d kind_at);
   text = text_at texts d;
@@ -38,7 +38,7 @@ read_entry texts postings d = record {
 }
 
 -- this many entries, one after another
-abbrev pub read_entries : List ℕ → List ℕ → ℕ → List ℕ → List Entry
+abbrev pub read_entries : List ℕ → List ℕ → ℕ → List ℕ → List DirectoryEntry
 read_entries texts postings zero d = []
 read_entries texts postings (suc n) d =
     read_entry texts postings d ∷ read_entries texts postings n (drop entry_size d)

@@ -13,7 +13,8 @@ use Rattle.mail_index.specs.Kinds.{kind_number}
 use Rattle.mail_index.specs.Versions.{IsVersion, last_kind}
 use Rattle.mail_index.specs.Fields.{u32_at, u64_at}
 use Rattle.mail_index.specs.Tables.{Archive, Key, Table, IsWellFormed, IsArchive, IsMessage, IsKey, Follows, AllNext}
-use Rattle.mail_index.specs.Files.{magic, archive_bytes, record_bytes, Entry, entry_of, directory_from, texts_of}
+use Rattle.mail_index.specs.Files.{magic, archive_bytes, record_bytes, DirectoryEntry, entry_of_key, directory_from}
+use Rattle.mail_index.specs.Files.{texts_of}
 use Rattle.mail_index.specs.Files.{postings_of, index_file}
 use Rattle.mail_index.specs.Limits.{four_byte_limit}
 use Rattle.mail_index.specs.Places.{magic_size, counts_size, record_size, entry_size, digest_size, least_size}
@@ -22,11 +23,11 @@ use Rattle.mail_index.specs.Places.{text_bytes_at, posting_bytes_at}
 use Rattle.mail_index.specs.OrderOfKeys.{key_cmp}
 
 -- the key of the first entry comes before that of the second
-abbrev pub EntryBefore : Entry → Entry → Type 0
+abbrev pub EntryBefore : DirectoryEntry → DirectoryEntry → Type 0
 EntryBefore a b = key_cmp (kind_number a.kind) a.text (kind_number b.kind) b.text ≡ Less
 
 -- the entry has a kind of the version, a text that isn't empty and fits its count, and postings
-abbrev pub IsEntry : ℕ → Entry → Type 0
+abbrev pub IsEntry : ℕ → DirectoryEntry → Type 0
 IsEntry version e = (kind_number e.kind ≤ last_kind version) × (0 < length e.text) × (length e.text < four_byte_limit)
     × (0 < length e.postings)
 
@@ -89,7 +90,7 @@ module _ (bytes : List ℕ) where
     pub in_order : AllNext Follows messages
 
   -- the records are right, and directory, texts and postings are those of these entries, each valid, in order
-  pub record HasDirectory (archives : List Archive) (messages : List Record) (es : List Entry) : Type 0 where
+  pub record HasDirectory (archives : List Archive) (messages : List Record) (es : List DirectoryEntry) : Type 0 where
     pub before : HasRecords archives messages
     pub spelled : slice_range bytes directory_start texts_start ≡ directory_from 0 0 es
     pub texts : slice_range bytes texts_start postings_start ≡ texts_of es
@@ -99,26 +100,26 @@ module _ (bytes : List ℕ) where
 
   -- the directory is right, and the postings of its entries are the rising numbers of these keys
   pub record HasPostings (archives : List Archive) (messages : List Record) (keys : List Key) : Type 0 where
-    pub before : HasDirectory archives messages (map entry_of keys)
+    pub before : HasDirectory archives messages (map entry_of_key keys)
     pub each : AllByRecursion (IsKey version_told (length messages)) keys
 
   -- the bytes are the file of the table
-  abbrev pub IsFileOf : Table → Type 0
-  IsFileOf t = IsWellFormed t × (bytes ≡ index_file t)
+  abbrev pub IsFileOfTable : Table → Type 0
+  IsFileOfTable t = IsWellFormed t × (bytes ≡ index_file t)
 
   -- the fault is that of the first broken rule
-  abbrev pub IsFirstFault : IndexFault → Type 0
-  IsFirstFault TooShort = length bytes < least_size
-  IsFirstFault BadMagic = (least_size ≤ length bytes) × (take magic_size bytes ≢ magic)
-  IsFirstFault BadVersion = (least_size ≤ length bytes) × (take magic_size bytes ≡ magic)
+  abbrev pub IsFirstFaultOfFile : IndexFault → Type 0
+  IsFirstFaultOfFile TooShort = length bytes < least_size
+  IsFirstFaultOfFile BadMagic = (least_size ≤ length bytes) × (take magic_size bytes ≢ magic)
+  IsFirstFaultOfFile BadVersion = (least_size ≤ length bytes) × (take magic_size bytes ≡ magic)
       × (¬ IsVersion version_told)
-  IsFirstFault BadDigest = (least_size ≤ length bytes) × (take magic_size bytes ≡ magic) × IsVersion version_told
+  IsFirstFaultOfFile BadDigest = (least_size ≤ length bytes) × (take magic_size bytes ≡ magic) × IsVersion version_told
       × ¬ HasDigest
-  IsFirstFault (BadLayout Counts) = IsSigned × ¬ (digest_start + digest_size ≡ length bytes)
-  IsFirstFault (BadLayout Archives) = HasCounts × ((archives : List Archive) → ¬ HasArchives archives)
-  IsFirstFault (BadLayout Records) = (archives : List Archive) × HasArchives archives
+  IsFirstFaultOfFile (BadLayout Counts) = IsSigned × ¬ (digest_start + digest_size ≡ length bytes)
+  IsFirstFaultOfFile (BadLayout Archives) = HasCounts × ((archives : List Archive) → ¬ HasArchives archives)
+  IsFirstFaultOfFile (BadLayout Records) = (archives : List Archive) × HasArchives archives
       × ((ms : List Record) → ¬ HasRecords archives ms)
-  IsFirstFault (BadLayout Directory) = (archives : List Archive) × (ms : List Record) × HasRecords archives ms
-      × ((es : List Entry) → ¬ HasDirectory archives ms es)
-  IsFirstFault (BadLayout Postings) = (archives : List Archive) × (ms : List Record) × (es : List Entry)
+  IsFirstFaultOfFile (BadLayout Directory) = (archives : List Archive) × (ms : List Record) × HasRecords archives ms
+      × ((es : List DirectoryEntry) → ¬ HasDirectory archives ms es)
+  IsFirstFaultOfFile (BadLayout Postings) = (archives : List Archive) × (ms : List Record) × (es : List DirectoryEntry)
       × HasDirectory archives ms es × ((ks : List Key) → ¬ HasPostings archives ms ks)

@@ -52,37 +52,37 @@ record_bytes m = concat (be32 m.archive ∷ (flags_byte m ∷ zeros) ∷ be64 m.
     (date_number m.date) ∷ [])
 
 -- a key with the bytes of its numbers
-pub record Entry : Type 0 where
+pub record DirectoryEntry : Type 0 where
   pub kind : Kind
   pub text : List ℕ
   pub postings : List ℕ
 
 -- the entry of a key
-abbrev pub entry_of : Key → Entry
-entry_of k = record { kind = k.kind; text = k.text; postings = postings k.numbers }
+abbrev pub entry_of_key : Key → DirectoryEntry
+entry_of_key k = record { kind = k.kind; text = k.text; postings = postings k.numbers }
 
 -- the bytes of an entry, with the places of its text and of its postings
-abbrev pub entry_bytes : ℕ → ℕ → Entry → List ℕ
+abbrev pub entry_bytes : ℕ → ℕ → DirectoryEntry → List ℕ
 entry_bytes text_place place e = concat ((kind_number e.kind ∷ zeros) ∷ be32 (length e.text) ∷ be64 text_place ∷ be64
     place ∷ [])
 
 -- the bytes of the directory, if the text and the postings of the first entry begin at these places
-abbrev pub directory_from : ℕ → ℕ → List Entry → List ℕ
+abbrev pub directory_from : ℕ → ℕ → List DirectoryEntry → List ℕ
 directory_from text_place place [] = []
 directory_from text_place place (e ∷ es) =
     entry_bytes text_place place e ++ directory_from (text_place + length e.text) (place + length e.postings) es
 
 -- the texts of the entries, one after another
-abbrev pub texts_of : List Entry → List ℕ
+abbrev pub texts_of : List DirectoryEntry → List ℕ
 texts_of = flat_map (λ e. e.text)
 
 -- the postings of the entries, one after another
-abbrev pub postings_of : List Entry → List ℕ
+abbrev pub postings_of : List DirectoryEntry → List ℕ
 postings_of = flat_map (λ e. e.postings)
 
 -- the entries of a table's keys, in order
-abbrev pub entries : Table → List Entry
-entries t = map entry_of t.keys
+abbrev pub entries : Table → List DirectoryEntry
+entries t = map entry_of_key t.keys
 
 -- the bytes of all archives
 abbrev pub archive_section : Table → List ℕ

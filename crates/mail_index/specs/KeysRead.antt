@@ -3,7 +3,7 @@ use Rattle.std.specs.Prelude.{◌≡◌, ℕ, ◌*◌, ◌≤◌, List, [], leng
 use Rattle.std.specs.List.{slice_index_or}
 use Rattle.mail_index.specs.declared.kind.Kind.TheVariants.{OwnId}
 use Rattle.mail_index.specs.Tables.{Key}
-use Rattle.mail_index.specs.Files.{Entry}
+use Rattle.mail_index.specs.Files.{DirectoryEntry}
 use Rattle.mail_index.specs.PostingReads.{numbers_read}
 use Rattle.mail_index.specs.Directory.{read_entries, AreEntries}
 use Rattle.mail_index.specs.Lists.{AreLists}
@@ -11,7 +11,7 @@ use Rattle.mail_index.specs.Limits.{four_byte_limit}
 use Rattle.mail_index.specs.Places.{entry_size}
 
 -- the key of an entry, with its postings read
-abbrev pub key_of : Entry → Key
+abbrev pub key_of : DirectoryEntry → Key
 key_of e = record { kind = e.kind; text = e.text; numbers = numbers_read 0 e.postings }
 
 -- the keys of this many entries, with their texts and postings

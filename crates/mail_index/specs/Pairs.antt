@@ -9,6 +9,6 @@ IsIn [] m = ⊥
 IsIn (n ∷ ns) m = (n ≡ m) ⊎ IsIn ns m
 
 -- a key of this kind and this text has this number
-abbrev pub Tells : List Key → Kind → List ℕ → ℕ → Type 0
-Tells [] kind text n = ⊥
-Tells (k ∷ ks) kind text n = ((k.kind ≡ kind) × (k.text ≡ text) × IsIn k.numbers n) ⊎ Tells ks kind text n
+abbrev pub HasPosting : List Key → Kind → List ℕ → ℕ → Type 0
+HasPosting [] kind text n = ⊥
+HasPosting (k ∷ ks) kind text n = ((k.kind ≡ kind) × (k.text ≡ text) × IsIn k.numbers n) ⊎ HasPosting ks kind text n

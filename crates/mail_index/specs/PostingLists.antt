@@ -33,16 +33,16 @@ told_more t b =
     else record { numbers = t.numbers; next = t.next; part = t.part + (b - 128) * t.weight; weight = 128 * t.weight }
 
 -- what these bytes give, from the first to the last
-abbrev pub told : List ℕ → Told
-told bytes = fold told_more (told_whole [] 0) bytes
+abbrev pub numbers_so_far : List ℕ → Told
+numbers_so_far bytes = fold told_more (told_whole [] 0) bytes
 
 -- the numbers of postings
 unfoldable pub numbers_of : List ℕ → List ℕ
-numbers_of bytes = (told bytes).numbers
+numbers_of bytes = (numbers_so_far bytes).numbers
 
 -- the bytes are exactly the postings of the numbers that they give, and `next` is one past the last of these
 pub record IsPosted (bytes : List ℕ) (next : ℕ) : Type 0 where
-  pub told : told bytes ≡ told_whole (numbers_of bytes) next
+  pub told : numbers_so_far bytes ≡ told_whole (numbers_of bytes) next
   pub spelled : postings (numbers_of bytes) ≡ bytes
   pub ends : end_from 0 (numbers_of bytes) ≡ next
   pub short : length bytes ≤ next

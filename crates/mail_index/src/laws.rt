@@ -3,9 +3,9 @@ ghost use Rattle.std.specs.Prelude.{◌≡◌, ◌<◌, ◌≤◌, ◌*◌, ◌^
 ghost use Rattle.std.specs.List.{AllByRecursion};
 ghost use Rattle.mail_index.specs.declared.kind.Kind.{Kind};
 ghost use Rattle.mail_index.specs.declared.view.fault.IndexFault.{IndexFault};
-ghost use Rattle.mail_index.specs.Faults.{IsFileOf, IsFirstFault};
+ghost use Rattle.mail_index.specs.Faults.{IsFileOfTable, IsFirstFaultOfFile};
 ghost use Rattle.mail_index.specs.Tables.{Key, Table, IsKey, IsWellFormed};
-ghost use Rattle.mail_index.specs.Pairs.{Tells};
+ghost use Rattle.mail_index.specs.Pairs.{HasPosting};
 ghost use Rattle.mail_index.specs.Builders.{with_pair};
 ghost use Rattle.mail_index.specs.LookUps.{is_key, comparisons, comparisons_of_run};
 ghost use Rattle.mail_index.specs.Files.{index_file, HasSmallSections};
@@ -20,7 +20,7 @@ pub fn one_table_for_a_file()
 /// The file of a table that fits in memory has no fault. So `IndexView::open` accepts exactly the files of tables.
 pub fn the_file_of_a_table_has_no_fault()
     ensures { (bytes : List ℕ) (t : Table) (fault : IndexFault)
-        → length bytes < 2 ^ 64 → IsFileOf bytes t → ¬ IsFirstFault bytes fault }
+        → length bytes < 2 ^ 64 → IsFileOfTable bytes t → ¬ IsFirstFaultOfFile bytes fault }
 {}
 
 /// How many comparisons a binary search makes.
@@ -47,12 +47,14 @@ pub fn comparisons_law()
 /// other (`only`). If adding another pair changed nothing before, it still changes nothing (`had`).
 pub fn pairs_law()
     ensures added { (version n : ℕ) (kind : Kind) (text : List ℕ) (ks : List Key)
-        → AllByRecursion (IsKey version (suc n)) ks → Tells (with_pair kind text n ks) kind text n }
+        → AllByRecursion (IsKey version (suc n)) ks → HasPosting
+        (with_pair kind text n ks) kind text n }
     ensures kept { (n : ℕ) (kind : Kind) (text : List ℕ) (ks : List Key)
-        (k : Kind) (t : List ℕ) (m : ℕ) → Tells ks k t m → Tells (with_pair kind text n ks) k t m }
+        (k : Kind) (t : List ℕ) (m : ℕ) → HasPosting ks k t m
+        → HasPosting (with_pair kind text n ks) k t m }
     ensures only { (n : ℕ) (kind : Kind) (text : List ℕ) (ks : List Key)
-        (k : Kind) (t : List ℕ) (m : ℕ) → Tells (with_pair kind text n ks) k t m
-        → Tells ks k t m ⊎ ((kind ≡ k) × (text ≡ t) × (n ≡ m)) }
+        (k : Kind) (t : List ℕ) (m : ℕ) → HasPosting (with_pair kind text n ks) k t m
+        → HasPosting ks k t m ⊎ ((kind ≡ k) × (text ≡ t) × (n ≡ m)) }
     ensures had { (n : ℕ) (kind : Kind) (text : List ℕ) (ks : List Key) (k : Kind) (t : List ℕ)
         → with_pair k t n ks ≡ ks
         → with_pair k t n (with_pair kind text n ks) ≡ with_pair kind text n ks }

@@ -2,7 +2,7 @@
 use Rattle.mail_query.proofs.Words.{◌≡◌, ◌≢◌, ℕ, suc, ◌-◌, ◌<◌, Bool, true, false, eqb, List, [], ◌∷◌, ◌++◌, length}
 use Rattle.mail_query.proofs.Words.{length-append, take, get_or, Option, Some, None, option_map, MatchOption, refl, sym}
 use Rattle.mail_query.proofs.Words.{ap, ◌∙◌, arith, option_copied, take-append_seam, list_any, or_parts, or_from}
-use Rattle.mail_query.proofs.Words.{nat_tests, is_byte, cut, without_first, without_last}
+use Rattle.mail_query.proofs.Words.{nat_tests, is_byte, texts_around, without_first, without_last}
 use denote.Ref.{Bor}
 
 pub none_unless : {A : Type 0} (o : Option A) → ((x : A) → o ≡ Some x → ⊥) → o ≡ None
@@ -51,13 +51,13 @@ free_at c text h = none_passes (is_byte c) text (λ i below. other_byte (get_or 
 onto_front : ℕ → Option (List ℕ × List ℕ) → Option (List ℕ × List ℕ)
 onto_front b o = option_map (λ (p : List ℕ × List ℕ). (b ∷ p.0, p.1)) o
 
-pub cut_none : (c : ℕ) (text : List ℕ) → Free c text → cut c text ≡ None
+pub cut_none : (c : ℕ) (text : List ℕ) → Free c text → texts_around c text ≡ None
 unfolding onto_front
 cut_none c [] h = refl
 cut_none c (b ∷ bs) h = let parts = or_parts (eqb b c) (list_any (is_byte c) bs) h
     in rw parts.0 (ap (onto_front b) (cut_none c bs parts.1))
 
-pub cut_at : (c : ℕ) (text rest : List ℕ) → Free c text → cut c (text ++ c ∷ rest) ≡ Some (text, rest)
+pub cut_at : (c : ℕ) (text rest : List ℕ) → Free c text → texts_around c (text ++ c ∷ rest) ≡ Some (text, rest)
 unfolding onto_front
 cut_at c [] rest h = rw same_byte refl
 cut_at c (b ∷ bs) rest h = let parts = or_parts (eqb b c) (list_any (is_byte c) bs) h
@@ -90,6 +90,6 @@ last_answer c bs r h = grind (arith, without_last-other, without_last-same)
 pub cut_answer : (c : ℕ) (bs : List ℕ) (r : Option (Bor (List ℕ) × Bor (List ℕ)))
     → MatchOption r ((i : ℕ) → i < length bs → get_or bs i 0 ≢ c)
     (λ x. (bs ≡ x.0.now ++ c ∷ x.1.now) × ((i : ℕ) → i < length x.0.now → get_or x.0.now i 0 ≢ c))
-    → option_map {T = Bor (List ℕ) × Bor (List ℕ)} {U = List ℕ × List ℕ} (λ p. (p.0.now, p.1.now)) r ≡ cut c bs
+    → option_map {T = Bor (List ℕ) × Bor (List ℕ)} {U = List ℕ × List ℕ} (λ p. (p.0.now, p.1.now)) r ≡ texts_around c bs
 cut_answer c bs None h = sym (cut_none c bs (free_at c bs h))
-cut_answer c bs (Some x) h = sym (ap (cut c) h.0 ∙ cut_at c x.0.now x.1.now (free_at c x.0.now h.1))
+cut_answer c bs (Some x) h = sym (ap (texts_around c) h.0 ∙ cut_at c x.0.now x.1.now (free_at c x.0.now h.1))

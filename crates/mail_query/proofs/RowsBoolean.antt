@@ -1,18 +1,18 @@
 -- Rows of boolean queries, each with the query or the first fault that a second reader finds.
 use Rattle.mail_query.proofs.Words.{◌≡◌, ℕ, List, codes, None, Some, Ok, Err, refl, true, QueryFaultKind, NoPattern}
 use Rattle.mail_query.proofs.Words.{BadPrefix, BadWord, BadDate, NeedsOperator, BadParenthesis, MissingTerm, TooDeep}
-use Rattle.mail_query.proofs.Words.{Phrase, Query, Word, Prefix, Date, Not, Either, End, More, no_kinds, tokens}
+use Rattle.mail_query.proofs.Words.{Phrase, Query, Word, Prefix, Date, Not, Either, End, More, no_kinds, query_tokens}
 use Rattle.mail_query.proofs.Words.{first_fault, tokens_query}
 use Rattle.mail_query.specs.Query.{All}
 use Rattle.mail_query.proofs.RowLexicon.{toy, every_date}
 
 abbrev Asks : List ℕ → Query → Type 0
-Asks text q = (tokens_query toy (tokens text) ≡ Ok q) × (first_fault toy (tokens text) ≡ None)
+Asks text q = (tokens_query toy (query_tokens text) ≡ Ok q) × (first_fault toy (query_tokens text) ≡ None)
 
 abbrev Shows : List ℕ → ℕ → QueryFaultKind → Type 0
 Shows text n kind =
-    (tokens_query toy (tokens text) ≡ Err (record { number = n; kind = kind }))
-    × (first_fault toy (tokens text) ≡ Some (record { number = n; kind = kind }))
+    (tokens_query toy (query_tokens text) ≡ Err (record { number = n; kind = kind }))
+    × (first_fault toy (query_tokens text) ≡ Some (record { number = n; kind = kind }))
 
 rows : Asks (codes "subject:hello and not body:ho")
     (All (More (Word (record no_kinds { subject = true }) (codes "hello"))
@@ -38,7 +38,7 @@ rows : Asks (codes "subject:hello and not body:ho")
     (More (Word (record no_kinds { to = true; cc = true; bcc = true; from = true; subject = true; body = true })
     (codes "b")) (More (Word (record no_kinds
     { to = true; cc = true; bcc = true; from = true; subject = true; body = true }) (codes "c")) End))))
-unfolding tokens
+unfolding query_tokens
 rows = (
   (refl, refl),
   (refl, refl),

@@ -2,7 +2,7 @@
 use Rattle.mail_query.proofs.Words.{◌≡◌, ℕ, List, [], ◌∷◌, codes, Some, Ok, Err, refl, true, false, Seen, Replied}
 use Rattle.mail_query.proofs.Words.{QueryFaultKind, NoPattern, BadPrefix, BadWord, Approximate, BadDate, BadSize}
 use Rattle.mail_query.proofs.Words.{BadFlag, Query, Word, Part, Prefix, Date, Size, HasFlag, Not, Either, End, More}
-use Rattle.mail_query.proofs.Words.{no_kinds, size_of, sizes_of, flags_of, patterns_query}
+use Rattle.mail_query.proofs.Words.{no_kinds, size_of, sizes_of, flags_of_text, patterns_query}
 use Rattle.mail_query.specs.Query.{All}
 use Rattle.mail_query.proofs.RowLexicon.{toy, every_date}
 
@@ -30,5 +30,5 @@ rows : Shows [] 1 NoPattern
     × Asks (codes "an:x" ∷ codes "n:y" ∷ [])
     (All (More (Word (record no_kinds { to = true; cc = true; from = true; name = true }) (codes "x"))
     (More (Word (record no_kinds { name = true }) (codes "y")) End)))
-unfolding size_of sizes_of flags_of
+unfolding size_of sizes_of flags_of_text
 rows = (refl, refl, refl, refl, refl, refl, refl, refl, refl, refl, refl, refl, refl)

@@ -7,25 +7,29 @@ pub use Rattle.mail_query.specs.BooleanFaults.{first_fault_from, first_some, is_
 pub use Rattle.mail_query.specs.BooleanFaults.{open_count, operator_fault, term_fault, token_fault, waiting_count}
 pub use Rattle.mail_query.specs.BooleanGrammar.{Beside, ByAnd, ByOr, Chain, Group, Item, Last, Leaf, Link, NotOf, Reads}
 pub use Rattle.mail_query.specs.BooleanGrammar.{Then, chain_queries, chain_tokens, into_first, is_fine_chain}
-pub use Rattle.mail_query.specs.BooleanGrammar.{is_fine_item, item_query, item_tokens, link_tokens, linked}
+pub use Rattle.mail_query.specs.BooleanGrammar.{is_fine_item, item_query, item_tokens, link_tokens, with_link}
 pub use Rattle.mail_query.specs.BooleanGrammar.{plain_prefix, query_or_any, seen_behind, term_prefix, tree_query}
-pub use Rattle.mail_query.specs.BooleanReading.{ForClose, ForNot, Level, State, Waiting, closed, cut_term_step, deeper}
-pub use Rattle.mail_query.specs.BooleanReading.{each_ended, empty_level, ended, has_open, is_negated, joined}
-pub use Rattle.mail_query.specs.BooleanReading.{level_query, noted, parted, parts_step, placed, popped, run_ended}
+pub use Rattle.mail_query.specs.BooleanReading.{ForClose, ForNot, Level, State, Waiting, state_after_close}
+pub use Rattle.mail_query.specs.BooleanReading.{cut_term_step, deeper}
+pub use Rattle.mail_query.specs.BooleanReading.{each_ended, empty_level, query_at_end, has_open, is_negated}
+pub use Rattle.mail_query.specs.BooleanReading.{state_after_and}
+pub use Rattle.mail_query.specs.BooleanReading.{level_query, level_with_prefix, state_after_or, parts_step}
+pub use Rattle.mail_query.specs.BooleanReading.{state_after_operand, state_after_group, run_ended}
 pub use Rattle.mail_query.specs.BooleanReading.{run_from, start, step, term_step, tokens_query, with_member}
-pub use Rattle.mail_query.specs.BooleanTerms.{Parts, cut_query, has_field, is_phrase, no_fields, parts_of, parts_query}
-pub use Rattle.mail_query.specs.BooleanTerms.{with_field, word_query}
+pub use Rattle.mail_query.specs.BooleanTerms.{TermParts, cut_query, has_field, is_phrase, no_fields, parts_of}
+pub use Rattle.mail_query.specs.BooleanTerms.{parts_query}
+pub use Rattle.mail_query.specs.BooleanTerms.{with_field}
 pub use Rattle.mail_query.specs.FlagGrammar.{AreFlags, EachFlag, IsFlags, NoFlag}
 pub use Rattle.mail_query.specs.Flags.{flag_of, flags_behind, some_of, with_flag}
-unfoldable pub use Rattle.mail_query.specs.Flags.{flags_of}
-pub use Rattle.mail_query.specs.Inside.Reading.{forms_of, numbered}
+unfoldable pub use Rattle.mail_query.specs.Flags.{flags_of_text}
+pub use Rattle.mail_query.specs.Inside.Reading.{forms_of, fault_with_number}
 pub use Rattle.mail_query.specs.Inside.Shown.{blank_count, nearest_first, run_length, shown_level, shown_stack}
 pub use Rattle.mail_query.specs.Inside.Shown.{shown_waiting}
 pub use Rattle.mail_query.specs.Kinds.{no_kinds, union}
 pub use Rattle.mail_query.specs.Lexicon.{Lexicon}
 pub use Rattle.mail_query.specs.Mail.{mail_lexicon, mairix_query, pattern_lexicon}
 pub use Rattle.mail_query.specs.Mairix.{Forms, all_query, atom_query, each_read, flags_query, found_query, id_forms}
-pub use Rattle.mail_query.specs.Mairix.{is_approximate, is_id, is_sign, kinds_of, kinds_of_letter, kinds_with}
+pub use Rattle.mail_query.specs.Mairix.{is_approximate, may_be_id, is_sign, kinds_of, kinds_of_letter, kinds_with}
 pub use Rattle.mail_query.specs.Mairix.{marked_query, part_query, pattern_query, patterns_from, patterns_query}
 pub use Rattle.mail_query.specs.Mairix.{plain_kinds, prefix_query, prefixed_query, rest_query, term_query, word_forms}
 pub use Rattle.mail_query.specs.MairixFaults.{AsksApproximately, Behind, Digits, HasNoDate, HasNoFlags, HasNoForm}
@@ -37,18 +41,18 @@ pub use Rattle.mail_query.specs.MairixGrammar.{Alone, AndAlso, AreLetters, ArePa
 pub use Rattle.mail_query.specs.MairixGrammar.{EachTerm, FrontOfWord, HasNoSigns, InKinds, IsAll, IsAsked, IsAtom}
 pub use Rattle.mail_query.specs.MairixGrammar.{IsPattern, IsRest, IsTerm, OfDate, OfFlags, OfId, OfSize, Only}
 pub use Rattle.mail_query.specs.MairixGrammar.{PartOfWord, Plain, Separated, SomeAll, Unwanted, Wanted, WholeWord}
-pub use Rattle.mail_query.specs.MairixGrammar.{is_among, kinds_named}
-pub use Rattle.mail_query.specs.Pieces.{cut, is_byte, is_nonempty, without_first, without_last}
+pub use Rattle.mail_query.specs.MairixGrammar.{is_letter_among, kinds_named}
+pub use Rattle.mail_query.specs.Pieces.{texts_around, is_byte, is_nonempty, without_first, without_last}
 pub use Rattle.mail_query.specs.Query.{Any, Date, Either, End, HasFlag, More, Not, Part, Prefix, Queries, Query, Size}
 pub use Rattle.mail_query.specs.Query.{Word, all_of, deepest, depth, either_of, have_names, kinds_inside, kinds_sought}
 pub use Rattle.mail_query.specs.Query.{members_of, queries_of, query_of, uses_names}
 pub use Rattle.mail_query.specs.SizeGrammar.{Between, FromSize, FromZero, InBytes, InUnits, IsHigh, IsLow, IsNumber}
 pub use Rattle.mail_query.specs.SizeGrammar.{IsSize, IsSizes, ToSize, Unbounded}
-pub use Rattle.mail_query.specs.Sizes.{before_last_byte, factor_of, high_of, last_byte, low_of, scaled, size_limit}
+pub use Rattle.mail_query.specs.Sizes.{before_last_byte, factor_of, high_of, last_byte, low_of, scaled_size, size_limit}
 pub use Rattle.mail_query.specs.Sizes.{size_with, sizes_between}
 unfoldable pub use Rattle.mail_query.specs.Sizes.{size_of, sizes_of}
 pub use Rattle.mail_query.specs.Tokens.{AndSign, Close, NotSign, Open, OrSign, Term, Token}
-unfoldable pub use Rattle.mail_query.specs.Tokens.{tokens}
+unfoldable pub use Rattle.mail_query.specs.Tokens.{query_tokens}
 pub use Rattle.mail_query.specs.Truth.{Facts, each_is_true, is_true, some_is_true, some_word, without_names}
 pub use Rattle.mail_query.specs.declared.boolean.field.Field.{Field}
 pub use Rattle.mail_query.specs.declared.boolean.field.Fields.{Fields}

@@ -10,7 +10,7 @@ use Rattle.mail_query.specs.declared.fault.QueryFaultKind.TheVariants.{BadParent
 use Rattle.mail_query.specs.Lexicon.{Lexicon}
 use Rattle.mail_query.specs.Query.{Query}
 use Rattle.mail_query.specs.Tokens.{Token, Open, Close, AndSign, OrSign, NotSign, Term}
-use Rattle.mail_query.specs.BooleanTerms.{Parts, parts_of, no_fields, has_field, with_field, is_phrase, parts_query}
+use Rattle.mail_query.specs.BooleanTerms.{TermParts, parts_of, no_fields, has_field, with_field, is_phrase, parts_query}
 use Rattle.mail_query.specs.BooleanGrammar.{term_prefix}
 
 -- ---- what the tokens before a place say; the nearest comes first
@@ -93,7 +93,7 @@ first_some f (Some x) o = Some (f x)
 
 module _ (lexicon : Lexicon) where
   -- the fault of a term by its parts: it has an unknown prefix, needs an operator, or is no term of its prefix
-  abbrev pub parts_fault : List Token → Option Parts → Option QueryFaultKind
+  abbrev pub parts_fault : List Token → Option TermParts → Option QueryFaultKind
   parts_fault back None = Some BadPrefix
   parts_fault back (Some parts) =
       if needs_operator back parts.prefix then Some NeedsOperator

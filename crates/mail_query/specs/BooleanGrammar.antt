@@ -7,7 +7,7 @@ use Rattle.mail_query.specs.declared.fault.QueryFaultKind.{QueryFaultKind}
 use Rattle.mail_query.specs.Lexicon.{Lexicon}
 use Rattle.mail_query.specs.Query.{Query, Any, Not, all_of, either_of}
 use Rattle.mail_query.specs.Tokens.{Token, Open, Close, AndSign, OrSign, NotSign, Term}
-use Rattle.mail_query.specs.BooleanTerms.{parts_of, Parts, no_fields, has_field, with_field, term_query}
+use Rattle.mail_query.specs.BooleanTerms.{parts_of, TermParts, no_fields, has_field, with_field, boolean_term_query}
 
 -- what joins an operand to the next one: nothing, `and`, or `or`
 pub data Link : Type 0 where
@@ -54,10 +54,10 @@ into_first q [] = (q ∷ []) ∷ []
 into_first q (qs ∷ qss) = (q ∷ qs) ∷ qss
 
 -- alternatives with q joined before them; `or` makes it one of its own, because it binds weaker than `and` or nothing
-abbrev pub linked : Link → Query → List (List Query) → List (List Query)
-linked Beside q qss = into_first q qss
-linked ByAnd q qss = into_first q qss
-linked ByOr q qss = (q ∷ []) ∷ qss
+abbrev pub with_link : Link → Query → List (List Query) → List (List Query)
+with_link Beside q qss = into_first q qss
+with_link ByAnd q qss = into_first q qss
+with_link ByOr q qss = (q ∷ []) ∷ qss
 
 -- the query of a result; if it is an error, Any
 abbrev pub query_or_any : Result Query QueryFaultKind → Query
@@ -66,7 +66,7 @@ query_or_any (Err e) = Any
 
 -- the prefix of a term, if it has one
 abbrev pub term_prefix : List ℕ → Option Field
-term_prefix t = option_and_then (λ (p : Parts). p.prefix) (parts_of t)
+term_prefix t = option_and_then (λ (p : TermParts). p.prefix) (parts_of t)
 
 -- the prefix of an operand that is a term; any other operand has none
 abbrev pub plain_prefix : Item → Option Field
@@ -84,12 +84,12 @@ module _ (lexicon : Lexicon) where
     pub item_query : Item → Query
     item_query (NotOf i) = Not (item_query i)
     item_query (Group c) = either_of (map all_of (chain_queries c))
-    item_query (Leaf t) = query_or_any (term_query lexicon t)
+    item_query (Leaf t) = query_or_any (boolean_term_query lexicon t)
 
     -- the alternatives of a chain, each as a list of its members
     pub chain_queries : Chain → List (List Query)
     chain_queries (Last i) = (item_query i ∷ []) ∷ []
-    chain_queries (Then i l c) = linked l (item_query i) (chain_queries c)
+    chain_queries (Then i l c) = with_link l (item_query i) (chain_queries c)
 
   -- the query of a chain: any of its alternatives
   abbrev pub tree_query : Chain → Query
@@ -104,7 +104,7 @@ module _ (lexicon : Lexicon) where
     pub is_fine_item : Item → ℕ → Fields → Bool
     is_fine_item (NotOf i) n seen = nat_lt n 30 && is_fine_item i (n + 1) no_fields
     is_fine_item (Group c) n seen = nat_lt n 30 && is_fine_chain c (n + 1) no_fields
-    is_fine_item (Leaf t) n seen = not (has_field seen (term_prefix t)) && is_ok (term_query lexicon t)
+    is_fine_item (Leaf t) n seen = not (has_field seen (term_prefix t)) && is_ok (boolean_term_query lexicon t)
 
     pub is_fine_chain : Chain → ℕ → Fields → Bool
     is_fine_chain (Last i) n seen = is_fine_item i n seen

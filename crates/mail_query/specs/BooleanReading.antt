@@ -11,7 +11,7 @@ use Rattle.mail_query.specs.declared.fault.QueryFaultKind.TheVariants.{BadParent
 use Rattle.mail_query.specs.Lexicon.{Lexicon}
 use Rattle.mail_query.specs.Query.{Query, Not, all_of, either_of}
 use Rattle.mail_query.specs.Tokens.{Token, Open, Close, AndSign, OrSign, NotSign, Term}
-use Rattle.mail_query.specs.BooleanTerms.{Parts, parts_of, no_fields, has_field, with_field, is_phrase, parts_query}
+use Rattle.mail_query.specs.BooleanTerms.{TermParts, parts_of, no_fields, has_field, with_field, is_phrase, parts_query}
 
 -- A group so far: the alternatives that an `or` ended, and the members of the last one. `seen` has the prefixes of the
 -- plain terms since the last operator.
@@ -56,8 +56,9 @@ abbrev pub each_ended : Level → Level
 each_ended level = record { eaches = level.eaches ++ all_of level.members ∷ []; members = []; seen = no_fields }
 
 -- a group that has seen a term's prefix; a term after a `not` isn't plain, and isn't seen
-abbrev pub noted : Bool → Option Field → Level → Level
-noted negated prefix level = record level { seen = with_field (if negated then None else prefix) level.seen }
+abbrev pub level_with_prefix : Bool → Option Field → Level → Level
+level_with_prefix negated prefix level =
+    record level { seen = with_field (if negated then None else prefix) level.seen }
 
 -- whether the innermost open item is a `not`
 abbrev pub is_negated : List Waiting → Bool
@@ -71,10 +72,10 @@ has_open (ForClose level ∷ waiting) = true
 has_open (ForNot ∷ waiting) = has_open waiting
 
 -- the state after an operand, negated by each `not` directly before it
-abbrev pub placed : List Waiting → Level → Query → State
-placed [] level q = record { waiting = []; level = with_member level q; wanted = false }
-placed (ForNot ∷ waiting) level q = placed waiting level (Not q)
-placed (ForClose outer ∷ waiting) level q =
+abbrev pub state_after_operand : List Waiting → Level → Query → State
+state_after_operand [] level q = record { waiting = []; level = with_member level q; wanted = false }
+state_after_operand (ForNot ∷ waiting) level q = state_after_operand waiting level (Not q)
+state_after_operand (ForClose outer ∷ waiting) level q =
     record { waiting = ForClose outer ∷ waiting; level = with_member level q; wanted = false }
 
 -- the state with one more `(` or `not` open, if fewer than 30 are
@@ -84,29 +85,30 @@ deeper waiting what level =
     else Ok (record { waiting = what ∷ waiting; level = level; wanted = true })
 
 -- the state after an `and`
-abbrev pub joined : State → Result State QueryFaultKind
-joined s = if s.wanted then Err MissingTerm
+abbrev pub state_after_and : State → Result State QueryFaultKind
+state_after_and s = if s.wanted then Err MissingTerm
     else Ok (record { waiting = s.waiting; level = run_ended s.level; wanted = true })
 
 -- the state after an `or`
-abbrev pub parted : State → Result State QueryFaultKind
-parted s =
+abbrev pub state_after_or : State → Result State QueryFaultKind
+state_after_or s =
     if s.wanted then Err MissingTerm
     else Ok (record { waiting = s.waiting; level = each_ended s.level; wanted = true })
 
 -- the state after a `)` that closes this group; the innermost open item has to be its `(`
-abbrev pub popped : List Waiting → Level → Result State QueryFaultKind
-popped (ForClose outer ∷ waiting) level = Ok (placed waiting outer (level_query level))
-popped _ level = Err BadParenthesis
+abbrev pub state_after_group : List Waiting → Level → Result State QueryFaultKind
+state_after_group (ForClose outer ∷ waiting) level = Ok (state_after_operand waiting outer (level_query level))
+state_after_group _ level = Err BadParenthesis
 
 -- the state after a `)`
-abbrev pub closed : State → Result State QueryFaultKind
-closed s =
-    if s.wanted then (if has_open s.waiting then Err MissingTerm else Err BadParenthesis) else popped s.waiting s.level
+abbrev pub state_after_close : State → Result State QueryFaultKind
+state_after_close s =
+    if s.wanted then (if has_open s.waiting then Err MissingTerm else Err BadParenthesis)
+    else state_after_group s.waiting s.level
 
 -- the query of all tokens, if they can end here
-abbrev pub ended : State → Result Query QueryFaultKind
-ended s =
+abbrev pub query_at_end : State → Result Query QueryFaultKind
+query_at_end s =
     if s.wanted then Err MissingTerm else (if has_open s.waiting then Err BadParenthesis else Ok (level_query s.level))
 
 module _ (lexicon : Lexicon) where
@@ -115,10 +117,10 @@ module _ (lexicon : Lexicon) where
   cut_term_step s prefix rest =
       if not (is_negated s.waiting) && has_field s.level.seen prefix then Err NeedsOperator
       else (parts_query lexicon prefix rest >>=
-      (λ q. Ok (placed s.waiting (noted (is_negated s.waiting) prefix s.level) q)))
+      (λ q. Ok (state_after_operand s.waiting (level_with_prefix (is_negated s.waiting) prefix s.level) q)))
 
   -- the state after a term with these parts; None has a prefix that isn't known
-  abbrev pub parts_step : State → Option Parts → Result State QueryFaultKind
+  abbrev pub parts_step : State → Option TermParts → Result State QueryFaultKind
   parts_step s None = Err BadPrefix
   parts_step s (Some parts) = cut_term_step s parts.prefix parts.rest
 
@@ -131,13 +133,13 @@ module _ (lexicon : Lexicon) where
   step s (Term t) = term_step s t
   step s NotSign = deeper s.waiting ForNot s.level
   step s Open = deeper s.waiting (ForClose s.level) empty_level
-  step s Close = closed s
-  step s AndSign = joined s
-  step s OrSign = parted s
+  step s Close = state_after_close s
+  step s AndSign = state_after_and s
+  step s OrSign = state_after_or s
 
   -- the query after the tokens from number n on, or the first fault
   abbrev pub run_from : ℕ → State → List Token → Result Query QueryFault
-  run_from n s [] = fault_as (λ kind. record { number = n; kind = kind }) (ended s)
+  run_from n s [] = fault_as (λ kind. record { number = n; kind = kind }) (query_at_end s)
   run_from n s (t ∷ ts) = fault_as (λ kind. record { number = n; kind = kind }) (step s t) >>=
       (λ next. run_from (n + 1) next ts)
 

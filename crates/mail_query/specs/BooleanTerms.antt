@@ -10,7 +10,7 @@ use Rattle.mail_query.specs.declared.kinds.Kinds.{Kinds}
 use Rattle.mail_query.specs.declared.fault.QueryFaultKind.{QueryFaultKind}
 use Rattle.mail_query.specs.declared.fault.QueryFaultKind.TheVariants.{BadPrefix, BadWord, MissingTerm, Phrase}
 use Rattle.mail_query.specs.Kinds.{no_kinds}
-use Rattle.mail_query.specs.Pieces.{is_byte, cut, without_last, without_angles}
+use Rattle.mail_query.specs.Pieces.{is_byte, texts_around, without_last, without_angles}
 use Rattle.mail_query.specs.Lexicon.{Lexicon}
 use Rattle.mail_query.specs.Query.{Query, Any, Word, Prefix}
 use Rattle.mail_query.specs.Mairix.{date_query}
@@ -29,13 +29,13 @@ field_of name =
     else None)))))
 
 -- a term's prefix, if it has one, and the text after it
-pub record Parts : Type 0 where
+pub record TermParts : Type 0 where
   pub prefix : Option Field
   pub rest : List ℕ
 
 -- a term's parts: the prefix ends at the first colon; if the language has no such prefix, there are none
-abbrev pub parts_of : List ℕ → Option Parts
-parts_of term = elim (cut 0x3A term) [
+abbrev pub parts_of : List ℕ → Option TermParts
+parts_of term = elim (texts_around 0x3A term) [
   | None ↦ Some (record { prefix = None; rest = term })
   | Some p ↦ option_map (λ f. record { prefix = Some f; rest = p.1 }) (field_of p.0)
 ]
@@ -89,16 +89,16 @@ module _ (lexicon : Lexicon) where
       else Err BadWord
 
   -- a whole word, or the beginning of one, with a `*` after it
-  abbrev pub word_query : Kinds → List ℕ → Result Query QueryFaultKind
-  word_query kinds text =
+  abbrev pub boolean_word_query : Kinds → List ℕ → Result Query QueryFaultKind
+  boolean_word_query kinds text =
       if lexicon.is_word text then Ok (Word kinds (lexicon.folded text)) else piece_query kinds (without_last 0x2A text)
 
   -- the query of a prefix and the text after it
   abbrev pub field_query : Field → List ℕ → Result Query QueryFaultKind
-  field_query field.From rest = word_query (record no_kinds { from = true }) rest
-  field_query field.To rest = word_query (record no_kinds { to = true; cc = true; bcc = true }) rest
-  field_query field.Subject rest = word_query (record no_kinds { subject = true }) rest
-  field_query field.Body rest = word_query (record no_kinds { body = true }) rest
+  field_query field.From rest = boolean_word_query (record no_kinds { from = true }) rest
+  field_query field.To rest = boolean_word_query (record no_kinds { to = true; cc = true; bcc = true }) rest
+  field_query field.Subject rest = boolean_word_query (record no_kinds { subject = true }) rest
+  field_query field.Body rest = boolean_word_query (record no_kinds { body = true }) rest
   field_query field.Id rest = id_query (without_angles rest)
   field_query field.Date rest = date_query (lexicon.dates rest)
 
@@ -106,7 +106,7 @@ module _ (lexicon : Lexicon) where
   abbrev pub bare_query : List ℕ → Result Query QueryFaultKind
   bare_query term =
       if bytes_eq term (codes "*") then Ok Any
-      else (if str_eq_ignore_ascii_case term (codes "xor") then Err BadWord else word_query bare_kinds term)
+      else (if str_eq_ignore_ascii_case term (codes "xor") then Err BadWord else boolean_word_query bare_kinds term)
 
   -- the query of a term by its parts; some text must follow a prefix
   abbrev pub parts_query : Option Field → List ℕ → Result Query QueryFaultKind
@@ -115,10 +115,10 @@ module _ (lexicon : Lexicon) where
   parts_query (Some f) (b ∷ bs) = field_query f (b ∷ bs)
 
   -- the query of these parts; None has a prefix that isn't known
-  abbrev pub cut_query : Option Parts → Result Query QueryFaultKind
+  abbrev pub cut_query : Option TermParts → Result Query QueryFaultKind
   cut_query None = Err BadPrefix
   cut_query (Some parts) = parts_query parts.prefix parts.rest
 
   -- the query of a term, or its fault
-  abbrev pub term_query : List ℕ → Result Query QueryFaultKind
-  term_query term = if is_phrase term then Err Phrase else cut_query (parts_of term)
+  abbrev pub boolean_term_query : List ℕ → Result Query QueryFaultKind
+  boolean_term_query term = if is_phrase term then Err Phrase else cut_query (parts_of term)

@@ -30,5 +30,5 @@ some_of [] = None
 some_of (q ∷ qs) = Some (all_of (q ∷ qs))
 
 -- all flags that the text names, one or more; None for any other text
-unfoldable pub flags_of : List ℕ → Option Query
-flags_of text = option_and_then some_of (flags_behind true text)
+unfoldable pub flags_of_text : List ℕ → Option Query
+flags_of_text text = option_and_then some_of (flags_behind true text)

@@ -10,7 +10,7 @@ use Rattle.mail_query.specs.declared.fault.QueryFault.{QueryFault}
 use Rattle.mail_query.specs.Lexicon.{Lexicon}
 use Rattle.mail_query.specs.Query.{Query}
 use Rattle.mail_query.specs.Mairix.{patterns_query}
-use Rattle.mail_query.specs.Tokens.{tokens}
+use Rattle.mail_query.specs.Tokens.{query_tokens}
 use Rattle.mail_query.specs.BooleanReading.{tokens_query}
 
 -- mail's words, with these dates
@@ -31,4 +31,4 @@ mairix_query patterns now = patterns_query (pattern_lexicon now) patterns
 
 -- the query of a text in the boolean language, or the first fault
 abbrev pub boolean_query : List ℕ → Result Query QueryFault
-boolean_query text = tokens_query boolean_lexicon (tokens text)
+boolean_query text = tokens_query boolean_lexicon (query_tokens text)

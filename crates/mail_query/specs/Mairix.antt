@@ -12,11 +12,11 @@ use Rattle.mail_query.specs.declared.fault.QueryFaultKind.{QueryFaultKind}
 use Rattle.mail_query.specs.declared.fault.QueryFaultKind.TheVariants.{NoPattern, BadPrefix, BadWord, Approximate}
 use Rattle.mail_query.specs.declared.fault.QueryFaultKind.TheVariants.{BadDate, BadSize, BadFlag}
 use Rattle.mail_query.specs.Kinds.{no_kinds, union}
-use Rattle.mail_query.specs.Pieces.{is_byte, cut, without_first, without_last, without_angles, is_nonempty}
+use Rattle.mail_query.specs.Pieces.{is_byte, texts_around, without_first, without_last, without_angles, is_nonempty}
 use Rattle.mail_query.specs.Lexicon.{Lexicon}
 use Rattle.mail_query.specs.Query.{Query, Word, Part, Prefix, Date, Not, all_of, either_of}
 use Rattle.mail_query.specs.Sizes.{sizes_of}
-use Rattle.mail_query.specs.Flags.{flags_of}
+use Rattle.mail_query.specs.Flags.{flags_of_text}
 
 -- ---- where a pattern looks for its words
 
@@ -60,8 +60,8 @@ abbrev pub is_sign : ℕ → Bool
 is_sign b = list_any (is_byte b) (codes "~,/=^")
 
 -- whether a text can be an id: it isn't empty, and no byte has a meaning in patterns
-abbrev pub is_id : List ℕ → Bool
-is_id text = is_nonempty text && not (list_any is_sign text)
+abbrev pub may_be_id : List ℕ → Bool
+may_be_id text = is_nonempty text && not (list_any is_sign text)
 
 -- the text, if the test passes
 abbrev pub some_if : Bool → List ℕ → Option (List ℕ)
@@ -71,8 +71,8 @@ some_if passes text = if passes then Some text else None
 abbrev pub id_forms : Forms
 id_forms = record {
   kinds = record no_kinds { own_id = true };
-  word = λ text. some_if (is_id text && is_nonempty (without_angles text)) (without_angles text);
-  part = λ text. some_if (is_id text) text;
+  word = λ text. some_if (may_be_id text && is_nonempty (without_angles text)) (without_angles text);
+  part = λ text. some_if (may_be_id text) text;
 }
 
 -- whether the text after the last `=` is one or more digits
@@ -137,7 +137,7 @@ size_query text = ok_or (sizes_of text) BadSize
 
 -- a message with the flags that the text names
 abbrev pub flags_query : List ℕ → Result Query QueryFaultKind
-flags_query text = ok_or (flags_of text) BadFlag
+flags_query text = ok_or (flags_of_text text) BadFlag
 
 -- ---- patterns
 
@@ -161,7 +161,7 @@ module _ (lexicon : Lexicon) where
 
   -- the query of a pattern, which is cut at its first colon; without a colon it has no prefix
   abbrev pub pattern_query : List ℕ → Result Query QueryFaultKind
-  pattern_query text = elim (cut 0x3A text) [
+  pattern_query text = elim (texts_around 0x3A text) [
     | None ↦ rest_query (word_forms plain_kinds) text
     | Some p ↦ prefixed_query p.0 p.1
   ]

@@ -14,19 +14,19 @@ use Rattle.mail_query.specs.Mairix.{Forms, plain_kinds, is_sign, id_forms, word_
 -- ---- where a pattern looks for its words
 
 -- whether the letter is one of these
-abbrev pub is_among : List ℕ → ℕ → Bool
-is_among letters letter = list_any (λ b. letter == b) letters
+abbrev pub is_letter_among : List ℕ → ℕ → Bool
+is_letter_among letters letter = list_any (λ b. letter == b) letters
 
 -- the kinds that the letters name: `t` To, `c` Cc, `f` From, `s` Subject, `b` body, `a` To, Cc and From, `n` names
 abbrev pub kinds_named : List ℕ → Kinds
 kinds_named letters = record {
-  to = list_any (is_among (codes "ta")) letters;
-  cc = list_any (is_among (codes "ca")) letters;
+  to = list_any (is_letter_among (codes "ta")) letters;
+  cc = list_any (is_letter_among (codes "ca")) letters;
   bcc = false;
-  from = list_any (is_among (codes "fa")) letters;
-  subject = list_any (is_among (codes "s")) letters;
-  body = list_any (is_among (codes "b")) letters;
-  name = list_any (is_among (codes "n")) letters;
+  from = list_any (is_letter_among (codes "fa")) letters;
+  subject = list_any (is_letter_among (codes "s")) letters;
+  body = list_any (is_letter_among (codes "b")) letters;
+  name = list_any (is_letter_among (codes "n")) letters;
   own_id = false;
 }
 
@@ -62,7 +62,7 @@ pub data IsRest (forms : Forms) : List ℕ → Query → Type 0 where
 -- letters = 1*("t" / "c" / "f" / "s" / "b" / "a" / "n")
 pub record AreLetters (text : List ℕ) : Type 0 where
   pub some : 1 ≤ length text
-  pub letters : list_all (is_among (codes "tcfsban")) text ≡ true
+  pub letters : list_all (is_letter_among (codes "tcfsban")) text ≡ true
 
 -- pattern = rest | letters ":" rest | "m:" rest | "d:" dates | "z:" sizes | "F:" flags; a rest alone has no `:`
 pub data IsPattern (lexicon : Lexicon) : List ℕ → Query → Type 0 where

@@ -6,10 +6,10 @@ abbrev pub is_byte : ℕ → ℕ → Bool
 is_byte c b = b == c
 
 -- the text before the first such byte and the text after it, if there is one
-abbrev pub cut : ℕ → List ℕ → Option (List ℕ × List ℕ)
-cut c [] = None
-cut c (b ∷ bs) =
-    if b == c then Some ([], bs) else option_map (λ (p : List ℕ × List ℕ). (b ∷ p.0, p.1)) (cut c bs)
+abbrev pub texts_around : ℕ → List ℕ → Option (List ℕ × List ℕ)
+texts_around c [] = None
+texts_around c (b ∷ bs) =
+    if b == c then Some ([], bs) else option_map (λ (p : List ℕ × List ℕ). (b ∷ p.0, p.1)) (texts_around c bs)
 
 -- the text after its first byte, if that byte is c
 abbrev pub without_first : ℕ → List ℕ → Option (List ℕ)

@@ -4,7 +4,7 @@ use Rattle.std.specs.Prelude.{Some, None, if◌then◌else◌, option_map, optio
 use Rattle.std.specs.List.{list_all}
 use Rattle.std.specs.Char.{is_ascii_digit}
 use Rattle.std.specs.Str.Parse.{digits_value}
-use Rattle.mail_query.specs.Pieces.{cut}
+use Rattle.mail_query.specs.Pieces.{texts_around}
 use Rattle.mail_query.specs.Query.{Query, Size}
 
 -- the greatest size that a query can name: 2^63 - 1 bytes
@@ -26,16 +26,16 @@ abbrev pub before_last_byte : List ℕ → List ℕ
 before_last_byte text = take (length text - 1) text
 
 -- the number of 1 to 18 digits times the factor, if that is at most the limit
-abbrev pub scaled : ℕ → List ℕ → Option ℕ
-scaled factor digits =
+abbrev pub scaled_size : ℕ → List ℕ → Option ℕ
+scaled_size factor digits =
     if (nat_le 1 (length digits) && nat_le (length digits) 18) &&
     (list_all is_ascii_digit digits && nat_le (digits_value 10 digits * factor) size_limit)
     then Some (digits_value 10 digits * factor) else None
 
 -- the size of a text whose last byte has this factor, or isn't a letter with one
 abbrev pub size_with : Option ℕ → List ℕ → Option ℕ
-size_with None text = scaled 1 text
-size_with (Some factor) text = scaled factor (before_last_byte text)
+size_with None text = scaled_size 1 text
+size_with (Some factor) text = scaled_size factor (before_last_byte text)
 
 -- the size that a text names: digits, and then a letter or none
 unfoldable pub size_of : List ℕ → Option ℕ
@@ -57,4 +57,4 @@ sizes_between low high = option_and_then (λ l. option_map (λ h. Size l h) (hig
 
 -- the sizes of a text with its ends before and after its first dash
 unfoldable pub sizes_of : List ℕ → Option Query
-sizes_of text = elim (cut 0x2D text) [ None ↦ None | Some p ↦ sizes_between p.0 p.1 ]
+sizes_of text = elim (texts_around 0x2D text) [ None ↦ None | Some p ↦ sizes_between p.0 p.1 ]

@@ -15,8 +15,8 @@ token_of run =
     else (if str_eq_ignore_ascii_case run (codes "not") then NotSign else Term run))
 
 -- whether the byte is a space, a tab or a line feed
-abbrev pub is_blank : ℕ → Bool
-is_blank b = (b == 0x20) || ((b == 0x09) || (b == 0x0A))
+abbrev pub is_blank_or_feed : ℕ → Bool
+is_blank_or_feed b = (b == 0x20) || ((b == 0x09) || (b == 0x0A))
 
 -- these tokens, with that of the run before them, if it isn't empty
 abbrev pub closed_run : List ℕ → List Token → List Token
@@ -36,11 +36,11 @@ all_tokens cut = closed_run cut.run cut.behind
 abbrev pub cut_tokens : List ℕ → Cut
 cut_tokens [] = record { run = []; behind = [] }
 cut_tokens (b ∷ bs) = let rest = cut_tokens bs in
-    if is_blank b then record { run = []; behind = all_tokens rest }
+    if is_blank_or_feed b then record { run = []; behind = all_tokens rest }
     else (if b == 0x28 then record { run = []; behind = Open ∷ all_tokens rest }
     else (if b == 0x29 then record { run = []; behind = Close ∷ all_tokens rest }
     else record { run = b ∷ rest.run; behind = rest.behind }))
 
 -- the tokens of a text: each parenthesis, and each longest run of other bytes that aren't blank
-unfoldable pub tokens : List ℕ → List Token
-tokens text = all_tokens (cut_tokens text)
+unfoldable pub query_tokens : List ℕ → List Token
+query_tokens text = all_tokens (cut_tokens text)

@@ -47,8 +47,8 @@ contains_text text [] = starts_with nat_eq [] text
 contains_text text (b ∷ bs) = starts_with nat_eq (b ∷ bs) text || contains_text text bs
 
 -- whether the word begins with the text
-abbrev pub begins_with : List ℕ → List ℕ → Bool
-begins_with text word = starts_with nat_eq word text
+abbrev pub word_begins_with : List ℕ → List ℕ → Bool
+word_begins_with text word = starts_with nat_eq word text
 
 -- whether the flag is set
 abbrev pub has_flag : Flag → Flags → Bool
@@ -67,7 +67,7 @@ abbrev mutual
   is_true Any m = true
   is_true (Word kinds text) m = some_word (bytes_eq text) kinds m
   is_true (Part kinds text) m = some_word (contains_text text) kinds m
-  is_true (Prefix kinds text) m = some_word (begins_with text) kinds m
+  is_true (Prefix kinds text) m = some_word (word_begins_with text) kinds m
   is_true (Date range) m = has_date range m.date
   is_true (Size low high) m = nat_le low m.size && option_map_or (λ most. nat_le m.size most) high true
   is_true (HasFlag flag wanted) m = is_same wanted (has_flag flag m.flags)

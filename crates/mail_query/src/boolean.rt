@@ -4,11 +4,11 @@ ghost use Rattle.contract_words.specs.Answers.{Gives};
 ghost use Rattle.mail_query.specs.Meaning.{meaning};
 ghost use Rattle.or_memory.specs.Refusals.{refusal, IfRefused};
 ghost use Rattle.mail_query.specs.Mail.{boolean_lexicon, boolean_query};
-ghost use Rattle.mail_query.specs.Tokens.{tokens};
+ghost use Rattle.mail_query.specs.Tokens.{query_tokens};
 ghost use Rattle.mail_query.specs.BooleanGrammar.{Reads};
 ghost use Rattle.mail_query.specs.BooleanFaults.{first_fault};
 ghost use Rattle.mail_query.specs.BooleanReading.{start};
-ghost use Rattle.mail_query.specs.Inside.Shown.{shown};
+ghost use Rattle.mail_query.specs.Inside.Shown.{state_of_reader};
 
 mod field;
 mod reader;
@@ -34,9 +34,9 @@ use std::alloc::Global;
 /// is `NoPattern` with number 1. `Memory` for lack of memory.
 pub fn read_boolean(alloc: Global, text: &str, _now: Moment) -> Result<Query, OrMemory<QueryFault>>
     ensures answer { Gives meaning refusal result (boolean_query text.now) }
-    ensures read { IfOk result (λ q. Reads boolean_lexicon (tokens text.now) (meaning q)) }
+    ensures read { IfOk result (λ q. Reads boolean_lexicon (query_tokens text.now) (meaning q)) }
     ensures fault { IfRefused result
-        (λ f. first_fault boolean_lexicon (tokens text.now) ≡ Some f) }
+        (λ f. first_fault boolean_lexicon (query_tokens text.now) ≡ Some f) }
 {
     let mut reader = Reader::new(alloc);
     read_tokens(alloc, &mut reader, text)
@@ -48,7 +48,7 @@ fn read_tokens(
     reader: &mut Reader,
     text: &str,
 ) -> Result<Query, OrMemory<QueryFault>>
-    requires { shown reader.old ≡ start }
+    requires { state_of_reader reader.old ≡ start }
     ensures { Gives meaning refusal result (boolean_query text.now) }
 {
     let mut rest = text;

@@ -1,6 +1,6 @@
 //! The faults with which a query is refused.
 ghost use Rattle.std.specs.Prelude.{◌≡◌};
-ghost use Rattle.mail_query.specs.Inside.Reading.{numbered};
+ghost use Rattle.mail_query.specs.Inside.Reading.{fault_with_number};
 
 use or_memory::OrMemory;
 
@@ -44,7 +44,7 @@ pub struct QueryFault {
 
 /// Returns the fault of the pattern or token with this number. Lack of memory has no number.
 pub(crate) fn numbered(number: usize, given: OrMemory<QueryFaultKind>) -> OrMemory<QueryFault>
-    ensures { result ≡ numbered number given }
+    ensures { result ≡ fault_with_number number given }
 {
     match given {
         OrMemory::Refused(kind) => OrMemory::Refused(QueryFault { number, kind }),

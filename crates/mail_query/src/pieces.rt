@@ -1,11 +1,11 @@
 //! Cuts a text at a character, or takes characters off its ends.
 ghost use Rattle.std.specs.Prelude.{◌≡◌, ◌<◌, option_map, option_copied};
-ghost use Rattle.mail_query.specs.Pieces.{cut, without_first, without_last, without_angles};
+ghost use Rattle.mail_query.specs.Pieces.{texts_around, without_first, without_last, without_angles};
 
 /// Returns the text before the first `sign` and the text after it, or None if the text has no `sign`.
 pub(crate) fn cut(text: &str, sign: char) -> Option<(&str, &str)>
     requires { sign < 128 }
-    ensures { option_map (λ p. (p.0.now, p.1.now)) result ≡ cut sign text.now }
+    ensures { option_map (λ p. (p.0.now, p.1.now)) result ≡ texts_around sign text.now }
 {
     text.split_once(sign)
 }

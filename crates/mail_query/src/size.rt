@@ -1,7 +1,7 @@
 //! Reads the sizes that a pattern `z:` names.
 ghost use Rattle.std.specs.Prelude.{◌≡◌, option_map};
 ghost use Rattle.mail_query.specs.Query.{query_of};
-ghost use Rattle.mail_query.specs.Sizes.{scaled, size_of, sizes_of};
+ghost use Rattle.mail_query.specs.Sizes.{scaled_size, size_of, sizes_of};
 
 use crate::node::Node;
 use crate::pieces::cut;
@@ -46,7 +46,7 @@ fn size_of(text: &[u8]) -> Option<u64>
 }
 
 fn scaled(factor: u64, digits: &[u8]) -> Option<u64>
-    ensures { result ≡ scaled factor digits.now }
+    ensures { result ≡ scaled_size factor digits.now }
 {
     if digits.is_empty() || digits.len() > 18 || !are_digits(digits) {
         return None;

@@ -9,12 +9,12 @@ use Rattle.contract_words.specs.Knowledge.{still_known}
 use Rattle.call_record.specs.Noted.{Notes, held_by, left_of, read_told, read_at_told, length_told}
 use Rattle.call_record.proofs.Reading.{noted-read}
 use Rattle.named_files.specs.Entries.{IsReadFromFile}
-use Rattle.mairix_files.specs.KitFiles.{bytes_held, rest_held, if_any}
+use Rattle.mairix_files.specs.KitFiles.{bytes_held, rest_held, if_supposed}
 use Rattle.mairix_files.proofs.NotedCalls.{is-read, is-length}
 
 of_only : (supposed : List (List ℕ)) (held : Option (List (List ℕ))) (P : List ℕ → Type 0)
     → IfSome held (λ archives. P (archive_at archives 0))
-    → IfSome (if_any supposed (option_map (λ archives. archive_at archives 0) held)) P
+    → IfSome (if_supposed supposed (option_map (λ archives. archive_at archives 0) held)) P
 of_only [] held P h = tt
 of_only (bytes ∷ others) None P h = tt
 of_only (bytes ∷ others) (Some archives) P h = h
@@ -33,7 +33,8 @@ only_length old new n notes =
 -- what a read gives of a file, if one is supposed
 consumes_if : {E : Type 0} (supposed : List (List ℕ)) (before after : Option (List ℕ)) (told : Result ℕ E)
     → (into : List ℕ) → ReadConsumes (still_known before after) after told into
-    → ReadConsumes (still_known (if_any supposed before) (if_any supposed after)) (if_any supposed after) told into
+    → ReadConsumes (still_known (if_supposed supposed before) (if_supposed supposed after)) (if_supposed supposed after)
+    told into
 consumes_if [] before after (Ok n) into h = search rules
 consumes_if [] before after (Err e) into h = search rules
 consumes_if (bytes ∷ others) before after told into h = h
@@ -42,7 +43,7 @@ pub only_read_next : (old new : Record) (n : ℕ) (into : List ℕ) → n ≤ le
     → Notes (read_told {E = Unit {0}} (Ok n) into) old new
     → ReadConsumes {E = Unit {0}} (still_known (rest_held old) (rest_held new)) (rest_held new) (Ok n) into
 only_read_next old new n into bound notes =
-    subst (λ supposed. ReadConsumes {E = Unit {0}} (still_known (rest_held old) (if_any supposed (left_of 0 new)))
-    (if_any supposed (left_of 0 new)) (Ok n) into) (sym notes.0)
+    subst (λ supposed. ReadConsumes {E = Unit {0}} (still_known (rest_held old) (if_supposed supposed (left_of 0 new)))
+    (if_supposed supposed (left_of 0 new)) (Ok n) into) (sym notes.0)
     (consumes_if {E = Unit {0}} old.supposed (left_of 0 old) (left_of 0 new) (Ok n) into
     (noted-read {E = Unit {0}} 0 old new (Ok n) into bound notes).0)

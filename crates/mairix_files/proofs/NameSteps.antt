@@ -6,7 +6,7 @@ use Rattle.std.proofs.lemmas.Slice.Eq.{bytes_eq-Decides}
 use Rattle.std.specs.Str.{bytes_eq}
 use Rattle.named_files.specs.Crashes.{LeavesNoMoreWhere}
 use Rattle.named_files.specs.Entries.{Entry}
-use Rattle.mairix_files.specs.NameCalls.{are_apart, place_of}
+use Rattle.mairix_files.specs.NameCalls.{are_apart, place_by_links}
 
 -- ---- names that lead to two places
 
@@ -20,19 +20,19 @@ differ links a b apart = cases (bytes_eq a b) refl
     cases : (same : Bool) → bytes_eq a b ≡ same → not same ≡ true
     cases false e = refl
     cases true e =
-        absurd (not_both (bytes_eq (place_of links a) (place_of links b))
-        ((bytes_eq-Decides (place_of links a) (place_of links b)).1
-        (ap (place_of links) ((bytes_eq-Decides a b).0 e))) apart)
+        absurd (not_both (bytes_eq (place_by_links links a) (place_by_links links b))
+        ((bytes_eq-Decides (place_by_links links a) (place_by_links links b)).1
+        (ap (place_by_links links) ((bytes_eq-Decides a b).0 e))) apart)
 
 is_denied : (same : Bool) → not same ≡ false → same ≡ true
 is_denied true h = refl
 is_denied false h = cc
 
 pub same_place : (links : List (List ℕ × List ℕ)) (a b : List ℕ) → are_apart links a b ≡ false
-    → place_of links a ≡ place_of links b
+    → place_by_links links a ≡ place_by_links links b
 same_place links a b h =
-    (bytes_eq-Decides (place_of links a) (place_of links b)).0
-    (is_denied (bytes_eq (place_of links a) (place_of links b)) h)
+    (bytes_eq-Decides (place_by_links links a) (place_by_links links b)).0
+    (is_denied (bytes_eq (place_by_links links a) (place_by_links links b)) h)
 
 both_of : (a b c d : Bool) → (a ≡ true → c ≡ true) → (b ≡ true → d ≡ true) → (a && b) ≡ true → (c && d) ≡ true
 both_of a b c d first second h = grind (arith, nat_tests)

@@ -4,23 +4,24 @@ use Rattle.std.specs.Coded.{Coded, code_by, coded×, coded_ℕ, coded_list}
 use Rattle.named_files.specs.Entries.{Entry, Nothing, File, Folder, Other}
 
 -- its kind, and the bytes of a file
-abbrev to_parts : Entry → ℕ × List ℕ
-to_parts Nothing = (0, [])
-to_parts (File bytes) = (1, bytes)
-to_parts Folder = (2, [])
-to_parts Other = (3, [])
+abbrev parts_of_entry : Entry → ℕ × List ℕ
+parts_of_entry Nothing = (0, [])
+parts_of_entry (File bytes) = (1, bytes)
+parts_of_entry Folder = (2, [])
+parts_of_entry Other = (3, [])
 
 -- what has this kind and these bytes
-abbrev from_parts : ℕ × List ℕ → Entry
-from_parts p = cond (p.0 == 0) Nothing (cond (p.0 == 1) (File p.1) (cond (p.0 == 2) Folder Other))
+abbrev entry_of_parts : ℕ × List ℕ → Entry
+entry_of_parts p = cond (p.0 == 0) Nothing (cond (p.0 == 1) (File p.1) (cond (p.0 == 2) Folder Other))
 
 -- an entry is got back from its parts
-pub from_parts-to_parts : (entry : Entry) → from_parts (to_parts entry) ≡ entry
-from_parts-to_parts Nothing = refl
-from_parts-to_parts (File bytes) = refl
-from_parts-to_parts Folder = refl
-from_parts-to_parts Other = refl
+pub entry_of_parts-parts_of_entry : (entry : Entry) → entry_of_parts (parts_of_entry entry) ≡ entry
+entry_of_parts-parts_of_entry Nothing = refl
+entry_of_parts-parts_of_entry (File bytes) = refl
+entry_of_parts-parts_of_entry Folder = refl
+entry_of_parts-parts_of_entry Other = refl
 
 -- how the logic stores an entry, by its parts
 abbrev pub entry_code : Coded Entry
-entry_code = code_by (ℕ × List ℕ) (coded× coded_ℕ (coded_list coded_ℕ)) to_parts from_parts from_parts-to_parts
+entry_code = code_by (ℕ × List ℕ) (coded× coded_ℕ (coded_list coded_ℕ)) parts_of_entry entry_of_parts
+    entry_of_parts-parts_of_entry

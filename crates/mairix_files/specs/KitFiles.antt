@@ -10,9 +10,9 @@ use Rattle.call_record.specs.Calls.{Call, agrees_with, held_after}
 use Rattle.call_record.specs.Noted.{Notes, held_by, left_of}
 
 -- this, if a file is supposed
-abbrev pub if_any : List (List ℕ) → Option (List ℕ) → Option (List ℕ)
-if_any [] known = None
-if_any (bytes ∷ others) known = known
+abbrev pub if_supposed : List (List ℕ) → Option (List ℕ) → Option (List ℕ)
+if_supposed [] known = None
+if_supposed (bytes ∷ others) known = known
 
 -- the bytes of this file as the only ones; none at all if it is no file
 abbrev pub only : Option (List ℕ) → List (List ℕ)
@@ -21,15 +21,15 @@ only (Some bytes) = bytes ∷ []
 
 -- the bytes that are supposed of the file; None if no file is supposed
 abbrev pub file_supposed : Record → Option (List ℕ)
-file_supposed noted = if_any noted.supposed (Some (archive_at noted.supposed 0))
+file_supposed noted = if_supposed noted.supposed (Some (archive_at noted.supposed 0))
 
 -- what is left of the supposed bytes, if they agree with each read
 abbrev pub rest_held : Record → Option (List ℕ)
-rest_held noted = if_any noted.supposed (left_of 0 noted)
+rest_held noted = if_supposed noted.supposed (left_of 0 noted)
 
 -- the supposed bytes, if they agree with each call
 abbrev pub bytes_held : Record → Option (List ℕ)
-bytes_held noted = if_any noted.supposed (option_map (λ archives. archive_at archives 0) (held_by noted))
+bytes_held noted = if_supposed noted.supposed (option_map (λ archives. archive_at archives 0) (held_by noted))
 
 -- this call was noted and no other, if it was made; otherwise none was
 abbrev pub NotesIf : Bool → Call → Record → Record → Type 0
@@ -44,22 +44,22 @@ GivesOn remaining None (Some new) result into = ⊥
 GivesOn remaining None None result into = ⊤
 
 -- these are the bytes of the only archive, if these are known
-abbrev AreAll : List ℕ → Option (List (List ℕ)) → Type 0
-AreAll all held = IfSome (option_map (λ archives. archive_at archives 0) held) (λ known. known ≡ all)
+abbrev AreAllOfArchive : List ℕ → Option (List (List ℕ)) → Type 0
+AreAllOfArchive all held = IfSome (option_map (λ archives. archive_at archives 0) held) (λ known. known ≡ all)
 
-still_all : (all : List ℕ) (agrees : Bool) (held : Option (List (List ℕ))) → AreAll all held
-    → AreAll all (if agrees then held else None)
+still_all : (all : List ℕ) (agrees : Bool) (held : Option (List (List ℕ))) → AreAllOfArchive all held
+    → AreAllOfArchive all (if agrees then held else None)
 still_all all true held h = h
 still_all all false held h = tt
 
 all_after : (archives : List (List ℕ)) (all : List ℕ) (calls : List Call) → archive_at archives 0 ≡ all
-    → AreAll all (held_after archives calls)
+    → AreAllOfArchive all (held_after archives calls)
 all_after archives all [] is = is
 all_after archives all (call ∷ earlier) is =
     still_all all (agrees_with call archives) (held_after archives earlier) (all_after archives all earlier is)
 
 if_any_all : (supposed : List (List ℕ)) (known : Option (List ℕ)) (all : List ℕ) → IfSome known (λ bytes. bytes ≡ all)
-    → IfSome (if_any supposed known) (λ bytes. bytes ≡ all)
+    → IfSome (if_supposed supposed known) (λ bytes. bytes ≡ all)
 if_any_all [] known all h = tt
 if_any_all (bytes ∷ others) known all h = h
 

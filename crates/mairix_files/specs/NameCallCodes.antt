@@ -16,34 +16,34 @@ name_call_of numbers name bytes =
 -- ---- how the logic stores a call
 
 -- what is stored of a call: its kind, a name, bytes, and whether they were on the disk
-abbrev Parts : Type 0
-Parts = ℕ × (List ℕ × (List ℕ × Bool))
+abbrev NameCallParts : Type 0
+NameCallParts = ℕ × (List ℕ × (List ℕ × Bool))
 
 -- the parts of a call
-abbrev to_parts : NameCall → Parts
-to_parts (Made name) = (0, (name, ([], false)))
-to_parts (Renamed name bytes kept) = (1, (name, (bytes, kept)))
-to_parts (Kept name) = (2, (name, ([], false)))
-to_parts Discarded = (3, ([], ([], false)))
-to_parts (Cleared name) = (4, (name, ([], false)))
+abbrev parts_of_name_call : NameCall → NameCallParts
+parts_of_name_call (Made name) = (0, (name, ([], false)))
+parts_of_name_call (Renamed name bytes kept) = (1, (name, (bytes, kept)))
+parts_of_name_call (Kept name) = (2, (name, ([], false)))
+parts_of_name_call Discarded = (3, ([], ([], false)))
+parts_of_name_call (Cleared name) = (4, (name, ([], false)))
 
 -- the call of these parts
-abbrev from_parts : Parts → NameCall
-from_parts p =
+abbrev name_call_of_parts : NameCallParts → NameCall
+name_call_of_parts p =
     cond (p.0 == 0) (Made p.1.0)
     (cond (p.0 == 1) (Renamed p.1.0 p.1.1.0 p.1.1.1)
     (cond (p.0 == 2) (Kept p.1.0) (cond (p.0 == 3) Discarded (Cleared p.1.0))))
 
 -- a call is got back from its parts
-pub from_parts-to_parts : (call : NameCall) → from_parts (to_parts call) ≡ call
-from_parts-to_parts (Made name) = refl
-from_parts-to_parts (Renamed name bytes kept) = refl
-from_parts-to_parts (Kept name) = refl
-from_parts-to_parts Discarded = refl
-from_parts-to_parts (Cleared name) = refl
+pub name_call_of_parts-parts_of_name_call : (call : NameCall) → name_call_of_parts (parts_of_name_call call) ≡ call
+name_call_of_parts-parts_of_name_call (Made name) = refl
+name_call_of_parts-parts_of_name_call (Renamed name bytes kept) = refl
+name_call_of_parts-parts_of_name_call (Kept name) = refl
+name_call_of_parts-parts_of_name_call Discarded = refl
+name_call_of_parts-parts_of_name_call (Cleared name) = refl
 
 -- how the logic stores a call, by its parts
 abbrev pub name_call_code : Coded NameCall
 name_call_code =
-    code_by Parts (coded× coded_ℕ (coded× (coded_list coded_ℕ) (coded× (coded_list coded_ℕ) coded_bool)))
-    to_parts from_parts from_parts-to_parts
+    code_by NameCallParts (coded× coded_ℕ (coded× (coded_list coded_ℕ) (coded× (coded_list coded_ℕ) coded_bool)))
+    parts_of_name_call name_call_of_parts name_call_of_parts-parts_of_name_call

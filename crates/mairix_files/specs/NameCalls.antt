@@ -21,8 +21,8 @@ pub data NameCall : Type 0 where
 -- The calls of a folder are a list, the newest first.
 
 -- a call was done, and no other
-abbrev pub GoesOn : Bool → NameCall → List NameCall → List NameCall → Type 0
-GoesOn done call old new = new ≡ (if done then call ∷ old else old)
+abbrev pub NotesIfDone : Bool → NameCall → List NameCall → List NameCall → Type 0
+NotesIfDone done call old new = new ≡ (if done then call ∷ old else old)
 
 -- what these calls change in a folder, if the system carries them out
 abbrev pub changes_by : List NameCall → List Change
@@ -43,18 +43,18 @@ entry_in [] n = Nothing
 entry_in (first ∷ rest) n = if bytes_eq n first.0 then first.1 else entry_in rest n
 
 -- the name to which these links lead from a name, one after another; the first name of each leads to the second one
-abbrev pub place_of : List (List ℕ × List ℕ) → List ℕ → List ℕ
-place_of [] n = n
-place_of (link ∷ rest) n = place_of rest (if bytes_eq n link.0 then link.1 else n)
+abbrev pub place_by_links : List (List ℕ × List ℕ) → List ℕ → List ℕ
+place_by_links [] n = n
+place_by_links (link ∷ rest) n = place_by_links rest (if bytes_eq n link.0 then link.1 else n)
 
 -- whether two names don't lead to one place
 abbrev pub are_apart : List (List ℕ × List ℕ) → List ℕ → List ℕ → Bool
-are_apart links a b = not (bytes_eq (place_of links a) (place_of links b))
+are_apart links a b = not (bytes_eq (place_by_links links a) (place_by_links links b))
 
 -- What each name is supposed to lead to before any call. It is on the disk.
 abbrev pub supposed_first : SupposedNames → List ℕ → Held
 supposed_first supposed n =
-    record { entry = entry_in supposed.entries (place_of supposed.links n); is_on_disk = true; is_left = false }
+    record { entry = entry_in supposed.entries (place_by_links supposed.links n); is_on_disk = true; is_left = false }
 
 -- what a name leads to after these calls, if the system carries them out
 abbrev pub supposed_now : SupposedNames → List NameCall → List ℕ → Entry

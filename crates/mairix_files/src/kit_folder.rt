@@ -3,7 +3,7 @@ ghost use Rattle.std.specs.Prelude.{◌≡◌, [], ⊤, ℕ, List, true, Some, N
 ghost use Rattle.std.specs.Option.{option_map};
 ghost use Rattle.std.specs.String.{string_bytes};
 ghost use Rattle.named_files.specs.Logs.{held_after_changes, MayLeave, MayHaveLeft, left_now, only_left};
-ghost use Rattle.mairix_files.specs.NameCalls.{Made, Renamed, Kept, Discarded, Cleared, GoesOn, are_apart, changes_by, supposed_first, supposed_now};
+ghost use Rattle.mairix_files.specs.NameCalls.{Made, Renamed, Kept, Discarded, Cleared, NotesIfDone, are_apart, changes_by, supposed_first, supposed_now};
 
 use crate::kit_calls::{
     KitCalls, note_cleared, note_discarded, note_kept, note_made, note_renamed,
@@ -181,18 +181,18 @@ impl<'r, R: Files<File = File>> Folder for KitFolder<'r, R> {
     ghost writes_can_fail = { ⊤ };
 
     ghost creates = { λ old name done new.
-        GoesOn done (Made name) old.calls.done new.calls.done };
+        NotesIfDone done (Made name) old.calls.done new.calls.done };
 
     ghost renames = { λ old name kept done new. (bytes : List ℕ)
-        × GoesOn done (Renamed name bytes kept) old.calls.done new.calls.done };
+        × NotesIfDone done (Renamed name bytes kept) old.calls.done new.calls.done };
 
     ghost syncs = { λ old name done new.
-        GoesOn done (Kept name) old.calls.done new.calls.done };
+        NotesIfDone done (Kept name) old.calls.done new.calls.done };
 
-    ghost discards = { λ old new. GoesOn true Discarded old.calls.done new.calls.done };
+    ghost discards = { λ old new. NotesIfDone true Discarded old.calls.done new.calls.done };
 
     ghost removes = { λ old name done new.
-        GoesOn done (Cleared name) old.calls.done new.calls.done };
+        NotesIfDone done (Cleared name) old.calls.done new.calls.done };
 
     ghost counts_now = { λ f t n c le left.
         left_now (supposed_first f.supposed) (changes_by f.calls.done) t n c le left };

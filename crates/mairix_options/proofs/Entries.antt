@@ -1,23 +1,25 @@
 -- What a line sets, by what a reader finds in it.
 use Rattle.mairix_options.proofs.Words.{◌≡◌, ℕ, ◌+◌, ◌≤◌, ◌==◌, Option, List, [], length, Err, refl, sym, ap, ◌∙◌}
 use Rattle.mairix_options.proofs.Words.{arith, before_first, after_first, position_or_len, IsUtf8, or_right}
-use Rattle.mairix_options.proofs.Words.{false_from_ne_true, drop_all, is_utf8-from_IsUtf8, IsUtf8-from_is_utf8, trimmed}
-use Rattle.mairix_options.proofs.Words.{entry, assigned, BadLine}
+use Rattle.mairix_options.proofs.Words.{false_from_ne_true, drop_all, is_utf8-from_IsUtf8, IsUtf8-from_is_utf8}
+use Rattle.mairix_options.proofs.Words.{text_without_blanks}
+use Rattle.mairix_options.proofs.Words.{entry, assignment, BadLine}
 
 pub entry-not_utf8 : (base : Option (List ℕ)) (n : ℕ) (text : List ℕ) → ¬ (IsUtf8 text) → entry base n text
     ≡ Err (BadLine n)
 entry-not_utf8 base n text broken = grind (arith, false_from_ne_true, IsUtf8-from_is_utf8)
 
 pub entry-assigned : (base : Option (List ℕ)) (n : ℕ) (text option value : List ℕ) → IsUtf8 text
-    → option ≡ trimmed (before_first (λ b. b == 61) text) → value ≡ trimmed (after_first (λ b. b == 61) text)
-    → entry base n text ≡ assigned base n option value
+    → option ≡ text_without_blanks (before_first (λ b. b == 61) text) → value
+    ≡ text_without_blanks (after_first (λ b. b == 61) text)
+    → entry base n text ≡ assignment base n option value
 entry-assigned base n text option value whole is_option is_value = grind (arith, is_utf8-from_IsUtf8)
 
-assigned-nothing : (base : Option (List ℕ)) (n : ℕ) (option : List ℕ) → assigned base n option [] ≡ Err (BadLine n)
+assigned-nothing : (base : Option (List ℕ)) (n : ℕ) (option : List ℕ) → assignment base n option [] ≡ Err (BadLine n)
 assigned-nothing base n option = grind (arith, or_right)
 
-trimmed-nil : trimmed [] ≡ []
-unfolding trimmed
+trimmed-nil : text_without_blanks [] ≡ []
+unfolding text_without_blanks
 trimmed-nil = refl
 
 -- a line without `=`
@@ -26,6 +28,6 @@ pub entry-no_value : (base : Option (List ℕ)) (n : ℕ) (text : List ℕ) → 
 entry-no_value base n text whole none =
     let past : length text ≤ position_or_len (λ b. b == 61) text + 1 = omega arith in
     let behind : after_first (λ b. b == 61) text ≡ [] = drop_all (position_or_len (λ b. b == 61) text + 1) text past in
-    entry-assigned base n text (trimmed (before_first (λ b. b == 61) text)) [] whole refl
-    (sym (ap trimmed behind ∙ trimmed-nil))
-    ∙ assigned-nothing base n (trimmed (before_first (λ b. b == 61) text))
+    entry-assigned base n text (text_without_blanks (before_first (λ b. b == 61) text)) [] whole refl
+    (sym (ap text_without_blanks behind ∙ trimmed-nil))
+    ∙ assigned-nothing base n (text_without_blanks (before_first (λ b. b == 61) text))

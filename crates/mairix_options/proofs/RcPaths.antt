@@ -9,12 +9,15 @@ use Rattle.mairix_options.proofs.Words.{or_parts, not-false, nat_tests, drop_all
 use Rattle.mairix_options.proofs.Words.{All-head, All-tail, All-append, All-filter, passes_at_first, IsUtf8-nil}
 use Rattle.mairix_options.proofs.Words.{IsUtf8-append, IsUtf8-take, IsUtf8-drop, IsUtf8-from_is_utf8, IsUtf8-from_ascii}
 use Rattle.mairix_options.proofs.Words.{IsCharBoundary-before_ascii, IsCharBoundary-after_ascii, Gives, ◌>>=◌, IsPath}
-use Rattle.mairix_options.proofs.Words.{is_blank, trimmed, is_path, under, archive_path, mfolder_path, keyword_of}
-use Rattle.mairix_options.proofs.Words.{archives_of, names_in, paths_in, format_of, setting_of, supported, assigned}
+use Rattle.mairix_options.proofs.Words.{is_blank, text_without_blanks, is_path, under, archive_path, mfolder_path}
+use Rattle.mairix_options.proofs.Words.{keyword_of}
+use Rattle.mairix_options.proofs.Words.{archives_of, names_in_value, paths_in, format_of, setting_of, supported_setting}
+use Rattle.mairix_options.proofs.Words.{assignment}
 use Rattle.mairix_options.proofs.Words.{entry, is_skipped, text_settings, line_settings, base_in, archives_in}
-use Rattle.mairix_options.proofs.Words.{database_in, mfolder_in, format_in, last_of, lines_in, settings_from}
-use Rattle.mairix_options.proofs.Words.{archives_misfit, mfolder_misfit, earlier, first_misfit, all_fit, required}
-use Rattle.mairix_options.proofs.Words.{if_any, all_paths, rc_fitting, rc_with, rc_from, rc_of, refusal, ArchivesLine}
+use Rattle.mairix_options.proofs.Words.{database_in, mfolder_in, format_in, last_value_of, lines_in, settings_from}
+use Rattle.mairix_options.proofs.Words.{archives_misfit, mfolder_misfit, earlier, first_misfit, all_fit, required_value}
+use Rattle.mairix_options.proofs.Words.{paths_if_any, all_paths, rc_fitting, rc_with, rc_from, rc_of, refusal}
+use Rattle.mairix_options.proofs.Words.{ArchivesLine}
 use Rattle.mairix_options.proofs.Words.{MailFormat, MfolderLine, OrMemory, Rc, RcFault, BadLine, NotSupported}
 use Rattle.mairix_options.proofs.Words.{BadFormat, Setting, Base, Archives, Database, Mfolder, Format}
 use Rattle.std.specs.List.{slice_get}
@@ -30,8 +33,8 @@ use Rattle.mairix_options.proofs.Trimming.{IsCharBoundary-blanks, IsCharBoundary
 
 -- ---- pieces of a text are texts
 
-trimmed-utf8 : (text : List ℕ) → IsUtf8 text → IsUtf8 (trimmed text)
-unfolding trimmed
+trimmed-utf8 : (text : List ℕ) → IsUtf8 text → IsUtf8 (text_without_blanks text)
+unfolding text_without_blanks
 trimmed-utf8 text utf8 =
     let front : ℕ = prefix_len is_blank text in
     let rest : List ℕ = drop front text in
@@ -115,7 +118,7 @@ format-names : (n : ℕ) (o : Option MailFormat) (s : Setting)
 format-names n o s h = grind arith
 
 set-names : (n : ℕ) (k : Keyword) (value : List ℕ) (s : Setting) → IsUtf8 value
-    → list_all is_path (names_in (Some k) value) ≡ true
+    → list_all is_path (names_in_value (Some k) value) ≡ true
     → setting_of n k value ≡ Ok s → NamesTexts s
 set-names n keyword.Base value s utf8 pass is = grind (arith, path-from, and_parts)
 set-names n keyword.Mbox value s utf8 pass is = grind (arith, names-utf8)
@@ -124,30 +127,33 @@ set-names n keyword.Mfolder value s utf8 pass is = grind arith
 set-names n keyword.Mformat value s utf8 pass is = format-names n (format_of value) s is
 
 keyword-names : (n : ℕ) (o : Option Keyword) (value : List ℕ) (s : Setting) → IsUtf8 value
-    → list_all is_path (names_in o value) ≡ true
-    → ◌≡◌ {A = Result Setting RcFault} (elim o [ None ↦ Err (NotSupported n) | Some k ↦ supported n k value ]) (Ok s)
+    → list_all is_path (names_in_value o value) ≡ true
+    → ◌≡◌ {A = Result Setting RcFault} (elim o [ None ↦ Err (NotSupported n) | Some k ↦ supported_setting n k value ])
+    (Ok s)
     → NamesTexts s
 keyword-names n o value s h h2 h3 = grind (arith, passed, set-names)
 
 assigned-names : (base : Option (List ℕ)) (n : ℕ) (option value : List ℕ) (s : Setting) → IsUtf8 value
-    → assigned base n option value ≡ Ok s → NamesTexts s
+    → assignment base n option value ≡ Ok s → NamesTexts s
 assigned-names base n option value s utf8 is =
     let k : Option Keyword = keyword_of option in
-    let all : Bool = list_all is_path (names_in k value) && list_all is_path (paths_in base k value) in
+    let all : Bool = list_all is_path (names_in_value k value) && list_all is_path (paths_in base k value) in
     let sound = passed (nat_eq (length option) 0 || (nat_eq (length value) 0 || not all)) (BadLine n) _ s is in
     let bad = or_parts (nat_eq (length value) 0) (not all)
     (or_parts (nat_eq (length option) 0) (nat_eq (length value) 0 || not all) sound.0).1 in
-    let pass = and_parts (list_all is_path (names_in k value)) (list_all is_path (paths_in base k value))
+    let pass = and_parts (list_all is_path (names_in_value k value)) (list_all is_path (paths_in base k value))
     (not-false all bad.1) in
     keyword-names n k value s utf8 pass.0 sound.1
 
 entry-names : (base : Option (List ℕ)) (n : ℕ) (text : List ℕ) (s : Setting) → entry base n text ≡ Ok s → NamesTexts s
 entry-names base n text s is =
     let sound = passed (not (is_utf8 text)) (BadLine n)
-    (assigned base n (trimmed (before_first (λ b. b == 61) text)) (trimmed (after_first (λ b. b == 61) text))) s is
+    (assignment base n (text_without_blanks (before_first (λ b. b == 61) text))
+    (text_without_blanks (after_first (λ b. b == 61) text))) s is
     in
     let utf8 : IsUtf8 text = IsUtf8-from_is_utf8 text (not-false (is_utf8 text) sound.0) in
-    assigned-names base n (trimmed (before_first (λ b. b == 61) text)) (trimmed (after_first (λ b. b == 61) text)) s
+    assigned-names base n (text_without_blanks (before_first (λ b. b == 61) text))
+    (text_without_blanks (after_first (λ b. b == 61) text)) s
     (trimmed-utf8 (after_first (λ b. b == 61) text) (after-utf8 61 (lit< tt) text utf8)) sound.1
 
 text-names : (base : Option (List ℕ)) (n : ℕ) (text : List ℕ) (ss : List Setting) → text_settings base n text ≡ Ok ss
@@ -169,10 +175,12 @@ settings-names : (before : List Setting) (n : ℕ) (lines : List (List ℕ)) (ss
     → settings_from before n lines ≡ Ok ss → All NamesTexts ss
 settings-names before n [] ss all is = let same : before ≡ ss = cc in subst (All NamesTexts) same all
 settings-names before n (line ∷ lines) ss all is =
-    let said = given (line_settings (last_of base_in before) n line) (λ s. settings_from (before ++ s) (n + 1) lines) ss
+    let said = given (line_settings (last_value_of base_in before) n line)
+    (λ s. settings_from (before ++ s) (n + 1) lines) ss
     is in
     settings-names (before ++ said.0) (n + 1) lines ss
-    (All-append NamesTexts before said.0 all (text-names (last_of base_in before) n (trimmed line) said.0 said.1))
+    (All-append NamesTexts before said.0 all
+    (text-names (last_value_of base_in before) n (text_without_blanks line) said.0 said.1))
     said.2
 
 -- all values of one option in some settings
@@ -186,7 +194,7 @@ module _ {X : Type 0} (P : X → Type 0) (value : Setting → Option X)
   last-of o [] before all = before
   last-of o (x ∷ xs) before all = last-of (Some x) xs (All-head P x xs all) (All-tail P x xs all)
 
-  last-value : (ss : List Setting) → All NamesTexts ss → IfSome (last_of value ss) P
+  last-value : (ss : List Setting) → All NamesTexts ss → IfSome (last_value_of value ss) P
   last-value ss all = last-of None (filter_map value ss) tt (all-values ss all)
 
 base-names : (s : Setting) → NamesTexts s → IfSome (base_in s) IsPath
@@ -253,10 +261,10 @@ neither a b h = grind arith
 all-fit : (o : Option ℕ) → all_fit o ≡ Ok tt → o ≡ None
 all-fit o h = grind arith
 
-required-is : {A : Type 0} (option : Name) (o : Option A) (a : A) → required option o ≡ Ok a → o ≡ Some a
+required-is : {A : Type 0} (option : Name) (o : Option A) (a : A) → required_value option o ≡ Ok a → o ≡ Some a
 required-is option o a h = grind arith
 
-any-is : (paths some : List (List ℕ)) → if_any paths ≡ Some some → paths ≡ some
+any-is : (paths some : List (List ℕ)) → paths_if_any paths ≡ Some some → paths ≡ some
 any-is paths some h = grind arith
 
 -- all that an rcfile names can be paths
@@ -275,14 +283,14 @@ module _ (base : Option (List ℕ)) (archives : List ArchivesLine) (database : O
   rc-paths r is =
       let fit = given (all_fit (first_misfit base archives mfolder))
       (λ _. rc_fitting base archives database mfolder format) r is in
-      let paths = given (required name.Mbox (if_any (all_paths base archives))) _ r fit.2 in
-      let index = given (required name.Database database) _ r paths.2 in
-      let line = given (required name.Mfolder mfolder) _ r index.2 in
+      let paths = given (required_value name.Mbox (paths_if_any (all_paths base archives))) _ r fit.2 in
+      let index = given (required_value name.Database database) _ r paths.2 in
+      let line = given (required_value name.Mfolder mfolder) _ r index.2 in
       let none = neither (slice_get (filter_map (archives_misfit base) archives) 0)
       (option_and_then (mfolder_misfit base) mfolder) (all-fit (first_misfit base archives mfolder) fit.1) in
       let same_paths : all_paths base archives ≡ paths.0 =
       any-is (all_paths base archives) paths.0
-      (required-is name.Mbox (if_any (all_paths base archives)) paths.0 paths.1) in
+      (required-is name.Mbox (paths_if_any (all_paths base archives)) paths.0 paths.1) in
       let is_line : mfolder ≡ Some line.0 = required-is name.Mfolder mfolder line.0 line.1 in
       let built : Rc = record {
         base = base;
@@ -305,8 +313,9 @@ module _ (base : Option (List ℕ)) (archives : List ArchivesLine) (database : O
 
 settings-paths : (ss : List Setting) (r : Rc) → All NamesTexts ss → rc_from ss ≡ Ok r → AllPaths r
 settings-paths ss r all is =
-    rc-paths (last_of base_in ss) (filter_map archives_in ss) (last_of database_in ss) (last_of mfolder_in ss)
-    (last_of format_in ss)
+    rc-paths (last_value_of base_in ss) (filter_map archives_in ss) (last_value_of database_in ss)
+    (last_value_of mfolder_in ss)
+    (last_value_of format_in ss)
     (last-value IsPath base_in base-names ss all) (all-values HasTexts archives_in archives-names ss all)
     (last-value IsPath database_in database-names ss all)
     (last-value (λ line. IsUtf8 line.name) mfolder_in mfolder-names ss all) r is

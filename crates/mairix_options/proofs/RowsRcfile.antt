@@ -1,6 +1,7 @@
 -- Rows of rcfiles, each with what it says or its fault.
 use Rattle.mairix_options.proofs.Words.{◌≡◌, ℕ, codes, refl, List, [], ◌∷◌, ◌++◌, None, Some, Ok, Err, replicate, true}
-use Rattle.mairix_options.proofs.Words.{false, map, chars, trimmed, is_path, rc_of, RcFault, BadLine, NotSupported}
+use Rattle.mairix_options.proofs.Words.{false, map, chars, text_without_blanks, is_path, rc_of, RcFault, BadLine}
+use Rattle.mairix_options.proofs.Words.{NotSupported}
 use Rattle.mairix_options.proofs.Words.{Wildcard, Expansion, Missing, BadFormat, Rc}
 use Rattle.bstr.proofs.Computing.{computing}
 use Rattle.std.specs.Char.{encode_utf8}
@@ -83,7 +84,7 @@ accepted : Says (codes "mbox=m.mbox\ndatabase=m.idx\nmfolder=hits\n")
           codes "b/h";
       format = format.Mbox;
     })
-unfolding computing trimmed chars encode_utf8
+unfolding computing text_without_blanks chars encode_utf8
 accepted = (
   refl,
   refl,
@@ -134,7 +135,7 @@ refused : Refuses (codes "" ∷ codes "mbox=:\ndatabase=i\nmfolder=h\n" ∷ []) 
     × Refuses ((codes "base=bb\nmbox=$:" ++ letters 4094 ++ codes "\nbase=b\n") ∷
     (codes "base=b\nmfolder=" ++ letters 4095 ++ codes "\nmfolder=h\n") ∷ []) (BadLine 2)
     × Refuses ((codes "database=i\nmbox=a\nmbox=" ++ letters 4095 ++ codes "\nbase=b\n") ∷ []) (BadLine 3)
-unfolding computing trimmed chars encode_utf8
+unfolding computing text_without_blanks chars encode_utf8
 refused = (refl, refl, refl, refl, refl, refl, refl, refl, refl, refl, refl, refl, refl, refl, refl, refl)
 
 paths : map is_path (letters 4096 ∷ letters 4097 ∷ [] ∷ codes "a\nb" ∷ []) ≡ true ∷ false ∷ false ∷ false ∷ []

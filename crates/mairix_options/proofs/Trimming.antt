@@ -3,12 +3,13 @@ use Rattle.mairix_options.proofs.Words.{◌≡◌, ℕ, ◌-◌, ◌<◌, ◌≤
 use Rattle.mairix_options.proofs.Words.{subst, arith, ⊎_elim, prefix_len, suffix_len, IsUtf8, IsCharBoundary, cases_lt}
 use Rattle.mairix_options.proofs.Words.{nat_tests, get_or-reverse, prefix_len_passes, prefix_len-le-length}
 use Rattle.mairix_options.proofs.Words.{suffix_len-le-length, IsCharBoundary-start, IsCharBoundary-end}
-use Rattle.mairix_options.proofs.Words.{IsCharBoundary-after_ascii, IsCharBoundary-before_ascii, is_blank, trimmed}
+use Rattle.mairix_options.proofs.Words.{IsCharBoundary-after_ascii, IsCharBoundary-before_ascii, is_blank}
+use Rattle.mairix_options.proofs.Words.{text_without_blanks}
 
 pub trimmed-parts : (text rest kept : List ℕ) (front end : ℕ) → front ≡ prefix_len is_blank text → rest
     ≡ drop front text
-    → end ≡ suffix_len is_blank rest → kept ≡ take (length rest - end) rest → kept ≡ trimmed text
-unfolding trimmed
+    → end ≡ suffix_len is_blank rest → kept ≡ take (length rest - end) rest → kept ≡ text_without_blanks text
+unfolding text_without_blanks
 trimmed-parts text rest kept front end counts_front is_rest counts_end is_kept =
     is_kept
     ∙ ap (λ n. take (length rest - n) rest) counts_end

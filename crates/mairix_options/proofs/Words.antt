@@ -9,17 +9,20 @@ pub use Rattle.contract_words.proofs.Collecting.{if_some_map}
 pub use Rattle.contract_words.specs.Answers.{Gives, ◌>>=◌}
 pub use Rattle.mail_index.specs.Tables.{IsPath}
 pub use Rattle.contract_words.specs.Blanks.{is_blank}
-unfoldable pub use Rattle.mairix_options.specs.Blanks.{trimmed}
+unfoldable pub use Rattle.mairix_options.specs.Blanks.{text_without_blanks}
 pub use Rattle.mairix_options.specs.CommandLine.{command, error_refusal, fault_of_kind, kind_refusal, one_format}
 pub use Rattle.mairix_options.specs.CommandLine.{parse_by, plan_in, plan_of_rows, refusal_of_kind}
 unfoldable pub use Rattle.mairix_options.specs.CommandLine.{parse, plan}
 pub use Rattle.mairix_options.specs.Path.{archive_path, has_expansion, has_three_dots, has_wildcard, is_path}
 pub use Rattle.mairix_options.specs.Path.{mfolder_path, under}
-pub use Rattle.mairix_options.specs.Rcfile.{all_fit, all_paths, archives_in, archives_misfit, archives_of, assigned}
+pub use Rattle.mairix_options.specs.Rcfile.{all_fit, all_paths, archives_in, archives_misfit, archives_of, assignment}
 pub use Rattle.mairix_options.specs.Rcfile.{base_in, database_in, earlier, entry, first_misfit, format_in, format_of}
-pub use Rattle.mairix_options.specs.Rcfile.{if_any, is_skipped, keyword_of, last_of, line_settings, lines_in}
-pub use Rattle.mairix_options.specs.Rcfile.{mfolder_in, mfolder_misfit, names_in, paths_in, rc_fitting, rc_from, rc_of}
-pub use Rattle.mairix_options.specs.Rcfile.{rc_with, required, setting_of, settings_from, supported, text_settings}
+pub use Rattle.mairix_options.specs.Rcfile.{paths_if_any, is_skipped, keyword_of, last_value_of, line_settings}
+pub use Rattle.mairix_options.specs.Rcfile.{lines_in}
+pub use Rattle.mairix_options.specs.Rcfile.{mfolder_in, mfolder_misfit, names_in_value, paths_in, rc_fitting, rc_from}
+pub use Rattle.mairix_options.specs.Rcfile.{rc_of}
+pub use Rattle.mairix_options.specs.Rcfile.{rc_with, required_value, setting_of, settings_from, supported_setting}
+pub use Rattle.mairix_options.specs.Rcfile.{text_settings}
 pub use Rattle.or_memory.specs.Refusals.{refusal}
 pub use Rattle.mairix_options.specs.declared.command_line.Plan.{Plan}
 pub use Rattle.mairix_options.specs.declared.command_line.UsageFault.{UsageFault}

@@ -25,13 +25,13 @@ has_wildcard text = list_any (λ b. b == 42 || b == 63 || b == 91) text || has_t
 -- ---- under a base
 
 -- a folder and a name, with a slash between them
-abbrev pub joined : List ℕ → List ℕ → List ℕ
-joined folder name = folder ++ 47 ∷ name
+abbrev pub path_in_folder : List ℕ → List ℕ → List ℕ
+path_in_folder folder name = folder ++ 47 ∷ name
 
 -- a name under the base; without a base, or if the name counts as written, the name itself
 abbrev pub under : Option (List ℕ) → Bool → List ℕ → List ℕ
 under None as_written name = name
-under (Some base) as_written name = if as_written then name else joined base name
+under (Some base) as_written name = if as_written then name else path_in_folder base name
 
 -- the path of an archive: a name that begins with `/` counts as written
 abbrev pub archive_path : Option (List ℕ) → List ℕ → List ℕ

@@ -7,7 +7,7 @@ use Rattle.std.specs.Option.{option_and_then}
 use Rattle.std.specs.Str.{bytes_eq, is_utf8}
 use Rattle.bstr.specs.Text.{lines_of, without_terminator}
 use Rattle.contract_words.specs.Answers.{◌>>=◌}
-use Rattle.mairix_options.specs.Blanks.{trimmed}
+use Rattle.mairix_options.specs.Blanks.{text_without_blanks}
 use Rattle.mairix_options.specs.Path.{is_path, has_expansion, has_wildcard, archive_path, mfolder_path}
 use Rattle.mairix_options.specs.declared.setting.Keyword.{Keyword}
 use Rattle.mairix_options.specs.declared.setting.Keyword.TheVariants as keyword
@@ -49,9 +49,9 @@ abbrev pub archives_of : List ℕ → List (List ℕ)
 archives_of value = filter (λ text. nat_lt 0 (length text)) (slice_split (λ b. b == 58) value)
 
 -- the names that must be paths as written: each name in a value of `mbox`, and the whole value of any other option
-abbrev pub names_in : Option Keyword → List ℕ → List (List ℕ)
-names_in (Some keyword.Mbox) value = archives_of value
-names_in _ value = value ∷ []
+abbrev pub names_in_value : Option Keyword → List ℕ → List (List ℕ)
+names_in_value (Some keyword.Mbox) value = archives_of value
+names_in_value _ value = value ∷ []
 
 -- the paths under the base that a value names: those of `mbox` and of `mfolder`; other options aren't put under it
 abbrev pub paths_in : Option (List ℕ) → Option Keyword → List ℕ → List (List ℕ)
@@ -60,13 +60,13 @@ paths_in base (Some keyword.Mfolder) value = mfolder_path base value ∷ []
 paths_in base _ value = []
 
 -- the value; if a shell would expand it, the fault of line n
-abbrev pub unexpanded : ℕ → List ℕ → Result (List ℕ) RcFault
-unexpanded n value = if has_expansion value then Err (Expansion n) else Ok value
+abbrev pub unexpanded_value : ℕ → List ℕ → Result (List ℕ) RcFault
+unexpanded_value n value = if has_expansion value then Err (Expansion n) else Ok value
 
 -- the names that a shell must not expand; a form isn't the name of a file, so it has none
 abbrev pub expanded_in : Keyword → List ℕ → List (List ℕ)
 expanded_in keyword.Mformat value = []
-expanded_in k value = names_in (Some k) value
+expanded_in k value = names_in_value (Some k) value
 
 -- the names that must not be patterns for several files: those of `mbox` only
 abbrev pub wild_in : Keyword → List ℕ → List (List ℕ)
@@ -83,25 +83,26 @@ setting_of n keyword.Mformat value = elim (format_of value)
     [ Some format ↦ Ok (Format format) | None ↦ Err (BadFormat n) ]
 
 -- what line n sets, if its option is known and its names are paths; or the first of its faults
-abbrev pub supported : ℕ → Keyword → List ℕ → Result Setting RcFault
-supported n k value =
+abbrev pub supported_setting : ℕ → Keyword → List ℕ → Result Setting RcFault
+supported_setting n k value =
     if list_any has_expansion (expanded_in k value) then Err (Expansion n)
     else (if list_any has_wildcard (wild_in k value) then Err (Wildcard n)
     else setting_of n k value)
 
 -- what `option=value` in line n sets under the base before it, or the first of its faults
-abbrev pub assigned : Option (List ℕ) → ℕ → List ℕ → List ℕ → Result Setting RcFault
-assigned base n option value =
+abbrev pub assignment : Option (List ℕ) → ℕ → List ℕ → List ℕ → Result Setting RcFault
+assignment base n option value =
     let k = keyword_of option in
     if nat_eq (length option) 0 || (nat_eq (length value) 0 || not
-    (list_all is_path (names_in k value) && list_all is_path (paths_in base k value))) then Err (BadLine n)
-    else elim k [ None ↦ Err (NotSupported n) | Some k ↦ supported n k value ]
+    (list_all is_path (names_in_value k value) && list_all is_path (paths_in base k value))) then Err (BadLine n)
+    else elim k [ None ↦ Err (NotSupported n) | Some k ↦ supported_setting n k value ]
 
 -- what line n sets, given its text without blanks at its ends: it must be UTF-8, and without `=` its value is empty
 abbrev pub entry : Option (List ℕ) → ℕ → List ℕ → Result Setting RcFault
 entry base n text =
     if not (is_utf8 text) then Err (BadLine n)
-    else assigned base n (trimmed (before_first (λ b. b == 61) text)) (trimmed (after_first (λ b. b == 61) text))
+    else assignment base n (text_without_blanks (before_first (λ b. b == 61) text))
+    (text_without_blanks (after_first (λ b. b == 61) text))
 
 -- whether a line sets nothing: it is empty, or a comment, which begins with `#`
 abbrev pub is_skipped : List ℕ → Bool
@@ -114,7 +115,7 @@ text_settings base n text = if is_skipped text then Ok [] else (entry base n tex
 
 -- the setting of line n under the base before it, if it has one
 abbrev pub line_settings : Option (List ℕ) → ℕ → List ℕ → Result (List Setting) RcFault
-line_settings base n line = text_settings base n (trimmed line)
+line_settings base n line = text_settings base n (text_without_blanks line)
 
 -- ---- all lines
 
@@ -144,8 +145,8 @@ format_in (Format format) = Some format
 format_in _ = None
 
 -- the value in the last setting that has one
-abbrev pub last_of : {A : Type 0} → (Setting → Option A) → List Setting → Option A
-last_of value settings = last_or None (filter_map value settings)
+abbrev pub last_value_of : {A : Type 0} → (Setting → Option A) → List Setting → Option A
+last_value_of value settings = last_or None (filter_map value settings)
 
 -- the lines of an rcfile; a line ends at its LF, which is dropped with a CR before it
 abbrev pub lines_in : List ℕ → List (List ℕ)
@@ -156,7 +157,7 @@ lines_in rc = map without_terminator (lines_of rc)
 abbrev pub settings_from : List Setting → ℕ → List (List ℕ) → Result (List Setting) RcFault
 settings_from before n [] = Ok before
 settings_from before n (line ∷ lines) =
-    line_settings (last_of base_in before) n line >>= (λ s. settings_from (before ++ s) (n + 1) lines)
+    line_settings (last_value_of base_in before) n line >>= (λ s. settings_from (before ++ s) (n + 1) lines)
 
 -- ---- the whole
 
@@ -185,14 +186,14 @@ all_fit None = Ok tt
 all_fit (Some n) = Err (BadLine n)
 
 -- the value of an option, or the fault that it is missing
-abbrev pub required : {A : Type 0} → Name → Option A → Result A RcFault
-required option (Some x) = Ok x
-required option None = Err (Missing option)
+abbrev pub required_value : {A : Type 0} → Name → Option A → Result A RcFault
+required_value option (Some x) = Ok x
+required_value option None = Err (Missing option)
 
 -- the paths, if there are any
-abbrev pub if_any : List (List ℕ) → Option (List (List ℕ))
-if_any [] = None
-if_any (path ∷ paths) = Some (path ∷ paths)
+abbrev pub paths_if_any : List (List ℕ) → Option (List (List ℕ))
+paths_if_any [] = None
+paths_if_any (path ∷ paths) = Some (path ∷ paths)
 
 -- the paths of all archives under the base
 abbrev pub all_paths : Option (List ℕ) → List ArchivesLine → List (List ℕ)
@@ -202,9 +203,9 @@ all_paths base archives = flat_map (λ line. map (archive_path base) line.names)
 abbrev pub rc_fitting : Option (List ℕ) → List ArchivesLine → Option (List ℕ) → Option MfolderLine → Option MailFormat
     → Result Rc RcFault
 rc_fitting base archives database mfolder format =
-    required name.Mbox (if_any (all_paths base archives)) >>= (λ paths.
-    required name.Database database >>= (λ database.
-    required name.Mfolder mfolder >>= (λ line.
+    required_value name.Mbox (paths_if_any (all_paths base archives)) >>= (λ paths.
+    required_value name.Database database >>= (λ database.
+    required_value name.Mfolder mfolder >>= (λ line.
     Ok (record {
       base = base;
       paths = paths;
@@ -223,8 +224,8 @@ rc_with base archives database mfolder format =
 -- what some settings say together: all lines of `mbox`, and the last of each other option
 abbrev pub rc_from : List Setting → Result Rc RcFault
 rc_from settings =
-    rc_with (last_of base_in settings) (filter_map archives_in settings) (last_of database_in settings)
-    (last_of mfolder_in settings) (last_of format_in settings)
+    rc_with (last_value_of base_in settings) (filter_map archives_in settings) (last_value_of database_in settings)
+    (last_value_of mfolder_in settings) (last_value_of format_in settings)
 
 -- What the rcfile says, or its first fault. Faulty lines come first, then lines that are faulty only under the base
 -- that counts, and then options that are missing.

@@ -2,7 +2,7 @@
 //! texts have to stay UTF-8.
 ghost use Rattle.std.specs.Prelude.{◌≡◌, ◌≤◌, length};
 ghost use Rattle.std.specs.List.{prefix_len, suffix_len};
-ghost use Rattle.mairix_options.specs.Blanks.{trimmed};
+ghost use Rattle.mairix_options.specs.Blanks.{text_without_blanks};
 ghost use Rattle.contract_words.specs.Blanks.{is_blank};
 
 fn is_blank(byte: u8) -> bool
@@ -30,7 +30,7 @@ fn blanks_at_end(text: &[u8]) -> usize
 
 /// Returns the bytes without the spaces and tabs at both ends.
 pub(crate) fn trimmed(text: &[u8]) -> &[u8]
-    ensures { result.now ≡ trimmed text.now }
+    ensures { result.now ≡ text_without_blanks text.now }
 {
     let (_, rest) = text.split_at(blanks_at_front(text));
     let (kept, _) = rest.split_at(rest.len() - blanks_at_end(rest));
@@ -39,7 +39,7 @@ pub(crate) fn trimmed(text: &[u8]) -> &[u8]
 
 /// Returns the text without the spaces and tabs at both ends.
 pub(crate) fn trimmed_text(text: &str) -> &str
-    ensures { result.now ≡ trimmed text.now }
+    ensures { result.now ≡ text_without_blanks text.now }
 {
     let rest = &text[blanks_at_front(text.as_bytes())..];
     &rest[..rest.len() - blanks_at_end(rest.as_bytes())]

@@ -4,7 +4,7 @@ ghost use Rattle.std.specs.List.{list_any, list_all};
 ghost use Rattle.std.specs.Option.{option_to_list};
 ghost use Rattle.contract_words.specs.Answers.{Gives};
 ghost use Rattle.mairix_options.specs.Path.{is_path, has_expansion, has_wildcard};
-ghost use Rattle.mairix_options.specs.Rcfile.{keyword_of, archives_of, names_in, paths_in, supported, unexpanded, assigned, entry, line_settings};
+ghost use Rattle.mairix_options.specs.Rcfile.{keyword_of, archives_of, names_in_value, paths_in, supported_setting, unexpanded_value, assignment, entry, line_settings};
 ghost use Rattle.or_memory.specs.Refusals.{refusal};
 
 use crate::blanks::{trimmed, trimmed_text};
@@ -123,7 +123,7 @@ fn assigned(
     option: &str,
     value: &str,
 ) -> Result<Setting, OrMemory<RcFault>>
-    ensures { Gives (λ s. s) refusal result (assigned base.now number option.now value.now) }
+    ensures { Gives (λ s. s) refusal result (assignment base.now number option.now value.now) }
 {
     let keyword = Keyword::of(option);
     if option.is_empty() || value.is_empty() {
@@ -146,7 +146,8 @@ fn has_paths(
     keyword: Option<Keyword>,
     value: &str,
 ) -> Result<bool, AllocError>
-    ensures { IfOk result (λ has. has ≡ list_all is_path (names_in keyword value.now) && list_all
+    ensures { IfOk result (λ has. has ≡ list_all is_path
+        (names_in_value keyword value.now) && list_all
         is_path (paths_in base.now keyword value.now)) }
 {
     match keyword {
@@ -168,7 +169,7 @@ fn supported(
     keyword: Keyword,
     value: &str,
 ) -> Result<Setting, OrMemory<RcFault>>
-    ensures { Gives (λ s. s) refusal result (supported number keyword value.now) }
+    ensures { Gives (λ s. s) refusal result (supported_setting number keyword value.now) }
 {
     match keyword {
         Keyword::Base => unexpanded(alloc, number, value).map(Setting::Base),
@@ -187,7 +188,7 @@ fn supported(
 
 /// Returns a copy of the value. Fails with `Expansion` if a shell would expand it.
 fn unexpanded(alloc: Global, number: u64, value: &str) -> Result<Text, OrMemory<RcFault>>
-    ensures { Gives (λ t. t) refusal result (unexpanded number value.now) }
+    ensures { Gives (λ t. t) refusal result (unexpanded_value number value.now) }
 {
     if has_expansion(value) {
         return Err(OrMemory::Refused(RcFault::Expansion(number)));
@@ -199,7 +200,7 @@ fn unexpanded(alloc: Global, number: u64, value: &str) -> Result<Text, OrMemory<
 #[tactic(auto, using(crate::proofs::Searches::list_any_map))]
 fn archives_line(alloc: Global, number: u64, value: &str) -> Result<ArchivesLine, OrMemory<RcFault>>
     ensures { Gives (λ line. Setting.Archives line) refusal result
-        (supported number Keyword.Mbox value.now) }
+        (supported_setting number Keyword.Mbox value.now) }
 {
     let names = archives_of(alloc, value)?;
     if some_has_expansion(names.as_slice()) {

@@ -6,8 +6,8 @@ use Rattle.std.proofs.lemmas.List.{drop-take, length-take, take-append-drop, tak
 use Rattle.std.proofs.Math.Seq.{drop-append_seam, take-append_seam}
 use Rattle.std.proofs.lemmas.Nat.{from_be_bytes-to_be_bytes_4}
 use Rattle.std.specs.Int.{from_be_bytes, w32}
-use Rattle.mail_index.specs.Faults.{IsFirstFault, version_told}
-use Rattle.mail_index.specs.Faults.{IsFileOf as IsIndexOf}
+use Rattle.mail_index.specs.Faults.{IsFirstFaultOfFile, version_told}
+use Rattle.mail_index.specs.Faults.{IsFileOfTable}
 use Rattle.mail_index.specs.Files.{be32, counts, index_file, magic, sections}
 use Rattle.mail_index.specs.Tables.{IsWellFormed, Table}
 use Rattle.mail_index.specs.Versions.{IsVersion}
@@ -33,15 +33,17 @@ record IsMarked (bytes : List ℕ) : Type 0 where
   known : IsVersion (version_told bytes)
 
 -- bytes with a later fault are marked
-marked_by : (bytes : List ℕ) (f : IndexFault) → seen_early f ≡ false → IsFirstFault bytes f → IsMarked bytes
+marked_by : (bytes : List ℕ) (f : IndexFault) → seen_early f ≡ false → IsFirstFaultOfFile bytes f → IsMarked bytes
 marked_by bytes f late h = grind arith
 
 -- marked bytes have no early fault
-never_early : (bytes : List ℕ) → IsMarked bytes → (f : IndexFault) → seen_early f ≡ true → IsFirstFault bytes f → ⊥
+never_early : (bytes : List ℕ) → IsMarked bytes → (f : IndexFault) → seen_early f ≡ true → IsFirstFaultOfFile bytes f
+    → ⊥
 never_early bytes m f early h = grind arith
 
 -- a later fault comes only without an early one
-pub late_only : (bytes : List ℕ) (f : IndexFault) → seen_early f ≡ false → IsFirstFault bytes f → ¬ IsRefusedEarly bytes
+pub late_only : (bytes : List ℕ) (f : IndexFault) → seen_early f ≡ false → IsFirstFaultOfFile bytes f
+    → ¬ IsRefusedEarly bytes
 late_only bytes f late h = λ e. never_early bytes (marked_by bytes f late h) e.0 e.1 e.2
 
 -- ---- the first 80 bytes and the whole file
@@ -53,7 +55,7 @@ module _ (all : List ℕ) where
   same_version : version_told (take 80 all) ≡ version_told all
   same_version = grind (arith, drop-take, take-take)
 
-  front_of : (f : IndexFault) → seen_early f ≡ true → IsFirstFault all f → IsFirstFault (take 80 all) f
+  front_of : (f : IndexFault) → seen_early f ≡ true → IsFirstFaultOfFile all f → IsFirstFaultOfFile (take 80 all) f
   front_of TooShort early h = omega (arith, h, length-take 80 all)
   front_of BadMagic early h = (omega (arith, h.0, length-take 80 all), λ m. h.1 (sym same_magic ∙ m))
   front_of BadVersion early h =
@@ -61,7 +63,7 @@ module _ (all : List ℕ) where
   front_of BadDigest early h = absurd cc
   front_of (BadLayout section) early h = absurd cc
 
-  whole_of : (f : IndexFault) → seen_early f ≡ true → IsFirstFault (take 80 all) f → IsFirstFault all f
+  whole_of : (f : IndexFault) → seen_early f ≡ true → IsFirstFaultOfFile (take 80 all) f → IsFirstFaultOfFile all f
   whole_of TooShort early h = omega (arith, h, length-take 80 all)
   whole_of BadMagic early h = (omega (arith, h.0, length-take 80 all), λ m. h.1 (same_magic ∙ m))
   whole_of BadVersion early h = (
@@ -140,26 +142,26 @@ module _ (t : Table) where
   }
 
 -- it has no early fault
-pub table_not_refused : (bytes : List ℕ) (t : Table) → IsIndexOf bytes t → ¬ IsRefusedEarly bytes
+pub table_not_refused : (bytes : List ℕ) (t : Table) → IsFileOfTable bytes t → ¬ IsRefusedEarly bytes
 table_not_refused bytes t file = λ e.
     never_early bytes (subst IsMarked (sym file.1) (file_marked t file.0)) e.0 e.1 e.2
 
 -- ---- what was read serves for the whole file
 
 module _ (all bytes : List ℕ) where
-  pub same_fault : (f : IndexFault) → IsIndexRead all bytes → IsFirstFault bytes f ↔ IsFirstFault all f
+  pub same_fault : (f : IndexFault) → IsIndexRead all bytes → IsFirstFaultOfFile bytes f ↔ IsFirstFaultOfFile all f
   same_fault f (inl (e, is)) = rw is (to (seen_early f) refl, from (seen_early f) refl)
     where
-      to : (early : Bool) → seen_early f ≡ early → IsFirstFault (take 80 all) f → IsFirstFault all f
+      to : (early : Bool) → seen_early f ≡ early → IsFirstFaultOfFile (take 80 all) f → IsFirstFaultOfFile all f
       to true early h = whole_of all f early h
       to false late h = absurd (late_only (take 80 all) f late h (refused_front all e))
 
-      from : (early : Bool) → seen_early f ≡ early → IsFirstFault all f → IsFirstFault (take 80 all) f
+      from : (early : Bool) → seen_early f ≡ early → IsFirstFaultOfFile all f → IsFirstFaultOfFile (take 80 all) f
       from true early h = front_of all f early h
       from false late h = absurd (late_only all f late h e)
   same_fault f (inr (never, is)) = rw is (λ h. h, λ h. h)
 
-  pub same_table : (t : Table) → IsIndexRead all bytes → IsIndexOf bytes t ↔ IsIndexOf all t
+  pub same_table : (t : Table) → IsIndexRead all bytes → IsFileOfTable bytes t ↔ IsFileOfTable all t
   same_table t (inl (e, is)) = (
     λ file. absurd (table_not_refused bytes t file (subst IsRefusedEarly (sym is) (refused_front all e))),
     λ file. absurd (table_not_refused all t file e),

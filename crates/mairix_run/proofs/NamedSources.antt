@@ -6,25 +6,26 @@ use Rattle.std.specs.List.{AllZip, list_any}
 use Rattle.contract_words.specs.Devices.{Counted}
 use Rattle.mbox_cutter.specs.Sources.{Stays}
 use Rattle.mbox_cutter.specs.declared.device.Source.{Ghosts}
-use Rattle.named_archives.specs.Progress.{left_in}
+use Rattle.named_archives.specs.Progress.{bytes_left_in}
 use Rattle.named_archives.specs.declared.named_source.Progress.{Progress}
 
 -- what is left of a file that was opened, or all of one that wasn't
 left-some : {F : Type 0} (rest : F → Option (List ℕ)) (all : Option (List ℕ)) (file : Option F) (progress : Progress)
-    → (IsSome file → IsSome (left_in rest all file progress)) → IsSome all → IsSome (left_in rest all file progress)
+    → (IsSome file → IsSome (bytes_left_in rest all file progress)) → IsSome all
+    → IsSome (bytes_left_in rest all file progress)
 left-some rest all None progress h some = some
 left-some rest all (Some file) progress h some = h refl
 
 -- of a file that wasn't opened all is left
 not-opened : {F : Type 0} (rest : F → Option (List ℕ)) (all : Option (List ℕ)) (file : Option F) (progress : Progress)
-    → file ≡ None → left_in rest all file progress ≡ all
+    → file ≡ None → bytes_left_in rest all file progress ≡ all
 not-opened rest all None progress is = refl
 not-opened rest all (Some file) progress is = absurd cc
 
 module _ {S F : Type 0} (rest : F → Option (List ℕ)) (all : S → Option (List ℕ)) (file : S → Option F)
     (progress : S → Progress) (failures : S → ℕ) where
   abbrev left : S → Option (List ℕ)
-  left s = left_in rest (all s) (file s) (progress s)
+  left s = bytes_left_in rest (all s) (file s) (progress s)
 
   -- no call has failed, and the file wasn't opened
   abbrev IsNew : S → Type 0

@@ -7,9 +7,9 @@ use Rattle.clap.proofs.OnLiterals.{clap_on_literals}
 use Rattle.unicode.proofs.CategoryComputing.{ucd_category}
 use Rattle.unicode.proofs.DerivedComputing.{ucd_derived}
 use Rattle.mail_query.specs.Sizes.{size_of, sizes_of}
-use Rattle.mail_query.specs.Tokens.{tokens}
+use Rattle.mail_query.specs.Tokens.{query_tokens}
 use Rattle.mail_words.specs.Words.{is_joiner, is_one_word, is_part_of_word, is_word, is_word_character}
-use Rattle.mairix_options.specs.Blanks.{trimmed}
+use Rattle.mairix_options.specs.Blanks.{text_without_blanks}
 use Rattle.mairix_options.specs.CommandLine.{parse, plan}
 use Rattle.mbox_cutter.specs.Lines.{first_length, is_empty, lines}
 use Rattle.mbox_cutter.specs.Separators.{has_form, is_separator, without_break}
@@ -17,7 +17,8 @@ use Rattle.mairix_run.specs.WorkedTasks.{IsRefusedAsWorked, IsWorked}
 
 -- what a proof unfolds to compute a task
 unfoldable pub asking : Unit {0}
-unfolding IsWorked parse plan clap_on_literals computing trimmed size_of sizes_of tokens is_one_word is_part_of_word
+unfolding IsWorked parse plan clap_on_literals computing text_without_blanks size_of sizes_of query_tokens is_one_word
+    is_part_of_word
     is_word is_joiner is_word_character ucd_derived ucd_category chars encode_utf8 caseless
 asking = tt
 

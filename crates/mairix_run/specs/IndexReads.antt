@@ -1,7 +1,7 @@
 -- Which bytes of a file are read where an index is looked for.
 use Rattle.std.specs.Prelude.{◌≡◌, ◌⊎◌, ℕ, Bool, true, false, List, take, Option, Some, IsSome}
 use Rattle.mail_index.specs.Places.{least_size}
-use Rattle.mail_index.specs.Faults.{IsFirstFault}
+use Rattle.mail_index.specs.Faults.{IsFirstFaultOfFile}
 use Rattle.mail_index.specs.declared.view.fault.IndexFault.{IndexFault}
 use Rattle.mail_index.specs.declared.view.fault.IndexFault.TheVariants.{TooShort, BadMagic, BadVersion, BadDigest}
 use Rattle.mail_index.specs.declared.view.fault.IndexFault.TheVariants.{BadLayout}
@@ -16,7 +16,7 @@ seen_early (BadLayout section) = false
 
 -- the first fault of the bytes is one of these
 abbrev pub IsRefusedEarly : List ℕ → Type 0
-IsRefusedEarly bytes = (fault : IndexFault) × (seen_early fault ≡ true) × IsFirstFault bytes fault
+IsRefusedEarly bytes = (fault : IndexFault) × (seen_early fault ≡ true) × IsFirstFaultOfFile bytes fault
 
 -- What is read of a file with the bytes `all`: the first 80 bytes, if they show that it is no index, or of an unknown
 -- version; otherwise all.

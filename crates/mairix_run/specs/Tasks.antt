@@ -5,7 +5,7 @@ use Rattle.std.specs.Option.{option_map_or}
 use Rattle.contract_words.specs.Answers.{◌>>=◌, fault_as}
 use Rattle.index_job.specs.ArchiveRefusals.{AreSound}
 use Rattle.index_job.specs.ArchiveTables.{Mbox, table}
-use Rattle.index_run.specs.ArchivesIndexed.{Refuses, mboxes}
+use Rattle.index_run.specs.ArchivesIndexed.{RefusesArchives, mboxes}
 use Rattle.mail_index.specs.Files.{index_file}
 use Rattle.mairix_options.specs.AnswerFiles.{answer_file}
 use Rattle.mairix_options.specs.CommandLine.{plan}
@@ -133,6 +133,6 @@ IsDone (SearchStored wanted index bytes) status text = IsAnswered (IsStoredReply
 
 -- the work is refused with this fault
 unfoldable pub IsWorkRefused : Work → Fault → Type 0
-IsWorkRefused (Index archives) fault = Refuses archives fault
+IsWorkRefused (Index archives) fault = RefusesArchives archives fault
 IsWorkRefused (SearchNew wanted bytes) fault = IsRefused (IsReply wanted bytes) bytes fault
 IsWorkRefused (SearchStored wanted index bytes) fault = IsRefused (IsStoredReply wanted index bytes) bytes fault

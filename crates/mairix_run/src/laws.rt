@@ -1,6 +1,6 @@
 //! Laws of what is read of a file.
 ghost use Rattle.std.specs.Prelude.{◌↔◌, ℕ, List, Result};
-ghost use Rattle.mail_index.specs.Faults.{IsFileOf, IsFirstFault};
+ghost use Rattle.mail_index.specs.Faults.{IsFileOfTable, IsFirstFaultOfFile};
 ghost use Rattle.mail_index.specs.Tables.{Table};
 ghost use Rattle.mail_index.specs.declared.view.fault.IndexFault.{IndexFault};
 ghost use Rattle.mairix_run.specs.IndexReads.{IsIndexRead};
@@ -13,9 +13,9 @@ ghost use Rattle.run_faults.specs.declared.fault.Fault.{Fault};
 /// opens it finds what there is to find in the whole file.
 pub fn what_is_read_of_an_index_serves_for_all()
     ensures faults { (all bytes : List ℕ) (fault : IndexFault) → IsIndexRead all bytes
-        → IsFirstFault bytes fault ↔ IsFirstFault all fault }
+        → IsFirstFaultOfFile bytes fault ↔ IsFirstFaultOfFile all fault }
     ensures tables { (all bytes : List ℕ) (t : Table) → IsIndexRead all bytes
-        → IsFileOf bytes t ↔ IsFileOf all t }
+        → IsFileOfTable bytes t ↔ IsFileOfTable all t }
 {}
 
 /// A search over what is read of an index has the replies of a search over the whole file, and is refused as that is.

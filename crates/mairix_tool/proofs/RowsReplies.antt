@@ -29,9 +29,9 @@ use Rattle.mail_index.specs.Limits.{most_in_archive, most_in_index}
 use Rattle.mail_query.specs.Kinds.{no_kinds}
 use Rattle.mail_query.specs.Query.{All as AllOf, Either}
 use Rattle.mail_query.specs.Sizes.{size_of, sizes_of}
-use Rattle.mail_query.specs.Tokens.{tokens}
+use Rattle.mail_query.specs.Tokens.{query_tokens}
 use Rattle.mail_words.specs.Words.{is_joiner, is_one_word, is_part_of_word, is_word, is_word_character, words}
-use Rattle.mairix_options.specs.Blanks.{trimmed}
+use Rattle.mairix_options.specs.Blanks.{text_without_blanks}
 use Rattle.mairix_options.specs.CommandLine.{parse, plan}
 use Rattle.mbox_cutter.specs.Archives.{messages}
 use Rattle.mbox_cutter.specs.Events.{archive_refusal}
@@ -55,7 +55,8 @@ use Rattle.mairix_tool.specs.WorkedReplies.{IsWorked, Row, asked_by}
 
 -- what a proof unfolds to compute what words and rcfile mean
 unfoldable asking : Unit {0}
-unfolding parse plan clap_on_literals computing trimmed size_of sizes_of tokens is_one_word is_part_of_word is_word
+unfolding parse plan clap_on_literals computing text_without_blanks size_of sizes_of query_tokens is_one_word
+    is_part_of_word is_word
     is_joiner is_word_character ucd_derived ucd_category chars encode_utf8 caseless
 asking = tt
 

@@ -3,11 +3,12 @@ pub use Rattle.contract_words.specs.Devices.{Sends}
 unfoldable pub use Rattle.header_text.specs.Headers.{fields_of}
 pub use Rattle.contract_words.specs.Knowledge.{AreStillKnown}
 pub use Rattle.index_job.specs.ArchiveRefusals.{AreSound}
-pub use Rattle.index_job.specs.ArchiveTables.{Mbox, all_messages, entry_of, messages_in, record_of, records_from, table}
+pub use Rattle.index_job.specs.ArchiveTables.{Mbox, all_messages, entry_of_archive, messages_in, record_of}
+pub use Rattle.index_job.specs.ArchiveTables.{records_from, table}
 pub use Rattle.index_job.specs.ArchiveTables.{with_messages}
 pub use Rattle.index_job.specs.MessageTerms.{Term, id_terms, link_terms, message_terms, own_id_terms, text_terms}
 pub use Rattle.index_run.proofs.SoundArchives.{sound-not-refused}
-pub use Rattle.index_run.specs.ArchivesIndexed.{IsArchivesFault, Refuses, mboxes}
+pub use Rattle.index_run.specs.ArchivesIndexed.{IsArchivesFault, RefusesArchives, mboxes}
 pub use Rattle.mail_answer.proofs.OutputLaws.EveryAnswer.{some-chosen}
 pub use Rattle.mail_answer.specs.Answers.{AnswersStale}
 pub use Rattle.mail_answer.specs.Mail.{AreChosen, AreChosenBy, AreThreadsOf, IsChain, IsLedToBySome, Search, satisfying}
@@ -20,9 +21,9 @@ pub use Rattle.mail_answer.specs.Verified.{unverified_archive}
 pub use Rattle.mail_answer.specs.declared.format.Format.{Format}
 pub use Rattle.mail_answer.specs.declared.format.Format.TheVariants.{Excerpt, Raw}
 pub use Rattle.mail_index.proofs.FileLaws.Bytes.{AreBytes}
-pub use Rattle.mail_index.specs.Faults.{HasArchives, HasCounts, HasDigest, HasDirectory, HasRecords, IsFileOf}
-pub use Rattle.mail_index.specs.Faults.{IsFirstFault, IsSigned, digest_start, version_told}
-pub use Rattle.mail_index.specs.Files.{Entry, index_file, magic, record_bytes}
+pub use Rattle.mail_index.specs.Faults.{HasArchives, HasCounts, HasDigest, HasDirectory, HasRecords, IsFileOfTable}
+pub use Rattle.mail_index.specs.Faults.{IsFirstFaultOfFile, IsSigned, digest_start, version_told}
+pub use Rattle.mail_index.specs.Files.{DirectoryEntry, index_file, magic, record_bytes}
 pub use Rattle.mail_index.specs.Kinds.{kind_number}
 pub use Rattle.mail_index.specs.LookUps.{is_of_kind, keys_of}
 pub use Rattle.mail_index.specs.Tables.{AllNext, Archive, Follows, IsArchive, IsKey, IsMessage, IsPath, IsWellFormed}
@@ -36,7 +37,7 @@ pub use Rattle.mail_index.specs.declared.view.fault.IndexFault.TheVariants.{BadD
 pub use Rattle.mail_index.specs.declared.view.fault.IndexFault.TheVariants.{TooShort}
 pub use Rattle.mail_query.specs.Query.{Any, Date, Either, End, HasFlag, More, Not, Part, Prefix, Queries, Query, Size}
 pub use Rattle.mail_query.specs.Query.{Word, uses_names}
-pub use Rattle.mail_query.specs.Truth.{begins_with, contains_text, each_is_true, has_flag, is_same, is_true}
+pub use Rattle.mail_query.specs.Truth.{word_begins_with, contains_text, each_is_true, has_flag, is_same, is_true}
 pub use Rattle.mail_query.specs.Truth.{some_is_true, some_word, without_names, words_but_names}
 pub use Rattle.mail_words.specs.Folding.{folding}
 pub use Rattle.mail_words.specs.Words.{words}
@@ -61,7 +62,7 @@ unfoldable pub use Rattle.mime_text.specs.MessageFacts.{facts_of}
 pub use Rattle.mime_text.specs.Sinks.{Pair}
 pub use Rattle.mime_text.specs.Texts.{texts_of_message}
 pub use Rattle.mime_text.specs.declared.header.facts.Facts.{Facts}
-pub use Rattle.run_faults.specs.Faults.{IsOfAnswer, is_failure, refusal_of}
+pub use Rattle.run_faults.specs.Faults.{IsOfAnswer, is_failure, refusal_of_fault}
 pub use Rattle.run_faults.specs.declared.fault.Fault.{Fault}
 pub use Rattle.std.proofs.Common.{All, Bool, Err, IfErr, IfOk, IfSome, List, None, Ok, Option, Result, Some, []}
 pub use Rattle.std.proofs.Common.{add-one, ap, append-nil, append_assoc, ap₂, arith, bytes_eq, cond, drop, drop-cons}

@@ -9,7 +9,7 @@ use Rattle.mime_text.specs.MessageFacts.{facts_of}
 use Rattle.mail_answer.specs.declared.format.Format.{Format}
 use Rattle.mail_answer.specs.Mail.{Mail}
 use Rattle.mail_answer.specs.Shapes.{message_text}
-use Rattle.index_job.specs.ArchiveTables.{Mbox, messages_in, entry_of, record_of}
+use Rattle.index_job.specs.ArchiveTables.{Mbox, messages_in, entry_of_archive, record_of}
 use Rattle.mairix_tool.specs.Chosen.{facts_of_message}
 
 -- a message, after the number of its archive
@@ -55,7 +55,7 @@ mail_in archives = mail_of (numbered_messages 0 archives)
 
 -- the text of a message in a form, by the bytes of its span
 abbrev pub shape_of : Format → List Mbox → Numbered → List ℕ
-shape_of format archives x = message_text format (map entry_of archives) (map (λ a. a.bytes) archives)
+shape_of format archives x = message_text format (map entry_of_archive archives) (map (λ a. a.bytes) archives)
     (record_of x.0 x.1)
 
 -- the texts of the messages with these numbers, one after another

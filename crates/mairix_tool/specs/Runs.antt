@@ -14,7 +14,7 @@ use Rattle.mail_answer.specs.Stale.{stale_archive}
 use Rattle.mail_answer.specs.TableAnswers.{mail_told}
 use Rattle.mail_answer.specs.Verified.{AreVerified, unverified_archive}
 use Rattle.mail_index.specs.declared.view.fault.IndexFault.{IndexFault}
-use Rattle.mail_index.specs.Faults.{IsFileOf, IsFirstFault}
+use Rattle.mail_index.specs.Faults.{IsFileOfTable, IsFirstFaultOfFile}
 use Rattle.mail_index.specs.Tables.{Archive, Table}
 use Rattle.mail_query.specs.Query.{uses_names}
 use Rattle.run_faults.specs.declared.fault.Fault.{Fault}
@@ -23,7 +23,7 @@ use Rattle.run_faults.specs.declared.fault.Fault.TheVariants.{Index, OldIndex, S
 use Rattle.mairix_tool.specs.declared.reply.Reply.{Reply}
 use Rattle.index_job.specs.ArchiveRefusals.{AreSound}
 use Rattle.index_job.specs.ArchiveTables.{Mbox, table}
-use Rattle.index_run.specs.ArchivesIndexed.{mboxes, Refuses, IsArchivesFault}
+use Rattle.index_run.specs.ArchivesIndexed.{mboxes, RefusesArchives, IsArchivesFault}
 use Rattle.mairix_tool.specs.Asked.{Wanted}
 use Rattle.run_faults.specs.Faults.{is_early, is_failure, is_memory, is_of_index, status_of_fault}
 use Rattle.mairix_tool.specs.MailOfArchives.{mail_in, shape}
@@ -46,7 +46,7 @@ IsAnswer archives s answer = (numbers : List ℕ) × AreChosen (mail_in archives
 
 -- the answer is the refusal of the first faulty archive
 abbrev pub IsRefusedBy : List Mbox → Answer → Type 0
-IsRefusedBy archives answer = (fault : Fault) × Refuses archives fault × (answer ≡ refused fault)
+IsRefusedBy archives answer = (fault : Fault) × RefusesArchives archives fault × (answer ≡ refused fault)
 
 -- The reply and its text: a refusal of words, rcfile or query; otherwise of an archive; otherwise the answer. If one
 -- archive is too long and has too many messages or keys, either refusal is right.
@@ -121,8 +121,8 @@ IsToldOf w t held answer = IsOldOr (is_too_old t w)
 abbrev pub IsStoredReply : Result Wanted Fault → List ℕ → List (List ℕ) → Answer → Type 0
 IsStoredReply (Err fault) index held answer = answer ≡ refused fault
 IsStoredReply (Ok w) index held answer =
-    ((fault : IndexFault) × IsFirstFault index fault × (answer ≡ refused (Index fault)))
-    ⊎ ((t : Table) × IsFileOf index t × IsToldOf w t held answer)
+    ((fault : IndexFault) × IsFirstFaultOfFile index fault × (answer ≡ refused (Index fault)))
+    ⊎ ((t : Table) × IsFileOfTable index t × IsToldOf w t held answer)
 
 -- the fault of a run for a fault of an answer
 abbrev pub fault_of_answer_kind : AnswerFaultKind → Fault
@@ -172,10 +172,10 @@ IsUnindexed (Ok w) bytes fault = IsArchivesFault (mboxes w.paths bytes) fault
 -- a refusal of an index for what is wanted: it isn't an index file, otherwise it is too old, otherwise it has other
 -- paths
 abbrev pub IsIndexRefusal : Wanted → List ℕ → Fault → Type 0
-IsIndexRefusal w index (Index f) = IsFirstFault index f
-IsIndexRefusal w index OldIndex = (t : Table) × IsFileOf index t × (is_too_old t w ≡ true)
+IsIndexRefusal w index (Index f) = IsFirstFaultOfFile index f
+IsIndexRefusal w index OldIndex = (t : Table) × IsFileOfTable index t × (is_too_old t w ≡ true)
 IsIndexRefusal w index (Stale n) =
-    (t : Table) × IsFileOf index t × (is_too_old t w ≡ false) × (renamed_archive t.archives w.paths ≡ Some n)
+    (t : Table) × IsFileOfTable index t × (is_too_old t w ≡ false) × (renamed_archive t.archives w.paths ≡ Some n)
 IsIndexRefusal w index _ = ⊥
 
 -- a refusal of a stored search, which comes before any archive is read, whatever bytes the archives have

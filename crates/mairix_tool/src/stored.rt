@@ -3,7 +3,7 @@ ghost use Rattle.std.specs.Prelude.{◌≡◌, ◌<◌, ◌^◌, ◌-◌, ℕ, L
 ghost use Rattle.std.specs.String.{string_bytes};
 ghost use Rattle.contract_words.specs.Devices.{Counted};
 ghost use Rattle.mail_answer.specs.Asked.{HoldsArchives};
-ghost use Rattle.mail_index.specs.Faults.{IsFileOf};
+ghost use Rattle.mail_index.specs.Faults.{IsFileOfTable};
 ghost use Rattle.mail_index.specs.Tables.{Table};
 ghost use Rattle.mail_index.specs.Versions.{newest};
 ghost use Rattle.mairix_tool.specs.Asked.{asks, Wanted as Asked, wanted as wanted_of};
@@ -69,7 +69,7 @@ pub fn search_run<A: Archives, O: Out>(
     // Whatever bytes the archives have: an answer has the number of messages that the table chooses. With `--verify`
     // there is one only if the bytes that were read had the lengths and the SHA-256 that were indexed.
     ensures counted { (w : Asked) (t : Table) → asks words.now rc.now now ≡ Ok w
-        → IsFileOf index.now t
+        → IsFileOfTable index.now t
         → CountsVerified t w (A.held archives.new) result (O.taken out.old) (O.taken out.new) }
 
     // If words, rcfile, query, index, its version or its paths are refused, no archive is read, and nothing is sent. Nor
@@ -81,7 +81,7 @@ pub fn search_run<A: Archives, O: Out>(
     // anything else, and a raw answer reads nothing more. The reply is what that finds. An mbox answer has the bytes of
     // each message, each closed.
     ensures searched { (w : Asked) (t : Table) → asks words.now rc.now now ≡ Ok w
-        → IsFileOf index.now t
+        → IsFileOfTable index.now t
         → SearchesStored A.Archives O.Out w t archives.old archives.new out.old out.new result }
 
     // A fault of words, rcfile, query, index or its version comes only if that is refused with it. Each fault is one
@@ -115,13 +115,13 @@ fn answer_stored<A: Archives, O: Out>(
     ensures told { (held : List (List ℕ)) → A.held archives.new ≡ Some held
         → RepliesBy (IsStoredReply (Ok (wanted_of wanted.now)) index.now held) (reply_of result)
         (O.taken out.old) (O.taken out.new) }
-    ensures counted { (t : Table) → IsFileOf index.now t
+    ensures counted { (t : Table) → IsFileOfTable index.now t
         → CountsVerified t (wanted_of wanted.now) (A.held archives.new) (reply_of result)
         (O.taken out.old) (O.taken out.new) }
     ensures refused { (fault : Fault) → IsIndexRefusal (wanted_of wanted.now) index.now fault
         → (fault_in result ≡ Some fault) × (archives.new ≡ archives.old) × (out.new ≡ out.old) }
     ensures raw { KeepsRawBack (wanted_of wanted.now).search (fault_in result) out.old out.new }
-    ensures searched { (t : Table) → IsFileOf index.now t
+    ensures searched { (t : Table) → IsFileOfTable index.now t
         → SearchesStored A.Archives O.Out (wanted_of wanted.now) t
         archives.old archives.new out.old out.new (reply_of result) }
     ensures no_other_cause { IfSome (reply_of result).fault
@@ -190,7 +190,7 @@ fn prove_archives<A: Archives>(
 /// Opens the index. Fails if its bytes aren't an index file, if it lacks what is wanted of it, or if its paths aren't
 /// the wanted ones. Takes no memory.
 fn open_for<'a>(index: &'a [u8], wanted: &Wanted) -> Result<IndexView<'a>, Fault>
-    ensures table { IfOk result (λ view. IsFileOf index.entry.now view) }
+    ensures table { IfOk result (λ view. IsFileOfTable index.entry.now view) }
     ensures fresh { IfOk result (λ view. is_too_old view (wanted_of wanted.now) ≡ false) }
     ensures paths { IfOk result (λ view.
         renamed_archive view.archives (wanted_of wanted.now).paths ≡ None) }

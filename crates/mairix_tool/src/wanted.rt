@@ -5,7 +5,7 @@ ghost use Rattle.contract_words.specs.Answers.{Gives};
 ghost use Rattle.mail_query.specs.Meaning.{meaning};
 ghost use Rattle.mairix_tool.specs.Asked.{query_asked, format_of_mail};
 ghost use Rattle.or_memory.specs.Refusals.{refusal};
-ghost use Rattle.run_faults.specs.Faults.{refusal_of, IsEarly};
+ghost use Rattle.run_faults.specs.Faults.{refusal_of_fault, IsEarly};
 
 use mail_answer::Format;
 use mail_dates::Moment;
@@ -37,7 +37,7 @@ impl Wanted {
         rc: &[u8],
         now: Moment,
     ) -> Result<Wanted, Fault>
-        ensures asked { Gives wanted refusal_of result
+        ensures asked { Gives wanted refusal_of_fault result
             (asked (map string_bytes words.now) rc.now now) }
         ensures early { IfErr result IsEarly }
     {
@@ -47,7 +47,7 @@ impl Wanted {
 
     /// Does the same for words that are read already.
     fn of_plan(alloc: Global, plan: &Plan, rc: &[u8], now: Moment) -> Result<Wanted, Fault>
-        ensures asked { Gives wanted refusal_of result (asked_by plan.now rc.now now) }
+        ensures asked { Gives wanted refusal_of_fault result (asked_by plan.now rc.now now) }
         ensures early { IfErr result IsEarly }
     {
         let rc = read_rc(alloc, rc)?;

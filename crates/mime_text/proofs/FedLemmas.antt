@@ -1,10 +1,11 @@
 -- How the lines read and the pairs given grow with each call of MessageText.
 use Rattle.mime_text.proofs.Words.{◌≡◌, ◌∙◌, ◌++◌, ℕ, List, [], ◌∷◌, sym, ap, append_assoc, arith, Result, OnOk, IfErr}
-use Rattle.mime_text.proofs.Words.{TextKind, SinkFault, TextFault, Pair, texts_of_message, Passed, Stopped, Passes}
+use Rattle.mime_text.proofs.Words.{TextKind, SinkFault, TextFault, Pair, texts_of_message, PassedPairs, Stopped}
+use Rattle.mime_text.proofs.Words.{PassesPairs}
 use Rattle.mime_text.proofs.Words.{IsOver, Comes, KnowsFacts}
 use Rattle.std.proofs.lemmas.List.{append-nil}
 use Rattle.mime_text.specs.declared.message_text.MessageText.{MessageText}
-use Rattle.mime_text.specs.Fed.{Feeds, FeedsPart, Finishes, FinishesPart}
+use Rattle.mime_text.specs.Fed.{Feeds, FeedsPart, FinishesTexts, FinishesPart}
 
 abbrev Line : Type 0
 Line = List ℕ
@@ -12,7 +13,7 @@ Line = List ℕ
 module _ {S : Type 0} (takes : S → TextKind → List ℕ → S → Type 0)
     (refuses : S → TextKind → List ℕ → SinkFault → S → Type 0) where
   pub feeds : (m n : MessageText) (l : Line) (s t : S) → n.ended ≡ m.ended
-      → Passed takes refuses (Comes m.reader) (Comes n.reader) (λ c ms. c (l ∷ ms)) s t
+      → PassedPairs takes refuses (Comes m.reader) (Comes n.reader) (λ c ms. c (l ∷ ms)) s t
       → ((ls : List Line) → KnowsFacts m.reader ls → KnowsFacts n.reader (ls ++ l ∷ [])) → Feeds takes refuses m n l s t
   feeds m n l s t q h k = grind (arith, append_assoc)
 
@@ -29,8 +30,8 @@ module _ {S : Type 0} (takes : S → TextKind → List ℕ → S → Type 0)
         );
       }
 
-  pub finishes : (m : MessageText) (s t : S) → Passed takes refuses (Comes m.reader) IsOver (λ c _. c []) s t
-      → Finishes takes refuses m s t
+  pub finishes : (m : MessageText) (s t : S) → PassedPairs takes refuses (Comes m.reader) IsOver (λ c _. c []) s t
+      → FinishesTexts takes refuses m s t
   finishes m s t h =
       record {
         pairs = h.pairs;
@@ -55,11 +56,11 @@ module _ {S : Type 0} (takes : S → TextKind → List ℕ → S → Type 0)
       }
 
   pub finishes-at : {T : Type 0} (m : MessageText) (result : Result T TextFault) (s t : S)
-      → Passes takes refuses (Comes m.reader) IsOver (λ c _. c []) result s t
-      → OnOk result (Finishes takes refuses m s t)
+      → PassesPairs takes refuses (Comes m.reader) IsOver (λ c _. c []) result s t
+      → OnOk result (FinishesTexts takes refuses m s t)
   finishes-at m result s t h = grind (arith, finishes)
 
   pub finishes-part_at : {T : Type 0} (m : MessageText) (result : Result T TextFault) (s t : S)
-      → Passes takes refuses (Comes m.reader) IsOver (λ c _. c []) result s t
+      → PassesPairs takes refuses (Comes m.reader) IsOver (λ c _. c []) result s t
       → IfErr result (λ fault. FinishesPart takes refuses m fault s t)
   finishes-part_at m result s t h = grind (arith, finishes-part)

@@ -3,8 +3,10 @@ use Rattle.mime_text.proofs.Words.{◌≡◌, ◌∙◌, ◌≤◌, ◌<◌, ◌
 use Rattle.mime_text.proofs.Words.{List, [], ◌∷◌, Option, Some, None, length, take, drop, refl, sym, ap, arith, add-one}
 use Rattle.mime_text.proofs.Words.{get_or, Bor, slice_get, option_map, MatchOption, IfSome, eqb-true, bytes_eq}
 use Rattle.mime_text.proofs.Words.{without_break, after_blanks, DefaultType, Frame, Delimiter, are_blanks, is_delimiter}
-use Rattle.mime_text.proofs.Words.{is_closing, StreamPlace, Skip, InHeader, or_else, own_hit, hit, dash_dash, dashes}
-use Rattle.mime_text.proofs.Words.{kind_behind, delimiter_of, led, scan, inside_out, opened, AreNested}
+use Rattle.mime_text.proofs.Words.{is_closing, StreamPlace, Skip, InHeader, or_else, own_hit, place_after_hit}
+use Rattle.mime_text.proofs.Words.{dash_dash, dashes}
+use Rattle.mime_text.proofs.Words.{kind_behind, delimiter_of, place_after_delimiter, scan, inside_out, with_frame}
+use Rattle.mime_text.proofs.Words.{AreNested}
 use Rattle.std.proofs.lemmas.Option.{slice_get-get_or}
 use Rattle.header_text.specs.EncodedWords.{after}
 use Rattle.mime_text.specs.declared.parts.delimiter.Delimiter.TheVariants.{Next, Closing}
@@ -57,7 +59,7 @@ after-each (c ∷ front) (b ∷ bytes) (suc k) below = grind (arith, after-each 
 
 abbrev led_by : {A : Type 0} → Option (List ℕ) → Frame → List Frame → Option (List Frame × StreamPlace A)
 led_by None f outer = None
-led_by (Some text) f outer = led (delimiter_of f.boundary text) f outer
+led_by (Some text) f outer = place_after_delimiter (delimiter_of f.boundary text) f outer
 
 own_hit-is : {A : Type 0} (l : List ℕ) (f : Frame) (outer : List Frame)
     → own_hit {A = A} (is_closing f.boundary l) (is_delimiter f.boundary l) f outer ≡ led_by (dashes l) f outer
@@ -70,11 +72,11 @@ own_hit-is {A} l f outer =
     (by_dashes (after dash_dash (without_break l)))
   where
     by_bools : (closing blank : Bool) → own_hit {A = A} closing blank f outer
-        ≡ led (cond closing (Some Closing) (cond blank (Some Next) None)) f outer
+        ≡ place_after_delimiter (cond closing (Some Closing) (cond blank (Some Next) None)) f outer
     by_bools closing blank = grind arith
 
     by_rest : (o : Option (List ℕ)) → own_hit {A = A} (are_blanks (then_after o dash_dash)) (are_blanks o) f outer
-        ≡ led (kind_behind o) f outer
+        ≡ place_after_delimiter (kind_behind o) f outer
     by_rest o = grind (arith, by_bools)
 
     by_dashes : (o : Option (List ℕ)) → own_hit {A = A} (are_blanks (then_after o (f.boundary ++ dash_dash)))
@@ -90,28 +92,29 @@ scan_by (Some text) outer fs = scan outer fs text
 or_else-assoc : {A : Type 0} (a b c : Option A) → or_else (or_else a b) c ≡ or_else a (or_else b c)
 or_else-assoc a b c = grind arith
 
-hit_inside : {A : Type 0} (l : List ℕ) (fs outer : List Frame) → hit {A = A} (inside_out fs outer) l
-    ≡ or_else (hit outer l) (scan_by (dashes l) outer fs)
+hit_inside : {A : Type 0} (l : List ℕ) (fs outer : List Frame) → place_after_hit {A = A} (inside_out fs outer) l
+    ≡ or_else (place_after_hit outer l) (scan_by (dashes l) outer fs)
 hit_inside {A} l [] outer = grind arith
 hit_inside {A} l (f ∷ fs) outer =
     hit_inside l fs (f ∷ outer)
-    ∙ ap (λ (o : Option (List Frame × StreamPlace A)). or_else (or_else (hit outer l) o)
+    ∙ ap (λ (o : Option (List Frame × StreamPlace A)). or_else (or_else (place_after_hit outer l) o)
     (scan_by (dashes l) (f ∷ outer) fs)) (own_hit-is l f outer)
-    ∙ or_else-assoc (hit outer l) (led_by (dashes l) f outer) (scan_by (dashes l) (f ∷ outer) fs)
-    ∙ ap (or_else (hit outer l)) (go (dashes l))
+    ∙ or_else-assoc (place_after_hit outer l) (led_by (dashes l) f outer) (scan_by (dashes l) (f ∷ outer) fs)
+    ∙ ap (or_else (place_after_hit outer l)) (go (dashes l))
   where
     go : (o : Option (List ℕ)) → or_else (led_by {A = A} o f outer) (scan_by o (f ∷ outer) fs)
         ≡ scan_by o outer (f ∷ fs)
     go o = grind arith
 
-pub hit-is : {A : Type 0} (l : List ℕ) (fs : List Frame) → hit {A = A} (inside_out fs []) l ≡ scan_by (dashes l) [] fs
+pub hit-is : {A : Type 0} (l : List ℕ) (fs : List Frame) → place_after_hit {A = A} (inside_out fs []) l
+    ≡ scan_by (dashes l) [] fs
 hit-is l fs = hit_inside l fs []
 
 -- the search passes over the multiparts that the line doesn't delimit, and ends at one that it does
 pub scan-at : {A : Type 0} (text : List ℕ) (fs : List Frame) (n : ℕ) (outer : List Frame) (f : Frame) → slice_get fs n
     ≡ Some f
     → scan {A = A} (inside_out (take n fs) outer) (drop n fs) text
-    ≡ or_else (led (delimiter_of f.boundary text) f (inside_out (take n fs) outer))
+    ≡ or_else (place_after_delimiter (delimiter_of f.boundary text) f (inside_out (take n fs) outer))
     (scan (inside_out (take (suc n) fs) outer) (drop (suc n) fs) text)
 scan-at text [] n outer f e = absurd (cc)
 scan-at {A} text (g ∷ gs) zero outer f e = grind (arith)
@@ -148,20 +151,22 @@ AreNested-at above (g ∷ gs) (suc n) f h e = omega (arith, AreNested-at (above 
 -- the open multiparts with one more
 pub open_frames : (fs : List Frame) (left : ℕ) (boundary : List ℕ) (d : DefaultType) → 0 < left
     → inside_out (fs ++ record { boundary = boundary; default = d; left = left - 1 } ∷ []) []
-    ≡ opened left boundary d (inside_out fs [])
+    ≡ with_frame left boundary d (inside_out fs [])
 open_frames fs left boundary d h = grind (arith, inside_out-push)
 
 -- ---- the place after a delimiter
 
 pub or_else-led : {A : Type 0} (k : Delimiter) (f : Frame) (outer : List Frame)
-    (o : Option (List Frame × StreamPlace A)) → or_else (led (Some k) f outer) o ≡ led (Some k) f outer
+    (o : Option (List Frame × StreamPlace A)) → or_else (place_after_delimiter (Some k) f outer) o
+    ≡ place_after_delimiter (Some k) f outer
 or_else-led k f outer o = grind arith
 
 -- the element at the index that a loop or an index expression reads
 pub got-at : (fs : List Frame) (n : ℕ) (f : Frame) → n < length fs → f ≡ get_or fs n f → slice_get fs n ≡ Some f
 got-at fs n f h e = slice_get-get_or fs n f h ∙ ap (λ (x : Frame). Some x) (sym e)
 
-pub no_dashes : {A : Type 0} (l : List ℕ) (frames : List Frame) → dashes l ≡ None → hit {A = A} frames l ≡ None
+pub no_dashes : {A : Type 0} (l : List ℕ) (frames : List Frame) → dashes l ≡ None → place_after_hit {A = A} frames l
+    ≡ None
 no_dashes l [] e = refl
 no_dashes {A} l (f ∷ outer) e =
     ap (λ (o : Option (List Frame × StreamPlace A)). or_else o
@@ -169,22 +174,23 @@ no_dashes {A} l (f ∷ outer) e =
     ∙ own_hit-is l f outer ∙ ap (λ (o : Option (List ℕ)). led_by {A = A} o f outer) e
 
 pub scanned : {A : Type 0} (l text : List ℕ) (frames fs seen : List Frame) (o : Option (List Frame × StreamPlace A))
-    → frames ≡ inside_out fs [] → seen ≡ fs → dashes l ≡ Some text → scan [] seen text ≡ o → hit frames l ≡ o
+    → frames ≡ inside_out fs [] → seen ≡ fs → dashes l ≡ Some text → scan [] seen text ≡ o → place_after_hit frames l
+    ≡ o
 scanned {A} l text frames fs seen o v q e s = grind (arith, hit-is)
 
 -- what the search finds of the multipart that a line delimits
 abbrev pub Found : (A : Type 0) → List Frame → List ℕ → ℕ → Delimiter → Type 0
 Found A seen text n k = (f : Frame) × (slice_get seen n ≡ Some f)
-    × (scan {A = A} [] seen text ≡ led (Some k) f (inside_out (take n seen) []))
+    × (scan {A = A} [] seen text ≡ place_after_delimiter (Some k) f (inside_out (take n seen) []))
 
 pub closing-leads : {A : Type 0} (l text : List ℕ) (frames fs seen kept : List Frame) (n : ℕ) (k : Delimiter)
     → frames ≡ inside_out fs [] → seen ≡ fs → dashes l ≡ Some text → k ≡ Closing → Found A seen text n k → kept
     ≡ take n fs
-    → Some (inside_out kept [], Skip) ≡ hit {A = A} frames l
+    → Some (inside_out kept [], Skip) ≡ place_after_hit {A = A} frames l
 closing-leads {A} l text frames fs seen kept n k v q e is found t = grind (arith, scanned)
 
 pub next-leads : {A : Type 0} (l text : List ℕ) (frames fs seen kept : List Frame) (n : ℕ) (k : Delimiter) (g : Frame)
     → frames ≡ inside_out fs [] → seen ≡ fs → dashes l ≡ Some text → k ≡ Next → Found A seen text n k → slice_get fs n
     ≡ Some g → kept ≡ take (n + 1) fs
-    → Some (inside_out kept [], InHeader false g.left g.default []) ≡ hit {A = A} frames l
+    → Some (inside_out kept [], InHeader false g.left g.default []) ≡ place_after_hit {A = A} frames l
 next-leads {A} l text frames fs seen kept n k g v q e is found got t = grind (arith, add-one, scanned, inside_out-at)

@@ -1,7 +1,7 @@
 -- How the texts of fields are given to a sink, one after another.
 use Rattle.mime_text.proofs.Words.{◌≡◌, ◌∙◌, ◌++◌, ℕ, List, [], ◌∷◌, Option, Some, refl, ap, append_assoc, arith}
 use Rattle.mime_text.proofs.Words.{Result, Ok, Err, option_map, cons_option, HeaderField, TextKind, SinkFault}
-use Rattle.mime_text.proofs.Words.{TextFault, Failed, OutOfMemory, Sink, Pair, Coming, Gave, Broke, Hands}
+use Rattle.mime_text.proofs.Words.{TextFault, Failed, OutOfMemory, Sink, Pair, ComingPairs, Gave, Broke, Hands}
 use Rattle.mime_text.proofs.Words.{kind_of_field, text_of_body, texts_of_fields}
 use Rattle.std.proofs.lemmas.List.{append-nil}
 use Rattle.mime_text.specs.Inside.Showing.{Shows}
@@ -28,11 +28,11 @@ module _ {S : Type 0} (takes : S → TextKind → List ℕ → S → Type 0)
   hands-one p (Err Failed) s t h = absurd h
 
   -- a call that gives all of A gives the first of the pairs B, if B begins with those of A
-  pub gave-front : (A B R : Coming) (s t : S) → ((ms : List (List ℕ)) → B ms ≡ A ms ++ R ms)
+  pub gave-front : (A B R : ComingPairs) (s t : S) → ((ms : List (List ℕ)) → B ms ≡ A ms ++ R ms)
       → Gave takes refuses A (λ _. []) s t → Gave takes refuses B R s t
   gave-front A B R s t e h = grind (arith, append-nil)
 
-  pub broke-front : (A B R : Coming) (fault : TextFault) (s t : S) → ((ms : List (List ℕ)) → B ms ≡ A ms ++ R ms)
+  pub broke-front : (A B R : ComingPairs) (fault : TextFault) (s t : S) → ((ms : List (List ℕ)) → B ms ≡ A ms ++ R ms)
       → Broke takes refuses A fault s t → Broke takes refuses B fault s t
   broke-front A B R fault s t e h =
       record {
@@ -46,7 +46,7 @@ module _ {S : Type 0} (takes : S → TextKind → List ℕ → S → Type 0)
       }
 
   -- the pairs that come after the call may be replaced by equal ones
-  pub gave-behind : (A B C : Coming) (s t : S) → ((ms : List (List ℕ)) → B ms ≡ C ms) → Gave takes refuses A B s t
+  pub gave-behind : (A B C : ComingPairs) (s t : S) → ((ms : List (List ℕ)) → B ms ≡ C ms) → Gave takes refuses A B s t
       → Gave takes refuses A C s t
   gave-behind A B C s t e h = record {
     pairs = h.pairs;

@@ -1,6 +1,7 @@
 -- What a sink was given, call by call.
 use Rattle.mime_text.proofs.Words.{◌≡◌, ◌∙◌, ◌++◌, ℕ, List, [], ◌∷◌, refl, sym, ap, subst, append_assoc, arith, Result}
-use Rattle.mime_text.proofs.Words.{Ok, Err, IsErrAnd, TextKind, SinkFault, TextFault, Pair, Coming, TakesAll, Breaks}
+use Rattle.mime_text.proofs.Words.{Ok, Err, IsErrAnd, TextKind, SinkFault, TextFault, Pair, ComingPairs, TakesAll}
+use Rattle.mime_text.proofs.Words.{Breaks}
 use Rattle.mime_text.proofs.Words.{Gave, Broke, Hands}
 
 -- a fault that is returned to the caller
@@ -21,15 +22,15 @@ module _ {S : Type 0} (takes : S → TextKind → List ℕ → S → Type 0)
   breaks-append fault ps qs s t u h h2 = grind (arith, taken-append, append_assoc)
 
   -- a call that gives nothing
-  pub gave-nothing : (A : Coming) (s : S) → Gave takes refuses A A s s
+  pub gave-nothing : (A : ComingPairs) (s : S) → Gave takes refuses A A s s
   gave-nothing A s = record { pairs = []; taken = refl; rest = λ ms. refl }
 
   -- one call after another
-  pub gave-more : (A B C : Coming) (s t u : S) → Gave takes refuses A B s t → Gave takes refuses B C t u
+  pub gave-more : (A B C : ComingPairs) (s t u : S) → Gave takes refuses A B s t → Gave takes refuses B C t u
       → Gave takes refuses A C s u
   gave-more A B C s t u h k = grind (arith, taken-append, append_assoc)
 
-  pub broke-later : (A B : Coming) (fault : TextFault) (s t u : S) → Gave takes refuses A B s t
+  pub broke-later : (A B : ComingPairs) (fault : TextFault) (s t u : S) → Gave takes refuses A B s t
       → Broke takes refuses B fault t u → Broke takes refuses A fault s u
   broke-later A B fault s t u h k =
       record {
@@ -42,24 +43,26 @@ module _ {S : Type 0} (takes : S → TextKind → List ℕ → S → Type 0)
         );
       }
 
-  pub hands-later : {T : Type 0} (A B C : Coming) (result : Result T TextFault) (s t u : S) → Gave takes refuses A B s t
+  pub hands-later : {T : Type 0} (A B C : ComingPairs) (result : Result T TextFault) (s t u : S)
+      → Gave takes refuses A B s t
       → Hands takes refuses B C result t u → Hands takes refuses A C result s u
   hands-later A B C (Ok x) s t u h k = gave-more A B C s t u h k
   hands-later A B C (Err fault) s t u h k = broke-later A B fault s t u h k
 
   -- the same for other lines to come
-  pub gave-along : (A B A' B' : Coming) (to : List (List ℕ) → List (List ℕ)) (s t : S)
+  pub gave-along : (A B A' B' : ComingPairs) (to : List (List ℕ) → List (List ℕ)) (s t : S)
       → ((ms : List (List ℕ)) → A' ms ≡ A (to ms)) → ((ms : List (List ℕ)) → B' ms ≡ B (to ms))
       → Gave takes refuses A B s t → Gave takes refuses A' B' s t
   gave-along A B A' B' to s t p q h = grind arith
 
-  pub broke-along : (A A' : Coming) (to : List (List ℕ) → List (List ℕ)) (fault : TextFault) (s t : S)
+  pub broke-along : (A A' : ComingPairs) (to : List (List ℕ) → List (List ℕ)) (fault : TextFault) (s t : S)
       → ((ms : List (List ℕ)) → A' ms ≡ A (to ms))
       → Broke takes refuses A fault s t → Broke takes refuses A' fault s t
   broke-along A A' to fault s t p h =
       record { pairs = h.pairs; broken = h.broken; front = λ ms. ((h.front (to ms)).0, p ms ∙ (h.front (to ms)).1) }
 
-  pub hands-along : {T : Type 0} (A B A' B' : Coming) (to : List (List ℕ) → List (List ℕ)) (result : Result T TextFault)
+  pub hands-along : {T : Type 0} (A B A' B' : ComingPairs) (to : List (List ℕ) → List (List ℕ))
+      (result : Result T TextFault)
       (s t : S) → ((ms : List (List ℕ)) → A' ms ≡ A (to ms))
       → ((ms : List (List ℕ)) → B' ms ≡ B (to ms)) → Hands takes refuses A B result s t
       → Hands takes refuses A' B' result s t

@@ -5,7 +5,8 @@ use Rattle.mime_text.proofs.Words.{append-nil, Result, Ok, Err, OnOk, concat, eq
 use Rattle.mime_text.proofs.Words.{drop-drop, take-append-le, drop-append-le, take_all, drop_all, take-append-drop}
 use Rattle.mime_text.proofs.Words.{length_before_feed, line_end_of, lines, line_end-more, line_end-positive}
 use Rattle.mime_text.proofs.Words.{line_end-within, line_end-whole, TextKind, SinkFault, TextFault, OutOfMemory, Sink}
-use Rattle.mime_text.proofs.Words.{Failed, LineTexts, Pair, Gave, Broke, Hands, ends_in, line_text, is_open_behind_line}
+use Rattle.mime_text.proofs.Words.{Failed, LineTexts, Pair, Gave, Broke, Hands, ends_in, line_text}
+use Rattle.mime_text.proofs.Words.{is_tag_open_after_line}
 use Rattle.mime_text.proofs.Words.{texts_behind, body_pairs, pairs_of_lines, pairs_of_bytes}
 use Rattle.std.proofs.lemmas.Slice.Eq.{bytes_eq-Decides}
 use Rattle.mbox_cutter.proofs.LineLists.{lines-cons, lines-nil}
@@ -93,7 +94,7 @@ module _ {S : Type 0} (takes : S → TextKind → List ℕ → S → Type 0)
   pub hands_line : {T : Type 0} (old new : LineTexts) (line : List ℕ) (result : Result T TextFault) (s t : S)
       → Shows takes refuses kind.Body (line_text old.charset old.is_html old.is_open line) result s t
       → new.charset ≡ old.charset → new.is_html ≡ old.is_html
-      → OnOk result (new.is_open ≡ is_open_behind_line old.charset old.is_html old.is_open line)
+      → OnOk result (new.is_open ≡ is_tag_open_after_line old.charset old.is_html old.is_open line)
       → Hands takes refuses (λ ls. pairs_of_lines old (line ∷ ls)) (λ ls. pairs_of_lines new ls) result s t
   hands_line old new line (Ok x) s t h e f g =
       let p : Pair = (kind.Body, line_text old.charset old.is_html old.is_open line) in
@@ -106,7 +107,7 @@ module _ {S : Type 0} (takes : S → TextKind → List ℕ → S → Type 0)
         broken = ([], p, s, refl, refl, h);
         front = λ ls. (
           body_pairs (texts_behind old.charset old.is_html
-              (is_open_behind_line old.charset old.is_html old.is_open line) ls),
+              (is_tag_open_after_line old.charset old.is_html old.is_open line) ls),
           refl,
         );
       }

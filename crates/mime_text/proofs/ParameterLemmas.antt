@@ -3,7 +3,8 @@ use Rattle.mime_text.proofs.Words.{◌≡◌, ◌∙◌, ◌<◌, ◌≤◌, ◌
 use Rattle.mime_text.proofs.Words.{Option, Some, None, length, cond, refl, sym, ap, arith, length-append, option_map}
 use Rattle.mime_text.proofs.Words.{unwrap_or, find, option_map_or, option_to_list, split_while, after_blanks}
 use Rattle.mime_text.proofs.Words.{without_outer_blanks}
-use Rattle.mime_text.proofs.Words.{cut_at, length-split_while, split_while-joined, IsCut-from, Parameter, Piece, quoted}
+use Rattle.mime_text.proofs.Words.{cut_at, length-split_while, split_while-joined, IsCut-from, Parameter, Piece}
+use Rattle.mime_text.proofs.Words.{quoted_and_rest}
 use Rattle.mime_text.proofs.Words.{value_and_rest, is_parameter_name_byte, behind_semicolon, piece_of}
 use Rattle.mime_text.proofs.Words.{parameters_within, parameters_behind, first_named, parameter}
 use Rattle.header_text.specs.Names.{is_named}
@@ -15,7 +16,7 @@ length-after_blanks [] = omega arith
 length-after_blanks (b ∷ bs) = grind (arith, length-after_blanks bs)
 
 -- what is between quotes and what follows them are together no longer than the bytes
-length-quoted : (bs : List ℕ) → length (quoted bs).0 + length (quoted bs).1 ≤ length bs
+length-quoted : (bs : List ℕ) → length (quoted_and_rest bs).0 + length (quoted_and_rest bs).1 ≤ length bs
 length-quoted [] = omega arith
 length-quoted (b ∷ []) = grind arith
 length-quoted (b ∷ c ∷ bs) = grind (arith, length-quoted bs, length-quoted (c ∷ bs))

@@ -3,11 +3,13 @@ use Rattle.mime_text.proofs.Words.{◌≡◌, ◌∙◌, ◌++◌, ℕ, Bool, tr
 use Rattle.mime_text.proofs.Words.{ap, subst, append_assoc, arith, if◌then◌else◌, Result, Ok, Err, OnOk, IfErr}
 use Rattle.mime_text.proofs.Words.{is_empty, HeaderField, fields_of, HasLines, taken_of, has_empty, More, Ended}
 use Rattle.mime_text.proofs.Words.{TextKind, SinkFault, TextFault, OutOfMemory, DefaultType, TextPlain, Frame, State}
-use Rattle.mime_text.proofs.Words.{PartReader, Pair, Coming, Gave, Broke, Hands, shape_of, facts_of, pairs_to_come}
-use Rattle.mime_text.proofs.Words.{StreamPlace, Skip, InHeader, InLeaf, hit, Nest, lead_to, texts_of_message, Passed}
-use Rattle.mime_text.proofs.Words.{Stopped, Passes, IsOver, given_from, header_texts, ending, given_behind, given_after}
+use Rattle.mime_text.proofs.Words.{PartReader, Pair, ComingPairs, Gave, Broke, Hands, shape_of, facts_of, pairs_to_come}
+use Rattle.mime_text.proofs.Words.{StreamPlace, Skip, InHeader, InLeaf, place_after_hit, Nest, lead_to}
+use Rattle.mime_text.proofs.Words.{texts_of_message, PassedPairs}
+use Rattle.mime_text.proofs.Words.{Stopped, PassesPairs, IsOver, given_from, header_texts, ending, given_after_header}
+use Rattle.mime_text.proofs.Words.{given_after_delimiter}
 use Rattle.mime_text.proofs.Words.{ComesAt, Comes, ComesBehindHeader, ComesEndingAt, ComesEnding, KnowsAt, KnowsFacts}
-use Rattle.mime_text.proofs.Words.{Notes}
+use Rattle.mime_text.proofs.Words.{NotesFacts}
 use Rattle.std.proofs.lemmas.List.{append-nil}
 use Rattle.std.specs.Result.{result_or}
 use Rattle.header_text.specs.declared.header.Header.{Header}
@@ -40,13 +42,13 @@ comes-first nest header e h = (
 )
 
 -- what an entity gives that ends here
-ending-is : (r : PartReader) (lead : Lead) (fields : List HeaderField) (c : Coming)
+ending-is : (r : PartReader) (lead : Lead) (fields : List HeaderField) (c : ComingPairs)
     → ((ls : List Line) → HasLines r.header ls → fields ≡ fields_of ls) → ComesEnding r lead c
-    → (ms : List Line) → c ms ≡ ending r.state fields r.leaf ++ given_after lead r.nesting ms
+    → (ms : List Line) → c ms ≡ ending r.state fields r.leaf ++ given_after_delimiter lead r.nesting ms
 ending-is r lead fields c f k = grind arith
 
 -- what the message gives that ends here
-whole-ending : (r : PartReader) (fields : List HeaderField) (c : Coming)
+whole-ending : (r : PartReader) (fields : List HeaderField) (c : ComingPairs)
     → ((ls : List Line) → HasLines r.header ls → fields ≡ fields_of ls) → Comes r c → c []
     ≡ ending r.state fields r.leaf
 whole-ending r fields c f k = go r.state k
@@ -59,8 +61,9 @@ whole-ending r fields c f k = go r.state k
 
 -- a line that delimits ends the entity
 delimits : (r : PartReader) (n : Nest) (lead : Lead) (l : Line) (h : List Frame × StreamPlace Pair)
-    → hit r.nesting.frames l ≡ Some h → ((ms : List Line) → given_from h.0 h.1 ms ≡ given_after lead n ms)
-    → (c : Coming) → Comes r c → ComesEnding (record r { nesting = n }) lead (λ ms. c (l ∷ ms))
+    → place_after_hit r.nesting.frames l ≡ Some h
+    → ((ms : List Line) → given_from h.0 h.1 ms ≡ given_after_delimiter lead n ms)
+    → (c : ComingPairs) → Comes r c → ComesEnding (record r { nesting = n }) lead (λ ms. c (l ∷ ms))
 delimits r n lead l h e q c k = go r.state k
   where
     go : (s : State) → ComesAt s r c → ComesEndingAt s (record r { nesting = n }) lead (λ ms. c (l ∷ ms))
@@ -77,8 +80,8 @@ delimits r n lead l h e q c k = go r.state k
         ∙ ap (λ (ps : List Pair). pairs_to_come r.leaf [] ++ ps) (q ms)
 
 pub delimited : (r : PartReader) (n : Nest) (lead : Lead) (l : Line) → lead_to {A = Pair} lead n
-    ≡ hit r.nesting.frames l → (lead ≡ Nowhere → ⊥)
-    → (c : Coming) → Comes r c → ComesEnding (record r { nesting = n }) lead (λ ms. c (l ∷ ms))
+    ≡ place_after_hit r.nesting.frames l → (lead ≡ Nowhere → ⊥)
+    → (c : ComingPairs) → Comes r c → ComesEnding (record r { nesting = n }) lead (λ ms. c (l ∷ ms))
 delimited r n lead l h h2 c h3 = grind (arith, delimits)
 
 -- ---- facts
@@ -89,7 +92,7 @@ one_more f ls l k ms = k (l ∷ ms) ∙ ap (λ (ks : List Line). facts_of (field
 
 -- a delimiter line isn't part of the message's own header
 pub facts-delimited : (r n : PartReader) (nest : Nest) (lead : Lead) (l : Line) → lead_to {A = Pair} lead nest
-    ≡ hit r.nesting.frames l → (lead ≡ Nowhere → ⊥) → n.facts ≡ r.facts
+    ≡ place_after_hit r.nesting.frames l → (lead ≡ Nowhere → ⊥) → n.facts ≡ r.facts
     → (ls : List Line) → KnowsFacts r ls → KnowsFacts n (ls ++ l ∷ [])
 facts-delimited r n nest lead l e away same ls k = let P : Option Facts → Type 0 = λ o. KnowsAt o n (ls ++ l ∷ [])
     in subst P (sym same) (go r.facts k)
@@ -100,17 +103,17 @@ facts-delimited r n nest lead l e away same ls k = let P : Option Facts → Type
     outside Behind q away = absurd (cc)
 
     go : (o : Option Facts) → KnowsAt o r ls → KnowsAt o n (ls ++ l ∷ [])
-    go None k = absurd (outside lead (e ∙ ap (λ (fs : List Frame). hit {A = Pair} fs l) k.outside) away)
+    go None k = absurd (outside lead (e ∙ ap (λ (fs : List Frame). place_after_hit {A = Pair} fs l) k.outside) away)
     go (Some f) k = one_more f ls l k
 
 -- the facts when the header has ended
 pub facts-ended : (r n : PartReader) (h : Header) (l : Line)
     → ((ls : List Line) → HasLines r.header ls → HasLines h (ls ++ l ∷ []))
     → ((ls : List Line) → HasLines r.header ls → Ended ≡ taken_of (ls ++ l ∷ []))
-    → Notes r.facts n.facts h → (ls : List Line) → KnowsFacts r ls → KnowsFacts n (ls ++ l ∷ [])
+    → NotesFacts r.facts n.facts h → (ls : List Line) → KnowsFacts r ls → KnowsFacts n (ls ++ l ∷ [])
 facts-ended r n h l push taken notes ls k = go r.facts notes k
   where
-    go : (o : Option Facts) → Notes o n.facts h → KnowsAt o r ls → KnowsAt n.facts n (ls ++ l ∷ [])
+    go : (o : Option Facts) → NotesFacts o n.facts h → KnowsAt o r ls → KnowsAt n.facts n (ls ++ l ∷ [])
     go None e k =
         let P : Option Facts → Type 0 = λ o. KnowsAt o n (ls ++ l ∷ []) in
         let t : is_empty l ≡ true = empty_ends ls l true k.open_ended
@@ -120,21 +123,22 @@ facts-ended r n h l push taken notes ls k = go r.facts notes k
         in subst P (sym e) (one_more f ls l k)
 
 -- the facts when the message has ended
-pub facts-whole : (r : PartReader) (f : Facts) → Notes r.facts (Some f) r.header → (ls : List Line) → KnowsFacts r ls
+pub facts-whole : (r : PartReader) (f : Facts) → NotesFacts r.facts (Some f) r.header → (ls : List Line)
+    → KnowsFacts r ls
     → f ≡ facts_of (fields_of ls)
 facts-whole r f notes ls k = go r.facts notes k
   where
-    go : (o : Option Facts) → Notes o (Some f) r.header → KnowsAt o r ls → f ≡ facts_of (fields_of ls)
+    go : (o : Option Facts) → NotesFacts o (Some f) r.header → KnowsAt o r ls → f ≡ facts_of (fields_of ls)
     go None e k = let q = e ls k.lines in cc
     go (Some g) e k = let q : f ≡ g = cc in q ∙ k [] ∙ ap (λ (ks : List Line). facts_of (fields_of ks)) (append-nil ls)
 
 -- what comes after the header of these lines
-abbrev behind_lines : PartReader → DefaultType → List Line → Coming
-behind_lines r d ls = given_behind (shape_of d (fields_of ls)) r.nesting (fields_of ls)
+abbrev behind_lines : PartReader → DefaultType → List Line → ComingPairs
+behind_lines r d ls = given_after_header (shape_of d (fields_of ls)) r.nesting (fields_of ls)
 
 header-is_first : (r : PartReader) (counted : Bool) (d : DefaultType) (fields : List HeaderField)
     → ((ls : List Line) → HasLines r.header ls → fields ≡ fields_of ls)
-    → (c : Coming) (k : ComesBehindHeader r counted d c) (ms : List Line) → c ms
+    → (c : ComingPairs) (k : ComesBehindHeader r counted d c) (ms : List Line) → c ms
     ≡ header_texts counted fields ++ behind_lines r d k.0 ms
 header-is_first r counted d fields f c k ms = k.2 ms
     ∙ ap (λ (fs : List HeaderField). header_texts counted fs ++ behind_lines r d k.0 ms) (sym (f k.0 k.1))
@@ -142,21 +146,25 @@ header-is_first r counted d fields f c k ms = k.2 ms
 module _ {S : Type 0} (takes : S → TextKind → List ℕ → S → Type 0)
     (refuses : S → TextKind → List ℕ → SinkFault → S → Type 0) where
   -- a call that passes some pairs, with what comes before it stated in another way
-  pub passes-from : {T : Type 0} (A A' B : Coming → Type 0) (seen : Coming → Coming) (result : Result T TextFault)
-      (s t : S) → ((c : Coming) → A c → A' (seen c))
-      → Passes takes refuses A' B (λ c. c) result s t → Passes takes refuses A B seen result s t
+  pub passes-from : {T : Type 0} (A A' B : ComingPairs → Type 0) (seen : ComingPairs → ComingPairs)
+      (result : Result T TextFault)
+      (s t : S) → ((c : ComingPairs) → A c → A' (seen c))
+      → PassesPairs takes refuses A' B (λ c. c) result s t → PassesPairs takes refuses A B seen result s t
   passes-from A A' B seen result s t h h2 = grind arith
 
-  pub passes-before : {T : Type 0} (A A' B : Coming → Type 0) (seen : Coming → Coming) (result : Result T TextFault)
-      (s t : S) → ((c : Coming) → A c → A' c)
-      → Passes takes refuses A' B seen result s t → Passes takes refuses A B seen result s t
+  pub passes-before : {T : Type 0} (A A' B : ComingPairs → Type 0) (seen : ComingPairs → ComingPairs)
+      (result : Result T TextFault)
+      (s t : S) → ((c : ComingPairs) → A c → A' c)
+      → PassesPairs takes refuses A' B seen result s t → PassesPairs takes refuses A B seen result s t
   passes-before A A' B seen result s t h h2 = grind arith
 
   -- a call that gives all pairs that come before some others
-  passed-front : (before after : Coming → Type 0) (A : Coming) (s t : S) (R : (c : Coming) → before c → Coming)
-      → ((c : Coming) (k : before c) → after (R c k))
-      → ((c : Coming) (k : before c) (ms : List Line) → c ms ≡ A ms ++ R c k ms) → Gave takes refuses A (λ _. []) s t
-      → Passed takes refuses before after (λ c. c) s t
+  passed-front : (before after : ComingPairs → Type 0) (A : ComingPairs) (s t : S)
+      (R : (c : ComingPairs) → before c → ComingPairs)
+      → ((c : ComingPairs) (k : before c) → after (R c k))
+      → ((c : ComingPairs) (k : before c) (ms : List Line) → c ms ≡ A ms ++ R c k ms)
+      → Gave takes refuses A (λ _. []) s t
+      → PassedPairs takes refuses before after (λ c. c) s t
   passed-front before after A s t R a e h =
       record {
         pairs = h.pairs;
@@ -170,9 +178,9 @@ module _ {S : Type 0} (takes : S → TextKind → List ℕ → S → Type 0)
             );
       }
 
-  stopped-front : (before : Coming → Type 0) (A : Coming) (fault : TextFault) (s t : S)
-      (R : (c : Coming) → before c → Coming)
-      → ((c : Coming) (k : before c) (ms : List Line) → c ms ≡ A ms ++ R c k ms) → Broke takes refuses A fault s t
+  stopped-front : (before : ComingPairs → Type 0) (A : ComingPairs) (fault : TextFault) (s t : S)
+      (R : (c : ComingPairs) → before c → ComingPairs)
+      → ((c : ComingPairs) (k : before c) (ms : List Line) → c ms ≡ A ms ++ R c k ms) → Broke takes refuses A fault s t
       → Stopped takes refuses before (λ c. c) fault s t
   stopped-front before A fault s t R e h =
       record {
@@ -197,18 +205,18 @@ module _ {S : Type 0} (takes : S → TextKind → List ℕ → S → Type 0)
       (λ c k. behind_lines r d k.0) (header-is_first r counted d fields f) h
 
   -- all was given, and then memory ran out
-  pub broke-memory_behind : (A : Coming) (s t : S) → Gave takes refuses A (λ _. []) s t
+  pub broke-memory_behind : (A : ComingPairs) (s t : S) → Gave takes refuses A (λ _. []) s t
       → Broke takes refuses A OutOfMemory s t
   broke-memory_behind A s t h = record { pairs = h.pairs; broken = h.taken; front = λ ms. ([], h.rest ms) }
 
   -- the header's texts were given, and then the body begins or memory runs out
   pub header-passes : {T E : Type 0} (r : PartReader) (counted : Bool) (d : DefaultType) (fields : List HeaderField)
-      (after : Coming → Type 0) (begun : Result T E) (s t : S)
+      (after : ComingPairs → Type 0) (begun : Result T E) (s t : S)
       → ((ls : List Line) → HasLines r.header ls → fields ≡ fields_of ls)
       → Gave takes refuses (λ _. header_texts counted fields) (λ _. []) s t
       → OnOk begun ((ls : List Line) → HasLines r.header ls
-      → after (given_behind (shape_of d (fields_of ls)) r.nesting (fields_of ls)))
-      → Passes takes refuses (ComesBehindHeader r counted d) after (λ c. c) (result_or begun (Err OutOfMemory)) s t
+      → after (given_after_header (shape_of d (fields_of ls)) r.nesting (fields_of ls)))
+      → PassesPairs takes refuses (ComesBehindHeader r counted d) after (λ c. c) (result_or begun (Err OutOfMemory)) s t
   header-passes r counted d fields after (Ok x) s t f h a =
       passed-front (ComesBehindHeader r counted d) after (λ _. header_texts counted fields) s t
       (λ c k. behind_lines r d k.0) (λ c k. a k.0 k.1) (header-is_first r counted d fields f) h
@@ -218,13 +226,13 @@ module _ {S : Type 0} (takes : S → TextKind → List ℕ → S → Type 0)
   -- ---- a line in a leaf, and in a header
 
   pub leaf-passes : {T : Type 0} (r n : PartReader) (l : Line) (result : Result T TextFault) (s t : S) → r.state
-      ≡ state.InLeaf → n.state ≡ r.state → n.nesting ≡ r.nesting → hit {A = Pair} r.nesting.frames l ≡ None
+      ≡ state.InLeaf → n.state ≡ r.state → n.nesting ≡ r.nesting → place_after_hit {A = Pair} r.nesting.frames l ≡ None
       → Hands takes refuses (λ ls. pairs_to_come r.leaf (l ∷ ls)) (λ ls. pairs_to_come n.leaf ls) result s t
-      → Passes takes refuses (Comes r) (Comes n) (λ c ms. c (l ∷ ms)) result s t
+      → PassesPairs takes refuses (Comes r) (Comes n) (λ c ms. c (l ∷ ms)) result s t
   leaf-passes r n l (Ok x) s t e p q away h =
-      let at : (c : Coming) → Comes r c → ComesAt state.InLeaf r c =
+      let at : (c : ComingPairs) → Comes r c → ComesAt state.InLeaf r c =
       λ c k. (let P : State → Type 0 = λ u. ComesAt u r c in subst P e k) in
-      let here : Coming = given_from n.nesting.frames (InLeaf (pairs_to_come n.leaf)) in
+      let here : ComingPairs = given_from n.nesting.frames (InLeaf (pairs_to_come n.leaf)) in
       let comes : Comes n here = (let P : State → Type 0 = λ u. ComesAt u n here in subst P (sym (p ∙ e)) (λ ms. refl))
       in
       record {
@@ -240,9 +248,9 @@ module _ {S : Type 0} (takes : S → TextKind → List ℕ → S → Type 0)
         );
       }
   leaf-passes r n l (Err fault) s t e p q away h =
-      let at : (c : Coming) → Comes r c → ComesAt state.InLeaf r c =
+      let at : (c : ComingPairs) → Comes r c → ComesAt state.InLeaf r c =
       λ c k. (let P : State → Type 0 = λ u. ComesAt u r c in subst P e k) in
-      let later : Coming = λ ks. (h.front ks).0 in
+      let later : ComingPairs = λ ks. (h.front ks).0 in
       record {
         pairs = h.pairs;
         broken = h.broken;
@@ -255,14 +263,15 @@ module _ {S : Type 0} (takes : S → TextKind → List ℕ → S → Type 0)
       }
 
   pub more-passed : (r n : PartReader) (l : Line) (counted : Bool) (d : DefaultType) (s : S) → r.state
-      ≡ state.InHeader counted d → n.state ≡ r.state → n.nesting ≡ r.nesting → hit {A = Pair} r.nesting.frames l ≡ None
+      ≡ state.InHeader counted d → n.state ≡ r.state → n.nesting ≡ r.nesting
+      → place_after_hit {A = Pair} r.nesting.frames l ≡ None
       → ((ls : List Line) → HasLines r.header ls → HasLines n.header (ls ++ l ∷ []))
       → ((ls : List Line) → HasLines r.header ls → More ≡ taken_of (ls ++ l ∷ []))
-      → Passed takes refuses (Comes r) (Comes n) (λ c ms. c (l ∷ ms)) s s
+      → PassedPairs takes refuses (Comes r) (Comes n) (λ c ms. c (l ∷ ms)) s s
   more-passed r n l counted d s e p q away push taken =
-      let at : (c : Coming) → Comes r c → ComesAt (state.InHeader counted d) r c =
+      let at : (c : ComingPairs) → Comes r c → ComesAt (state.InHeader counted d) r c =
       λ c k. (let P : State → Type 0 = λ u. ComesAt u r c in subst P e k) in
-      let here : List Line → Coming = λ held. given_from n.nesting.frames
+      let here : List Line → ComingPairs = λ held. given_from n.nesting.frames
       (InHeader counted n.nesting.left d (held ++ l ∷ [])) in
       let still : (held : List Line) → HasLines r.header held → has_empty (held ++ l ∷ []) ≡ false =
       λ held x. more-open (has_empty (held ++ l ∷ [])) (taken held x) in
@@ -283,10 +292,10 @@ module _ {S : Type 0} (takes : S → TextKind → List ℕ → S → Type 0)
       }
 
   pub ended-comes : (r n : PartReader) (l : Line) (counted : Bool) (d : DefaultType) → r.state
-      ≡ state.InHeader counted d → n.nesting ≡ r.nesting → hit {A = Pair} r.nesting.frames l ≡ None
+      ≡ state.InHeader counted d → n.nesting ≡ r.nesting → place_after_hit {A = Pair} r.nesting.frames l ≡ None
       → ((ls : List Line) → HasLines r.header ls → HasLines n.header (ls ++ l ∷ []))
       → ((ls : List Line) → HasLines r.header ls → Ended ≡ taken_of (ls ++ l ∷ []))
-      → (c : Coming) → Comes r c → ComesBehindHeader n counted d (λ ms. c (l ∷ ms))
+      → (c : ComingPairs) → Comes r c → ComesBehindHeader n counted d (λ ms. c (l ∷ ms))
   ended-comes r n l counted d e q away push taken c k =
       let at : ComesAt (state.InHeader counted d) r c = (let P : State → Type 0 = λ u. ComesAt u r c in subst P e k) in
       let t : is_empty l ≡ true = empty_ends at.0 l true at.2
@@ -295,7 +304,8 @@ module _ {S : Type 0} (takes : S → TextKind → List ℕ → S → Type 0)
         at.0 ++ l ∷ [],
         push at.0 at.1,
         λ ms. at.3 (l ∷ ms) ∙ given-ended r.nesting counted d at.0 l ms away at.2 t
-            ∙ ap (λ (x : Nest). header_texts counted fields ++ given_behind (shape_of d fields) x fields ms) (sym q),
+            ∙ ap (λ (x : Nest). header_texts counted fields ++ given_after_header (shape_of d fields) x fields ms)
+            (sym q),
       )
 
   -- ---- the end of an entity, and of the message
@@ -303,14 +313,14 @@ module _ {S : Type 0} (takes : S → TextKind → List ℕ → S → Type 0)
   pub leave-passes : {T : Type 0} (r n : PartReader) (lead : Lead) (fields : List HeaderField)
       (result : Result T TextFault) (s t : S) → ((ls : List Line) → HasLines r.header ls → fields ≡ fields_of ls)
       → Hands takes refuses (λ _. ending r.state fields r.leaf) (λ _. []) result s t
-      → Comes n (given_after lead r.nesting)
-      → Passes takes refuses (ComesEnding r lead) (Comes n) (λ c. c) result s t
+      → Comes n (given_after_delimiter lead r.nesting)
+      → PassesPairs takes refuses (ComesEnding r lead) (Comes n) (λ c. c) result s t
   leave-passes r n lead fields (Ok x) s t f h a =
       passed-front (ComesEnding r lead) (Comes n) (λ _. ending r.state fields r.leaf) s t
-      (λ c k. given_after lead r.nesting) (λ c k. a) (λ c. ending-is r lead fields c f) h
+      (λ c k. given_after_delimiter lead r.nesting) (λ c k. a) (λ c. ending-is r lead fields c f) h
   leave-passes r n lead fields (Err fault) s t f h a =
       stopped-front (ComesEnding r lead) (λ _. ending r.state fields r.leaf) fault s t
-      (λ c k. given_after lead r.nesting) (λ c. ending-is r lead fields c f) h
+      (λ c k. given_after_delimiter lead r.nesting) (λ c. ending-is r lead fields c f) h
 
   pub end-stopped : (r : PartReader) (fields : List HeaderField) (fault : TextFault) (s t : S)
       → ((ls : List Line) → HasLines r.header ls → fields ≡ fields_of ls)
@@ -326,7 +336,8 @@ module _ {S : Type 0} (takes : S → TextKind → List ℕ → S → Type 0)
   pub end-passes : {T : Type 0} (r : PartReader) (fields : List HeaderField) (result : Result T TextFault) (s t : S)
       → ((ls : List Line) → HasLines r.header ls → fields ≡ fields_of ls)
       → Gave takes refuses (λ _. ending r.state fields r.leaf) (λ _. []) s t
-      → IfErr result (λ fault. fault ≡ OutOfMemory) → Passes takes refuses (Comes r) IsOver (λ c _. c []) result s t
+      → IfErr result (λ fault. fault ≡ OutOfMemory)
+      → PassesPairs takes refuses (Comes r) IsOver (λ c _. c []) result s t
   end-passes r fields (Ok x) s t f h e = record {
     pairs = h.pairs;
     taken = h.taken;

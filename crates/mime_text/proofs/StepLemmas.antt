@@ -3,11 +3,12 @@ use Rattle.mime_text.proofs.Words.{◌≡◌, ◌∙◌, ◌++◌, ℕ, zero, su
 use Rattle.mime_text.proofs.Words.{None, refl, sym, ap, append_assoc, arith, flat_map, flat_map-append, is_empty, lines}
 use Rattle.mime_text.proofs.Words.{fields_of, before_blanks, unfolded_body, has_empty, base64_bytes, bytes_of_sextets}
 use Rattle.mime_text.proofs.Words.{Charset, DefaultType, TextPlain, Shape, Multipart, Message, Text, Other, Frame}
-use Rattle.mime_text.proofs.Words.{Identity, QuotedPrintable, Base64, Pair, Coming, texts_of_fields, piece_of}
+use Rattle.mime_text.proofs.Words.{Identity, QuotedPrintable, Base64, Pair, ComingPairs, texts_of_fields, piece_of}
 use Rattle.mime_text.proofs.Words.{parameter, shape_of, charset_in, transfer_in, name_texts, leaf_texts, body_pairs}
-use Rattle.mime_text.proofs.Words.{body_lines, pieces, parts, parts_by, is_left, StreamPlace, InHeader, InLeaf, hit}
+use Rattle.mime_text.proofs.Words.{body_lines, multipart_pieces, parts, parts_by, is_left, StreamPlace, InHeader}
+use Rattle.mime_text.proofs.Words.{InLeaf, place_after_hit}
 use Rattle.mime_text.proofs.Words.{counted_part, header_parts, value, behind_header, inner_step, Nest, part_texts}
-use Rattle.mime_text.proofs.Words.{texts_of_message, given_from, counted_texts, header_texts, given_behind}
+use Rattle.mime_text.proofs.Words.{texts_of_message, given_from, counted_texts, header_texts, given_after_header}
 use Rattle.std.proofs.lemmas.List.{append-nil}
 use Rattle.mime_text.specs.declared.leaf.transfer.TransferEncoding.{TransferEncoding}
 use Rattle.mime_text.proofs.StreamLaws.{IsHeader, fields_of-ended, whole_given}
@@ -86,7 +87,7 @@ parts-none (suc n) d ls e =
         ≡ name_at m ks) → (sh : Shape)
         → flat_map part_texts (parts_by shape_of (λ e ks. parts shape_of m e ks) (is_left m) sh ls) ≡ []
     go m later (Multipart b f) = ap (λ (ks : List Line). flat_map part_texts
-        (flat_map (parts shape_of m f) (pieces b ks))) e
+        (flat_map (parts shape_of m f) (multipart_pieces b ks))) e
     go zero later Message = refl
     go (suc m) later Message =
         ap (λ (ks : List Line). texts_of_fields (fields_of ks) ++ flat_map part_texts
@@ -114,16 +115,18 @@ value-header c n d held e =
 -- ---- one line
 
 pub given-hit : (fs : List Frame) (place : StreamPlace Pair) (l : Line) (h : List Frame × StreamPlace Pair)
-    (ms : List Line) → hit fs l ≡ Some h
+    (ms : List Line) → place_after_hit fs l ≡ Some h
     → given_from fs place (l ∷ ms) ≡ value shape_of part_texts place [] ++ given_from h.0 h.1 ms
 given-hit fs place l h ms e = grind arith
 
-given-inner : (fs : List Frame) (place : StreamPlace Pair) (l : Line) (ms : List Line) → hit {A = Pair} fs l ≡ None
+given-inner : (fs : List Frame) (place : StreamPlace Pair) (l : Line) (ms : List Line) → place_after_hit {A = Pair} fs l
+    ≡ None
     → given_from fs place (l ∷ ms) ≡ (inner_step shape_of part_texts fs place l).0 ++ given_from
     (inner_step shape_of part_texts fs place l).1.0 (inner_step shape_of part_texts fs place l).1.1 ms
 given-inner fs place l ms e = grind arith
 
-pub given-leaf_line : (fs : List Frame) (leaf : Coming) (l : Line) (ms : List Line) → hit {A = Pair} fs l ≡ None
+pub given-leaf_line : (fs : List Frame) (leaf : ComingPairs) (l : Line) (ms : List Line)
+    → place_after_hit {A = Pair} fs l ≡ None
     → given_from fs (InLeaf leaf) (l ∷ ms) ≡ given_from fs (InLeaf (λ ks. leaf (l ∷ ks))) ms
 given-leaf_line fs leaf l ms e = given-inner fs (InLeaf leaf) l ms e
 
@@ -137,7 +140,7 @@ header_step t nest c d held l = elim t [
 ]
 
 given-header : (nest : Nest) (c : Bool) (d : DefaultType) (held : List Line) (l : Line) (ms : List Line) (t : Bool)
-    → hit {A = Pair} nest.frames l ≡ None → is_empty l ≡ t
+    → place_after_hit {A = Pair} nest.frames l ≡ None → is_empty l ≡ t
     → given_from nest.frames (InHeader c nest.left d held) (l ∷ ms)
     ≡ (header_step t nest c d held l).0 ++ given_from (header_step t nest c d held l).1.0
     (header_step t nest c d held l).1.1 ms
@@ -145,27 +148,28 @@ given-header nest c d held l ms t e q = grind (arith, given-inner)
 
 -- the header goes on
 pub given-more : (nest : Nest) (c : Bool) (d : DefaultType) (held : List Line) (l : Line) (ms : List Line)
-    → hit {A = Pair} nest.frames l ≡ None → is_empty l ≡ false
+    → place_after_hit {A = Pair} nest.frames l ≡ None → is_empty l ≡ false
     → given_from nest.frames (InHeader c nest.left d held) (l ∷ ms)
     ≡ given_from nest.frames (InHeader c nest.left d (held ++ l ∷ [])) ms
 given-more nest c d held l ms e t = given-header nest c d held l ms false e t
 
 -- the header ends
 pub given-ended : (nest : Nest) (c : Bool) (d : DefaultType) (held : List Line) (l : Line) (ms : List Line)
-    → hit {A = Pair} nest.frames l ≡ None → has_empty held ≡ false → is_empty l ≡ true
+    → place_after_hit {A = Pair} nest.frames l ≡ None → has_empty held ≡ false → is_empty l ≡ true
     → given_from nest.frames (InHeader c nest.left d held) (l ∷ ms)
-    ≡ header_texts c (fields_of (held ++ l ∷ [])) ++ given_behind (shape_of d (fields_of (held ++ l ∷ []))) nest
+    ≡ header_texts c (fields_of (held ++ l ∷ [])) ++ given_after_header (shape_of d (fields_of (held ++ l ∷ []))) nest
     (fields_of (held ++ l ∷ [])) ms
 given-ended nest c d held l ms e q t = grind (arith, given-header, header-is, fields-ended)
 
 -- a leaf that has given some pairs
-pub given-leaf : (fs : List Frame) (f g : Coming) (qs : List Pair) → ((ms : List Line) → f ms ≡ qs ++ g ms)
+pub given-leaf : (fs : List Frame) (f g : ComingPairs) (qs : List Pair) → ((ms : List Line) → f ms ≡ qs ++ g ms)
     → (ms : List Line) → given_from fs (InLeaf f) ms ≡ qs ++ given_from fs (InLeaf g) ms
 given-leaf fs f g qs e [] = e []
-given-leaf fs f g qs e (l ∷ ms) = go (hit fs l) refl
+given-leaf fs f g qs e (l ∷ ms) = go (place_after_hit fs l) refl
     (given-leaf fs (λ ks. f (l ∷ ks)) (λ ks. g (l ∷ ks)) qs (λ ks. e (l ∷ ks)) ms)
   where
-    go : (o : Option (List Frame × StreamPlace Pair)) → hit fs l ≡ o → given_from fs (InLeaf (λ ks. f (l ∷ ks))) ms
+    go : (o : Option (List Frame × StreamPlace Pair)) → place_after_hit fs l ≡ o
+        → given_from fs (InLeaf (λ ks. f (l ∷ ks))) ms
         ≡ qs ++ given_from fs (InLeaf (λ ks. g (l ∷ ks))) ms
         → given_from fs (InLeaf f) (l ∷ ms) ≡ qs ++ given_from fs (InLeaf g) (l ∷ ms)
     go o h h2 = grind (arith, append_assoc)

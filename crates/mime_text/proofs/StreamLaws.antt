@@ -3,9 +3,11 @@ use Rattle.mime_text.proofs.Words.{◌≡◌, ℕ, zero, suc, Bool, true, false,
 use Rattle.mime_text.proofs.Words.{refl, sym, ap, ◌∙◌, append_assoc, arith, flat_map, AllByRecursion, flat_map-append}
 use Rattle.mime_text.proofs.Words.{is_empty, HeaderField, lines_before_empty, fields_of, DefaultType, Shape, Multipart}
 use Rattle.mime_text.proofs.Words.{Message, Text, Other, Frame, Part, Entity, Counted, body_lines, is_closing}
-use Rattle.mime_text.proofs.Words.{is_delimiter, preamble_and_pieces, pieces, parts, parts_by, is_left, StreamPlace}
-use Rattle.mime_text.proofs.Words.{Skip, InHeader, InLeaf, or_else, own_hit, hit, counted_part, header_parts, value}
-use Rattle.mime_text.proofs.Words.{behind_header, inner_step, step_by, given}
+use Rattle.mime_text.proofs.Words.{is_delimiter, preamble_and_pieces, multipart_pieces, parts, parts_by, is_left}
+use Rattle.mime_text.proofs.Words.{StreamPlace}
+use Rattle.mime_text.proofs.Words.{Skip, InHeader, InLeaf, or_else, own_hit, place_after_hit, counted_part}
+use Rattle.mime_text.proofs.Words.{header_parts, value}
+use Rattle.mime_text.proofs.Words.{behind_header, inner_step, step_by, values_given}
 use Rattle.std.proofs.lemmas.List.{append-nil}
 
 abbrev Line : Type 0
@@ -65,7 +67,7 @@ module _ {A : Type 0} (shape_of : DefaultType → List HeaderField → Shape) (g
   IsFine (InLeaf leaf) = Unit {0}
 
   abbrev hits : List Frame → Line → Lead
-  hits fs l = hit fs l
+  hits fs l = place_after_hit fs l
 
   -- the lines before the first that delimits an open multipart
   abbrev before_by : Lead → Line → List Line → List Line
@@ -83,7 +85,7 @@ module _ {A : Type 0} (shape_of : DefaultType → List HeaderField → Shape) (g
   -- what comes from that line on
   abbrev later_by : Lead → List A → List Line → List A
   later_by None later ls = later
-  later_by (Some h) later ls = given shape_of gives h.0 h.1 ls
+  later_by (Some h) later ls = values_given shape_of gives h.0 h.1 ls
 
   abbrev later : List Frame → List Line → List A
   later fs [] = []
@@ -115,11 +117,12 @@ module _ {A : Type 0} (shape_of : DefaultType → List HeaderField → Shape) (g
   of_pieces left d ps = flat_map gives (flat_map (parts shape_of left d) ps)
 
   abbrev StreamIs : List Line → List Frame → StreamPlace A → Type 0
-  StreamIs ls fs place = given shape_of gives fs place ls ≡ value shape_of gives place (before fs ls) ++ later fs ls
+  StreamIs ls fs place = values_given shape_of gives fs place ls
+      ≡ value shape_of gives place (before fs ls) ++ later fs ls
 
   abbrev FrameIs : List Line → Frame → List Frame → Type 0
-  FrameIs ls f outer = given shape_of gives (f ∷ outer) Skip ls
-      ≡ of_pieces (suc f.left) f.default (pieces f.boundary (before outer ls)) ++ later outer ls
+  FrameIs ls f outer = values_given shape_of gives (f ∷ outer) Skip ls
+      ≡ of_pieces (suc f.left) f.default (multipart_pieces f.boundary (before outer ls)) ++ later outer ls
 
   abbrev AllStreams : List Line → Type 0
   AllStreams ls = (fs : List Frame) (place : StreamPlace A) → IsFine place → StreamIs ls fs place
@@ -130,7 +133,7 @@ module _ {A : Type 0} (shape_of : DefaultType → List HeaderField → Shape) (g
   -- the entity whose header has ended, and what comes after it
   abbrev EntityIs : Shape → List Line → List Frame → ℕ → List Line → Line → Type 0
   EntityIs sh ls fs left lines l =
-      given shape_of gives (behind_header shape_of gives sh fs left (fields_of lines)).0
+      values_given shape_of gives (behind_header shape_of gives sh fs left (fields_of lines)).0
       (behind_header shape_of gives sh fs left (fields_of lines)).1 ls
       ≡ flat_map gives (parts_by shape_of (λ e ks. parts shape_of left e ks) (is_left left) sh
       (lines ++ l ∷ before fs ls)) ++ later fs ls
@@ -139,7 +142,7 @@ module _ {A : Type 0} (shape_of : DefaultType → List HeaderField → Shape) (g
       → AllStreams ls → AllFrames ls → IsHeader lines → is_empty l ≡ true → EntityIs sh ls fs left lines l
   by_shape (Multipart b e) ls fs zero lines l m g h t =
       m fs Skip tt ∙ ap (λ (ps : List Part). flat_map gives ps ++ later fs ls)
-      (sym (flat_map-none {A = Part} (pieces b (body_lines (lines ++ l ∷ before fs ls)))))
+      (sym (flat_map-none {A = Part} (multipart_pieces b (body_lines (lines ++ l ∷ before fs ls)))))
   by_shape (Multipart b e) ls fs (suc left) lines l m g h t = grind (arith, body_of)
   by_shape Message ls fs zero lines l m g h t = m fs Skip tt
   by_shape Message ls fs (suc left) lines l m g h t = grind (arith, body_of)
@@ -149,7 +152,8 @@ module _ {A : Type 0} (shape_of : DefaultType → List HeaderField → Shape) (g
   by_end : (ls : List Line) (fs : List Frame) (c : Bool) (left : ℕ) (d : DefaultType) (lines : List Line) (l : Line)
       → AllStreams ls → AllFrames ls → IsHeader lines → is_empty l ≡ true
       → flat_map gives (header_parts c lines)
-      ++ given shape_of gives (behind_header shape_of gives (shape_of d (fields_of lines)) fs left (fields_of lines)).0
+      ++ values_given shape_of gives (behind_header shape_of gives (shape_of d (fields_of lines)) fs left
+      (fields_of lines)).0
       (behind_header shape_of gives (shape_of d (fields_of lines)) fs left (fields_of lines)).1 ls
       ≡ value shape_of gives (InHeader c left d lines) (l ∷ before fs ls) ++ later fs ls
   by_end ls fs c left d lines l m g h t =
@@ -178,21 +182,22 @@ module _ {A : Type 0} (shape_of : DefaultType → List HeaderField → Shape) (g
 
   by_place : (place : StreamPlace A) (ls : List Line) (fs : List Frame) (l : Line) → AllStreams ls → AllFrames ls
       → IsFine place
-      → (inner_step shape_of gives fs place l).0 ++ given shape_of gives (inner_step shape_of gives fs place l).1.0
+      → (inner_step shape_of gives fs place l).0 ++ values_given shape_of gives
+      (inner_step shape_of gives fs place l).1.0
       (inner_step shape_of gives fs place l).1.1 ls
       ≡ value shape_of gives place (l ∷ before fs ls) ++ later fs ls
   by_place place ls fs l h h2 h3 = grind (arith, by_end, IsHeader-push, one_more)
 
   by_hit : (o : Lead) (place : StreamPlace A) (ls : List Line) (fs : List Frame) (l : Line) → AllStreams ls
       → AllFrames ls → IsFine place
-      → (step_by shape_of gives o fs place l).0 ++ given shape_of gives (step_by shape_of gives o fs place l).1.0
+      → (step_by shape_of gives o fs place l).0 ++ values_given shape_of gives (step_by shape_of gives o fs place l).1.0
       (step_by shape_of gives o fs place l).1.1 ls
       ≡ value shape_of gives place (before_by o l (before fs ls)) ++ later_by o (later fs ls) ls
   by_hit o place ls fs l h h2 h3 = grind (arith, by_place)
 
   by_own : (c d : Bool) (ls : List Line) (f : Frame) (outer : List Frame) (l : Line) → AllStreams ls → AllFrames ls
       → (step_by shape_of gives (own_hit c d f outer) (f ∷ outer) Skip l).0
-      ++ given shape_of gives (step_by shape_of gives (own_hit c d f outer) (f ∷ outer) Skip l).1.0
+      ++ values_given shape_of gives (step_by shape_of gives (own_hit c d f outer) (f ∷ outer) Skip l).1.0
       (step_by shape_of gives (own_hit c d f outer) (f ∷ outer) Skip l).1.1 ls
       ≡ of_pieces (suc f.left) f.default (elim c as (λ _. List Line × List (List Line)) [
         | true ↦ ([], [])
@@ -210,11 +215,11 @@ module _ {A : Type 0} (shape_of : DefaultType → List HeaderField → Shape) (g
   by_outer : (o : Lead) (ls : List Line) (f : Frame) (outer : List Frame) (l : Line) → AllStreams ls → AllFrames ls
       → (step_by shape_of gives (or_else o (own_hit (is_closing f.boundary l) (is_delimiter f.boundary l) f outer))
       (f ∷ outer) Skip l).0
-      ++ given shape_of gives (step_by shape_of gives
+      ++ values_given shape_of gives (step_by shape_of gives
       (or_else o (own_hit (is_closing f.boundary l) (is_delimiter f.boundary l) f outer)) (f ∷ outer) Skip l).1.0
       (step_by shape_of gives (or_else o (own_hit (is_closing f.boundary l) (is_delimiter f.boundary l) f outer))
       (f ∷ outer) Skip l).1.1 ls
-      ≡ of_pieces (suc f.left) f.default (pieces f.boundary (before_by o l (before outer ls))) ++ later_by o
+      ≡ of_pieces (suc f.left) f.default (multipart_pieces f.boundary (before_by o l (before outer ls))) ++ later_by o
       (later outer ls) ls
   by_outer o ls f outer l h h2 = grind (arith, by_own)
 
@@ -231,6 +236,6 @@ module _ {A : Type 0} (shape_of : DefaultType → List HeaderField → Shape) (g
 
   -- from the beginning of an entity on, with no multipart open
   pub whole_given : (c : Bool) (n : ℕ) (d : DefaultType) (ls : List Line)
-      → given shape_of gives [] (InHeader c n d []) ls
+      → values_given shape_of gives [] (InHeader c n d []) ls
       ≡ flat_map gives (counted_part c ls ++ parts shape_of (suc n) d ls)
   whole_given c n d ls = grind (arith, given_is, later_none, append-nil, before_all)

@@ -2,27 +2,29 @@
 use Rattle.mime_text.proofs.Words.{◌≡◌, ◌∙◌, ◌<◌, ◌==◌, ◌++◌, ℕ, Bool, true, false, List, [], ◌∷◌, map, reverse, refl}
 use Rattle.mime_text.proofs.Words.{ap, ap₂, arith, append_assoc, encode_utf8_all, IsUtf8, eqb-true, reverse-append}
 use Rattle.mime_text.proofs.Words.{encode_ascii, encodes-chars, Lacks, text_of, Charset, is_open, without_tags}
-use Rattle.mime_text.proofs.Words.{lines_without_tags, texts_of_lines, is_open_after, is_open_behind, blanked}
+use Rattle.mime_text.proofs.Words.{lines_without_tags, texts_of_lines, is_tag_open_after, is_tag_open_after_all}
+use Rattle.mime_text.proofs.Words.{blanked_tags}
 use Rattle.mime_text.proofs.Words.{texts_behind}
 use Rattle.std.specs.Char.{encode_utf8}
 use Rattle.std.specs.Str.{chars}
 
 -- ---- of the text before, only whether a tag is open counts
 
-is_open-step : (before : List ℕ) (c : ℕ) → is_open (c ∷ before) ≡ is_open_after (is_open before) c
+is_open-step : (before : List ℕ) (c : ℕ) → is_open (c ∷ before) ≡ is_tag_open_after (is_open before) c
 is_open-step before c = grind arith
 
-without_tags-blanked : (before cs : List ℕ) (o : Bool) → is_open before ≡ o → without_tags before cs ≡ blanked o cs
+without_tags-blanked : (before cs : List ℕ) (o : Bool) → is_open before ≡ o → without_tags before cs ≡ blanked_tags o cs
 without_tags-blanked before [] o h = refl
 without_tags-blanked before (c ∷ cs) o h =
-    grind (arith, is_open-step, without_tags-blanked (c ∷ before) cs (is_open_after o c))
+    grind (arith, is_open-step, without_tags-blanked (c ∷ before) cs (is_tag_open_after o c))
 
-is_open-line : (before cs : List ℕ) → is_open (reverse cs ++ before) ≡ is_open_behind (is_open before) cs
+is_open-line : (before cs : List ℕ) → is_open (reverse cs ++ before) ≡ is_tag_open_after_all (is_open before) cs
 is_open-line before [] = refl
 is_open-line before (c ∷ cs) =
     let turned : reverse (c ∷ cs) ++ before ≡ reverse cs ++ c ∷ before =
     ap (λ (l : List ℕ). l ++ before) (reverse-append (c ∷ []) cs) ∙ append_assoc (reverse cs) (c ∷ []) before in
-    ap is_open turned ∙ is_open-line (c ∷ before) cs ∙ ap (λ (b : Bool). is_open_behind b cs) (is_open-step before c)
+    ap is_open turned ∙ is_open-line (c ∷ before) cs
+    ∙ ap (λ (b : Bool). is_tag_open_after_all b cs) (is_open-step before c)
 
 tagged_lines : (charset : Charset) (before : List ℕ) (o : Bool) (ls : List (List ℕ)) → is_open before ≡ o
     → map encode_utf8_all (lines_without_tags before (map (λ line. chars (text_of charset line)) ls))
@@ -31,8 +33,8 @@ tagged_lines charset before o [] h = refl
 tagged_lines charset before o (l ∷ ls) h =
     let cs : List ℕ = chars (text_of charset l) in
     ap₂ (λ (t : List ℕ) (ts : List (List ℕ)). encode_utf8_all t ∷ ts) (without_tags-blanked before cs o h)
-    (tagged_lines charset (reverse cs ++ before) (is_open_behind o cs) ls
-    (is_open-line before cs ∙ ap (λ (b : Bool). is_open_behind b cs) h))
+    (tagged_lines charset (reverse cs ++ before) (is_tag_open_after_all o cs) ls
+    (is_open-line before cs ∙ ap (λ (b : Bool). is_tag_open_after_all b cs) h))
 
 plain_lines : (charset : Charset) (o : Bool) (ls : List (List ℕ)) → map (text_of charset) ls
     ≡ texts_behind charset false o ls
@@ -62,19 +64,20 @@ lacks-chars c ascii (x ∷ cs) h = let parts = lacks-append c (encode_utf8 x) (e
 pub lacks-text : (c : ℕ) → c < 128 → (text : List ℕ) → IsUtf8 text → Lacks c text → Lacks c (chars text)
 lacks-text c ascii text utf8 h = grind (arith, Lacks, lacks-chars, encodes-chars)
 
-pub blanked-free : (cs : List ℕ) → Lacks 0x3C cs → blanked false cs ≡ cs
+pub blanked-free : (cs : List ℕ) → Lacks 0x3C cs → blanked_tags false cs ≡ cs
 blanked-free [] h = refl
 blanked-free (c ∷ cs) h = rw h.0 (ap (λ (l : List ℕ). c ∷ l) (blanked-free cs h.1))
 
-pub is_open-free : (cs : List ℕ) → Lacks 0x3C cs → is_open_behind false cs ≡ false
+pub is_open-free : (cs : List ℕ) → Lacks 0x3C cs → is_tag_open_after_all false cs ≡ false
 is_open-free [] h = refl
 is_open-free (c ∷ cs) h = rw h.0 (is_open-free cs h.1)
 
 pub free-text : (text : List ℕ) (o : Bool) → o ≡ false → IsUtf8 text → Lacks 0x3C text
-    → encode_utf8_all (blanked o (chars text)) ≡ text
+    → encode_utf8_all (blanked_tags o (chars text)) ≡ text
 free-text text o e utf8 h = rw e (ap encode_utf8_all
     (blanked-free (chars text) (lacks-text 0x3C (omega arith) text utf8 h)) ∙ encodes-chars text utf8)
 
-pub free-behind : (text : List ℕ) (o : Bool) → o ≡ false → IsUtf8 text → Lacks 0x3C text → is_open_behind o (chars text)
+pub free-behind : (text : List ℕ) (o : Bool) → o ≡ false → IsUtf8 text → Lacks 0x3C text
+    → is_tag_open_after_all o (chars text)
     ≡ false
 free-behind text o e utf8 h = rw e (is_open-free (chars text) (lacks-text 0x3C (omega arith) text utf8 h))

@@ -6,8 +6,8 @@ use Rattle.mime_text.proofs.Words.{Option, eqb-true, false_from_ne_true, IsAscii
 use Rattle.mime_text.proofs.Words.{length_push, length-replicate, replicate-append-replicate, IsUtf8-take, IsUtf8-drop}
 use Rattle.mime_text.proofs.Words.{IsUtf8-from_ascii, IsCharBoundary-before_ascii, IsCharBoundary-after_ascii}
 use Rattle.mime_text.proofs.Words.{chars-append, chars-IsAscii, encode_ascii, encodes-append, encodes-chars}
-use Rattle.mime_text.proofs.Words.{length-le-encodes, cut_at, Lacks, IsCut, cut_at-none, cut_at-is, is_open_after}
-use Rattle.mime_text.proofs.Words.{is_open_behind, blanked, span_end, shown_span}
+use Rattle.mime_text.proofs.Words.{length-le-encodes, cut_at, Lacks, IsCut, cut_at-none, cut_at-is, is_tag_open_after}
+use Rattle.mime_text.proofs.Words.{is_tag_open_after_all, blanked_tags, span_end, shown_span}
 use denote.Ref.{Bor}
 use Rattle.std.proofs.lemmas.Str.Ascii.{IsAscii-nil, IsAscii-cons}
 use Rattle.std.proofs.lemmas.Str.Pattern.{IsSplitOnceResult, split_parts}
@@ -15,29 +15,31 @@ use Rattle.mime_text.proofs.TagLemmas.{lacks-text, blanked-free, is_open-free}
 
 -- ---- characters one after another
 
-is_open_behind-append : (o : Bool) (xs ys : List ℕ) → is_open_behind o (xs ++ ys)
-    ≡ is_open_behind (is_open_behind o xs) ys
+is_open_behind-append : (o : Bool) (xs ys : List ℕ) → is_tag_open_after_all o (xs ++ ys)
+    ≡ is_tag_open_after_all (is_tag_open_after_all o xs) ys
 is_open_behind-append o [] ys = refl
-is_open_behind-append o (x ∷ xs) ys = is_open_behind-append (is_open_after o x) xs ys
+is_open_behind-append o (x ∷ xs) ys = is_open_behind-append (is_tag_open_after o x) xs ys
 
-blanked-append : (o : Bool) (xs ys : List ℕ) → blanked o (xs ++ ys) ≡ blanked o xs ++ blanked (is_open_behind o xs) ys
+blanked-append : (o : Bool) (xs ys : List ℕ) → blanked_tags o (xs ++ ys)
+    ≡ blanked_tags o xs ++ blanked_tags (is_tag_open_after_all o xs) ys
 blanked-append o [] ys = refl
-blanked-append o (x ∷ xs) ys = ap (λ (l : List ℕ). blanked o (x ∷ []) ++ l) (blanked-append (is_open_after o x) xs ys)
+blanked-append o (x ∷ xs) ys = ap (λ (l : List ℕ). blanked_tags o (x ∷ []) ++ l)
+    (blanked-append (is_tag_open_after o x) xs ys)
 
 -- ---- a span, without the character that ends it
 
-blanked-tag : (cs : List ℕ) → Lacks 0x3E cs → blanked true cs ≡ replicate (length cs) 0x20
+blanked-tag : (cs : List ℕ) → Lacks 0x3E cs → blanked_tags true cs ≡ replicate (length cs) 0x20
 blanked-tag [] h = refl
 blanked-tag (c ∷ cs) h = rw h.0 (ap (λ (l : List ℕ). 0x20 ∷ l) (blanked-tag cs h.1))
 
-is_open-tag : (cs : List ℕ) → Lacks 0x3E cs → is_open_behind true cs ≡ true
+is_open-tag : (cs : List ℕ) → Lacks 0x3E cs → is_tag_open_after_all true cs ≡ true
 is_open-tag [] h = refl
 is_open-tag (c ∷ cs) h = rw h.0 (is_open-tag cs h.1)
 
-blanked-span : (o : Bool) (cs : List ℕ) → Lacks (span_end o) cs → blanked o cs ≡ shown_span o cs
+blanked-span : (o : Bool) (cs : List ℕ) → Lacks (span_end o) cs → blanked_tags o cs ≡ shown_span o cs
 blanked-span o cs h = grind (arith, blanked-tag, blanked-free)
 
-is_open-span : (o : Bool) (cs : List ℕ) → Lacks (span_end o) cs → is_open_behind o cs ≡ o
+is_open-span : (o : Bool) (cs : List ℕ) → Lacks (span_end o) cs → is_tag_open_after_all o cs ≡ o
 is_open-span o cs h = grind (arith, is_open-tag, is_open-free)
 
 encodes-spaces : (n : ℕ) → encode_utf8_all (replicate n 0x20) ≡ replicate n 0x20
@@ -117,14 +119,15 @@ cut_text c before behind ascii utf8 =
 -- this much is written of a text, at whose start a tag was open or not, and the rest gives what is missing
 pub record TagsRead (text : List ℕ) (start : Bool) (old into : List ℕ) (o : Bool) (rest : List ℕ) : Type 0 where
   utf8 : IsUtf8 rest
-  sofar : into ++ encode_utf8_all (blanked o (chars rest)) ≡ old ++ encode_utf8_all (blanked start (chars text))
-  behind : is_open_behind o (chars rest) ≡ is_open_behind start (chars text)
+  sofar : into ++ encode_utf8_all (blanked_tags o (chars rest))
+      ≡ old ++ encode_utf8_all (blanked_tags start (chars text))
+  behind : is_tag_open_after_all o (chars rest) ≡ is_tag_open_after_all start (chars text)
   size : length into + length rest ≤ length old + length text
 
 -- the whole text is written
 pub record TagsBlanked (text : List ℕ) (start : Bool) (old into : List ℕ) (o : Bool) : Type 0 where
-  pub whole : into ≡ old ++ encode_utf8_all (blanked start (chars text))
-  pub behind : o ≡ is_open_behind start (chars text)
+  pub whole : into ≡ old ++ encode_utf8_all (blanked_tags start (chars text))
+  pub behind : o ≡ is_tag_open_after_all start (chars text)
   pub size : length into ≤ length old + length text
 
 pub tags_read-start : (text : List ℕ) (start : Bool) (old : List ℕ) → IsUtf8 text

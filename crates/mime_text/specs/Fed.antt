@@ -4,7 +4,7 @@ use Rattle.mail_words.specs.declared.kind.TextKind.{TextKind}
 use Rattle.mime_text.specs.declared.fault.SinkFault.{SinkFault}
 use Rattle.mime_text.specs.declared.fault.TextFault.{TextFault}
 use Rattle.mime_text.specs.declared.message_text.MessageText.{MessageText}
-use Rattle.mime_text.specs.Sinks.{Pair, Coming, TakesAll, Breaks}
+use Rattle.mime_text.specs.Sinks.{Pair, ComingPairs, TakesAll, Breaks}
 use Rattle.mime_text.specs.Texts.{texts_of_message}
 use Rattle.mime_text.specs.Feeding.{Comes, KnowsFacts}
 
@@ -16,7 +16,7 @@ has_ended m = m.ended
 -- those that it still gives. Its facts are right too, if they are known already.
 pub record Fed (m : MessageText) (ls : List (List ℕ)) (ps : List Pair) : Type 0 where
   pub live : m.ended ≡ false
-  pub coming : Coming
+  pub coming : ComingPairs
   pub comes : Comes m.reader coming
   pub texts : (ms : List (List ℕ)) → texts_of_message (ls ++ ms) ≡ ps ++ coming ms
   pub facts : KnowsFacts m.reader ls
@@ -38,7 +38,7 @@ module _ {S : Type 0} (takes : S → TextKind → List ℕ → S → Type 0)
         × (texts_of_message (ls ++ l ∷ ms) ≡ (ps ++ pairs) ++ later)
 
   -- the sink took the pairs that were left: with those given before, they are the texts of the whole message
-  pub record Finishes (m : MessageText) (old new : S) : Type 0 where
+  pub record FinishesTexts (m : MessageText) (old new : S) : Type 0 where
     pub pairs : List Pair
     pub taken : TakesAll takes refuses pairs old new
     pub whole : (ls : List (List ℕ)) (ps : List Pair) → Fed m ls ps → texts_of_message ls ≡ ps ++ pairs

@@ -16,19 +16,19 @@ use Rattle.mime_text.specs.declared.parts.part_reader.State.TheVariants as state
 use Rattle.mime_text.specs.declared.parts.part_reader.PartReader.{PartReader}
 use Rattle.mime_text.specs.declared.parts.nesting.Lead.{Lead}
 use Rattle.mime_text.specs.declared.parts.nesting.Lead.TheVariants.{Nowhere, Piece, Behind}
-use Rattle.mime_text.specs.Sinks.{Pair, Coming}
+use Rattle.mime_text.specs.Sinks.{Pair, ComingPairs}
 use Rattle.mime_text.specs.FieldTexts.{texts_of_fields}
 use Rattle.mime_text.specs.Names.{name_texts}
 use Rattle.mime_text.specs.LeafReading.{pairs_to_come}
 use Rattle.mime_text.specs.MessageFacts.{facts_of}
 use Rattle.mime_text.specs.Types.{shape_of}
-use Rattle.mime_text.specs.Stream.{StreamPlace, Skip, InHeader, InLeaf, behind_header, given}
+use Rattle.mime_text.specs.Stream.{StreamPlace, Skip, InHeader, InLeaf, behind_header, values_given}
 use Rattle.mime_text.specs.Frames.{Nest}
 use Rattle.mime_text.specs.Texts.{part_texts}
 
 -- what the lines to come give from a place on
-abbrev pub given_from : List Frame → StreamPlace Pair → Coming
-given_from frames place ms = given shape_of part_texts frames place ms
+abbrev pub given_from : List Frame → StreamPlace Pair → ComingPairs
+given_from frames place ms = values_given shape_of part_texts frames place ms
 
 -- the texts of a header, if it counts
 abbrev pub counted_texts : Bool → List HeaderField → List Pair
@@ -46,43 +46,44 @@ ending (state.InHeader counted d) fields leaf = header_texts counted fields
 ending state.InLeaf fields leaf = pairs_to_come leaf []
 
 -- what comes after the end of a header with these fields
-abbrev pub given_behind : Shape → Nest → List HeaderField → Coming
-given_behind shape nest fields ms =
+abbrev pub given_after_header : Shape → Nest → List HeaderField → ComingPairs
+given_after_header shape nest fields ms =
     let behind = behind_header shape_of part_texts shape nest.frames nest.left fields in given_from behind.0 behind.1 ms
 
 -- what comes after a delimiter line, by what the line delimits
-abbrev pub given_after : Lead → Nest → Coming
-given_after Nowhere nest ms = given_from nest.frames Skip ms
-given_after (Piece d) nest ms = given_from nest.frames (InHeader false nest.left d []) ms
-given_after Behind nest ms = given_from nest.frames Skip ms
+abbrev pub given_after_delimiter : Lead → Nest → ComingPairs
+given_after_delimiter Nowhere nest ms = given_from nest.frames Skip ms
+given_after_delimiter (Piece d) nest ms = given_from nest.frames (InHeader false nest.left d []) ms
+given_after_delimiter Behind nest ms = given_from nest.frames Skip ms
 
 -- these pairs come, if the reader is in this state
-abbrev pub ComesAt : State → PartReader → Coming → Type 0
+abbrev pub ComesAt : State → PartReader → ComingPairs → Type 0
 ComesAt state.Skipping r c = (ms : List (List ℕ)) → c ms ≡ given_from r.nesting.frames Skip ms
 ComesAt (state.InHeader counted d) r c = (held : List (List ℕ)) × HasLines r.header held × (has_empty held ≡ false)
     × ((ms : List (List ℕ)) → c ms ≡ given_from r.nesting.frames (InHeader counted r.nesting.left d held) ms)
 ComesAt state.InLeaf r c = (ms : List (List ℕ)) → c ms ≡ given_from r.nesting.frames (InLeaf (pairs_to_come r.leaf)) ms
 
 -- these pairs come from the reader, for any lines to come
-abbrev pub Comes : PartReader → Coming → Type 0
+abbrev pub Comes : PartReader → ComingPairs → Type 0
 Comes r c = ComesAt r.state r c
 
 -- these pairs come from a reader whose header has just ended
-abbrev pub ComesBehindHeader : PartReader → Bool → DefaultType → Coming → Type 0
+abbrev pub ComesBehindHeader : PartReader → Bool → DefaultType → ComingPairs → Type 0
 ComesBehindHeader r counted d c = (ls : List (List ℕ)) × HasLines r.header ls
-    × ((ms : List (List ℕ)) → c ms ≡ header_texts counted (fields_of ls) ++ given_behind (shape_of d (fields_of ls))
+    × ((ms : List (List ℕ)) → c ms ≡ header_texts counted (fields_of ls) ++ given_after_header
+    (shape_of d (fields_of ls))
     r.nesting (fields_of ls) ms)
 
 -- these pairs come if the entity ends in this state, and then those after a delimiter line
-abbrev pub ComesEndingAt : State → PartReader → Lead → Coming → Type 0
-ComesEndingAt state.Skipping r lead c = (ms : List (List ℕ)) → c ms ≡ given_after lead r.nesting ms
+abbrev pub ComesEndingAt : State → PartReader → Lead → ComingPairs → Type 0
+ComesEndingAt state.Skipping r lead c = (ms : List (List ℕ)) → c ms ≡ given_after_delimiter lead r.nesting ms
 ComesEndingAt (state.InHeader counted d) r lead c = (held : List (List ℕ)) × HasLines r.header held
-    × ((ms : List (List ℕ)) → c ms ≡ header_texts counted (fields_of held) ++ given_after lead r.nesting ms)
+    × ((ms : List (List ℕ)) → c ms ≡ header_texts counted (fields_of held) ++ given_after_delimiter lead r.nesting ms)
 ComesEndingAt state.InLeaf r lead c = (ms : List (List ℕ)) → c ms
-    ≡ pairs_to_come r.leaf [] ++ given_after lead r.nesting ms
+    ≡ pairs_to_come r.leaf [] ++ given_after_delimiter lead r.nesting ms
 
 -- the same for the state of the reader
-abbrev pub ComesEnding : PartReader → Lead → Coming → Type 0
+abbrev pub ComesEnding : PartReader → Lead → ComingPairs → Type 0
 ComesEnding r lead c = ComesEndingAt r.state r lead c
 
 -- the header of the message itself is being read, and these are its lines
@@ -99,9 +100,9 @@ KnowsAt None r ls = IsInOwnHeader r ls
 KnowsAt (Some facts) r ls = (ms : List (List ℕ)) → facts ≡ facts_of (fields_of (ls ++ ms))
 
 -- facts that were known stay; otherwise the new ones are those of the header that has ended
-abbrev pub Notes : Option Facts → Option Facts → Header → Type 0
-Notes None new h = (ls : List (List ℕ)) → HasLines h ls → new ≡ Some (facts_of (fields_of ls))
-Notes (Some facts) new h = new ≡ Some facts
+abbrev pub NotesFacts : Option Facts → Option Facts → Header → Type 0
+NotesFacts None new h = (ls : List (List ℕ)) → HasLines h ls → new ≡ Some (facts_of (fields_of ls))
+NotesFacts (Some facts) new h = new ≡ Some facts
 
 -- what the reader knows of the facts after these lines
 abbrev pub KnowsFacts : PartReader → List (List ℕ) → Type 0

@@ -33,16 +33,18 @@ unfoldable pub delimiter_of : List ℕ → List ℕ → Option Delimiter
 delimiter_of boundary text = kind_behind (after boundary text)
 
 -- the place after a delimiter of the multipart f, which is in the multiparts `outer`; None if the line is no delimiter
-abbrev pub led : {A : Type 0} → Option Delimiter → Frame → List Frame → Option (List Frame × StreamPlace A)
-led None f outer = None
-led (Some Next) f outer = Some (f ∷ outer, InHeader false f.left f.default [])
-led (Some Closing) f outer = Some (outer, Skip)
+abbrev pub place_after_delimiter : {A : Type 0} → Option Delimiter → Frame → List Frame
+    → Option (List Frame × StreamPlace A)
+place_after_delimiter None f outer = None
+place_after_delimiter (Some Next) f outer = Some (f ∷ outer, InHeader false f.left f.default [])
+place_after_delimiter (Some Closing) f outer = Some (outer, Skip)
 
 -- the place after a line with this text after its two dashes: that of the outermost multipart that the line delimits;
 -- None if it delimits none
 abbrev pub scan : {A : Type 0} → List Frame → List Frame → List ℕ → Option (List Frame × StreamPlace A)
 scan outer [] text = None
-scan outer (f ∷ fs) text = or_else (led (delimiter_of f.boundary text) f outer) (scan (f ∷ outer) fs text)
+scan outer (f ∷ fs) text = or_else (place_after_delimiter (delimiter_of f.boundary text) f outer)
+    (scan (f ∷ outer) fs text)
 
 -- the multiparts with the innermost first, before those of `outer`
 abbrev pub inside_out : List Frame → List Frame → List Frame
@@ -67,9 +69,9 @@ lead_to (Piece d) nest = Some (nest.frames, InHeader false nest.left d [])
 lead_to Behind nest = Some (nest.frames, Skip)
 
 -- the open multiparts with one more, if a depth is left for its pieces
-abbrev pub opened : ℕ → List ℕ → DefaultType → List Frame → List Frame
-opened zero boundary d frames = frames
-opened (suc left) boundary d frames = record { boundary = boundary; default = d; left = left } ∷ frames
+abbrev pub with_frame : ℕ → List ℕ → DefaultType → List Frame → List Frame
+with_frame zero boundary d frames = frames
+with_frame (suc left) boundary d frames = record { boundary = boundary; default = d; left = left } ∷ frames
 
 -- one depth fewer is left below the entity; if none was left, nothing changes
 abbrev pub below : Nest → Bool → Nest → Type 0

@@ -28,8 +28,8 @@ abbrev pub has_letter : ℕ → List HeaderField → Bool
 has_letter letter fields = list_any (λ f. is_status f.name && list_any (λ b. b == letter) (unfolded_body f.body)) fields
 
 -- the flags: R for read, A for replied, F for flagged
-abbrev pub flags_of : List HeaderField → Flags
-flags_of fields = record {
+abbrev pub flags_of_header : List HeaderField → Flags
+flags_of_header fields = record {
   seen = has_letter 0x52 fields;
   replied = has_letter 0x41 fields;
   flagged =
@@ -65,7 +65,7 @@ HasSizedIds facts = IfSome facts.own_id IsSizedId × All IsSizedId facts.ids
 unfoldable pub facts_of : List HeaderField → Facts
 facts_of fields = record {
   date_text = date_text_of fields;
-  flags = flags_of fields;
+  flags = flags_of_header fields;
   own_id = own_id_of fields;
   ids =
       ids_of_fields fields;

@@ -28,14 +28,14 @@ backslash = 0x5C
 
 -- What is in quotes, from after the first quote, and what follows the quotes. A backslash is dropped, and the byte
 -- after it is taken as it is. The quotes end at the next other quote, or with the field.
-abbrev pub quoted : List ℕ → List ℕ × List ℕ
-quoted [] = ([], [])
-quoted (b ∷ []) = if (b == quote) || (b == backslash) then ([], []) else (b ∷ [], [])
-quoted (b ∷ c ∷ bs) = elim (b == quote) [
+abbrev pub quoted_and_rest : List ℕ → List ℕ × List ℕ
+quoted_and_rest [] = ([], [])
+quoted_and_rest (b ∷ []) = if (b == quote) || (b == backslash) then ([], []) else (b ∷ [], [])
+quoted_and_rest (b ∷ c ∷ bs) = elim (b == quote) [
   | true ↦ ([], c ∷ bs)
   | false ↦ elim (b == backslash) [
-    | true ↦ let rest = quoted bs in (c ∷ rest.0, rest.1)
-    | false ↦ let rest = quoted (c ∷ bs) in (b ∷ rest.0, rest.1)
+    | true ↦ let rest = quoted_and_rest bs in (c ∷ rest.0, rest.1)
+    | false ↦ let rest = quoted_and_rest (c ∷ bs) in (b ∷ rest.0, rest.1)
   ]
 ]
 
@@ -46,7 +46,7 @@ is_token_byte b = not ((b == semicolon) || is_blank b)
 -- the value that begins these bytes, and what follows it; quotes begin only if a quote is the value's first byte
 abbrev pub value_and_rest : List ℕ → List ℕ × List ℕ
 value_and_rest [] = ([], [])
-value_and_rest (b ∷ bs) = elim (b == quote) [ true ↦ quoted bs | false ↦ split_while is_token_byte (b ∷ bs) ]
+value_and_rest (b ∷ bs) = elim (b == quote) [ true ↦ quoted_and_rest bs | false ↦ split_while is_token_byte (b ∷ bs) ]
 
 -- whether this byte goes on a name: a name ends before `=`; text that ends before a semicolon is no parameter
 abbrev pub is_parameter_name_byte : ℕ → Bool

@@ -46,8 +46,8 @@ preamble_and_pieces boundary (l ∷ ls) = elim (is_closing boundary l) [
 ]
 
 -- the pieces between the delimiters of a multipart
-abbrev pub pieces : List ℕ → List (List ℕ) → List (List (List ℕ))
-pieces boundary ls = (preamble_and_pieces boundary ls).1
+abbrev pub multipart_pieces : List ℕ → List (List ℕ) → List (List (List ℕ))
+multipart_pieces boundary ls = (preamble_and_pieces boundary ls).1
 
 -- whether a depth is left
 abbrev pub is_left : ℕ → Bool
@@ -59,7 +59,8 @@ module _ (shape_of : DefaultType → List HeaderField → Shape) where
   -- the parts inside an entity of this shape; `inner` gives those of an entity inside it, and the Bool says whether a
   -- depth is left for them
   abbrev pub parts_by : (DefaultType → List (List ℕ) → List Part) → Bool → Shape → List (List ℕ) → List Part
-  parts_by inner deep (Multipart boundary default) ls = flat_map (inner default) (pieces boundary (body_lines ls))
+  parts_by inner deep (Multipart boundary default) ls =
+      flat_map (inner default) (multipart_pieces boundary (body_lines ls))
   parts_by inner true Message ls = Counted (fields_of (body_lines ls)) ∷ inner TextPlain (body_lines ls)
   parts_by inner false Message ls = []
   parts_by inner deep (Text is_html) ls = Leaf is_html (fields_of ls) (body_lines ls) ∷ []

@@ -18,8 +18,8 @@ abbrev pub Pair : Type 0
 Pair = TextKind × List ℕ
 
 -- the pairs that come, for the lines to come
-abbrev pub Coming : Type 0
-Coming = List (List ℕ) → List Pair
+abbrev pub ComingPairs : Type 0
+ComingPairs = List (List ℕ) → List Pair
 
 module _ {S : Type 0} (takes : S → TextKind → List ℕ → S → Type 0)
     (refuses : S → TextKind → List ℕ → SinkFault → S → Type 0) where
@@ -38,18 +38,18 @@ module _ {S : Type 0} (takes : S → TextKind → List ℕ → S → Type 0)
   Breaks Failed ps old new = ⊥
 
   -- the sink takes the first of the pairs to come; the others come after the call
-  pub record Gave (before after : Coming) (old new : S) : Type 0 where
+  pub record Gave (before after : ComingPairs) (old new : S) : Type 0 where
     pub pairs : List Pair
     pub taken : TakesAll pairs old new
     pub rest : (ms : List (List ℕ)) → before ms ≡ pairs ++ after ms
 
   -- the sink is given the first of the pairs to come, and then a fault comes
-  pub record Broke (before : Coming) (fault : TextFault) (old new : S) : Type 0 where
+  pub record Broke (before : ComingPairs) (fault : TextFault) (old new : S) : Type 0 where
     pub pairs : List Pair
     pub broken : Breaks fault pairs old new
     pub front : (ms : List (List ℕ)) → (later : List Pair) × (before ms ≡ pairs ++ later)
 
   -- a call gives the sink what comes, except what still comes after the call; at a fault it has given some of it
-  abbrev pub Hands : {T : Type 0} → Coming → Coming → Result T TextFault → S → S → Type 0
+  abbrev pub Hands : {T : Type 0} → ComingPairs → ComingPairs → Result T TextFault → S → S → Type 0
   Hands before after result old new = MatchResult result (λ _. Gave before after old new)
       (λ fault. Broke before fault old new)

@@ -30,9 +30,10 @@ own_hit closing delimiter f outer = cond closing (Some (outer, Skip))
 
 -- the place after a line that delimits an open multipart, of several the outermost; None if it delimits none. The
 -- innermost multipart comes first in the list.
-abbrev pub hit : {A : Type 0} → List Frame → List ℕ → Option (List Frame × StreamPlace A)
-hit [] l = None
-hit (f ∷ outer) l = or_else (hit outer l) (own_hit (is_closing f.boundary l) (is_delimiter f.boundary l) f outer)
+abbrev pub place_after_hit : {A : Type 0} → List Frame → List ℕ → Option (List Frame × StreamPlace A)
+place_after_hit [] l = None
+place_after_hit (f ∷ outer) l = or_else (place_after_hit outer l)
+    (own_hit (is_closing f.boundary l) (is_delimiter f.boundary l) f outer)
 
 -- a header as a part, if it counts
 abbrev pub counted_part : Bool → List (List ℕ) → List Part
@@ -80,6 +81,7 @@ module _ {A : Type 0} (shape_of : DefaultType → List HeaderField → Shape) (g
   step_by (Some h) fs place l = (value place [], h)
 
   -- what the lines to come give from a place on
-  abbrev pub given : List Frame → StreamPlace A → List (List ℕ) → List A
-  given fs place [] = value place []
-  given fs place (l ∷ ls) = let s = step_by (hit fs l) fs place l in s.0 ++ given s.1.0 s.1.1 ls
+  abbrev pub values_given : List Frame → StreamPlace A → List (List ℕ) → List A
+  values_given fs place [] = value place []
+  values_given fs place (l ∷ ls) = let s = step_by (place_after_hit fs l) fs place l
+      in s.0 ++ values_given s.1.0 s.1.1 ls

@@ -5,14 +5,14 @@ ghost use Rattle.mime_text.specs.declared.parts.shape.DefaultType.{DefaultType};
 ghost use Rattle.mime_text.specs.declared.parts.shape.Shape.{Shape};
 ghost use Rattle.mime_text.specs.Parameters.{Parameter, AreParameters, behind_semicolon, parameters};
 ghost use Rattle.mime_text.specs.Parts.{Part, parts};
-ghost use Rattle.mime_text.specs.Stream.{given, InHeader, counted_part};
+ghost use Rattle.mime_text.specs.Stream.{values_given, InHeader, counted_part};
 
 /// Reading one line at a time with a stack of boundaries gives the parts of the split that takes the outermost
 /// boundaries first. The function has no code: its contract is the law.
 pub fn one_line_at_a_time()
     ensures { (shape_of : DefaultType → List HeaderField → Shape) (gives : Part → List ℕ)
         (counted : Bool) (left : ℕ) (default : DefaultType) (lines : List (List ℕ))
-        → given shape_of gives [] (InHeader counted left default []) lines
+        → values_given shape_of gives [] (InHeader counted left default []) lines
         ≡ flat_map gives (counted_part counted lines ++ parts shape_of (suc left) default lines) }
 {}
 

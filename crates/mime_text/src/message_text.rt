@@ -4,7 +4,7 @@ ghost use Rattle.mbox_cutter.specs.Lines.{length_before_feed};
 ghost use Rattle.header_text.specs.Headers.{fields_of};
 ghost use Rattle.mime_text.specs.MessageFacts.{HasSizedIds, facts_of};
 ghost use Rattle.mime_text.specs.Sinks.{Pair};
-ghost use Rattle.mime_text.specs.Fed.{Fed, Feeds, FeedsPart, Finishes, FinishesPart, has_ended};
+ghost use Rattle.mime_text.specs.Fed.{Fed, Feeds, FeedsPart, FinishesTexts, FinishesPart, has_ended};
 ghost use Rattle.mime_text.specs.Limits.{most_in_line};
 
 use crate::fault::TextFault;
@@ -79,7 +79,7 @@ impl MessageText {
     /// `OutOfMemory` if memory runs out, and `Sink` if the sink refuses a text; the texts before that were given.
     /// `Failed` if an earlier call has failed, or the message has ended.
     pub fn finish<S: TextSink>(&mut self, sink: &mut S) -> Result<Facts, TextFault>
-        ensures texts { OnOk result (Finishes S.takes S.refuses self.old sink.old sink.new) }
+        ensures texts { OnOk result (FinishesTexts S.takes S.refuses self.old sink.old sink.new) }
         ensures facts { IfOk result (λ facts. (ls : List (List ℕ)) (ps : List Pair)
             → Fed self.old ls ps → facts ≡ facts_of (fields_of ls)) }
         ensures sizes { IfOk result HasSizedIds }
@@ -111,7 +111,7 @@ impl MessageText {
     ///
     /// Those of `finish`.
     pub fn end<S: TextSink>(mut self, sink: &mut S) -> Result<Facts, TextFault>
-        ensures texts { OnOk result (Finishes S.takes S.refuses self sink.old sink.new) }
+        ensures texts { OnOk result (FinishesTexts S.takes S.refuses self sink.old sink.new) }
         ensures facts { IfOk result (λ facts. (ls : List (List ℕ)) (ps : List Pair)
             → Fed self ls ps → facts ≡ facts_of (fields_of ls)) }
         ensures sizes { IfOk result HasSizedIds }

@@ -8,20 +8,21 @@ use Rattle.named_archives.specs.declared.named_source.Progress.TheVariants.{Goin
 
 -- What is still given: all bytes before the file is opened, and then what the file has left. If it was lost, nothing is
 -- known of it.
-abbrev pub left_in : {F : Type 0} → (F → Option (List ℕ)) → Option (List ℕ) → Option F → Progress → Option (List ℕ)
-left_in rest all None progress = all
-left_in rest all (Some file) Going = rest file
-left_in rest all (Some file) Ended = rest file
-left_in rest all (Some file) Lost = None
+abbrev pub bytes_left_in : {F : Type 0} → (F → Option (List ℕ)) → Option (List ℕ) → Option F → Progress
+    → Option (List ℕ)
+bytes_left_in rest all None progress = all
+bytes_left_in rest all (Some file) Going = rest file
+bytes_left_in rest all (Some file) Ended = rest file
+bytes_left_in rest all (Some file) Lost = None
 
 -- after the last read, the file was found in the state in which it has to be
-abbrev pub IsFoundIn : {F S : Type 0} → (F → Option S) → Option S → F → Type 0
-IsFoundIn found state file = ForSome state (λ asked. found file ≡ Some asked)
+abbrev pub IsFoundInState : {F S : Type 0} → (F → Option S) → Option S → F → Type 0
+IsFoundInState found state file = ForSome state (λ asked. found file ≡ Some asked)
 
 -- A file that has ended has nothing left, and was found in its state. If it was lost, a call has failed.
 abbrev pub HasReached : {F S : Type 0} → (F → Option S) → (F → Option (List ℕ)) → Option S → F → ℕ → Progress → Type 0
 HasReached found rest state file failures progress =
-    (progress ≡ Ended → ForSome (rest file) (λ left. left ≡ []) × IsFoundIn found state file)
+    (progress ≡ Ended → ForSome (rest file) (λ left. left ≡ []) × IsFoundInState found state file)
     × (progress ≡ Lost → 0 < failures)
 
 -- whether what the file has returned agrees with what was supposed of it, if it was opened
@@ -56,4 +57,4 @@ FailsFor refused AreThere CanRefuse ReadsCanFail =
 -- a file that was opened was found in the state in which it has to be
 abbrev pub IsReadIn : {F S : Type 0} → (F → Option S) → Option S → Option F → Type 0
 IsReadIn found state None = ⊥
-IsReadIn found state (Some file) = IsFoundIn found state file
+IsReadIn found state (Some file) = IsFoundInState found state file

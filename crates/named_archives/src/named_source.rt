@@ -9,7 +9,7 @@ ghost use Rattle.std.specs.Io.KnownBytes.{ReadConsumes};
 ghost use Rattle.contract_words.specs.Devices.{Counted, Counts};
 ghost use Rattle.contract_words.specs.Knowledge.{still_known};
 ghost use Rattle.named_files.specs.Entries.{bytes_of};
-ghost use Rattle.named_archives.specs.Progress.{left_in, has_agreed, is_for_memory, FailsFor, HasFailed, HasReached, IsFoundIn, IsReadIn, IsRefusedFor};
+ghost use Rattle.named_archives.specs.Progress.{bytes_left_in, has_agreed, is_for_memory, FailsFor, HasFailed, HasReached, IsFoundInState, IsReadIn, IsRefusedFor};
 
 use mbox_cutter::{DeviceFault, Source};
 use named_files::{Folder, KeptFile, Refusal};
@@ -112,7 +112,8 @@ impl<'p, F: Folder> NamedSource<'p, F> {
         ensures opened { OnOk result (IsSome self.new.file) }
         ensures closed { OnErr result (self.new.file ≡ None) }
         ensures refused { OnErr result (IsSome self.new.refused) }
-        ensures rest { left_in F.File.rest (bytes_of (F.holds self.old.folder.now self.old.name.now))
+        ensures rest { bytes_left_in F.File.rest (bytes_of
+            (F.holds self.old.folder.now self.old.name.now))
             self.new.file self.new.progress
             ≡ bytes_of (F.holds self.old.folder.now self.old.name.now) }
         ensures same { (self.new.folder.now ≡ self.old.folder.now)
@@ -142,12 +143,12 @@ impl<'p, F: Folder> NamedSource<'p, F> {
         requires count { self.old.failures < 2 ^ 64 - 1 }
         ensures bound { IfOk result (λ n. n ≤ length into.new) }
         ensures bytes { let all = bytes_of (F.holds self.old.folder.now self.old.name.now) in
-            let old = left_in F.File.rest all self.old.file self.old.progress in
-            let new = left_in F.File.rest all self.new.file self.new.progress in
+            let old = bytes_left_in F.File.rest all self.old.file self.old.progress in
+            let new = bytes_left_in F.File.rest all self.new.file self.new.progress in
             ReadConsumes (still_known old new) new result into.new }
         ensures known { let all = bytes_of (F.holds self.old.folder.now self.old.name.now) in
-            IsSome (left_in F.File.rest all self.new.file self.new.progress)
-            → IsSome (left_in F.File.rest all self.old.file self.old.progress) }
+            IsSome (bytes_left_in F.File.rest all self.new.file self.new.progress)
+            → IsSome (bytes_left_in F.File.rest all self.old.file self.old.progress) }
         ensures count { Counts result self.old.failures self.new.failures }
         ensures same { (self.new.folder.now ≡ self.old.folder.now)
             × (self.new.name.now ≡ self.old.name.now) × (self.new.state ≡ self.old.state) }
@@ -166,7 +167,8 @@ impl<'p, F: Folder> NamedSource<'p, F> {
 }
 
 impl<'p, F: Folder> Source for NamedSource<'p, F> {
-    ghost rest = { λ s. left_in F.File.rest (bytes_of (F.holds s.folder.now s.name.now)) s.file
+    ghost rest = { λ s. bytes_left_in F.File.rest (bytes_of
+        (F.holds s.folder.now s.name.now)) s.file
         s.progress };
 
     ghost failures = { λ s. s.failures };
@@ -178,14 +180,15 @@ impl<'p, F: Folder> Source for NamedSource<'p, F> {
         requires count { self.old.failures < 2 ^ 64 - 1 }
         ensures bound { IfOk result (λ n. n ≤ length into.new) }
         ensures bytes { let all = bytes_of (F.holds self.old.folder.now self.old.name.now) in
-            let old = left_in F.File.rest all self.old.file self.old.progress in
-            let new = left_in F.File.rest (bytes_of (F.holds self.new.folder.now self.new.name.now))
+            let old = bytes_left_in F.File.rest all self.old.file self.old.progress in
+            let new = bytes_left_in F.File.rest (bytes_of
+            (F.holds self.new.folder.now self.new.name.now))
             self.new.file self.new.progress in
             ReadConsumes (still_known old new) new result into.new }
-        ensures known { IsSome (left_in F.File.rest
+        ensures known { IsSome (bytes_left_in F.File.rest
             (bytes_of (F.holds self.new.folder.now self.new.name.now)) self.new.file
             self.new.progress)
-            → IsSome (left_in F.File.rest
+            → IsSome (bytes_left_in F.File.rest
             (bytes_of (F.holds self.old.folder.now self.old.name.now)) self.old.file
             self.old.progress) }
         ensures count { Counts result self.old.failures self.new.failures }
@@ -220,12 +223,12 @@ fn read_on<F: KeptFile>(
     ensures reached { HasReached F.state_found F.rest state file.new
         (F.failures file.new) progress.new }
     ensures bound { IfOk result (λ n. n ≤ length into.new) }
-    ensures bytes { let old = left_in F.rest None (Some file.old) progress.old in
-        let new = left_in F.rest None (Some file.new) progress.new in
+    ensures bytes { let old = bytes_left_in F.rest None (Some file.old) progress.old in
+        let new = bytes_left_in F.rest None (Some file.new) progress.new in
         ReadConsumes (still_known old new) new result into.new }
-    ensures known { IsSome (left_in F.rest None (Some file.new) progress.new)
-        → IsSome (left_in F.rest None (Some file.old) progress.old) }
-    ensures in_state { OnOk result (IsFoundIn F.state_found state file.new) }
+    ensures known { IsSome (bytes_left_in F.rest None (Some file.new) progress.new)
+        → IsSome (bytes_left_in F.rest None (Some file.old) progress.old) }
+    ensures in_state { OnOk result (IsFoundInState F.state_found state file.new) }
     ensures stays { OnOk result (F.failures file.new ≡ F.failures file.old) }
     ensures most { F.failures file.new ≤ F.failures file.old + 1 }
     ensures failed { OnErr result (0 < F.failures file.new) }
@@ -309,7 +312,7 @@ pub fn report_all<F: Folder>(sources: Vec<NamedSource<F>>, reports: &mut F::Repo
     ensures right { F.reports_are_right → F.agree reports.new ≡ F.agree reports.old }
     // If all reports agree, the bytes of each source stayed known.
     ensures known { F.agree reports.new ≡ true → All (λ s. s.failures ≡ 0 → IsSome s.file
-        → IsSome (left_in F.File.rest (bytes_of (F.holds s.folder.now s.name.now)) s.file
+        → IsSome (bytes_left_in F.File.rest (bytes_of (F.holds s.folder.now s.name.now)) s.file
         s.progress)) sources.entry.items }
 {
     for source in sources {

@@ -48,12 +48,12 @@ IsOrMemory gives (Refused refusal) fault = gives refusal fault
 IsOrMemory gives given.Memory fault = fault ≡ Memory
 
 -- the fault, if it comes from the command line, rcfile, query, archives or index; failures of a device or memory don't
-abbrev pub refusal_of : Fault → Option Fault
-refusal_of (Archive number Device) = None
-refusal_of of.Device = None
-refusal_of Out = None
-refusal_of Memory = None
-refusal_of fault = Some fault
+abbrev pub refusal_of_fault : Fault → Option Fault
+refusal_of_fault (Archive number Device) = None
+refusal_of_fault of.Device = None
+refusal_of_fault Out = None
+refusal_of_fault Memory = None
+refusal_of_fault fault = Some fault
 
 -- the fault that a call returned, if it failed
 abbrev pub fault_in : {T : Type 0} → Result T Fault → Option Fault

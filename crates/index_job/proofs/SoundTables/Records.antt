@@ -2,7 +2,7 @@
 use Rattle.index_job.proofs.Words.{◌≡◌, ◌∙◌, ◌⊎◌, inl, inr, ℕ, suc, ◌+◌, ◌<◌, ◌≤◌, ◌++◌, List, [], ◌∷◌, length, map}
 use Rattle.index_job.proofs.Words.{refl, sym, ap, subst, arith, append_assoc, length-append, AllByRecursion, length-map}
 use Rattle.index_job.proofs.Words.{Record, Archive, archive_length, IsMessage, Follows, AllNext, Message, span_length}
-use Rattle.index_job.proofs.Words.{Mbox, messages_in, record_of, records_from, entry_of}
+use Rattle.index_job.proofs.Words.{Mbox, messages_in, record_of, records_from, entry_of_archive}
 use Rattle.index_job.proofs.SoundTables.Dates.{told-fits}
 use Rattle.index_job.proofs.SoundTables.Spans.{AreSpanned, messages-spanned}
 
@@ -65,7 +65,7 @@ joined-records P [] ss here there = there
 joined-records P (r ∷ rs) ss here there = (here.0, joined-records P rs ss here.1 there)
 
 length-of : (before : List Mbox) (a : Mbox) (archives : List Mbox)
-    → archive_length (map entry_of (before ++ a ∷ archives)) (length before) ≡ length a.bytes
+    → archive_length (map entry_of_archive (before ++ a ∷ archives)) (length before) ≡ length a.bytes
 length-of [] a archives = refl
 length-of (b ∷ before) a archives = length-of before a archives
 
@@ -76,23 +76,25 @@ one-placed named n end there long at (m ∷ ms) spanned =
     grind (arith, told-fits, one-placed named n end there long (m.offset + span_length m) ms spanned.3)
 
 all-placed : (n : ℕ) (before archives : List Mbox) → length before ≡ n
-    → AllByRecursion (IsMessage (map entry_of (before ++ archives))) (records_from n archives)
+    → AllByRecursion (IsMessage (map entry_of_archive (before ++ archives))) (records_from n archives)
 all-placed n before [] long = tt
 all-placed n before (a ∷ archives) long =
     let all : List Mbox = before ++ a ∷ archives in
-    let there : n < length (map entry_of all) =
-    omega (arith, length-map all entry_of, length-append before (a ∷ archives), long) in
-    let ends : archive_length (map entry_of all) n ≡ length a.bytes = ap (archive_length (map entry_of all)) (sym long)
+    let there : n < length (map entry_of_archive all) =
+    omega (arith, length-map all entry_of_archive, length-append before (a ∷ archives), long) in
+    let ends : archive_length (map entry_of_archive all) n ≡ length a.bytes =
+    ap (archive_length (map entry_of_archive all)) (sym long)
     ∙ length-of before a archives in
-    let rest : AllByRecursion (IsMessage (map entry_of ((before ++ a ∷ []) ++ archives)))
+    let rest : AllByRecursion (IsMessage (map entry_of_archive ((before ++ a ∷ []) ++ archives)))
     (records_from (suc n) archives) =
     all-placed (suc n) (before ++ a ∷ []) archives (omega (arith, length-append before (a ∷ []), long)) in
-    joined-records (IsMessage (map entry_of all)) (map (record_of n) (messages_in a.bytes))
+    joined-records (IsMessage (map entry_of_archive all)) (map (record_of n) (messages_in a.bytes))
     (records_from (suc n) archives)
-    (one-placed (map entry_of all) n (length a.bytes) there ends 0 (messages_in a.bytes) (messages-spanned a.bytes))
-    (subst (λ (l : List Mbox). AllByRecursion (IsMessage (map entry_of l)) (records_from (suc n) archives))
+    (one-placed (map entry_of_archive all) n (length a.bytes) there ends 0 (messages_in a.bytes)
+    (messages-spanned a.bytes))
+    (subst (λ (l : List Mbox). AllByRecursion (IsMessage (map entry_of_archive l)) (records_from (suc n) archives))
     (append_assoc before (a ∷ []) archives) rest)
 
 pub records-placed : (archives : List Mbox)
-    → AllByRecursion (IsMessage (map entry_of archives)) (records_from 0 archives)
+    → AllByRecursion (IsMessage (map entry_of_archive archives)) (records_from 0 archives)
 records-placed archives = all-placed 0 [] archives refl

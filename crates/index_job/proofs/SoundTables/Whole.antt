@@ -2,7 +2,7 @@
 use Rattle.index_job.proofs.Words.{◌≡◌, All, List, [], ◌∷◌, map, None, arith, AllByRecursion, recursion_from_All}
 use Rattle.index_job.proofs.Words.{most_in_archive, IsPath, IsArchive, IsWellFormed, newest, archive_refusal, AreSound}
 use Rattle.index_job.proofs.Words.{Mbox}
-use Rattle.index_job.proofs.Words.{entry_of, table}
+use Rattle.index_job.proofs.Words.{entry_of_archive, table}
 use Rattle.sha2.proofs.Facts256.{length-sha256}
 use Rattle.index_job.proofs.SoundTables.Keys.{messages-listed, messages-sorted}
 use Rattle.index_job.proofs.SoundTables.Records.{records-in-order, records-placed}
@@ -11,7 +11,7 @@ use Rattle.index_job.proofs.TableSteps.{records-count}
 
 archives-named : (archives : List Mbox) → AllByRecursion (λ (a : Mbox). IsPath a.path) archives
     → AllByRecursion (λ (a : Mbox). archive_refusal most_in_archive a.bytes ≡ None) archives
-    → AllByRecursion (IsArchive newest) (map entry_of archives)
+    → AllByRecursion (IsArchive newest) (map entry_of_archive archives)
 archives-named [] paths sound = tt
 archives-named (a ∷ archives) paths sound =
     grind (arith, unrefused-short, length-sha256, archives-named archives paths.1 sound.1)

@@ -62,8 +62,8 @@ pub record ReadsSource {S : Type 0} (g : Ghosts S) (failed : Bool) (old new : Mu
 -- ---- the place of a cutter
 
 -- the cutter is inside a message that begins at this offset
-abbrev pub IsInside : ℕ → CutterPlace → Type 0
-IsInside start place = (told_size : ℕ) × (place.phase ≡ Inside start told_size)
+abbrev pub IsInsideMessage : ℕ → CutterPlace → Type 0
+IsInsideMessage start place = (told_size : ℕ) × (place.phase ≡ Inside start told_size)
 
 -- the cutter has read on, within its limit
 pub record GoesFurther (old new : CutterPlace) : Type 0 where

@@ -5,9 +5,9 @@ use Rattle.index_job.specs.declared.folding_room.FoldingRoom.{FoldingRoom}
 use Rattle.index_job.specs.MessageTerms.{HasTermLength}
 
 -- the bytes, cut from the front into parts of these lengths
-abbrev pub cut : List ℕ → List ℕ → List (List ℕ)
-cut [] bytes = []
-cut (n ∷ ns) bytes = take n bytes ∷ cut ns (drop n bytes)
+abbrev pub parts_of_lengths : List ℕ → List ℕ → List (List ℕ)
+parts_of_lengths [] bytes = []
+parts_of_lengths (n ∷ ns) bytes = take n bytes ∷ parts_of_lengths ns (drop n bytes)
 
 -- the room has exactly these folded words
 pub record HoldsWords (room : FoldingRoom) (ws : List (List ℕ)) : Type 0 where

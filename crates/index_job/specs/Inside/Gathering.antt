@@ -21,8 +21,9 @@ pub record HasGathered (text : MessageText) (builder : Option Draft) (draft : Op
   pub added : builder ≡ with_texts pairs draft
 
 -- lines of a message were gathered, and this message of the archive with this number is open, at this place or after it
-abbrev pub IsGathering : ℕ → ℕ → MessageText → Option Draft → Type 0
-IsGathering archive place text builder = (d : Draft) × (ls : List (List ℕ)) × HasGathered text builder (Some d) ls
+abbrev pub IsGatheringMessage : ℕ → ℕ → MessageText → Option Draft → Type 0
+IsGatheringMessage archive place text builder = (d : Draft) × (ls : List (List ℕ))
+    × HasGathered text builder (Some d) ls
     × IsOpenAt archive place d
 
 -- a fault of gathering; `whole` is the draft with all that is gathered, and None if an earlier call has failed

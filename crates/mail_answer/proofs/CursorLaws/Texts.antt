@@ -4,7 +4,7 @@ use Rattle.mail_answer.proofs.Words.{List, [], ◌∷◌, ◌++◌, length, map,
 use Rattle.mail_answer.proofs.Words.{Result, IfOk, bytes_eq, list_any, filter, AllByRecursion, add-mul, suc-mul}
 use Rattle.mail_answer.proofs.Words.{drop_more, or-false, or_assoc, Kind, Text, OwnId, Key, Table, IsKey, IsWellFormed}
 use Rattle.mail_answer.proofs.Words.{numbers_at, keys_of, keys_beginning, text_and_numbers, TakesDigits, bytes_turned}
-use Rattle.mail_answer.proofs.Words.{Kinds, has_kind, some_word, begins_with, text_kinds, is_among, texts_with}
+use Rattle.mail_answer.proofs.Words.{Kinds, has_kind, some_word, word_begins_with, text_kinds, is_among, texts_with}
 use Rattle.mail_answer.proofs.Words.{facts_at, is_in, kinds_in, numbers_of_keys, numbers_named, LooksUp, Ahead, left_in}
 use Rattle.mail_answer.proofs.Words.{AreNumbers, truths_among, some_has, HaveNumbers, numbers_passing, numbers_fitting}
 use Rattle.mail_answer.proofs.Words.{some_of_kinds, any_text}
@@ -43,7 +43,7 @@ pub beginning_numbers : (t : Table) (kind : Kind) (text : List ℕ) (keys : List
     → HaveNumbers (length t.messages) keys
 beginning_numbers t kind text keys well is =
     subst (HaveNumbers (length t.messages)) (sym is)
-    (kept_numbers (length t.messages) (begins_with text) (keys_of kind t.keys)
+    (kept_numbers (length t.messages) (word_begins_with text) (keys_of kind t.keys)
     (kind_numbers t.version (length t.messages) kind t.keys well.keys))
 
 pub keys_numbers : (t : Table) (kind : Kind) (keys : List (List ℕ × List ℕ)) → IsWellFormed t → keys

@@ -8,7 +8,7 @@ use Rattle.mail_index.proofs.Words.{get_or_append_left, get_or-append_right, get
 use Rattle.mail_index.proofs.Words.{get_or-set_same, get_or-set_other, length-set, get_or-append_seam, mul-le-mul_right}
 use Rattle.mail_index.proofs.Words.{pow-succ', Kind, Key, kind_number, lies_to, key_at, no_key}
 use Rattle.mail_index.specs.declared.build.key_front.Fronted.{Fronted}
-use Rattle.mail_index.specs.Inside.KeyFronts.{number_of_first, IsFrontOf, IsFronted}
+use Rattle.mail_index.specs.Inside.KeyFronts.{number_of_first, IsFrontOfKey, IsFronted}
 use Rattle.mail_index.specs.Inside.KeyMaps.{new_key, with_one}
 use Rattle.mail_index.proofs.BuildLaws.KeyMapLemmas.{all-inserted}
 
@@ -126,8 +126,8 @@ all-bytes [] fits = tt
 all-bytes (b ∷ text) fits = ((fits 0).fits, all-bytes text (λ i. fits (suc i)))
 
 -- keys whose fronts differ compare as the fronts do
-pub lies-as-fronts : (kind : Kind) (text : List ℕ) (front : ℕ) (k : Key) (own : ℕ) → IsFrontOf kind text front
-    → IsFrontOf k.kind k.text own
+pub lies-as-fronts : (kind : Kind) (text : List ℕ) (front : ℕ) (k : Key) (own : ℕ) → IsFrontOfKey kind text front
+    → IsFrontOfKey k.kind k.text own
     → (o : Ordering) → o ≡ nat_cmp own front → (o ≡ Equal → ⊥) → o ≡ lies_to kind text k
 lies-as-fronts kind text front k own wanted is o e other = go o (ranked own front o e) other
   where
@@ -158,7 +158,7 @@ fronted-kept old new more same (slot ∷ slots) all = grind (arith, key_at, fron
 
 -- one more key, with its slot
 pub fronted-new : (kind : Kind) (text : List ℕ) (n : ℕ) (entries : List Key) (slots : List Fronted) (place front : ℕ)
-    → IsFrontOf kind text front → AllByRecursion (IsFronted entries) slots
+    → IsFrontOfKey kind text front → AllByRecursion (IsFronted entries) slots
     → AllByRecursion (IsFronted (entries ++ new_key kind text n ∷ []))
     (insert slots place (record { number = length entries; front = front }))
 fronted-new kind text n entries slots place front new all =

@@ -8,7 +8,8 @@ use Rattle.mail_index.proofs.Words.{get_or_append_left, get_or-set_same, get_or-
 use Rattle.mail_index.proofs.Words.{length-insert, Kind, kind_number, Key, key_at, no_key, lies_to, AreSorted}
 use Rattle.mail_index.proofs.Words.{with_pair}
 use Rattle.mail_index.specs.declared.build.key_front.Fronted.{Fronted}
-use Rattle.mail_index.specs.Inside.KeyMaps.{new_key, with_one, placed, numbers_of_slots, slot_keys, rows, in_pages}
+use Rattle.mail_index.specs.Inside.KeyMaps.{new_key, with_one, keys_by_numbers, numbers_of_slots, slot_keys, rows}
+use Rattle.mail_index.specs.Inside.KeyMaps.{in_pages}
 use Rattle.mail_index.specs.Inside.KeyMaps.{position, IsAmong, IsOrder, IsGap}
 use Rattle.mail_index.proofs.ViewLaws.LookUpLemmas.{key_bytes, before-less, behind-greater}
 use Rattle.mail_index.proofs.BuildLaws.PageLemmas.{position-step, position-next, position-last, position-within}
@@ -23,7 +24,8 @@ wanted-to : (kind : Kind) (text : List ℕ) (k : Key) (o : Ordering) → lies_to
     → slice_cmp nat_cmp (bytes_of kind text) (key_bytes k) ≡ ordering_reverse o
 wanted-to kind text k o e = nat_list_cmp_total.antisymm (bytes_of kind text) (key_bytes k) ∙ ap ordering_reverse e
 
-pub placed-at : (entries : List Key) (order : List ℕ) (j : ℕ) → j < length order → key_at (placed entries order) j
+pub placed-at : (entries : List Key) (order : List ℕ) (j : ℕ) → j < length order
+    → key_at (keys_by_numbers entries order) j
     ≡ key_at entries (get_or order j 0)
 placed-at entries order j h = get_or-map (key_at entries) order j 0 no_key h
 
@@ -196,7 +198,7 @@ sorted-new kind text n (k ∷ ks) (suc place) s w below above = (
 
 -- one more entry leaves the keys of the others unchanged
 placed-more : (entries : List Key) (k : Key) (order : List ℕ) → AllByRecursion (λ i. i < length entries) order
-    → placed (entries ++ k ∷ []) order ≡ placed entries order
+    → keys_by_numbers (entries ++ k ∷ []) order ≡ keys_by_numbers entries order
 placed-more entries k [] all = refl
 placed-more entries k (i ∷ order) all = ap₂ (λ (x : Key) (l : List Key). x ∷ l)
     (get_or_append_left entries (k ∷ []) no_key i all.0) (placed-more entries k order all.1)
@@ -210,7 +212,8 @@ map-insert {B = B} f (i ∷ order) (suc place) m = ap (λ (l : List B). f i ∷ 
 
 pub placed-new : (entries : List Key) (k : Key) (order : List ℕ) (place : ℕ)
     → AllByRecursion (λ i. i < length entries) order
-    → placed (entries ++ k ∷ []) (insert order place (length entries)) ≡ insert (placed entries order) place k
+    → keys_by_numbers (entries ++ k ∷ []) (insert order place (length entries))
+    ≡ insert (keys_by_numbers entries order) place k
 placed-new entries k order place all = grind
     (arith, map-insert, key_at, insert, placed-more, get_or-append_seam, no_key)
 
@@ -234,18 +237,18 @@ among-kept (x ∷ order) (suc place) m i a = elim a [ inl e ↦ inl e | inr b �
 
 -- the keys with one more entry are those with one more pair
 pub with_pair-gap : (kind : Kind) (text : List ℕ) (n : ℕ) (entries : List Key) (order : List ℕ) (place : ℕ)
-    → IsOrder entries order → IsGap kind text (placed entries order) place
-    → placed (entries ++ new_key kind text n ∷ []) (insert order place (length entries))
-    ≡ with_pair kind text n (placed entries order)
+    → IsOrder entries order → IsGap kind text (keys_by_numbers entries order) place
+    → keys_by_numbers (entries ++ new_key kind text n ∷ []) (insert order place (length entries))
+    ≡ with_pair kind text n (keys_by_numbers entries order)
 with_pair-gap kind text n entries order place o g =
     placed-new entries (new_key kind text n) order place o.within
-    ∙ sym (with_pair-new kind text n (placed entries order) place g.within
-    (λ j lt. gap-below kind text (placed entries order) place j o.sorted g lt)
-    (λ j le lt. gap-above kind text (placed entries order) place j o.sorted g le lt))
+    ∙ sym (with_pair-new kind text n (keys_by_numbers entries order) place g.within
+    (λ j lt. gap-below kind text (keys_by_numbers entries order) place j o.sorted g lt)
+    (λ j le lt. gap-above kind text (keys_by_numbers entries order) place j o.sorted g le lt))
 
 pub length-with_pair-gap : (kind : Kind) (text : List ℕ) (n : ℕ) (entries : List Key) (order : List ℕ) (place : ℕ)
-    → IsOrder entries order → IsGap kind text (placed entries order) place
-    → length (with_pair kind text n (placed entries order)) ≡ suc (length entries)
+    → IsOrder entries order → IsGap kind text (keys_by_numbers entries order) place
+    → length (with_pair kind text n (keys_by_numbers entries order)) ≡ suc (length entries)
 length-with_pair-gap kind text n entries order place o g =
     let low : place ≤ length order = omega (arith, g.within, length-map order (key_at entries)) in
     ap length (sym (with_pair-gap kind text n entries order place o g))
@@ -253,7 +256,7 @@ length-with_pair-gap kind text n entries order place o g =
     ∙ length-insert order place (length entries) low ∙ omega (arith, o.count)
 
 pub order-new : (kind : Kind) (text : List ℕ) (n : ℕ) (entries : List Key) (order : List ℕ) (place : ℕ)
-    → IsOrder entries order → IsGap kind text (placed entries order) place
+    → IsOrder entries order → IsGap kind text (keys_by_numbers entries order) place
     → IsOrder (entries ++ new_key kind text n ∷ []) (insert order place (length entries))
 order-new kind text n entries order place o g =
     let k : Key = new_key kind text n in
@@ -261,9 +264,9 @@ order-new kind text n entries order place o g =
     let low : place ≤ length order = omega (arith, g.within, length-map order (key_at entries)) in
     record {
       sorted = subst AreSorted (sym (placed-new entries k order place o.within))
-          (sorted-new kind text n (placed entries order) place o.sorted g.within
-          (λ j lt. gap-below kind text (placed entries order) place j o.sorted g lt)
-          (λ j le lt. gap-above kind text (placed entries order) place j o.sorted g le lt));
+          (sorted-new kind text n (keys_by_numbers entries order) place o.sorted g.within
+          (λ j lt. gap-below kind text (keys_by_numbers entries order) place j o.sorted g lt)
+          (λ j le lt. gap-above kind text (keys_by_numbers entries order) place j o.sorted g le lt));
       within = all-inserted (λ i. i < length (entries ++ k ∷ [])) order place (length entries)
           (all-weaker (λ m. m < length entries) (λ m. m < length (entries ++ k ∷ []))
           (λ m low. omega (arith, long, low)) order o.within) (omega (arith, long));
@@ -289,8 +292,8 @@ key-other entries i j k e = get_or-set_other entries i j k no_key (grind (arith,
 
 placed-other : (entries : List Key) (i : ℕ) (k : Key) (order : List ℕ)
     → AllByRecursion (λ y. slice_cmp nat_cmp (key_bytes (key_at entries i)) y ≡ Less)
-    (map key_bytes (placed entries order))
-    → placed (set entries i k) order ≡ placed entries order
+    (map key_bytes (keys_by_numbers entries order))
+    → keys_by_numbers (set entries i k) order ≡ keys_by_numbers entries order
 placed-other entries i k [] all = refl
 placed-other entries i k (j ∷ order) all =
     ap₂ (λ (x : Key) (l : List Key). x ∷ l) (go (nat_eq j i) refl) (placed-other entries i k order all.1)
@@ -312,7 +315,7 @@ placed-other entries i k (j ∷ order) all =
 
 -- a key among those after a key comes after it
 among-behind : (entries : List Key) (i : ℕ) (first : List ℕ) (order : List ℕ) → IsAmong i order
-    → AllByRecursion (λ y. slice_cmp nat_cmp first y ≡ Less) (map key_bytes (placed entries order))
+    → AllByRecursion (λ y. slice_cmp nat_cmp first y ≡ Less) (map key_bytes (keys_by_numbers entries order))
     → slice_cmp nat_cmp first (key_bytes (key_at entries i)) ≡ Less
 among-behind entries i first [] a all = absurd a
 among-behind entries i first (j ∷ order) a all = elim a [
@@ -322,8 +325,9 @@ among-behind entries i first (j ∷ order) a all = elim a [
 
 pub with_pair-found : (kind : Kind) (text : List ℕ) (n : ℕ) (entries : List Key) (i : ℕ) (order : List ℕ)
     → i < length entries → lies_to kind text (key_at entries i) ≡ Equal
-    → AreSorted (placed entries order) → IsAmong i order → with_pair kind text n (placed entries order)
-    ≡ placed (set entries i (with_one (key_at entries i) n)) order
+    → AreSorted (keys_by_numbers entries order) → IsAmong i order
+    → with_pair kind text n (keys_by_numbers entries order)
+    ≡ keys_by_numbers (set entries i (with_one (key_at entries i) n)) order
 unfolding IsStrictlySortedBy
 with_pair-found kind text n entries i [] lt equal s a = absurd a
 with_pair-found kind text n entries i (j ∷ order) lt equal s a =
@@ -333,14 +337,14 @@ with_pair-found kind text n entries i (j ∷ order) lt equal s a =
     new = with_one (key_at entries i) n
 
     branch : Ordering → List Key
-    branch o = match_ordering o (new_key kind text n ∷ key_at entries j ∷ placed entries order)
-        (with_one (key_at entries j) n ∷ placed entries order)
-        (key_at entries j ∷ with_pair kind text n (placed entries order))
+    branch o = match_ordering o (new_key kind text n ∷ key_at entries j ∷ keys_by_numbers entries order)
+        (with_one (key_at entries j) n ∷ keys_by_numbers entries order)
+        (key_at entries j ∷ with_pair kind text n (keys_by_numbers entries order))
 
-    go : (IsAmong i order → with_pair kind text n (placed entries order)
-        ≡ placed (set entries i (with_one (key_at entries i) n)) order)
-        → (t : Bool) → nat_eq j i ≡ t → with_pair kind text n (placed entries (j ∷ order))
-        ≡ placed (set entries i (with_one (key_at entries i) n)) (j ∷ order)
+    go : (IsAmong i order → with_pair kind text n (keys_by_numbers entries order)
+        ≡ keys_by_numbers (set entries i (with_one (key_at entries i) n)) order)
+        → (t : Bool) → nat_eq j i ≡ t → with_pair kind text n (keys_by_numbers entries (j ∷ order))
+        ≡ keys_by_numbers (set entries i (with_one (key_at entries i) n)) (j ∷ order)
     go others true e =
         let same : j ≡ i = grind (arith, nat_tests) in
         let here : lies_to kind text (key_at entries j) ≡ Equal =
@@ -350,9 +354,9 @@ with_pair-found kind text n entries i (j ∷ order) lt equal s a =
         ∙ get_or-set_same entries i (with_one (key_at entries i) n) no_key lt
         ∙ ap (λ (m : ℕ). with_one (key_at entries m) n) (sym same) in
         let behind : AllByRecursion (λ y. slice_cmp nat_cmp (key_bytes (key_at entries i)) y ≡ Less)
-        (map key_bytes (placed entries order)) =
+        (map key_bytes (keys_by_numbers entries order)) =
         subst (λ (m : ℕ). AllByRecursion (λ y. slice_cmp nat_cmp (key_bytes (key_at entries m)) y ≡ Less)
-        (map key_bytes (placed entries order))) same s.0 in
+        (map key_bytes (keys_by_numbers entries order))) same s.0 in
         ap branch (wanted-to kind text (key_at entries j) Equal here)
         ∙ sym (ap₂ (λ (x : Key) (l : List Key). x ∷ l) first
         (placed-other entries i (with_one (key_at entries i) n) order behind))
@@ -371,8 +375,8 @@ with_pair-found kind text n entries i (j ∷ order) lt equal s a =
 
 -- one more number leaves the keys' bytes unchanged
 bytes-same : (entries : List Key) (i n : ℕ) (order : List ℕ) → i < length entries
-    → map key_bytes (placed (set entries i (with_one (key_at entries i) n)) order)
-    ≡ map key_bytes (placed entries order)
+    → map key_bytes (keys_by_numbers (set entries i (with_one (key_at entries i) n)) order)
+    ≡ map key_bytes (keys_by_numbers entries order)
 bytes-same entries i n [] lt = refl
 bytes-same entries i n (j ∷ order) lt = ap₂ (λ (x : List ℕ) (l : List (List ℕ)). x ∷ l) (go (nat_eq j i) refl)
     (bytes-same entries i n order lt)

@@ -3,7 +3,7 @@ use Rattle.mail_index.proofs.Words.{◌≡◌, ℕ, suc, ◌<◌, ◌≤◌, tru
 use Rattle.mail_index.proofs.Words.{refl, sym, ◌∙◌, inl, inr, arith, ◌⊎◌, Ordering, Less, Equal, Greater}
 use Rattle.mail_index.proofs.Words.{match_ordering, ordering_then, nat_cmp, slice_cmp, AllByRecursion, nat_tests}
 use Rattle.mail_index.proofs.Words.{ranked, Kind, kind_number, kind_of_number, Key, RisesFrom, IsKey, end_from}
-use Rattle.mail_index.proofs.Words.{with_number, with_pair, IsIn, Tells}
+use Rattle.mail_index.proofs.Words.{with_number, with_pair, IsIn, HasPosting}
 use Rattle.mail_index.proofs.BuildLaws.DraftLemmas.{by-number, end_from-below}
 use Rattle.mail_index.proofs.ViewLaws.KindNumbers.{kind_of-number}
 
@@ -69,7 +69,7 @@ with_number-has ns n r below = (elim (nat_lt n (end_from 0 ns)) as
     ]) refl
 
 pub with_pair-tells : (n : ℕ) (kind : Kind) (text : List ℕ) (ks : List Key) (k : Kind) (t : List ℕ) (m : ℕ)
-    → Tells (with_pair kind text n ks) k t m → Tells ks k t m ⊎ ((kind ≡ k) × (text ≡ t) × (n ≡ m))
+    → HasPosting (with_pair kind text n ks) k t m → HasPosting ks k t m ⊎ ((kind ≡ k) × (text ≡ t) × (n ≡ m))
 with_pair-tells n kind text [] k t m h =
     elim h [
       | inl here ↦ elim here.2 [ inl e ↦ inr (here.0, here.1, e) | inr none ↦ absurd none ]
@@ -79,10 +79,10 @@ with_pair-tells n kind text [] k t m h =
 with_pair-tells n kind text (key ∷ ks) k t m told =
     (elim (slice_cmp nat_cmp (kind_number kind ∷ text) (kind_number key.kind ∷ key.text)) as
     (λ o. slice_cmp nat_cmp (kind_number kind ∷ text) (kind_number key.kind ∷ key.text) ≡ o
-    → Tells (match_ordering o (record { kind = kind; text = text; numbers = n ∷ [] } ∷ key ∷ ks)
+    → HasPosting (match_ordering o (record { kind = kind; text = text; numbers = n ∷ [] } ∷ key ∷ ks)
     (record { kind = key.kind; text = key.text; numbers = with_number key.numbers n } ∷ ks)
     (key ∷ with_pair kind text n ks)) k t m
-    → Tells (key ∷ ks) k t m ⊎ ((kind ≡ k) × (text ≡ t) × (n ≡ m))) [
+    → HasPosting (key ∷ ks) k t m ⊎ ((kind ≡ k) × (text ≡ t) × (n ≡ m))) [
       | Less ↦ λ _ h. elim h [
         | inl here ↦ elim here.2 [ inl e ↦ inr (here.0, here.1, e) | inr none ↦ absurd none ]
         | inr
@@ -103,11 +103,11 @@ with_pair-tells n kind text (key ∷ ks) k t m told =
     ]) refl told
 
 pub with_pair-keeps : (n : ℕ) (kind : Kind) (text : List ℕ) (ks : List Key) (k : Kind) (t : List ℕ) (m : ℕ)
-    → Tells ks k t m → Tells (with_pair kind text n ks) k t m
+    → HasPosting ks k t m → HasPosting (with_pair kind text n ks) k t m
 with_pair-keeps n kind text [] k t m h = absurd h
 with_pair-keeps n kind text (key ∷ ks) k t m h =
     elim (slice_cmp nat_cmp (kind_number kind ∷ text) (kind_number key.kind ∷ key.text)) as
-    (λ o. Tells (match_ordering o (record { kind = kind; text = text; numbers = n ∷ [] } ∷ key ∷ ks)
+    (λ o. HasPosting (match_ordering o (record { kind = kind; text = text; numbers = n ∷ [] } ∷ key ∷ ks)
     (record { kind = key.kind; text = key.text; numbers = with_number key.numbers n } ∷ ks)
     (key ∷ with_pair kind text n ks)) k t m) [
       | Less ↦ inr h
@@ -119,12 +119,12 @@ with_pair-keeps n kind text (key ∷ ks) k t m h =
     ]
 
 pub with_pair-has : (version n : ℕ) (kind : Kind) (text : List ℕ) (ks : List Key)
-    → AllByRecursion (IsKey version (suc n)) ks → Tells (with_pair kind text n ks) kind text n
+    → AllByRecursion (IsKey version (suc n)) ks → HasPosting (with_pair kind text n ks) kind text n
 with_pair-has version n kind text [] all = inl (refl, refl, inl refl)
 with_pair-has version n kind text (key ∷ ks) all =
     (elim (slice_cmp nat_cmp (kind_number kind ∷ text) (kind_number key.kind ∷ key.text)) as
     (λ o. slice_cmp nat_cmp (kind_number kind ∷ text) (kind_number key.kind ∷ key.text) ≡ o
-    → Tells (match_ordering o (record { kind = kind; text = text; numbers = n ∷ [] } ∷ key ∷ ks)
+    → HasPosting (match_ordering o (record { kind = kind; text = text; numbers = n ∷ [] } ∷ key ∷ ks)
     (record { kind = key.kind; text = key.text; numbers = with_number key.numbers n } ∷ ks)
     (key ∷ with_pair kind text n ks)) kind text n) [
       | Less ↦ λ _. inl (refl, refl, inl refl)

@@ -4,7 +4,7 @@ use Rattle.mail_index.proofs.Words.{◌≡◌, ℕ, zero, suc, ◌+◌, ◌-◌,
 use Rattle.mail_index.proofs.Words.{if◌then◌else◌, List, [], ◌∷◌, ◌++◌, length, fold, flat_map, refl, ap, sym, ◌∙◌}
 use Rattle.mail_index.proofs.Words.{append-nil, length-append, arith, nat_tests, fold-append, flat_map-append, add-mul}
 use Rattle.mail_index.proofs.Words.{mul_assoc, pow-suc, leb128, differences_from, postings, end_from, with_number, Told}
-use Rattle.mail_index.proofs.Words.{told_whole, told_more, told, numbers_of, IsPosted}
+use Rattle.mail_index.proofs.Words.{told_whole, told_more, numbers_so_far, numbers_of, IsPosted}
 
 end_from-snoc : (low : ℕ) (ns : List ℕ) (n : ℕ) → end_from low (ns ++ n ∷ []) ≡ suc n
 end_from-snoc low [] n = refl
@@ -108,7 +108,7 @@ numbers_of-nil = refl
 
 -- the bytes of one more difference give one more number
 told-more : (bytes : List ℕ) (next n : ℕ) → IsPosted bytes next → next ≤ n → n + 1 < 2 ^ 32
-    → told (bytes ++ leb128 5 (n + 1 - next)) ≡ told_whole (numbers_of bytes ++ n ∷ []) (n + 1)
+    → numbers_so_far (bytes ++ leb128 5 (n + 1 - next)) ≡ told_whole (numbers_of bytes ++ n ∷ []) (n + 1)
 told-more bytes next n p low high =
     let gap : n + 1 - next < 128 ^ 5 = omega arith in
     let number : next + (0 + (n + 1 - next) * 1) - 1 ≡ n = omega arith in

@@ -10,7 +10,7 @@ use Rattle.sha2.specs.Sha256.{sha256}
 use Rattle.contract_words.specs.Devices.{Sends}
 use Rattle.contract_words.proofs.Sending.{appends-nil, appends_join, sends_more}
 use Rattle.mail_index.specs.declared.build.file_out.Signer.{Signer}
-use Rattle.mail_index.specs.Inside.Signing.{Absorbs, BreaksOff, Signs, Writes, IsSigning}
+use Rattle.mail_index.specs.Inside.Signing.{Absorbs, StopsSigning, Signs, WritesSigned, IsSigning}
 
 absorbs-nothing : (h : Sha256) → Absorbs h h []
 absorbs-nothing h m held = subst (λ x. Holds256 h x) (sym (append-nil m)) held
@@ -41,7 +41,7 @@ signs-join {t} {u} {v} {h} {j} {k} x y first second = grind (arith, append_assoc
 
 -- two writes, of which the second fails
 pub breaks-off-later : {t u : Option (List ℕ)} {h j : Signer} (v : Option (List ℕ)) (x y : List ℕ) → Signs t u h j x
-    → BreaksOff u v j y → BreaksOff t v h (x ++ y)
+    → StopsSigning u v j y → StopsSigning t v h (x ++ y)
 breaks-off-later {t} {u} {h} {j} v x y first second =
     sends_more t u v (h.pending ++ (x ++ y)) first.sent (j.pending ++ y) []
     (sym (append_assoc h.pending x y) ∙ ap (λ l. l ++ y) first.split ∙ append_assoc first.sent j.pending y
@@ -52,8 +52,8 @@ breaks-off-later {t} {u} {h} {j} v x y first second =
 pub sends-longer : (t u : Option (List ℕ)) (bytes more : List ℕ) → Sends t u bytes → Sends t u (bytes ++ more)
 sends-longer t u bytes more s = (s.0, s.1 ++ more, ap (λ l. l ++ more) s.2 ∙ append_assoc s.0 s.1 more, s.3)
 
-breaks-off-longer : (t u : Option (List ℕ)) (s : Signer) (bytes more : List ℕ) → BreaksOff t u s bytes
-    → BreaksOff t u s (bytes ++ more)
+breaks-off-longer : (t u : Option (List ℕ)) (s : Signer) (bytes more : List ℕ) → StopsSigning t u s bytes
+    → StopsSigning t u s (bytes ++ more)
 breaks-off-longer t u s bytes more fault =
     subst (λ l. Sends t u l) (append_assoc s.pending bytes more) (sends-longer t u (s.pending ++ bytes) more fault)
 
@@ -62,7 +62,7 @@ pub on-failure : {T E : Type 0} {A : Type 0} (r : Result T E) → A → OnErr r 
 on-failure r h = grind arith
 
 pub writes-failed : {T E : Type 0} (r : Result T E) (t u : Option (List ℕ)) (s k : Signer) (bytes : List ℕ) → IsErr r
-    → BreaksOff t u s bytes → Writes r t u s k bytes
+    → StopsSigning t u s bytes → WritesSigned r t u s k bytes
 writes-failed r t u s k bytes h h2 = grind arith
 
 -- ---- all that was gathered is sent, if nothing was gathered at first
@@ -104,9 +104,9 @@ signing-step {t} {u} {v} {h} {j} {k} part rest so_far next = record {
 
 -- only a front of the next part was sent
 signing-fail : {t u : Option (List ℕ)} {h j : Signer} {whole : List ℕ} (v : Option (List ℕ)) (part rest : List ℕ)
-    → IsSigning t u h j whole (part ++ rest) → BreaksOff u v j part → BreaksOff t v h whole
+    → IsSigning t u h j whole (part ++ rest) → StopsSigning u v j part → StopsSigning t v h whole
 signing-fail {t} {u} {h} {j} {whole} v part rest so_far fault =
-    subst (λ x. BreaksOff t v h x) (append_assoc so_far.front part rest ∙ sym so_far.split)
+    subst (λ x. StopsSigning t v h x) (append_assoc so_far.front part rest ∙ sym so_far.split)
     (breaks-off-longer t v h (so_far.front ++ part) rest (breaks-off-later v so_far.front part so_far.signs fault))
 
 -- the same, where what is left is a part and what follows it
@@ -117,7 +117,8 @@ signing-next {t} {u} {v} {h} {j} {k} {whole} {rest} part after so_far e next =
 
 pub signing-stop : {T E : Type 0} {t u : Option (List ℕ)} {h j : Signer} {whole rest : List ℕ} (r : Result T E)
     (v : Option (List ℕ)) (k : Signer) (part after : List ℕ)
-    → IsErr r → IsSigning t u h j whole rest → rest ≡ part ++ after → BreaksOff u v j part → Writes r t v h k whole
+    → IsErr r → IsSigning t u h j whole rest → rest ≡ part ++ after → StopsSigning u v j part
+    → WritesSigned r t v h k whole
 signing-stop {T} {E} {t} {u} {h} {j} {whole} {rest} r v k part after failed so_far e fault =
     writes-failed r t v h k whole failed (signing-fail v part after (subst (λ x. IsSigning t u h j whole x) e so_far)
     fault)

@@ -2,7 +2,7 @@
 use Rattle.mail_index.proofs.Words.{◌≡◌, ℕ, ◌+◌, ◌*◌, ◌^◌, ◌<◌, ◌≤◌, List, [], ◌∷◌, ◌++◌, length, map, flat_map, Option}
 use Rattle.mail_index.proofs.Words.{refl, ap, ◌∙◌, length-append, arith, unwrap_or, AllByRecursion, concat, length-map}
 use Rattle.mail_index.proofs.Words.{newest, IsDigest, Archive, Key, Table, IsArchive, IsKey, postings, archive_bytes}
-use Rattle.mail_index.proofs.Words.{record_bytes, entry_of, directory_from, texts_of, postings_of, entries}
+use Rattle.mail_index.proofs.Words.{record_bytes, entry_of_key, directory_from, texts_of, postings_of, entries}
 use Rattle.mail_index.proofs.Words.{archive_section, counts, body, index_file, HasSmallSections}
 use Rattle.sha2.specs.Sha256.{sha256}
 use Rattle.sha2.proofs.Facts256.{length-sha256}
@@ -36,22 +36,22 @@ length-archives (a ∷ archives) all = omega (
 )
 
 pub length-texts : (count : ℕ) (ks : List Key) → AllByRecursion (IsKey newest count) ks
-    → length (texts_of (map entry_of ks)) ≤ 2 ^ 32 * length ks
+    → length (texts_of (map entry_of_key ks)) ≤ 2 ^ 32 * length ks
 length-texts count [] all = omega arith
 length-texts count (k ∷ ks) all = omega (
   arith,
-  length-append k.text (texts_of (map entry_of ks)),
+  length-append k.text (texts_of (map entry_of_key ks)),
   all.0.short,
   length-texts count ks all.1,
 )
 
 pub length-all_postings : (count : ℕ) (ks : List Key) → count ≤ 2 ^ 31 → AllByRecursion (IsKey newest count) ks
-    → length (postings_of (map entry_of ks)) ≤ 2 ^ 31 * length ks
+    → length (postings_of (map entry_of_key ks)) ≤ 2 ^ 31 * length ks
 length-all_postings count [] h all = omega arith
 length-all_postings count (k ∷ ks) h all =
     omega (
       arith,
-      length-append (postings k.numbers) (postings_of (map entry_of ks)),
+      length-append (postings k.numbers) (postings_of (map entry_of_key ks)),
       length-postings count k all.0,
       length-all_postings count ks h all.1,
     )
@@ -71,7 +71,7 @@ length-body t = grind (
   length_directory,
   entries,
   length-map,
-  entry_of,
+  entry_of_key,
   length-append,
   concat,
   counts,

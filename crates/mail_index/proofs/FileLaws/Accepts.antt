@@ -3,12 +3,13 @@ use Rattle.mail_index.proofs.Words.{◌≡◌, ℕ, suc, ◌+◌, ◌-◌, ◌*�
 use Rattle.mail_index.proofs.Words.{refl, sym, ap, subst, ◌∙◌, arith, length-append, flat_map, slice_range}
 use Rattle.mail_index.proofs.Words.{AllByRecursion, concat, take-append_seam, drop-append_seam, drop-drop}
 use Rattle.mail_index.proofs.Words.{from_be_bytes-to_be_bytes_4, from_be_bytes-to_be_bytes_8, Record, IsVersion, u32_at}
-use Rattle.mail_index.proofs.Words.{u64_at, magic, entry_of, entries, archive_bytes, archive_section, record_bytes}
+use Rattle.mail_index.proofs.Words.{u64_at, magic, entry_of_key, entries, archive_bytes, archive_section, record_bytes}
 use Rattle.mail_index.proofs.Words.{directory_from, texts_of, postings_of, counts, sections, body, index_file, Archive}
 use Rattle.mail_index.proofs.Words.{Key, Table, IsWellFormed, IsArchive, IsKey, AllNext, KeyBefore, version_told}
-use Rattle.mail_index.proofs.Words.{IsFirstFault, EntryBefore, IsEntry, records_start, directory_start, texts_start}
+use Rattle.mail_index.proofs.Words.{IsFirstFaultOfFile, EntryBefore, IsEntry, records_start, directory_start}
+use Rattle.mail_index.proofs.Words.{texts_start}
 use Rattle.mail_index.proofs.Words.{postings_start, digest_start, HasDigest, IsSigned, HasArchives, HasRecords}
-use Rattle.mail_index.proofs.Words.{HasDirectory, HasPostings, IsFileOf, read_archives, read_records}
+use Rattle.mail_index.proofs.Words.{HasDirectory, HasPostings, IsFileOfTable, read_archives, read_records}
 use Rattle.sha2.specs.Sha256.{sha256}
 use Rattle.sha2.proofs.Facts256.{length-sha256}
 use Rattle.mail_index.specs.declared.view.fault.IndexFault.{IndexFault}
@@ -62,17 +63,17 @@ tells t rest w a x p = grind (
   postings_of,
 )
 
-count_entries_of : (ks : List Key) → length (map entry_of ks) ≡ length ks
+count_entries_of : (ks : List Key) → length (map entry_of_key ks) ≡ length ks
 count_entries_of [] = refl
 count_entries_of (k ∷ ks) = ap suc (count_entries_of ks)
 
-entries_in_order : (ks : List Key) → AllNext KeyBefore ks → AllNext EntryBefore (map entry_of ks)
+entries_in_order : (ks : List Key) → AllNext KeyBefore ks → AllNext EntryBefore (map entry_of_key ks)
 entries_in_order [] h = tt
 entries_in_order (k ∷ []) h = tt
 entries_in_order (k ∷ l ∷ ks) h = (h.0, entries_in_order (l ∷ ks) h.1)
 
 are_entries : (version count : ℕ) (ks : List Key) → AllByRecursion (IsKey version count) ks
-    → AllByRecursion (IsEntry version) (map entry_of ks)
+    → AllByRecursion (IsEntry version) (map entry_of_key ks)
 are_entries version count [] h = tt
 are_entries version count (k ∷ ks) h = (
   (h.0.kind, h.0.some_text, h.0.short, some_postings k.numbers h.0.some_number),
@@ -100,7 +101,7 @@ length_body t = grind (
 )
 
 -- the file of a table that fits in memory keeps all rules
-pub keeps_rules : (bytes : List ℕ) (t : Table) → length bytes < 2 ^ 64 → IsFileOf bytes t
+pub keeps_rules : (bytes : List ℕ) (t : Table) → length bytes < 2 ^ 64 → IsFileOfTable bytes t
     → HasPostings bytes t.archives t.messages t.keys
 unfolding index_file
 keeps_rules bytes t few f =
@@ -152,7 +153,7 @@ keeps_rules bytes t few f =
     let records : HasRecords bytes t.archives t.messages =
     record { before = archives; spelled = p₂.is; each = w.messages; in_order = w.in_order } in
     let keys = subst (λ (v : ℕ). AllByRecursion (IsKey v (length t.messages)) t.keys) (sym c.known) w.keys in
-    let directory : HasDirectory bytes t.archives t.messages (map entry_of t.keys) = record {
+    let directory : HasDirectory bytes t.archives t.messages (map entry_of_key t.keys) = record {
       before = records;
       spelled = p₃.is;
       texts = p₄.is;
@@ -175,11 +176,11 @@ same_records bytes archives ms ns few a b =
     sym (records_back (version_told bytes) archives ms few a.before.each a.each) ∙ (λ i. read_records (l i) (e i))
     ∙ records_back (version_told bytes) archives ns few b.before.each b.each
 
-pub no_fault : (bytes : List ℕ) (t : Table) → length bytes < 2 ^ 64 → IsFileOf bytes t → (f : IndexFault)
-    → IsFirstFault bytes f → ⊥
+pub no_fault : (bytes : List ℕ) (t : Table) → length bytes < 2 ^ 64 → IsFileOfTable bytes t → (f : IndexFault)
+    → IsFirstFaultOfFile bytes f → ⊥
 no_fault bytes t few w f h = go f h (keeps_rules bytes t few w) w.0.archive_count
   where
-    go : (f : IndexFault) → IsFirstFault bytes f → HasPostings bytes t.archives t.messages t.keys
+    go : (f : IndexFault) → IsFirstFaultOfFile bytes f → HasPostings bytes t.archives t.messages t.keys
         → length t.archives < 2 ^ 32 → ⊥
     go TooShort h k n = omega (arith, h, k.before.before.before.before.0.long)
     go BadMagic h k n = h.1 k.before.before.before.before.0.marked
@@ -190,7 +191,7 @@ no_fault bytes t few w f h = go f h (keeps_rules bytes t few w) w.0.archive_coun
     go (BadLayout Records) h k n =
         let a : t.archives ≡ h.0 = same_archives bytes t.archives h.0 k.before.before.before h.1 in
         h.2 t.messages (subst (λ (x : List Archive). HasRecords bytes x t.messages) a k.before.before)
-    go (BadLayout Directory) h k n = grind (arith, entry_of)
+    go (BadLayout Directory) h k n = grind (arith, entry_of_key)
     go (BadLayout Postings) h k n =
         let a : t.archives ≡ h.0 = same_archives bytes t.archives h.0 k.before.before.before h.3.before.before in
         let r = subst (λ (x : List Archive). HasRecords bytes x t.messages) a k.before.before in

@@ -3,7 +3,8 @@ use Rattle.mail_index.proofs.Words.{◌≡◌, ℕ, zero, suc, ◌+◌, ◌^◌,
 use Rattle.mail_index.proofs.Words.{refl, sym, ap, subst, ◌∙◌, append_assoc, arith, flat_map, AllByRecursion}
 use Rattle.mail_index.proofs.Words.{length-append, length-map, Record, kind_number, IsVersion, Archive, Key, Table}
 use Rattle.mail_index.proofs.Words.{IsArchive, IsMessage, IsKey, IsWellFormed, archive_length, zeros, be32, be64}
-use Rattle.mail_index.proofs.Words.{archive_bytes, record_bytes, Entry, entry_of, entry_bytes, directory_from, texts_of}
+use Rattle.mail_index.proofs.Words.{archive_bytes, record_bytes, DirectoryEntry, entry_of_key, entry_bytes}
+use Rattle.mail_index.proofs.Words.{directory_from, texts_of}
 use Rattle.mail_index.proofs.Words.{postings_of, archive_section, entries, counts, sections, body, HasSmallSections}
 use Rattle.mail_index.proofs.Words.{index_file}
 use Rattle.sha2.specs.Sha256.{sha256}
@@ -14,25 +15,25 @@ use Rattle.mail_index.proofs.FileLaws.RecordFronts.{same_at, HasFew, message_fro
 
 -- ---- the directory
 
-abbrev text_total : List Entry → ℕ
+abbrev text_total : List DirectoryEntry → ℕ
 text_total es = length (texts_of es)
 
-abbrev total : List Entry → ℕ
+abbrev total : List DirectoryEntry → ℕ
 total es = length (postings_of es)
 
-abbrev AreAlike : List Entry → List Entry → Type 0
+abbrev AreAlike : List DirectoryEntry → List DirectoryEntry → Type 0
 AreAlike [] [] = Unit {0}
 AreAlike (e ∷ es) (f ∷ fs) = (kind_number e.kind ≡ kind_number f.kind) × (length e.text ≡ length f.text)
     × (length e.postings ≡ length f.postings) × AreAlike es fs
 AreAlike _ _ = ⊥
 
-abbrev HasShort : Entry → Type 0
+abbrev HasShort : DirectoryEntry → Type 0
 HasShort e = length e.text < 2 ^ 32
 
-entry_list : ℕ → ℕ → Entry → List (List ℕ)
+entry_list : ℕ → ℕ → DirectoryEntry → List (List ℕ)
 entry_list tp pp e = (kind_number e.kind ∷ zeros) ∷ be32 (length e.text) ∷ be64 tp ∷ be64 pp ∷ []
 
-directory_is : (es fs : List Entry) (tp pp tq pq : ℕ) (x y : List ℕ) → length es ≡ length fs
+directory_is : (es fs : List DirectoryEntry) (tp pp tq pq : ℕ) (x y : List ℕ) → length es ≡ length fs
     → AllByRecursion HasShort es → AllByRecursion HasShort fs
     → tp + text_total es < 2 ^ 64 → pp + total es < 2 ^ 64
     → tp + text_total es ≡ tq + text_total fs → pp + total es ≡ pq + total fs
@@ -62,7 +63,8 @@ directory_is (a ∷ es) (b ∷ fs) tp pp tq pq x y h p q s t u v e =
     (omega (arith, s, la)) (omega (arith, t, ma)) (omega (arith, u, la, lb)) (omega (arith, v, ma, mb)) c.1 in
     (places, (kinds, texts, omega (arith, places, r.0), r.1), r.2)
 
-entries_are : (es fs : List Entry) → AreAlike es fs → texts_of es ≡ texts_of fs → postings_of es ≡ postings_of fs → es
+entries_are : (es fs : List DirectoryEntry) → AreAlike es fs → texts_of es ≡ texts_of fs → postings_of es
+    ≡ postings_of fs → es
     ≡ fs
 entries_are [] [] a t p = refl
 entries_are [] (f ∷ fs) a t p = elim a [ ]
@@ -76,16 +78,17 @@ entries_are (e ∷ es) (f ∷ fs) a t p =
     cc
 
 keys_are : (version count : ℕ) (ks ls : List Key) → count < 2 ^ 32 → AllByRecursion (IsKey version count) ks
-    → AllByRecursion (IsKey version count) ls → map entry_of ks ≡ map entry_of ls → ks ≡ ls
+    → AllByRecursion (IsKey version count) ls → map entry_of_key ks ≡ map entry_of_key ls → ks ≡ ls
 keys_are version count [] [] h p q e = refl
 keys_are version count [] (l ∷ ls) h p q e = absurd cc
 keys_are version count (k ∷ ks) [] h p q e = absurd cc
 keys_are version count (k ∷ ks) (l ∷ ls) h p q e =
-    let head : entry_of k ≡ entry_of l = cc in
-    let tail : map entry_of ks ≡ map entry_of ls = cc in
-    let kind : k.kind ≡ l.kind = ap (λ (x : Entry). x.kind) head in
-    let text : k.text ≡ l.text = ap (λ (x : Entry). x.text) head in
-    let numbers : k.numbers ≡ l.numbers = numbers_are version count k l h p.0 q.0 (ap (λ (x : Entry). x.postings) head)
+    let head : entry_of_key k ≡ entry_of_key l = cc in
+    let tail : map entry_of_key ks ≡ map entry_of_key ls = cc in
+    let kind : k.kind ≡ l.kind = ap (λ (x : DirectoryEntry). x.kind) head in
+    let text : k.text ≡ l.text = ap (λ (x : DirectoryEntry). x.text) head in
+    let numbers : k.numbers ≡ l.numbers = numbers_are version count k l h p.0 q.0
+    (ap (λ (x : DirectoryEntry). x.postings) head)
     in
     let same : k ≡ l = λ i. record { kind = kind i; text = text i; numbers = numbers i } in
     let r : ks ≡ ls = keys_are version count ks ls h p.1 q.1 tail in
@@ -105,7 +108,7 @@ with_few version archives (m ∷ ms) h s p =
     ((p.0, h, small_archive version archives m.archive s), with_few version archives ms h s p.1)
 
 short_texts : (version count : ℕ) (ks : List Key) → AllByRecursion (IsKey version count) ks
-    → AllByRecursion HasShort (map entry_of ks)
+    → AllByRecursion HasShort (map entry_of_key ks)
 short_texts version count [] p = tt
 short_texts version count (k ∷ ks) p = (p.0.short, short_texts version count ks p.1)
 
@@ -145,7 +148,7 @@ one_table t u x y p q a b e =
     (with_few t.version t.archives t.messages p.archive_count p.archives p.messages)
     (with_few t.version t.archives u.messages p.archive_count p.archives their) r.1 in
     let d = directory_is (entries t) (entries u) 0 0 0 0 _ _
-    (length-map t.keys entry_of ∙ n_keys ∙ sym (length-map u.keys entry_of))
+    (length-map t.keys entry_of_key ∙ n_keys ∙ sym (length-map u.keys entry_of_key))
     (short_texts t.version (length t.messages) t.keys p.keys)
     (short_texts u.version (length u.messages) u.keys q.keys)
     (omega (arith, a.texts)) (omega (arith, a.postings)) (omega (arith, n_texts)) (omega (arith, n_postings)) m.1 in

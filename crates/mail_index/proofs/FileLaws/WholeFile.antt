@@ -2,11 +2,12 @@
 use Rattle.mail_index.proofs.Words.{◌≡◌, ℕ, ◌+◌, ◌-◌, ◌^◌, ◌<◌, ◌≤◌, List, [], ◌∷◌, ◌++◌, length, map, take, drop, refl}
 use Rattle.mail_index.proofs.Words.{sym, ap, subst, ◌∙◌, arith, length-drop, length-append, length-map, transport}
 use Rattle.mail_index.proofs.Words.{flat_map, slice_range, AllByRecursion, concat, take-append-drop, drop-drop}
-use Rattle.mail_index.proofs.Words.{version_number, IsVersion, u32_at, u64_at, magic, be32, be64, Entry, entry_of}
+use Rattle.mail_index.proofs.Words.{version_number, IsVersion, u32_at, u64_at, magic, be32, be64, DirectoryEntry}
+use Rattle.mail_index.proofs.Words.{entry_of_key}
 use Rattle.mail_index.proofs.Words.{entries, archive_section, record_bytes, directory_from, texts_of, postings_of}
 use Rattle.mail_index.proofs.Words.{counts, sections, body, index_file, Key, IsArchive, IsKey, IsWellFormed, IsEntry}
 use Rattle.mail_index.proofs.Words.{version_told, IsSigned, records_start, directory_start, texts_start, postings_start}
-use Rattle.mail_index.proofs.Words.{digest_start, HasDigest, HasDirectory, HasPostings, IsFileOf, SpellsArchives}
+use Rattle.mail_index.proofs.Words.{digest_start, HasDigest, HasDirectory, HasPostings, IsFileOfTable, SpellsArchives}
 use Rattle.mail_index.proofs.Words.{AreRecords, AreEntries, read_entries, IsList, AreLists, IsLayout, IsChecked}
 use Rattle.mail_index.proofs.Words.{table_of, key_of}
 use Rattle.sha2.specs.Sha256.{sha256}
@@ -37,7 +38,7 @@ pub record HoldsRecords (l : Layout) : Type 0 where
   pub archives : SpellsArchives (version_number l.version) l.archive_count l.archives.now
   pub records : AreRecords (version_number l.version) l.archive_count 0 0 l.archives.now l.message_count l.records.now
 
-abbrev pub entries_of : Layout → List Entry
+abbrev pub entries_of : Layout → List DirectoryEntry
 entries_of l = read_entries l.texts.now l.postings.now l.key_count l.directory.now
 
 pub has_directory : (bytes : List ℕ) (l : Layout) → IsLaidOut bytes l → HoldsRecords l
@@ -60,11 +61,11 @@ few_section : (i j : ℕ) (xs ys : List ℕ) → ys ≡ slice_range xs i j → i
     → length ys < 2 ^ 64
 few_section i j xs ys e l m n = omega (arith, ap length e, section_length i j xs l m, l, m, n)
 
-ahead_of : (bytes : List ℕ) (l : Layout) → IsLaidOut bytes l → (es : List Entry)
+ahead_of : (bytes : List ℕ) (l : Layout) → IsLaidOut bytes l → (es : List DirectoryEntry)
     → HasDirectory bytes (table_of l).archives (table_of l).messages es → IsAhead l.texts.now l.postings.now 0 0 es
 ahead_of bytes l f es h = grind (arith, few_section, texts_start, postings_start, digest_start)
 
-counted : (bytes : List ℕ) (l : Layout) → IsLaidOut bytes l → (es : List Entry)
+counted : (bytes : List ℕ) (l : Layout) → IsLaidOut bytes l → (es : List DirectoryEntry)
     → HasDirectory bytes (table_of l).archives (table_of l).messages es → length es ≡ l.key_count
 counted bytes l f es h = omega (
   arith,
@@ -73,7 +74,7 @@ counted bytes l f es h = omega (
   directory_section bytes l f,
 )
 
-pub these_entries : (bytes : List ℕ) (l : Layout) → IsLaidOut bytes l → (es : List Entry)
+pub these_entries : (bytes : List ℕ) (l : Layout) → IsLaidOut bytes l → (es : List DirectoryEntry)
     → HasDirectory bytes (table_of l).archives (table_of l).messages es
     → AreEntries (version_number l.version) l.texts.now (length l.postings.now) 0 0 0 [] l.key_count l.directory.now
 these_entries bytes l f es h =
@@ -102,7 +103,7 @@ pub these_lists : (bytes : List ℕ) (l : Layout) → IsLaidOut bytes l → (ks 
     → HasPostings bytes (table_of l).archives (table_of l).messages ks
     → AreLists l.message_count l.postings.now l.key_count l.directory.now
 these_lists bytes l f ks h =
-    let es = map entry_of ks in
+    let es = map entry_of_key ks in
     let d = h.before in
     let e : l.directory.now ≡ directory_from 0 0 es = f.layout.directory ∙ d.spelled in
     let n : l.key_count ≡ length es = sym (counted bytes l f es d) in
@@ -235,7 +236,7 @@ signed_whole bytes b n e s w =
     sym w ∙ ap (λ (y : List ℕ). b ++ y) (digest ∙ ap sha256 (sym front))
 
 pub is_file : (bytes : List ℕ) (l : Layout) → IsLaidOut bytes l
-    → HasPostings bytes (table_of l).archives (table_of l).messages (table_of l).keys → IsFileOf bytes (table_of l)
+    → HasPostings bytes (table_of l).archives (table_of l).messages (table_of l).keys → IsFileOfTable bytes (table_of l)
 unfolding index_file
 is_file bytes l f h =
     let t = table_of l in

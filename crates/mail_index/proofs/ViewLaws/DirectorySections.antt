@@ -6,7 +6,8 @@ use Rattle.mail_index.proofs.Words.{length-drop, length-append, nat_eq, Less, Al
 use Rattle.mail_index.proofs.Words.{take-append_seam, drop-append_seam, take-append-drop, drop-drop, nat_tests}
 use Rattle.mail_index.proofs.Words.{from_be_bytes-to_be_bytes_4, from_be_bytes-to_be_bytes_8, kind_number}
 use Rattle.mail_index.proofs.Words.{kind_of_number, is_kind_number, last_kind, are_zeros_at, byte_at, u32_at, u64_at}
-use Rattle.mail_index.proofs.Words.{zeros, be32, be64, Entry, entry_bytes, directory_from, texts_of, postings_of}
+use Rattle.mail_index.proofs.Words.{zeros, be32, be64, DirectoryEntry, entry_bytes, directory_from, texts_of}
+use Rattle.mail_index.proofs.Words.{postings_of}
 use Rattle.mail_index.proofs.Words.{AllNext, IsEntry}
 use Rattle.mail_index.proofs.Words.{EntryBefore, key_cmp, is_entry, end_before, text_at, read_entry, read_entries}
 use Rattle.mail_index.proofs.Words.{IsEntryAt, AreEntries}
@@ -17,21 +18,22 @@ use Rattle.mail_index.proofs.FileLaws.Bytes.{length_part}
 use Rattle.mail_index.proofs.ViewLaws.KindNumbers.{kind_of-number, kind_passes, kind_kept, few_kinds, first_less}
 
 -- each entry comes after the one before it, and the first entry comes after this key
-abbrev pub AreAfter : ℕ → List ℕ → List Entry → Type 0
+abbrev pub AreAfter : ℕ → List ℕ → List DirectoryEntry → Type 0
 AreAfter number text [] = Unit {0}
 AreAfter number text (e ∷ es) = (key_cmp number text (kind_number e.kind) e.text ≡ Less)
     × AreAfter (kind_number e.kind) e.text es
 
-pub sorted : (number : ℕ) (text : List ℕ) (es : List Entry) → AreAfter number text es → AllNext EntryBefore es
+pub sorted : (number : ℕ) (text : List ℕ) (es : List DirectoryEntry) → AreAfter number text es → AllNext EntryBefore es
 sorted number text [] h = tt
 sorted number text (e ∷ []) h = tt
 sorted number text (e ∷ f ∷ es) h = (h.1.0, sorted (kind_number e.kind) e.text (f ∷ es) h.1)
 
-after_first : (e : Entry) (es : List Entry) → AllNext EntryBefore (e ∷ es) → AreAfter (kind_number e.kind) e.text es
+after_first : (e : DirectoryEntry) (es : List DirectoryEntry) → AllNext EntryBefore (e ∷ es)
+    → AreAfter (kind_number e.kind) e.text es
 after_first e [] h = tt
 after_first e (f ∷ es) h = (h.0, after_first f es h.1)
 
-pub are_after : (es : List Entry) → AllNext EntryBefore es → AreAfter 0 [] es
+pub are_after : (es : List DirectoryEntry) → AllNext EntryBefore es → AreAfter 0 [] es
 are_after [] h = tt
 are_after (e ∷ es) h = (first_less [] e.kind e.text, after_first e es h)
 
@@ -50,7 +52,8 @@ u32_small d i h =
     let t = bytes_before 4 (drop i d) (bytes_behind i d h) in
     omega (arith, t.below 0, t.below 1, t.below 2, t.below 3)
 
-entry_kept : (version : ℕ) (d : List ℕ) (tp pp : ℕ) (e : Entry) → AreBytes d → 24 ≤ length d → is_entry version d ≡ true
+entry_kept : (version : ℕ) (d : List ℕ) (tp pp : ℕ) (e : DirectoryEntry) → AreBytes d → 24 ≤ length d
+    → is_entry version d ≡ true
     → e.kind ≡ kind_of_number (byte_at d 0) → length e.text ≡ u32_at d 4
     → tp ≡ u64_at d 8 → pp ≡ u64_at d 16 → entry_bytes tp pp e ++ drop 24 d ≡ d
 unfolding is_entry
@@ -164,7 +167,7 @@ some_length x xs total n = let e : nat_eq (suc (length xs)) 0 ≡ false = grind 
     in ap (λ (b : Bool). cond b total n) e
 
 -- where the postings of an entry end
-end_of : (tp pp total : ℕ) (es : List Entry) → pp < 2 ^ 64 → total ≡ pp + length (postings_of es)
+end_of : (tp pp total : ℕ) (es : List DirectoryEntry) → pp < 2 ^ 64 → total ≡ pp + length (postings_of es)
     → end_before (directory_from tp pp es) total ≡ pp
 end_of tp pp total [] l e = omega (arith, e)
 end_of tp pp total (f ∷ fs) l e = some_length (kind_number f.kind)
@@ -172,7 +175,7 @@ end_of tp pp total (f ∷ fs) l e = some_length (kind_number f.kind)
     (pp + length f.postings) fs) total (u64_at (directory_from tp pp (f ∷ fs)) 16) ∙ from_be_bytes-to_be_bytes_8 pp l
 
 -- the rest of the texts and of the postings is that of these entries
-pub record IsAhead (texts postings : List ℕ) (tp pp : ℕ) (es : List Entry) : Type 0 where
+pub record IsAhead (texts postings : List ℕ) (tp pp : ℕ) (es : List DirectoryEntry) : Type 0 where
   pub text_bound : tp ≤ length texts
   pub bound : pp ≤ length postings
   pub texts_spelled : drop tp texts ≡ texts_of es
@@ -180,7 +183,8 @@ pub record IsAhead (texts postings : List ℕ) (tp pp : ℕ) (es : List Entry) :
   pub few_texts : length texts < 2 ^ 64
   pub few_postings : length postings < 2 ^ 64
 
-pub record FrontOf (version : ℕ) (texts postings : List ℕ) (tp pp : ℕ) (e : Entry) (es : List Entry) (d : List ℕ) : Type
+pub record FrontOf (version : ℕ) (texts postings : List ℕ) (tp pp : ℕ) (e : DirectoryEntry) (es : List DirectoryEntry)
+    (d : List ℕ) : Type
     0 where
   pub passes : is_entry version d ≡ true
   pub size : u32_at d 4 ≡ length e.text
@@ -196,7 +200,8 @@ pub record FrontOf (version : ℕ) (texts postings : List ℕ) (tp pp : ℕ) (e 
 few_tests : (k : Bool) → k ≡ true → (k && true) ≡ true
 few_tests k e = rw e refl
 
-front_entry : (version : ℕ) (texts postings : List ℕ) (tp pp : ℕ) (e : Entry) (es : List Entry) → IsEntry version e
+front_entry : (version : ℕ) (texts postings : List ℕ) (tp pp : ℕ) (e : DirectoryEntry) (es : List DirectoryEntry)
+    → IsEntry version e
     → IsAhead texts postings tp pp (e ∷ es) → FrontOf version texts postings tp pp e es (directory_from tp pp (e ∷ es))
 unfolding is_entry
 front_entry version texts postings tp pp e es h a =
@@ -247,7 +252,8 @@ front_entry version texts postings tp pp e es h a =
       ahead = ahead;
     }
 
-entry_back : (version : ℕ) (texts postings : List ℕ) (tp pp : ℕ) (e : Entry) (es : List Entry) (d : List ℕ)
+entry_back : (version : ℕ) (texts postings : List ℕ) (tp pp : ℕ) (e : DirectoryEntry) (es : List DirectoryEntry)
+    (d : List ℕ)
     → FrontOf version texts postings tp pp e es d → byte_at d 0 ≡ kind_number e.kind → read_entry texts postings d ≡ e
 unfolding read_entry
 entry_back version texts postings tp pp e es d f k =
@@ -256,7 +262,7 @@ entry_back version texts postings tp pp e es d f k =
     let its = f.its in
     λ i. record { kind = kind i; text = text i; postings = its i }
 
-pub entries_back : (version : ℕ) (texts postings : List ℕ) (tp pp : ℕ) (es : List Entry)
+pub entries_back : (version : ℕ) (texts postings : List ℕ) (tp pp : ℕ) (es : List DirectoryEntry)
     → AllByRecursion (IsEntry version) es → IsAhead texts postings tp pp es
     → read_entries texts postings (length es) (directory_from tp pp es) ≡ es
 entries_back version texts postings tp pp [] h a = refl
@@ -273,7 +279,8 @@ moved : (version : ℕ) (texts : List ℕ) (total a a' b b' c : ℕ) (t t' : Lis
 moved version texts total a a' b b' c t t' n d p q r h =
     transport (λ i. AreEntries version texts total (p i) (q i) c (r i) n d) h
 
-pub are_entries_of : (version : ℕ) (texts postings : List ℕ) (tp pp number : ℕ) (text : List ℕ) (es : List Entry)
+pub are_entries_of : (version : ℕ) (texts postings : List ℕ) (tp pp number : ℕ) (text : List ℕ)
+    (es : List DirectoryEntry)
     → AllByRecursion (IsEntry version) es → IsAhead texts postings tp pp es → AreAfter number text es
     → AreEntries version texts (length postings) tp pp number text (length es) (directory_from tp pp es)
 are_entries_of version texts postings tp pp number text [] h a s =

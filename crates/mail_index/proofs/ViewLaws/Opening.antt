@@ -1,7 +1,8 @@
 -- What the walks over the sections find in a file is what its table has, and they refuse nothing of a table's file.
 use Rattle.mail_index.proofs.Words.{◌≡◌, ℕ, zero, suc, ◌+◌, ◌*◌, ◌^◌, ◌<◌, List, [], ◌∷◌, length, map, drop, refl, ap}
 use Rattle.mail_index.proofs.Words.{◌∙◌, arith, length-append, flat_map, AllByRecursion, Some, slice_get, drop-drop}
-use Rattle.mail_index.proofs.Words.{Record, Entry, entry_of, entry_bytes, archive_bytes, record_bytes, directory_from}
+use Rattle.mail_index.proofs.Words.{Record, DirectoryEntry, entry_of_key, entry_bytes, archive_bytes, record_bytes}
+use Rattle.mail_index.proofs.Words.{directory_from}
 use Rattle.mail_index.proofs.Words.{Archive, Key, IsArchive, IsKey, AllNext, KeyBefore, RisesFrom, postings}
 use Rattle.mail_index.proofs.Words.{postings_from, IsEntry, EntryBefore, read_archives, SpellsArchives, read_record}
 use Rattle.mail_index.proofs.Words.{read_records, read_entry, read_entries, numbers_read, IsList, AreLists, key_of}
@@ -23,7 +24,7 @@ pub length_records : (ms : List Record) → length (flat_map record_bytes ms) �
 length_records [] = refl
 length_records (m ∷ ms) = omega (arith, length-append (record_bytes m) (flat_map record_bytes ms), length_records ms)
 
-pub length_directory : (tp pp : ℕ) (es : List Entry) → length (directory_from tp pp es) ≡ 24 * length es
+pub length_directory : (tp pp : ℕ) (es : List DirectoryEntry) → length (directory_from tp pp es) ≡ 24 * length es
 length_directory tp pp [] = refl
 length_directory tp pp (e ∷ es) = grind (
   arith,
@@ -58,18 +59,19 @@ pub reads_list : (messages : ℕ) (list : List ℕ) → messages < 2 ^ 32 → Is
 reads_list messages list l h = grind (arith, numbers_read, read-posted, all-weaker, postings, some_numbers)
 
 -- the keys that are read from entries
-pub record ReadsKeys (version messages : ℕ) (es : List Entry) : Type 0 where
-  pub spelled : map entry_of (map key_of es) ≡ es
+pub record ReadsKeys (version messages : ℕ) (es : List DirectoryEntry) : Type 0 where
+  pub spelled : map entry_of_key (map key_of es) ≡ es
   pub each : AllByRecursion (IsKey version messages) (map key_of es)
 
-pub reads_keys : (version messages : ℕ) (es : List Entry) → messages < 2 ^ 32 → AllByRecursion (IsEntry version) es
+pub reads_keys : (version messages : ℕ) (es : List DirectoryEntry) → messages < 2 ^ 32
+    → AllByRecursion (IsEntry version) es
     → AllByRecursion (λ e. IsList messages e.postings) es → ReadsKeys version messages es
 reads_keys version messages [] l h p = record { spelled = refl; each = tt }
 reads_keys version messages (e ∷ es) l h p =
     let r = reads_list messages e.postings l p.0 in
     let more = reads_keys version messages es l h.1 p.1 in
-    let head : entry_of (key_of e) ≡ e = λ i. record { kind = e.kind; text = e.text; postings = r.spelled i } in
-    let tail : map entry_of (map key_of es) ≡ es = more.spelled in
+    let head : entry_of_key (key_of e) ≡ e = λ i. record { kind = e.kind; text = e.text; postings = r.spelled i } in
+    let tail : map entry_of_key (map key_of es) ≡ es = more.spelled in
     record {
       spelled = λ i. head i ∷ tail i;
       each = (
@@ -103,11 +105,11 @@ some_postings [] l = absurd (omega (arith, l))
 some_postings (n ∷ ns) l = grind (arith, postings, leb_some, postings_from)
 
 pub lists_of_keys : (version messages : ℕ) (ks : List Key) → AllByRecursion (IsKey version messages) ks
-    → AllByRecursion (λ e. IsList messages e.postings) (map entry_of ks)
+    → AllByRecursion (λ e. IsList messages e.postings) (map entry_of_key ks)
 lists_of_keys version messages [] h = tt
 lists_of_keys version messages (k ∷ ks) h = grind (arith, some_postings, lists_of_keys version messages ks h.1)
 
-pub keys_in_order : (ks : List Key) → AllNext EntryBefore (map entry_of ks) → AllNext KeyBefore ks
+pub keys_in_order : (ks : List Key) → AllNext EntryBefore (map entry_of_key ks) → AllNext KeyBefore ks
 keys_in_order [] h = tt
 keys_in_order (k ∷ []) h = tt
 keys_in_order (k ∷ l ∷ ks) h = (h.0, keys_in_order (l ∷ ks) h.1)

@@ -16,8 +16,8 @@ abbrev pub kept_archive : NamedArchive → Archive
 kept_archive a = record { path = string_bytes a.path; length = a.length; digest = Some a.digest }
 
 -- the draft of these fields
-abbrev pub draft_of : ℕ → Option (String Global) → Bool → List NamedArchive → List Record → List Key → Draft
-draft_of most path in_message archives records keys = record {
+abbrev pub draft_of_fields : ℕ → Option (String Global) → Bool → List NamedArchive → List Record → List Key → Draft
+draft_of_fields most path in_message archives records keys = record {
   most = most;
   path = option_map string_bytes path;
   in_message = in_message;

@@ -18,11 +18,11 @@ abbrev pub front_of : Kind → List ℕ → ℕ
 front_of kind text = number_of_first 8 (kind_number kind ∷ text)
 
 -- the text consists of bytes, and the front is that of its key
-pub record IsFrontOf (kind : Kind) (text : List ℕ) (front : ℕ) : Type 0 where
+pub record IsFrontOfKey (kind : Kind) (text : List ℕ) (front : ℕ) : Type 0 where
   pub bytes : AllByRecursion (λ b. b < 256) text
   pub value : front ≡ front_of kind text
 
 -- the slot has the number of an entry, and the front of its key
 pub record IsFronted (entries : List Key) (slot : Fronted) : Type 0 where
   pub within : slot.number < length entries
-  pub front : IsFrontOf (key_at entries slot.number).kind (key_at entries slot.number).text slot.front
+  pub front : IsFrontOfKey (key_at entries slot.number).kind (key_at entries slot.number).text slot.front

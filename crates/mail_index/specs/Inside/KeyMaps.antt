@@ -18,7 +18,7 @@ use Rattle.mail_index.specs.PostingLists.{with_number, numbers_of, IsPosted}
 use Rattle.mail_index.specs.Kinds.{kind_number, kind_of_number}
 use Rattle.mail_index.specs.LookUps.{lies_to, AreSorted}
 use Rattle.mail_index.specs.KeysRead.{key_at}
-use Rattle.mail_index.specs.Inside.KeyFronts.{IsFrontOf, IsFronted}
+use Rattle.mail_index.specs.Inside.KeyFronts.{IsFrontOfKey, IsFronted}
 
 -- a key of one message
 abbrev pub new_key : Kind → List ℕ → ℕ → Key
@@ -78,8 +78,8 @@ abbrev pub IsEntryOf : Kind → List ℕ → List Key → ℕ → Type 0
 IsEntryOf kind text entries number = (number < length entries) × (lies_to kind text (key_at entries number) ≡ Equal)
 
 -- the keys of the entries with these numbers
-abbrev pub placed : List Key → List ℕ → List Key
-placed entries order = map (key_at entries) order
+abbrev pub keys_by_numbers : List Key → List ℕ → List Key
+keys_by_numbers entries order = map (key_at entries) order
 
 -- i is one of these numbers
 abbrev pub IsAmong : ℕ → List ℕ → Type 0
@@ -88,7 +88,7 @@ IsAmong i (j ∷ js) = (j ≡ i) ⊎ IsAmong i js
 
 -- the order has the number of each entry once, and sorts the entries by their keys
 pub record IsOrder (entries : List Key) (order : List ℕ) : Type 0 where
-  pub sorted : AreSorted (placed entries order)
+  pub sorted : AreSorted (keys_by_numbers entries order)
   pub within : AllByRecursion (λ i. i < length entries) order
   pub whole : (i : ℕ) → i < length entries → IsAmong i order
   pub count : length order ≡ length entries
@@ -145,7 +145,7 @@ numbers_of_slots slots = map (λ (slot : Fronted). slot.number) slots
 
 -- the keys of the entries with these numbers
 abbrev pub slot_keys : List Key → List Fronted → List Key
-slot_keys entries slots = placed entries (numbers_of_slots slots)
+slot_keys entries slots = keys_by_numbers entries (numbers_of_slots slots)
 
 -- the slot for this number at a place
 abbrev pub slot_for : ℕ → Place → Fronted
@@ -165,7 +165,7 @@ place_in order place = position (rows order.pages.items) place.page place.at
 
 -- the keys in the order
 abbrev pub keys_in : List Key → KeyOrder → List Key
-keys_in entries order = placed entries (numbers_in order)
+keys_in entries order = keys_by_numbers entries (numbers_in order)
 
 -- there is a head between each page and the next, and the order has the number of each entry, with its key's front
 pub record AreInStep (entries : List Key) (order : KeyOrder) : Type 0 where
@@ -183,7 +183,7 @@ pub record IsPlaceFor (kind : Kind) (text : List ℕ) (entries : List Key) (orde
   where
     pub inside : IsPlaceIn order.pages.items place
     pub gap : IsGap kind text (keys_in entries order) (place_in order place)
-    pub front : IsFrontOf kind text place.front
+    pub front : IsFrontOfKey kind text place.front
 
 -- ---- faults
 

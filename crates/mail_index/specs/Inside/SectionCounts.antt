@@ -13,8 +13,8 @@ use Rattle.mail_index.specs.Files.{counts}
 use Rattle.mail_index.specs.Inside.KeyParts.{keys_from}
 
 -- the counts as fields of the file
-abbrev pub counted : Counts → List (List ℕ)
-counted c =
+abbrev pub count_fields : Counts → List (List ℕ)
+count_fields c =
     magic ∷ be32 newest ∷ be32 c.archives ∷ be32 c.messages ∷ be32 c.keys ∷ be64 c.archive_bytes ∷ be64 c.text_bytes ∷
     be64 c.posting_bytes ∷ []
 

@@ -18,14 +18,15 @@ pub record Signs (old new : Option (List ℕ)) (s t : Signer) (bytes : List ℕ)
   pub digest : Absorbs s.hasher t.hasher sent
 
 -- of the gathered bytes and these ones, only a front was written
-abbrev pub BreaksOff : Option (List ℕ) → Option (List ℕ) → Signer → List ℕ → Type 0
-BreaksOff old new s bytes = Sends old new (s.pending ++ bytes)
+abbrev pub StopsSigning : Option (List ℕ) → Option (List ℕ) → Signer → List ℕ → Type 0
+StopsSigning old new s bytes = Sends old new (s.pending ++ bytes)
 
 -- what a call that writes these bytes does: it signs them, or only a front of them was written because the output
 -- failed
-abbrev pub Writes : {T E : Type 0} → Result T E → Option (List ℕ) → Option (List ℕ) → Signer → Signer → List ℕ → Type 0
-Writes (Ok _) old new s t bytes = Signs old new s t bytes
-Writes (Err _) old new s t bytes = BreaksOff old new s bytes
+abbrev pub WritesSigned : {T E : Type 0} → Result T E → Option (List ℕ) → Option (List ℕ) → Signer → Signer → List ℕ
+    → Type 0
+WritesSigned (Ok _) old new s t bytes = Signs old new s t bytes
+WritesSigned (Err _) old new s t bytes = StopsSigning old new s bytes
 
 -- of the whole, all but the rest was written so far
 pub record IsSigning (old new : Option (List ℕ)) (s t : Signer) (whole rest : List ℕ) : Type 0 where

@@ -5,7 +5,7 @@ ghost use Rattle.contract_words.specs.Answers.{Gives};
 ghost use Rattle.contract_words.specs.Devices.{Counted, Sends};
 ghost use Rattle.mail_index.specs.Files.{HasSmallSections, index_file};
 ghost use Rattle.mail_index.specs.Tables.{IsPath, IsWellFormed};
-ghost use Rattle.mail_index.specs.Builders.{empty_draft, begun_archive, begun_message, added, ended_message, ended_archive, refusal, is_output_failure, stepped, archive_count, end_of, IsNextMessage, IsBetweenArchives, IsInArchive, IsInMessage, IsWithinMost, HasPair};
+ghost use Rattle.mail_index.specs.Builders.{empty_draft, draft_in_archive, draft_in_message, draft_with_key, draft_after_message, draft_after_archive, build_refusal, is_output_failure, draft_after, archive_count, end_of, IsNextMessage, IsBetweenArchives, IsInArchive, IsInMessage, IsWithinMost, HasPair};
 ghost use Rattle.mail_index.specs.Limits.{most_in_archive, most_in_index, most_in_key};
 
 use crate::build::build_fault::{BuildFault, WriteFault};
@@ -62,8 +62,8 @@ impl Builder {
     pub fn begin_archive(&mut self, path: &str) -> Result<(), BuildFault>
         requires phase { IfSome self.old IsBetweenArchives }
         requires path { IfSome self.old (λ _. IsPath path.now) }
-        ensures gives { Gives (λ _. self.new) refusal result
-            (stepped (begun_archive path.now) self.old) }
+        ensures gives { Gives (λ _. self.new) build_refusal result
+            (draft_after (draft_in_archive path.now) self.old) }
         ensures empty { IfSome self.new (λ d. end_of (archive_count d) d.table.messages ≡ 0) }
         ensures lost { OnErr result (self.new ≡ None) }
         ensures failed { IfNone self.old (result ≡ Err BuildFault.Failed) }
@@ -82,7 +82,8 @@ impl Builder {
     /// `TooMany` if there would be more than `most` messages, and `Failed` if nothing is left after an earlier call.
     pub fn begin_message(&mut self) -> Result<(), BuildFault>
         requires { IfSome self.old IsInArchive }
-        ensures gives { Gives (λ _. self.new) refusal result (stepped begun_message self.old) }
+        ensures gives { Gives (λ _. self.new) build_refusal result
+            (draft_after draft_in_message self.old) }
         ensures lost { OnErr result (self.new ≡ None) }
         ensures failed { IfNone self.old (result ≡ Err BuildFault.Failed) }
     {
@@ -104,8 +105,8 @@ impl Builder {
         requires phase { IfSome self.old IsInMessage }
         requires some { IfSome self.old (λ _. 0 < length text.now) }
         requires short { IfSome self.old (λ _. length text.now ≤ most_in_key) }
-        ensures gives { Gives (λ _. self.new) refusal result
-            (stepped (added kind text.now) self.old) }
+        ensures gives { Gives (λ _. self.new) build_refusal result
+            (draft_after (draft_with_key kind text.now) self.old) }
         ensures lost { OnErr result (self.new ≡ None) }
         ensures failed { IfNone self.old (result ≡ Err BuildFault.Failed) }
     {
@@ -154,8 +155,8 @@ impl Builder {
         requires phase { IfSome self.old IsInMessage }
         requires some { IfSome self.old (λ _. 0 < length text.now) }
         requires short { IfSome self.old (λ _. length text.now ≤ most_in_key) }
-        ensures gives { Gives (λ _. self.new) refusal result
-            (stepped (added kind text.now) self.old) }
+        ensures gives { Gives (λ _. self.new) build_refusal result
+            (draft_after (draft_with_key kind text.now) self.old) }
         ensures lost { OnErr result (self.new ≡ None) }
         ensures failed { IfNone self.old (result ≡ Err BuildFault.Failed) }
     {
@@ -172,8 +173,8 @@ impl Builder {
     pub fn end_message(&mut self, message: Record) -> Result<(), BuildFault>
         requires phase { IfSome self.old IsInMessage }
         requires next { IfSome self.old (λ d. IsNextMessage d message) }
-        ensures gives { Gives (λ _. self.new) refusal result
-            (stepped (ended_message message) self.old) }
+        ensures gives { Gives (λ _. self.new) build_refusal result
+            (draft_after (draft_after_message message) self.old) }
         ensures lost { OnErr result (self.new ≡ None) }
         ensures failed { IfNone self.old (result ≡ Err BuildFault.Failed) }
     {
@@ -192,8 +193,8 @@ impl Builder {
         requires phase { IfSome self.old IsInArchive }
         requires within { IfSome self.old (λ _. length ≤ most_in_archive) }
         requires last { IfSome self.old (λ d. end_of (archive_count d) d.table.messages ≤ length) }
-        ensures gives { Gives (λ _. self.new) refusal result
-            (stepped (ended_archive length digest) self.old) }
+        ensures gives { Gives (λ _. self.new) build_refusal result
+            (draft_after (draft_after_archive length digest) self.old) }
         ensures within { IfSome self.new IsWithinMost }
         ensures lost { OnErr result (self.new ≡ None) }
         ensures failed { IfNone self.old (result ≡ Err BuildFault.Failed) }

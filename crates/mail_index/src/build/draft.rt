@@ -6,9 +6,9 @@ ghost use Rattle.contract_words.specs.Answers.{Gives};
 ghost use Rattle.contract_words.specs.Devices.{Counts as CountsFailures, Sends};
 ghost use Rattle.mail_index.specs.Files.{HasSmallSections, body, index_file};
 ghost use Rattle.mail_index.specs.Inside.SectionCounts.{IsCountOf, counted_length, section_of};
-ghost use Rattle.mail_index.specs.Inside.Signing.{Writes};
+ghost use Rattle.mail_index.specs.Inside.Signing.{WritesSigned};
 ghost use Rattle.mail_index.specs.Tables.{IsPath, IsWellFormed};
-ghost use Rattle.mail_index.specs.Builders.{empty_draft, begun_archive, begun_message, added, ended_message, ended_archive, refusal, archive_count, end_of, IsNextMessage, IsBetweenArchives, IsInMessage, IsWithinMost, HasPair};
+ghost use Rattle.mail_index.specs.Builders.{empty_draft, draft_in_archive, draft_in_message, draft_with_key, draft_after_message, draft_after_archive, build_refusal, archive_count, end_of, IsNextMessage, IsBetweenArchives, IsInMessage, IsWithinMost, HasPair};
 ghost use Rattle.mail_index.specs.Limits.{four_byte_limit, most_in_archive, most_in_index};
 
 use crate::build::build_fault::BuildFault;
@@ -49,15 +49,16 @@ pub(crate) struct Draft {
 
 impl Model for Draft {
     ghost use Rattle.mail_index.specs.Builders.{Draft as Drafted};
-    ghost use Rattle.mail_index.specs.Inside.Drafts.{draft_of, IsDraft};
+    ghost use Rattle.mail_index.specs.Inside.Drafts.{draft_of_fields, IsDraft};
 
     ghost Value = { Drafted };
 
     ghost view = { λ s.
-        draft_of s.most s.path s.in_message s.archives.items s.records.items s.keys };
+        draft_of_fields s.most s.path s.in_message s.archives.items s.records.items s.keys };
 
     ghost invariant = { λ s.
-        IsDraft (draft_of s.most s.path s.in_message s.archives.items s.records.items s.keys) };
+        IsDraft (draft_of_fields s.most s.path s.in_message s.archives.items s.records.items
+        s.keys) };
 }
 
 impl Draft {
@@ -82,7 +83,8 @@ impl Draft {
     pub(crate) fn begin_archive(&mut self, alloc: Global, path: &str) -> Result<(), BuildFault>
         requires phase { self.old.path ≡ None }
         requires path { IsPath path.now }
-        ensures gives { Gives (λ _. self.new) refusal result (begun_archive path.now self.old) }
+        ensures gives { Gives (λ _. self.new) build_refusal result
+            (draft_in_archive path.now self.old) }
         ensures empty { OnOk result (end_of (archive_count self.new) self.new.table.messages ≡ 0) }
     {
         if self.archives.len() >= self.most as usize {
@@ -94,7 +96,7 @@ impl Draft {
 
     /// Opens a message. Fails if there is no room for it.
     pub(crate) fn begin_message(&mut self) -> Result<(), BuildFault>
-        ensures { Gives (λ _. self.new) refusal result (begun_message self.old) }
+        ensures { Gives (λ _. self.new) build_refusal result (draft_in_message self.old) }
     {
         if self.records.len() >= self.most as usize {
             return Err(BuildFault::TooMany);
@@ -114,7 +116,8 @@ impl Draft {
         requires phase { self.old.in_message ≡ true }
         requires some { 0 < length text.now }
         requires short { length text.now < four_byte_limit }
-        ensures { Gives (λ _. self.new) refusal result (added kind text.now self.old) }
+        ensures { Gives (λ _. self.new) build_refusal result
+            (draft_with_key kind text.now self.old) }
     {
         let number = self.records.len() as u32;
         self.keys.add(alloc, kind, text, number, self.most, place)
@@ -124,7 +127,8 @@ impl Draft {
     pub(crate) fn end_message(&mut self, message: Record) -> Result<(), BuildFault>
         requires phase { IsInMessage self.old }
         requires next { IsNextMessage self.old message }
-        ensures { Gives (λ _. self.new) refusal result (ended_message message self.old) }
+        ensures { Gives (λ _. self.new) build_refusal result
+            (draft_after_message message self.old) }
     {
         self.records.push(message)?;
         self.in_message = false;
@@ -136,8 +140,8 @@ impl Draft {
         requires phase { IsSome self.old.path }
         requires length { length ≤ most_in_archive }
         requires last { end_of (archive_count self.old) self.old.table.messages ≤ length }
-        ensures gives { Gives (λ _. self.new) refusal result
-            (ended_archive length digest self.old) }
+        ensures gives { Gives (λ _. self.new) build_refusal result
+            (draft_after_archive length digest self.old) }
         ensures within { IsWithinMost self.new }
     {
         let path = self.path.take().unwrap();
@@ -221,7 +225,8 @@ impl Draft {
         requires failures { O.failures out.old < 2 ^ 64 - 1 }
         requires counts { IsCountOf self.now.table counts.now }
         requires small { counted_length counts.now < 2 ^ 64 }
-        ensures written { Writes result (O.taken out.old) (O.taken out.new) signer.old signer.new
+        ensures written { WritesSigned result (O.taken out.old)
+            (O.taken out.new) signer.old signer.new
             (flat_map (section_of self.now.table) sections.now) }
         ensures count { CountsFailures result (O.failures out.old) (O.failures out.new) }
     {
@@ -242,7 +247,8 @@ impl Draft {
         requires failures { O.failures out.old < 2 ^ 64 - 1 }
         requires counts { IsCountOf self.now.table counts.now }
         requires small { counted_length counts.now < 2 ^ 64 }
-        ensures written { Writes result (O.taken out.old) (O.taken out.new) signer.old signer.new
+        ensures written { WritesSigned result (O.taken out.old)
+            (O.taken out.new) signer.old signer.new
             (section_of self.now.table section) }
         ensures count { CountsFailures result (O.failures out.old) (O.failures out.new) }
     {

@@ -5,7 +5,7 @@ ghost use Rattle.std.specs.List.{concat};
 ghost use Rattle.sha2.specs.Hashers.{Holds256};
 ghost use Rattle.sha2.specs.Sha256.{sha256};
 ghost use Rattle.contract_words.specs.Devices.{Counts, Sends};
-ghost use Rattle.mail_index.specs.Inside.Signing.{Absorbs, Writes};
+ghost use Rattle.mail_index.specs.Inside.Signing.{Absorbs, WritesSigned};
 
 use crate::build::pending::{Pending, ROOM};
 use mbox_cutter::{DeviceFault, Out, send};
@@ -63,7 +63,7 @@ impl Signer {
     /// Writes the gathered bytes. Then gathers the new ones if there is room for them, and writes them if not.
     fn send_past<O: Out>(&mut self, out: &mut O, bytes: &[u8]) -> Result<(), DeviceFault>
         requires { O.failures out.old < 2 ^ 64 - 1 }
-        ensures written { Writes result (O.taken out.old) (O.taken out.new) self.old self.new
+        ensures written { WritesSigned result (O.taken out.old) (O.taken out.new) self.old self.new
             bytes.now }
         ensures count { Counts result (O.failures out.old) (O.failures out.new) }
     {
@@ -86,7 +86,7 @@ pub(crate) fn send_signed<O: Out>(
     bytes: &[u8],
 ) -> Result<(), DeviceFault>
     requires { O.failures out.old < 2 ^ 64 - 1 }
-    ensures written { Writes result (O.taken out.old) (O.taken out.new) signer.old signer.new
+    ensures written { WritesSigned result (O.taken out.old) (O.taken out.new) signer.old signer.new
         bytes.now }
     ensures count { Counts result (O.failures out.old) (O.failures out.new) }
 {
@@ -104,7 +104,7 @@ pub(crate) fn send_parts<O: Out>(
     parts: &[&[u8]],
 ) -> Result<(), DeviceFault>
     requires { O.failures out.old < 2 ^ 64 - 1 }
-    ensures written { Writes result (O.taken out.old) (O.taken out.new) signer.old signer.new
+    ensures written { WritesSigned result (O.taken out.old) (O.taken out.new) signer.old signer.new
         (concat (map (λ part. part.now) parts.now)) }
     ensures count { Counts result (O.failures out.old) (O.failures out.new) }
 {

@@ -1,5 +1,5 @@
 //! Fronts of keys. If the fronts of two keys differ, the key with the smaller front comes first.
-ghost use Rattle.mail_index.specs.Inside.KeyFronts.{IsFrontOf};
+ghost use Rattle.mail_index.specs.Inside.KeyFronts.{IsFrontOfKey};
 
 use crate::kind::Kind;
 
@@ -18,7 +18,7 @@ pub(crate) struct Fronted {
 
 /// The kind's number and the first seven bytes of the text, filled up with zeros, as one number.
 pub(crate) fn front_of_key(kind: Kind, text: &[u8]) -> u64
-    ensures { IsFrontOf kind text.now result }
+    ensures { IsFrontOfKey kind text.now result }
 {
     let length = text.len().min(TEXT_BYTES);
     let mut bytes = [0; TEXT_BYTES + 1];

@@ -2,7 +2,7 @@
 ghost use Rattle.std.specs.Prelude.{◌≡◌, ◌<◌, ◌≤◌, ℕ, suc, length, IfOk, IfErr};
 ghost use Rattle.std.specs.declared.cmp.Ordering.TheVariants.{Less, Equal, Greater};
 ghost use Rattle.std.specs.List.{AllByRecursion};
-ghost use Rattle.mail_index.specs.Inside.KeyFronts.{IsFrontOf, IsFronted};
+ghost use Rattle.mail_index.specs.Inside.KeyFronts.{IsFrontOfKey, IsFronted};
 ghost use Rattle.mail_index.specs.Inside.KeyMaps.{slot_keys, IsEntryOf, AreBounds, IsGap};
 ghost use Rattle.mail_index.specs.KeysRead.{key_at};
 ghost use Rattle.mail_index.specs.LookUps.{lies_to};
@@ -26,7 +26,7 @@ pub(crate) fn search(
     text: &[u8],
 ) -> Result<u32, usize>
     requires fronted { AllByRecursion (IsFronted entries.now) slots.now }
-    requires front { IsFrontOf kind text.now front }
+    requires front { IsFrontOfKey kind text.now front }
     ensures found { IfOk result (IsEntryOf kind text.now entries.now) }
     ensures place { IfErr result (IsGap kind text.now (slot_keys entries.now slots.now)) }
 {
@@ -53,7 +53,7 @@ fn bounds(
     text: &[u8],
 ) -> (usize, usize)
     requires fronted { AllByRecursion (IsFronted entries.now) slots.now }
-    requires front { IsFrontOf kind text.now front }
+    requires front { IsFrontOfKey kind text.now front }
     ensures { AreBounds kind text.now (slot_keys entries.now slots.now) result.0 result.1 }
 {
     let (smaller, larger) = guessed_bounds(slots, front);
@@ -76,7 +76,7 @@ fn bound_behind(
     smaller: usize,
 ) -> usize
     requires fronted { AllByRecursion (IsFronted entries.now) slots.now }
-    requires front { IsFrontOf kind text.now front }
+    requires front { IsFrontOfKey kind text.now front }
     ensures below { (j : ℕ) → suc j ≡ result
         → lies_to kind text.now (key_at (slot_keys entries.now slots.now) j) ≡ Less }
 {
@@ -98,7 +98,7 @@ fn bound_at(
     larger: usize,
 ) -> usize
     requires fronted { AllByRecursion (IsFronted entries.now) slots.now }
-    requires front { IsFrontOf kind text.now front }
+    requires front { IsFrontOfKey kind text.now front }
     ensures within { result ≤ length slots.now }
     ensures above { result < length slots.now
         → lies_to kind text.now (key_at (slot_keys entries.now slots.now) result) ≡ Greater }
@@ -128,7 +128,7 @@ fn guessed_bounds(slots: &[Fronted], front: u64) -> (usize, usize) {
 /// Compares the key of a slot with this one, which has this front. Reads the entry only if the fronts are equal.
 fn compare(slot: Fronted, entries: &[KeyEntry], front: u64, kind: Kind, text: &[u8]) -> Ordering
     requires slot { IsFronted entries.now slot }
-    requires front { IsFrontOf kind text.now front }
+    requires front { IsFrontOfKey kind text.now front }
     ensures { result ≡ lies_to kind text.now (key_at entries.now slot.number) }
 {
     match slot.front.cmp(&front) {

@@ -1,9 +1,9 @@
 //! The sections of an index file about its keys: directory, texts and postings.
 ghost use Rattle.std.specs.Prelude.{◌≡◌, ◌-◌, ◌^◌, ◌<◌, length, map};
 ghost use Rattle.contract_words.specs.Devices.{Counts};
-ghost use Rattle.mail_index.specs.Files.{entry_of, texts_of, postings_of};
+ghost use Rattle.mail_index.specs.Files.{entry_of_key, texts_of, postings_of};
 ghost use Rattle.mail_index.specs.Inside.KeyParts.{key_part, keys_from};
-ghost use Rattle.mail_index.specs.Inside.Signing.{Writes};
+ghost use Rattle.mail_index.specs.Inside.Signing.{WritesSigned};
 
 use crate::build::file_out::{Signer, send_parts, send_signed};
 use crate::build::key_entry::KeyEntry;
@@ -12,10 +12,10 @@ use mbox_cutter::{DeviceFault, Out};
 
 /// The number of bytes of the keys' texts, and of their postings.
 pub(crate) fn key_bytes(keys: KeysInOrder<'_>) -> (u64, u64)
-    requires texts { length (texts_of (map entry_of keys)) < 2 ^ 64 }
-    requires postings { length (postings_of (map entry_of keys)) < 2 ^ 64 }
-    ensures texts { result.0 ≡ length (texts_of (map entry_of keys.entry)) }
-    ensures postings { result.1 ≡ length (postings_of (map entry_of keys.entry)) }
+    requires texts { length (texts_of (map entry_of_key keys)) < 2 ^ 64 }
+    requires postings { length (postings_of (map entry_of_key keys)) < 2 ^ 64 }
+    ensures texts { result.0 ≡ length (texts_of (map entry_of_key keys.entry)) }
+    ensures postings { result.1 ≡ length (postings_of (map entry_of_key keys.entry)) }
 {
     let mut texts = 0;
     let mut postings = 0;
@@ -42,10 +42,10 @@ pub(crate) fn send_keys<O: Out>(
     keys: KeysInOrder<'_>,
 ) -> Result<(), DeviceFault>
     requires count { O.failures out.old < 2 ^ 64 - 1 }
-    requires texts { length (texts_of (map entry_of keys)) < 2 ^ 64 }
-    requires postings { length (postings_of (map entry_of keys)) < 2 ^ 64 }
-    ensures written { Writes result (O.taken out.old) (O.taken out.new) signer.old signer.new
-        (keys_from part 0 0 (map entry_of keys.entry)) }
+    requires texts { length (texts_of (map entry_of_key keys)) < 2 ^ 64 }
+    requires postings { length (postings_of (map entry_of_key keys)) < 2 ^ 64 }
+    ensures written { WritesSigned result (O.taken out.old) (O.taken out.new) signer.old signer.new
+        (keys_from part 0 0 (map entry_of_key keys.entry)) }
     ensures count { Counts result (O.failures out.old) (O.failures out.new) }
 {
     let mut text_place = 0;
@@ -71,8 +71,8 @@ fn send_key<O: Out>(
     place: u64,
 ) -> Result<(), DeviceFault>
     requires { O.failures out.old < 2 ^ 64 - 1 }
-    ensures written { Writes result (O.taken out.old) (O.taken out.new) signer.old signer.new
-        (key_part part text_place place (entry_of key.now)) }
+    ensures written { WritesSigned result (O.taken out.old) (O.taken out.new) signer.old signer.new
+        (key_part part text_place place (entry_of_key key.now)) }
     ensures count { Counts result (O.failures out.old) (O.failures out.new) }
 {
     match part {

@@ -4,8 +4,8 @@ ghost use Rattle.std.specs.Prelude.{length, ◌≡◌, ◌-◌, ◌^◌, ◌<◌
 ghost use Rattle.contract_words.specs.Devices.{Counts as CountsFailures};
 ghost use Rattle.mail_index.specs.Files.{archive_bytes, record_bytes, bit, date_number};
 ghost use Rattle.mail_index.specs.Inside.Drafts.{kept_archive};
-ghost use Rattle.mail_index.specs.Inside.SectionCounts.{counted};
-ghost use Rattle.mail_index.specs.Inside.Signing.{Writes};
+ghost use Rattle.mail_index.specs.Inside.SectionCounts.{count_fields};
+ghost use Rattle.mail_index.specs.Inside.Signing.{WritesSigned};
 
 use crate::build::draft::NamedArchive;
 use crate::build::file_out::{Signer, send_parts};
@@ -53,8 +53,8 @@ pub(crate) fn send_counts<O: Out>(
     counts: &Counts,
 ) -> Result<(), DeviceFault>
     requires { O.failures out.old < 2 ^ 64 - 1 }
-    ensures written { Writes result (O.taken out.old) (O.taken out.new) signer.old signer.new
-        (concat (counted counts.now)) }
+    ensures written { WritesSigned result (O.taken out.old) (O.taken out.new) signer.old signer.new
+        (concat (count_fields counts.now)) }
     ensures count { CountsFailures result (O.failures out.old) (O.failures out.new) }
 {
     let numbers = [
@@ -99,7 +99,7 @@ pub(crate) fn send_archives<O: Out>(
     archives: &[NamedArchive],
 ) -> Result<(), DeviceFault>
     requires { O.failures out.old < 2 ^ 64 - 1 }
-    ensures written { Writes result (O.taken out.old) (O.taken out.new) signer.old signer.new
+    ensures written { WritesSigned result (O.taken out.old) (O.taken out.new) signer.old signer.new
         (flat_map archive_bytes (map kept_archive archives.now)) }
     ensures count { CountsFailures result (O.failures out.old) (O.failures out.new) }
 {
@@ -128,7 +128,7 @@ pub(crate) fn send_records<O: Out>(
     messages: &[Record],
 ) -> Result<(), DeviceFault>
     requires { O.failures out.old < 2 ^ 64 - 1 }
-    ensures written { Writes result (O.taken out.old) (O.taken out.new) signer.old signer.new
+    ensures written { WritesSigned result (O.taken out.old) (O.taken out.new) signer.old signer.new
         (flat_map record_bytes messages.now) }
     ensures count { CountsFailures result (O.failures out.old) (O.failures out.new) }
 {

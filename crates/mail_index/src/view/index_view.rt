@@ -1,7 +1,7 @@
 //! An index file read in place.
 ghost use Rattle.std.specs.Prelude.{◌≡◌, ◌<◌, [], length, map, IsOk, IfOk, IfErr};
 ghost use Rattle.std.specs.List.{slice_get};
-ghost use Rattle.mail_index.specs.Faults.{IsFileOf, IsFirstFault};
+ghost use Rattle.mail_index.specs.Faults.{IsFileOfTable, IsFirstFaultOfFile};
 ghost use Rattle.mail_index.specs.Steps.{add_steps};
 
 use crate::fields::u32_at;
@@ -48,10 +48,10 @@ impl<'a> IndexView<'a> {
     /// Opens the index file in these bytes, of version 1 or 2, or returns the first thing that is wrong with them.
     /// Every file of a well-formed table is accepted. Takes no memory.
     pub fn open(bytes: &'a [u8]) -> Result<IndexView<'a>, IndexFault>
-        ensures ok { IfOk result (λ table. IsFileOf bytes.entry.now table) }
-        ensures fault { IfErr result (λ fault. IsFirstFault bytes.entry.now fault) }
-        ensures accepts { (t : Table) → IsFileOf bytes.entry.now t → IsOk result }
-        ensures same { (t : Table) → IsFileOf bytes.entry.now t → IfOk result (λ table. table ≡ t) }
+        ensures ok { IfOk result (λ table. IsFileOfTable bytes.entry.now table) }
+        ensures fault { IfErr result (λ fault. IsFirstFaultOfFile bytes.entry.now fault) }
+        ensures accepts { (t : Table) → IsFileOfTable bytes.entry.now t → IsOk result }
+        ensures same { (t : Table) → IsFileOfTable bytes.entry.now t → IfOk result (λ table. table ≡ t) }
     {
         let version = signed_version(bytes)?;
         let Some(layout) = Layout::of(bytes, version) else {
@@ -81,8 +81,8 @@ impl<'a> IndexView<'a> {
     /// Opens bytes that are known to be an index file, such as a file that was just written into memory. Checks neither
     /// its digest nor its sections. Takes no memory.
     pub fn of_file(bytes: &'a [u8]) -> IndexView<'a>
-        requires { (t : Table) × IsFileOf bytes.now t }
-        ensures { (t : Table) → IsFileOf bytes.entry.now t → result ≡ t }
+        requires { (t : Table) × IsFileOfTable bytes.now t }
+        ensures { (t : Table) → IsFileOfTable bytes.entry.now t → result ≡ t }
     {
         // The file of a table has a known version, and its sections' lengths add up to its own.
         let Some(version) = Version::of(u32_at(bytes, VERSION_AT)) else {

@@ -3,7 +3,7 @@ ghost use Rattle.std.specs.Prelude.{◌≡◌, ◌↔◌, ◌+◌, ◌*◌, ◌�
 ghost use Rattle.mail_index.specs.Places.{digest_size, least_size, entry_size};
 ghost use Rattle.mail_index.specs.Versions.{version_number};
 ghost use Rattle.sha2.specs.Sha256.{sha256};
-ghost use Rattle.mail_index.specs.Faults.{version_told, HasDigest, IsSigned, IsFirstFault, digest_start};
+ghost use Rattle.mail_index.specs.Faults.{version_told, HasDigest, IsSigned, IsFirstFaultOfFile, digest_start};
 
 use crate::fields::{u32_at, u64_at};
 use crate::places::{
@@ -36,7 +36,7 @@ pub(crate) struct Layout<'a> {
 pub(crate) fn signed_version(bytes: &[u8]) -> Result<Version, IndexFault>
     ensures { MatchResult result
         (λ version. IsSigned bytes.now × (version_number version ≡ version_told bytes.now))
-        (λ fault. IsFirstFault bytes.now fault) }
+        (λ fault. IsFirstFaultOfFile bytes.now fault) }
 {
     if bytes.len() < LEAST_FILE {
         return Err(IndexFault::TooShort);

@@ -3,15 +3,18 @@ use Rattle.mail_query.proofs.Words.{◌≡◌, ℕ, suc, ◌+◌, ◌<◌, Bool,
 use Rattle.mail_query.proofs.Words.{◌++◌, length, map, Option, None, Some, Result, Ok, Err, refl, sym, ap, ◌∙◌}
 use Rattle.mail_query.proofs.Words.{append_assoc, append-nil, add-one, arith, ◌&&◌, is_ok, option_and_then, not-true}
 use Rattle.mail_query.proofs.Words.{◌>>=◌, fault_as, Field, Fields, QueryFault, QueryFaultKind, Phrase, Lexicon, Query}
-use Rattle.mail_query.proofs.Words.{Not, all_of, either_of, Token, Close, AndSign, OrSign, Parts, parts_of, no_fields}
+use Rattle.mail_query.proofs.Words.{Not, all_of, either_of, Token, Close, AndSign, OrSign, TermParts, parts_of}
+use Rattle.mail_query.proofs.Words.{no_fields}
 use Rattle.mail_query.proofs.Words.{has_field, is_phrase, parts_query, cut_query, Link, Beside, ByAnd, ByOr, Item}
 use Rattle.mail_query.proofs.Words.{NotOf, Group, Leaf, Chain, Last, Then, link_tokens, item_tokens, chain_tokens}
 use Rattle.mail_query.proofs.Words.{into_first, query_or_any, term_prefix, plain_prefix, item_query, chain_queries}
 use Rattle.mail_query.proofs.Words.{tree_query, is_fine_item, is_fine_chain, Reads, Level, Waiting, ForNot, ForClose}
-use Rattle.mail_query.proofs.Words.{State, start, empty_level, with_member, noted, run_ended, each_ended, level_query}
-use Rattle.mail_query.proofs.Words.{is_negated, placed, ended, cut_term_step, parts_step, term_step, step, run_from}
+use Rattle.mail_query.proofs.Words.{State, start, empty_level, with_member, level_with_prefix, run_ended, each_ended}
+use Rattle.mail_query.proofs.Words.{level_query}
+use Rattle.mail_query.proofs.Words.{is_negated, state_after_operand, query_at_end, cut_term_step, parts_step, term_step}
+use Rattle.mail_query.proofs.Words.{step, run_from}
 use Rattle.mail_query.proofs.Words.{tokens_query}
-use Rattle.mail_query.specs.BooleanTerms.{term_query}
+use Rattle.mail_query.specs.BooleanTerms.{boolean_term_query}
 use Rattle.mail_query.proofs.BooleanLaws.StackLemmas.{placed-settled, deeper-room}
 
 pub and_left : (a b : Bool) → (a && b) ≡ true → a ≡ true
@@ -24,7 +27,7 @@ pub and_right : (a b : Bool) → (a && b) ≡ true → b ≡ true
 and_right a b h = grind arith
 
 -- no prefix adds nothing to those seen
-pub noted-none : (negated : Bool) (level : Level) → noted negated None level ≡ level
+pub noted-none : (negated : Bool) (level : Level) → level_with_prefix negated None level ≡ level
 noted-none negated level = grind arith
 
 unfoldable pub state : List Waiting → Level → Bool → State
@@ -58,7 +61,7 @@ level_eaches level = level.eaches ++ all_of level.members ∷ []
 
 module _ (lexicon : Lexicon) where
   abbrev with_item : Item → Level → Level
-  with_item i level = with_member (noted false (plain_prefix i) level) (item_query lexicon i)
+  with_item i level = with_member (level_with_prefix false (plain_prefix i) level) (item_query lexicon i)
 
   abbrev chain_level : Chain → Level → Level
   chain_level (Last i) level = with_item i level
@@ -94,7 +97,7 @@ module _ (lexicon : Lexicon) where
   cut_term_fine : (s : State) (prefix : Option Field) (rest : List ℕ)
       → (not (has_field (seen_at s.waiting s.level) prefix) && is_ok (parts_query lexicon prefix rest)) ≡ true
       → cut_term_step lexicon s prefix rest ≡ Ok
-      (placed s.waiting (noted (is_negated s.waiting) prefix s.level)
+      (state_after_operand s.waiting (level_with_prefix (is_negated s.waiting) prefix s.level)
       (query_or_any (parts_query lexicon prefix rest)))
   unfolding seen_at
   cut_term_fine s prefix rest h =
@@ -104,24 +107,28 @@ module _ (lexicon : Lexicon) where
       rw new (go (parts_query lexicon prefix rest) (and_right (not (has_field (seen_at s.waiting s.level) prefix)) _ h))
     where
       go : (r : Result Query QueryFaultKind) → is_ok r ≡ true
-          → (r >>= (λ q. Ok (placed s.waiting (noted (is_negated s.waiting) prefix s.level) q)))
-          ≡ Ok (placed s.waiting (noted (is_negated s.waiting) prefix s.level) (query_or_any r))
+          → (r >>= (λ q. Ok (state_after_operand s.waiting (level_with_prefix (is_negated s.waiting) prefix s.level)
+          q)))
+          ≡ Ok (state_after_operand s.waiting (level_with_prefix (is_negated s.waiting) prefix s.level)
+          (query_or_any r))
       go r h = grind arith
 
   pub term_fine : (s : State) (t : List ℕ)
-      → (not (has_field (seen_at s.waiting s.level) (term_prefix t)) && is_ok (term_query lexicon t)) ≡ true
-      → term_step lexicon s t ≡ Ok (placed s.waiting (noted (is_negated s.waiting) (term_prefix t) s.level)
-      (query_or_any (term_query lexicon t)))
+      → (not (has_field (seen_at s.waiting s.level) (term_prefix t)) && is_ok (boolean_term_query lexicon t)) ≡ true
+      → term_step lexicon s t ≡ Ok (state_after_operand s.waiting
+      (level_with_prefix (is_negated s.waiting) (term_prefix t) s.level)
+      (query_or_any (boolean_term_query lexicon t)))
   term_fine s t h = go (is_phrase t) (parts_of t) h
     where
-      go : (b : Bool) (o : Option Parts) → (not
-          (has_field (seen_at s.waiting s.level) (option_and_then (λ (p : Parts). p.prefix) o)) && is_ok {T = Query}
+      go : (b : Bool) (o : Option TermParts) → (not
+          (has_field (seen_at s.waiting s.level) (option_and_then (λ (p : TermParts). p.prefix) o)) && is_ok {T = Query}
           (cond b (Err Phrase) (cut_query lexicon o))) ≡ true
           → cond b (Err Phrase) (parts_step lexicon s o)
-          ≡ Ok (placed s.waiting (noted (is_negated s.waiting) (option_and_then (λ (p : Parts). p.prefix) o) s.level)
+          ≡ Ok (state_after_operand s.waiting (level_with_prefix (is_negated s.waiting)
+          (option_and_then (λ (p : TermParts). p.prefix) o) s.level)
           (query_or_any (cond b (Err Phrase) (cut_query lexicon o))))
       go true o h = absurd (no_truth (not (has_field (seen_at s.waiting s.level)
-          (option_and_then (λ (p : Parts). p.prefix) o))) h)
+          (option_and_then (λ (p : TermParts). p.prefix) o))) h)
       go false None h = absurd (no_truth true h)
       go false (Some parts) h = cut_term_fine s parts.prefix parts.rest h
 
@@ -138,12 +145,15 @@ module _ (lexicon : Lexicon) where
       (cond b no_fields level.seen)) e ∙ h
 
   settled : (i : Item) (waiting : List Waiting) (level : Level) (ts : List Token) → is_negated waiting ≡ false
-      → steps (placed waiting (noted (is_negated waiting) (plain_prefix i) level) (item_query lexicon i)) ts
+      → steps (state_after_operand waiting (level_with_prefix (is_negated waiting) (plain_prefix i) level)
+      (item_query lexicon i)) ts
       ≡ steps (state waiting (with_item i level) false) ts
   unfolding state
   settled i waiting level ts e =
-      ap (λ (b : Bool). steps (placed waiting (noted b (plain_prefix i) level) (item_query lexicon i)) ts) e
-      ∙ ap (λ s. steps s ts) (placed-settled waiting (noted false (plain_prefix i) level) (item_query lexicon i) e)
+      ap (λ (b : Bool). steps (state_after_operand waiting (level_with_prefix b (plain_prefix i) level)
+      (item_query lexicon i)) ts) e
+      ∙ ap (λ s. steps s ts) (placed-settled waiting (level_with_prefix false (plain_prefix i) level)
+      (item_query lexicon i) e)
 
   chain_spelled : (i : Item) (l : Link) (c : Chain) (ts : List Token) → chain_tokens (Then i l c) ++ ts
       ≡ item_tokens i ++ (link_tokens l ++ (chain_tokens c ++ ts))
@@ -155,7 +165,8 @@ module _ (lexicon : Lexicon) where
     item_steps : (i : Item) (waiting : List Waiting) (level : Level) (wanted : Bool) (ts : List Token)
         → is_fine_item lexicon i (length waiting) (seen_at waiting level) ≡ true
         → steps (state waiting level wanted) (item_tokens i ++ ts)
-        ≡ steps (placed waiting (noted (is_negated waiting) (plain_prefix i) level) (item_query lexicon i)) ts
+        ≡ steps (state_after_operand waiting (level_with_prefix (is_negated waiting) (plain_prefix i) level)
+        (item_query lexicon i)) ts
     item_steps (Leaf t) waiting level wanted ts h = grind (arith, then_steps, term_fine)
     item_steps (NotOf i) waiting level wanted ts h =
         let room : length waiting < 30 = ltb-true (length waiting) 30 (and_left (ltb (length waiting) 30) _ h) in
@@ -164,7 +175,7 @@ module _ (lexicon : Lexicon) where
         ∙ and_right (ltb (length waiting) 30) _ h in
         then_steps _ (state (ForNot ∷ waiting) level true) (item_tokens i ++ ts) (deeper-room waiting ForNot level room)
         ∙ item_steps i (ForNot ∷ waiting) level true ts fine
-        ∙ ap (λ (l : Level). steps (placed waiting l (Not (item_query lexicon i))) ts)
+        ∙ ap (λ (l : Level). steps (state_after_operand waiting l (Not (item_query lexicon i))) ts)
         (sym (noted-none (is_negated waiting) level))
     item_steps (Group c) waiting level wanted ts h =
         let room : length waiting < 30 = ltb-true (length waiting) 30 (and_left (ltb (length waiting) 30) _ h) in
@@ -175,8 +186,8 @@ module _ (lexicon : Lexicon) where
         (deeper-room waiting (ForClose level) empty_level room)
         ∙ ap (steps (state (ForClose level ∷ waiting) empty_level true)) (append_assoc (chain_tokens c) (Close ∷ []) ts)
         ∙ chain_steps c (ForClose level ∷ waiting) empty_level true (Close ∷ ts) refl fine
-        ∙ ap (λ (q : Query). steps (placed waiting level q) ts) (chain_asks c)
-        ∙ ap (λ (l : Level). steps (placed waiting l (item_query lexicon (Group c))) ts)
+        ∙ ap (λ (q : Query). steps (state_after_operand waiting level q) ts) (chain_asks c)
+        ∙ ap (λ (l : Level). steps (state_after_operand waiting l (item_query lexicon (Group c))) ts)
         (sym (noted-none (is_negated waiting) level))
 
     chain_steps : (c : Chain) (waiting : List Waiting) (level : Level) (wanted : Bool) (ts : List Token)
@@ -209,12 +220,12 @@ module _ (lexicon : Lexicon) where
 
   -- ---- the whole
 
-  run_steps : (n : ℕ) (s last : State) (ts : List Token) (q : Query) → steps s ts ≡ Ok last → ended last ≡ Ok q
+  run_steps : (n : ℕ) (s last : State) (ts : List Token) (q : Query) → steps s ts ≡ Ok last → query_at_end last ≡ Ok q
       → run_from lexicon n s ts ≡ Ok q
   unfolding steps
   run_steps n s last [] q e h =
       let same : s ≡ last = cc in
-      ap (fault_as (λ kind. let f : QueryFault = record { number = n; kind = kind } in f)) (ap ended same ∙ h)
+      ap (fault_as (λ kind. let f : QueryFault = record { number = n; kind = kind } in f)) (ap query_at_end same ∙ h)
   run_steps n s last (t ∷ ts) q e h = go (step lexicon s t) e (λ next k. run_steps (n + 1) next last ts q k h)
     where
       go : (r : Result State QueryFaultKind) → (r >>= (λ next. steps next ts)) ≡ Ok last

@@ -1,11 +1,11 @@
 -- The queries of the boolean language have at most 63 levels, because at most 30 `(` and `not` are open.
 use Rattle.mail_query.proofs.Words.{◌≡◌, ℕ, suc, ◌+◌, ◌*◌, ◌-◌, ◌<◌, ◌≤◌, Bool, true, cond, ltb, ltb-true, List, []}
 use Rattle.mail_query.proofs.Words.{◌∷◌, map, Option, Result, Err, subst, arith, Fields, QueryFaultKind, Phrase, Query}
-use Rattle.mail_query.proofs.Words.{depth, all_of, either_of, Lexicon, Token, Parts, parts_of, no_fields, is_phrase}
+use Rattle.mail_query.proofs.Words.{depth, all_of, either_of, Lexicon, Token, TermParts, parts_of, no_fields, is_phrase}
 use Rattle.mail_query.proofs.Words.{cut_query, Link, Beside, ByAnd, ByOr, Item, NotOf, Group, Leaf, Chain, Last, Then}
-use Rattle.mail_query.proofs.Words.{linked, query_or_any, seen_behind, item_query, chain_queries, is_fine_item}
+use Rattle.mail_query.proofs.Words.{with_link, query_or_any, seen_behind, item_query, chain_queries, is_fine_item}
 use Rattle.mail_query.proofs.Words.{is_fine_chain, Reads}
-use Rattle.mail_query.specs.BooleanTerms.{term_query}
+use Rattle.mail_query.specs.BooleanTerms.{boolean_term_query}
 use Rattle.mail_query.proofs.BooleanLaws.BooleanComplete.{and_left, and_right}
 use Rattle.mail_query.proofs.MairixLaws.DepthLemmas.{AreShallow, depth-all_of, depth-either_of}
 
@@ -18,11 +18,11 @@ if_flat : (b : Bool) (r s : Result Query QueryFaultKind) → IsFlat r → IsFlat
 if_flat b r s h h2 = grind arith
 
 module _ (lexicon : Lexicon) where
-  term_flat : (t : List ℕ) → IsFlat (term_query lexicon t)
+  term_flat : (t : List ℕ) → IsFlat (boolean_term_query lexicon t)
   unfolding IsFlat
   term_flat t = if_flat (is_phrase t) (Err Phrase) _ (omega arith) (go (parts_of t))
     where
-      go : (o : Option Parts) → IsFlat (cut_query lexicon o)
+      go : (o : Option TermParts) → IsFlat (cut_query lexicon o)
       go o = grind arith
 
 -- ---- inside this many open `(` and `not`
@@ -37,7 +37,7 @@ eaches_shallow m [] h = tt
 eaches_shallow m (qs ∷ qss) h = (depth-all_of m qs h.0, eaches_shallow m qss h.1)
 
 linked_shallow : (m : ℕ) (l : Link) (q : Query) (qss : List (List Query)) → depth q ≤ m → AllShallow m qss
-    → AllShallow m (linked l q qss)
+    → AllShallow m (with_link l q qss)
 unfolding AreShallow AllShallow
 linked_shallow m Beside q [] h k = ((h, tt), tt)
 linked_shallow m Beside q (qs ∷ qss) h k = ((h, k.0), k.1)

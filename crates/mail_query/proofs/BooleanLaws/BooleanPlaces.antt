@@ -8,7 +8,8 @@ use Rattle.mail_query.proofs.Words.{Group, Leaf, Chain, Last, Then, link_tokens,
 use Rattle.mail_query.proofs.Words.{plain_prefix, seen_behind, Reads, is_wanted, open_count, waiting_count, is_not}
 use Rattle.mail_query.proofs.Words.{fields_before, needs_operator, err_of, deep_fault, operator_fault, close_fault}
 use Rattle.mail_query.proofs.Words.{end_fault, first_some, term_fault, token_fault, first_fault_from, first_fault}
-use Rattle.mail_query.proofs.Words.{Level, Waiting, State, is_negated, has_open, deeper, closed, ended, cut_term_step}
+use Rattle.mail_query.proofs.Words.{Level, Waiting, State, is_negated, has_open, deeper, state_after_close}
+use Rattle.mail_query.proofs.Words.{query_at_end, cut_term_step}
 use Rattle.mail_query.proofs.Words.{term_step, step, run_from, tokens_query}
 use Rattle.mail_query.proofs.BooleanLaws.BooleanComplete.{reading_answered}
 use Rattle.mail_query.proofs.BooleanLaws.BooleanTrees.{Front, Nothing, Behind, Part, Wait, WaitNot, WaitClose}
@@ -236,11 +237,11 @@ module _ (lexicon : Lexicon) where
       ∙ sym (guarded {T = State} (wanted_of ws p) MissingTerm (Ok next))
 
   same_close : (ws : List Wait) (p : Part) (back : List Token) → Shows ws p back → close_fault back
-      ≡ fault_of (closed (state_of lexicon ws p))
+      ≡ fault_of (state_after_close (state_of lexicon ws p))
   same_close ws p back s = grind (arith, open-has_open, waiting_of, waits_not, level_of)
 
   same_end : (ws : List Wait) (p : Part) (back : List Token) → Shows ws p back → end_fault back
-      ≡ fault_of (ended (state_of lexicon ws p))
+      ≡ fault_of (query_at_end (state_of lexicon ws p))
   same_end ws p back s = grind (arith, open-has_open, wanted_of, waiting_of, level_of)
 
   same_parts : (s : State) (back : List Token) (prefix : Option Field) (rest : List ℕ) → is_not back
@@ -275,7 +276,7 @@ module _ (lexicon : Lexicon) where
   same_first : (n : ℕ) (ws : List Wait) (p : Part) (ts : List Token) → Fine lexicon ws p
       → first_fault_from lexicon n (back_of ws p) ts ≡ fault_of (run_from lexicon n (state_of lexicon ws p) ts)
   same_first n ws p [] fine = ap (λ (o : Option QueryFaultKind). first_some (at_number n) o None)
-      (same_end ws p (back_of ws p) (shows ws p fine)) ∙ go (ended (state_of lexicon ws p))
+      (same_end ws p (back_of ws p) (shows ws p fine)) ∙ go (query_at_end (state_of lexicon ws p))
     where
       go : (r : Result Query QueryFaultKind) → first_some (at_number n) (fault_of r) None
           ≡ fault_of (fault_as (at_number n) r)

@@ -5,15 +5,18 @@ use Rattle.mail_query.proofs.Words.{append_assoc, append-nil, arith, add-one, �
 use Rattle.mail_query.proofs.Words.{option_and_then, and_from, or_parts, or_right, leb-false, lt-ltb, ◌>>=◌, fault_as}
 use Rattle.mail_query.proofs.Words.{Field, Fields, QueryFault, QueryFaultKind, Phrase, NeedsOperator, TooDeep}
 use Rattle.mail_query.proofs.Words.{MissingTerm, BadParenthesis, Lexicon, Query, all_of, either_of, Token, Open, Close}
-use Rattle.mail_query.proofs.Words.{AndSign, OrSign, NotSign, Term, Parts, parts_of, no_fields, has_field, with_field}
+use Rattle.mail_query.proofs.Words.{AndSign, OrSign, NotSign, Term, TermParts, parts_of, no_fields, has_field}
+use Rattle.mail_query.proofs.Words.{with_field}
 use Rattle.mail_query.proofs.Words.{is_phrase, cut_query, Link, Beside, ByAnd, ByOr, Item, NotOf, Group, Leaf, Chain}
 use Rattle.mail_query.proofs.Words.{Last, Then, link_tokens, item_tokens, chain_tokens, term_prefix, plain_prefix}
 use Rattle.mail_query.proofs.Words.{seen_behind, item_query, chain_queries, tree_query, is_fine_item, is_fine_chain}
 use Rattle.mail_query.proofs.Words.{Reads, Level, Waiting, ForNot, ForClose, State, start, empty_level, with_member}
-use Rattle.mail_query.proofs.Words.{noted, run_ended, each_ended, level_query, is_negated, has_open, placed, deeper}
-use Rattle.mail_query.proofs.Words.{joined, parted, popped, closed, ended, parts_step, term_step, step, run_from}
+use Rattle.mail_query.proofs.Words.{level_with_prefix, run_ended, each_ended, level_query, is_negated, has_open}
+use Rattle.mail_query.proofs.Words.{state_after_operand, deeper}
+use Rattle.mail_query.proofs.Words.{state_after_and, state_after_or, state_after_group, state_after_close, query_at_end}
+use Rattle.mail_query.proofs.Words.{parts_step, term_step, step, run_from}
 use Rattle.mail_query.proofs.Words.{tokens_query}
-use Rattle.mail_query.specs.BooleanTerms.{term_query}
+use Rattle.mail_query.specs.BooleanTerms.{boolean_term_query}
 use Rattle.mail_query.proofs.BooleanLaws.BooleanComplete.{noted-none, state, seen_at, term_fine, with_first}
 use Rattle.mail_query.proofs.BooleanLaws.BooleanComplete.{with_first-one, with_first-none}
 
@@ -202,16 +205,17 @@ module _ (lexicon : Lexicon) where
   negated-waiting_of ws = grind arith
 
   level_of-put : (p : Part) (i : Item) → level_of (put p i)
-      ≡ with_member (noted false (plain_prefix i) (level_of p)) (item_query lexicon i)
+      ≡ with_member (level_with_prefix false (plain_prefix i) (level_of p)) (item_query lexicon i)
   level_of-put p i = go p.front p.last
     where
       go : (f : Front) (last : Option Item) → level_of (put (record { front = f; last = last }) i)
-          ≡ with_member (noted false (plain_prefix i) (level_of (record { front = f; last = last })))
+          ≡ with_member (level_with_prefix false (plain_prefix i) (level_of (record { front = f; last = last })))
           (item_query lexicon i)
       go f last = grind (arith, append-nil)
 
   placed_is : (ws : List Wait) (p : Part) (i : Item)
-      → placed (waiting_of ws) (noted (is_negated (waiting_of ws)) (plain_prefix i) (level_of p)) (item_query lexicon i)
+      → state_after_operand (waiting_of ws) (level_with_prefix (is_negated (waiting_of ws)) (plain_prefix i)
+      (level_of p)) (item_query lexicon i)
       ≡ state_of (put_waits ws) (put_part ws p i)
   placed_is [] p i = ap (λ (l : Level). let s : State = record { waiting = []; level = l; wanted = false } in s)
       (sym (level_of-put p i))
@@ -304,20 +308,20 @@ module _ (lexicon : Lexicon) where
 
   -- a term that the reader takes is allowed in its place
   term_ok : (s next : State) (t : List ℕ) → term_step lexicon s t ≡ Ok next
-      → (not (has_field (seen_at s.waiting s.level) (term_prefix t)) && is_ok (term_query lexicon t)) ≡ true
+      → (not (has_field (seen_at s.waiting s.level) (term_prefix t)) && is_ok (boolean_term_query lexicon t)) ≡ true
   unfolding seen_at
   term_ok s next t e = go (is_phrase t) (parts_of t) e
     where
       cut_ok : (prefix : Option Field) (b : Bool) → (not (is_negated s.waiting) && has_field s.level.seen prefix) ≡ b
           → (r : Result Query QueryFaultKind)
           → cond b (Err NeedsOperator) (r >>= (λ q. Ok
-          (placed s.waiting (noted (is_negated s.waiting) prefix s.level) q))) ≡ Ok next
+          (state_after_operand s.waiting (level_with_prefix (is_negated s.waiting) prefix s.level) q))) ≡ Ok next
           → (not (has_field (cond (is_negated s.waiting) no_fields s.level.seen) prefix) && is_ok r) ≡ true
       cut_ok prefix b h r h2 = grind (arith, and_from, new_prefix)
 
-      go : (b : Bool) (o : Option Parts) → cond b (Err Phrase) (parts_step lexicon s o) ≡ Ok next
+      go : (b : Bool) (o : Option TermParts) → cond b (Err Phrase) (parts_step lexicon s o) ≡ Ok next
           → (not (has_field (cond (is_negated s.waiting) no_fields s.level.seen)
-          (option_and_then (λ (p : Parts). p.prefix) o)) && is_ok {T = Query}
+          (option_and_then (λ (p : TermParts). p.prefix) o)) && is_ok {T = Query}
           (cond b (Err Phrase) (cut_query lexicon o))) ≡ true
       go b o h = grind (arith, cut_ok)
 
@@ -326,11 +330,13 @@ module _ (lexicon : Lexicon) where
   unfolding seen_at
   reach_term ws p t s fine e =
       let ok = term_ok (state_of ws p) s t e in
-      let is : s ≡ placed (waiting_of ws) (noted (is_negated (waiting_of ws)) (term_prefix t) (level_of p))
+      let is : s ≡ state_after_operand (waiting_of ws)
+      (level_with_prefix (is_negated (waiting_of ws)) (term_prefix t) (level_of p))
       (item_query lexicon (Leaf t)) =
       let both = sym e ∙ term_fine lexicon (state_of ws p) t ok in cc in
       let leaf : is_fine_item lexicon (Leaf t) (length ws) (cond (waits_not ws) no_fields (seen_of p)) ≡ true =
-      ap (λ (b : Bool). not (has_field (cond b no_fields (seen_of p)) (term_prefix t)) && is_ok (term_query lexicon t))
+      ap (λ (b : Bool). not (has_field (cond b no_fields (seen_of p)) (term_prefix t)) && is_ok
+      (boolean_term_query lexicon t))
       (sym (negated-waiting_of ws)) ∙ ok in
       record {
         waits = put_waits ws;
@@ -397,7 +403,7 @@ module _ (lexicon : Lexicon) where
             }) fine;
       }
 
-  reach_and : (ws : List Wait) (p : Part) (s : State) → Fine ws p → joined (state_of ws p) ≡ Ok s
+  reach_and : (ws : List Wait) (p : Part) (s : State) → Fine ws p → state_after_and (state_of ws p) ≡ Ok s
       → Reaches ws p AndSign s
   unfolding state
   reach_and ws p s fine e =
@@ -411,7 +417,8 @@ module _ (lexicon : Lexicon) where
       (sym (append-nil (members_front f ++ item_query lexicon i ∷ [])))))
       fine (let same = passed.1 in cc)
 
-  reach_or : (ws : List Wait) (p : Part) (s : State) → Fine ws p → parted (state_of ws p) ≡ Ok s → Reaches ws p OrSign s
+  reach_or : (ws : List Wait) (p : Part) (s : State) → Fine ws p → state_after_or (state_of ws p) ≡ Ok s
+      → Reaches ws p OrSign s
   unfolding state
   reach_or ws p s fine e =
       let passed = unguarded (wanted_of ws p) MissingTerm (Ok (state (waiting_of ws) (each_ended (level_of p)) true)) s
@@ -426,12 +433,14 @@ module _ (lexicon : Lexicon) where
       → is_fine_item lexicon (Group (onto f (Last i))) n seen ≡ true
   group_fine f i n seen room h = grind (arith, lt-ltb, add-one, fine-onto, and_from)
 
-  reach_close : (ws : List Wait) (p : Part) (s : State) → Fine ws p → closed (state_of ws p) ≡ Ok s
+  reach_close : (ws : List Wait) (p : Part) (s : State) → Fine ws p → state_after_close (state_of ws p) ≡ Ok s
       → Reaches ws p Close s
   unfolding Fine
   reach_close ws p s fine e =
-      let passed = closed_is (wanted_of ws p) (has_open (waiting_of ws)) (popped (waiting_of ws) (level_of p)) e in
-      where_ended ws p (λ r. Fine ws r → popped (waiting_of ws) (level_of r) ≡ Ok s → Reaches ws r Close s) passed.0
+      let passed = closed_is (wanted_of ws p) (has_open (waiting_of ws))
+      (state_after_group (waiting_of ws) (level_of p)) e in
+      where_ended ws p (λ r. Fine ws r → state_after_group (waiting_of ws) (level_of r) ≡ Ok s → Reaches ws r Close s)
+      passed.0
       (λ no_not f i. go ws f i) fine passed.1
     where
       closed_is : (b o : Bool) (r : Result State QueryFaultKind)
@@ -439,17 +448,18 @@ module _ (lexicon : Lexicon) where
       closed_is b o r h = grind arith
 
       go : (vs : List Wait) (f : Front) (i : Item) → Fine vs (ended_by f i)
-          → popped (waiting_of vs) (level_of (ended_by f i)) ≡ Ok s → Reaches vs (ended_by f i) Close s
+          → state_after_group (waiting_of vs) (level_of (ended_by f i)) ≡ Ok s → Reaches vs (ended_by f i) Close s
       go [] f i h e = absurd cc
       go (WaitNot ∷ vs) f i h e = absurd cc
       go (WaitClose outer ∷ vs) f i h e =
           let c : Chain = onto f (Last i) in
-          let popped_so : placed (waiting_of vs) (level_of outer) (level_query (level_of (ended_by f i))) ≡ s = cc in
+          let popped_so : state_after_operand (waiting_of vs) (level_of outer) (level_query (level_of (ended_by f i)))
+          ≡ s = cc in
           record {
             waits = put_waits vs;
             part = put_part vs outer (Group c);
-            shown = sym popped_so ∙ ap (placed (waiting_of vs) (level_of outer)) (level_asks f i)
-                ∙ ap (λ (l : Level). placed (waiting_of vs) l (item_query lexicon (Group c)))
+            shown = sym popped_so ∙ ap (state_after_operand (waiting_of vs) (level_of outer)) (level_asks f i)
+                ∙ ap (λ (l : Level). state_after_operand (waiting_of vs) l (item_query lexicon (Group c)))
                 (sym (noted-none (is_negated (waiting_of vs)) (level_of outer)))
                 ∙ placed_is vs outer (Group c);
             tokens = spelled-put vs outer (Group c)
@@ -471,7 +481,7 @@ module _ (lexicon : Lexicon) where
 
   -- ---- the whole
 
-  end_reads : (ws : List Wait) (p : Part) (q : Query) → Fine ws p → ended (state_of ws p) ≡ Ok q
+  end_reads : (ws : List Wait) (p : Part) (q : Query) → Fine ws p → query_at_end (state_of ws p) ≡ Ok q
       → Reads lexicon (spelled ws p) q
   unfolding Fine
   end_reads ws p q fine e =
@@ -489,7 +499,7 @@ module _ (lexicon : Lexicon) where
   run_reads : (n : ℕ) (ws : List Wait) (p : Part) (ts : List Token) (q : Query) → Fine ws p
       → run_from lexicon n (state_of ws p) ts ≡ Ok q → Reads lexicon (spelled ws p ++ ts) q
   run_reads n ws p [] q fine e = subst (λ (xs : List Token). Reads lexicon xs q) (sym (append-nil (spelled ws p)))
-      (end_reads ws p q fine (unnumbered (ended (state_of ws p)) e))
+      (end_reads ws p q fine (unnumbered (query_at_end (state_of ws p)) e))
     where
       unnumbered : (r : Result Query QueryFaultKind)
           → fault_as (λ kind. let f : QueryFault = record { number = n; kind = kind } in f) r ≡ Ok q → r ≡ Ok q

@@ -3,7 +3,8 @@ use Rattle.mail_query.proofs.Words.{◌≡◌, ℕ, ◌+◌, ◌-◌, ◌<◌, �
 use Rattle.mail_query.proofs.Words.{length, take, drop, get_or, drop-cons, refl, sym, ap, ◌∙◌, arith, IsLastAndRest}
 use Rattle.mail_query.proofs.Words.{drop_all, or-false, or_right, le-leb, lt-leb, TooDeep, BadParenthesis, Query, Not}
 use Rattle.mail_query.proofs.Words.{shown_level, shown_waiting, nearest_first, shown_stack, Level, Waiting, ForNot}
-use Rattle.mail_query.proofs.Words.{ForClose, with_member, is_negated, has_open, placed, deeper, popped, level_query}
+use Rattle.mail_query.proofs.Words.{ForClose, with_member, is_negated, has_open, state_after_operand, deeper}
+use Rattle.mail_query.proofs.Words.{state_after_group, level_query}
 use Rattle.mail_query.specs.declared.boolean.reader.Level.{Level as CodeLevel}
 use Rattle.mail_query.specs.declared.boolean.reader.Waiting.{Waiting as CodeWaiting}
 use Rattle.mail_query.specs.declared.boolean.reader.Waiting.TheVariants as code_waiting
@@ -38,7 +39,8 @@ open_last ws front w level h e = ap (λ xs. is_negated (shown_stack xs)) h.0 ∙
     ∙ ap (λ v. is_negated (v ∷ shown_stack front)) e
 
 -- an operand without a `not` directly before it is a member as it is
-pub placed-settled : (ws : List Waiting) (level : Level) (q : Query) → is_negated ws ≡ false → placed ws level q
+pub placed-settled : (ws : List Waiting) (level : Level) (q : Query) → is_negated ws ≡ false
+    → state_after_operand ws level q
     ≡ record { waiting = ws; level = with_member level q; wanted = false }
 placed-settled ws level q h = grind arith
 
@@ -77,19 +79,21 @@ negated_some [] e = absurd cc
 negated_some (w ∷ ws) e = omega arith
 
 pub placed-not : (ws : List CodeWaiting) (level : Level) (q : Query) → is_negated (shown_stack ws) ≡ true
-    → placed (shown_stack ws) level q ≡ placed (shown_stack (take (length ws - 1) ws)) level (Not q)
+    → state_after_operand (shown_stack ws) level q
+    ≡ state_after_operand (shown_stack (take (length ws - 1) ws)) level (Not q)
 placed-not ws level q e = grind (arith, last_of, negated_some, shown_stack-push, before_last)
 
 pub pops-close : (ws rest : List CodeWaiting) (outer : CodeLevel) (level : Level) → ws
     ≡ rest ++ code_waiting.ForClose outer ∷ []
-    → popped (shown_stack ws) level ≡ Ok (placed (shown_stack rest) (shown_level outer) (level_query level))
-pops-close ws rest outer level e = ap (λ xs. popped (shown_stack xs) level) e
-    ∙ ap (λ xs. popped xs level) (shown_stack-push rest (code_waiting.ForClose outer))
+    → state_after_group (shown_stack ws) level
+    ≡ Ok (state_after_operand (shown_stack rest) (shown_level outer) (level_query level))
+pops-close ws rest outer level e = ap (λ xs. state_after_group (shown_stack xs) level) e
+    ∙ ap (λ xs. state_after_group xs level) (shown_stack-push rest (code_waiting.ForClose outer))
 
 pub pops-not : (ws rest : List CodeWaiting) (level : Level) → ws ≡ rest ++ code_waiting.ForNot ∷ []
-    → popped (shown_stack ws) level ≡ Err BadParenthesis
-pops-not ws rest level e = ap (λ xs. popped (shown_stack xs) level) e
-    ∙ ap (λ xs. popped xs level) (shown_stack-push rest code_waiting.ForNot)
+    → state_after_group (shown_stack ws) level ≡ Err BadParenthesis
+pops-not ws rest level e = ap (λ xs. state_after_group (shown_stack xs) level) e
+    ∙ ap (λ xs. state_after_group xs level) (shown_stack-push rest code_waiting.ForNot)
 
 -- ---- an open `(`, found from the front
 

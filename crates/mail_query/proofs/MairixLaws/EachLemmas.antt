@@ -5,7 +5,7 @@ use Rattle.mail_query.proofs.Words.{Global, string_bytes, IsUtf8, drop_all, get_
 use Rattle.mail_query.proofs.Words.{fault_as, with_front-append, with_front-nil, if_some_map, QueryFault}
 use Rattle.mail_query.proofs.Words.{QueryFaultKind, Query, all_of, Lexicon, each_read, pattern_query, patterns_from}
 use Rattle.mail_query.proofs.Words.{patterns_query, All, All-map, IsUtf8-string_bytes, OrMemory, refusal}
-use Rattle.mail_query.proofs.Words.{numbered}
+use Rattle.mail_query.proofs.Words.{fault_with_number}
 
 -- the texts from a place on are the text there and those after it
 drop-next : (texts : List (List ℕ)) (n : ℕ) (text : List ℕ) → (n < length texts) × (text ≡ get_or texts n text)
@@ -104,7 +104,7 @@ pub pattern_refused : (lexicon : Lexicon) (patterns : List (List ℕ)) (qs : Lis
     (given : OrMemory QueryFaultKind) → HasRead at_number (pattern_query lexicon) patterns qs n
     → (n < length patterns) × (text ≡ get_or patterns n text)
     → IfSome (refusal given) (λ k. pattern_query lexicon text ≡ Err k)
-    → IfSome (refusal (numbered (n + 1) given)) (λ f. patterns_query lexicon patterns ≡ Err f)
+    → IfSome (refusal (fault_with_number (n + 1) given)) (λ f. patterns_query lexicon patterns ≡ Err f)
 pattern_refused lexicon patterns qs n text given h here e = grind (arith, patterns_made, refuses)
 
 -- the text of a pattern at a place

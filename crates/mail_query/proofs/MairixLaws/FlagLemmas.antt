@@ -3,7 +3,7 @@ use Rattle.mail_query.proofs.Words.{◌≡◌, ℕ, ◌+◌, ◌<◌, Bool, true
 use Rattle.mail_query.proofs.Words.{Option, None, Some, Ok, Err, option_map, refl, sym, ap, ◌∙◌, append_assoc}
 use Rattle.mail_query.proofs.Words.{append-nil, arith, add-one, drop-cons, inl, inr, not, cond, subst, option_and_then}
 use Rattle.mail_query.proofs.Words.{◌⊎◌, drop_all, Flag, BadFlag, Query, HasFlag, all_of, flag_of, with_flag}
-use Rattle.mail_query.proofs.Words.{flags_behind, flags_of, some_of, flags_query, eqb-true, false_from_ne_true}
+use Rattle.mail_query.proofs.Words.{flags_behind, flags_of_text, some_of, flags_query, eqb-true, false_from_ne_true}
 use Rattle.mail_query.proofs.Words.{none-some, option_and_then_some, AreFlags, NoFlag, IsFlags, EachFlag}
 use Rattle.mail_query.proofs.MairixLaws.SignLemmas.{map_some}
 use Rattle.mail_query.specs.FlagGrammar.{Wanted, Unwanted}
@@ -60,16 +60,16 @@ no_last_letter text qs i h e = grind (arith, at_end)
 -- ---- the whole text
 
 pub refused : (text : List ℕ) → flags_behind true text ≡ None → flags_query text ≡ Err BadFlag
-unfolding flags_of
+unfolding flags_of_text
 refused text e = rw e refl
 
 pub none_refused : (text : List ℕ) → flags_behind true text ≡ Some [] → flags_query text ≡ Err BadFlag
-unfolding flags_of
+unfolding flags_of_text
 none_refused text e = rw e refl
 
 pub asked : (text : List ℕ) (q : Query) (qs : List Query) → flags_behind true text ≡ Some (q ∷ qs) → flags_query text
     ≡ Ok (all_of (q ∷ qs))
-unfolding flags_of
+unfolding flags_of_text
 asked text q qs e = rw e refl
 
 pub asked_all : (text : List ℕ) (qs : List Query) (i : ℕ) → HasRead text qs true i → length text ≡ i → 0 < length qs
@@ -100,8 +100,8 @@ are_read text qs NoFlag = refl
 are_read text qs (Wanted letter flag rest more e f) = rw (no_dash letter flag e, e, are_read rest more f) refl
 are_read text qs (Unwanted letter flag rest more e f) = rw (no_dash letter flag e, e, are_read rest more f) refl
 
-pub flags_read : (text : List ℕ) (q : Query) → IsFlags text q → flags_of text ≡ Some q
-unfolding flags_of
+pub flags_read : (text : List ℕ) (q : Query) → IsFlags text q → flags_of_text text ≡ Some q
+unfolding flags_of_text
 flags_read text q (EachFlag t first qs f) = ap (option_and_then some_of) (are_read t (first ∷ qs) f)
 
 -- the letter after a dash, and what follows it
@@ -160,8 +160,8 @@ read_are (b ∷ bs) = record {
         → Behind (b ∷ bs) qs
     behind qs t h h2 h3 = grind arith
 
-pub read_flags : (text : List ℕ) (q : Query) → flags_of text ≡ Some q → IsFlags text q
-unfolding flags_of
+pub read_flags : (text : List ℕ) (q : Query) → flags_of_text text ≡ Some q → IsFlags text q
+unfolding flags_of_text
 read_flags text q e = go (flags_behind true text) refl e
   where
     go : (o : Option (List Query)) → flags_behind true text ≡ o → option_and_then some_of o ≡ Some q → IsFlags text q

@@ -1,14 +1,14 @@
 -- The letters of a prefix name the kinds that the grammar says, letter by letter.
 use Rattle.mail_query.proofs.Words.{◌≡◌, ℕ, Bool, true, false, cond, List, [], ◌∷◌, None, Some, refl, sym, ap, ◌∙◌}
 use Rattle.mail_query.proofs.Words.{arith, ◌||◌, ◌&&◌, codes, option_and_then, list_all, or-false, eqb_tells, cond_some}
-use Rattle.mail_query.proofs.Words.{Kinds, no_kinds, union, kinds_of_letter, kinds_with, kinds_of, is_among}
+use Rattle.mail_query.proofs.Words.{Kinds, no_kinds, union, kinds_of_letter, kinds_with, kinds_of, is_letter_among}
 use Rattle.mail_query.proofs.Words.{kinds_named, AreLetters}
 
 abbrev are_letters : List ℕ → Bool
-are_letters letters = list_all (is_among (codes "tcfsban")) letters
+are_letters letters = list_all (is_letter_among (codes "tcfsban")) letters
 
 letter_named : (letter : ℕ) → kinds_of_letter letter
-    ≡ cond (is_among (codes "tcfsban") letter) (Some (kinds_named (letter ∷ []))) None
+    ≡ cond (is_letter_among (codes "tcfsban") letter) (Some (kinds_named (letter ∷ []))) None
 letter_named letter = grind (arith, eqb_tells)
 
 or_steps : (k a b : Bool) → ((k || (a || false)) || b) ≡ (k || (a || b))
@@ -27,7 +27,7 @@ with_named : (kinds : Kinds) (letters : List ℕ) → kinds_with kinds letters
 with_named kinds [] = ap Some (sym (union-none kinds))
 with_named kinds (letter ∷ letters) =
     ap (option_and_then (λ more. kinds_with (union kinds more) letters)) (letter_named letter)
-    ∙ go (is_among (codes "tcfsban") letter) (with_named (union kinds (kinds_named (letter ∷ []))) letters)
+    ∙ go (is_letter_among (codes "tcfsban") letter) (with_named (union kinds (kinds_named (letter ∷ []))) letters)
   where
     go : (t : Bool) → kinds_with (union kinds (kinds_named (letter ∷ []))) letters
         ≡ cond (are_letters letters) (Some (union (union kinds (kinds_named (letter ∷ []))) (kinds_named letters))) None

@@ -5,9 +5,10 @@ use Rattle.mail_query.proofs.Words.{◌⊎◌, bytes_eq, codes, ok_or, option_or
 use Rattle.mail_query.proofs.Words.{join_with_byte, both_ways, cond_both, All-nil, All-cons, All-head, All-tail}
 use Rattle.mail_query.proofs.Words.{none-some, option_and_then_some, MatchResult-weaker, bytes_eq-Decides, ◌>>=◌}
 use Rattle.mail_query.proofs.Words.{with_front, fault_as, QueryFault, QueryFaultKind, BadWord, BadPrefix, BadDate}
-use Rattle.mail_query.proofs.Words.{BadSize, BadFlag, Approximate, Kinds, is_byte, cut, without_first, without_last}
+use Rattle.mail_query.proofs.Words.{BadSize, BadFlag, Approximate, Kinds, is_byte, texts_around, without_first}
+use Rattle.mail_query.proofs.Words.{without_last}
 use Rattle.mail_query.proofs.Words.{Lexicon, Query, Word, Part, Prefix, Date, Not, all_of, either_of, sizes_of}
-use Rattle.mail_query.proofs.Words.{flags_of, Forms, plain_kinds, kinds_of, is_approximate, id_forms, word_forms}
+use Rattle.mail_query.proofs.Words.{flags_of_text, Forms, plain_kinds, kinds_of, is_approximate, id_forms, word_forms}
 use Rattle.mail_query.proofs.Words.{each_read, part_query, prefix_query, marked_query, found_query, atom_query}
 use Rattle.mail_query.proofs.Words.{term_query, all_query, rest_query, prefixed_query, pattern_query, patterns_from}
 use Rattle.mail_query.proofs.Words.{patterns_query, Separated, Alone, Before, IsAtom, WholeWord, PartOfWord}
@@ -270,9 +271,9 @@ module _ (lexicon : Lexicon) (plain : HasNoSigns lexicon) where
           ok_or_answers (sizes_of rest) BadSize _ _ (λ q e. grammar.OfSize rest q (read_sizes rest q e))
           (λ e. HasNoSize rest (λ q s. none-some q (sym e ∙ sizes_read rest q s)))
 
-      of_flags : Answers (codes "F:" ++ rest) (ok_or (flags_of rest) BadFlag)
+      of_flags : Answers (codes "F:" ++ rest) (ok_or (flags_of_text rest) BadFlag)
       of_flags =
-          ok_or_answers (flags_of rest) BadFlag _ _ (λ q e. grammar.OfFlags rest q (read_flags rest q e))
+          ok_or_answers (flags_of_text rest) BadFlag _ _ (λ q e. grammar.OfFlags rest q (read_flags rest q e))
           (λ e. HasNoFlags rest (λ q f. none-some q (sym e ∙ flags_read rest q f)))
 
       of_kinds : (o : Option Kinds) → kinds_of name ≡ o → (kinds_of name ≡ None → ¬ IsPatternPrefix name)
@@ -289,9 +290,9 @@ module _ (lexicon : Lexicon) (plain : HasNoSigns lexicon) where
   pub pattern_answers : (text : List ℕ) → IsUtf8 text
       → MatchResult (pattern_query lexicon text) (IsPattern lexicon text) (IsPatternFault lexicon text)
   unfolding Answers
-  pattern_answers text utf8 = go (cut 0x3A text) refl
+  pattern_answers text utf8 = go (texts_around 0x3A text) refl
     where
-      go : (o : Option (List ℕ × List ℕ)) → cut 0x3A text ≡ o
+      go : (o : Option (List ℕ × List ℕ)) → texts_around 0x3A text ≡ o
           → Answers text (elim o [
             | None ↦ rest_query (word_forms lexicon plain_kinds) text
             | Some p ↦ prefixed_query

@@ -4,9 +4,10 @@ use Rattle.mail_query.proofs.Words.{Ok, ap, refl, ◌∙◌, arith, IsUtf8, byte
 use Rattle.mail_query.proofs.Words.{slice_split, All, and_parts, or_from, not-true, both_ways, false_from_ne_true}
 use Rattle.mail_query.proofs.Words.{All-head, All-tail, cond_some, none-some, bytes_eq-Decides, ◌>>=◌, with_front}
 use Rattle.mail_query.proofs.Words.{fault_as, QueryFaultKind, BadSize, BadFlag, Kinds, is_byte, is_nonempty, Lexicon}
-use Rattle.mail_query.proofs.Words.{Query, Not, all_of, Forms, plain_kinds, kinds_of, is_sign, is_id, id_forms}
+use Rattle.mail_query.proofs.Words.{Query, Not, all_of, Forms, plain_kinds, kinds_of, is_sign, may_be_id, id_forms}
 use Rattle.mail_query.proofs.Words.{word_forms, each_read, atom_query, term_query, all_query, rest_query}
-use Rattle.mail_query.proofs.Words.{prefixed_query, pattern_query, patterns_from, patterns_query, is_among, kinds_named}
+use Rattle.mail_query.proofs.Words.{prefixed_query, pattern_query, patterns_from, patterns_query, is_letter_among}
+use Rattle.mail_query.proofs.Words.{kinds_named}
 use Rattle.mail_query.proofs.Words.{Separated, Alone, Before, IsAtom, WholeWord, PartOfWord, FrontOfWord, IsTerm}
 use Rattle.mail_query.proofs.Words.{Wanted, Unwanted, IsAll, EachTerm, IsRest, SomeAll, IsPattern, Plain, InKinds, OfId}
 use Rattle.mail_query.proofs.Words.{OfDate, OfSize, OfFlags, ArePatterns, Only, AndAlso, IsAsked, EachPattern}
@@ -132,7 +133,7 @@ module _ (forms : Forms) (plain : PlainForms forms) where
 
 -- ---- patterns
 
-id_unsigned : (text : List ℕ) → is_id text ≡ true → list_any is_sign text ≡ false
+id_unsigned : (text : List ℕ) → may_be_id text ≡ true → list_any is_sign text ≡ false
 id_unsigned text h = let parts = and_parts (is_nonempty text) _ h in not-true (list_any is_sign text) parts.1
 
 pub id_plain : PlainForms id_forms
@@ -148,12 +149,14 @@ module _ (lexicon : Lexicon) (plain : HasNoSigns lexicon) where
   differs letters other kinds e n = grind (arith, bytes_eq-Decides, false_from_ne_true, none-some)
 
   -- letters have no `:`
-  pub letters_free : (letters : List ℕ) → list_all (is_among (codes "tcfsban")) letters ≡ true → Free 0x3A letters
+  pub letters_free : (letters : List ℕ) → list_all (is_letter_among (codes "tcfsban")) letters ≡ true
+      → Free 0x3A letters
   letters_free [] h = refl
   letters_free (letter ∷ letters) h =
-      let parts = and_parts (is_among (codes "tcfsban") letter) (list_all (is_among (codes "tcfsban")) letters) h in
+      let parts = and_parts (is_letter_among (codes "tcfsban") letter)
+      (list_all (is_letter_among (codes "tcfsban")) letters) h in
       or_from (eqb letter 0x3A) (list_any (is_byte 0x3A) letters)
-      (other_byte letter 0x3A (λ e. let same = ap (is_among (codes "tcfsban")) e in let named = parts.0 in cc))
+      (other_byte letter 0x3A (λ e. let same = ap (is_letter_among (codes "tcfsban")) e in let named = parts.0 in cc))
       (letters_free letters parts.1)
 
   pub prefixed_letters : (letters rest : List ℕ) (kinds : Kinds) → kinds_of letters ≡ Some kinds

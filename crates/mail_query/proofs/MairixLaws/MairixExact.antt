@@ -4,7 +4,7 @@ use Rattle.mail_query.proofs.Words.{Ok, Err, refl, sym, ap, ◌∙◌, arith, Is
 use Rattle.mail_query.proofs.Words.{All, slice_split, false_from_ne_true, All-head, All-tail, MatchResult-at_ok}
 use Rattle.mail_query.proofs.Words.{MatchResult-at_err, bytes_eq-Decides, ◌>>=◌, with_front, fault_as, Range}
 use Rattle.mail_query.proofs.Words.{QueryFault, QueryFaultKind, BadPrefix, BadDate, BadSize, BadFlag, Kinds, is_byte}
-use Rattle.mail_query.proofs.Words.{Lexicon, Query, Date, Not, all_of, sizes_of, flags_of, pattern_lexicon}
+use Rattle.mail_query.proofs.Words.{Lexicon, Query, Date, Not, all_of, sizes_of, flags_of_text, pattern_lexicon}
 use Rattle.mail_query.proofs.Words.{mairix_query, Forms, kinds_of, is_approximate, id_forms, word_forms, each_read}
 use Rattle.mail_query.proofs.Words.{found_query, atom_query, term_query, all_query, rest_query, prefixed_query}
 use Rattle.mail_query.proofs.Words.{pattern_query, patterns_from, patterns_query, kinds_named, IsTerm, IsPattern}
@@ -132,7 +132,8 @@ module _ (lexicon : Lexicon) (plain : HasNoSigns lexicon) where
   pattern_faulty text kind (HasNoSize sizes none) utf8 =
       ap (λ (o : Option Query). ok_or o BadSize) (none_unless (sizes_of sizes) (λ q h. none q (read_sizes sizes q h)))
   pattern_faulty text kind (HasNoFlags flags none) utf8 =
-      ap (λ (o : Option Query). ok_or o BadFlag) (none_unless (flags_of flags) (λ q h. none q (read_flags flags q h)))
+      ap (λ (o : Option Query). ok_or o BadFlag)
+      (none_unless (flags_of_text flags) (λ q h. none q (read_flags flags q h)))
 
   some_first : (before : List (List ℕ)) (text : List ℕ) (more : List (List ℕ))
       → patterns_query lexicon (before ++ text ∷ more) ≡ patterns_from lexicon 1 (before ++ text ∷ more) >>=

@@ -4,7 +4,8 @@ use Rattle.mail_query.proofs.Words.{Option, None, Some, refl, ap, subst, ◌∙�
 use Rattle.mail_query.proofs.Words.{list_any, slice_split, onto_first, get_or-append_seam, take-append_seam}
 use Rattle.mail_query.proofs.Words.{drop-append-add, eqb-true, or_parts, or_from, or_left, or_right, both_ways}
 use Rattle.mail_query.proofs.Words.{false_from_ne_true, cond_some, IsCharBoundary-before_ascii}
-use Rattle.mail_query.proofs.Words.{IsCharBoundary-after_ascii, IsUtf8-take, IsUtf8-drop, is_byte, cut, without_first}
+use Rattle.mail_query.proofs.Words.{IsCharBoundary-after_ascii, IsUtf8-take, IsUtf8-drop, is_byte, texts_around}
+use Rattle.mail_query.proofs.Words.{without_first}
 use Rattle.mail_query.proofs.Words.{without_last, is_sign, is_approximate}
 use Rattle.mail_query.proofs.PieceLemmas.{same_byte, Free}
 
@@ -78,18 +79,19 @@ last_is c (b ∷ d ∷ bs) sub e =
 pub first_is : (c : ℕ) (text sub : List ℕ) → without_first c text ≡ Some sub → text ≡ c ∷ sub
 first_is c text sub h = grind (arith, cond_some, eqb-true)
 
-pub cut_parts : (c : ℕ) (text : List ℕ) (p : List ℕ × List ℕ) → cut c text ≡ Some p → (text ≡ p.0 ++ c ∷ p.1)
+pub cut_parts : (c : ℕ) (text : List ℕ) (p : List ℕ × List ℕ) → texts_around c text ≡ Some p → (text ≡ p.0 ++ c ∷ p.1)
     × Free c p.0
 cut_parts c [] p e = absurd cc
 cut_parts c (b ∷ bs) p e = go (eqb b c) refl e (λ r h. cut_parts c bs r h)
   where
     go : (t : Bool) → eqb b c ≡ t → cond t (Some ([], bs))
-        (option_map (λ (r : List ℕ × List ℕ). (b ∷ r.0, r.1)) (cut c bs)) ≡ Some p
-        → ((r : List ℕ × List ℕ) → cut c bs ≡ Some r → (bs ≡ r.0 ++ c ∷ r.1) × Free c r.0) → (b ∷ bs ≡ p.0 ++ c ∷ p.1)
+        (option_map (λ (r : List ℕ × List ℕ). (b ∷ r.0, r.1)) (texts_around c bs)) ≡ Some p
+        → ((r : List ℕ × List ℕ) → texts_around c bs ≡ Some r → (bs ≡ r.0 ++ c ∷ r.1) × Free c r.0)
+        → (b ∷ bs ≡ p.0 ++ c ∷ p.1)
         × Free c p.0
     go t h h2 h3 = grind (arith, eqb-true, or_from)
 
-pub uncut_free : (c : ℕ) (text : List ℕ) → cut c text ≡ None → list_any (is_byte c) text ≡ false
+pub uncut_free : (c : ℕ) (text : List ℕ) → texts_around c text ≡ None → list_any (is_byte c) text ≡ false
 uncut_free c [] e = refl
 uncut_free c (b ∷ bs) e = grind (arith, or_from, uncut_free c bs)
 

@@ -3,9 +3,11 @@ use Rattle.mail_query.proofs.Words.{◌≡◌, ℕ, ◌-◌, ◌<◌, List, [], 
 use Rattle.mail_query.proofs.Words.{◌∙◌, arith, length-append, ◌*◌, ◌≤◌, true, false, eqb, option_map, subst, slice_get}
 use Rattle.mail_query.proofs.Words.{option_and_then, ◌&&◌, IsLastAndRest, list_all, list_any, get_or-append_seam}
 use Rattle.mail_query.proofs.Words.{slice_get-get_or, cond_some, option_and_then_some, last_byte, before_last_byte}
-use Rattle.mail_query.proofs.Words.{factor_of, scaled, size_with, size_of, size_limit, low_of, high_of, sizes_between}
+use Rattle.mail_query.proofs.Words.{factor_of, scaled_size, size_with, size_of, size_limit, low_of, high_of}
+use Rattle.mail_query.proofs.Words.{sizes_between}
 use Rattle.mail_query.proofs.Words.{sizes_of, is_ascii_digit, leb-true, le-leb, and_parts, and_from, or_from, Query}
-use Rattle.mail_query.proofs.Words.{Size, is_byte, cut, IsNumber, IsSize, InBytes, InUnits, IsLow, FromZero, FromSize}
+use Rattle.mail_query.proofs.Words.{Size, is_byte, texts_around, IsNumber, IsSize, InBytes, InUnits, IsLow, FromZero}
+use Rattle.mail_query.proofs.Words.{FromSize}
 use Rattle.mail_query.proofs.Words.{IsHigh, Unbounded, ToSize, IsSizes, Between}
 use Rattle.std.specs.Str.Parse.{digits_value}
 use Rattle.mail_query.proofs.PieceLemmas.{last_of, before_last, other_byte, Free, cut_at}
@@ -32,15 +34,16 @@ with_last front letter o e =
     ∙ ap (λ factor. size_with factor (front ++ letter ∷ [])) e
 
 pub size_of-letter : (text front : List ℕ) (letter factor : ℕ) → IsLastAndRest text letter front → factor_of letter
-    ≡ Some factor → size_of text ≡ scaled factor front
+    ≡ Some factor → size_of text ≡ scaled_size factor front
 size_of-letter text front letter factor h e =
-    ap size_of h.0 ∙ with_last front letter (Some factor) e ∙ ap (scaled factor) (before_last_byte-last front letter)
+    ap size_of h.0 ∙ with_last front letter (Some factor) e
+    ∙ ap (scaled_size factor) (before_last_byte-last front letter)
 
 pub size_of-digits : (text front : List ℕ) (letter : ℕ) → IsLastAndRest text letter front → factor_of letter ≡ None
-    → size_of text ≡ scaled 1 text
-size_of-digits text front letter h e = ap size_of h.0 ∙ with_last front letter None e ∙ sym (ap (scaled 1) h.0)
+    → size_of text ≡ scaled_size 1 text
+size_of-digits text front letter h e = ap size_of h.0 ∙ with_last front letter None e ∙ sym (ap (scaled_size 1) h.0)
 
-pub size_of-nothing : (text : List ℕ) → length text ≡ 0 → size_of text ≡ scaled 1 text
+pub size_of-nothing : (text : List ℕ) → length text ≡ 0 → size_of text ≡ scaled_size 1 text
 unfolding size_of
 size_of-nothing [] e = refl
 size_of-nothing (b ∷ bs) e = absurd (omega (arith, e))
@@ -57,11 +60,12 @@ record Scaled (factor : ℕ) (digits : List ℕ) (size : ℕ) : Type 0 where
   small : worth digits * factor ≤ size_limit
   size_is : worth digits * factor ≡ size
 
-scaled_is : (factor : ℕ) (digits : List ℕ) (size : ℕ) → scaled factor digits ≡ Some size → Scaled factor digits size
+scaled_is : (factor : ℕ) (digits : List ℕ) (size : ℕ) → scaled_size factor digits ≡ Some size
+    → Scaled factor digits size
 scaled_is factor digits size e = grind (arith, cond_some, and_parts, leb-true)
 
 number_scaled : (factor : ℕ) (digits : List ℕ) → IsNumber digits → worth digits * factor ≤ size_limit
-    → scaled factor digits ≡ Some (worth digits * factor)
+    → scaled_size factor digits ≡ Some (worth digits * factor)
 number_scaled factor digits n small = grind (arith, and_from, le-leb)
 
 -- ---- the last byte
@@ -96,7 +100,7 @@ in_bytes digits size s = subst (IsSize digits) (sym (same_worth digits) ∙ s.si
     (InBytes digits s.number (omega (arith, same_worth digits, s.small)))
 
 read_size : (text : List ℕ) (size : ℕ) → size_of text ≡ Some size → IsSize text size
-read_size [] size e = let none : scaled 1 [] ≡ Some size = sym (size_of-nothing [] refl) ∙ e in absurd cc
+read_size [] size e = let none : scaled_size 1 [] ≡ Some size = sym (size_of-nothing [] refl) ∙ e in absurd cc
 read_size (b ∷ bs) size e = go (last_of (b ∷ bs) (omega arith))
   where
     go : (front : List ℕ) × (x : ℕ) × (b ∷ bs ≡ front ++ x ∷ []) → IsSize (b ∷ bs) size
@@ -113,7 +117,7 @@ read_size (b ∷ bs) size e = go (last_of (b ∷ bs) (omega arith))
             subst (λ (t : List ℕ). IsSize t size) (sym s.2)
             (subst (IsSize (s.0 ++ s.1 ∷ [])) d.size_is (InUnits s.0 s.1 factor d.number h d.small))
 
-digits_read : (digits : List ℕ) → IsNumber digits → size_of digits ≡ scaled 1 digits
+digits_read : (digits : List ℕ) → IsNumber digits → size_of digits ≡ scaled_size 1 digits
 digits_read digits h = grind (arith, last_of, size_of-digits, last_and_rest, no_unit, last_digit)
 
 size_read : (text : List ℕ) (size : ℕ) → IsSize text size → size_of text ≡ Some size
@@ -141,11 +145,11 @@ low_free : (text : List ℕ) (least : ℕ) → IsLow text least → Free 0x2D te
 low_free text least h = grind (arith, size_free)
 
 nonempty_low : (text : List ℕ) (size : ℕ) → size_of text ≡ Some size → low_of text ≡ Some size
-nonempty_low [] size e = let none : scaled 1 [] ≡ Some size = sym (size_of-nothing [] refl) ∙ e in absurd cc
+nonempty_low [] size e = let none : scaled_size 1 [] ≡ Some size = sym (size_of-nothing [] refl) ∙ e in absurd cc
 nonempty_low (b ∷ bs) size e = e
 
 nonempty_high : (text : List ℕ) (size : ℕ) → size_of text ≡ Some size → high_of text ≡ Some (Some size)
-nonempty_high [] size e = let none : scaled 1 [] ≡ Some size = sym (size_of-nothing [] refl) ∙ e in absurd cc
+nonempty_high [] size e = let none : scaled_size 1 [] ≡ Some size = sym (size_of-nothing [] refl) ∙ e in absurd cc
 nonempty_high (b ∷ bs) size e = ap (option_map Some) e
 
 low_read : (text : List ℕ) (least : ℕ) → IsLow text least → low_of text ≡ Some least
@@ -182,9 +186,9 @@ read_between low high q e =
 
 pub read_sizes : (text : List ℕ) (q : Query) → sizes_of text ≡ Some q → IsSizes text q
 unfolding sizes_of
-read_sizes text q e = go (cut 0x2D text) refl e
+read_sizes text q e = go (texts_around 0x2D text) refl e
   where
-    go : (o : Option (List ℕ × List ℕ)) → cut 0x2D text ≡ o
+    go : (o : Option (List ℕ × List ℕ)) → texts_around 0x2D text ≡ o
         → (let r : Option Query = elim o [ None ↦ None | Some p ↦ sizes_between p.0 p.1 ] in r) ≡ Some q
         → IsSizes text q
     go None h e = absurd cc

@@ -43,6 +43,6 @@ kinds_sought (Some field.Id) = record no_kinds { own_id = true }
 kinds_sought (Some field.Date) = no_kinds
 
 -- the fault of the pattern or token with this number; lack of memory has no number
-abbrev pub numbered : ℕ → OrMemory QueryFaultKind → OrMemory QueryFault
-numbered number (Refused kind) = Refused (record { number = number; kind = kind })
-numbered number Memory = Memory
+abbrev pub fault_with_number : ℕ → OrMemory QueryFaultKind → OrMemory QueryFault
+fault_with_number number (Refused kind) = Refused (record { number = number; kind = kind })
+fault_with_number number Memory = Memory

@@ -8,7 +8,7 @@ use Rattle.mail_query.specs.declared.boolean.reader.Waiting.TheVariants as code_
 use Rattle.mail_query.specs.declared.boolean.reader.Reader.{Reader}
 use Rattle.mail_query.specs.Query.{queries_of}
 use Rattle.mail_query.specs.BooleanReading.{Level, Waiting, ForNot, ForClose, State}
-use Rattle.mail_query.specs.Tokens.{Token, Open, Close, AndSign, OrSign, NotSign, Term, is_blank}
+use Rattle.mail_query.specs.Tokens.{Token, Open, Close, AndSign, OrSign, NotSign, Term, is_blank_or_feed}
 
 -- a token
 abbrev pub shown_token : CodeToken → Token
@@ -22,11 +22,11 @@ shown_token (code.Term text) = Term text.now
 -- the number of blanks at the front
 abbrev pub blank_count : List ℕ → ℕ
 blank_count [] = 0
-blank_count (b ∷ bs) = if is_blank b then suc (blank_count bs) else 0
+blank_count (b ∷ bs) = if is_blank_or_feed b then suc (blank_count bs) else 0
 
 -- whether a byte ends a run: a blank or a parenthesis
 abbrev pub ends_run : ℕ → Bool
-ends_run b = is_blank b || ((b == 0x28) || (b == 0x29))
+ends_run b = is_blank_or_feed b || ((b == 0x28) || (b == 0x29))
 
 -- the number of bytes before the first blank or parenthesis
 abbrev pub run_length : List ℕ → ℕ
@@ -59,8 +59,8 @@ abbrev pub shown_stack : List CodeWaiting → List Waiting
 shown_stack ws = nearest_first ws []
 
 -- the state of the reader
-abbrev pub shown : Reader → State
-shown reader = record {
+abbrev pub state_of_reader : Reader → State
+state_of_reader reader = record {
   waiting = shown_stack reader.waiting.items;
   level = shown_level reader.level;
   wanted =

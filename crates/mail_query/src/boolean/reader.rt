@@ -4,8 +4,8 @@ ghost use Rattle.contract_words.specs.Answers.{Gives};
 ghost use Rattle.mail_query.specs.Query.{query_of};
 ghost use Rattle.or_memory.specs.Refusals.{refusal};
 ghost use Rattle.mail_query.specs.Mail.{boolean_lexicon};
-ghost use Rattle.mail_query.specs.Inside.Shown.{shown, shown_level, shown_waiting, shown_stack, shown_token};
-ghost use Rattle.mail_query.specs.BooleanReading.{start, placed, deeper, closed, ended, step, term_step, cut_term_step, is_negated, has_open};
+ghost use Rattle.mail_query.specs.Inside.Shown.{state_of_reader, shown_level, shown_waiting, shown_stack, shown_token};
+ghost use Rattle.mail_query.specs.BooleanReading.{start, state_after_operand, deeper, state_after_close, query_at_end, step, term_step, cut_term_step, is_negated, has_open};
 
 use crate::boolean::field::{Field, Fields, field_of};
 use crate::boolean::term::read_parts;
@@ -79,7 +79,7 @@ pub(crate) struct Reader {
 
 impl Reader {
     pub(crate) fn new(alloc: Global) -> Reader
-        ensures { shown result ≡ start }
+        ensures { state_of_reader result ≡ start }
     {
         Reader {
             waiting: Vec::new(alloc),
@@ -94,8 +94,8 @@ impl Reader {
         alloc: Global,
         token: Token<'_>,
     ) -> Result<(), OrMemory<QueryFaultKind>>
-        ensures { Gives (λ _. shown self.new) refusal result
-            (step boolean_lexicon (shown self.old) (shown_token token.entry)) }
+        ensures { Gives (λ _. state_of_reader self.new) refusal result
+            (step boolean_lexicon (state_of_reader self.old) (shown_token token.entry)) }
     {
         match token {
             Token::Term(term) => self.read_term(alloc, term),
@@ -123,7 +123,7 @@ impl Reader {
 
     /// Ends the query and returns its tree. Fails if a term is missing or a `(` is still open.
     pub(crate) fn end(&mut self, alloc: Global) -> Result<Node, OrMemory<QueryFaultKind>>
-        ensures { Gives query_of refusal result (ended (shown self.old)) }
+        ensures { Gives query_of refusal result (query_at_end (state_of_reader self.old)) }
     {
         if self.wanted {
             return Err(OrMemory::Refused(QueryFaultKind::MissingTerm));
@@ -136,8 +136,8 @@ impl Reader {
     }
 
     fn read_term(&mut self, alloc: Global, term: &str) -> Result<(), OrMemory<QueryFaultKind>>
-        ensures { Gives (λ _. shown self.new) refusal result
-            (term_step boolean_lexicon (shown self.old) term.now) }
+        ensures { Gives (λ _. state_of_reader self.new) refusal result
+            (term_step boolean_lexicon (state_of_reader self.old) term.now) }
     {
         if term.as_bytes().contains(&b'"') {
             return Err(OrMemory::Refused(QueryFaultKind::Phrase));
@@ -160,8 +160,8 @@ impl Reader {
         prefix: Option<Field>,
         rest: &str,
     ) -> Result<(), OrMemory<QueryFaultKind>>
-        ensures { Gives (λ _. shown self.new) refusal result
-            (cut_term_step boolean_lexicon (shown self.old) prefix rest.now) }
+        ensures { Gives (λ _. state_of_reader self.new) refusal result
+            (cut_term_step boolean_lexicon (state_of_reader self.old) prefix rest.now) }
     {
         let negated = is_negated(self.waiting.as_slice());
         if !negated && self.level.seen.has(prefix) {
@@ -176,7 +176,7 @@ impl Reader {
 
     /// Opens one more `(` or `not`. Fails if 30 are open.
     fn wait(&mut self, what: Waiting) -> Result<(), OrMemory<QueryFaultKind>>
-        ensures { Gives (λ _. shown self.new) refusal result
+        ensures { Gives (λ _. state_of_reader self.new) refusal result
             (deeper (shown_stack self.old.waiting.items) (shown_waiting what)
             (shown_level self.old.level)) }
     {
@@ -189,7 +189,8 @@ impl Reader {
     }
 
     fn close(&mut self, alloc: Global) -> Result<(), OrMemory<QueryFaultKind>>
-        ensures { Gives (λ _. shown self.new) refusal result (closed (shown self.old)) }
+        ensures { Gives (λ _. state_of_reader self.new) refusal result (state_after_close
+            (state_of_reader self.old)) }
     {
         if self.wanted {
             return if has_open(self.waiting.as_slice()) {
@@ -211,7 +212,7 @@ impl Reader {
 
     /// Adds an operand to the innermost group, negated by each `not` directly before it.
     fn place(&mut self, alloc: Global, mut node: Node) -> Result<(), OrMemory<QueryFaultKind>>
-        ensures { Gives (λ _. shown self.new) refusal result (Ok (placed
+        ensures { Gives (λ _. state_of_reader self.new) refusal result (Ok (state_after_operand
             (shown_stack self.old.waiting.items) (shown_level self.old.level) (query_of node))) }
     {
         'nots: while is_negated(self.waiting.as_slice()) {

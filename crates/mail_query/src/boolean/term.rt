@@ -3,7 +3,7 @@ ghost use Rattle.std.specs.Prelude.{◌≡◌};
 ghost use Rattle.contract_words.specs.Answers.{Gives};
 ghost use Rattle.mail_query.specs.Query.{query_of};
 ghost use Rattle.or_memory.specs.Refusals.{refusal};
-ghost use Rattle.mail_query.specs.BooleanTerms.{word_query, parts_query};
+ghost use Rattle.mail_query.specs.BooleanTerms.{boolean_word_query, parts_query};
 ghost use Rattle.mail_query.specs.Inside.Reading.{kinds_sought};
 ghost use Rattle.mail_query.specs.Mail.{boolean_lexicon};
 
@@ -77,7 +77,7 @@ fn kinds_sought(prefix: Option<Field>) -> Kinds
 
 /// Reads a word, or the beginning of a word with a `*` after it.
 fn read_word(alloc: Global, kinds: Kinds, text: &str) -> Result<Node, OrMemory<QueryFaultKind>>
-    ensures { Gives query_of refusal result (word_query boolean_lexicon kinds text.now) }
+    ensures { Gives query_of refusal result (boolean_word_query boolean_lexicon kinds text.now) }
 {
     if is_one_word(text) {
         let text = QueryText::folded(alloc, text)?;

@@ -1,7 +1,7 @@
 //! Cuts a boolean query into tokens.
 ghost use Rattle.std.specs.Prelude.{◌≡◌, ◌<◌, ◌≤◌, not, [], ◌∷◌, length, MatchOption, IfSome};
 ghost use Rattle.std.specs.List.{prefix_len};
-ghost use Rattle.mail_query.specs.Tokens.{tokens, token_of, is_blank};
+ghost use Rattle.mail_query.specs.Tokens.{query_tokens, token_of, is_blank_or_feed};
 ghost use Rattle.mail_query.specs.Inside.Shown.{shown_token, blank_count, ends_run};
 
 use crate::pieces::without_first;
@@ -19,8 +19,8 @@ pub(crate) enum Token<'a> {
 
 /// Returns the first token and the text after it, or None if only blanks are left.
 pub(crate) fn next_token(text: &str) -> Option<(Token<'_>, &str)>
-    ensures token { MatchOption result (tokens text.now ≡ [])
-        (λ p. tokens text.now ≡ shown_token p.0 ∷ tokens p.1.now) }
+    ensures token { MatchOption result (query_tokens text.now ≡ [])
+        (λ p. query_tokens text.now ≡ shown_token p.0 ∷ query_tokens p.1.now) }
     ensures shorter { IfSome result (λ p. length p.1.now < length text.now) }
 {
     let text = behind_blanks(text);
@@ -53,7 +53,7 @@ fn token_of(run: &str) -> Token<'_>
 
 /// Returns the text without the blanks at its front.
 fn behind_blanks(text: &str) -> &str
-    ensures tokens { tokens result.now ≡ tokens text.now }
+    ensures tokens { query_tokens result.now ≡ query_tokens text.now }
     ensures none { blank_count result.now ≡ 0 }
     ensures within { length result.now ≤ length text.now }
 {
@@ -62,7 +62,7 @@ fn behind_blanks(text: &str) -> &str
 
 /// Returns the number of blanks at the front.
 fn blank_count(text: &[u8]) -> usize
-    ensures value { result ≡ prefix_len is_blank text.now }
+    ensures value { result ≡ prefix_len is_blank_or_feed text.now }
 {
     text.iter().take_while(|b| is_blank(**b)).count()
 }
@@ -83,7 +83,7 @@ fn ends_run(b: u8) -> bool
 /// Returns whether the byte is a space, a tab or a line feed. A header and an rcfile have no line feed among their
 /// blanks; here it is one because a query may have several lines.
 fn is_blank(b: u8) -> bool
-    ensures { result ≡ is_blank b }
+    ensures { result ≡ is_blank_or_feed b }
 {
     matches!(b, b' ' | b'\t' | b'\n')
 }

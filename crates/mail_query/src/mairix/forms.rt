@@ -2,7 +2,7 @@
 ghost use Rattle.std.specs.Prelude.{◌≡◌, IfOk};
 ghost use Rattle.mail_query.specs.Inside.Reading.{forms_of};
 ghost use Rattle.std.specs.List.{list_any};
-ghost use Rattle.mail_query.specs.Mairix.{is_id, is_sign};
+ghost use Rattle.mail_query.specs.Mairix.{may_be_id, is_sign};
 
 use crate::kinds::Kinds;
 use crate::pieces::without_angles;
@@ -53,7 +53,7 @@ pub(crate) fn part_of(
 
 /// Returns whether the text isn't empty and no byte of it has a meaning in patterns.
 fn is_id(text: &str) -> bool
-    ensures { result ≡ is_id text.now }
+    ensures { result ≡ may_be_id text.now }
 {
     !text.is_empty() && !has_sign(text.as_bytes())
 }

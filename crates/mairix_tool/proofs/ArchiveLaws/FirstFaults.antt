@@ -1,9 +1,9 @@
 -- Bytes have only one first fault, because all rules before a first fault are kept and its own is broken.
 use Rattle.mairix_tool.proofs.Words.{◌≡◌, ◌∙◌, ℕ, zero, suc, ◌<◌, ◌≤◌, ◌^◌, ◌+◌, List, length, take, flat_map, sym, ap}
 use Rattle.mairix_tool.proofs.Words.{subst, arith, inl, inr, ◌⊎◌, ⊤, leb_tells, eqb_tells, IndexFault, TooShort}
-use Rattle.mairix_tool.proofs.Words.{BadMagic, BadVersion, BadDigest, BadLayout, Record, IsFirstFault, HasDigest}
+use Rattle.mairix_tool.proofs.Words.{BadMagic, BadVersion, BadDigest, BadLayout, Record, IsFirstFaultOfFile, HasDigest}
 use Rattle.mairix_tool.proofs.Words.{IsSigned, HasCounts, HasArchives, HasRecords, HasDirectory, digest_start}
-use Rattle.mairix_tool.proofs.Words.{version_told, IsVersion, magic, record_bytes, Entry, Archive, AreBytes}
+use Rattle.mairix_tool.proofs.Words.{version_told, IsVersion, magic, record_bytes, DirectoryEntry, Archive, AreBytes}
 use Rattle.mail_index.specs.declared.view.fault.Section.TheVariants.{Counts, Archives, Records, Directory, Postings}
 use Rattle.mail_index.specs.Records.{read_records}
 use Rattle.mail_index.proofs.ViewLaws.ArchiveReads.{archives_back}
@@ -64,7 +64,7 @@ module _ (bytes : List ℕ) (are : AreBytes bytes) where
   IsKept (suc (suc (suc (suc (suc (suc zero)))))) = (archives : List Archive) × (ms : List Record)
       × HasRecords bytes archives ms
   IsKept (suc (suc (suc (suc (suc (suc (suc zero))))))) = (archives : List Archive) × (ms : List Record)
-      × (es : List Entry) × HasDirectory bytes archives ms es
+      × (es : List DirectoryEntry) × HasDirectory bytes archives ms es
   IsKept _ = ⊤
 
   -- all rules before this number are kept
@@ -94,15 +94,16 @@ module _ (bytes : List ℕ) (are : AreBytes bytes) where
   recorded : (archives : List Archive) (ms : List Record) → HasRecords bytes archives ms → AreKept 7
   recorded archives ms h = (listed archives h.before, (archives, ms, h))
 
-  filed : (archives : List Archive) (ms : List Record) (es : List Entry) → HasDirectory bytes archives ms es → AreKept 8
+  filed : (archives : List Archive) (ms : List Record) (es : List DirectoryEntry) → HasDirectory bytes archives ms es
+      → AreKept 8
   filed archives ms es h = (recorded archives ms h.before, (archives, ms, es, h))
 
   -- all rules before a first fault are kept
-  kept-before : (f : IndexFault) → IsFirstFault bytes f → AreKept (rank f)
+  kept-before : (f : IndexFault) → IsFirstFaultOfFile bytes f → AreKept (rank f)
   kept-before f h = grind (arith, signed, counted, listed, recorded, filed)
 
   -- the rule of a first fault isn't kept, unless it is the last
-  not-kept : (f : IndexFault) → rank f < 8 → IsFirstFault bytes f → IsKept (rank f) → ⊥
+  not-kept : (f : IndexFault) → rank f < 8 → IsFirstFaultOfFile bytes f → IsKept (rank f) → ⊥
   not-kept TooShort last h k = omega (arith, h, k)
   not-kept BadMagic last h k = h.1 k
   not-kept BadVersion last h k = h.2 k
@@ -115,10 +116,10 @@ module _ (bytes : List ℕ) (are : AreBytes bytes) where
   not-kept (BadLayout Directory) last h k = grind (arith, same-archives, same-records)
   not-kept (BadLayout Postings) last h k = absurd (omega (arith, last))
 
-  never-before : (f g : IndexFault) → rank f < rank g → IsFirstFault bytes f → IsFirstFault bytes g → ⊥
+  never-before : (f g : IndexFault) → rank f < rank g → IsFirstFaultOfFile bytes f → IsFirstFaultOfFile bytes g → ⊥
   never-before f g less h k = grind (arith, not-kept, kept-below, kept-before)
 
-  pub one-first-fault : (f g : IndexFault) → IsFirstFault bytes f → IsFirstFault bytes g → f ≡ g
+  pub one-first-fault : (f g : IndexFault) → IsFirstFaultOfFile bytes f → IsFirstFaultOfFile bytes g → f ≡ g
   one-first-fault f g h k = go by-rank
     where
       by-rank : (rank f < rank g) ⊎ ((rank g < rank f) ⊎ (rank f ≡ rank g))

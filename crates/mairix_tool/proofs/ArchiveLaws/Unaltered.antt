@@ -3,22 +3,23 @@
 use Rattle.mairix_tool.proofs.Words.{◌≡◌, ◌∙◌, ◌+◌, ◌++◌, ℕ, suc, Bool, true, cond, List, [], ◌∷◌, map, length}
 use Rattle.mairix_tool.proofs.Words.{bytes_eq, Option, None, Some, refl, sym, ap, ap₂, arith, Contains, option_or}
 use Rattle.mairix_tool.proofs.Words.{eqb-true, length-map, Contains-append_left, Contains-append_right}
-use Rattle.mairix_tool.proofs.Words.{bytes_eq-Decides, Mbox, table, entry_of, unverified_archive, Archive, AreToldApart}
+use Rattle.mairix_tool.proofs.Words.{bytes_eq-Decides, Mbox, table, entry_of_archive, unverified_archive, Archive}
+use Rattle.mairix_tool.proofs.Words.{AreToldApart}
 use Rattle.mairix_tool.proofs.Words.{altered_archive, mboxes, first_renamed, renamed_archive}
 use Rattle.sha2.specs.Sha256.{sha256}
 use Rattle.mail_answer.proofs.ArchiveLaws.VerifiedLemmas.{verified_are, are_verified}
 
 -- ---- the digests of a table
 
-digest-of : (a : Mbox) → (entry_of a).digest ≡ Some (sha256 a.bytes)
+digest-of : (a : Mbox) → (entry_of_archive a).digest ≡ Some (sha256 a.bytes)
 digest-of a = refl
 
-own-lengths : (archives : List Mbox) → map (λ (a : Archive). a.length) (map entry_of archives)
+own-lengths : (archives : List Mbox) → map (λ (a : Archive). a.length) (map entry_of_archive archives)
     ≡ map length (map (λ (a : Mbox). a.bytes) archives)
 own-lengths [] = refl
 own-lengths (a ∷ archives) = ap (λ (l : List ℕ). length a.bytes ∷ l) (own-lengths archives)
 
-own-digests : (archives : List Mbox) → map (λ (a : Archive). a.digest) (map entry_of archives)
+own-digests : (archives : List Mbox) → map (λ (a : Archive). a.digest) (map entry_of_archive archives)
     ≡ map (λ (bytes : List ℕ). Some (sha256 bytes)) (map (λ (a : Mbox). a.bytes) archives)
 own-digests [] = refl
 own-digests (a ∷ archives) = ap₂ (λ (d : Option (List ℕ)) (l : List (Option (List ℕ))). d ∷ l) (digest-of a)
@@ -34,15 +35,15 @@ own-verified archives = grind (arith, are_verified, own-lengths, own-digests)
 tested : (b : Bool) (next : Option ℕ) (n : ℕ) → cond b next (Some n) ≡ None → (b ≡ true) × (next ≡ None)
 tested b next n h = grind arith
 
-paths-from : (n : ℕ) (before : List Mbox) (paths : List (List ℕ)) → length paths ≡ length (map entry_of before)
-    → first_renamed n (map entry_of before) paths ≡ None
+paths-from : (n : ℕ) (before : List Mbox) (paths : List (List ℕ)) → length paths ≡ length (map entry_of_archive before)
+    → first_renamed n (map entry_of_archive before) paths ≡ None
     → map (λ (a : Mbox). a.path) before ≡ paths
 paths-from n [] [] many none = refl
 paths-from n [] (p ∷ paths) many none = absurd (omega (arith, many))
 paths-from n (a ∷ before) [] many none = absurd (omega (arith, many))
 paths-from n (a ∷ before) (p ∷ paths) many none =
-    let both = tested (bytes_eq a.path p) (first_renamed (n + 1) (map entry_of before) paths) n none in
-    let fewer : length paths ≡ length (map entry_of before) = omega (arith, many) in
+    let both = tested (bytes_eq a.path p) (first_renamed (n + 1) (map entry_of_archive before) paths) n none in
+    let fewer : length paths ≡ length (map entry_of_archive before) = omega (arith, many) in
     ap₂ (λ (q : List ℕ) (l : List (List ℕ)). q ∷ l) ((bytes_eq-Decides a.path p).0 both.0)
     (paths-from (n + 1) before paths fewer both.1)
 
@@ -63,14 +64,15 @@ module _ (all : List (List ℕ)) (apart : AreToldApart all) where
   bytes-from : (before : List Mbox) (bytes : List (List ℕ))
       → ((x : List ℕ) → Contains (map (λ (a : Mbox). a.bytes) before) x → Contains all x)
       → ((x : List ℕ) → Contains bytes x → Contains all x)
-      → map (λ (a : Archive). a.digest) (map entry_of before) ≡ map (λ (bs : List ℕ). Some (sha256 bs)) bytes
+      → map (λ (a : Archive). a.digest) (map entry_of_archive before) ≡ map (λ (bs : List ℕ). Some (sha256 bs)) bytes
       → map (λ (a : Mbox). a.bytes) before ≡ bytes
   bytes-from [] [] left right same = refl
   bytes-from [] (b ∷ bytes) left right same = absurd cc
   bytes-from (a ∷ before) [] left right same = absurd cc
   bytes-from (a ∷ before) (b ∷ bytes) left right same =
-      let first : (entry_of a).digest ≡ Some (sha256 b) = cc in
-      let rest : map (λ (x : Archive). x.digest) (map entry_of before) ≡ map (λ (bs : List ℕ). Some (sha256 bs)) bytes =
+      let first : (entry_of_archive a).digest ≡ Some (sha256 b) = cc in
+      let rest : map (λ (x : Archive). x.digest) (map entry_of_archive before)
+      ≡ map (λ (bs : List ℕ). Some (sha256 bs)) bytes =
       cc in
       let told : Some (sha256 a.bytes) ≡ Some (sha256 b) = sym (digest-of a) ∙ first in
       let digest : sha256 a.bytes ≡ sha256 b = cc in
@@ -85,7 +87,7 @@ same-bytes : (before : List Mbox) (bytes : List (List ℕ)) → AreToldApart (ma
 same-bytes before bytes apart none =
     let held : List (List ℕ) = map (λ (a : Mbox). a.bytes) before in
     bytes-from (held ++ bytes) apart before bytes (λ x. Contains-append_left held bytes x)
-    (λ x. Contains-append_right held bytes x) (verified_are (map entry_of before) bytes none).digests
+    (λ x. Contains-append_right held bytes x) (verified_are (map entry_of_archive before) bytes none).digests
 
 -- ---- together
 

@@ -3,7 +3,8 @@
 use Rattle.mairix_tool.proofs.Words.{◌≡◌, ℕ, false, append-nil, List, [], ◌∷◌, map, length, None, Some, Option, Result}
 use Rattle.mairix_tool.proofs.Words.{Ok, Err, IfOk, IfSome, refl, ap, subst, arith, inl, inr, Appends, Sends, Table}
 use Rattle.mairix_tool.proofs.Words.{Search, answer_text, stale_archive, some-chosen, Fault, Reply, Mbox, table}
-use Rattle.mairix_tool.proofs.Words.{AreSound, mboxes, Refuses, IsArchivesFault, Wanted, is_failure, refusal_of, Answer}
+use Rattle.mairix_tool.proofs.Words.{AreSound, mboxes, RefusesArchives, IsArchivesFault, Wanted, is_failure}
+use Rattle.mairix_tool.proofs.Words.{refusal_of_fault, Answer}
 use Rattle.mairix_tool.proofs.Words.{refused, IsAnswer, IsTold, IsStaleOr, IsFoundIn, IsReply, IsOnceReply}
 use Rattle.mairix_tool.proofs.Words.{IsThisOrMemory, IsUnindexed, RepliesBy, reply_of, answered, sound-not-refused}
 use Rattle.run_faults.specs.Faults.{IsEarly}
@@ -92,7 +93,7 @@ this-fault refusal f h h2 = grind arith
 
 -- the refusal of an archive
 this-archive : (archives : List Mbox) (f : Fault) → IsArchivesFault archives f → is_failure (Some f) ≡ false
-    → Refuses archives f
+    → RefusesArchives archives f
 this-archive archives f h h2 = grind arith
 
 unindexed-reply : (asked : Result Wanted Fault) (bytes held : List (List ℕ)) (f : Fault) → IsUnindexed asked bytes f
@@ -107,12 +108,12 @@ refused-once asked bytes held f old is =
 
 -- the refusal of words, rcfile or query, or lack of memory before it was found
 early-reply : (asked : Result Wanted Fault) (bytes held : List (List ℕ)) (f : Fault)
-    → IfSome (refusal_of f) (λ r. asked ≡ Err r) → IsEarly f
+    → IfSome (refusal_of_fault f) (λ r. asked ≡ Err r) → IsEarly f
     → is_failure (Some f) ≡ false → IsOnceReply asked bytes held (refused f)
 early-reply asked bytes held f h early h2 = grind arith
 
 pub early-once : (asked : Result Wanted Fault) (bytes held : List (List ℕ)) (f : Fault) (old : Option (List ℕ))
-    → IfSome (refusal_of f) (λ r. asked ≡ Err r) → IsEarly f
+    → IfSome (refusal_of_fault f) (λ r. asked ≡ Err r) → IsEarly f
     → RepliesBy (IsOnceReply asked bytes held) (reply_of (Err f)) old old
 early-once asked bytes held f old h early =
     unanswered (IsOnceReply asked bytes held) f old (early-reply asked bytes held f h early)

@@ -4,7 +4,8 @@ use Rattle.mairix_tool.proofs.Words.{◌≡◌, ◌∙◌, ◌^◌, ◌<◌, ◌
 use Rattle.mairix_tool.proofs.Words.{◌∷◌, map, length, Some, None, Option, Result, Ok, Err, unwrap_or, refl, sym, ap}
 use Rattle.mairix_tool.proofs.Words.{ap₂, subst, arith, inl, inr, append-nil, length-append, length-map, IndexFault}
 use Rattle.mairix_tool.proofs.Words.{AreBytes, Table, Search, answer_text, AreSound, Mbox, table, all_messages}
-use Rattle.mairix_tool.proofs.Words.{messages_in, with_messages, Refuses, mboxes, Fault, Wanted, Answer, refused}
+use Rattle.mairix_tool.proofs.Words.{messages_in, with_messages, RefusesArchives, mboxes, Fault, Wanted, Answer}
+use Rattle.mairix_tool.proofs.Words.{refused}
 use Rattle.mairix_tool.proofs.Words.{answered, IsAnswer, IsFoundIn, IsTold, IsToldOf, IsProvedAndTold, IsStaleOr}
 use Rattle.mairix_tool.proofs.Words.{IsOldOr, IsReply, IsOnceReply, IsStoredReply, stale_archive, renamed_archive}
 use Rattle.mairix_tool.proofs.Words.{unproved_archive, is_too_old, sound-not-refused}
@@ -78,11 +79,11 @@ IsRefusedAfter before a _ = ⊥
 abbrev HasRefused : List Mbox → Fault → Type 0
 HasRefused archives f = (before : List Mbox) × (a : Mbox) × Parted archives before a × IsRefusedAfter before a f
 
-parted-so : (archives : List Mbox) (f : Fault) → Refuses archives f → HasRefused archives f
+parted-so : (archives : List Mbox) (f : Fault) → RefusesArchives archives f → HasRefused archives f
 parted-so archives f h = grind arith
 
 refused-so : (archives before : List Mbox) (a : Mbox) (f : Fault) → Parted archives before a → IsRefusedAfter before a f
-    → Refuses archives f
+    → RefusesArchives archives f
 refused-so archives before a f parted h = grind arith
 
 sound-before : (before : List Mbox) (a : Mbox) (f : Fault) → IsRefusedAfter before a f → AreSound before
@@ -170,7 +171,8 @@ module _ (archives before : List Mbox) (a : Mbox) (parted : Parted archives befo
       in inr (n, t.0, inr refl, inl (ap (of.Archive n) t.1))
   here f g h k = grind arith
 
-alike : (archives : List Mbox) (f g : Fault) → Refuses archives f → Refuses archives g → AreAlike archives f g
+alike : (archives : List Mbox) (f g : Fault) → RefusesArchives archives f → RefusesArchives archives g
+    → AreAlike archives f g
 alike archives f g h k = go (parted-so archives f h) (parted-so archives g k)
   where
     go : HasRefused archives f → HasRefused archives g → AreAlike archives f g

@@ -1,8 +1,8 @@
 -- A run verifies and then searches, so what it does to archives and output is what these two steps do.
 use Rattle.mairix_tool.proofs.Words.{AreStillKnown, ◌≡◌, ◌^◌, ◌<◌, ℕ, Bool, true, false, List, Option, None, Result, Ok}
-use Rattle.mairix_tool.proofs.Words.{Err, IfSome, refl, sym, ap, subst, arith, inr, length, IsFileOf, Table, table}
+use Rattle.mairix_tool.proofs.Words.{Err, IfSome, refl, sym, ap, subst, arith, inr, length, IsFileOfTable, Table, table}
 use Rattle.mairix_tool.proofs.Words.{mboxes, Fault, Reply, Wanted, IsIndexRefusal, is_too_old, renamed_archive}
-use Rattle.mairix_tool.proofs.Words.{refusal_of, reply_of, Search, false≢true, IsWellFormed}
+use Rattle.mairix_tool.proofs.Words.{refusal_of_fault, reply_of, Search, false≢true, IsWellFormed}
 use Rattle.mail_answer.specs.declared.archives.Archives.{Ghosts}
 use Rattle.mbox_cutter.specs.declared.device.Out.{Ghosts as OutGhosts}
 use Rattle.mail_index.proofs.FileLaws.Accepts.{no_fault}
@@ -40,18 +40,18 @@ module _ {A O : Type 0} (g : Ghosts A) (h : OutGhosts O) (t : Table) (s : Search
       subst (λ (a : A). Searches g h t s a new before after reply) asked.0 searched
 
 -- an index that is refused can't be searched
-refused-index : (w : Wanted) (index : List ℕ) (few : length index < 2 ^ 64) (t : Table) (file : IsFileOf index t)
+refused-index : (w : Wanted) (index : List ℕ) (few : length index < 2 ^ 64) (t : Table) (file : IsFileOfTable index t)
     (fault : Fault) → IsIndexRefusal w index fault
     → is_too_old t w ≡ false → renamed_archive t.archives w.paths ≡ None → ⊥
 refused-index w index few t file fault is fresh named = grind (arith, no_fault, same-table, false≢true)
 
 module _ {A O : Type 0} (g : Ghosts A) (h : OutGhosts O) (w : Wanted) (index : List ℕ) (few : length index < 2 ^ 64)
-    (t : Table) (file : IsFileOf index t) (old new : A) (before after : O) (reply : Reply) where
+    (t : Table) (file : IsFileOfTable index t) (old new : A) (before after : O) (reply : Reply) where
   pub refused-searched : (fault : Fault) → IsIndexRefusal w index fault
       → SearchesStored g h w t old new before after reply
   refused-searched fault is fresh named = absurd (refused-index w index few t file fault is fresh named)
 
-  pub opened-searched : (u : Table) → IsFileOf index u → SearchesFor g h w u old new before after reply
+  pub opened-searched : (u : Table) → IsFileOfTable index u → SearchesFor g h w u old new before after reply
       → SearchesStored g h w t old new before after reply
   opened-searched u f searched fresh named =
       inr (subst (λ (v : Table). SearchesFor g h w v old new before after reply) (same-table index t u few file f)
@@ -59,7 +59,7 @@ module _ {A O : Type 0} (g : Ghosts A) (h : OutGhosts O) (w : Wanted) (index : L
 
 -- if words, rcfile and query are accepted, only lack of memory is left
 pub wants-memory : (asked : Result Wanted Fault) (w : Wanted) (fault : Fault) → asked ≡ Ok w
-    → IfSome (refusal_of fault) (λ r. asked ≡ Err r) → IsEarly fault → fault ≡ of.Memory
+    → IfSome (refusal_of_fault fault) (λ r. asked ≡ Err r) → IsEarly fault → fault ≡ of.Memory
 wants-memory asked w fault is given early = grind arith
 
 pub asks-nothing : {A O : Type 0} (IsCause : Fault → Type 0) (fault : Fault) (archives : A) (out : O) → IsCause fault
@@ -73,8 +73,8 @@ same-asked asked v w h h2 = grind arith
 
 -- the table of a file in memory that is known to be the index of the sources' archives
 pub indexed-table : (paths : List (List ℕ)) (unread read : List (Option (List ℕ))) (file : List ℕ) (view : Table)
-    → ((t : Table) → IsFileOf file t → view ≡ t) → ((t : Table) × IsFileOf file t)
-    → ((bytes : List (List ℕ)) → AreStillKnown unread read bytes → IsFileOf file (table (mboxes paths bytes)))
+    → ((t : Table) → IsFileOfTable file t → view ≡ t) → ((t : Table) × IsFileOfTable file t)
+    → ((bytes : List (List ℕ)) → AreStillKnown unread read bytes → IsFileOfTable file (table (mboxes paths bytes)))
     → IsIndexed paths unread read view
 indexed-table paths unread read file view same (t, formed) known = record {
   formed = subst (λ (u : Table). IsWellFormed u) (sym (same t formed)) formed.0;

@@ -5,10 +5,10 @@ use Rattle.mbox_cutter.specs.declared.device.Source.{Ghosts}
 use Rattle.run_faults.specs.Faults.{IsEarly, IsOfAnswer, fault_in}
 use Rattle.run_faults.specs.declared.fault.Fault.TheVariants.{Usage, Rc, Query, Archive, Index, OldIndex, Stale, Device}
 use Rattle.run_faults.specs.declared.fault.Fault.TheVariants.{Out, Memory, TooMany}
-use Rattle.index_run.specs.SourcesStay.{AreRead, SourcesStay}
+use Rattle.index_run.specs.SourcesStay.{AreReadToEnd, SourcesStay}
 use Rattle.index_run.proofs.KeptSources.{stay-self}
 
-none-of : (all : ℕ) (fault : Fault) → IsEarly fault → AreRead (Some fault) all 0
+none-of : (all : ℕ) (fault : Fault) → IsEarly fault → AreReadToEnd (Some fault) all 0
 none-of all (Usage fault) early = tt
 none-of all (Rc fault) early = tt
 none-of all (Query fault) early = tt
@@ -22,7 +22,7 @@ none-of all Memory early = tt
 none-of all TooMany early = tt
 
 all-of : {T : Type 0} (all read : ℕ) (r : Result T Fault) → IfErr r IsOfAnswer → read ≡ all
-    → AreRead (fault_in r) all read
+    → AreReadToEnd (fault_in r) all read
 all-of all read (Ok n) own same = same
 all-of all read (Err (Usage fault)) own same = tt
 all-of all read (Err (Rc fault)) own same = tt

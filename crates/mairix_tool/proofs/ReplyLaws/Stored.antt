@@ -2,9 +2,12 @@
 use Rattle.mairix_tool.proofs.Words.{◌≡◌, ◌∙◌, ◌<◌, ◌^◌, ◌+◌, ◌++◌, ℕ, Bool, true, false, cond, All, IfSome, IfOk}
 use Rattle.mairix_tool.proofs.Words.{IfErr, List, [], ◌∷◌, map, length, None, Some, Option, Result, Ok, Err, refl, sym}
 use Rattle.mairix_tool.proofs.Words.{ap, subst, arith, inl, inr, eq-eqb, ◌||◌, false≢true, length-map, bytes_eq-Decides}
-use Rattle.mairix_tool.proofs.Words.{option_map, option_or, stale_archive, unverified_archive, IndexFault, IsFileOf}
-use Rattle.mairix_tool.proofs.Words.{IsFirstFault, AreBytes, Archive, IsPath, Table, IsVersion, uses_names, AreSound}
-use Rattle.mairix_tool.proofs.Words.{Mbox, table, entry_of, Fault, Reply, mboxes, Wanted, refusal_of, is_failure}
+use Rattle.mairix_tool.proofs.Words.{option_map, option_or, stale_archive, unverified_archive, IndexFault}
+use Rattle.mairix_tool.proofs.Words.{IsFileOfTable}
+use Rattle.mairix_tool.proofs.Words.{IsFirstFaultOfFile, AreBytes, Archive, IsPath, Table, IsVersion, uses_names}
+use Rattle.mairix_tool.proofs.Words.{AreSound}
+use Rattle.mairix_tool.proofs.Words.{Mbox, table, entry_of_archive, Fault, Reply, mboxes, Wanted, refusal_of_fault}
+use Rattle.mairix_tool.proofs.Words.{is_failure}
 use Rattle.mairix_tool.proofs.Words.{IsOfAnswer, AreToldApart, altered_archive, ServesFor, but_digests, old_table}
 use Rattle.mairix_tool.proofs.Words.{Answer, refused, IsTold, IsToldOf, IsProvedAndTold, unproved_archive, TellsProved}
 use Rattle.mairix_tool.proofs.Words.{IsStaleOr, IsOldOr, is_too_old, IsReply, IsStoredReply, IsForNoOtherCause}
@@ -27,12 +30,12 @@ use Rattle.mairix_tool.proofs.ReplyLaws.Once.{bytes-of-mboxes}
 -- ---- the table of archives has their paths
 
 first-named : (n : ℕ) (paths bytes : List (List ℕ)) → length paths ≡ length bytes
-    → first_renamed n (map entry_of (mboxes paths bytes)) paths ≡ None
+    → first_renamed n (map entry_of_archive (mboxes paths bytes)) paths ≡ None
 first-named n [] bytes same = refl
 first-named n (p ∷ paths) [] same = absurd (omega (arith, same))
 first-named n (p ∷ paths) (b ∷ bytes) same =
     let rest : length paths ≡ length bytes = omega (arith, same) in
-    ap (λ (t : Bool). cond t (first_renamed (n + 1) (map entry_of (mboxes paths bytes)) paths) (Some n))
+    ap (λ (t : Bool). cond t (first_renamed (n + 1) (map entry_of_archive (mboxes paths bytes)) paths) (Some n))
     ((bytes_eq-Decides p p).1 refl) ∙ first-named (n + 1) paths bytes rest
 
 named-as : (paths bytes : List (List ℕ)) → length paths ≡ length bytes
@@ -71,8 +74,8 @@ pub has-digests : (w : Wanted) (t : Table) → IsVersion t.version → is_too_ol
     ≡ 2
 has-digests w t h h2 h3 = grind (arith, false≢true)
 
-module _ (w : Wanted) (index : List ℕ) (few : length index < 2 ^ 64) (t : Table) (file : IsFileOf index t) where
-  pub one-table : (u : Table) → IsFileOf index u → t ≡ u
+module _ (w : Wanted) (index : List ℕ) (few : length index < 2 ^ 64) (t : Table) (file : IsFileOfTable index t) where
+  pub one-table : (u : Table) → IsFileOfTable index u → t ≡ u
   one-table u f = same-table index u t few f file
 
   -- an index that isn't too old
@@ -109,7 +112,7 @@ module _ (w : Wanted) (index : List ℕ) (few : length index < 2 ^ 64) (t : Tabl
         reply old new given
 
   pub stored-counted : (u : Table) (held : Option (List (List ℕ))) (reply : Reply) (old new : Option (List ℕ))
-      → IsFileOf index u → CountsVerified t w held reply old new → CountsVerified u w held reply old new
+      → IsFileOfTable index u → CountsVerified t w held reply old new → CountsVerified u w held reply old new
   stored-counted u held reply old new f given =
       subst (λ (v : Table). CountsVerified v w held reply old new) (one-table u f) given
 
@@ -136,7 +139,8 @@ module _ (w : Wanted) (index : List ℕ) (few : length index < 2 ^ 64) (bytes : 
       ]
 
   -- through a table that says the same
-  stored-alike : (t : Table) → IsFileOf index t → is_too_old t w ≡ false → renamed_archive t.archives w.paths ≡ None
+  stored-alike : (t : Table) → IsFileOfTable index t → is_too_old t w ≡ false → renamed_archive t.archives w.paths
+      ≡ None
       → unproved_archive w.verify t.archives bytes ≡ None
       → ((answer : Answer) → IsTold t w.search bytes answer → IsTold whole w.search bytes answer)
       → ((answer : Answer) → IsTold whole w.search bytes answer → IsTold t w.search bytes answer)
@@ -155,14 +159,14 @@ module _ (w : Wanted) (index : List ℕ) (few : length index < 2 ^ 64) (bytes : 
       reply old new given
 
   -- with an index of the newest version
-  stored-indexed : IsFileOf index whole → (reply : Reply) (old new : Option (List ℕ))
+  stored-indexed : IsFileOfTable index whole → (reply : Reply) (old new : Option (List ℕ))
       → RepliesBy (IsStoredReply (Ok w) index bytes) reply old new → RepliesBy (IsReply (Ok w) bytes) reply old new
   stored-indexed file =
       stored-alike whole file refl (named-as w.paths bytes many) (proved-as w.verify w.paths bytes many)
       (λ answer told. told) (λ answer told. told)
 
   -- with an index that has other digests
-  stored-otherwise : (t : Table) → w.verify ≡ false → but_digests t ≡ but_digests whole → IsFileOf index t
+  stored-otherwise : (t : Table) → w.verify ≡ false → but_digests t ≡ but_digests whole → IsFileOfTable index t
       → (reply : Reply) (old new : Option (List ℕ)) → RepliesBy (IsStoredReply (Ok w) index bytes) reply old new
       → RepliesBy (IsReply (Ok w) bytes) reply old new
   stored-otherwise t off same file =
@@ -175,7 +179,7 @@ module _ (w : Wanted) (index : List ℕ) (few : length index < 2 ^ 64) (bytes : 
       (λ answer. same-told t whole same w.search bytes answer)
 
   -- with an index of version 1
-  stored-before : w.verify ≡ false → IsFileOf index (old_table whole) → uses_names w.search.query ≡ false
+  stored-before : w.verify ≡ false → IsFileOfTable index (old_table whole) → uses_names w.search.query ≡ false
       → (reply : Reply) (old new : Option (List ℕ)) → RepliesBy (IsStoredReply (Ok w) index bytes) reply old new
       → RepliesBy (IsReply (Ok w) bytes) reply old new
   stored-before off file none =
@@ -202,7 +206,7 @@ module _ (w : Wanted) (index : List ℕ) (few : length index < 2 ^ 64) (bytes : 
 
 -- if they are verified, with the index of any archives
 module _ (w : Wanted) (index : List ℕ) (few : length index < 2 ^ 64) (before : List Mbox) (bytes : List (List ℕ))
-    (verify : w.verify ≡ true) (sound : AreSound before) (file : IsFileOf index (table before))
+    (verify : w.verify ≡ true) (sound : AreSound before) (file : IsFileOfTable index (table before))
     (apart : AreToldApart (map (λ a. a.bytes) before ++ bytes)) where
   stale-or : (o : Option ℕ) (IsFound IsOther : Answer → Type 0)
       → (o ≡ None → (answer : Answer) → IsFound answer → IsOther answer) → (answer : Answer)
@@ -271,8 +275,8 @@ some-old true IsFound found = (refused of.OldIndex, refl)
 some-old false IsFound found = found
 
 -- by the result of reading the index
-pub some-stored-reply : (index : List ℕ) (read : Result Table IndexFault) → IfOk read (IsFileOf index)
-    → IfErr read (IsFirstFault index)
+pub some-stored-reply : (index : List ℕ) (read : Result Table IndexFault) → IfOk read (IsFileOfTable index)
+    → IfErr read (IsFirstFaultOfFile index)
     → (asked : Result Wanted Fault) (held : List (List ℕ)) → (answer : Answer) × IsStoredReply asked index held answer
 some-stored-reply index read file bad (Err fault) held = (refused fault, refl)
 some-stored-reply index (Ok t) file bad (Ok w) held =
@@ -287,7 +291,7 @@ some-stored-reply index (Err f) file bad (Ok w) held = (refused (of.Index f), in
 -- ---- refusals
 
 -- a fault that isn't of a device or of memory is a refusal
-refusal-known : (f : Fault) → is_failure (Some f) ≡ false → refusal_of f ≡ Some f
+refusal-known : (f : Fault) → is_failure (Some f) ≡ false → refusal_of_fault f ≡ Some f
 refusal-known f h = grind arith
 
 stored-refusal : (asked : Result Wanted Fault) (index : List ℕ) (held : List (List ℕ)) (f : Fault)
@@ -295,7 +299,7 @@ stored-refusal : (asked : Result Wanted Fault) (index : List ℕ) (held : List (
 stored-refusal asked index held f h = grind arith
 
 pub refused-stored : (asked : Result Wanted Fault) (index : List ℕ) (held : List (List ℕ)) (f : Fault)
-    (old : Option (List ℕ)) → IfSome (refusal_of f) (IsRefusedAs asked index)
+    (old : Option (List ℕ)) → IfSome (refusal_of_fault f) (IsRefusedAs asked index)
     → RepliesBy (IsStoredReply asked index held) (reply_of (Err f)) old old
 refused-stored asked index held f old is = grind (arith, unanswered, stored-refusal, refusal-known)
 
@@ -308,7 +312,7 @@ unproved-replied unproved IsFound f old tells = grind (arith, unanswered)
 -- ---- a refusal has no other cause
 
 pub refused-for : (asked : Result Wanted Fault) (index : List ℕ) (f : Fault)
-    → IfSome (refusal_of f) (IsRefusedAs asked index) → IsForNoOtherCause asked index f
+    → IfSome (refusal_of_fault f) (IsRefusedAs asked index) → IsForNoOtherCause asked index f
 refused-for asked index f h = grind arith
 
 -- a fault of an answer isn't one of these
@@ -321,15 +325,16 @@ answered-for asked index r h = grind arith
 module _ (w : Wanted) (index : List ℕ) (few : length index < 2 ^ 64) where
   pub one-bad-index : {V U : Type 0} → (told : Result U Fault) (r : Result V IndexFault)
       → MatchResult r (λ _. ⊥) (λ f. IsErrAnd told (λ e. e ≡ of.Index f))
-      → AreBytes index → IfErr r (IsFirstFault index) → (fault : Fault) → IsIndexRefusal w index fault → fault_in told
+      → AreBytes index → IfErr r (IsFirstFaultOfFile index) → (fault : Fault) → IsIndexRefusal w index fault
+      → fault_in told
       ≡ Some fault
   one-bad-index told (Ok v) same h h2 fault h3 = absurd same
   one-bad-index (Ok u) (Err f) same h h2 fault h3 = absurd same
   one-bad-index (Err e) (Err f) same h h2 fault h3 = grind (arith, one-first-fault, no_fault)
 
-  module _ (t : Table) (file : IsFileOf index t) where
+  module _ (t : Table) (file : IsFileOfTable index t) where
     -- if one file is that of two tables, both are too old or neither is
-    one-age : (u : Table) → IsFileOf index u → is_too_old t w ≡ is_too_old u w
+    one-age : (u : Table) → IsFileOfTable index u → is_too_old t w ≡ is_too_old u w
     one-age u f = ap (λ (v : Table). is_too_old v w) (same-table index u t few f file)
 
     pub one-too-old : is_too_old t w ≡ true → (fault : Fault) → IsIndexRefusal w index fault → Some of.OldIndex

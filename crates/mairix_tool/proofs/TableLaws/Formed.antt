@@ -3,7 +3,7 @@
 use Rattle.mairix_tool.proofs.Words.{◌≡◌, ◌∙◌, ℕ, zero, suc, ◌+◌, ◌<◌, ◌≤◌, Bool, true, false, not, cond, All, List, []}
 use Rattle.mairix_tool.proofs.Words.{◌∷◌, length, map, refl, sym, ap, subst, arith, inl, inr, AllByRecursion, nat_tests}
 use Rattle.mairix_tool.proofs.Words.{length-map, All-nil, All-cons, All-head, All-tail, recursion_from_All, Name, Text}
-use Rattle.mairix_tool.proofs.Words.{Record, IsFileOf, index_file, is_of_kind, Archive, Key, Table, archive_length}
+use Rattle.mairix_tool.proofs.Words.{Record, IsFileOfTable, index_file, is_of_kind, Archive, Key, Table, archive_length}
 use Rattle.mairix_tool.proofs.Words.{IsPath, IsArchive, IsMessage, IsKey, IsWellFormed, Follows, KeyBefore, AllNext}
 use Rattle.mairix_tool.proofs.Words.{newest, IsDigest, AreSound, Mbox, table, mboxes, without_digest, keys_but_names}
 use Rattle.mairix_tool.proofs.Words.{but_digests, old_table, HasDigests}
@@ -171,7 +171,7 @@ named-paths (p ∷ paths) (b ∷ bytes) all =
     (All-head IsPath p paths all) (named-paths paths bytes (All-tail IsPath p paths all))
 
 pub whole-file : (archives : List Mbox) (index : List ℕ) → All (λ (a : Mbox). IsPath a.path) archives
-    → AreSound archives → index ≡ index_file (table archives) → IsFileOf index (table archives)
+    → AreSound archives → index ≡ index_file (table archives) → IsFileOfTable index (table archives)
 whole-file archives index paths sound is = (sound-table archives paths sound, is)
 
 module _ (paths bytes : List (List ℕ)) (index : List ℕ) (are : All IsPath paths) (sound : AreSound (mboxes paths bytes))
@@ -179,16 +179,16 @@ module _ (paths bytes : List (List ℕ)) (index : List ℕ) (are : All IsPath pa
     abbrev indexed : Table
     indexed = table (mboxes paths bytes)
 
-    pub indexed-file : index ≡ index_file indexed → IsFileOf index indexed
+    pub indexed-file : index ≡ index_file indexed → IsFileOfTable index indexed
     indexed-file is = whole-file (mboxes paths bytes) index (named-paths paths bytes are) sound is
 
     pub otherwise-file : (t : Table) → but_digests t ≡ but_digests indexed → HasDigests t → index ≡ index_file t
-        → IsFileOf index t
+        → IsFileOfTable index t
     otherwise-file t same digests is = (
       otherwise-formed (mboxes paths bytes) (named-paths paths bytes are) sound t same
           digests,
       is,
     )
 
-    pub before-file : index ≡ index_file (old_table indexed) → IsFileOf index (old_table indexed)
+    pub before-file : index ≡ index_file (old_table indexed) → IsFileOfTable index (old_table indexed)
     before-file is = (old-formed (mboxes paths bytes) (named-paths paths bytes are) sound, is)

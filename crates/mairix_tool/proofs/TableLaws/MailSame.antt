@@ -7,7 +7,8 @@ use Rattle.mairix_tool.proofs.Words.{Facts, TextKind, words, folding, Text, Link
 use Rattle.mairix_tool.proofs.Words.{Archive, Key, Table, Query, is_true, Format, Raw, Excerpt, Search, IsChain}
 use Rattle.mairix_tool.proofs.Words.{IsLedToBySome, AreThreadsOf, AreChosen, AreChosenBy, satisfying, message_text}
 use Rattle.mairix_tool.proofs.Words.{answer_text, first_changed, stale_archive, mail_told, facts_at, record_at}
-use Rattle.mairix_tool.proofs.Words.{texts_with, is_among, are_linked, table, entry_of, with_messages, Term, text_terms}
+use Rattle.mairix_tool.proofs.Words.{texts_with, is_among, are_linked, table, entry_of_archive, with_messages, Term}
+use Rattle.mairix_tool.proofs.Words.{text_terms}
 use Rattle.mairix_tool.proofs.Words.{own_id_terms, link_terms, Numbered, numbered_messages, numbered_at, nobody}
 use Rattle.mairix_tool.proofs.Words.{link_ids, share_id, mail_in, shape, shape_of}
 use Rattle.std.specs.List.{filter}
@@ -197,29 +198,32 @@ pub shape-same : (archives : List Archived) (format : Format) (numbers : List �
     → answer_text format (table archives) (map (λ (a : Archived). a.bytes) archives) numbers
     ≡ shape archives format numbers
 shape-same archives format numbers =
-    all-shown (λ n. message_text format (map entry_of archives) (map (λ (a : Archived). a.bytes) archives)
+    all-shown (λ n. message_text format (map entry_of_archive archives) (map (λ (a : Archived). a.bytes) archives)
     (record_at (table archives).messages n))
     (λ n. shape_of format archives (numbered_at (numbered_messages 0 archives) n))
-    (λ n. ap (λ (rs : List Record). message_text format (map entry_of archives)
+    (λ n. ap (λ (rs : List Record). message_text format (map entry_of_archive archives)
     (map (λ (a : Archived). a.bytes) archives) (record_at rs n)) (records-numbered 0 archives)
-    ∙ shown-at format (map entry_of archives) (map (λ (a : Archived). a.bytes) archives) (numbered_messages 0 archives)
+    ∙ shown-at format (map entry_of_archive archives) (map (λ (a : Archived). a.bytes) archives)
+    (numbered_messages 0 archives)
     n)
     numbers
 
 -- ---- archives that are as they were indexed
 
 none-changed : (n : ℕ) (archives : List Archived)
-    → first_changed n (map entry_of archives) (map (λ (a : Archived). a.bytes) archives) ≡ None
+    → first_changed n (map entry_of_archive archives) (map (λ (a : Archived). a.bytes) archives) ≡ None
 none-changed n [] = refl
 none-changed n (a ∷ archives) =
-    ap (λ (b : Bool). cond b (first_changed (n + 1) (map entry_of archives) (map (λ (x : Archived). x.bytes) archives))
+    ap (λ (b : Bool). cond b (first_changed (n + 1) (map entry_of_archive archives)
+    (map (λ (x : Archived). x.bytes) archives))
     (Some n)) (eq-eqb (length a.bytes) (length a.bytes) refl) ∙ none-changed (n + 1) archives
 
 pub not-stale : (archives : List Archived)
     → stale_archive (table archives).archives (map (λ (a : Archived). a.bytes) archives) ≡ None
 not-stale archives =
-    let many : length (map (λ (a : Archived). a.bytes) archives) ≡ length (map entry_of archives) =
-    length-map archives (λ (a : Archived). a.bytes) ∙ sym (length-map archives entry_of) in
-    ap (λ (b : Bool). cond b (first_changed 0 (map entry_of archives) (map (λ (a : Archived). a.bytes) archives))
-    (Some (min (length (map (λ (a : Archived). a.bytes) archives)) (length (map entry_of archives)))))
+    let many : length (map (λ (a : Archived). a.bytes) archives) ≡ length (map entry_of_archive archives) =
+    length-map archives (λ (a : Archived). a.bytes) ∙ sym (length-map archives entry_of_archive) in
+    ap (λ (b : Bool). cond b (first_changed 0 (map entry_of_archive archives)
+    (map (λ (a : Archived). a.bytes) archives))
+    (Some (min (length (map (λ (a : Archived). a.bytes) archives)) (length (map entry_of_archive archives)))))
     (eq-eqb _ _ many) ∙ none-changed 0 archives

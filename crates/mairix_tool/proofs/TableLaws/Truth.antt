@@ -3,7 +3,7 @@
 use Rattle.mairix_tool.proofs.Words.{◌≡◌, ◌∙◌, ℕ, Bool, true, not, List, [], ◌∷◌, refl, ap, arith, ◌&&◌, ◌||◌, nat_le}
 use Rattle.mairix_tool.proofs.Words.{bytes_eq, list_any, option_map_or, TextKind, Query, Any, Word, Part, Prefix, Date}
 use Rattle.mairix_tool.proofs.Words.{Size, HasFlag, Not, Either, Queries, End, More, some_word, contains_text}
-use Rattle.mairix_tool.proofs.Words.{begins_with, has_flag, is_same, is_true, each_is_true, some_is_true}
+use Rattle.mairix_tool.proofs.Words.{word_begins_with, has_flag, is_same, is_true, each_is_true, some_is_true}
 use Rattle.mail_words.specs.declared.flags.Flags.{Flags}
 use Rattle.mail_dates.specs.Ranges.{has_date}
 use Rattle.mail_query.specs.declared.kinds.Kinds.{Kinds}
@@ -36,7 +36,7 @@ mutual
   truth-same Any a b same = refl
   truth-same (Word kinds text) a b same = some_word-same (bytes_eq text) kinds a b same
   truth-same (Part kinds text) a b same = some_word-same (contains_text text) kinds a b same
-  truth-same (Prefix kinds text) a b same = some_word-same (begins_with text) kinds a b same
+  truth-same (Prefix kinds text) a b same = some_word-same (word_begins_with text) kinds a b same
   truth-same (Date range) a b same = ap (has_date range) same.date
   truth-same (Size low high) a b same = ap (λ (n : ℕ). nat_le low n && option_map_or (λ most. nat_le n most) high true)
       same.size

@@ -2,7 +2,7 @@
 ghost use Rattle.std.specs.Prelude.{◌≡◌, ◌==◌, ◌<◌, ◌≤◌, ℕ, List, length, map, All, IfOk, IfErr, IfSome, OnOk, option_map};
 ghost use Rattle.std.specs.List.{list_any};
 ghost use Rattle.header_text.specs.Headers.{fields_size, most_in_header};
-ghost use Rattle.mime_text.specs.MessageFacts.{date_text_of, flags_of, own_id_of, ids_of_fields, first_of, is_status as is_status_of, is_linking as is_linking_of, IsSizedId, HasSizedIds};
+ghost use Rattle.mime_text.specs.MessageFacts.{date_text_of, flags_of_header, own_id_of, ids_of_fields, first_of, is_status as is_status_of, is_linking as is_linking_of, IsSizedId, HasSizedIds};
 ghost use Rattle.header_text.specs.Ids.{ids_of};
 
 use crate::fault::TextFault;
@@ -74,7 +74,7 @@ impl Model for KeptFacts {
 }
 
 impl KeptFacts {
-    ghost use Rattle.mime_text.specs.Feeding.{Notes};
+    ghost use Rattle.mime_text.specs.Feeding.{NotesFacts};
 
     pub(crate) fn none() -> Self
         ensures { result ≡ None }
@@ -97,7 +97,7 @@ impl KeptFacts {
         header: &Header,
         reader: &mut FieldReader,
     ) -> Result<Facts, TextFault>
-        ensures facts { IfOk result (λ facts. Notes self.old (Some facts) header.now) }
+        ensures facts { IfOk result (λ facts. NotesFacts self.old (Some facts) header.now) }
         ensures sizes { IfOk result HasSizedIds }
         ensures fault { IfErr result (λ fault. fault ≡ TextFault.OutOfMemory) }
     {
@@ -114,7 +114,7 @@ impl KeptFacts {
         header: &Header,
         reader: &mut FieldReader,
     ) -> Result<(), TextFault>
-        ensures notes { OnOk result (Notes self.old self.new header.now) }
+        ensures notes { OnOk result (NotesFacts self.old self.new header.now) }
         ensures fault { IfErr result (λ fault. fault ≡ TextFault.OutOfMemory) }
     {
         if self.facts.is_none() {
@@ -151,7 +151,7 @@ fn is_status(name: &[u8]) -> bool
 
 /// Returns the flags of all Status and X-Status fields together.
 fn flags(fields: Fields<'_>) -> Flags
-    ensures { result ≡ flags_of fields.entry }
+    ensures { result ≡ flags_of_header fields.entry }
 {
     let mut flags = Flags {
         seen: false,

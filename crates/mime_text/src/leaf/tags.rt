@@ -2,7 +2,7 @@
 ghost use Rattle.std.specs.Prelude.{◌≡◌, ◌≤◌, ◌+◌, ◌++◌, true, false, length, replicate, option_map, IfOk, OnOk, string_bytes, encode_utf8_all};
 ghost use Rattle.std.specs.Str.{chars};
 ghost use Rattle.header_text.specs.Cuts.{cut_at as cut_at_of};
-ghost use Rattle.mime_text.specs.OpenTags.{blanked, is_open_behind};
+ghost use Rattle.mime_text.specs.OpenTags.{blanked_tags, is_tag_open_after_all};
 ghost use Rattle.mime_text.specs.Inside.TagSpans.{span_end, shown_span};
 
 use header_text::cut_at;
@@ -13,9 +13,9 @@ const SPACES: &str = "                                                          
 
 /// Whether a quick look finds that no character of a text is in a tag, if one is open before it or none is.
 pub(crate) fn is_free_of_tags(open_before: bool, text: &str) -> bool
-    ensures text { result ≡ true → encode_utf8_all (blanked open_before (chars text.now))
+    ensures text { result ≡ true → encode_utf8_all (blanked_tags open_before (chars text.now))
         ≡ text.now }
-    ensures is_open { result ≡ true → is_open_behind open_before (chars text.now) ≡ open_before }
+    ensures is_open { result ≡ true → is_tag_open_after_all open_before (chars text.now) ≡ open_before }
 {
     if open_before {
         return false;
@@ -75,8 +75,8 @@ pub(crate) fn blank_tags(
     into: &mut String,
 ) -> Result<bool, AllocError>
     ensures text { OnOk result (string_bytes into.new
-        ≡ string_bytes into.old ++ encode_utf8_all (blanked open_before (chars text.now))) }
-    ensures is_open { IfOk result (λ behind. behind ≡ is_open_behind open_before (chars text.now)) }
+        ≡ string_bytes into.old ++ encode_utf8_all (blanked_tags open_before (chars text.now))) }
+    ensures is_open { IfOk result (λ behind. behind ≡ is_tag_open_after_all open_before (chars text.now)) }
     ensures size { OnOk result (length (string_bytes into.new)
         ≤ length (string_bytes into.old) + length text.now) }
 {

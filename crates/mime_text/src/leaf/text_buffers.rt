@@ -2,7 +2,7 @@
 ghost use Rattle.std.specs.Prelude.{◌≡◌, ℕ, ◌≤◌, List, length, IfSome, IfOk, OnOk, string_bytes, encode_utf8_all};
 ghost use Rattle.std.specs.Str.{chars};
 ghost use Rattle.header_text.specs.Charsets.{text_of};
-ghost use Rattle.mime_text.specs.OpenTags.{blanked, is_open_behind};
+ghost use Rattle.mime_text.specs.OpenTags.{blanked_tags, is_tag_open_after_all};
 ghost use Rattle.mime_text.specs.Inside.Showing.{Shows};
 ghost use Rattle.mime_text.specs.Limits.{most_in_line, most_in_line_text};
 
@@ -41,8 +41,8 @@ fn write_text(charset: Charset, line: &[u8], into: &mut String) -> Result<(), Al
 fn write_blanked(open_before: bool, text: &str, into: &mut String) -> Result<bool, AllocError>
     requires { length text.now ≤ most_in_line_text }
     ensures text { OnOk result (string_bytes into.new
-        ≡ encode_utf8_all (blanked open_before (chars text.now))) }
-    ensures is_open { IfOk result (λ behind. behind ≡ is_open_behind open_before (chars text.now)) }
+        ≡ encode_utf8_all (blanked_tags open_before (chars text.now))) }
+    ensures is_open { IfOk result (λ behind. behind ≡ is_tag_open_after_all open_before (chars text.now)) }
     ensures size { length (string_bytes into.new) ≤ most_in_line_text }
 {
     into.clear();
@@ -93,9 +93,9 @@ impl TextBuffers {
         requires own { IfSome own (λ text. (text.now ≡ line.now)
             × (text.now ≡ text_of charset line.now)) }
         ensures text { OnOk result (string_bytes self.new.blanked
-            ≡ encode_utf8_all (blanked open_before (chars (text_of charset line.now)))) }
+            ≡ encode_utf8_all (blanked_tags open_before (chars (text_of charset line.now)))) }
         ensures is_open { IfOk result (λ behind. behind
-            ≡ is_open_behind open_before (chars (text_of charset line.now))) }
+            ≡ is_tag_open_after_all open_before (chars (text_of charset line.now))) }
     {
         if let Some(text) = own {
             return write_blanked(open_before, text, &mut self.blanked);
@@ -114,9 +114,9 @@ impl TextBuffers {
     ) -> Result<(), TextFault>
         requires { length line.now ≤ most_in_line }
         ensures shows { Shows S.takes S.refuses TextKind.Body (encode_utf8_all
-            (blanked is_open.old (chars (text_of charset line.now)))) result sink.old sink.new }
+            (blanked_tags is_open.old (chars (text_of charset line.now)))) result sink.old sink.new }
         ensures is_open { OnOk result (is_open.new
-            ≡ is_open_behind is_open.old (chars (text_of charset line.now))) }
+            ≡ is_tag_open_after_all is_open.old (chars (text_of charset line.now))) }
     {
         let own = own_text(charset, line);
         if let Some(text) = own

@@ -2,8 +2,8 @@
 ghost use Rattle.std.specs.Prelude.{◌≡◌, ◌<◌, [], length, take, slice_get, IfSome, IfNone, OnOk};
 ghost use Rattle.mime_text.specs.declared.parts.frame.Frame.{Frame};
 ghost use Rattle.mime_text.specs.Sinks.{Pair};
-ghost use Rattle.mime_text.specs.Stream.{hit};
-ghost use Rattle.mime_text.specs.Frames.{scan, led, inside_out};
+ghost use Rattle.mime_text.specs.Stream.{place_after_hit};
+ghost use Rattle.mime_text.specs.Frames.{scan, place_after_delimiter, inside_out};
 
 use crate::parts::boundary::Boundary;
 use crate::parts::delimiter::{Delimiter, after_dashes, delimiter_behind};
@@ -54,7 +54,7 @@ fn outermost(frames: &[Frame], text: &[u8]) -> Option<(usize, Delimiter)>
     ensures within { IfSome result (λ r. r.0 < length frames.now) }
     ensures none { IfNone result (scan {A = Pair} [] frames.now text.now ≡ None) }
     ensures some { IfSome result (λ r. (f : Frame) × (slice_get frames.now r.0 ≡ Some f)
-        × (scan {A = Pair} [] frames.now text.now ≡ led (Some r.1) f
+        × (scan {A = Pair} [] frames.now text.now ≡ place_after_delimiter (Some r.1) f
         (inside_out (take r.0 frames.now) []))) }
 {
     for (at, frame) in frames.iter().enumerate() {
@@ -66,7 +66,7 @@ fn outermost(frames: &[Frame], text: &[u8]) -> Option<(usize, Delimiter)>
 }
 
 impl Nesting {
-    ghost use Rattle.mime_text.specs.Frames.{lead_to, opened, below};
+    ghost use Rattle.mime_text.specs.Frames.{lead_to, with_frame, below};
 
     /// Returns the state in which the message itself is read, and no multipart is open. It takes no memory.
     pub(crate) fn new(alloc: Global) -> Self
@@ -89,7 +89,7 @@ impl Nesting {
     /// Ends the multiparts inside the outermost open one that the line delimits, and that one too if the line closes
     /// it. Returns what the line delimits; if that is nothing, nothing changes.
     pub(crate) fn delimit(&mut self, line: &[u8]) -> Lead
-        ensures leads { lead_to {A = Pair} result self.new ≡ hit self.old.frames line.now }
+        ensures leads { lead_to {A = Pair} result self.new ≡ place_after_hit self.old.frames line.now }
         ensures none { result ≡ Lead.Nowhere → self.new ≡ self.old }
     {
         let Some(text) = after_dashes(line) else {
@@ -117,7 +117,7 @@ impl Nesting {
         boundary: Boundary,
         default: DefaultType,
     ) -> Result<(), AllocError>
-        ensures { OnOk result (self.new.frames ≡ opened self.old.left boundary default
+        ensures { OnOk result (self.new.frames ≡ with_frame self.old.left boundary default
             self.old.frames) }
     {
         if self.left == 0 {

@@ -3,7 +3,7 @@ ghost use Rattle.std.specs.Prelude.{◌≡◌, ◌<◌, ◌≤◌, ◌++◌, [],
 ghost use Rattle.std.specs.Option.{option_map_or};
 ghost use Rattle.header_text.specs.Blanks.{split_while};
 ghost use Rattle.header_text.specs.Names.{is_named as is_named_of};
-ghost use Rattle.mime_text.specs.Parameters.{quoted, is_token_byte as is_token_byte_of, is_parameter_name_byte as is_parameter_name_byte_of, value_and_rest, piece_of, behind_semicolon as behind_semicolon_of, parameter as parameter_of};
+ghost use Rattle.mime_text.specs.Parameters.{quoted_and_rest, is_token_byte as is_token_byte_of, is_parameter_name_byte as is_parameter_name_byte_of, value_and_rest, piece_of, behind_semicolon as behind_semicolon_of, parameter as parameter_of};
 
 use header_text::{after_blanks, cut_at, is_named, trimmed};
 use std::alloc::AllocError;
@@ -39,8 +39,8 @@ fn after_name(bytes: &[u8]) -> &[u8]
 
 /// Adds what is in quotes, from after the first quote, and returns what follows the quotes.
 fn read_quoted<'a>(text: &'a [u8], into: &mut Vec<u8>) -> Result<&'a [u8], AllocError>
-    ensures value { IfOk result (λ rest. into.new.items ≡ into.old.items ++ (quoted text.now).0) }
-    ensures rest { IfOk result (λ rest. rest.now ≡ (quoted text.now).1) }
+    ensures value { IfOk result (λ rest. into.new.items ≡ into.old.items ++ (quoted_and_rest text.now).0) }
+    ensures rest { IfOk result (λ rest. rest.now ≡ (quoted_and_rest text.now).1) }
 {
     let mut rest = text;
     while let Some((first, others)) = rest.split_first() {

@@ -6,10 +6,10 @@ ghost use Rattle.header_text.specs.HeldLines.{HasLines};
 ghost use Rattle.mime_text.specs.MessageFacts.{HasSizedIds, facts_of};
 ghost use Rattle.mime_text.specs.Sinks.{Pair, Hands};
 ghost use Rattle.mime_text.specs.Types.{shape_of};
-ghost use Rattle.mime_text.specs.Stream.{hit};
-ghost use Rattle.mime_text.specs.Feeding.{ending, Notes};
+ghost use Rattle.mime_text.specs.Stream.{place_after_hit};
+ghost use Rattle.mime_text.specs.Feeding.{ending, NotesFacts};
 ghost use Rattle.mime_text.specs.Texts.{texts_of_message};
-ghost use Rattle.mime_text.specs.Inside.Passing.{Passes, IsOver};
+ghost use Rattle.mime_text.specs.Inside.Passing.{PassesPairs, IsOver};
 ghost use Rattle.mime_text.specs.Limits.{most_in_line};
 
 use crate::fault::TextFault;
@@ -74,7 +74,7 @@ fn end_entity<S: TextSink>(
 }
 
 impl PartReader {
-    ghost use Rattle.mime_text.specs.Feeding.{Comes, ComesBehindHeader, ComesEnding, KnowsFacts, given_after, given_behind};
+    ghost use Rattle.mime_text.specs.Feeding.{Comes, ComesBehindHeader, ComesEnding, KnowsFacts, given_after_delimiter, given_after_header};
 
     /// Returns a reader that is before the first line of a message. It takes no memory.
     pub(crate) fn new(alloc: Global) -> Self
@@ -96,7 +96,7 @@ impl PartReader {
     pub(crate) fn line<S: TextSink>(&mut self, line: &[u8], sink: &mut S) -> Result<(), TextFault>
         requires short { length line.now ≤ most_in_line }
         requires last { length line.now ≤ length_before_feed line.now + 1 }
-        ensures pairs { Passes S.takes S.refuses (Comes self.old) (Comes self.new)
+        ensures pairs { PassesPairs S.takes S.refuses (Comes self.old) (Comes self.new)
             (λ c ms. c (line.now ∷ ms)) result sink.old sink.new }
         ensures facts { OnOk result ((ls : List (List ℕ)) → KnowsFacts self.old ls
             → KnowsFacts self.new (ls ++ line.now ∷ [])) }
@@ -109,7 +109,7 @@ impl PartReader {
 
     /// Ends the entity, and goes on at the place after a delimiter.
     fn leave<S: TextSink>(&mut self, lead: Lead, sink: &mut S) -> Result<(), TextFault>
-        ensures pairs { Passes S.takes S.refuses (ComesEnding self.old lead) (Comes self.new)
+        ensures pairs { PassesPairs S.takes S.refuses (ComesEnding self.old lead) (Comes self.new)
             (λ c. c) result sink.old sink.new }
         ensures facts { self.new.facts ≡ self.old.facts }
     {
@@ -127,7 +127,7 @@ impl PartReader {
 
     /// Goes on at the place after a delimiter.
     fn follow(&mut self, lead: Lead)
-        ensures comes { Comes self.new (given_after lead self.old.nesting) }
+        ensures comes { Comes self.new (given_after_delimiter lead self.old.nesting) }
         ensures facts { self.new.facts ≡ self.old.facts }
     {
         match lead {
@@ -144,10 +144,10 @@ impl PartReader {
 
     /// Reads a line that delimits nothing.
     fn inner_line<S: TextSink>(&mut self, line: &[u8], sink: &mut S) -> Result<(), TextFault>
-        requires inner { hit {A = Pair} self.old.nesting.frames line.now ≡ None }
+        requires inner { place_after_hit {A = Pair} self.old.nesting.frames line.now ≡ None }
         requires short { length line.now ≤ most_in_line }
         requires last { length line.now ≤ length_before_feed line.now + 1 }
-        ensures pairs { Passes S.takes S.refuses (Comes self.old) (Comes self.new)
+        ensures pairs { PassesPairs S.takes S.refuses (Comes self.old) (Comes self.new)
             (λ c ms. c (line.now ∷ ms)) result sink.old sink.new }
         ensures facts { OnOk result ((ls : List (List ℕ)) → KnowsFacts self.old ls
             → KnowsFacts self.new (ls ++ line.now ∷ [])) }
@@ -169,9 +169,9 @@ impl PartReader {
         default: DefaultType,
         sink: &mut S,
     ) -> Result<(), TextFault>
-        ensures pairs { Passes S.takes S.refuses (ComesBehindHeader self.old counted default)
+        ensures pairs { PassesPairs S.takes S.refuses (ComesBehindHeader self.old counted default)
             (Comes self.new) (λ c. c) result sink.old sink.new }
-        ensures facts { OnOk result (Notes self.old.facts self.new.facts self.old.header) }
+        ensures facts { OnOk result (NotesFacts self.old.facts self.new.facts self.old.header) }
     {
         give_header(counted, self.header.fields(), &mut self.fields, sink)?;
         self.facts.note(self.alloc, &self.header, &mut self.fields)?;
@@ -182,7 +182,7 @@ impl PartReader {
     fn begin_body(&mut self, default: DefaultType) -> Result<(), AllocError>
         ensures comes { OnOk result ((ls : List (List ℕ)) → HasLines self.old.header ls
             → Comes self.new
-            (given_behind (shape_of default (fields_of ls)) self.old.nesting (fields_of ls))) }
+            (given_after_header (shape_of default (fields_of ls)) self.old.nesting (fields_of ls))) }
         ensures facts { self.new.facts ≡ self.old.facts }
     {
         let entity = EntityType::of(self.alloc, default, &self.header)?;
@@ -207,7 +207,7 @@ impl PartReader {
 
     /// Ends the message: gives the texts that are left, and returns what the message's own header says.
     pub(crate) fn end<S: TextSink>(&mut self, sink: &mut S) -> Result<Facts, TextFault>
-        ensures pairs { Passes S.takes S.refuses (Comes self.old) IsOver (λ c _. c []) result
+        ensures pairs { PassesPairs S.takes S.refuses (Comes self.old) IsOver (λ c _. c []) result
             sink.old sink.new }
         ensures facts { IfOk result (λ facts. (ls : List (List ℕ)) → KnowsFacts self.old ls
             → facts ≡ facts_of (fields_of ls)) }

@@ -1,7 +1,8 @@
 -- `add_archive` adds the messages of an archive and the digest of its bytes, because all bytes were read through the
 -- digest.
 use Rattle.index_job.proofs.Words.{still_known, arith, [], ◌≡◌, ℕ, List, Option, Some, Ok, IfSome, subst}
-use Rattle.index_job.proofs.Words.{err_from_is_err_and, sha256, Draft, begun_archive, stepped, Mbox, draft_of}
+use Rattle.index_job.proofs.Words.{err_from_is_err_and, sha256, Draft, draft_in_archive, draft_after, Mbox}
+use Rattle.index_job.proofs.Words.{draft_of_archives}
 use Rattle.contract_words.proofs.StillKnown.{still-known, still-end}
 use Rattle.mbox_cutter.specs.Digests.{inner, AreWhole}
 use Rattle.mbox_cutter.specs.Sources.{Stays}
@@ -14,8 +15,9 @@ returns-in_err-messages-clause-err g c =
     let p = err_from_is_err_and c.from_residual-in_err-messages.result c.from_residual-in_err-messages.ensures.1 in
     rw (p.1, p.2) (λ before bytes is rest.
     let a : Mbox = record { path = c.args.path.now; bytes = bytes } in
-    let begun : stepped (begun_archive c.args.path.now) (Some (draft_of before)) ≡ Ok c.begin_archive.new.self =
-    subst (λ (o : Option Draft). stepped (begun_archive c.args.path.now) o ≡ Ok c.begin_archive.new.self) is
+    let begun : draft_after (draft_in_archive c.args.path.now) (Some (draft_of_archives before))
+    ≡ Ok c.begin_archive.new.self =
+    subst (λ (o : Option Draft). draft_after (draft_in_archive c.args.path.now) o ≡ Ok c.begin_archive.new.self) is
     c.in_ok-begin_archive.ensures.gives in
     let comes : still_known (g.S.Source.rest (inner c.new-digested.result).now)
     (g.S.Source.rest (inner c.read_archive.new.source).now) ≡ Some bytes = grind (arith, rest) in
@@ -27,8 +29,9 @@ returns-in_err-messages-clause-err g c =
 pub returns-clause-ok : goal.returns-clause-ok
 returns-clause-ok g c = λ before bytes is rest.
     let a : Mbox = record { path = c.args.path.now; bytes = bytes } in
-    let begun : stepped (begun_archive c.args.path.now) (Some (draft_of before)) ≡ Ok c.begin_archive.new.self =
-    subst (λ (o : Option Draft). stepped (begun_archive c.args.path.now) o ≡ Ok c.begin_archive.new.self) is
+    let begun : draft_after (draft_in_archive c.args.path.now) (Some (draft_of_archives before))
+    ≡ Ok c.begin_archive.new.self =
+    subst (λ (o : Option Draft). draft_after (draft_in_archive c.args.path.now) o ≡ Ok c.begin_archive.new.self) is
     c.in_ok-begin_archive.ensures.gives in
     let comes : still_known (g.S.Source.rest (inner c.new-digested.result).now)
     (g.S.Source.rest (inner c.read_archive.new.source).now) ≡ Some bytes = grind (arith, rest) in

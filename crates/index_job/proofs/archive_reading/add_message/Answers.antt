@@ -1,6 +1,6 @@
 -- `add_message` adds a message line by line, because the lines that are gathered at its end are its whole text.
 use Rattle.index_job.proofs.Words.{◌≡◌, ◌∙◌, ℕ, List, Option, Some, false, IfSome, sym, subst, arith, MatchOption}
-use Rattle.index_job.proofs.Words.{Draft, IsInArchive, Ended, IsInside, HasEnded, IsReading, HasReadAll}
+use Rattle.index_job.proofs.Words.{Draft, IsInArchive, Ended, IsInsideMessage, HasEnded, IsReading, HasReadAll}
 use Rattle.index_job.proofs.Words.{err_from_is_err_and, with_open_message}
 use Rattle.index_job.proofs.MessageSteps.{message-fault, opens, ready-behind, adds-message, own-fault}
 use Rattle.index_job.proofs.SourceReads.{reads-join}
@@ -40,7 +40,7 @@ returns-in-Some-clause-ready g c =
     let gathered = c.lines.invariant.gathers d c.requires.ready.1 in
     let more = c.in_ok-length.ensures.gathers (Some (with_open_message d)) gathered.0 gathered.1 in
     let ends : HasEnded start ended place =
-    subst (λ (o : Option Ended). MatchOption o (IsInside start place) (λ e. HasEnded start e place)) c.in-Some.is
+    subst (λ (o : Option Ended). MatchOption o (IsInsideMessage start place) (λ e. HasEnded start e place)) c.in-Some.is
     c.in_ok-length.ensures.place in
     ready-behind (record { archive = c.args.archive; offset = start; length = ended.length; size = ended.size }) d
     place.offset c.finish_message.result
@@ -83,8 +83,8 @@ lines-preserved g c =
     let text = c.next_line.new.text in
     let builder = c.next_line.new.builder in
     let next = c.next_line.new.cutter in
-    let inside : IsInside start next.place =
-    subst (λ (o : Option Ended). MatchOption o (IsInside start next.place) (λ e. HasEnded start e next.place))
+    let inside : IsInsideMessage start next.place =
+    subst (λ (o : Option Ended). MatchOption o (IsInsideMessage start next.place) (λ e. HasEnded start e next.place))
     c.in_default.is e.place in
     record {
       reads = reads-join g.S.Source false c.args.cutter.now.source c.lines.cutter.source next.source i.reads e.reads;

@@ -1,6 +1,7 @@
 -- The message is open, and its first lines are gathered. The loop ends because each event leaves fewer to come.
 use Rattle.index_job.proofs.Words.{still_known, false, ◌≡◌, ◌≤◌, ℕ, List, Some, Draft, text, events_left, Awaited}
-use Rattle.index_job.proofs.Words.{coming_inside, IsInside, IsReadingSome, ReadsSource, HasGathered, with_open_message}
+use Rattle.index_job.proofs.Words.{coming_inside, IsInsideMessage, IsReadingSome, ReadsSource, HasGathered}
+use Rattle.index_job.proofs.Words.{with_open_message}
 use Rattle.index_job.proofs.archive_reading.add_message.Given as goal
 
 -- the message is still open, and its first lines are gathered; if it is known what is to come, they are a beginning of
@@ -8,7 +9,7 @@ use Rattle.index_job.proofs.archive_reading.add_message.Given as goal
 abbrev pub invariant-lines : goal.invariant-lines
 invariant-lines g l = record {
   reads : ReadsSource g.S.Source false l.initial.cutter.source l.cutter.source;
-  inside : IsInside l.offset l.cutter.place;
+  inside : IsInsideMessage l.offset l.cutter.place;
   most : l.cutter.place.most ≡ l.initial.cutter.place.most;
   later : l.initial.cutter.place.offset ≤ l.cutter.place.offset;
   nearer : events_left l.cutter.place ≤ events_left l.initial.cutter.place;

@@ -1,6 +1,7 @@
 -- `add_cut_words` adds the words that the lengths cut off the bytes, because each turn cuts off the next one.
 use Rattle.index_job.proofs.Words.{◌≡◌, ◌∙◌, ◌∷◌, ◌++◌, ◌+◌, ℕ, List, arith, drop, get_or, option_map, sym, ap, ap₂}
-use Rattle.index_job.proofs.Words.{subst, AllByRecursion, err_from_is_err_and, draft_with_terms, cut, HasTermLength}
+use Rattle.index_job.proofs.Words.{subst, AllByRecursion, err_from_is_err_and, draft_with_terms, parts_of_lengths}
+use Rattle.index_job.proofs.Words.{HasTermLength}
 use Rattle.index_job.proofs.Words.{word_terms}
 use Rattle.index_job.proofs.FoldedWords.{next-cut, next-sum}
 use Rattle.index_job.proofs.Terms.{fails-first, waits-next}
@@ -18,10 +19,10 @@ loop-length-preserved c =
     let n = get_or lengths i 0 in
     let word : List ℕ = c.split_at.result.0.now in
     let behind : List ℕ = c.split_at.result.1.now in
-    let left : List (List ℕ) = cut (drop (i + 1) lengths) behind in
-    let next : cut (drop i lengths) rest ≡ word ∷ left =
+    let left : List (List ℕ) = parts_of_lengths (drop (i + 1) lengths) behind in
+    let next : parts_of_lengths (drop i lengths) rest ≡ word ∷ left =
     next-cut lengths i rest c.loop-length-test.true
-    ∙ ap₂ (λ (w b : List ℕ). w ∷ cut (drop (i + 1) lengths) b) (sym c.split_at.ensures.front)
+    ∙ ap₂ (λ (w b : List ℕ). w ∷ parts_of_lengths (drop (i + 1) lengths) b) (sym c.split_at.ensures.front)
     (sym c.split_at.ensures.back) in
     record {
       phase = c.push.ensures.phase;

@@ -1,6 +1,6 @@
 -- `add_links` adds id by id, so an id that can't be added means that not all can be added.
 use Rattle.index_job.proofs.Words.{◌≡◌, ◌∙◌, ◌∷◌, ◌+◌, arith, Option, drop, map, option_map, sym, ap, subst}
-use Rattle.index_job.proofs.Words.{err_from_is_err_and, LinkId, Draft, draft_with_terms, IsTermFault, link_terms}
+use Rattle.index_job.proofs.Words.{err_from_is_err_and, LinkId, Draft, draft_with_terms, IsFaultOfAdding, link_terms}
 use Rattle.index_job.proofs.Terms.{add-fails, next-link}
 use Rattle.index_job.proofs.term_sink.add_links.Goals as goal
 
@@ -16,6 +16,6 @@ returns-in_err-add-clause-terms c =
     let whole : option_map (draft_with_terms (link_terms c.args.ids.now)) c.args.builder.now
     ≡ option_map (draft_with_terms ((LinkId, id) ∷ link_terms (map (λ id. id.items) (drop (i + 1) ids)))) now =
     c.loop-id.invariant.whole ∙ ap (λ l. option_map (draft_with_terms l) now) next in
-    rw (p.1, p.2) (subst (λ (o : Option Draft). IsTermFault o fault) (sym whole)
+    rw (p.1, p.2) (subst (λ (o : Option Draft). IsFaultOfAdding o fault) (sym whole)
     (add-fails LinkId id (link_terms (map (λ id. id.items) (drop (i + 1) ids))) now c.add.new.self fault
     c.in_err-add.ensures.gives))

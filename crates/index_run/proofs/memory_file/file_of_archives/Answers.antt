@@ -4,7 +4,7 @@ use Rattle.index_run.proofs.Words.{◌≡◌, ℕ, List, [], length, None, Some,
 use Rattle.std.specs.Prelude.{IfOk, Ok, Option, Result}
 use Rattle.std.specs.Io.KnownBytes.{Appends}
 use Rattle.mail_index.specs.declared.build.build_fault.WriteFault.{WriteFault}
-use Rattle.mail_index.specs.Faults.{IsFileOf}
+use Rattle.mail_index.specs.Faults.{IsFileOfTable}
 use Rattle.mail_index.specs.Files.{index_file, HasSmallSections}
 use Rattle.mail_index.specs.Tables.{Table}
 use Rattle.index_run.proofs.memory_file.file_of_archives.Goals as goal
@@ -12,7 +12,7 @@ use Rattle.index_run.proofs.memory_file.file_of_archives.Goals as goal
 finished : (job : Option Draft) (r : Result ℕ WriteFault) (n : ℕ) (file : List ℕ) → IsSome job
     → IfSome job (λ d. IsWellFormed d.table × HasSmallSections d.table)
     → IfSome job (λ d. IfOk r (λ n. (n ≡ length (index_file d.table))
-    × Appends (Some []) (Some file) (index_file d.table))) → r ≡ Ok n → (t : Table) × IsFileOf file t
+    × Appends (Some []) (Some file) (index_file d.table))) → r ≡ Ok n → (t : Table) × IsFileOfTable file t
 finished None r n file some formed wrote is = absurd (cc some)
 finished (Some d) r n file some formed wrote is = (d.table, (formed.0, (rw is at wrote).1))
 

@@ -1,6 +1,6 @@
 -- `entry` reads a line as the definition does, by its three cases: it isn't UTF-8, it has an `=`, or it has none.
 use Rattle.mairix_options.proofs.Words.{◌==◌, ◌∙◌, sym, ap, subst, lit<, Result, Some, None, before_first, after_first}
-use Rattle.mairix_options.proofs.Words.{split_once_first, Gives, trimmed, refusal, RcFault, Setting}
+use Rattle.mairix_options.proofs.Words.{split_once_first, Gives, text_without_blanks, refusal, RcFault, Setting}
 use Rattle.mairix_options.proofs.Entries.{entry-not_utf8, entry-assigned, entry-no_value}
 use Rattle.mairix_options.proofs.setting.entry.Goals as goal
 
@@ -14,8 +14,8 @@ returns-in-Some c =
     (lit< tt) in
     let says = entry-assigned c.args.base.now c.args.number c.args.text.now c.trimmed_text.result.now
     c.trimmed_text-in-Some.result.now text.1
-    (c.trimmed_text.ensures ∙ ap trimmed (parts.1 ∙ ap (before_first (λ b. b == 61)) text.0))
-    (c.trimmed_text-in-Some.ensures ∙ ap trimmed (parts.2 ∙ ap (after_first (λ b. b == 61)) text.0)) in
+    (c.trimmed_text.ensures ∙ ap text_without_blanks (parts.1 ∙ ap (before_first (λ b. b == 61)) text.0))
+    (c.trimmed_text-in-Some.ensures ∙ ap text_without_blanks (parts.2 ∙ ap (after_first (λ b. b == 61)) text.0)) in
     subst (λ (r : Result Setting RcFault). Gives (λ s. s) refusal c.assigned.result r) (sym says) c.assigned.ensures
 
 pub returns-in-None : goal.returns-in-None

@@ -1,5 +1,6 @@
 -- `answer_indexed` replies as the definition says, because its index is the table of the archives.
-use Rattle.mairix_tool.proofs.Words.{ℕ, List, sym, subst, arith, IsFileOf, table, mboxes, Wanted, wanted, reply_of, map}
+use Rattle.mairix_tool.proofs.Words.{ℕ, List, sym, subst, arith, IsFileOfTable, table, mboxes, Wanted, wanted, reply_of}
+use Rattle.mairix_tool.proofs.Words.{map}
 use Rattle.mairix_tool.proofs.Words.{inl, inr}
 use Rattle.mairix_tool.proofs.ReplyLaws.Once.{refused-once, sound-once}
 use Rattle.mairix_tool.proofs.ReplyLaws.Searching.{asks-nothing, indexed-table}
@@ -17,7 +18,7 @@ returns-clause-told g c = λ bytes held known holds.
     let w : Wanted = wanted c.args.wanted.now in
     let indexed = rw c.as_slice.ensures at (c.in_ok-file.ensures.known bytes known) in
     let same = c.of_file-index.ensures (table (mboxes w.paths bytes))
-    (subst (λ (b : List ℕ). IsFileOf b (table (mboxes w.paths bytes))) (sym c.bytes.ensures) indexed.1) in
+    (subst (λ (b : List ℕ). IsFileOfTable b (table (mboxes w.paths bytes))) (sym c.bytes.ensures) indexed.1) in
     sound-once w bytes held c.of_file-index.result (reply_of c.answer_view.result) (g.O.Out.taken c.args.out.now)
     (g.O.Out.taken c.answer_view.new.out) indexed.0 same (c.answer_view.ensures.told held holds)
 
@@ -45,7 +46,7 @@ returns-clause-counted g c = λ bytes known.
     let w : Wanted = wanted c.args.wanted.now in
     let indexed = rw c.as_slice.ensures at (c.in_ok-file.ensures.known bytes known) in
     let same = c.of_file-index.ensures (table (mboxes w.paths bytes))
-    (subst (λ (b : List ℕ). IsFileOf b (table (mboxes w.paths bytes))) (sym c.bytes.ensures) indexed.1) in
+    (subst (λ (b : List ℕ). IsFileOfTable b (table (mboxes w.paths bytes))) (sym c.bytes.ensures) indexed.1) in
     rw same at c.answer_view.ensures.counted
 
 pub returns-in_err-file-clause-keeps : goal.returns-in_err-file-clause-keeps

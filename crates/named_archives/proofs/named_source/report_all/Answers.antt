@@ -4,7 +4,7 @@ use Rattle.std.proofs.lemmas.Iterator.Adapters.{YieldsList-from_vec}
 use Rattle.std.proofs.lemmas.Iterator.Consumers.{YieldsList-end}
 use Rattle.std.proofs.lemmas.List.Elements.{All-push}
 use Rattle.named_files.specs.Entries.{bytes_of}
-use Rattle.named_archives.specs.Progress.{has_agreed, left_in}
+use Rattle.named_archives.specs.Progress.{has_agreed, bytes_left_in}
 use Rattle.named_archives.proofs.Lists.{agree-more, first-true}
 use Rattle.named_archives.proofs.named_source.report_all.Goals as goal
 
@@ -19,7 +19,7 @@ loop-source-preserved g c =
           (g.F.Folder.agree c.report.new.reports) i.noted told.noted;
       right = λ right. told.right right ∙ i.right right;
       known = λ agrees. All-push (λ s. s.failures ≡ 0 → IsSome s.file
-          → IsSome (left_in g.F.File.Source.rest (bytes_of (g.F.Folder.holds s.folder.now s.name.now)) s.file
+          → IsSome (bytes_left_in g.F.File.Source.rest (bytes_of (g.F.Folder.holds s.folder.now s.name.now)) s.file
           s.progress)) c.loop-source.yielded source (i.known (first-true _ _ _ told.noted agrees)) (told.known agrees);
     }
 

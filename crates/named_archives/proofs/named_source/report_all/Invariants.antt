@@ -2,7 +2,7 @@
 use Rattle.std.proofs.Common.{◌≡◌, ◌&&◌, true, All, IsSome}
 use Rattle.std.specs.List.{list_all}
 use Rattle.named_files.specs.Entries.{bytes_of}
-use Rattle.named_archives.specs.Progress.{has_agreed, left_in}
+use Rattle.named_archives.specs.Progress.{has_agreed, bytes_left_in}
 use Rattle.named_archives.proofs.named_source.report_all.Given as goal
 
 abbrev pub invariant-loop-source : goal.invariant-loop-source
@@ -11,6 +11,7 @@ invariant-loop-source g l = record {
       (λ s. has_agreed g.F.File.Source.rest g.F.File.KeptFile.bytes s.file) l.yielded);
   right : g.F.Folder.reports_are_right → g.F.Folder.agree l.reports ≡ g.F.Folder.agree l.fn.reports;
   known : g.F.Folder.agree l.reports ≡ true → All (λ s. s.failures ≡ 0 → IsSome s.file
-      → IsSome (left_in g.F.File.Source.rest (bytes_of (g.F.Folder.holds s.folder.now s.name.now)) s.file s.progress))
+      → IsSome (bytes_left_in g.F.File.Source.rest (bytes_of (g.F.Folder.holds s.folder.now s.name.now)) s.file
+      s.progress))
       l.yielded;
 }

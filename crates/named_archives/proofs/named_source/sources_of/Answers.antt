@@ -3,7 +3,7 @@ use Rattle.std.proofs.Common.{◌≡◌, ◌∙◌, ◌<◌, ℕ, None, List, St
 use Rattle.std.specs.String.{string_bytes}
 use Rattle.std.proofs.lemmas.List.Elements.{All-push}
 use Rattle.named_files.specs.Entries.{bytes_of}
-use Rattle.named_archives.specs.Progress.{left_in}
+use Rattle.named_archives.specs.Progress.{bytes_left_in}
 use Rattle.named_archives.proofs.Lists.{copied-item, map-more, map-next}
 use Rattle.named_archives.proofs.named_source.sources_of.Goals as goal
 
@@ -22,7 +22,8 @@ loop-number-preserved g c =
     ∙ copied-item c.args.states.now n c.get.result c.get.ensures.lookup in
     record {
       rest = rw c.in_ok-push.ensures.items (map-more
-          (λ s. left_in g.F.File.Source.rest (bytes_of (g.F.Folder.holds s.folder.now s.name.now)) s.file s.progress)
+          (λ s. bytes_left_in g.F.File.Source.rest (bytes_of (g.F.Folder.holds s.folder.now s.name.now)) s.file
+          s.progress)
           (λ k. bytes_of (g.F.Folder.holds c.args.folder.now (string_bytes k))) items source names n name i.rest below
           c.index-names-number.is (new.rest ∙ ap (λ k. bytes_of (g.F.Folder.holds c.args.folder.now k)) here));
       names = rw c.in_ok-push.ensures.items (map-more (λ s. s.name.now) (λ k. string_bytes k) items source names n name

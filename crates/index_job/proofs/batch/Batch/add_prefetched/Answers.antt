@@ -1,6 +1,6 @@
 -- `Batch::add_prefetched` adds word by word, so a word that can't be added means that not all can be added.
 use Rattle.index_job.proofs.Words.{◌≡◌, ◌∙◌, [], ◌∷◌, ◌+◌, ℕ, List, Bor, Option, arith, drop, get_or, option_map, sym}
-use Rattle.index_job.proofs.Words.{ap, subst, err_from_is_err_and, Text, Draft, draft_with_terms, IsTermFault}
+use Rattle.index_job.proofs.Words.{ap, subst, err_from_is_err_and, Text, Draft, draft_with_terms, IsFaultOfAdding}
 use Rattle.index_job.proofs.Words.{word_terms}
 use Rattle.index_job.proofs.Terms.{added-terms, add-fails, in-message-kept, next-waiting, waiting-length}
 use Rattle.index_job.proofs.batch.Batch.add_prefetched.Goals as goal
@@ -28,7 +28,7 @@ returns-in_err-add_prefetched-clause-terms c =
     c.loop-index.invariant.whole ∙ ap (λ l. option_map (draft_with_terms l) now)
     (next-waiting kind c.self.inside.words c.self.inside.count i nothing c.args.self.now c.self.view_is
     c.loop-index-test.true (omega arith)) in
-    rw (p.1, p.2) (subst (λ (o : Option Draft). IsTermFault o fault) (sym whole)
+    rw (p.1, p.2) (subst (λ (o : Option Draft). IsFaultOfAdding o fault) (sym whole)
     (add-fails (Text kind) word rest now c.add_prefetched.new.self fault c.in_err-add_prefetched.ensures.gives))
 
 pub loop-index-preserved : goal.loop-index-preserved

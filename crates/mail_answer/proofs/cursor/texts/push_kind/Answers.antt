@@ -1,6 +1,6 @@
 -- `push_kind` adds the lists of the keys that fit, because their numbers are those of messages.
 use Rattle.mail_answer.proofs.Words.{◌≡◌, ◌∙◌, ℕ, Bool, List, length, sym, ap, subst, arith, list_any, keys_of}
-use Rattle.mail_answer.proofs.Words.{keys_beginning, begins_with, texts_with, some_key, AreNumbers, any_text}
+use Rattle.mail_answer.proofs.Words.{keys_beginning, word_begins_with, texts_with, some_key, AreNumbers, any_text}
 use Rattle.mail_answer.proofs.Words.{numbers_passing, numbers_fitting}
 use Rattle.mail_answer.proofs.CursorLaws.TextLemmas.{looked_up, sorted_keys, fitting_keys, kept_keys}
 use Rattle.mail_answer.proofs.CursorLaws.Texts.{keys_numbers, beginning_numbers, list_numbers, found_left, fitting_left}
@@ -37,7 +37,7 @@ returns-in-Within c = grind (arith, if_joins, fitting_keys, fitting_left, looks_
 
 pub returns-in-Front : goal.returns-in-Front
 returns-in-Front c =
-    let passes : List ℕ → Bool = begins_with c.args.text.now in
+    let passes : List ℕ → Bool = word_begins_with c.args.text.now in
     rw c.in-Front.is
     (record {
       joins =

@@ -3,7 +3,8 @@ use Rattle.mail_index.proofs.Words.{◌≡◌, ◌∙◌, ℕ, List, [], ◌∷�
 use Rattle.mail_index.proofs.Words.{AllByRecursion, insert, Key}
 use Rattle.mail_index.specs.declared.build.key_front.Fronted.{Fronted}
 use Rattle.mail_index.specs.Inside.KeyFronts.{IsFronted}
-use Rattle.mail_index.specs.Inside.KeyMaps.{placed, slots_in, numbers_in, numbers_of_slots, place_in, new_key, IsOrder}
+use Rattle.mail_index.specs.Inside.KeyMaps.{keys_by_numbers, slots_in, numbers_in, numbers_of_slots, place_in, new_key}
+use Rattle.mail_index.specs.Inside.KeyMaps.{IsOrder}
 use Rattle.mail_index.specs.Inside.KeyMaps.{AreInStep}
 use Rattle.mail_index.proofs.BuildLaws.FrontLemmas.{fronted-new}
 use Rattle.mail_index.proofs.BuildLaws.KeyMapLemmas.{order-new, with_pair-gap, length-with_pair-gap, numbers-insert}
@@ -62,7 +63,7 @@ pub returns-in-Ok-clause-ok : goal.returns-in-Ok-clause-ok
 unfolding new_entry
 returns-in-Ok-clause-ok c =
     let c = (goal.at.returns-in-Ok-clause-ok c).In-Ok in
-    ap₂ placed (entries-new c) (numbers-new c)
+    ap₂ keys_by_numbers (entries-new c) (numbers-new c)
     ∙ with_pair-gap c.args.key.now.kind c.args.key.now.text.now c.args.key.now.number c.args.entries.now.items
     (numbers_in c.args.order.now) (place_in c.args.order.now c.args.place) c.requires.step.sorts
     c.requires.place.gap

@@ -1,6 +1,6 @@
 -- `outermost` returns the first frame that the line delimits, because frames go from the outermost to the innermost.
 use Rattle.mime_text.proofs.Words.{◌≡◌, ◌∙◌, suc, [], Option, Some, None, take, drop, ap, arith, add-one, slice_get}
-use Rattle.mime_text.proofs.Words.{Delimiter, Pair, or_else, scan, led, inside_out, delimiter_of}
+use Rattle.mime_text.proofs.Words.{Delimiter, Pair, or_else, scan, place_after_delimiter, inside_out, delimiter_of}
 use Rattle.mime_text.proofs.FrameLemmas.{scan-at, got-at, or_else-led}
 use Rattle.mime_text.proofs.parts.nesting.outermost.Goals as goal
 
@@ -16,7 +16,7 @@ returns-in-Some-clause-some c =
       f,
       here,
       c.loop-at.invariant ∙ scan-at c.args.text.now c.args.frames.now c.loop-at.at [] f here
-          ∙ ap (λ (o : Option Delimiter). or_else (led {A = Pair} o f outer) later) kind
+          ∙ ap (λ (o : Option Delimiter). or_else (place_after_delimiter {A = Pair} o f outer) later) kind
           ∙ or_else-led c.in-Some.kind f outer later,
     )
 
@@ -28,6 +28,6 @@ loop-at-preserved c =
     got-at c.args.frames.now c.loop-at.at f (omega arith) c.index-frames-at.is in
     let kind : delimiter_of f.boundary c.args.text.now ≡ None = cc in
     rw add-one (c.loop-at.invariant ∙ scan-at c.args.text.now c.args.frames.now c.loop-at.at [] f here
-    ∙ ap (λ (o : Option Delimiter). or_else (led {A = Pair} o f outer)
+    ∙ ap (λ (o : Option Delimiter). or_else (place_after_delimiter {A = Pair} o f outer)
     (scan (inside_out (take (suc c.loop-at.at) c.args.frames.now) []) (drop (suc c.loop-at.at) c.args.frames.now)
     c.args.text.now)) kind)

@@ -1,6 +1,6 @@
 -- `Draft::counts` never overflows, because the limits keep each section small.
 use Rattle.mail_index.proofs.Words.{◌≡◌, length, map, refl, rules, arith, common_steps, Draft}
-use Rattle.mail_index.specs.Inside.Drafts.{draft_of, kept_archive, message_count}
+use Rattle.mail_index.specs.Inside.Drafts.{draft_of_fields, kept_archive, message_count}
 use Rattle.mail_index.proofs.BuildLaws.DraftLemmas.{message_count-within}
 use Rattle.mail_index.proofs.BuildLaws.Sizes.{length-archives, length-texts, length-all_postings, counted_length-small}
 use Rattle.mail_index.proofs.build.draft.Draft.counts.Goals as goal
@@ -28,7 +28,8 @@ key_bytes-text_bytes-requires-clause-postings c = grind (arith, message_count-wi
 
 pub returns-clause-small : goal.returns-clause-small
 returns-clause-small c =
-    let d : Draft = draft_of c.self.inside.most c.self.inside.path c.self.inside.in_message c.self.inside.archives.items
+    let d : Draft = draft_of_fields c.self.inside.most c.self.inside.path c.self.inside.in_message
+    c.self.inside.archives.items
     c.self.inside.records.items c.self.inside.keys in
     let archive_count : c.len.result ≡ length (map kept_archive c.self.inside.archives.items) =
     first_of (search rules, grind (arith, common_steps)) in

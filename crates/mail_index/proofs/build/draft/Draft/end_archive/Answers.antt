@@ -1,13 +1,14 @@
 -- `Draft::end_archive` keeps a draft valid, because all messages of the archive end within its length.
 use Rattle.mail_index.proofs.Words.{◌≡◌, ◌≤◌, [], ◌∷◌, ◌++◌, map, Some, string_bytes, ap, sym, subst, ◌∙◌, option_map}
 use Rattle.mail_index.proofs.Words.{map-append, Draft, end_of, archive_count}
-use Rattle.mail_index.specs.Inside.Drafts.{draft_of, kept_archive}
+use Rattle.mail_index.specs.Inside.Drafts.{draft_of_fields, kept_archive}
 use Rattle.mail_index.proofs.BuildLaws.Placing.{archive-ended_draft}
 use Rattle.mail_index.proofs.build.draft.Draft.end_archive.Goals as goal
 
 pub invariant_of-self-in_default : goal.invariant_of-self-in_default
 invariant_of-self-in_default c =
-    let d : Draft = draft_of c.self.inside.most c.self.inside.path c.self.inside.in_message c.self.inside.archives.items
+    let d : Draft = draft_of_fields c.self.inside.most c.self.inside.path c.self.inside.in_message
+    c.self.inside.archives.items
     c.self.inside.records.items c.self.inside.keys in
     let named : map kept_archive c.push.new.self.items
     ≡ map kept_archive c.self.inside.archives.items ++ record

@@ -2,13 +2,14 @@
 use Rattle.std.specs.Prelude.{IfSome, FitsSigned}
 use Rattle.std.specs.Int.{w64}
 use Rattle.mail_index.proofs.Words.{arith, sym, subst, Draft, IsNextMessage, IsInMessage}
-use Rattle.mail_index.specs.Inside.Drafts.{draft_of}
+use Rattle.mail_index.specs.Inside.Drafts.{draft_of_fields}
 use Rattle.mail_index.proofs.BuildLaws.Placing.{message-ended_draft}
 use Rattle.mail_index.proofs.build.draft.Draft.end_message.Goals as goal
 
 pub invariant_of-self-2 : goal.invariant_of-self-2
 invariant_of-self-2 c =
-    let d : Draft = draft_of c.self.inside.most c.self.inside.path c.self.inside.in_message c.self.inside.archives.items
+    let d : Draft = draft_of_fields c.self.inside.most c.self.inside.path c.self.inside.in_message
+    c.self.inside.archives.items
     c.self.inside.records.items c.self.inside.keys in
     -- the type of the date says this
     let date : IfSome c.args.message.date (FitsSigned w64) = grind (arith, c.well_formed) in

@@ -2,7 +2,7 @@
 use Rattle.std.proofs.Common.{arith}
 use Rattle.mail_index.proofs.Words.{◌≡◌, ◌<◌, ◌∙◌, ℕ, List, length, ap, set, Equal, Key, lies_to, key_at, no_key}
 use Rattle.std.proofs.lemmas.List.{set-get_or}
-use Rattle.mail_index.specs.Inside.KeyMaps.{placed, numbers_in, with_one}
+use Rattle.mail_index.specs.Inside.KeyMaps.{keys_by_numbers, numbers_in, with_one}
 use Rattle.mail_index.proofs.BuildLaws.KeyMapLemmas.{with_pair-found}
 use Rattle.mail_index.proofs.build.key_map.KeyMap.has_recent.Goals as goal
 
@@ -18,6 +18,6 @@ returns-in-Some c has =
     grind (
       arith,
       with_pair-found c.args.kind c.args.text.now c.args.number entries i order low here sorts.sorted
-          (sorts.whole i low) ∙ ap (λ k. placed (set entries i k) order) same
-          ∙ ap (λ es. placed es order) (set-get_or entries i no_key),
+          (sorts.whole i low) ∙ ap (λ k. keys_by_numbers (set entries i k) order) same
+          ∙ ap (λ es. keys_by_numbers es order) (set-get_or entries i no_key),
     )

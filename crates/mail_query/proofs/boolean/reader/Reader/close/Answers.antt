@@ -1,7 +1,8 @@
 -- `Reader::close` ends the innermost group as the definition does, by what was opened last: a `(`, a `not`, or nothing.
 use Rattle.mail_query.proofs.Words.{◌≡◌, ◌∙◌, Ok, Result, sym, subst, arith, Gives, query_of, refusal, shown_level}
-use Rattle.mail_query.proofs.Words.{shown_stack, State, placed, closed, level_query, QueryFaultKind}
-use Rattle.mail_query.specs.Inside.Shown.{shown}
+use Rattle.mail_query.proofs.Words.{shown_stack, State, state_after_operand, state_after_close, level_query}
+use Rattle.mail_query.proofs.Words.{QueryFaultKind}
+use Rattle.mail_query.specs.Inside.Shown.{state_of_reader}
 use Rattle.mail_query.proofs.BooleanLaws.StackLemmas.{pops-close, pops-not}
 use Rattle.mail_query.proofs.boolean.reader.Reader.close.Goals as goal
 
@@ -11,11 +12,11 @@ returns-in_ok-node-in-Some-ForClose c =
     let node = query_of c.in_ok-node-in-Some-ForClose.node in
     let asked : Ok (level_query (shown_level reader.level)) ≡ Ok node =
     rw c.replace-inner.ensures.value at c.in_ok-node-in-Some-ForClose.ensures in
-    let whole : closed (shown reader) ≡ Ok
-    (placed (shown_stack c.pop.new.self.items) (shown_level c.in-Some-ForClose.outer) node) =
+    let whole : state_after_close (state_of_reader reader) ≡ Ok
+    (state_after_operand (shown_stack c.pop.new.self.items) (shown_level c.in-Some-ForClose.outer) node) =
     rw c.if-self.false (pops-close reader.waiting.items c.pop.new.self.items c.in-Some-ForClose.outer
     (shown_level reader.level) (rw c.in-Some-ForClose.field-0-is at c.in-Some-ForClose.ensures.items) ∙ cc) in
-    subst (λ (r : Result State QueryFaultKind). Gives (λ _. shown c.place.new.self) refusal c.place.result r)
+    subst (λ (r : Result State QueryFaultKind). Gives (λ _. state_of_reader c.place.new.self) refusal c.place.result r)
     (sym whole) (rw c.replace-inner.ensures.after at c.place.ensures)
 
 pub returns-in-Some-ForNot : goal.returns-in-Some-ForNot
