@@ -1,8 +1,9 @@
 -- Rows: how the last line ends.
-use Rattle.mail_answer.proofs.Words.{◌≡◌, [], ◌∷◌, map, refl, codes, lines, first_length, is_empty, ending_of, Empty}
+use Rattle.mail_answer.proofs.Words.{◌≡◌, [], ◌∷◌, map, refl, codes, lines, first_length, is_empty, ending_of_bytes}
+use Rattle.mail_answer.proofs.Words.{Empty}
 use Rattle.mail_answer.proofs.Words.{Ended, Return, Open}
 
-rows : map ending_of (codes "hi\n\r\n" ∷ codes "hi\r\n" ∷ codes "hi\n\r" ∷ codes "hi\nyou" ∷ [])
+rows : map ending_of_bytes (codes "hi\n\r\n" ∷ codes "hi\r\n" ∷ codes "hi\n\r" ∷ codes "hi\nyou" ∷ [])
     ≡ Empty ∷ Ended ∷ Return ∷ Open 3 ∷ []
 unfolding lines first_length is_empty
 rows = refl

@@ -1,7 +1,7 @@
 -- Rows: what closes a span.
-use Rattle.mail_answer.proofs.Words.{◌≡◌, [], ◌∷◌, map, refl, codes, lines, first_length, is_empty, closed}
+use Rattle.mail_answer.proofs.Words.{◌≡◌, [], ◌∷◌, map, refl, codes, lines, first_length, is_empty, closed_text}
 
-rows : map closed (codes "hi\n\n" ∷ codes "hi\n" ∷ codes "hi" ∷ codes "hi\n\r" ∷ [])
+rows : map closed_text (codes "hi\n\n" ∷ codes "hi\n" ∷ codes "hi" ∷ codes "hi\n\r" ∷ [])
     ≡ codes "hi\n\n" ∷ codes "hi\n\n" ∷ codes "hi\n\n" ∷ codes "hi\n\r\n" ∷ []
-unfolding closed lines first_length is_empty
+unfolding closed_text lines first_length is_empty
 rows = refl

@@ -7,10 +7,12 @@ unfoldable pub use Rattle.header_text.specs.Headers.{fields_of}
 pub use Rattle.mail_answer.specs.Answers.{SendsKnown, SendsSpans}
 pub use Rattle.mail_answer.specs.Asked.{Agree, HoldsArchives, TellLengths, indexed_lengths}
 pub use Rattle.mail_answer.specs.Closing.{behind_next, feed, feeds_behind, has_feed, next_text}
-pub use Rattle.mail_answer.specs.CursorAhead.{Ahead, Counts, CountsPostings, Drops, IsFirst, Reaches, Spends, both}
-pub use Rattle.mail_answer.specs.CursorAhead.{common, left_in, lesser_of, levels, one_or_other, others, postings_in}
-pub use Rattle.mail_answer.specs.CursorAhead.{united}
-pub use Rattle.mail_answer.specs.CursorNumbers.{AreWithin, TakesFirst, TakesFrom, numbers_from}
+pub use Rattle.mail_answer.specs.CursorAhead.{WalkAhead, CountsSteps, CountsPostings, Drops, IsFirst, Reaches, Spends}
+pub use Rattle.mail_answer.specs.CursorAhead.{both}
+pub use Rattle.mail_answer.specs.CursorAhead.{common, steps_left_in, lesser_of, levels, one_or_other, others}
+pub use Rattle.mail_answer.specs.CursorAhead.{postings_in}
+pub use Rattle.mail_answer.specs.CursorAhead.{union_of}
+pub use Rattle.mail_answer.specs.CursorNumbers.{AreWithin, TakesFirst, TakesFrom, numbers_to_come}
 pub use Rattle.mail_answer.specs.Cursors.{LooksUp, compared_in_all, is_in, kinds_in, look_up_steps}
 pub use Rattle.mail_answer.specs.Cursors.{look_up_steps_of_all, look_ups, look_ups_of_all, most_left, most_left_of_all}
 pub use Rattle.mail_answer.specs.Cursors.{numbers_named, numbers_of_keys, run_finding_steps, run_finding_steps_of_all}
@@ -25,29 +27,33 @@ pub use Rattle.mail_answer.specs.Inside.CursorScans.{IsFound, Scans, is_ahead, s
 pub use Rattle.mail_answer.specs.Inside.CursorTexts.{HaveNumbers, any_text, compared_by, looked_up_by, numbers_fitting}
 pub use Rattle.mail_answer.specs.Inside.CursorTexts.{numbers_passing, run_compared_by, some_has, some_of_kinds}
 pub use Rattle.mail_answer.specs.Inside.Digests.{AbsorbsPart, ReadsDigest, front_digest}
-pub use Rattle.mail_answer.specs.Inside.Endings.{ending_of, ending_of_line, feeds_of, line_of, with_byte}
+pub use Rattle.mail_answer.specs.Inside.Endings.{ending_of_bytes, ending_of_line, feeds_of, line_of, with_byte}
 pub use Rattle.mail_answer.specs.Inside.Forests.{AreBothAmong, AreInOneTree, LabelsTrees, LeadsBack, ShareKey, Shortens}
 pub use Rattle.mail_answer.specs.Inside.Forests.{StaysInThreads, TellsThreads, Unites}
 pub use Rattle.mail_answer.specs.Inside.HeaderReads.{HasFields, HasFieldsAfter, WillHaveFields}
 pub use Rattle.mail_answer.specs.Inside.PassedArchives.{ArePassed}
-pub use Rattle.mail_answer.specs.Inside.Readings.{IsInside, Reading, ReadsBehind, ReadsTail, coming, coming_count}
+pub use Rattle.mail_answer.specs.Inside.Readings.{IsInsideArchive, Reading, AppendsRead, ReadsTail, bytes_not_passed}
+pub use Rattle.mail_answer.specs.Inside.Readings.{coming_count}
 pub use Rattle.mail_answer.specs.Inside.Readings.{span_reading}
-pub use Rattle.mail_answer.specs.Inside.Writing.{IsReady, IsSameAnswer}
+pub use Rattle.mail_answer.specs.Inside.Writing.{IsReadyToWrite, IsSameAnswer}
 pub use Rattle.mail_answer.specs.Mail.{AreChosen, AreChosenBy, AreThreadsOf, IsChain, IsLedTo, IsLedToBySome, Search}
 pub use Rattle.mail_answer.specs.Mail.{satisfying}
 pub use Rattle.mail_answer.specs.Marks.{Adds, each_number, fits, some_key, truth_at}
 pub use Rattle.mail_answer.specs.Pieces.{ReadsFront, TellPieces}
-pub use Rattle.mail_answer.specs.Shapes.{AreSpansOf, answer_text, is_closed, known_answer, known_message, last_of}
+pub use Rattle.mail_answer.specs.Shapes.{AreSpansOf, answer_text, is_closed, known_answer, known_message, last_line_of}
 pub use Rattle.mail_answer.specs.Shapes.{message_text, path_at, raw_line, span}
-unfoldable pub use Rattle.mail_answer.specs.Shapes.{closed}
-pub use Rattle.mail_answer.specs.Sheets.{Joins, JoinsFront, Tells, Writes, counted, joined}
-pub use Rattle.mail_answer.specs.Stale.{TellsStale, first_changed, length_at, stale_archive}
-pub use Rattle.mail_answer.specs.TableAnswers.{Answers, IsTableAnswer, TableAnswer, answer_of_numbers, mail_told}
+unfoldable pub use Rattle.mail_answer.specs.Shapes.{closed_text}
+pub use Rattle.mail_answer.specs.Sheets.{AddsBytes, JoinsFront, IsIfKnown, WritesText, count_after, joined_texts}
+pub use Rattle.mail_answer.specs.Stale.{TellsStale, first_changed, length_in_table, stale_archive}
+pub use Rattle.mail_answer.specs.TableAnswers.{SendsTableAnswer, IsTableAnswer, TableAnswer, answer_of_numbers}
+pub use Rattle.mail_answer.specs.TableAnswers.{mail_told}
 pub use Rattle.mail_answer.specs.TableAnswers.{search_of}
-pub use Rattle.mail_answer.specs.TableFacts.{chosen_numbers, facts_at, is_among, no_record, record_at, texts_with}
+pub use Rattle.mail_answer.specs.TableFacts.{chosen_numbers, facts_at, is_number_among, no_record, record_at}
+pub use Rattle.mail_answer.specs.TableFacts.{texts_with}
 pub use Rattle.mail_answer.specs.TableFacts.{truths}
-pub use Rattle.mail_answer.specs.Threads.{AreThreads, IsInThread, IsInThreadOfSome, IsPath, are_linked}
-pub use Rattle.mail_answer.specs.Verified.{AreRead, AreVerified, FindsDigests, ReadEach, TellsVerified, first_altered}
+pub use Rattle.mail_answer.specs.Threads.{AreThreads, IsInThread, IsInThreadOfSome, IsPathOfLinks, are_linked}
+pub use Rattle.mail_answer.specs.Verified.{AreReadOnce, AreVerified, FindsDigests, ReadEach, TellsVerified}
+pub use Rattle.mail_answer.specs.Verified.{first_altered}
 pub use Rattle.mail_answer.specs.Verified.{has_digest, unverified_archive}
 pub use Rattle.mail_answer.specs.declared.archives.Archives.{Ghosts}
 pub use Rattle.mail_answer.specs.declared.cursor.texts.Fit.TheVariants.{Front, Whole, Within}

@@ -7,9 +7,9 @@ use Rattle.std.specs.List.{flat_map}
 use Rattle.contract_words.specs.Devices.{Counted}
 use Rattle.mbox_cutter.specs.declared.device.Out.{Ghosts as OutGhosts}
 use Rattle.mail_index.specs.Tables.{Table}
-use Rattle.mail_answer.specs.Shapes.{closed, AreSpansOf}
+use Rattle.mail_answer.specs.Shapes.{closed_text, AreSpansOf}
 use Rattle.mail_answer.specs.Faults.{is_stale, is_of_archives}
-use Rattle.mail_answer.specs.Sheets.{Tells}
+use Rattle.mail_answer.specs.Sheets.{IsIfKnown}
 use Rattle.mail_answer.specs.declared.archives.Archives.{Ghosts}
 use Rattle.mail_answer.specs.declared.fault.AnswerFault.{AnswerFault}
 use Rattle.mail_answer.specs.declared.fault.AnswerFaultKind.{AnswerFaultKind}
@@ -30,14 +30,14 @@ SendsAnswer taken taken' text messages (Err fault) = SendsFront taken taken' tex
 
 -- The same of a text that may be unknown: it is the known one, if there is a known one.
 abbrev pub SendsKnown : Option (List ℕ) → Option (List ℕ) → Option (List ℕ) → ℕ → Result ℕ AnswerFault → Type 0
-SendsKnown taken taken' known messages result = (text : List ℕ) × Tells known text
+SendsKnown taken taken' known messages result = (text : List ℕ) × IsIfKnown known text
     × SendsAnswer taken taken' text messages result
 
 -- The same of an mbox answer, whatever bytes the archives have: for each of the messages with these numbers it has as
 -- many bytes as were indexed, closed.
 abbrev pub SendsSpans : Option (List ℕ) → Option (List ℕ) → Table → List ℕ → Result ℕ AnswerFault → Type 0
 SendsSpans taken taken' t numbers result = (spans : List (List ℕ)) × AreSpansOf t numbers spans
-    × SendsAnswer taken taken' (flat_map closed spans) (length numbers) result
+    × SendsAnswer taken taken' (flat_map closed_text spans) (length numbers) result
 
 -- whether the call failed with a fault of these kinds
 abbrev pub fails_by : {T : Type 0} → (AnswerFaultKind → Bool) → Result T AnswerFault → Bool

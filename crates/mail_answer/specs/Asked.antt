@@ -7,9 +7,9 @@ use Rattle.mail_index.specs.Tables.{Archive, Table}
 use Rattle.mail_answer.specs.Answers.{fails_by}
 use Rattle.mail_answer.specs.Faults.{is_of_archives, is_stale, IfStale}
 use Rattle.mail_answer.specs.Mail.{Search, AreChosen}
-use Rattle.mail_answer.specs.Stale.{length_at}
+use Rattle.mail_answer.specs.Stale.{length_in_table}
 use Rattle.mail_answer.specs.TableAnswers.{mail_told}
-use Rattle.mail_answer.specs.TableFacts.{is_among, record_at}
+use Rattle.mail_answer.specs.TableFacts.{is_number_among, record_at}
 use Rattle.mail_answer.specs.declared.archives.Archives.{Ghosts}
 use Rattle.mail_answer.specs.declared.fault.AnswerFault.{AnswerFault}
 use Rattle.mail_answer.specs.declared.fault.AnswerFaultKind.{AnswerFaultKind}
@@ -61,7 +61,7 @@ pub record AsksUpTo {A : Type 0} (g : Ghosts A) (named : List Archive) (n : ℕ)
 -- fails.
 abbrev pub FindsLengths : {A T : Type 0} → Ghosts A → List Archive → A → A → Result T AnswerFaultKind → Type 0
 FindsLengths g named old new (Ok _) = Agree g named (length named) old new
-FindsLengths g named old new (Err (Stale n)) = (other : ℕ) × (other ≢ length_at named n)
+FindsLengths g named old new (Err (Stale n)) = (other : ℕ) × (other ≢ length_in_table named n)
     × AsksUpTo g named n (Ok other) old new
 FindsLengths g named old new (Err Device) = (n : ℕ) × (fault : DeviceFault) × AsksUpTo g named n (Err fault) old new
 FindsLengths g named old new (Err OutOfMemory) = ⊥
@@ -69,7 +69,8 @@ FindsLengths g named old new (Err OutFailed) = ⊥
 
 -- the archive of one of the messages with these numbers
 abbrev pub IsArchiveOfSome : Table → List ℕ → ℕ → Type 0
-IsArchiveOfSome t numbers archive = (n : ℕ) × IsTrue (is_among n numbers) × (archive ≡ (record_at t.messages n).archive)
+IsArchiveOfSome t numbers archive = (n : ℕ) × IsTrue (is_number_among n numbers)
+    × (archive ≡ (record_at t.messages n).archive)
 
 -- the archive of one of the messages that the search chooses
 abbrev pub IsArchiveOfChosen : Table → Search → ℕ → Type 0

@@ -6,7 +6,7 @@ use Rattle.mail_answer.specs.Marks.{truth_at, each_number}
 
 -- whether each message still comes, how many steps are left at most, how many of these are postings, and how many
 -- levels are below
-pub record Ahead : Type 0 where
+pub record WalkAhead : Type 0 where
   pub truths : List Bool
   pub left : ℕ
   pub postings : ℕ
@@ -25,32 +25,32 @@ one_or_other (x ∷ xs) [] = x ∷ xs
 one_or_other (x ∷ xs) (y ∷ ys) = (x || y) ∷ one_or_other xs ys
 
 -- the messages that still come in each of one or more walks; none if there is no walk
-abbrev pub common : List Ahead → List Bool
+abbrev pub common : List WalkAhead → List Bool
 common [] = []
 common (w ∷ []) = w.truths
 common (w ∷ v ∷ ws) = both w.truths (common (v ∷ ws))
 
 -- the messages that still come in at least one walk
-abbrev pub united : List Ahead → List Bool
-united [] = []
-united (w ∷ ws) = one_or_other w.truths (united ws)
+abbrev pub union_of : List WalkAhead → List Bool
+union_of [] = []
+union_of (w ∷ ws) = one_or_other w.truths (union_of ws)
 
 -- of `count` messages, those from `low` on that don't come in the walk
 abbrev pub others : ℕ → ℕ → List Bool → List Bool
 others count low truths = each_number count (λ n. nat_le low n && not (truth_at truths n))
 
 -- how many steps are left at most in all walks
-abbrev pub left_in : List Ahead → ℕ
-left_in [] = 0
-left_in (w ∷ ws) = w.left + left_in ws
+abbrev pub steps_left_in : List WalkAhead → ℕ
+steps_left_in [] = 0
+steps_left_in (w ∷ ws) = w.left + steps_left_in ws
 
 -- how many postings are left in all walks
-abbrev pub postings_in : List Ahead → ℕ
+abbrev pub postings_in : List WalkAhead → ℕ
 postings_in [] = 0
 postings_in (w ∷ ws) = w.postings + postings_in ws
 
 -- one more than the most levels below a walk; 0 if there is no walk
-abbrev pub levels : List Ahead → ℕ
+abbrev pub levels : List WalkAhead → ℕ
 levels [] = 0
 levels (w ∷ ws) = max (w.below + 1) (levels ws)
 
@@ -84,7 +84,7 @@ pub record Spends (old_left new_left old_steps new_steps : ℕ) : Type 0 where
   pub most : new_steps + new_left ≤ old_steps + old_left
 
 -- the steps rise by exactly what `left` falls by, up to the greatest value of their count
-pub record Counts (old_left new_left old_steps new_steps : ℕ) : Type 0 where
+pub record CountsSteps (old_left new_left old_steps new_steps : ℕ) : Type 0 where
   pub fewer : new_left ≤ old_left
   pub counted : new_steps ≡ add_steps old_steps (old_left - new_left)
 

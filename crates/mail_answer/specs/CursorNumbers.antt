@@ -2,18 +2,18 @@
 use Rattle.std.specs.Prelude.{◌≡◌, ℕ, ◌<◌, ◌≤◌, Bool, true, nat_le, ◌&&◌, List, [], ◌∷◌, ◌++◌, filter, Option}
 use Rattle.std.specs.Prelude.{MatchOption}
 use Rattle.std.specs.List.{range_with_len, AllByRecursion}
-use Rattle.mail_answer.specs.CursorAhead.{Ahead}
+use Rattle.mail_answer.specs.CursorAhead.{WalkAhead}
 use Rattle.mail_answer.specs.Cursors.{ToCome}
 use Rattle.mail_answer.specs.Marks.{truth_at}
 
 -- of `count` messages, the numbers from `low` on that still come
-abbrev pub numbers_from : ℕ → ℕ → List Bool → List ℕ
-numbers_from low count truths = filter (λ n. nat_le low n && truth_at truths n) (range_with_len 0 count)
+abbrev pub numbers_to_come : ℕ → ℕ → List Bool → List ℕ
+numbers_to_come low count truths = filter (λ n. nat_le low n && truth_at truths n) (range_with_len 0 count)
 
 -- what a cursor still gives whose walk still gives this
-abbrev pub walk_to_come : ℕ → ℕ → Ahead → ToCome
+abbrev pub walk_to_come : ℕ → ℕ → WalkAhead → ToCome
 walk_to_come low count walk = record {
-  numbers = numbers_from low count walk.truths;
+  numbers = numbers_to_come low count walk.truths;
   left = walk.left;
   postings = walk.postings;
 }

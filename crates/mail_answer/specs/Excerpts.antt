@@ -21,14 +21,14 @@ abbrev pub without_controls : List ℕ → List ℕ
 without_controls text = map shown_byte text
 
 -- a text after a space, or nothing if it is empty
-abbrev pub spaced : List ℕ → List ℕ
-spaced [] = []
-spaced (b ∷ bs) = 32 ∷ b ∷ bs
+abbrev pub text_after_space : List ℕ → List ℕ
+text_after_space [] = []
+text_after_space (b ∷ bs) = 32 ∷ b ∷ bs
 
 -- the line of a field: the name, a colon, the value, LF
 abbrev pub field_line : List HeaderField → List ℕ → List ℕ
-field_line fields name = name ++ 58 ∷ spaced (without_controls (decoded_value (unfolded_body (body_of name fields)))) ++
-    10 ∷ []
+field_line fields name = name ++ 58 ∷ text_after_space
+    (without_controls (decoded_value (unfolded_body (body_of name fields)))) ++ 10 ∷ []
 
 -- the names of the fields in an excerpt
 abbrev pub excerpt_names : List (List ℕ)

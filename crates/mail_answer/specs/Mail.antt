@@ -5,7 +5,7 @@ use Rattle.mail_index.specs.Tables.{RisesFrom}
 use Rattle.mail_query.specs.Query.{Query}
 use Rattle.mail_query.specs.Truth.{Facts, is_true}
 use Rattle.mail_answer.specs.declared.format.Format.{Format}
-use Rattle.mail_answer.specs.TableFacts.{is_among}
+use Rattle.mail_answer.specs.TableFacts.{is_number_among}
 
 -- the number of messages, what each says of itself, and which two of them share a link id
 pub record Mail : Type 0 where
@@ -36,12 +36,12 @@ IsLedTo linked m n = (path : List ℕ) × IsChain linked m path n
 
 -- the message is in the thread of one of these
 abbrev pub IsLedToBySome : (ℕ → ℕ → Bool) → List ℕ → ℕ → Type 0
-IsLedToBySome linked numbers n = (m : ℕ) × IsTrue (is_among m numbers) × IsLedTo linked m n
+IsLedToBySome linked numbers n = (m : ℕ) × IsTrue (is_number_among m numbers) × IsLedTo linked m n
 
 -- the numbers below `count` of all messages in the threads of these ones, rising, each once
 pub record AreThreadsOf (count : ℕ) (linked : ℕ → ℕ → Bool) (numbers members : List ℕ) : Type 0 where
   pub rises : RisesFrom 0 members
-  pub each : (n : ℕ) → IsTrue (is_among n members) ↔ ((n < count) × IsLedToBySome linked numbers n)
+  pub each : (n : ℕ) → IsTrue (is_number_among n members) ↔ ((n < count) × IsLedToBySome linked numbers n)
 
 -- ---- the messages of an answer
 

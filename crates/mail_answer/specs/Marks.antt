@@ -2,7 +2,7 @@
 use Rattle.std.specs.Prelude.{◌≡◌, ℕ, ◌<◌, Bool, false, ◌&&◌, ◌||◌, List, length, map, bytes_eq}
 use Rattle.std.specs.List.{list_any, range_with_len, slice_index_or}
 use Rattle.mail_query.specs.Truth.{contains_text, word_begins_with}
-use Rattle.mail_answer.specs.TableFacts.{is_among}
+use Rattle.mail_answer.specs.TableFacts.{is_number_among}
 use Rattle.mail_answer.specs.declared.cursor.texts.Fit.{Fit}
 use Rattle.mail_answer.specs.declared.cursor.texts.Fit.TheVariants.{Whole, Within, Front}
 
@@ -27,4 +27,4 @@ fits Front = word_begins_with
 
 -- whether one of these keys, each with its numbers, passes and has the number
 abbrev pub some_key : (List ℕ → Bool) → ℕ → List (List ℕ × List ℕ) → Bool
-some_key passes n keys = list_any (λ k. passes k.0 && is_among n k.1) keys
+some_key passes n keys = list_any (λ k. passes k.0 && is_number_among n k.1) keys

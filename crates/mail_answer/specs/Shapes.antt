@@ -31,18 +31,18 @@ raw_line offset length path = decimal offset ++ 32 ∷ decimal length ++ 32 ∷ 
 -- ---- mbox: the span, then LFs until its last line is empty
 
 -- the last of the lines, or no bytes if there is no line
-abbrev pub last_of : List (List ℕ) → List ℕ
-last_of [] = []
-last_of (l ∷ []) = l
-last_of (l ∷ m ∷ ls) = last_of (m ∷ ls)
+abbrev pub last_line_of : List (List ℕ) → List ℕ
+last_line_of [] = []
+last_line_of (l ∷ []) = l
+last_line_of (l ∷ m ∷ ls) = last_line_of (m ∷ ls)
 
 -- whether the last line of the bytes is empty
 abbrev pub is_closed : List ℕ → Bool
-is_closed bytes = is_empty (last_of (lines bytes))
+is_closed bytes = is_empty (last_line_of (lines bytes))
 
 -- the bytes, and as few LFs as make their last line empty
-unfoldable pub closed : List ℕ → List ℕ
-closed bytes = if is_closed bytes then bytes else if is_closed (bytes ++ feed) then bytes ++ feed
+unfoldable pub closed_text : List ℕ → List ℕ
+closed_text bytes = if is_closed bytes then bytes else if is_closed (bytes ++ feed) then bytes ++ feed
     else bytes ++ feed ++ feed
 
 -- ---- answers
@@ -51,7 +51,7 @@ closed bytes = if is_closed bytes then bytes else if is_closed (bytes ++ feed) t
 abbrev pub message_text : Format → List Archive → List (List ℕ) → Record → List ℕ
 message_text Raw named archives m = raw_line m.offset m.length (path_at named m.archive)
 message_text Excerpt named archives m = excerpt (path_at named m.archive) (span archives m)
-message_text Mbox named archives m = closed (span archives m)
+message_text Mbox named archives m = closed_text (span archives m)
 
 -- the texts of the messages with these numbers, one after another
 abbrev pub answer_text : Format → Table → List (List ℕ) → List ℕ → List ℕ

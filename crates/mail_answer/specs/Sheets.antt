@@ -5,16 +5,16 @@ use Rattle.std.specs.Io.KnownBytes.{Appends}
 use Rattle.mail_answer.specs.declared.output.sheet.Sheet.{Sheet}
 
 -- the number of bytes sent after these ones, but never more than the greatest number of u64
-abbrev pub counted : ℕ → List ℕ → ℕ
-counted before went = min (before + length went) (2 ^ 64 - 1)
+abbrev pub count_after : ℕ → List ℕ → ℕ
+count_after before went = min (before + length went) (2 ^ 64 - 1)
 
 -- The bytes were added to the answer: they were gathered after the others, and a front of all that is gathered was
 -- sent.
-pub record Joins (taken taken' : Option (List ℕ)) (old new : Sheet) (bytes : List ℕ) : Type 0 where
+pub record AddsBytes (taken taken' : Option (List ℕ)) (old new : Sheet) (bytes : List ℕ) : Type 0 where
   pub went : List ℕ
   pub gathered : old.text ++ bytes ≡ went ++ new.text
   pub appends : Appends taken taken' went
-  pub count : new.sent ≡ counted old.sent went
+  pub count : new.sent ≡ count_after old.sent went
 
 -- Only a front of what is gathered and these bytes was sent.
 pub record JoinsFront (taken taken' : Option (List ℕ)) (old new : Sheet) (bytes : List ℕ) : Type 0 where
@@ -22,20 +22,23 @@ pub record JoinsFront (taken taken' : Option (List ℕ)) (old new : Sheet) (byte
   pub unsent : List ℕ
   pub front : old.text ++ bytes ≡ went ++ unsent
   pub appends : Appends taken taken' went
-  pub count : new.sent ≡ counted old.sent went
+  pub count : new.sent ≡ count_after old.sent went
 
 -- two texts, one after the other; known if both are
-abbrev pub joined : Option (List ℕ) → Option (List ℕ) → Option (List ℕ)
-joined None y = None
-joined (Some x) None = None
-joined (Some x) (Some y) = Some (x ++ y)
+abbrev pub joined_texts : Option (List ℕ) → Option (List ℕ) → Option (List ℕ)
+joined_texts None y = None
+joined_texts (Some x) None = None
+joined_texts (Some x) (Some y) = Some (x ++ y)
 
 -- the text is the known one, if there is a known one
-abbrev pub Tells : Option (List ℕ) → List ℕ → Type 0
-Tells known text = IfSome known (λ k. k ≡ text)
+abbrev pub IsIfKnown : Option (List ℕ) → List ℕ → Type 0
+IsIfKnown known text = IfSome known (λ k. k ≡ text)
 
 -- A text, known or not, was added to the answer; with a fault, a front of it.
-abbrev pub Writes : {T E : Type 0} → Option (List ℕ) → Option (List ℕ) → Sheet → Sheet → Option (List ℕ) → Result T E
+abbrev pub WritesText : {T E : Type 0} → Option (List ℕ) → Option (List ℕ) → Sheet → Sheet → Option (List ℕ)
+    → Result T E
     → Type 0
-Writes taken taken' old new known (Ok _) = (text : List ℕ) × Tells known text × Joins taken taken' old new text
-Writes taken taken' old new known (Err _) = (text : List ℕ) × Tells known text × JoinsFront taken taken' old new text
+WritesText taken taken' old new known (Ok _) = (text : List ℕ) × IsIfKnown known text
+    × AddsBytes taken taken' old new text
+WritesText taken taken' old new known (Err _) = (text : List ℕ) × IsIfKnown known text
+    × JoinsFront taken taken' old new text

@@ -8,8 +8,8 @@ use Rattle.mail_answer.specs.declared.fault.AnswerFaultKind.{AnswerFaultKind}
 use Rattle.mail_answer.specs.declared.fault.AnswerFaultKind.TheVariants.{Stale, Device, OutOfMemory, OutFailed}
 
 -- the length that was indexed of the archive with this number
-abbrev pub length_at : List Archive → ℕ → ℕ
-length_at named n = option_map_or (λ a. a.length) (slice_get named n) 0
+abbrev pub length_in_table : List Archive → ℕ → ℕ
+length_in_table named n = option_map_or (λ a. a.length) (slice_get named n) 0
 
 -- the first archive with another length than was indexed, counted from n on
 abbrev pub first_changed : ℕ → List Archive → List (List ℕ) → Option ℕ

@@ -13,7 +13,7 @@ use Rattle.mail_answer.specs.Answers.{SendsAnswer}
 use Rattle.mail_answer.specs.Faults.{is_of_output}
 use Rattle.mail_answer.specs.Mail.{Mail, Search, AreChosen}
 use Rattle.mail_answer.specs.Shapes.{known_answer}
-use Rattle.mail_answer.specs.Sheets.{Tells}
+use Rattle.mail_answer.specs.Sheets.{IsIfKnown}
 use Rattle.mail_answer.specs.TableFacts.{facts_at}
 use Rattle.mail_answer.specs.Threads.{are_linked}
 
@@ -41,8 +41,9 @@ IsTableAnswer t s held a = (numbers : List ℕ) × AreChosen (mail_told t) s num
 
 -- The whole text was sent and the messages are counted; with a fault, a front of the text was sent, and the fault says
 -- how much. If the text isn't known, this is true of some text.
-abbrev pub Answers : Option (List ℕ) → Option (List ℕ) → TableAnswer → Result ℕ AnswerFault → Type 0
-Answers taken taken' a result = (text : List ℕ) × Tells a.text text × SendsAnswer taken taken' text a.messages result
+abbrev pub SendsTableAnswer : Option (List ℕ) → Option (List ℕ) → TableAnswer → Result ℕ AnswerFault → Type 0
+SendsTableAnswer taken taken' a result = (text : List ℕ) × IsIfKnown a.text text
+    × SendsAnswer taken taken' text a.messages result
 
 -- whether the call failed for another reason than its output, and no byte of the answer was sent
 abbrev pub is_unwritten : Result ℕ AnswerFault → Bool

@@ -10,12 +10,12 @@ use Rattle.mail_query.specs.Query.{Query}
 use Rattle.mail_query.specs.Truth.{Facts, is_true}
 
 -- whether the number is one of these
-abbrev pub is_among : ℕ → List ℕ → Bool
-is_among n numbers = list_any (nat_eq n) numbers
+abbrev pub is_number_among : ℕ → List ℕ → Bool
+is_number_among n numbers = list_any (nat_eq n) numbers
 
 -- the texts of the keys of a kind that the message with this number has
 abbrev pub texts_with : Kind → ℕ → List Key → List (List ℕ)
-texts_with kind n keys = map (λ k. k.text) (filter (λ k. is_among n k.numbers) (keys_of kind keys))
+texts_with kind n keys = map (λ k. k.text) (filter (λ k. is_number_among n k.numbers) (keys_of kind keys))
 
 -- what the table says of a message: its texts by its number, the rest by its record
 abbrev pub facts_of_record : Table → ℕ → Record → Facts

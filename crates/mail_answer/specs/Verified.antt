@@ -61,7 +61,7 @@ ReadEach {A} g n (bytes ∷ archives) old new = (next : A) × ReadsFront g n byt
 
 -- This many archives were read, each once, and the bytes that were read have the lengths and digests that were indexed.
 -- If the bytes of the archives are still known after that, they are the ones that were read.
-pub record AreRead {A : Type 0} (g : Ghosts A) (named : List Archive) (count : ℕ) (old new : A) : Type 0 where
+pub record AreReadOnce {A : Type 0} (g : Ghosts A) (named : List Archive) (count : ℕ) (old new : A) : Type 0 where
   pub archives : List (List ℕ)
   pub each : ReadEach g 0 archives old new
   pub verified : AreVerified (take count named) archives
@@ -74,7 +74,7 @@ pub record ReadsUpTo {A : Type 0} (g : Ghosts A) (named : List Archive) (n : ℕ
   pub behind : List Archive
   pub place : drop n named ≡ here ∷ behind
   pub before : A
-  pub read : AreRead g named n old before
+  pub read : AreReadOnce g named n old before
   pub last : Finds here before new
   -- what is known after this one was known before it
   pub held : WasKnown (g.held before) (g.held new)
@@ -91,7 +91,7 @@ FailsWithin g n a old new = (fault : DeviceFault) × StopsWithin g n a.length (E
 -- The archives are read through, in order, up to the first that isn't the one that was indexed, or whose reading fails.
 -- If memory runs out, none is read.
 abbrev pub FindsDigests : {A T : Type 0} → Ghosts A → List Archive → A → A → Result T AnswerFaultKind → Type 0
-FindsDigests g named old new (Ok _) = AreRead g named (length named) old new
+FindsDigests g named old new (Ok _) = AreReadOnce g named (length named) old new
 FindsDigests g named old new (Err (Stale n)) = ReadsUpTo g named n (ReadsOther g n) old new
 FindsDigests g named old new (Err Device) = (n : ℕ) × ReadsUpTo g named n (FailsWithin g n) old new
 FindsDigests g named old new (Err OutOfMemory) = new ≡ old

@@ -8,7 +8,7 @@ ghost use Rattle.mail_answer.specs.Answers.{AnswersStale, CountsFailures, SendsS
 ghost use Rattle.mail_answer.specs.Faults.{is_of_output, is_of_archives};
 ghost use Rattle.mail_answer.specs.Mail.{AreChosen};
 ghost use Rattle.mail_answer.specs.Stale.{stale_archive};
-ghost use Rattle.mail_answer.specs.TableAnswers.{Answers, IsTableAnswer, LeavesOutput, TableAnswer, mail_told, search_of};
+ghost use Rattle.mail_answer.specs.TableAnswers.{SendsTableAnswer, IsTableAnswer, LeavesOutput, TableAnswer, mail_told, search_of};
 
 use crate::archives::Archives;
 use crate::archives::stale::check_archives;
@@ -45,7 +45,7 @@ pub fn answer<A: Archives, O: Out>(
     // with its text if their bytes are still known at the end or aren't needed.
     ensures answered { (a : TableAnswer)
         → IsTableAnswer index.now (search_of query.now threads format) (A.held archives.new) a
-        → Answers (O.taken out.old) (O.taken out.new) a result }
+        → SendsTableAnswer (O.taken out.old) (O.taken out.new) a result }
     // An mbox answer has bytes for each message, as many as were indexed, and the LFs that close them, whether the
     // archives' bytes are known or not.
     ensures spans { format ≡ Format.Mbox → (numbers : List ℕ)

@@ -3,7 +3,7 @@ ghost use Rattle.std.specs.Prelude.{◌≡◌, ◌<◌, ℕ, false, List, Option
 ghost use Rattle.std.specs.List.{All, flat_map};
 ghost use Rattle.mail_index.specs.Tables.{Archive, Table};
 ghost use Rattle.mail_answer.specs.CutAgain.{IsCutInto, IsCutOut, ends_in_return};
-ghost use Rattle.mail_answer.specs.Shapes.{closed};
+ghost use Rattle.mail_answer.specs.Shapes.{closed_text};
 ghost use Rattle.mail_answer.specs.TableFacts.{chosen_numbers};
 ghost use Rattle.mail_answer.specs.Mail.{Search};
 ghost use Rattle.mail_answer.specs.TableAnswers.{TableAnswer, IsTableAnswer};
@@ -22,7 +22,7 @@ pub fn one_list_of_threads()
 pub fn closed_messages_are_cut_again()
     ensures { (texts : List (List ℕ)) → All IsCutOut texts
         → All (λ text. ends_in_return text ≡ false) texts
-        → IsCutInto (flat_map closed texts) (map closed texts) }
+        → IsCutInto (flat_map closed_text texts) (map closed_text texts) }
 {}
 
 /// Every chosen number is that of a message of the table: by a query alone, and with threads.

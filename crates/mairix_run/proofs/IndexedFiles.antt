@@ -12,7 +12,7 @@ use Rattle.index_run.specs.ArchivesIndexed.{mboxes}
 use Rattle.index_run.specs.IndexRuns.{IsIndexRunFault}
 use Rattle.mail_index.specs.Files.{index_file}
 use Rattle.mail_index.specs.Tables.{IsWellFormed}
-use Rattle.mairix_run.specs.Indexed.{IsIndexed}
+use Rattle.mairix_run.specs.Indexed.{IsIndexRunResult}
 use Rattle.mbox_cutter.specs.declared.event.CutFault.TheVariants.{Device}
 use Rattle.run_faults.specs.Faults.{fault_in, is_failed_source}
 use Rattle.run_faults.specs.declared.fault.Fault.{Fault}
@@ -55,7 +55,8 @@ module _ (archives : List Mbox) (old new : Option (List ℕ)) (counts : List ℕ
   -- if nothing failed, what was sent is right; a source that failed is that of an archive
   done-by : (sent : Result (Unit {0}) Fault) → length counts ≡ length archives
       → ((n : ℕ) → Counted (is_failed_source n (fault_in sent)) 0 (slice_index counts n))
-      → (((n : ℕ) → slice_index counts n ≡ 0) → IsSent sent) → IsIndexed archives old new (result_and sent (Ok 0))
+      → (((n : ℕ) → slice_index counts n ≡ 0) → IsSent sent)
+      → IsIndexRunResult archives old new (result_and sent (Ok 0))
   done-by (Ok done) long counted is = let sent = is counted in (refl, sent.0, sent.2)
   done-by (Err (Archive number Device)) long counted is =
       subst (λ k. number < k) long (failed-below counts number counted)
@@ -64,6 +65,6 @@ module _ (archives : List Mbox) (old new : Option (List ℕ)) (counts : List ℕ
   pub indexed-by : (sent : Result (Unit {0}) Fault) (result : Result ℕ Fault) → result ≡ result_and sent (Ok 0)
       → length counts ≡ length archives
       → ((n : ℕ) → Counted (is_failed_source n (fault_in sent)) 0 (slice_index counts n))
-      → (((n : ℕ) → slice_index counts n ≡ 0) → IsSent sent) → IsIndexed archives old new result
+      → (((n : ℕ) → slice_index counts n ≡ 0) → IsSent sent) → IsIndexRunResult archives old new result
   indexed-by sent result made long counted is =
-      subst (λ (r : Result ℕ Fault). IsIndexed archives old new r) (sym made) (done-by sent long counted is)
+      subst (λ (r : Result ℕ Fault). IsIndexRunResult archives old new r) (sym made) (done-by sent long counted is)

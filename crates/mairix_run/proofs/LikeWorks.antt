@@ -7,7 +7,7 @@ use Rattle.run_faults.specs.declared.fault.Fault.{Fault}
 use Rattle.mairix_options.specs.declared.command_line.Plan.{Plan}
 use Rattle.mairix_options.specs.declared.rcfile.Rc.{Rc}
 use Rattle.mairix_tool.specs.Asked.{Wanted}
-use Rattle.mairix_tool.specs.Replies.{refused}
+use Rattle.mairix_tool.specs.Replies.{answer_of_fault}
 use Rattle.mairix_run.proofs.IndexReplies.{same_replies}
 use Rattle.mairix_run.specs.IndexReads.{IsIndexRead}
 use Rattle.mairix_run.proofs.RunParts.{leaves-weaker}
@@ -117,5 +117,5 @@ alike-read wanted all read bytes is = record {
       (done.0, (same_replies all read is wanted bytes done.0).0 done.1, done.2, done.3, done.4);
   done_too = λ status text done.
       (done.0, (same_replies all read is wanted bytes done.0).1 done.1, done.2, done.3, done.4);
-  refused = λ fault. ⊎_elim (λ no. inl ((same_replies all read is wanted bytes (refused fault)).0 no)) inr;
+  refused = λ fault. ⊎_elim (λ no. inl ((same_replies all read is wanted bytes (answer_of_fault fault)).0 no)) inr;
 }

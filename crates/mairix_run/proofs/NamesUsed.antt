@@ -11,7 +11,7 @@ use Rattle.mairix_options.specs.Rcfile.{rc_of}
 use Rattle.mairix_options.specs.declared.command_line.Plan.{Plan}
 use Rattle.mairix_options.specs.declared.rcfile.Rc.{Rc}
 use Rattle.named_files.specs.Entries.{Entry, bytes_of}
-use Rattle.mairix_run.specs.NamesUsed.{names_asked, names_in, names_planned, both_names}
+use Rattle.mairix_run.specs.NamesUsed.{names_asked, names_of_rc, names_planned, both_names}
 use Rattle.mairix_run.specs.Tasks.{is_index_run}
 use Rattle.mairix_run.specs.WholeRuns.{passing_of}
 
@@ -84,5 +84,5 @@ module _ (p : Plan) (rc : Rc) where
   pub asked-planned : (holds : List ℕ → Entry) (text : List ℕ) → bytes_of (holds p.rcfile) ≡ Some text
       → rc_of text ≡ Ok rc → (path : List ℕ) → Contains (names_asked p rc) path → Contains (names_planned holds p) path
   asked-planned holds text found said path among = contains-more p.rcfile path _
-      (subst (λ o. Contains (option_map_or (λ t. names_in p (rc_of t)) o []) path) (sym found)
-      (subst (λ r. Contains (names_in p r) path) (sym said) among))
+      (subst (λ o. Contains (option_map_or (λ t. names_of_rc p (rc_of t)) o []) path) (sym found)
+      (subst (λ r. Contains (names_of_rc p r) path) (sym said) among))

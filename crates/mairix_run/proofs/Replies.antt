@@ -16,9 +16,10 @@ use Rattle.run_faults.specs.declared.fault.Fault.TheVariants as of
 use Rattle.run_faults.specs.declared.fault.Fault.TheVariants.{Usage, Rc, Query, Archive, Index, OldIndex, Stale, Out}
 use Rattle.run_faults.specs.declared.fault.Fault.TheVariants.{Memory, TooMany}
 use Rattle.mairix_tool.specs.Asked.{Wanted}
-use Rattle.mairix_tool.specs.Replies.{Answer, IsConsistent, RefusesAsked, refused}
-use Rattle.mairix_tool.specs.Runs.{IsFoundIn, IsOldOr, IsProvedAndTold, IsReply, IsStaleOr, IsStoredReply}
-use Rattle.mairix_tool.specs.Runs.{IsThisOrMemory, IsTold, IsToldOf, RepliesBy, answered, is_too_old, renamed_archive}
+use Rattle.mairix_tool.specs.Replies.{Answer, IsConsistent, RefusesAsked, answer_of_fault}
+use Rattle.mairix_tool.specs.Runs.{IsAnswerFrom, IsOldOr, IsProvedAndTold, IsReply, IsStaleOr, IsStoredReply}
+use Rattle.mairix_tool.specs.Runs.{IsThisOrMemory, IsTold, IsToldOf, RepliesBy, answer_of_text, is_too_old}
+use Rattle.mairix_tool.specs.Runs.{renamed_archive}
 use Rattle.mairix_tool.specs.Runs.{unproved_archive}
 use Rattle.mairix_tool.specs.declared.reply.Reply.{Reply}
 use Rattle.mairix_run.specs.Answered.{AnswersBy, IsRefusedFirst, comes_before, result_by, result_of_reply}
@@ -26,15 +27,15 @@ use Rattle.mairix_run.specs.Answered.{AnswersBy, IsRefusedFirst, comes_before, r
 -- ---- an answer with a fault is its refusal
 
 abbrev pub IsPlain : Answer → Type 0
-IsPlain answer = (fault : Fault) → answer.reply.fault ≡ Some fault → answer ≡ refused fault
+IsPlain answer = (fault : Fault) → answer.reply.fault ≡ Some fault → answer ≡ answer_of_fault fault
 
-plain-refused : (a : Answer) (f : Fault) → a ≡ refused f → IsPlain a
+plain-refused : (a : Answer) (f : Fault) → a ≡ answer_of_fault f → IsPlain a
 plain-refused a f is = λ fault same.
     let whole : Some f ≡ Some fault = sym (ap (λ (x : Answer). x.reply.fault) is) ∙ same in
     let one : f ≡ fault = cc in
-    is ∙ ap refused one
+    is ∙ ap answer_of_fault one
 
-plain-answered : (a : Answer) (text : List ℕ) (messages : ℕ) → a ≡ answered text messages → IsPlain a
+plain-answered : (a : Answer) (text : List ℕ) (messages : ℕ) → a ≡ answer_of_text text messages → IsPlain a
 plain-answered a text messages is = λ fault same.
     let whole : None ≡ Some fault = sym (ap (λ (x : Answer). x.reply.fault) is) ∙ same in
     absurd cc
@@ -49,11 +50,11 @@ pub plain-stale : (o : Option ℕ) (IsFound : Answer → Type 0) → ((a : Answe
 plain-stale (Some n) IsFound plain a is = plain-refused a (Stale n) is
 plain-stale None IsFound plain a is = plain a is
 
-plain-found : (t : Table) (s : Search) (held : List (List ℕ)) (a : Answer) → IsFoundIn t s held a → IsPlain a
+plain-found : (t : Table) (s : Search) (held : List (List ℕ)) (a : Answer) → IsAnswerFrom t s held a → IsPlain a
 plain-found t s held a (numbers, chosen, is) = plain-answered a _ _ is
 
 plain-told : (t : Table) (s : Search) (held : List (List ℕ)) (a : Answer) → IsTold t s held a → IsPlain a
-plain-told t s held = plain-stale (stale_archive t.archives held) (IsFoundIn t s held) (plain-found t s held)
+plain-told t s held = plain-stale (stale_archive t.archives held) (IsAnswerFrom t s held) (plain-found t s held)
 
 plain-proved : (w : Wanted) (t : Table) (held : List (List ℕ)) (a : Answer) → IsProvedAndTold w t held a → IsPlain a
 plain-proved w t held =
@@ -96,7 +97,7 @@ module _ (IsRight : Answer → Type 0) (plain : (a : Answer) → IsRight a → I
   -- with a fault that is no failure
   refusal : (reply : Reply) (fault : Fault) → reply.fault ≡ Some fault → (failed : Bool)
       → MatchBool failed IsFront (IsWhole reply)
-      → MatchBool failed IsFront (IsRight (refused fault) × Appends old new [])
+      → MatchBool failed IsFront (IsRight (answer_of_fault fault) × Appends old new [])
   refusal reply fault has true h = h
   refusal reply fault has false (answer, right, same, sent) =
       let is = plain answer right fault (ap (λ (r : Reply). r.fault) (sym same) ∙ has) in

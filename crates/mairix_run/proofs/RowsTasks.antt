@@ -13,12 +13,12 @@ use Rattle.mairix_options.specs.Blanks.{text_without_blanks}
 use Rattle.mairix_options.specs.CommandLine.{parse, plan}
 use Rattle.mbox_cutter.specs.Lines.{first_length, is_empty, lines}
 use Rattle.mbox_cutter.specs.Separators.{has_form, is_separator, without_break}
-use Rattle.mairix_run.specs.WorkedTasks.{IsRefusedAsWorked, IsWorked}
+use Rattle.mairix_run.specs.WorkedTasks.{IsRefusedAsWorked, IsWorkedTask}
 
 -- what a proof unfolds to compute a task
 unfoldable pub asking : Unit {0}
-unfolding IsWorked parse plan clap_on_literals computing text_without_blanks size_of sizes_of query_tokens is_one_word
-    is_part_of_word
+unfolding IsWorkedTask parse plan clap_on_literals computing text_without_blanks size_of sizes_of query_tokens
+    is_one_word is_part_of_word
     is_word is_joiner is_word_character ucd_derived ucd_category chars encode_utf8 caseless
 asking = tt
 

@@ -13,7 +13,7 @@ use Rattle.mairix_run.specs.Stops.{Ending}
 use Rattle.mairix_run.specs.Tasks.{Task, Work}
 use Rattle.mairix_run.specs.Stops.Ending.{Done, CannotOpen, Because}
 use Rattle.mairix_run.specs.WholeRuns.{CallsFor, IsTrouble, KeepsFile, KeepsOld, LeavesFor, LeavesInMaking, MakesFor}
-use Rattle.mairix_run.specs.WholeRuns.{Puts, Runs, Writes, is_left_alone, refused_name}
+use Rattle.mairix_run.specs.WholeRuns.{Puts, Runs, WritesWork, is_left_alone, refused_name}
 use Rattle.run_faults.specs.declared.fault.Fault.TheVariants.{Out, Memory}
 
 -- before the first call
@@ -94,7 +94,7 @@ module _ {D F S N L R O : Type 0} (f : FolderGhosts D F S N L R) (o : Ghosts O) 
   printed : (names : List (List ℕ)) (work : Work) (read : List (List ℕ)) (file : Option (List ℕ)) → file ≡ None
       → (old : D) (out out' : O)
       (ended : Ending) → ((n : List ℕ) (c : Entry) → f.left_since old (f.moment old) n c → f.may_leave old n c)
-      → Writes o handed_on (CannotRead f.can_refuse f.reads_can_fail) work out out' ended
+      → WritesWork o handed_on (CannotRead f.can_refuse f.reads_can_fail) work out out' ended
       → Ran f o handed_on names (Ok (record { work = work; file = file; read = read })) old old out out' ended
   printed names work read None none old out out' ended only_now writes = record {
     run = (tt, inr writes);
@@ -107,7 +107,7 @@ module _ {D F S N L R O : Type 0} (f : FolderGhosts D F S N L R) (o : Ghosts O) 
 
   pub ran-printed : (names : List (List ℕ)) (task : Task) → task.file ≡ None → (old : D) (out out' : O) (ended : Ending)
       → ((n : List ℕ) (c : Entry) → f.left_since old (f.moment old) n c → f.may_leave old n c)
-      → Writes o handed_on (CannotRead f.can_refuse f.reads_can_fail) task.work out out' ended
+      → WritesWork o handed_on (CannotRead f.can_refuse f.reads_can_fail) task.work out out' ended
       → Ran f o handed_on names (Ok task) old old out out' ended
   ran-printed names task none old out out' ended only_now writes =
       printed names task.work task.read task.file none old out out' ended only_now writes

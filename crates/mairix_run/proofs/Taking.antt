@@ -5,14 +5,14 @@ use Rattle.contract_words.specs.Devices.{Counts, Sends}
 use Rattle.contract_words.proofs.Sending.{appends_join}
 use Rattle.mbox_cutter.specs.declared.device.DeviceFault.{DeviceFault}
 use Rattle.mbox_cutter.specs.declared.device.Out.{Ghosts}
-use Rattle.mairix_run.specs.Streams.{TakesAll, BreaksOff, EndsTaking}
+use Rattle.mairix_run.specs.Streams.{TakesWholeText, BreaksOff, EndsTaking}
 
 -- one part after another
-pub all_join : {O : Type 0} (g : Ghosts O) (a b c : O) (x y : List ℕ) → TakesAll g a b x → TakesAll g b c y
-    → TakesAll g a c (x ++ y)
+pub all_join : {O : Type 0} (g : Ghosts O) (a b c : O) (x y : List ℕ) → TakesWholeText g a b x → TakesWholeText g b c y
+    → TakesWholeText g a c (x ++ y)
 all_join g a b c x y h k = (appends_join (g.taken a) (g.taken b) (g.taken c) x y h.0 k.0, k.1 ∙ h.1)
 
-pub breaks_later : {O : Type 0} (g : Ghosts O) (a b c : O) (x y : List ℕ) → TakesAll g a b x → BreaksOff g b c y
+pub breaks_later : {O : Type 0} (g : Ghosts O) (a b c : O) (x y : List ℕ) → TakesWholeText g a b x → BreaksOff g b c y
     → BreaksOff g a c (x ++ y)
 breaks_later g a b c x y h k = (
   (
@@ -37,7 +37,7 @@ breaks_early g a b x y h = (
 
 -- the last part, whatever its call returned
 pub ends_join : {O : Type 0} (g : Ghosts O) (a b c : O) (x y : List ℕ) (result : Result (Unit {0}) DeviceFault)
-    → TakesAll g a b x → OnOk result (Appends (g.taken b) (g.taken c) y)
+    → TakesWholeText g a b x → OnOk result (Appends (g.taken b) (g.taken c) y)
     → OnErr result (Sends (g.taken b) (g.taken c) y)
     → Counts result (g.failures b) (g.failures c) → EndsTaking g a c (x ++ y) result
 ends_join g a b c x y (Ok done) h all front count = all_join g a b c x y h (all, count)

@@ -12,7 +12,7 @@ use Rattle.contract_words.specs.Devices.{Counted, Sends}
 use Rattle.index_job.specs.ArchiveTables.{Mbox, table}
 use Rattle.mail_index.specs.Files.{index_file}
 use Rattle.mairix_tool.specs.Asked.{Wanted}
-use Rattle.mairix_tool.specs.Replies.{Answer, refused}
+use Rattle.mairix_tool.specs.Replies.{Answer, answer_of_fault}
 use Rattle.mairix_tool.specs.Runs.{IsReply, IsStoredReply}
 use Rattle.mbox_cutter.specs.declared.device.Out.{Ghosts}
 use Rattle.mbox_cutter.specs.declared.event.CutFault.TheVariants.{Device as Unread, NotAnMbox, ArchiveTooLong, Failed}
@@ -23,8 +23,8 @@ use Rattle.run_faults.specs.declared.fault.Fault.TheVariants.{Device, Out}
 use Rattle.run_faults.specs.declared.fault.Fault.TheVariants.{Memory, TooMany}
 use Rattle.mairix_run.specs.Answered.{AnswersBy, is_unread}
 use Rattle.mairix_run.specs.Flushing.{IsFlushed}
-use Rattle.mairix_run.specs.Indexed.{IsIndexed}
-use Rattle.mairix_run.specs.Tasks.{Work, IsAnswered, IsDone, IsRefused, IsWorkRefused, search_work}
+use Rattle.mairix_run.specs.Indexed.{IsIndexRunResult}
+use Rattle.mairix_run.specs.Tasks.{Work, IsAnswered, IsDone, IsRefusedSearch, IsWorkRefused, search_work}
 use Rattle.mairix_run.specs.Tasks.Work.{Index as IndexWork}
 use Rattle.mairix_run.specs.WholeRuns.{IsFailure, IsWritten}
 
@@ -60,7 +60,7 @@ module _ (Is : Answer → Type 0) (bytes : List (List ℕ)) (OutFails ReadFails 
   -- the same as `IsWritten`, for an answer that is one of these
   abbrev IsAnswerWritten : Result ℕ Fault → Type 0
   IsAnswerWritten (Ok status) = (text : List ℕ) × IsAnswered Is status text × Appends old new text
-  IsAnswerWritten (Err fault) = (IsRefused Is bytes fault × Appends old new [])
+  IsAnswerWritten (Err fault) = (IsRefusedSearch Is bytes fault × Appends old new [])
       ⊎ (IsFailure OutFails ReadFails fault ×
       (((status : ℕ) (text : List ℕ) → IsAnswered Is status text → Sends old new text)
       ⊎ ((status : ℕ) × (text : List ℕ) × IsAnswered Is status text × Appends old new text)))
@@ -68,7 +68,7 @@ module _ (Is : Answer → Type 0) (bytes : List (List ℕ)) (OutFails ReadFails 
   by-failure : (failed : Bool) (fault : Fault) → is_failure (Some fault) ≡ failed
       → (is_failed_out (Some fault) ≡ true → OutFails) → OnTrue (is_unread (Some fault)) ReadFails
       → MatchBool failed ((answer : Answer) → Is answer → Sends old new answer.text)
-      (Is (refused fault) × Appends old new []) → IsAnswerWritten (Err fault)
+      (Is (answer_of_fault fault) × Appends old new []) → IsAnswerWritten (Err fault)
   by-failure true fault is cause read sends = inr (
     failure-of fault OutFails ReadFails cause read is,
     inl (λ status text answered. subst (λ t. Sends old new t) answered.4 (sends answered.0 answered.1)),
@@ -146,7 +146,7 @@ pub indexed-written : (archives : List Mbox) (OutFails ReadFails : Type 0) (old 
     (result : Result ℕ Fault)
     → (is_failed_out (fault_in result) ≡ true → OutFails) → OnTrue (is_unread (fault_in result)) ReadFails
     → ((fault : Fault) → result ≡ Err fault → is_failed_out (Some fault) ≡ false → new ≡ old)
-    → IsIndexed archives old new result → IsWritten OutFails ReadFails (IndexWork archives) old new result
+    → IsIndexRunResult archives old new result → IsWritten OutFails ReadFails (IndexWork archives) old new result
 unfolding IsDone IsWorkRefused
 indexed-written archives OutFails ReadFails old new (Ok status) cause read silent (done, sound, sent) =
     (index_file (table archives), (done, sound, refl), sent)

@@ -6,7 +6,7 @@ use Rattle.std.specs.Bool.{MatchBool}
 use Rattle.std.specs.Io.KnownBytes.{Appends}
 use Rattle.contract_words.specs.Devices.{Sends}
 use Rattle.mairix_tool.specs.Asked.{Wanted}
-use Rattle.mairix_tool.specs.Replies.{Answer, refused}
+use Rattle.mairix_tool.specs.Replies.{Answer, answer_of_fault}
 use Rattle.mairix_tool.specs.Runs.{IsRefusedAs}
 use Rattle.mairix_tool.specs.declared.reply.Reply.{Reply}
 use Rattle.run_faults.specs.Faults.{is_early, is_failure, is_of_index, is_of_indexing, IsOnceFault, IsSearchFault}
@@ -23,7 +23,7 @@ AnswersBy IsRight (Ok status) old new =
 AnswersBy IsRight (Err fault) old new =
     MatchBool (is_failure (Some fault))
     ((answer : Answer) → IsRight answer → Sends old new answer.text)
-    (IsRight (refused fault) × Appends old new [])
+    (IsRight (answer_of_fault fault) × Appends old new [])
 
 -- the status of a reply, or its fault
 abbrev pub result_by : ℕ → Option Fault → Result ℕ Fault

@@ -11,8 +11,8 @@ use Rattle.run_faults.specs.declared.fault.Fault.TheVariants.{Archive}
 
 -- With status 0 the archives are sound, and the output took their index file. A failed read was of one of the archives,
 -- and any other fault is one that such a run can have.
-abbrev pub IsIndexed : List Mbox → Option (List ℕ) → Option (List ℕ) → Result ℕ Fault → Type 0
-IsIndexed archives old new (Ok status) =
+abbrev pub IsIndexRunResult : List Mbox → Option (List ℕ) → Option (List ℕ) → Result ℕ Fault → Type 0
+IsIndexRunResult archives old new (Ok status) =
     (status ≡ 0) × AreSound archives × Appends old new (index_file (table archives))
-IsIndexed archives old new (Err (Archive number Device)) = number < length archives
-IsIndexed archives old new (Err fault) = IsIndexRunFault archives old new fault
+IsIndexRunResult archives old new (Err (Archive number Device)) = number < length archives
+IsIndexRunResult archives old new (Err fault) = IsIndexRunFault archives old new fault

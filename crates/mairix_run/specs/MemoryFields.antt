@@ -8,5 +8,5 @@ abbrev pub gathering : Inside → Gathering
 gathering s = record { taken = s.bytes.items; handed_on = s.handed_on; failures = s.failures }
 
 -- it has handed on only what it has taken
-abbrev pub IsGathering : Inside → Type 0
-IsGathering s = s.handed_on ≤ length s.bytes.items
+abbrev pub HandsOnOnlyTaken : Inside → Type 0
+HandsOnOnlyTaken s = s.handed_on ≤ length s.bytes.items

@@ -30,13 +30,13 @@ abbrev pub names_asked : Plan → Rc → List (List ℕ)
 names_asked p rc = rc.paths ++ (names_of_index p rc ++ both_names (file_asked p rc))
 
 -- none if the rcfile is refused
-abbrev pub names_in : Plan → Result Rc RcFault → List (List ℕ)
-names_in p (Ok rc) = names_asked p rc
-names_in p (Err fault) = []
+abbrev pub names_of_rc : Plan → Result Rc RcFault → List (List ℕ)
+names_of_rc p (Ok rc) = names_asked p rc
+names_of_rc p (Err fault) = []
 
 -- the name of the rcfile, and if that is there, the names that its text asks for
 abbrev pub names_planned : (List ℕ → Entry) → Plan → List (List ℕ)
-names_planned holds p = p.rcfile ∷ option_map_or (λ text. names_in p (rc_of text)) (bytes_of (holds p.rcfile)) []
+names_planned holds p = p.rcfile ∷ option_map_or (λ text. names_of_rc p (rc_of text)) (bytes_of (holds p.rcfile)) []
 
 -- the names that the words use; none if these are refused
 abbrev pub names_used : (List ℕ → Entry) → Result Plan UsageFault → List (List ℕ)

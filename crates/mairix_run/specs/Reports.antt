@@ -11,7 +11,7 @@ use Rattle.run_faults.specs.declared.fault.Fault.{Fault}
 use Rattle.run_faults.specs.declared.fault.Fault.TheVariants.{Usage, Out, Memory}
 use Rattle.mairix_run.specs.Stops.{Ending}
 use Rattle.mairix_run.specs.Stops.Ending.{Done, CannotOpen, Because}
-use Rattle.mairix_run.specs.Streams.{Takes, BreaksOff, Prints}
+use Rattle.mairix_run.specs.Streams.{TakesOrBreaksOff, BreaksOff, Prints}
 
 -- the line that reports a text
 abbrev pub line : List ℕ → List ℕ
@@ -34,7 +34,7 @@ fault_of_unread _ = Usage Parse
 -- reported in its place.
 abbrev pub ReportsFault : {E : Type 0} → Ghosts E → Type 0 → Fault → ℕ → E → E → Type 0
 ReportsFault e CanRunOut fault status old new = (shown : Fault) × ((shown ≡ fault) ⊎ ((shown ≡ Memory) × CanRunOut))
-    × (status ≡ status_of_fault shown) × Takes e old new (fault_line shown)
+    × (status ≡ status_of_fault shown) × TakesOrBreaksOff e old new (fault_line shown)
 
 -- ---- on standard output and standard error: their states before are `out` and `err`, those after `out'` and `err'`
 
@@ -47,7 +47,7 @@ module _ {O E : Type 0} (o : Ghosts O) (handed_on : O → Option (List ℕ)) (e 
   -- The parser's text goes to standard error, with status 2. Without memory for it, that is reported.
   abbrev pub PrintsOnErr : ℕ → O → O → E → E → Type 0
   PrintsOnErr status out out' err err' =
-      ((out' ≡ out) × ((text : List ℕ) × IsText text × (status ≡ 2) × Takes e err err' text))
+      ((out' ≡ out) × ((text : List ℕ) × IsText text × (status ≡ 2) × TakesOrBreaksOff e err err' text))
       ⊎ (CanRunOut × ReportsOnErr Memory status out out' err err')
 
   -- The parser's text goes to standard output, with status 0 and nothing on standard error. If that fails, a failed
@@ -69,6 +69,6 @@ module _ {O E : Type 0} (o : Ghosts O) (handed_on : O → Option (List ℕ)) (e 
   abbrev pub ReportsEnding : Ending → ℕ → O → O → E → E → Type 0
   ReportsEnding (Done own) status out out' err err' = (status ≡ own) × (out' ≡ out) × (err' ≡ err)
   ReportsEnding (CannotOpen path) status out out' err err' =
-      (status ≡ 4) × (out' ≡ out) × Takes e err err' (path_line path)
+      (status ≡ 4) × (out' ≡ out) × TakesOrBreaksOff e err err' (path_line path)
   ReportsEnding (Because (Usage fault)) status out out' err err' = ReportsUsage fault status out out' err err'
   ReportsEnding (Because fault) status out out' err err' = ReportsOnErr fault status out out' err err'

@@ -22,9 +22,9 @@ ending_of_stopped (by.CannotOpen path) = CannotOpen (string_bytes path)
 ending_of_stopped (by.Fault fault) = Because fault
 
 -- the ending of a run that returned this
-abbrev pub ending_of : Result ℕ Stopped → Ending
-ending_of (Ok status) = Done status
-ending_of (Err stopped) = ending_of_stopped stopped
+abbrev pub ending_of_result : Result ℕ Stopped → Ending
+ending_of_result (Ok status) = Done status
+ending_of_result (Err stopped) = ending_of_stopped stopped
 
 -- the ending by the status or the fault of what was written
 abbrev pub ending_by : Result ℕ Fault → Ending

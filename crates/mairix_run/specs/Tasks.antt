@@ -14,8 +14,8 @@ use Rattle.mairix_options.specs.declared.command_line.Plan.{Plan}
 use Rattle.mairix_options.specs.declared.command_line.UsageFault.{UsageFault}
 use Rattle.mairix_options.specs.declared.rcfile.Rc.{Rc}
 use Rattle.mairix_options.specs.declared.rcfile.RcFault.{RcFault}
-use Rattle.mairix_tool.specs.Asked.{Wanted, asked}
-use Rattle.mairix_tool.specs.Replies.{Answer, refused}
+use Rattle.mairix_tool.specs.Asked.{Wanted, wanted_of_words}
+use Rattle.mairix_tool.specs.Replies.{Answer, answer_of_fault}
 use Rattle.mairix_tool.specs.Runs.{IsReply, IsStoredReply}
 use Rattle.named_files.specs.Entries.{Entry, bytes_of}
 use Rattle.run_faults.specs.declared.fault.Fault.{Fault}
@@ -103,7 +103,7 @@ because_rc fault = Because (OfRc fault)
 -- there, then the index.
 abbrev pub task_of_plan : (List ℕ → Entry) → List (List ℕ) → ℕ → Plan → Result Task Ending
 task_of_plan holds words now p = file_at holds p.rcfile >>= λ text. fault_as because_rc (rc_of text)
-    >>= task_of_rc holds (asked words text now) p
+    >>= task_of_rc holds (wanted_of_words words text now) p
 
 -- the task of the words after the program's name, at this moment; otherwise the run ends by the first refusal
 abbrev pub task_of : (List ℕ → Entry) → List (List ℕ) → ℕ → Result Task Ending
@@ -122,8 +122,8 @@ IsAnswered Is status text = (answer : Answer) × Is answer × (answer.reply.faul
     × (answer.reply.status ≡ status) × (answer.text ≡ text)
 
 -- the refusal with this fault is one of these answers; or there are 2^32 archives or more, which no index can name
-abbrev pub IsRefused : (Answer → Type 0) → List (List ℕ) → Fault → Type 0
-IsRefused Is archives fault = Is (refused fault) ⊎ ((2 ^ 32 ≤ length archives) × (fault ≡ TooMany))
+abbrev pub IsRefusedSearch : (Answer → Type 0) → List (List ℕ) → Fault → Type 0
+IsRefusedSearch Is archives fault = Is (answer_of_fault fault) ⊎ ((2 ^ 32 ≤ length archives) × (fault ≡ TooMany))
 
 -- the work is done with this status and this text
 unfoldable pub IsDone : Work → ℕ → List ℕ → Type 0
@@ -134,5 +134,5 @@ IsDone (SearchStored wanted index bytes) status text = IsAnswered (IsStoredReply
 -- the work is refused with this fault
 unfoldable pub IsWorkRefused : Work → Fault → Type 0
 IsWorkRefused (Index archives) fault = RefusesArchives archives fault
-IsWorkRefused (SearchNew wanted bytes) fault = IsRefused (IsReply wanted bytes) bytes fault
-IsWorkRefused (SearchStored wanted index bytes) fault = IsRefused (IsStoredReply wanted index bytes) bytes fault
+IsWorkRefused (SearchNew wanted bytes) fault = IsRefusedSearch (IsReply wanted bytes) bytes fault
+IsWorkRefused (SearchStored wanted index bytes) fault = IsRefusedSearch (IsStoredReply wanted index bytes) bytes fault

@@ -56,8 +56,8 @@ IsWritten OutFails ReadFails work old new (Err fault) = (IsWorkRefused work faul
 -- ---- what is written to standard output
 
 -- It took what is written, and without a fault it has handed on all of it.
-abbrev pub Writes : {O : Type 0} → Ghosts O → (O → Option (List ℕ)) → Type 0 → Work → O → O → Ending → Type 0
-Writes o handed_on ReadFails work out out' ended = (result : Result ℕ Fault) × (ended ≡ ending_by result)
+abbrev pub WritesWork : {O : Type 0} → Ghosts O → (O → Option (List ℕ)) → Type 0 → Work → O → O → Ending → Type 0
+WritesWork o handed_on ReadFails work out out' ended = (result : Result ℕ Fault) × (ended ≡ ending_by result)
     × IsWritten (o.failures out' ≡ o.failures out + 1) ReadFails work (o.taken out) (o.taken out') result
     × OnOk result (handed_on out' ≡ o.taken out')
 
@@ -113,7 +113,7 @@ module _ {D F S N L R O : Type 0} (f : FolderGhosts D F S N L R) (o : Ghosts O) 
   -- `old` and `out`, those after it `new` and `out'`.
   abbrev pub DoesFor : Work → Option (List ℕ) → List (List ℕ) → D → D → O → O → Ending → Type 0
   DoesFor work None read old new out out' ended =
-      Writes o handed_on (CannotRead f.can_refuse f.reads_can_fail) work out out' ended
+      WritesWork o handed_on (CannotRead f.can_refuse f.reads_can_fail) work out out' ended
   DoesFor work (Some name) read old new out out' ended = (out' ≡ out)
       × MakesFor (refused_name (f.holds old) (f.apart old) (f.is_leftover old) work read name)
       (Puts (f.can_refuse ⊎ f.writes_can_fail) (CannotRead f.can_refuse f.reads_can_fail) work (f.holds new name)) ended

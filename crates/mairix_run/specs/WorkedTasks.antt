@@ -25,10 +25,10 @@ use Rattle.mairix_run.specs.WholeRuns.{refused_name}
 -- ---- names, and what they lead to
 
 -- names, each with what it leads to; any other name leads to nothing
-abbrev pub Names : Type 0
-Names = List (List ℕ × Entry)
+abbrev pub NamedEntries : Type 0
+NamedEntries = List (List ℕ × Entry)
 
-abbrev pub led_to : Names → List ℕ → Entry
+abbrev pub led_to : NamedEntries → List ℕ → Entry
 led_to [] name = Nothing
 led_to (n ∷ names) name = if bytes_eq n.0 name then n.1 else led_to names name
 
@@ -46,30 +46,30 @@ second = codes "the second archive"
 abbrev pub index : List ℕ
 index = codes "the index"
 
-abbrev pub rcfile_only : Names
+abbrev pub rcfile_only : NamedEntries
 rcfile_only = (codes "rc", File rcfile) ∷ []
 
-abbrev pub one_archive : Names
-one_archive = (codes "a.mbox", File first) ∷ rcfile_only
+abbrev pub rcfile_and_archive : NamedEntries
+rcfile_and_archive = (codes "a.mbox", File first) ∷ rcfile_only
 
-abbrev pub without_index : Names
-without_index = (codes "b.mbox", File second) ∷ one_archive
+abbrev pub without_index : NamedEntries
+without_index = (codes "b.mbox", File second) ∷ rcfile_and_archive
 
-abbrev pub with_index : Names
+abbrev pub with_index : NamedEntries
 with_index = (codes "m.idx", File index) ∷ without_index
 
 -- ---- what is to be done
 
 -- a run: its words, of which a space parts each two, what names lead to, what it has to do, and which names it uses
-pub record Row : Type 0 where
+pub record TaskRow : Type 0 where
   pub words : List ℕ
-  pub names : Names
+  pub names : NamedEntries
   pub task : Result Task Ending
   pub used : List (List ℕ)
 
 -- it has to do that, at noon of 18 May 2003, and uses these names
-unfoldable pub IsWorked : Row → Type 0
-IsWorked row = let words = slice_split (λ b. b == 32) row.words in
+unfoldable pub IsWorkedTask : TaskRow → Type 0
+IsWorkedTask row = let words = slice_split (λ b. b == 32) row.words in
     (task_of (led_to row.names) words 1053259200 ≡ row.task) × (names_used (led_to row.names) (plan words) ≡ row.used)
 
 -- the rcfile and the archives
@@ -80,9 +80,9 @@ mail_read = codes "rc" ∷ codes "a.mbox" ∷ codes "b.mbox" ∷ []
 abbrev pub index_read : List (List ℕ)
 index_read = mail_read ++ codes "m.idx" ∷ []
 
--- the word `hello` in subjects, with the answer in this form
-abbrev pub hello : Format → Wanted
-hello format = record {
+-- the word `search_for_hello` in subjects, with the answer in this form
+abbrev pub search_for_hello : Format → Wanted
+search_for_hello format = record {
   paths = codes "a.mbox" ∷ codes "b.mbox" ∷ [];
   search =
       record { query = Word (record no_kinds { subject = true }) (codes "hello"); threads = false; format = format };
@@ -98,15 +98,15 @@ search file work = Ok (record {
 })
 
 -- the work of a search by the index in `m.idx`
-abbrev pub stored : Result Wanted Fault → Work
-stored wanted = SearchStored wanted index (first ∷ second ∷ [])
+abbrev pub stored_search : Result Wanted Fault → Work
+stored_search wanted = SearchStored wanted index (first ∷ second ∷ [])
 
 -- ---- the runs
 
-abbrev pub refused_words : Row
+abbrev pub refused_words : TaskRow
 refused_words = record { words = codes "-f rc -z"; names = with_index; task = Err (Because (Usage Parse)); used = [] }
 
-abbrev pub two_formats : Row
+abbrev pub two_formats : TaskRow
 two_formats = record {
   words = codes "-f rc -r -x s:hello";
   names = with_index;
@@ -114,7 +114,7 @@ two_formats = record {
   used = [];
 }
 
-abbrev pub no_rcfile : Row
+abbrev pub no_rcfile : TaskRow
 no_rcfile = record {
   words = codes "-f other s:hello";
   names = with_index;
@@ -122,7 +122,7 @@ no_rcfile = record {
   used = codes "other" ∷ [];
 }
 
-abbrev pub rcfile_is_folder : Row
+abbrev pub rcfile_is_folder : TaskRow
 rcfile_is_folder = record {
   words = codes "-f rc s:hello";
   names = (codes "rc", Folder) ∷ [];
@@ -131,23 +131,23 @@ rcfile_is_folder = record {
 }
 
 -- its second line has no `=`
-abbrev pub bad_rcfile : Row
-bad_rcfile = record {
+abbrev pub line_without_sign : TaskRow
+line_without_sign = record {
   words = codes "-f rc s:hello";
   names = (codes "rc", File (codes "mbox=a.mbox\ndatabase\n")) ∷ [];
   task = Err (Because (Rc (BadLine 2)));
   used = codes "rc" ∷ [];
 }
 
-abbrev pub no_archive : Row
+abbrev pub no_archive : TaskRow
 no_archive = record {
   words = codes "-f rc --once s:hello";
-  names = one_archive;
+  names = rcfile_and_archive;
   task = Err (CannotOpen (codes "b.mbox"));
   used = mail_read ++ (codes "hits" ∷ codes "hits.new" ∷ []);
 }
 
-abbrev pub index_run : Row
+abbrev pub index_run : TaskRow
 index_run = record {
   words = codes "-f rc";
   names = without_index;
@@ -162,15 +162,15 @@ index_run = record {
   used = index_read ++ codes "m.idx.new" ∷ [];
 }
 
-abbrev pub once : Row
+abbrev pub once : TaskRow
 once = record {
   words = codes "-f rc --once -r s:hello";
   names = without_index;
-  task = search None (SearchNew (Ok (hello Raw)) (first ∷ second ∷ []));
+  task = search None (SearchNew (Ok (search_for_hello Raw)) (first ∷ second ∷ []));
   used = mail_read;
 }
 
-abbrev pub no_index : Row
+abbrev pub no_index : TaskRow
 no_index = record {
   words = codes "-f rc -r s:hello";
   names = without_index;
@@ -178,44 +178,44 @@ no_index = record {
   used = index_read;
 }
 
-abbrev pub printed : Row
-printed = record {
+abbrev pub search_to_output : TaskRow
+search_to_output = record {
   words = codes "-f rc -r s:hello";
   names = with_index;
-  task = search None (stored (Ok (hello Raw)));
+  task = search None (stored_search (Ok (search_for_hello Raw)));
   used = index_read;
 }
 
-abbrev pub to_mfolder : Row
+abbrev pub to_mfolder : TaskRow
 to_mfolder = record {
   words = codes "-f rc s:hello";
   names = with_index;
-  task = search (Some (codes "hits")) (stored (Ok (hello AsMbox)));
+  task = search (Some (codes "hits")) (stored_search (Ok (search_for_hello AsMbox)));
   used = index_read ++ (codes "hits" ∷ codes "hits.new" ∷ []);
 }
 
-abbrev pub to_name : Row
+abbrev pub to_name : TaskRow
 to_name = record {
   words = codes "-f rc -o out s:hello";
   names = with_index;
-  task = search (Some (codes "out")) (stored (Ok (hello AsMbox)));
+  task = search (Some (codes "out")) (stored_search (Ok (search_for_hello AsMbox)));
   used = index_read ++ (codes "out" ∷ codes "out.new" ∷ []);
 }
 
-abbrev pub to_output : Row
+abbrev pub to_output : TaskRow
 to_output = record {
   words = codes "-f rc --stdout s:hello";
   names = with_index;
-  task = search None (stored (Ok (hello AsMbox)));
+  task = search None (stored_search (Ok (search_for_hello AsMbox)));
   used = index_read;
 }
 
 -- all files are read before the query is refused
-abbrev pub bad_query : Row
-bad_query = record {
+abbrev pub query_after_files : TaskRow
+query_after_files = record {
   words = codes "-f rc -r q:hello";
   names = with_index;
-  task = search None (stored (Err (Query (record { number = 1; kind = BadPrefix }))));
+  task = search None (stored_search (Err (Query (record { number = 1; kind = BadPrefix }))));
   used = index_read;
 }
 
@@ -227,7 +227,7 @@ pub record NameRow : Type 0 where
   pub work : Work
   pub read : List (List ℕ)
   pub name : List ℕ
-  pub names : Names
+  pub names : NamedEntries
   pub apart : List ℕ → List ℕ → Bool
   pub is_leftover : List ℕ → Bool
   pub refused : Option (List ℕ)
@@ -242,7 +242,7 @@ abbrev pub differ : List ℕ → List ℕ → Bool
 differ a b = not (bytes_eq a b)
 
 -- the index `m.idx`, where killed runs left nothing
-abbrev pub new_index : Names → Option (List ℕ) → NameRow
+abbrev pub new_index : NamedEntries → Option (List ℕ) → NameRow
 new_index names refused = record {
   work = Index [];
   read = codes "rc" ∷ codes "a.mbox" ∷ codes "b.mbox" ∷ [];
@@ -254,9 +254,9 @@ new_index names refused = record {
 }
 
 -- an answer with this name, where killed runs left nothing
-abbrev pub new_answer : List ℕ → Names → Option (List ℕ) → NameRow
+abbrev pub new_answer : List ℕ → NamedEntries → Option (List ℕ) → NameRow
 new_answer name names refused = record {
-  work = SearchNew (Ok (hello AsMbox)) (first ∷ second ∷ []);
+  work = SearchNew (Ok (search_for_hello AsMbox)) (first ∷ second ∷ []);
   read = codes "rc" ∷ codes "m.idx" ∷ codes "a.mbox" ∷ codes "b.mbox" ∷ [];
   name = name;
   names = names;
@@ -269,7 +269,7 @@ abbrev pub mail : Entry
 mail = File (codes "\nFrom a@x.org Thu Jan  2 10:00:00 2003\n")
 
 -- what a killed run left, or the file of another run
-abbrev pub passing : Names
+abbrev pub passing : NamedEntries
 passing = (codes "m.idx.new", File (codes "MAIRIX")) ∷ []
 
 -- the place of each name, if `m.idx` is a link to `m.idx.new`

@@ -8,7 +8,7 @@ ghost use Rattle.index_run.specs.ArchivesIndexed.{mboxes};
 ghost use Rattle.mail_index.specs.Files.{index_file};
 ghost use Rattle.mail_index.specs.Tables.{IsPath, IsWellFormed, Table};
 ghost use Rattle.mairix_run.specs.Answered.{is_unread};
-ghost use Rattle.mairix_run.specs.Indexed.{IsIndexed};
+ghost use Rattle.mairix_run.specs.Indexed.{IsIndexRunResult};
 ghost use Rattle.named_archives.specs.Names.{files_of};
 ghost use Rattle.named_archives.specs.Progress.{CannotRead};
 ghost use Rattle.run_faults.specs.Faults.{fault_in, is_failed_out, IsOfIndexing};
@@ -42,7 +42,8 @@ pub fn index_names<F: Folder, O: Out>(
     // is theirs.
     ensures indexed { (bytes : List (List ℕ))
         → files_of (F.holds folder.now) names.now ≡ map Some bytes → F.agree reports.new ≡ true
-        → IsIndexed (mboxes (map string_bytes names.now) bytes) (O.taken out.old) (O.taken out.new)
+        → IsIndexRunResult (mboxes (map string_bytes names.now) bytes) (O.taken out.old)
+        (O.taken out.new)
         result }
     ensures earlier { F.agree reports.new ≡ true → F.agree reports.old ≡ true }
     ensures right { F.reports_are_right → F.agree reports.new ≡ F.agree reports.old }

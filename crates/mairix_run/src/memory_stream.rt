@@ -22,11 +22,11 @@ impl Model for MemoryStream {
 
     ghost Value = { Gathering };
 
-    ghost use Rattle.mairix_run.specs.MemoryFields.{gathering, IsGathering};
+    ghost use Rattle.mairix_run.specs.MemoryFields.{gathering, HandsOnOnlyTaken};
 
     ghost view = { gathering };
 
-    ghost invariant = { IsGathering };
+    ghost invariant = { HandsOnOnlyTaken };
 }
 
 impl MemoryStream {
@@ -80,11 +80,11 @@ impl Out for MemoryStream {
 }
 
 impl Stream for MemoryStream {
-    ghost use Rattle.mairix_run.specs.Streams.{is_front};
+    ghost use Rattle.mairix_run.specs.Streams.{handed_on_is_front};
 
     ghost handed_on = { λ s. Some (take s.handed_on s.taken) };
 
-    ghost front = { is_front };
+    ghost front = { handed_on_is_front };
 
     fn flush(&mut self) -> Result<(), DeviceFault>
         requires { self.old.failures < 2 ^ 64 - 1 }

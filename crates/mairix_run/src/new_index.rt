@@ -3,7 +3,7 @@ ghost use Rattle.std.specs.Prelude.{◌≡◌, ◌⊎◌, ◌∷◌, ℕ, List, 
 ghost use Rattle.index_run.specs.ArchivesIndexed.{mboxes};
 ghost use Rattle.mail_index.specs.Tables.{IsPath};
 ghost use Rattle.mairix_run.specs.ReadFiles.{names_read};
-ghost use Rattle.mairix_run.specs.Stops.{ending_of};
+ghost use Rattle.mairix_run.specs.Stops.{ending_of_result};
 ghost use Rattle.mairix_run.specs.Tasks.Work.{Index};
 ghost use Rattle.mairix_run.specs.WholeRuns.{CallsFor, IsTrouble, KeepsOld, LeavesInMaking, MakesFor, Puts, is_left_alone, passing_of, refused_name};
 ghost use Rattle.named_archives.specs.Names.{files_of};
@@ -44,18 +44,18 @@ pub(crate) fn replace_index<F: Folder>(
         → F.agree reports.new ≡ true
         → let work = Index (mboxes (map string_bytes read.now.archives.now) bytes) in
         IsTrouble (name.now ∷ passing_of name.now ∷ []) F.can_refuse F.reads_can_fail
-        (ending_of result)
+        (ending_of_result result)
         ⊎ MakesFor (refused_name (F.holds folder.old) (F.apart folder.old)
         (F.is_leftover folder.old) work (names_read read.now) name.now)
         (Puts (F.can_refuse ⊎ F.writes_can_fail) (CannotRead F.can_refuse F.reads_can_fail) work
         (F.holds folder.new name.now))
-        (ending_of result) }
+        (ending_of_result result) }
     // Without success the name leads to what it led to before; or, if only its own name failed, to the whole text.
     ensures old { (bytes : List (List ℕ))
         → files_of (F.holds folder.old) read.now.archives.now ≡ map Some bytes
         → F.agree reports.new ≡ true
         → KeepsOld (Index (mboxes (map string_bytes read.now.archives.now) bytes))
-        (F.holds folder.old name.now) (F.holds folder.new name.now) (ending_of result) }
+        (F.holds folder.old name.now) (F.holds folder.new name.now) (ending_of_result result) }
     // Each file that is read, and each other one, stays as it is.
     ensures read { F.agree reports.new ≡ true
         → All (λ n. F.holds folder.new n ≡ F.holds folder.old n) (names_read read.now) }
@@ -67,7 +67,8 @@ pub(crate) fn replace_index<F: Folder>(
         → LeavesOnly F.moment F.left_since folder.old folder.new
         (LeavesInMaking (F.apart folder.old) (F.may_leave folder.old)
         (Index (mboxes (map string_bytes read.now.archives.now) bytes)) name.now) }
-    ensures calls { CallsFor F.Folder (Some name.now) (ending_of result) folder.old folder.new }
+    ensures calls { CallsFor F.Folder (Some name.now)
+        (ending_of_result result) folder.old folder.new }
     ensures none { F.making folder.new ≡ None }
     ensures earlier { F.agree reports.new ≡ true → F.agree reports.old ≡ true }
     ensures right { F.reports_are_right → F.agree reports.new ≡ F.agree reports.old }

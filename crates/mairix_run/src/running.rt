@@ -6,11 +6,11 @@ ghost use Rattle.mairix_options.specs.AnswerFiles.{answer_file};
 ghost use Rattle.mairix_options.specs.CommandLine.{plan as plan_asked};
 ghost use Rattle.mairix_run.specs.NamesUsed.{names_asked, names_planned, names_used, both_names};
 ghost use Rattle.mairix_run.specs.Reports.{ReportsEnding};
-ghost use Rattle.mairix_run.specs.Stops.{Ending, ending_of, ending_of_stopped};
+ghost use Rattle.mairix_run.specs.Stops.{Ending, ending_of_result, ending_of_stopped};
 ghost use Rattle.mairix_run.specs.Tasks.{files_at, is_index_run, search_stored_task, task_of, task_of_plan, task_of_rc};
 ghost use Rattle.mairix_run.specs.Inside.Running.{Ran};
 ghost use Rattle.mairix_run.specs.WholeRuns.{CallsFor, IsTrouble, RunLeaves, Runs, file_made, is_left_alone, names_kept};
-ghost use Rattle.mairix_tool.specs.Asked.{asked as asked_of, asks};
+ghost use Rattle.mairix_tool.specs.Asked.{wanted_of_words, asks};
 ghost use Rattle.named_archives.specs.Names.{files_of};
 ghost use Rattle.named_archives.specs.States.{AreStatesOf};
 ghost use Rattle.named_files.specs.Crashes.{LeavesOnly};
@@ -115,7 +115,7 @@ fn run_words<F: Folder, O: Stream>(
     ensures ran { F.agree reports.new ≡ true → Ran F.Folder O.Out O.handed_on
         (names_used (F.holds folder.old) (plan_asked (map string_bytes words.now)))
         (task_of (F.holds folder.old) (map string_bytes words.now) now)
-        folder.old folder.new out.old out.new (ending_of result) }
+        folder.old folder.new out.old out.new (ending_of_result result) }
     ensures none { F.making folder.new ≡ None }
     ensures count { O.failures out.new ≤ O.failures out.old + 1 }
     ensures earlier { F.agree reports.new ≡ true → F.agree reports.old ≡ true }
@@ -144,7 +144,7 @@ fn run_plan<F: Folder, O: Stream>(
     ensures ran { F.agree reports.new ≡ true → Ran F.Folder O.Out O.handed_on
         (names_planned (F.holds folder.old) plan.now)
         (task_of_plan (F.holds folder.old) (map string_bytes words.now) now plan.now)
-        folder.old folder.new out.old out.new (ending_of result) }
+        folder.old folder.new out.old out.new (ending_of_result result) }
     ensures none { F.making folder.new ≡ None }
     ensures count { O.failures out.new ≤ O.failures out.old + 1 }
     ensures earlier { F.agree reports.new ≡ true → F.agree reports.old ≡ true }
@@ -185,7 +185,7 @@ fn run_asked<F: Folder, O: Stream>(
         (names_asked asked.entry.now.plan.now asked.entry.now.rc.now)
         (task_of_rc (F.holds folder.old) (asks asked.entry.now.words.now asked.entry.now.text.now asked.entry.now.now)
         asked.entry.now.plan.now asked.entry.now.rc.now)
-        folder.old folder.new out.old out.new (ending_of result) }
+        folder.old folder.new out.old out.new (ending_of_result result) }
     ensures none { F.making folder.new ≡ None }
     ensures count { O.failures out.new ≤ O.failures out.old + 1 }
     ensures earlier { F.agree reports.new ≡ true → F.agree reports.old ≡ true }
@@ -268,7 +268,7 @@ fn search_stored<F: Folder, O: Stream>(
         (answer_file asked.entry.now.plan.now asked.entry.now.rc.now))
         (search_stored_task (F.holds folder.old) (asks asked.entry.now.words.now asked.entry.now.text.now asked.entry.now.now)
         asked.entry.now.plan.now asked.entry.now.rc.now bytes)
-        folder.old folder.new out.old out.new (ending_of result) }
+        folder.old folder.new out.old out.new (ending_of_result result) }
     ensures none { F.making folder.new ≡ None }
     ensures count { O.failures out.new ≤ O.failures out.old + 1 }
     ensures earlier { F.agree reports.new ≡ true → F.agree reports.old ≡ true }

@@ -6,9 +6,9 @@ ghost use Rattle.mairix_options.specs.AnswerFiles.{answer_file as answer_file_of
 ghost use Rattle.mairix_run.specs.Inside.Running.{Ran};
 ghost use Rattle.mairix_run.specs.NamesUsed.{both_names};
 ghost use Rattle.mairix_run.specs.ReadFiles.{names_read};
-ghost use Rattle.mairix_run.specs.Stops.{ending_of};
+ghost use Rattle.mairix_run.specs.Stops.{ending_of_result};
 ghost use Rattle.mairix_run.specs.Tasks.{files_at, search_task, search_work};
-ghost use Rattle.mairix_run.specs.WholeRuns.{CallsFor, IsTrouble, KeepsOld, LeavesInMaking, MakesFor, Puts, Writes, is_left_alone, passing_of, refused_name};
+ghost use Rattle.mairix_run.specs.WholeRuns.{CallsFor, IsTrouble, KeepsOld, LeavesInMaking, MakesFor, Puts, WritesWork, is_left_alone, passing_of, refused_name};
 ghost use Rattle.mairix_tool.specs.Asked.{asks};
 ghost use Rattle.named_archives.specs.Names.{files_of};
 ghost use Rattle.named_archives.specs.Progress.{CannotRead};
@@ -58,7 +58,7 @@ pub(crate) fn run_search<F: Folder, O: Stream>(
         (Ok (search_task asked.entry.now.plan.now asked.entry.now.rc.now (search_work
         (asks asked.entry.now.words.now asked.entry.now.text.now asked.entry.now.now)
         (option_map (λ index. index.now) index.entry) bytes)))
-        folder.old folder.new out.old out.new (ending_of result) }
+        folder.old folder.new out.old out.new (ending_of_result result) }
     ensures none { F.making folder.new ≡ None }
     ensures count { O.failures out.new ≤ O.failures out.old + 1 }
     ensures earlier { F.agree reports.new ≡ true → F.agree reports.old ≡ true }
@@ -109,9 +109,10 @@ fn print_answer<F: Folder, O: Stream>(
     ensures run { (bytes : List (List ℕ))
         → files_of (F.holds folder.now) search.now.paths.now ≡ map Some bytes
         → F.agree reports.new ≡ true
-        → Writes O.Out O.handed_on (CannotRead F.can_refuse F.reads_can_fail)
+        → WritesWork O.Out O.handed_on (CannotRead F.can_refuse F.reads_can_fail)
         (search_work (asks search.now.words.now search.now.text.now search.now.moment)
-        (option_map (λ index. index.now) search.now.index) bytes) out.old out.new (ending_of result) }
+        (option_map (λ index. index.now) search.now.index) bytes) out.old out.new
+        (ending_of_result result) }
     ensures count { O.failures out.new ≤ O.failures out.old + 1 }
     ensures earlier { F.agree reports.new ≡ true → F.agree reports.old ≡ true }
     ensures right { F.reports_are_right → F.agree reports.new ≡ F.agree reports.old }
@@ -136,12 +137,13 @@ fn make_answer_file<F: Folder>(
         → F.agree reports.new ≡ true
         → let work = search_work (asks search.now.words.now search.now.text.now search.now.moment)
         (option_map (λ index. index.now) search.now.index) bytes in
-        IsTrouble (name.now ∷ passing_of name.now ∷ []) F.can_refuse F.reads_can_fail (ending_of result)
+        IsTrouble (name.now ∷ passing_of name.now ∷ []) F.can_refuse F.reads_can_fail
+        (ending_of_result result)
         ⊎ MakesFor (refused_name (F.holds folder.old) (F.apart folder.old)
         (F.is_leftover folder.old) work (names_read read.now) name.now)
         (Puts (F.can_refuse ⊎ F.writes_can_fail) (CannotRead F.can_refuse F.reads_can_fail) work
         (F.holds folder.new name.now))
-        (ending_of result) }
+        (ending_of_result result) }
     // Without success the name leads to what it led to before; or, if only its own name failed, to the whole text.
     ensures old { (bytes : List (List ℕ))
         → files_of (F.holds folder.old) search.now.paths.now ≡ map Some bytes
@@ -149,7 +151,7 @@ fn make_answer_file<F: Folder>(
         → KeepsOld (search_work
         (asks search.now.words.now search.now.text.now search.now.moment)
         (option_map (λ index. index.now) search.now.index) bytes)
-        (F.holds folder.old name.now) (F.holds folder.new name.now) (ending_of result) }
+        (F.holds folder.old name.now) (F.holds folder.new name.now) (ending_of_result result) }
     // Each file that is read, and each other one, stays as it is.
     ensures read { F.agree reports.new ≡ true
         → All (λ n. F.holds folder.new n ≡ F.holds folder.old n) (names_read read.now) }
@@ -162,7 +164,8 @@ fn make_answer_file<F: Folder>(
         (LeavesInMaking (F.apart folder.old) (F.may_leave folder.old) (search_work
         (asks search.now.words.now search.now.text.now search.now.moment)
         (option_map (λ index. index.now) search.now.index) bytes) name.now) }
-    ensures calls { CallsFor F.Folder (Some name.now) (ending_of result) folder.old folder.new }
+    ensures calls { CallsFor F.Folder (Some name.now)
+        (ending_of_result result) folder.old folder.new }
     ensures none { F.making folder.new ≡ None }
     ensures earlier { F.agree reports.new ≡ true → F.agree reports.old ≡ true }
     ensures right { F.reports_are_right → F.agree reports.new ≡ F.agree reports.old }

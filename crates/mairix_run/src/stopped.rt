@@ -1,6 +1,6 @@
 //! Why a run over files ended early.
 ghost use Rattle.std.specs.Prelude.{◌≡◌, ℕ, List};
-ghost use Rattle.mairix_run.specs.Stops.{IsStoppedAt, IsGivenUnlessRefused, IsStoppedBy, ending_by, ending_of};
+ghost use Rattle.mairix_run.specs.Stops.{IsStoppedAt, IsGivenUnlessRefused, IsStoppedBy, ending_by, ending_of_result};
 
 use named_files::Refusal;
 use or_memory::OrMemory;
@@ -43,7 +43,7 @@ impl Stopped {
 
 /// Returns the status of what was written, or that its fault stopped the run.
 pub(crate) fn status_or_stopped(written: Result<u8, Fault>) -> Result<u8, Stopped>
-    ensures { ending_of result ≡ ending_by written }
+    ensures { ending_of_result result ≡ ending_by written }
 {
     match written {
         Ok(status) => Ok(status),

@@ -1,7 +1,7 @@
 //! What a run prints at its end.
 ghost use Rattle.std.specs.Prelude.{◌≡◌, ◌<◌, ◌-◌, ◌^◌, ◌++◌, ◌∷◌, [], map, codes, string_bytes};
-ghost use Rattle.mairix_run.specs.Streams.{Takes, EndsTaking, EndsFlushed};
-ghost use Rattle.mairix_run.specs.Stops.{ending_of, ending_of_stopped};
+ghost use Rattle.mairix_run.specs.Streams.{TakesOrBreaksOff, EndsTaking, EndsFlushed};
+ghost use Rattle.mairix_run.specs.Stops.{ending_of_result, ending_of_stopped};
 ghost use Rattle.mairix_run.specs.Reports.{ReportsEnding, ReportsFault, ReportsUsage, fault_of_unread, path_line};
 ghost use Rattle.run_faults.specs.declared.fault.Fault.TheVariants.{Usage};
 
@@ -32,7 +32,8 @@ pub fn tell_ending<T: Texts, O: Stream, E: Out>(
     requires out { O.failures out.old < 2 ^ 64 - 1 }
     requires err { E.failures err.old < 2 ^ 64 - 1 }
     ensures reported { ReportsEnding O.Out O.handed_on E.Out
-        (T.is_usage_text texts.now (map string_bytes words.now)) T.memory_can_run_out (ending_of ended)
+        (T.is_usage_text texts.now (map string_bytes words.now)) T.memory_can_run_out
+        (ending_of_result ended)
         result out.old out.new err.old err.new }
 {
     match ended {
@@ -134,7 +135,7 @@ pub fn tell_fault<T: Texts, E: Out>(alloc: Global, texts: &T, fault: Fault, err:
 fn tell_path<E: Out>(path: &str, err: &mut E) -> u8
     requires { E.failures err.old < 2 ^ 64 - 1 }
     ensures status { result ≡ 4 }
-    ensures taken { Takes E.Out err.old err.new (path_line path.now) }
+    ensures taken { TakesOrBreaksOff E.Out err.old err.new (path_line path.now) }
 {
     tell_line(CANNOT_OPEN, path, err);
     FAILED
@@ -152,7 +153,7 @@ fn print<O: Stream>(text: &str, out: &mut O) -> Result<(), DeviceFault>
 /// Prints a text on standard error.
 fn tell_text<E: Out>(text: &str, err: &mut E)
     requires { E.failures err.old < 2 ^ 64 - 1 }
-    ensures taken { Takes E.Out err.old err.new text.now }
+    ensures taken { TakesOrBreaksOff E.Out err.old err.new text.now }
 {
     let _ = send(err, text.as_bytes());
 }
@@ -160,7 +161,7 @@ fn tell_text<E: Out>(text: &str, err: &mut E)
 /// Prints a line of two parts on standard error.
 fn tell_line<E: Out>(head: &str, text: &str, err: &mut E)
     requires { E.failures err.old < 2 ^ 64 - 1 }
-    ensures taken { Takes E.Out err.old err.new (head.now ++ text.now ++ 10 ∷ []) }
+    ensures taken { TakesOrBreaksOff E.Out err.old err.new (head.now ++ text.now ++ 10 ∷ []) }
 {
     let _ = send_line(head.as_bytes(), text.as_bytes(), err);
 }

@@ -1,23 +1,23 @@
 //! Rows: what runs have to do, which names they use, and which names are refused, as worked out by hand.
 ghost use Rattle.mairix_run.specs.WorkedTasks as row;
-ghost use Rattle.mairix_run.specs.WorkedTasks.{IsRefusedAsWorked, IsWorked};
+ghost use Rattle.mairix_run.specs.WorkedTasks.{IsRefusedAsWorked, IsWorkedTask};
 
 /// The definitions of a task, and of the names that a run uses, give what was worked out by hand.
 pub fn tasks_are_as_worked_by_hand()
-    ensures refused_words { IsWorked row.refused_words }
-    ensures two_formats { IsWorked row.two_formats }
-    ensures no_rcfile { IsWorked row.no_rcfile }
-    ensures rcfile_is_folder { IsWorked row.rcfile_is_folder }
-    ensures bad_rcfile { IsWorked row.bad_rcfile }
-    ensures no_archive { IsWorked row.no_archive }
-    ensures index_run { IsWorked row.index_run }
-    ensures once { IsWorked row.once }
-    ensures no_index { IsWorked row.no_index }
-    ensures printed { IsWorked row.printed }
-    ensures to_mfolder { IsWorked row.to_mfolder }
-    ensures to_name { IsWorked row.to_name }
-    ensures to_output { IsWorked row.to_output }
-    ensures bad_query { IsWorked row.bad_query }
+    ensures refused_words { IsWorkedTask row.refused_words }
+    ensures two_formats { IsWorkedTask row.two_formats }
+    ensures no_rcfile { IsWorkedTask row.no_rcfile }
+    ensures rcfile_is_folder { IsWorkedTask row.rcfile_is_folder }
+    ensures bad_rcfile { IsWorkedTask row.line_without_sign }
+    ensures no_archive { IsWorkedTask row.no_archive }
+    ensures index_run { IsWorkedTask row.index_run }
+    ensures once { IsWorkedTask row.once }
+    ensures no_index { IsWorkedTask row.no_index }
+    ensures printed { IsWorkedTask row.search_to_output }
+    ensures to_mfolder { IsWorkedTask row.to_mfolder }
+    ensures to_name { IsWorkedTask row.to_name }
+    ensures to_output { IsWorkedTask row.to_output }
+    ensures bad_query { IsWorkedTask row.query_after_files }
 {}
 
 /// The definition of a refused name gives what was worked out by hand.

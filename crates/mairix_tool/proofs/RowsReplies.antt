@@ -2,8 +2,9 @@
 use Rattle.mairix_tool.proofs.Words.{◌≡◌, ◌<◌, ℕ, zero, suc, Bool, true, false, nat_le, All, List, [], ◌∷◌, ◌++◌, map}
 use Rattle.mairix_tool.proofs.Words.{length, None, Ok, Err, refl, sym, subst, arith, inl, inr, All-cons, All-nil}
 use Rattle.mairix_tool.proofs.Words.{AreSound, table, mboxes, AreThreadsOf, AreChosen, IsLedToBySome, Fault, Wanted}
-use Rattle.mairix_tool.proofs.Words.{mail_in, shape, answered, refused, IsReply, Query as Asked, Word, Size, Not, End}
-use Rattle.mairix_tool.proofs.Words.{More, Format, Raw, Excerpt, is_among}
+use Rattle.mairix_tool.proofs.Words.{mail_in, shape, answer_of_text, answer_of_fault, IsReply, Query as Asked, Word}
+use Rattle.mairix_tool.proofs.Words.{Size, Not, End}
+use Rattle.mairix_tool.proofs.Words.{More, Format, Raw, Excerpt, is_number_among}
 use Rattle.std.specs.Char.{encode_utf8}
 use Rattle.std.specs.Fmt.{digits}
 use Rattle.std.specs.Prelude.{codes}
@@ -23,7 +24,7 @@ use Rattle.header_text.specs.Ids.{ids_of}
 use Rattle.header_text.specs.Unfolding.{unfolded_body}
 use Rattle.index_run.proofs.ArchivesDecided.{none-sound}
 use Rattle.mail_answer.specs.Excerpts.{excerpt}
-use Rattle.mail_answer.specs.Shapes.{closed}
+use Rattle.mail_answer.specs.Shapes.{closed_text}
 use Rattle.mail_answer.specs.declared.format.Format.TheVariants.{Mbox}
 use Rattle.mail_index.specs.Limits.{most_in_archive, most_in_index}
 use Rattle.mail_query.specs.Kinds.{no_kinds}
@@ -51,7 +52,7 @@ use Rattle.mairix_options.specs.declared.rcfile.RcFault.TheVariants.{Missing}
 use Rattle.mbox_cutter.specs.declared.event.CutFault.TheVariants.{NotAnMbox}
 use Rattle.run_faults.specs.declared.fault.Fault.TheVariants.{Archive, Query, Rc, Usage}
 use Rattle.mairix_tool.specs.WorkedReplies as row
-use Rattle.mairix_tool.specs.WorkedReplies.{IsWorked, Row, asked_by}
+use Rattle.mairix_tool.specs.WorkedReplies.{IsWorkedReply, ReplyRow, wanted_of_row}
 
 -- what a proof unfolds to compute what words and rcfile mean
 unfoldable asking : Unit {0}
@@ -67,17 +68,19 @@ unfolding messages archive_refusal lines first_length is_empty is_separator with
     unfolded_body ids_of charset_of text_of decoded_value word_and_later word_at q_bytes unescaped_bytes facts_of
     leaf_texts piece_of
     parameter is_delimiter texts_of_message shape_of_value charset_of_value transfer_named words is_word is_joiner
-    is_word_character ucd_derived ucd_category chars encode_utf8 caseless computing closed excerpt digits
+    is_word_character ucd_derived ucd_category chars encode_utf8 caseless computing closed_text excerpt digits
 saying = tt
 
 -- ---- how each row is proved
 
-of-refusal : (row : Row) (fault : Fault) → asked_by row ≡ Err fault → row.answer ≡ refused fault → IsWorked row
-unfolding IsWorked
+of-refusal : (row : ReplyRow) (fault : Fault) → wanted_of_row row ≡ Err fault → row.answer ≡ answer_of_fault fault
+    → IsWorkedReply row
+unfolding IsWorkedReply
 of-refusal row fault h h2 = subst (λ r. IsReply r row.archives row.answer) (sym h) h2
 
-of-archives : (row : Row) (w : Wanted) → asked_by row ≡ Ok w → IsReply (Ok w) row.archives row.answer → IsWorked row
-unfolding IsWorked
+of-archives : (row : ReplyRow) (w : Wanted) → wanted_of_row row ≡ Ok w → IsReply (Ok w) row.archives row.answer
+    → IsWorkedReply row
+unfolding IsWorkedReply
 of-archives row w h h2 = subst (λ r. IsReply r row.archives row.answer) (sym h) h2
 
 abbrev NotRefused : Archived → Type 0
@@ -103,15 +106,15 @@ sound archives h = record {
   few = record { archives = leb-true _ _ h.1; messages = leb-true _ _ h.2; keys = leb-true _ _ h.3 };
 }
 
-module _ (row : Row) (w : Wanted) (numbers : List ℕ) where
+module _ (row : ReplyRow) (w : Wanted) (numbers : List ℕ) where
   abbrev archives : List Archived
   archives = mboxes w.paths row.archives
 
-  of-answer : asked_by row ≡ Ok w → Pass archives → AreChosen (mail_in archives) w.search numbers
-      → row.answer ≡ answered (shape archives w.search.format numbers) (length numbers) → IsWorked row
+  of-answer : wanted_of_row row ≡ Ok w → Pass archives → AreChosen (mail_in archives) w.search numbers
+      → row.answer ≡ answer_of_text (shape archives w.search.format numbers) (length numbers) → IsWorkedReply row
   of-answer h pass chosen same = of-archives row w h (inl (sound archives pass, (numbers, chosen, same)))
 
-few : (n : ℕ) → is_among n (0 ∷ 1 ∷ []) ≡ true → n < 2
+few : (n : ℕ) → is_number_among n (0 ∷ 1 ∷ []) ≡ true → n < 2
 few n among = grind (arith, or_cases, eqb-true)
 
 -- two messages that are linked are in one thread
@@ -121,12 +124,12 @@ two-linked linked h = record {
   each = λ n. (forth n, λ (given : (n < 2) × IsLedToBySome linked (0 ∷ []) n). back n given.0);
 }
   where
-    forth : (n : ℕ) → is_among n (0 ∷ 1 ∷ []) ≡ true → (n < 2) × IsLedToBySome linked (0 ∷ []) n
+    forth : (n : ℕ) → is_number_among n (0 ∷ 1 ∷ []) ≡ true → (n < 2) × IsLedToBySome linked (0 ∷ []) n
     forth zero among = (omega arith, (0, refl, ([], refl)))
     forth (suc zero) among = (omega arith, (0, refl, (1 ∷ [], (h, refl))))
     forth (suc (suc n)) among = absurd (omega (arith, few (suc (suc n)) among))
 
-    back : (n : ℕ) → n < 2 → is_among n (0 ∷ 1 ∷ []) ≡ true
+    back : (n : ℕ) → n < 2 → is_number_among n (0 ∷ 1 ∷ []) ≡ true
     back zero below = refl
     back (suc zero) below = refl
     back (suc (suc n)) below = absurd (omega (arith, below))
@@ -168,80 +171,82 @@ greetings = subject (codes "gr" ++ 195 ∷ 188 ∷ codes "sse")
 abbrev inner_outer : Asked
 inner_outer = AllOf (More (body (codes "inner")) (More (body (codes "outer")) End))
 
-asked : (asked_by row.raw ≡ Ok (one (subject (codes "hello")) Raw))
-    × (asked_by row.no_message ≡ Ok (one (Size 20 None) Raw))
-    × (asked_by row.mbox ≡ Ok (one (subject (codes "hello")) Mbox))
-    × (asked_by row.excerpt ≡ Ok (one (to (codes "alice")) Excerpt))
-    × (asked_by row.negated ≡ Ok (one (Not (to (codes "bob"))) Raw))
-    × (asked_by row.alone ≡ Ok (two false))
-    × (asked_by row.threads ≡ Ok (two true))
-    × (asked_by row.boolean ≡ Ok (one both Raw))
-    × (asked_by row.several ≡ Ok (one one_or_two Raw))
-    × (asked_by row.folded ≡ Ok (one greetings Raw))
-    × (asked_by row.parts ≡ Ok (one inner_outer Raw))
-    × (asked_by row.no_mbox ≡ Ok (one (subject (codes "hello")) Raw))
+asked : (wanted_of_row row.raw ≡ Ok (one (subject (codes "hello")) Raw))
+    × (wanted_of_row row.no_message ≡ Ok (one (Size 20 None) Raw))
+    × (wanted_of_row row.mbox ≡ Ok (one (subject (codes "hello")) Mbox))
+    × (wanted_of_row row.excerpt_reply ≡ Ok (one (to (codes "alice")) Excerpt))
+    × (wanted_of_row row.unwanted_word ≡ Ok (one (Not (to (codes "bob"))) Raw))
+    × (wanted_of_row row.one_of_thread ≡ Ok (two false))
+    × (wanted_of_row row.threads ≡ Ok (two true))
+    × (wanted_of_row row.boolean ≡ Ok (one both Raw))
+    × (wanted_of_row row.several ≡ Ok (one one_or_two Raw))
+    × (wanted_of_row row.folded_word ≡ Ok (one greetings Raw))
+    × (wanted_of_row row.inner_and_outer ≡ Ok (one inner_outer Raw))
+    × (wanted_of_row row.no_mbox ≡ Ok (one (subject (codes "hello")) Raw))
 unfolding asking
 asked = (refl, refl, refl, refl, refl, refl, refl, refl, refl, refl, refl, refl)
 
-pub bad_words : IsWorked row.bad_words
+pub bad_words : IsWorkedReply row.bad_words
 unfolding asking
 bad_words = of-refusal row.bad_words (Usage TwoFormats) refl refl
 
-pub bad_rcfile : IsWorked row.bad_rcfile
+pub bad_rcfile : IsWorkedReply row.empty_rcfile
 unfolding asking
-bad_rcfile = of-refusal row.bad_rcfile (Rc (Missing MboxLine)) refl refl
+bad_rcfile = of-refusal row.empty_rcfile (Rc (Missing MboxLine)) refl refl
 
-pub bad_query : IsWorked row.bad_query
+pub bad_query : IsWorkedReply row.unknown_prefix
 unfolding asking
-bad_query = of-refusal row.bad_query (Query (record { number = 1; kind = BadPrefix })) refl refl
+bad_query = of-refusal row.unknown_prefix (Query (record { number = 1; kind = BadPrefix })) refl refl
 
-pub raw : IsWorked row.raw
+pub raw : IsWorkedReply row.raw
 unfolding saying
 raw = of-answer row.raw (one (subject (codes "hello")) Raw) (0 ∷ []) asked.0 (refl, refl, refl, refl) refl refl
 
-pub no_message : IsWorked row.no_message
+pub no_message : IsWorkedReply row.no_message
 unfolding saying
 no_message = of-answer row.no_message (one (Size 20 None) Raw) [] asked.1 (refl, refl, refl, refl) refl refl
 
-pub mbox : IsWorked row.mbox
+pub mbox : IsWorkedReply row.mbox
 unfolding saying
 mbox = of-answer row.mbox (one (subject (codes "hello")) Mbox) (0 ∷ []) asked.2 (refl, refl, refl, refl) refl refl
 
-pub excerpt_row : IsWorked row.excerpt
+pub excerpt_row : IsWorkedReply row.excerpt_reply
 unfolding saying
-excerpt_row = of-answer row.excerpt (one (to (codes "alice")) Excerpt) (0 ∷ []) asked.3 (refl, refl, refl, refl) refl
+excerpt_row = of-answer row.excerpt_reply (one (to (codes "alice")) Excerpt) (0 ∷ []) asked.3 (refl, refl, refl, refl)
+    refl
     refl
 
-pub negated : IsWorked row.negated
+pub negated : IsWorkedReply row.unwanted_word
 unfolding saying
-negated = of-answer row.negated (one (Not (to (codes "bob"))) Raw) (0 ∷ []) asked.4 (refl, refl, refl, refl) refl refl
+negated = of-answer row.unwanted_word (one (Not (to (codes "bob"))) Raw) (0 ∷ []) asked.4 (refl, refl, refl, refl) refl
+    refl
 
-pub alone : IsWorked row.alone
+pub alone : IsWorkedReply row.one_of_thread
 unfolding saying
-alone = of-answer row.alone (two false) (0 ∷ []) asked.5 (refl, refl, refl, refl) refl refl
+alone = of-answer row.one_of_thread (two false) (0 ∷ []) asked.5 (refl, refl, refl, refl) refl refl
 
-pub threads : IsWorked row.threads
+pub threads : IsWorkedReply row.threads
 unfolding saying
 threads = of-answer row.threads (two true) (0 ∷ 1 ∷ []) asked.6 (refl, refl, refl, refl)
     (two-linked (mail_in (mboxes (two true).paths row.threads.archives)).linked refl) refl
 
-pub boolean : IsWorked row.boolean
+pub boolean : IsWorkedReply row.boolean
 unfolding saying
 boolean = of-answer row.boolean (one both Raw) (0 ∷ []) asked.7 (refl, refl, refl, refl) refl refl
 
-pub several : IsWorked row.several
+pub several : IsWorkedReply row.several
 unfolding saying
 several = of-answer row.several (one one_or_two Raw) (0 ∷ 1 ∷ []) asked.8 (refl, refl, refl, refl) refl refl
 
-pub folded : IsWorked row.folded
+pub folded : IsWorkedReply row.folded_word
 unfolding saying
-folded = of-answer row.folded (one greetings Raw) (0 ∷ []) asked.9 (refl, refl, refl, refl) refl refl
+folded = of-answer row.folded_word (one greetings Raw) (0 ∷ []) asked.9 (refl, refl, refl, refl) refl refl
 
-pub parts : IsWorked row.parts
+pub parts : IsWorkedReply row.inner_and_outer
 unfolding saying
-parts = of-answer row.parts (one inner_outer Raw) (0 ∷ []) asked.10 (refl, refl, refl, refl) refl refl
+parts = of-answer row.inner_and_outer (one inner_outer Raw) (0 ∷ []) asked.10 (refl, refl, refl, refl) refl refl
 
-pub no_mbox : IsWorked row.no_mbox
+pub no_mbox : IsWorkedReply row.no_mbox
 unfolding saying
 no_mbox =
     of-archives row.no_mbox (one (subject (codes "hello")) Raw) asked.11

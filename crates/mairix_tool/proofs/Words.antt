@@ -12,10 +12,11 @@ pub use Rattle.index_run.specs.ArchivesIndexed.{IsArchivesFault, RefusesArchives
 pub use Rattle.mail_answer.proofs.OutputLaws.EveryAnswer.{some-chosen}
 pub use Rattle.mail_answer.specs.Answers.{AnswersStale}
 pub use Rattle.mail_answer.specs.Mail.{AreChosen, AreChosenBy, AreThreadsOf, IsChain, IsLedToBySome, Search, satisfying}
-pub use Rattle.mail_answer.specs.Shapes.{answer_text, closed, known_answer, message_text, path_at, span}
+pub use Rattle.mail_answer.specs.Shapes.{answer_text, closed_text, known_answer, message_text, path_at, span}
 pub use Rattle.mail_answer.specs.Stale.{first_changed, stale_archive}
-pub use Rattle.mail_answer.specs.TableAnswers.{Answers, IsTableAnswer, TableAnswer, answer_of_numbers, mail_told}
-pub use Rattle.mail_answer.specs.TableFacts.{facts_at, is_among, no_record, record_at, texts_with}
+pub use Rattle.mail_answer.specs.TableAnswers.{SendsTableAnswer, IsTableAnswer, TableAnswer, answer_of_numbers}
+pub use Rattle.mail_answer.specs.TableAnswers.{mail_told}
+pub use Rattle.mail_answer.specs.TableFacts.{facts_at, is_number_among, no_record, record_at, texts_with}
 pub use Rattle.mail_answer.specs.Threads.{are_linked}
 pub use Rattle.mail_answer.specs.Verified.{unverified_archive}
 pub use Rattle.mail_answer.specs.declared.format.Format.{Format}
@@ -44,17 +45,19 @@ pub use Rattle.mail_words.specs.Words.{words}
 pub use Rattle.mail_words.specs.declared.kind.TextKind.{TextKind}
 pub use Rattle.mail_words.specs.declared.kind.TextKind.TheVariants.{Name}
 pub use Rattle.mairix_tool.specs.Altered.{AreToldApart, altered_archive}
-pub use Rattle.mairix_tool.specs.Asked.{Wanted, asked, asked_by, asked_rc, query_asked, wanted, wanted_by}
-pub use Rattle.mairix_tool.specs.Chosen.{facts_of_message, ids_in, is_kind, words_of}
+pub use Rattle.mairix_tool.specs.Asked.{Wanted, wanted_of_words, wanted_of_plan, asked_rc, query_asked, shown_wanted}
+pub use Rattle.mairix_tool.specs.Asked.{wanted_by}
+pub use Rattle.mairix_tool.specs.Chosen.{facts_of_message, id_list, is_kind, words_of}
 pub use Rattle.mairix_tool.specs.MailOfArchives.{Numbered, link_ids, mail_in, nobody, numbered_at, numbered_messages}
-pub use Rattle.mairix_tool.specs.MailOfArchives.{shape, shape_of, share_id}
+pub use Rattle.mairix_tool.specs.MailOfArchives.{shape, text_in_form, share_id}
 pub use Rattle.mairix_tool.specs.OldTables.{HasDigests, ServesFor, but_digests, keys_but_names, old_table}
 pub use Rattle.mairix_tool.specs.OldTables.{without_digest}
-pub use Rattle.mairix_tool.specs.Replies.{Answer, refused, status_of_count}
-pub use Rattle.mairix_tool.specs.Runs.{IsAnswer, IsCountedWhere, IsForNoOtherCause, IsFoundIn, IsIndexRefusal, IsOldOr}
+pub use Rattle.mairix_tool.specs.Replies.{Answer, answer_of_fault, status_of_count}
+pub use Rattle.mairix_tool.specs.Runs.{IsAnswer, IsCountedWhere, IsForNoOtherCause, IsAnswerFrom, IsIndexRefusal}
+pub use Rattle.mairix_tool.specs.Runs.{IsOldOr}
 pub use Rattle.mairix_tool.specs.Runs.{IsOnceReply, IsProvedAndTold, IsRefusedAs, IsReply, IsStaleOr, IsStoredReply}
 pub use Rattle.mairix_tool.specs.Runs.{IsThisOrMemory, IsTold, IsToldOf, IsUnindexed, RepliesBy, TellsProved}
-pub use Rattle.mairix_tool.specs.Runs.{WereVerified, answered, fault_of_answer_kind, first_renamed, is_too_old}
+pub use Rattle.mairix_tool.specs.Runs.{WereVerified, answer_of_text, fault_of_answer_kind, first_renamed, is_too_old}
 pub use Rattle.mairix_tool.specs.Runs.{renamed_archive, reply_of, unproved_archive}
 pub use Rattle.mairix_tool.specs.declared.reply.Reply.{Reply}
 pub use Rattle.mbox_cutter.specs.Archives.{Message, spans_of, messages, span_length, text}

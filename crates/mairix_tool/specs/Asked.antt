@@ -28,8 +28,8 @@ pub record Wanted : Type 0 where
   pub verify : Bool
 
 -- what a run has to do, from the code's own value
-abbrev pub wanted : code.Wanted → Wanted
-wanted w = record { paths = w.paths; search = search_of w.query w.threads w.format; verify = w.verify }
+abbrev pub shown_wanted : code.Wanted → Wanted
+shown_wanted w = record { paths = w.paths; search = search_of w.query w.threads w.format; verify = w.verify }
 
 -- the rcfile, if words and rcfile are accepted; otherwise the first refusal
 abbrev pub asked_rc : List (List ℕ) → List ℕ → Result Rc Fault
@@ -56,15 +56,15 @@ wanted_by p r q = record {
 }
 
 -- what accepted words mean with this rcfile; otherwise the first refusal, of the rcfile or of the query
-abbrev pub asked_by : Plan → List ℕ → ℕ → Result Wanted Fault
-asked_by p rc now =
+abbrev pub wanted_of_plan : Plan → List ℕ → ℕ → Result Wanted Fault
+wanted_of_plan p rc now =
     fault_as of.Rc (rc_of rc) >>= λ r. fault_as of.Query (query_asked p.boolean p.patterns now) >>=
     λ q. Ok (wanted_by p r q)
 
 -- what words and rcfile mean; otherwise the first refusal, of the words, the rcfile or the query
-abbrev pub asked : List (List ℕ) → List ℕ → ℕ → Result Wanted Fault
-asked words rc now = fault_as of.Usage (plan words) >>= λ p. asked_by p rc now
+abbrev pub wanted_of_words : List (List ℕ) → List ℕ → ℕ → Result Wanted Fault
+wanted_of_words words rc now = fault_as of.Usage (plan words) >>= λ p. wanted_of_plan p rc now
 
 -- the same for the words as they are in memory
 abbrev pub asks : List (String Global) → List ℕ → ℕ → Result Wanted Fault
-asks words rc now = asked (map string_bytes words) rc now
+asks words rc now = wanted_of_words (map string_bytes words) rc now

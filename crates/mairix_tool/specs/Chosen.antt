@@ -28,15 +28,15 @@ abbrev pub words_of : TextKind → List Pair → List (List ℕ)
 words_of kind texts = flat_map (λ p. if is_kind p.0 kind then map folding (words p.1) else []) texts
 
 -- the id, if there is one
-abbrev pub ids_in : Option (List ℕ) → List (List ℕ)
-ids_in None = []
-ids_in (Some id) = id ∷ []
+abbrev pub id_list : Option (List ℕ) → List (List ℕ)
+id_list None = []
+id_list (Some id) = id ∷ []
 
 -- what a message itself says: the folded words of its own decoded texts, its own id, its date, size and flags
 abbrev pub facts_of_message : Message → Facts
 facts_of_message m = record {
   words = λ kind. words_of kind (texts_of_message (text m));
-  own_ids = ids_in (facts_of (fields_of (text m))).own_id;
+  own_ids = id_list (facts_of (fields_of (text m))).own_id;
   date = date_told (facts_of (fields_of (text m))).date_text;
   size = size m;
   flags = (facts_of (fields_of (text m))).flags;

@@ -5,9 +5,9 @@ use Rattle.mail_answer.specs.TableFacts.{record_at}
 use Rattle.index_job.specs.ArchiveTables.{Mbox, table}
 
 -- the bytes of the archives
-abbrev pub bytes_held : List Mbox → List (List ℕ)
-bytes_held archives = map (λ a. a.bytes) archives
+abbrev pub bytes_of_archives : List Mbox → List (List ℕ)
+bytes_of_archives archives = map (λ a. a.bytes) archives
 
 -- the spans of the messages with these numbers
 abbrev pub spans_at : List Mbox → List ℕ → List (List ℕ)
-spans_at archives numbers = map (λ n. span (bytes_held archives) (record_at (table archives).messages n)) numbers
+spans_at archives numbers = map (λ n. span (bytes_of_archives archives) (record_at (table archives).messages n)) numbers

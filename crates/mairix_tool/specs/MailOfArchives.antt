@@ -54,11 +54,12 @@ mail_in archives = mail_of (numbered_messages 0 archives)
 -- ---- their text in an answer
 
 -- the text of a message in a form, by the bytes of its span
-abbrev pub shape_of : Format → List Mbox → Numbered → List ℕ
-shape_of format archives x = message_text format (map entry_of_archive archives) (map (λ a. a.bytes) archives)
+abbrev pub text_in_form : Format → List Mbox → Numbered → List ℕ
+text_in_form format archives x = message_text format (map entry_of_archive archives) (map (λ a. a.bytes) archives)
     (record_of x.0 x.1)
 
 -- the texts of the messages with these numbers, one after another
 abbrev pub shape : List Mbox → Format → List ℕ → List ℕ
-shape archives format numbers = flat_map (λ n. shape_of format archives (numbered_at (numbered_messages 0 archives) n))
+shape archives format numbers = flat_map
+    (λ n. text_in_form format archives (numbered_at (numbered_messages 0 archives) n))
     numbers

@@ -7,7 +7,7 @@ use Rattle.mbox_cutter.specs.declared.event.CutFault.TheVariants.{ArchiveTooLong
 use Rattle.run_faults.specs.declared.fault.Fault.{Fault}
 use Rattle.run_faults.specs.declared.fault.Fault.TheVariants.{Archive, TooMany}
 use Rattle.mairix_tool.specs.Asked.{Wanted}
-use Rattle.mairix_tool.specs.Replies.{Answer, refused}
+use Rattle.mairix_tool.specs.Replies.{Answer, answer_of_fault}
 
 -- The archives before that of this number are sound. It is too long, and with it there are too many messages or keys.
 pub record IsRefusedTwice (archives : List Mbox) (number : ℕ) : Type 0 where
@@ -20,7 +20,7 @@ pub record IsRefusedTwice (archives : List Mbox) (number : ℕ) : Type 0 where
 
 -- one of its two refusals
 abbrev pub IsEither : ℕ → Answer → Type 0
-IsEither number answer = (answer ≡ refused (Archive number ArchiveTooLong)) ⊎ (answer ≡ refused TooMany)
+IsEither number answer = (answer ≡ answer_of_fault (Archive number ArchiveTooLong)) ⊎ (answer ≡ answer_of_fault TooMany)
 
 -- both are refusals of one archive, which is refused twice
 abbrev pub AreOfOneArchive : List Mbox → Answer → Answer → Type 0

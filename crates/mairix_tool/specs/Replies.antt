@@ -28,8 +28,8 @@ abbrev pub status_of_count : ℕ → ℕ
 status_of_count messages = if nat_eq messages 0 then 1 else 0
 
 -- the answer with no text, for a fault
-abbrev pub refused : Fault → Answer
-refused fault = record {
+abbrev pub answer_of_fault : Fault → Answer
+answer_of_fault fault = record {
   text = [];
   reply =
       record { status = status_of_fault fault; messages = 0; fault = Some fault };

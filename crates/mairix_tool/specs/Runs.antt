@@ -9,7 +9,7 @@ use Rattle.mail_answer.specs.declared.fault.AnswerFaultKind.{AnswerFaultKind}
 use Rattle.mail_answer.specs.declared.fault.AnswerFaultKind.TheVariants as kind
 use Rattle.mail_answer.specs.Mail.{Search, AreChosen}
 use Rattle.mail_answer.specs.Shapes.{answer_text, known_answer}
-use Rattle.mail_answer.specs.Sheets.{Tells}
+use Rattle.mail_answer.specs.Sheets.{IsIfKnown}
 use Rattle.mail_answer.specs.Stale.{stale_archive}
 use Rattle.mail_answer.specs.TableAnswers.{mail_told}
 use Rattle.mail_answer.specs.Verified.{AreVerified, unverified_archive}
@@ -27,11 +27,11 @@ use Rattle.index_run.specs.ArchivesIndexed.{mboxes, RefusesArchives, IsArchivesF
 use Rattle.mairix_tool.specs.Asked.{Wanted}
 use Rattle.run_faults.specs.Faults.{is_early, is_failure, is_memory, is_of_index, status_of_fault}
 use Rattle.mairix_tool.specs.MailOfArchives.{mail_in, shape}
-use Rattle.mairix_tool.specs.Replies.{Answer, refused, status_of_count}
+use Rattle.mairix_tool.specs.Replies.{Answer, answer_of_fault, status_of_count}
 
 -- the answer with this text and this many messages
-abbrev pub answered : List ℕ → ℕ → Answer
-answered text messages = record {
+abbrev pub answer_of_text : List ℕ → ℕ → Answer
+answer_of_text text messages = record {
   text = text;
   reply =
       record { status = status_of_count messages; messages = messages; fault = None };
@@ -42,16 +42,16 @@ answered text messages = record {
 -- The messages that satisfy the query, with threads all of their threads, by archive, then offset, each once.
 abbrev pub IsAnswer : List Mbox → Search → Answer → Type 0
 IsAnswer archives s answer = (numbers : List ℕ) × AreChosen (mail_in archives) s numbers
-    × (answer ≡ answered (shape archives s.format numbers) (length numbers))
+    × (answer ≡ answer_of_text (shape archives s.format numbers) (length numbers))
 
 -- the answer is the refusal of the first faulty archive
 abbrev pub IsRefusedBy : List Mbox → Answer → Type 0
-IsRefusedBy archives answer = (fault : Fault) × RefusesArchives archives fault × (answer ≡ refused fault)
+IsRefusedBy archives answer = (fault : Fault) × RefusesArchives archives fault × (answer ≡ answer_of_fault fault)
 
 -- The reply and its text: a refusal of words, rcfile or query; otherwise of an archive; otherwise the answer. If one
 -- archive is too long and has too many messages or keys, either refusal is right.
 abbrev pub IsReply : Result Wanted Fault → List (List ℕ) → Answer → Type 0
-IsReply (Err fault) bytes answer = answer ≡ refused fault
+IsReply (Err fault) bytes answer = answer ≡ answer_of_fault fault
 IsReply (Ok w) bytes answer =
     (AreSound (mboxes w.paths bytes) × IsAnswer (mboxes w.paths bytes) w.search answer)
     ⊎ IsRefusedBy (mboxes w.paths bytes) answer
@@ -60,21 +60,21 @@ IsReply (Ok w) bytes answer =
 
 -- if this archive isn't the one that was indexed, the answer is that fault; otherwise it is one that was found
 abbrev pub IsStaleOr : Option ℕ → (Answer → Type 0) → Answer → Type 0
-IsStaleOr (Some n) IsFound answer = answer ≡ refused (Stale n)
+IsStaleOr (Some n) IsFound answer = answer ≡ answer_of_fault (Stale n)
 IsStaleOr None IsFound answer = IsFound answer
 
 -- the answer has the messages that the search chooses from the table, and their text over archives with these bytes
-abbrev pub IsFoundIn : Table → Search → List (List ℕ) → Answer → Type 0
-IsFoundIn t s held answer = (numbers : List ℕ) × AreChosen (mail_told t) s numbers
-    × (answer ≡ answered (answer_text s.format t held numbers) (length numbers))
+abbrev pub IsAnswerFrom : Table → Search → List (List ℕ) → Answer → Type 0
+IsAnswerFrom t s held answer = (numbers : List ℕ) × AreChosen (mail_told t) s numbers
+    × (answer ≡ answer_of_text (answer_text s.format t held numbers) (length numbers))
 
 -- the answer of the table over archives with these bytes
 abbrev pub IsTold : Table → Search → List (List ℕ) → Answer → Type 0
-IsTold t s held answer = IsStaleOr (stale_archive t.archives held) (IsFoundIn t s held) answer
+IsTold t s held answer = IsStaleOr (stale_archive t.archives held) (IsAnswerFrom t s held) answer
 
 -- the answer if `bytes` are indexed and `held` are searched
 abbrev pub IsOnceReply : Result Wanted Fault → List (List ℕ) → List (List ℕ) → Answer → Type 0
-IsOnceReply (Err fault) bytes held answer = answer ≡ refused fault
+IsOnceReply (Err fault) bytes held answer = answer ≡ answer_of_fault fault
 IsOnceReply (Ok w) bytes held answer =
     (AreSound (mboxes w.paths bytes) × IsTold (table (mboxes w.paths bytes)) w.search held answer)
     ⊎ IsRefusedBy (mboxes w.paths bytes) answer
@@ -99,7 +99,7 @@ is_too_old t w = (t.version == 1) && (w.verify || uses_names w.search.query)
 
 -- if the index is too old, the answer is that fault; otherwise it is one that was found
 abbrev pub IsOldOr : Bool → (Answer → Type 0) → Answer → Type 0
-IsOldOr true IsFound answer = answer ≡ refused OldIndex
+IsOldOr true IsFound answer = answer ≡ answer_of_fault OldIndex
 IsOldOr false IsFound answer = IsFound answer
 
 -- The first archive that doesn't have the bytes that were indexed, if the archives are to be verified; none if they
@@ -119,9 +119,9 @@ IsToldOf w t held answer = IsOldOr (is_too_old t w)
 
 -- a refusal of words, rcfile or query; otherwise the first fault of the index; otherwise the answer of its table
 abbrev pub IsStoredReply : Result Wanted Fault → List ℕ → List (List ℕ) → Answer → Type 0
-IsStoredReply (Err fault) index held answer = answer ≡ refused fault
+IsStoredReply (Err fault) index held answer = answer ≡ answer_of_fault fault
 IsStoredReply (Ok w) index held answer =
-    ((fault : IndexFault) × IsFirstFaultOfFile index fault × (answer ≡ refused (Index fault)))
+    ((fault : IndexFault) × IsFirstFaultOfFile index fault × (answer ≡ answer_of_fault (Index fault)))
     ⊎ ((t : Table) × IsFileOfTable index t × IsToldOf w t held answer)
 
 -- the fault of a run for a fault of an answer
@@ -194,7 +194,7 @@ abbrev pub IsCounted : Table → Search → Option (List (List ℕ)) → Reply �
 IsCounted t s held reply old new =
     (numbers : List ℕ) × AreChosen (mail_told t) s numbers
     × (reply ≡ record { status = status_of_count (length numbers); messages = length numbers; fault = None })
-    × (text : List ℕ) × Tells (known_answer s.format t held numbers) text × Appends old new text
+    × (text : List ℕ) × IsIfKnown (known_answer s.format t held numbers) text × Appends old new text
 
 -- without a fault, the reply and the text are right; with one, nothing is said
 abbrev pub IsCountedWhere : Table → Search → Option (List (List ℕ)) → Option Fault → Reply → Option (List ℕ)

@@ -11,7 +11,7 @@ use Rattle.mail_answer.specs.Answers.{AnswersStale, SendsSpans, kind_of}
 use Rattle.mail_answer.specs.Asked.{HoldsArchives, ReadsInOrder, RefusesCount}
 use Rattle.mail_answer.specs.Mail.{Search, AreChosen}
 use Rattle.mail_answer.specs.Stale.{stale_archive}
-use Rattle.mail_answer.specs.TableAnswers.{Answers, IsTableAnswer, LeavesOutput, TableAnswer, mail_told}
+use Rattle.mail_answer.specs.TableAnswers.{SendsTableAnswer, IsTableAnswer, LeavesOutput, TableAnswer, mail_told}
 use Rattle.mail_answer.specs.Verified.{TellsVerified, VerifiesArchives}
 use Rattle.mail_answer.specs.declared.archives.Archives.{Ghosts}
 use Rattle.mail_answer.specs.declared.fault.AnswerFault.{AnswerFault}
@@ -36,7 +36,8 @@ pub record Searches {A O : Type 0} (g : Ghosts A) (h : OutGhosts O) (t : Table) 
   pub found : Result ℕ AnswerFault
   pub replied : reply ≡ reply_of (run_of_answer found)
   -- the number of the messages that the table chooses, and their text; with a fault, a front of that text
-  pub answered : (a : TableAnswer) → IsTableAnswer t s (g.held new) a → Answers (h.taken before) (h.taken after) a found
+  pub answered : (a : TableAnswer) → IsTableAnswer t s (g.held new) a
+      → SendsTableAnswer (h.taken before) (h.taken after) a found
   -- an mbox answer has, for each message, as many bytes as were indexed, closed; with a fault, a front of that
   pub spans : s.format ≡ Mbox → (numbers : List ℕ) → AreChosen (mail_told t) s numbers
       → SendsSpans (h.taken before) (h.taken after) t numbers found
@@ -107,7 +108,7 @@ SearchesStored g h w t old new before after reply =
 
 -- What was indexed has this table, which is well-formed. If the bytes of the sources are known, and still after they
 -- were read, it is the table of their archives.
-pub record IsIndexed (paths : List (List ℕ)) (before after : List (Option (List ℕ))) (t : Table) : Type 0 where
+pub record IsIndexedTable (paths : List (List ℕ)) (before after : List (Option (List ℕ))) (t : Table) : Type 0 where
   pub formed : IsWellFormed t
   pub known : (bytes : List (List ℕ)) → AreStillKnown before after bytes → t ≡ table (mboxes paths bytes)
 
@@ -116,4 +117,4 @@ abbrev pub IndexesAndSearches : {A O : Type 0} → Ghosts A → OutGhosts O → 
     → List (Option (List ℕ)) → A → A → O → O → Reply → Type 0
 IndexesAndSearches g h w unread read old new before after reply =
     AsksNothing IsOfIndexing old new before after reply
-    ⊎ ((t : Table) × IsIndexed w.paths unread read t × Searches g h t w.search old new before after reply)
+    ⊎ ((t : Table) × IsIndexedTable w.paths unread read t × Searches g h t w.search old new before after reply)

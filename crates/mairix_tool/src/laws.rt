@@ -4,7 +4,7 @@ ghost use Rattle.std.specs.List.{All};
 ghost use Rattle.contract_words.specs.Knowledge.{AreStillKnown};
 ghost use Rattle.mail_answer.specs.Asked.{HoldsArchives};
 ghost use Rattle.mail_answer.specs.CutAgain.{IsCutInto, ends_in_return};
-ghost use Rattle.mail_answer.specs.Shapes.{answer_text, closed};
+ghost use Rattle.mail_answer.specs.Shapes.{answer_text, closed_text};
 ghost use Rattle.mail_answer.specs.declared.format.Format.TheVariants as format;
 ghost use Rattle.mbox_cutter.specs.Archives.{Message, text};
 ghost use Rattle.mbox_cutter.specs.Memory.{Giving};
@@ -16,7 +16,7 @@ ghost use Rattle.index_job.specs.MessageTerms.{has_term, message_terms};
 ghost use Rattle.mairix_tool.specs.Altered.{AreToldApart, altered_archive};
 ghost use Rattle.index_run.specs.ArchivesIndexed.{mboxes};
 ghost use Rattle.mairix_tool.specs.Asked.{Wanted};
-ghost use Rattle.mairix_tool.specs.CutAgain.{bytes_held, spans_at};
+ghost use Rattle.mairix_tool.specs.CutAgain.{bytes_of_archives, spans_at};
 ghost use Rattle.mail_answer.specs.Mail.{Search, AreChosen};
 ghost use Rattle.mail_answer.specs.TableAnswers.{mail_told};
 ghost use Rattle.mail_answer.specs.Threads.{are_linked};
@@ -39,8 +39,8 @@ pub fn an_answer_is_cut_into_its_messages()
     ensures { (archives : List Mbox) (numbers : List ℕ)
         → All (λ n. n < length (table archives).messages) numbers
         → All (λ text. ends_in_return text ≡ false) (spans_at archives numbers)
-        → IsCutInto (answer_text format.Mbox (table archives) (bytes_held archives) numbers)
-        (map closed (spans_at archives numbers)) }
+        → IsCutInto (answer_text format.Mbox (table archives) (bytes_of_archives archives) numbers)
+        (map closed_text (spans_at archives numbers)) }
 {}
 
 /// The table of archives has a message's number at a key exactly if the message has that term: a word of one of its

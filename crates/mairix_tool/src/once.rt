@@ -5,7 +5,7 @@ ghost use Rattle.std.specs.String.{string_bytes};
 ghost use Rattle.contract_words.specs.Knowledge.{AreStillKnown};
 ghost use Rattle.mail_answer.specs.Asked.{HoldsArchives};
 ghost use Rattle.mail_index.specs.Tables.{IsPath};
-ghost use Rattle.mairix_tool.specs.Asked.{asked_rc, asks, Wanted as Asked, wanted as wanted_of};
+ghost use Rattle.mairix_tool.specs.Asked.{asked_rc, asks, Wanted as Asked, shown_wanted};
 ghost use Rattle.index_job.specs.ArchiveTables.{table};
 ghost use Rattle.index_run.specs.ArchivesIndexed.{mboxes};
 ghost use Rattle.index_run.specs.Counts.{CountsSources};
@@ -117,33 +117,33 @@ fn answer_indexed<S: Source, A: Archives, O: Out>(
     archives: &mut A,
     out: &mut O,
 ) -> Result<u64, Fault>
-    requires many { length (wanted_of wanted.now).paths ≡ length sources.old }
-    requires paths { All IsPath (wanted_of wanted.now).paths }
+    requires many { length (shown_wanted wanted.now).paths ≡ length sources.old }
+    requires paths { All IsPath (shown_wanted wanted.now).paths }
     requires sources { All (λ s. S.failures s < 2 ^ 64 - 1) sources.old }
     requires archives { A.failures archives.old < 2 ^ 64 - 1 }
     requires out { O.failures out.old < 2 ^ 64 - 1 }
     ensures told { (bytes held : List (List ℕ))
         → AreStillKnown (map S.rest sources.old) (map S.rest sources.new) bytes
         → A.held archives.new ≡ Some held
-        → RepliesBy (IsOnceReply (Ok (wanted_of wanted.now)) bytes held) (reply_of result)
+        → RepliesBy (IsOnceReply (Ok (shown_wanted wanted.now)) bytes held) (reply_of result)
         (O.taken out.old) (O.taken out.new) }
     ensures counted { (bytes : List (List ℕ))
         → AreStillKnown (map S.rest sources.old) (map S.rest sources.new) bytes
-        → IsCountedWhere (table (mboxes (wanted_of wanted.now).paths bytes))
-        (wanted_of wanted.now).search (A.held archives.new) (reply_of result).fault
+        → IsCountedWhere (table (mboxes (shown_wanted wanted.now).paths bytes))
+        (shown_wanted wanted.now).search (A.held archives.new) (reply_of result).fault
         (reply_of result) (O.taken out.old) (O.taken out.new) }
-    ensures searched { IndexesAndSearches A.Archives O.Out (wanted_of wanted.now)
+    ensures searched { IndexesAndSearches A.Archives O.Out (shown_wanted wanted.now)
         (map S.rest sources.old) (map S.rest sources.new)
         archives.old archives.new out.old out.new (reply_of result) }
     ensures first { (bytes : List (List ℕ))
         → AreStillKnown (map S.rest sources.old) (map S.rest sources.new) bytes
-        → AreSoundBefore (Ok (wanted_of wanted.now)) bytes (fault_in result) }
+        → AreSoundBefore (Ok (shown_wanted wanted.now)) bytes (fault_in result) }
     ensures keeps { HoldsArchives A.Archives archives.old archives.new }
     ensures stays { SourcesStay S.Source (fault_in result) sources.old sources.new }
     ensures early { is_early (fault_in result) ≡ false }
     ensures silent { OnTrue (is_of_indexing (fault_in result))
         ((archives.new ≡ archives.old) × (out.new ≡ out.old)) }
-    ensures raw { KeepsRawBack (wanted_of wanted.now).search (fault_in result) out.old out.new }
+    ensures raw { KeepsRawBack (shown_wanted wanted.now).search (fault_in result) out.old out.new }
     ensures own { IfErr result IsOnceFault }
     ensures source_failed { CountsSources (fault_in result)
         (map S.failures sources.old) (map S.failures sources.new) }

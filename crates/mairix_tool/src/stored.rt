@@ -6,7 +6,7 @@ ghost use Rattle.mail_answer.specs.Asked.{HoldsArchives};
 ghost use Rattle.mail_index.specs.Faults.{IsFileOfTable};
 ghost use Rattle.mail_index.specs.Tables.{Table};
 ghost use Rattle.mail_index.specs.Versions.{newest};
-ghost use Rattle.mairix_tool.specs.Asked.{asks, Wanted as Asked, wanted as wanted_of};
+ghost use Rattle.mairix_tool.specs.Asked.{asks, Wanted as Asked, shown_wanted as wanted_of};
 ghost use Rattle.mairix_tool.specs.Inside.Answering.{AsksIndex};
 ghost use Rattle.run_faults.specs.Faults.{fault_in, is_failed_out, is_failed_archives, IsOfAnswer, IsSearchFault};
 ghost use Rattle.mairix_tool.specs.Replies.{CountsFault, KeepsRawBack};

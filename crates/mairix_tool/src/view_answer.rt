@@ -1,7 +1,7 @@
 //! Answers from an index.
 ghost use Rattle.std.specs.Prelude.{◌≡◌, ◌<◌, ◌^◌, ◌-◌, ℕ, List, Some};
 ghost use Rattle.mail_answer.specs.Asked.{HoldsArchives};
-ghost use Rattle.mairix_tool.specs.Asked.{wanted as wanted_of};
+ghost use Rattle.mairix_tool.specs.Asked.{shown_wanted as wanted_of};
 ghost use Rattle.mairix_tool.specs.Inside.Answering.{AsksIndex};
 ghost use Rattle.mairix_tool.specs.Searching.{Searches};
 ghost use Rattle.mairix_tool.specs.Runs.{IsTold, RepliesBy, reply_of, IsCountedWhere, fault_of_answer_kind};

@@ -27,7 +27,7 @@ pub(crate) struct Wanted {
 }
 
 impl Wanted {
-    ghost use Rattle.mairix_tool.specs.Asked.{asked, asked_by, wanted};
+    ghost use Rattle.mairix_tool.specs.Asked.{wanted_of_words, wanted_of_plan, shown_wanted};
 
     /// Reads the words, then the rcfile, then the query, and fails with the first refusal, or if memory runs out. Ages,
     /// and days without a year, count from `now`.
@@ -37,8 +37,8 @@ impl Wanted {
         rc: &[u8],
         now: Moment,
     ) -> Result<Wanted, Fault>
-        ensures asked { Gives wanted refusal_of_fault result
-            (asked (map string_bytes words.now) rc.now now) }
+        ensures asked { Gives shown_wanted refusal_of_fault result
+            (wanted_of_words (map string_bytes words.now) rc.now now) }
         ensures early { IfErr result IsEarly }
     {
         let plan = plan_of(alloc, words)?;
@@ -47,7 +47,8 @@ impl Wanted {
 
     /// Does the same for words that are read already.
     fn of_plan(alloc: Global, plan: &Plan, rc: &[u8], now: Moment) -> Result<Wanted, Fault>
-        ensures asked { Gives wanted refusal_of_fault result (asked_by plan.now rc.now now) }
+        ensures asked { Gives shown_wanted refusal_of_fault result
+            (wanted_of_plan plan.now rc.now now) }
         ensures early { IfErr result IsEarly }
     {
         let rc = read_rc(alloc, rc)?;

@@ -1,22 +1,22 @@
 //! Rows: whole runs, and what they reply. Words, rcfile, archives and replies were worked out by hand.
 ghost use Rattle.mairix_tool.specs.WorkedReplies as row;
-ghost use Rattle.mairix_tool.specs.WorkedReplies.{IsWorked};
+ghost use Rattle.mairix_tool.specs.WorkedReplies.{IsWorkedReply};
 
 /// The definitions reply what was worked out by hand.
 pub fn replies_are_as_worked_by_hand()
-    ensures raw { IsWorked row.raw }
-    ensures several { IsWorked row.several }
-    ensures folded { IsWorked row.folded }
-    ensures parts { IsWorked row.parts }
-    ensures no_message { IsWorked row.no_message }
-    ensures mbox { IsWorked row.mbox }
-    ensures excerpt { IsWorked row.excerpt }
-    ensures negated { IsWorked row.negated }
-    ensures alone { IsWorked row.alone }
-    ensures threads { IsWorked row.threads }
-    ensures boolean { IsWorked row.boolean }
-    ensures bad_words { IsWorked row.bad_words }
-    ensures bad_rcfile { IsWorked row.bad_rcfile }
-    ensures bad_query { IsWorked row.bad_query }
-    ensures no_mbox { IsWorked row.no_mbox }
+    ensures raw { IsWorkedReply row.raw }
+    ensures several { IsWorkedReply row.several }
+    ensures folded { IsWorkedReply row.folded_word }
+    ensures parts { IsWorkedReply row.inner_and_outer }
+    ensures no_message { IsWorkedReply row.no_message }
+    ensures mbox { IsWorkedReply row.mbox }
+    ensures excerpt { IsWorkedReply row.excerpt_reply }
+    ensures negated { IsWorkedReply row.unwanted_word }
+    ensures alone { IsWorkedReply row.one_of_thread }
+    ensures threads { IsWorkedReply row.threads }
+    ensures boolean { IsWorkedReply row.boolean }
+    ensures bad_words { IsWorkedReply row.bad_words }
+    ensures bad_rcfile { IsWorkedReply row.empty_rcfile }
+    ensures bad_query { IsWorkedReply row.unknown_prefix }
+    ensures no_mbox { IsWorkedReply row.no_mbox }
 {}

@@ -1,7 +1,7 @@
 -- The messages of an index are within archives that are as they were indexed, because these have the indexed lengths.
 use Rattle.mail_answer.proofs.Words.{◌≡◌, ℕ, zero, suc, ◌+◌, ◌<◌, ◌≤◌, ◌^◌, List, [], ◌∷◌, length, Option, None, Some}
 use Rattle.mail_answer.proofs.Words.{IfSome, arith, eqb-true, AllByRecursion, Record, Archive, Table, IsArchive}
-use Rattle.mail_answer.proofs.Words.{IsMessage, IsWellFormed, archive_length, archive_at, IsInside, span_reading}
+use Rattle.mail_answer.proofs.Words.{IsMessage, IsWellFormed, archive_length, archive_at, IsInsideArchive, span_reading}
 use Rattle.mail_answer.proofs.Words.{first_changed, stale_archive, record_at}
 
 -- the first archive hasn't changed, nor those after it
@@ -40,7 +40,7 @@ short_archive version (a ∷ rest) (suc n) all = short_archive version rest n al
 pub message_inside : (t : Table) (held : Option (List (List ℕ))) (number n : ℕ) → IsWellFormed t → n < length t.messages
     → number ≡ length t.archives
     → IfSome held (λ archives. stale_archive t.archives archives ≡ None)
-    → IsInside number held (span_reading (record_at t.messages n))
+    → IsInsideArchive number held (span_reading (record_at t.messages n))
 message_inside t held number n w h e s =
     let m : IsMessage t.archives (record_at t.messages n) = message_in t.archives t.messages n h w.messages in
     let short : archive_length t.archives (record_at t.messages n).archive ≤ 2 ^ 40 =

@@ -1,6 +1,7 @@
 -- What is known after some calls was known before them. So what held of the known bytes then still holds.
 use Rattle.mail_answer.proofs.Words.{◌≡◌, ℕ, List, ◌++◌, Option, None, Some, IfSome, refl, subst, option_map, WasKnown}
-use Rattle.mail_answer.proofs.Words.{Raw, Excerpt, Mbox, Table, Reading, coming, known_answer, joined, IsInside}
+use Rattle.mail_answer.proofs.Words.{Raw, Excerpt, Mbox, Table, Reading, bytes_not_passed, known_answer, joined_texts}
+use Rattle.mail_answer.proofs.Words.{IsInsideArchive}
 use Rattle.mail_answer.specs.declared.format.Format.{Format}
 
 -- what holds of what was known, and of nothing, holds of what is still known
@@ -20,33 +21,34 @@ was_known_join {X} a b c first second = known_later (λ known. WasKnown a known)
 
 -- a part is still within its archive
 pub inside_later : (old new : Option (List (List ℕ))) (number : ℕ) (r : Reading) → WasKnown old new
-    → IsInside number old r → IsInside number new r
+    → IsInsideArchive number old r → IsInsideArchive number new r
 inside_later old new number r was inside =
-    let unknown : IsInside number None r = record { exists = inside.exists; fits = inside.fits; within = tt } in
-    known_later (λ held. IsInside number held r) old new was unknown inside
+    let unknown : IsInsideArchive number None r = record { exists = inside.exists; fits = inside.fits; within = tt } in
+    known_later (λ held. IsInsideArchive number held r) old new was unknown inside
 
 -- what was copied of a part and what comes are still the whole part
 pub copied_later : (old new : Option (List (List ℕ))) (whole part : Reading) (text : List ℕ) → WasKnown old new
-    → coming old whole ≡ option_map (λ bytes. text ++ bytes) (coming old part)
-    → coming new whole ≡ option_map (λ bytes. text ++ bytes) (coming new part)
+    → bytes_not_passed old whole ≡ option_map (λ bytes. text ++ bytes) (bytes_not_passed old part)
+    → bytes_not_passed new whole ≡ option_map (λ bytes. text ++ bytes) (bytes_not_passed new part)
 copied_later old new whole part text was is =
-    known_later (λ held. coming held whole ≡ option_map (λ bytes. text ++ bytes) (coming held part)) old new was refl is
+    known_later (λ held. bytes_not_passed held whole ≡ option_map (λ bytes. text ++ bytes) (bytes_not_passed held part))
+    old new was refl is
 
 -- what was added to an answer and what comes are still all of it
 pub answer_later : (format : Format) (t : Table) (old new : Option (List (List ℕ))) (all rest : List ℕ)
     (known : Option (List ℕ)) → WasKnown old new
-    → known_answer format t old all ≡ joined known (known_answer format t old rest)
-    → known_answer format t new all ≡ joined known (known_answer format t new rest)
+    → known_answer format t old all ≡ joined_texts known (known_answer format t old rest)
+    → known_answer format t new all ≡ joined_texts known (known_answer format t new rest)
 answer_later Raw t old new all rest known was is = is
 answer_later Excerpt t old new all rest None was is =
-    known_later (λ held. known_answer Excerpt t held all ≡ joined None (known_answer Excerpt t held rest))
+    known_later (λ held. known_answer Excerpt t held all ≡ joined_texts None (known_answer Excerpt t held rest))
     old new was refl is
 answer_later Excerpt t old new all rest (Some text) was is =
-    known_later (λ held. known_answer Excerpt t held all ≡ joined (Some text) (known_answer Excerpt t held rest))
+    known_later (λ held. known_answer Excerpt t held all ≡ joined_texts (Some text) (known_answer Excerpt t held rest))
     old new was refl is
 answer_later Mbox t old new all rest None was is =
-    known_later (λ held. known_answer Mbox t held all ≡ joined None (known_answer Mbox t held rest))
+    known_later (λ held. known_answer Mbox t held all ≡ joined_texts None (known_answer Mbox t held rest))
     old new was refl is
 answer_later Mbox t old new all rest (Some text) was is =
-    known_later (λ held. known_answer Mbox t held all ≡ joined (Some text) (known_answer Mbox t held rest))
+    known_later (λ held. known_answer Mbox t held all ≡ joined_texts (Some text) (known_answer Mbox t held rest))
     old new was refl is

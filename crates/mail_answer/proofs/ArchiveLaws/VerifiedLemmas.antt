@@ -7,7 +7,7 @@ use Rattle.mail_answer.proofs.Words.{Ok, Err, OnOk, arith, eqb-true, length-map,
 use Rattle.mail_answer.proofs.Words.{AllByRecursion, option_map_or, option_or, sha256, WasKnown, Archive, IsArchive}
 use Rattle.mail_answer.proofs.Words.{archive_length, archive_at, front_digest, ReadsDigest, ReadsFront, first_changed}
 use Rattle.mail_answer.proofs.Words.{stale_archive, TellsStale, has_digest, first_altered, unverified_archive}
-use Rattle.mail_answer.proofs.Words.{AreVerified, TellsVerified, ReadEach, AreRead, FindsDigests, Ghosts}
+use Rattle.mail_answer.proofs.Words.{AreVerified, TellsVerified, ReadEach, AreReadOnce, FindsDigests, Ghosts}
 use Rattle.mail_answer.proofs.Words.{AnswerFaultKind, Stale, Device, OutOfMemory, OutFailed}
 use Rattle.std.proofs.lemmas.Bool.{eq-eqb}
 use Rattle.std.specs.Option.{option_eq}
@@ -216,7 +216,7 @@ pub more_read : {A : Type 0} (g : Ghosts A) (named : List Archive) (n : ℕ) (a 
     (read : Option (List ℕ)) (old before new : A) → n < length named → drop n named ≡ a ∷ rest
     → AllByRecursion (IsArchive 2) named → IfSome (g.held new) (λ archives. stale_archive named archives ≡ None)
     → WasKnown (g.held before) (g.held new) → option_eq bytes_eq a.digest read ≡ true
-    → ReadsDigest g n a.length before new read → AreRead g named n old before → AreRead g named (n + 1) old new
+    → ReadsDigest g n a.length before new read → AreReadOnce g named n old before → AreReadOnce g named (n + 1) old new
 more_read {A} g named n a rest read old before new h e each fresh was same told so_far =
     let one = same_read g n a.length a.digest read before new
     (λ none. omega (arith, subst (IsDigest 2) none (named_archive 2 named n a rest each e).2)) same told in
@@ -246,8 +246,8 @@ more_read {A} g named n a rest read old before new h e each fresh was same told 
     }
 
 pub all_read : {A : Type 0} (g : Ghosts A) (named : List Archive) (n : ℕ) (old new : A) → n ≡ length named
-    → AreRead g named n old new → AreRead g named (length named) old new
-all_read {A} g named n old new e so_far = subst (λ (k : ℕ). AreRead g named k old new) e so_far
+    → AreReadOnce g named n old new → AreReadOnce g named (length named) old new
+all_read {A} g named n old new e so_far = subst (λ (k : ℕ). AreReadOnce g named k old new) e so_far
 
 -- what was read of all of them
 pub read_of_all : {A T : Type 0} (g : Ghosts A) (named : List Archive) (old new : A) (r : Result T AnswerFaultKind)

@@ -1,12 +1,12 @@
 -- A posting list whose first numbers are dropped still has all others, because its numbers rise.
 use Rattle.mail_answer.proofs.Words.{◌≡◌, ◌∙◌, ◌<◌, ◌≤◌, ℕ, suc, true, false, List, [], ◌∷◌, ◌++◌, append_assoc, Option}
 use Rattle.mail_answer.proofs.Words.{Some, None, refl, sym, ap, subst, arith, MatchOption, AllByRecursion}
-use Rattle.mail_answer.proofs.Words.{option_to_list, ltb-true, ltb-false, cases_lt, ne_eqb, RisesFrom, is_among}
+use Rattle.mail_answer.proofs.Words.{option_to_list, ltb-true, ltb-false, cases_lt, ne_eqb, RisesFrom, is_number_among}
 use Rattle.mail_answer.proofs.Words.{truth_at, Drops, IsFirst, numbers_ahead, truths_among, AreNumbers, is_before}
 use Rattle.mail_answer.proofs.Words.{slice_get}
 use Rattle.std.proofs.lemmas.List.{append-nil}
 use Rattle.std.proofs.lemmas.Bool.{eq-eqb}
-use Rattle.mail_answer.specs.Inside.CursorLists.{AreCut}
+use Rattle.mail_answer.specs.Inside.CursorLists.{AreDroppedBelow}
 use Rattle.mail_answer.proofs.CursorLaws.TruthReads.{each-at, each-past}
 
 -- ---- rising numbers
@@ -30,26 +30,28 @@ all_joined P (n ∷ ns) rest all more = (all.0, all_joined P ns rest all.1 more)
 
 -- ---- which numbers are among them
 
-not_below : (low m : ℕ) (ns : List ℕ) → m < low → RisesFrom low ns → is_among m ns ≡ false
+not_below : (low m : ℕ) (ns : List ℕ) → m < low → RisesFrom low ns → is_number_among m ns ≡ false
 not_below low m [] lt rises = refl
 not_below low m (n ∷ ns) lt rises = grind (arith, ne_eqb, not_below (suc n) m ns (omega (arith, rises.0)) rises.1)
 
-among_behind : (n m : ℕ) (front rest : List ℕ) → n ≤ m → AllByRecursion (λ k. k < n) front → is_among m rest
-    ≡ is_among m (front ++ rest)
+among_behind : (n m : ℕ) (front rest : List ℕ) → n ≤ m → AllByRecursion (λ k. k < n) front → is_number_among m rest
+    ≡ is_number_among m (front ++ rest)
 among_behind n m [] rest le below = refl
 among_behind n m (k ∷ ks) rest le below = grind (arith, ne_eqb, among_behind n m ks rest le below.1)
 
-pub past_all : (count m : ℕ) (ns : List ℕ) → count ≤ m → AllByRecursion (λ n. n < count) ns → is_among m ns ≡ false
+pub past_all : (count m : ℕ) (ns : List ℕ) → count ≤ m → AllByRecursion (λ n. n < count) ns → is_number_among m ns
+    ≡ false
 past_all count m [] past below = refl
 past_all count m (n ∷ ns) past below = grind (arith, ne_eqb, past_all count m ns past below.1)
 
-pub among-at : (count m : ℕ) (ns : List ℕ) → AreNumbers count ns → truth_at (truths_among count ns) m ≡ is_among m ns
+pub among-at : (count m : ℕ) (ns : List ℕ) → AreNumbers count ns → truth_at (truths_among count ns) m
+    ≡ is_number_among m ns
 among-at count m ns are = grind (arith, cases_lt, each-at, each-past, past_all)
 
 -- ---- the first numbers are dropped
 
 pub cut_none : (first : Option ℕ) (n : ℕ) (ns : List ℕ) → is_before first n ≡ false
-    → RisesFrom 0 (numbers_ahead first ns) → AreCut n (numbers_ahead first ns) (numbers_ahead first ns)
+    → RisesFrom 0 (numbers_ahead first ns) → AreDroppedBelow n (numbers_ahead first ns) (numbers_ahead first ns)
 cut_none first n ns h h2 = grind (arith, ltb-false)
 
 before_all : (first : Option ℕ) (n : ℕ) → is_before first n ≡ true → AllByRecursion (λ m. m < n) (option_to_list first)
@@ -63,7 +65,7 @@ Gave n old new number =
 
 pub cut_more : (first : Option ℕ) (n : ℕ) (old new : List ℕ) (number : Option ℕ) → is_before first n ≡ true
     → RisesFrom 0 (numbers_ahead first old) → Gave n old new number
-    → AreCut n (numbers_ahead first old) (numbers_ahead number new)
+    → AreDroppedBelow n (numbers_ahead first old) (numbers_ahead number new)
 cut_more first n old new None before rises gave = grind (arith, append-nil, all_joined, before_all)
 cut_more first n old new (Some m) before rises gave =
     let dropped : List ℕ = gave.1.0 in
@@ -81,16 +83,17 @@ cut_more first n old new (Some m) before rises gave =
 
 -- ---- what still comes from it
 
-pub cut_numbers : (count n : ℕ) (old new : List ℕ) → AreNumbers count old → AreCut n old new → AreNumbers count new
+pub cut_numbers : (count n : ℕ) (old new : List ℕ) → AreNumbers count old → AreDroppedBelow n old new
+    → AreNumbers count new
 cut_numbers count n old new are cut = grind (arith, rises_lower, all_behind)
 
-pub cut_drops : (count n : ℕ) (old new : List ℕ) → AreNumbers count old → AreCut n old new
+pub cut_drops : (count n : ℕ) (old new : List ℕ) → AreNumbers count old → AreDroppedBelow n old new
     → Drops n (truths_among count old) (truths_among count new)
 cut_drops count n old new are cut =
     let then : AreNumbers count new = cut_numbers count n old new are cut in
     record {
       rest = λ m le. among-at count m new then ∙ among_behind n m cut.dropped new le cut.below
-          ∙ sym (ap (is_among m) cut.split) ∙ sym (among-at count m old are);
+          ∙ sym (ap (is_number_among m) cut.split) ∙ sym (among-at count m old are);
       below = λ m lt. among-at count m new then ∙ not_below n m new lt cut.rises;
     }
 

@@ -5,7 +5,8 @@ use Rattle.mail_answer.proofs.Words.{IfOk, refl, sym, ap, subst, arith, inl, inr
 use Rattle.mail_answer.proofs.Words.{length-set, length-replicate, get_or-set_same, get_or-replicate, get_or_past}
 use Rattle.mail_answer.proofs.Words.{get_or_append_left, get_or-append-add, take-set, take-take, take_more_set}
 use Rattle.mail_answer.proofs.Words.{cases_lt, both_ways, or_left, or_right, or_from, lt-leb, or_assoc, or_comm}
-use Rattle.mail_answer.proofs.Words.{add_steps, truth_at, Adds, Ahead, Counts, Drops, IsFirst, left_in, united}
+use Rattle.mail_answer.proofs.Words.{add_steps, truth_at, Adds, WalkAhead, CountsSteps, Drops, IsFirst, steps_left_in}
+use Rattle.mail_answer.proofs.Words.{union_of}
 use Rattle.mail_answer.proofs.Words.{lesser_of, AreFew, HaveMarks, IsFirstMark, marked_or_listed, those_from}
 use Rattle.mail_answer.proofs.Words.{truths_marked, some_has}
 use Rattle.std.proofs.lemmas.List.{take_all}
@@ -30,44 +31,45 @@ lacks b h = grind arith
 
 -- ---- one of many lists changes, or is taken out
 
-some-set_same : (m : ℕ) (ws : List Ahead) (i : ℕ) (w v : Ahead) → i < length ws → w ≡ get_or ws i w
+some-set_same : (m : ℕ) (ws : List WalkAhead) (i : ℕ) (w v : WalkAhead) → i < length ws → w ≡ get_or ws i w
     → truth_at v.truths m ≡ truth_at w.truths m → some_has m (set ws i v) ≡ some_has m ws
 some-set_same m [] i w v lt is same = refl
 some-set_same m (x ∷ ws) zero w v lt is same =
-    ap (λ (b : Bool). b || some_has m ws) (same ∙ ap (λ (a : Ahead). truth_at a.truths m) is)
+    ap (λ (b : Bool). b || some_has m ws) (same ∙ ap (λ (a : WalkAhead). truth_at a.truths m) is)
 some-set_same m (x ∷ ws) (suc i) w v lt is same =
     ap (λ (b : Bool). truth_at x.truths m || b) (some-set_same m ws i w v (omega (arith, lt)) is same)
 
 -- the list doesn't have the message any more
-some-set_gone : (m : ℕ) (ws : List Ahead) (i : ℕ) (w v : Ahead) → i < length ws → w ≡ get_or ws i w
+some-set_gone : (m : ℕ) (ws : List WalkAhead) (i : ℕ) (w v : WalkAhead) → i < length ws → w ≡ get_or ws i w
     → truth_at v.truths m ≡ false → (some_has m (set ws i v) || truth_at w.truths m) ≡ some_has m ws
 some-set_gone m [] i w v lt is gone = absurd (omega (arith, lt))
 some-set_gone m (x ∷ ws) zero w v lt is gone = grind (arith, or_comm)
 some-set_gone m (x ∷ ws) (suc i) w v lt is gone =
     grind (arith, or_assoc, set, some-set_gone m ws i w v (omega (arith, lt)) is gone)
 
-some-any : (m : ℕ) (ws : List Ahead) → some_has m ws ≡ list_any (λ (w : Ahead). truth_at w.truths m) ws
+some-any : (m : ℕ) (ws : List WalkAhead) → some_has m ws ≡ list_any (λ (w : WalkAhead). truth_at w.truths m) ws
 some-any m [] = refl
 some-any m (w ∷ ws) = ap (λ (b : Bool). truth_at w.truths m || b) (some-any m ws)
 
-some-removed : (m : ℕ) (ws : List Ahead) (i : ℕ) (v : Ahead) → i < length ws → v ≡ get_or ws i v → truth_at v.truths m
+some-removed : (m : ℕ) (ws : List WalkAhead) (i : ℕ) (v : WalkAhead) → i < length ws → v ≡ get_or ws i v
+    → truth_at v.truths m
     ≡ false → some_has m (swap_remove ws i v) ≡ some_has m ws
 some-removed m ws i v lt is none =
-    let test : Ahead → Bool = λ (w : Ahead). truth_at w.truths m in
+    let test : WalkAhead → Bool = λ (w : WalkAhead). truth_at w.truths m in
     some-any m (swap_remove ws i v)
     ∙ ap (λ (b : Bool). b || list_any test (swap_remove ws i v)) (sym none)
     ∙ sym (list_any-IsPermutation test ws (v ∷ swap_remove ws i v) (IsPermutation-swap_remove ws i v lt is))
     ∙ sym (some-any m ws)
 
-left-sum : (ws : List Ahead) → left_in ws ≡ sum_by (λ (w : Ahead). w.left) ws
+left-sum : (ws : List WalkAhead) → steps_left_in ws ≡ sum_by (λ (w : WalkAhead). w.left) ws
 left-sum [] = refl
-left-sum (w ∷ ws) = omega (arith, left-sum ws, sum_by-cons (λ (a : Ahead). a.left) w ws)
+left-sum (w ∷ ws) = omega (arith, left-sum ws, sum_by-cons (λ (a : WalkAhead). a.left) w ws)
 
-left-removed : (ws : List Ahead) (i : ℕ) (v : Ahead) → i < length ws → v ≡ get_or ws i v → v.left ≡ 0
-    → left_in (swap_remove ws i v) ≡ left_in ws
+left-removed : (ws : List WalkAhead) (i : ℕ) (v : WalkAhead) → i < length ws → v ≡ get_or ws i v → v.left ≡ 0
+    → steps_left_in (swap_remove ws i v) ≡ steps_left_in ws
 left-removed ws i v lt is none = grind (arith, left-sum, sum_by-swap_remove)
 
-front-removed : (ws : List Ahead) (i : ℕ) (v : Ahead) → i < length ws → take i (swap_remove ws i v) ≡ take i ws
+front-removed : (ws : List WalkAhead) (i : ℕ) (v : WalkAhead) → i < length ws → take i (swap_remove ws i v) ≡ take i ws
 front-removed ws i v lt = grind (arith, take-take, set, take-set)
 
 -- ---- steps
@@ -75,13 +77,14 @@ front-removed ws i v lt = grind (arith, take-take, set, take-set)
 add_more : (steps a b : ℕ) → add_steps (add_steps steps a) b ≡ add_steps steps (a + b)
 add_more steps a b = omega arith
 
-pub counts_more : (left0 left left1 steps0 steps steps1 : ℕ) → Counts left0 left steps0 steps
-    → Counts left left1 steps steps1 → Counts left0 left1 steps0 steps1
+pub counts_more : (left0 left left1 steps0 steps steps1 : ℕ) → CountsSteps left0 left steps0 steps
+    → CountsSteps left left1 steps steps1 → CountsSteps left0 left1 steps0 steps1
 counts_more left0 left left1 steps0 steps steps1 earlier here = grind (arith, add_more)
 
-pub turn_counts : (ws : List Ahead) (i left0 steps0 steps steps1 : ℕ) (w v : Ahead) → i < length ws → w ≡ get_or ws i w
-    → Counts left0 (left_in ws) steps0 steps → Counts w.left v.left steps steps1
-    → Counts left0 (left_in (set ws i v)) steps0 steps1
+pub turn_counts : (ws : List WalkAhead) (i left0 steps0 steps steps1 : ℕ) (w v : WalkAhead) → i < length ws → w
+    ≡ get_or ws i w
+    → CountsSteps left0 (steps_left_in ws) steps0 steps → CountsSteps w.left v.left steps steps1
+    → CountsSteps left0 (steps_left_in (set ws i v)) steps0 steps1
 turn_counts ws i left0 steps0 steps steps1 w v lt is earlier here = grind (arith, counts_more, set, left-set)
 
 -- ---- the messages of one list
@@ -114,7 +117,7 @@ module _ (start : ℕ) (list marks rest now : List Bool) (has : HasMarked start 
 -- ---- the messages of all lists
 
 -- messages of the lists in the window are marked or still come; those of the first lists up to its end are dropped
-pub record HaveMarked (start : ℕ) (lists : List Ahead) (marks : List Bool) (place : ℕ) (now_lists : List Ahead)
+pub record HaveMarked (start : ℕ) (lists : List WalkAhead) (marks : List Bool) (place : ℕ) (now_lists : List WalkAhead)
     (now : List Bool) (least : Option ℕ) : Type 0 where
   pub long : length now ≡ length marks
   pub moved : (k : ℕ) → k < length marks → (truth_at now k || some_has (start + k) now_lists)
@@ -124,20 +127,20 @@ pub record HaveMarked (start : ℕ) (lists : List Ahead) (marks : List Bool) (pl
   pub first : Firsts (λ m. some_has m (take place now_lists)) least
   pub few : AreFew now_lists
 
-module _ (start : ℕ) (lists : List Ahead) (marks : List Bool) (place : ℕ) (ws : List Ahead) (now : List Bool)
-    (least : Option ℕ) (have : HaveMarked start lists marks place ws now least) (w : Ahead) (lt : place < length ws)
+module _ (start : ℕ) (lists : List WalkAhead) (marks : List Bool) (place : ℕ) (ws : List WalkAhead) (now : List Bool)
+    (least : Option ℕ) (have : HaveMarked start lists marks place ws now least) (w : WalkAhead) (lt : place < length ws)
     (is : w ≡ get_or ws place w) where
   pub list_few : (m : ℕ) → truth_at w.truths m ≡ true → m + 1 < 2 ^ 32
   list_few m here = have.few m (has_some ws place lt is)
     where
-      has_some : (vs : List Ahead) (i : ℕ) → i < length vs → w ≡ get_or vs i w → some_has m vs ≡ true
+      has_some : (vs : List WalkAhead) (i : ℕ) → i < length vs → w ≡ get_or vs i w → some_has m vs ≡ true
       has_some [] i less same = absurd (omega (arith, less))
       has_some (x ∷ vs) zero less same = or_left (truth_at x.truths m) (some_has m vs)
-          (sym (ap (λ (a : Ahead). truth_at a.truths m) same) ∙ here)
+          (sym (ap (λ (a : WalkAhead). truth_at a.truths m) same) ∙ here)
       has_some (x ∷ vs) (suc i) less same = or_right (truth_at x.truths m) (some_has m vs)
           (has_some vs i (omega (arith, less)) same)
 
-  module _ (v : Ahead) (now' : List Bool) (dropped : Drops (start + length now) w.truths v.truths)
+  module _ (v : WalkAhead) (now' : List Bool) (dropped : Drops (start + length now) w.truths v.truths)
       (adds : Adds (λ k. truth_at w.truths (start + k)) now now') where
     drops : Drops (start + length marks) w.truths v.truths
     drops = subst (λ (n : ℕ). Drops (start + n) w.truths v.truths) have.long dropped
@@ -150,7 +153,8 @@ module _ (start : ℕ) (lists : List Ahead) (marks : List Bool) (place : ℕ) (w
     some_behind m le = some-set_same m ws place w v lt is (drops.rest m le)
 
     -- for a list that stays, or for one that has come to its end
-    after : (vs : List Ahead) (place' : ℕ) (least' : Option ℕ) → ((m : ℕ) → some_has m vs ≡ some_has m (set ws place v))
+    after : (vs : List WalkAhead) (place' : ℕ) (least' : Option ℕ)
+        → ((m : ℕ) → some_has m vs ≡ some_has m (set ws place v))
         → ((m : ℕ) → m < start + length marks → some_has m (take place' vs) ≡ false)
         → Firsts (λ m. some_has m (take place' vs)) least' → HaveMarked start lists marks place' vs now' least'
     after vs place' least' same gone first = record {
@@ -205,27 +209,28 @@ module _ (start : ℕ) (lists : List Ahead) (marks : List Bool) (place : ℕ) (w
         (λ m. some_has m (take place (swap_remove (set ws place v) place v))) least
         (λ m. ap (some_has m) front_kept) have.first)
 
-    left_out : v.left ≡ 0 → left_in (swap_remove (set ws place v) place v) ≡ left_in (set ws place v)
+    left_out : v.left ≡ 0 → steps_left_in (swap_remove (set ws place v) place v) ≡ steps_left_in (set ws place v)
     left_out none = left-removed (set ws place v) place v within (sym (get_or-set_same ws place v v lt)) none
 
     -- the list that is taken out is the one that has come to its end
-    module _ (x : Ahead) (vs : List Ahead) (out : x ≡ get_or (set ws place v) place x)
+    module _ (x : WalkAhead) (vs : List WalkAhead) (out : x ≡ get_or (set ws place v) place x)
         (removed : vs ≡ swap_remove (set ws place v) place x) where
       same_out : swap_remove (set ws place v) place v ≡ vs
-      same_out = sym (removed ∙ ap (λ (y : Ahead). swap_remove (set ws place v) place y)
+      same_out = sym (removed ∙ ap (λ (y : WalkAhead). swap_remove (set ws place v) place y)
           (out ∙ get_or-set_same ws place v x lt))
 
       pub goes_out : IsFirst v.truths None → HaveMarked start lists marks place vs now' least
-      goes_out none = subst (λ (us : List Ahead). HaveMarked start lists marks place us now' least) same_out
+      goes_out none = subst (λ (us : List WalkAhead). HaveMarked start lists marks place us now' least) same_out
           (marked_out none)
 
-      pub goes_out_steps : v.left ≡ 0 → (left0 steps0 steps steps1 : ℕ) → Counts left0 (left_in ws) steps0 steps
-          → Counts w.left v.left steps steps1 → Counts left0 (left_in vs) steps0 steps1
+      pub goes_out_steps : v.left ≡ 0 → (left0 steps0 steps steps1 : ℕ)
+          → CountsSteps left0 (steps_left_in ws) steps0 steps
+          → CountsSteps w.left v.left steps steps1 → CountsSteps left0 (steps_left_in vs) steps0 steps1
       goes_out_steps none left0 steps0 steps steps1 earlier here =
-          subst (λ (n : ℕ). Counts left0 n steps0 steps1) (sym (left_out none) ∙ ap left_in same_out)
+          subst (λ (n : ℕ). CountsSteps left0 n steps0 steps1) (sym (left_out none) ∙ ap steps_left_in same_out)
           (turn_counts ws place left0 steps0 steps steps1 w v lt is earlier here)
 
-module _ (start : ℕ) (lists : List Ahead) (marks : List Bool) (place : ℕ) (ws : List Ahead) (now : List Bool)
+module _ (start : ℕ) (lists : List WalkAhead) (marks : List Bool) (place : ℕ) (ws : List WalkAhead) (now : List Bool)
     (least : Option ℕ) (have : HaveMarked start lists marks place ws now least) (past : length ws ≤ place) where
   whole : (m : ℕ) → some_has m ws ≡ some_has m (take place ws)
   whole m = ap (some_has m) (sym (take_all place ws past))
@@ -233,14 +238,15 @@ module _ (start : ℕ) (lists : List Ahead) (marks : List Bool) (place : ℕ) (w
   none_before : (m : ℕ) → m < start + length marks → some_has m ws ≡ false
   none_before m lt = whole m ∙ have.gone m lt
 
-  pub all_drops : Drops (start + length marks) (united lists) (united ws)
+  pub all_drops : Drops (start + length marks) (union_of lists) (union_of ws)
   all_drops = grind (arith, united-at, none_before)
 
-  pub all_first : IsFirst (united ws) least
-  all_first = firsts_same (λ m. some_has m (take place ws)) (truth_at (united ws)) least (λ m. united-at m ws ∙ whole m)
+  pub all_first : IsFirst (union_of ws) least
+  all_first = firsts_same (λ m. some_has m (take place ws)) (truth_at (union_of ws)) least
+      (λ m. united-at m ws ∙ whole m)
       have.first
 
-  pub all_marks : Adds (λ k. truth_at (united lists) (start + k)) marks now
+  pub all_marks : Adds (λ k. truth_at (union_of lists) (start + k)) marks now
   all_marks = record {
     long = have.long;
     each = λ k lt.
@@ -263,14 +269,15 @@ padded-from : (start : ℕ) (marks : List Bool) (m : ℕ) → start ≤ m → tr
     ≡ truth_at marks (m - start)
 padded-from start marks m le = grind (arith, padded-at)
 
-both-at : (start : ℕ) (marks : List Bool) (lists : List Ahead) (m : ℕ) → truth_at (marked_or_listed start marks lists) m
+both-at : (start : ℕ) (marks : List Bool) (lists : List WalkAhead) (m : ℕ)
+    → truth_at (marked_or_listed start marks lists) m
     ≡ (truth_at (replicate start false ++ marks) m || some_has m lists)
 both-at start marks lists m = grind (arith, one_or_other-at, united-at)
 
 -- if the marks from a number on are false, the messages of the lists are left
-unmarked-at : (start low : ℕ) (marks : List Bool) (lists : List Ahead)
+unmarked-at : (start low : ℕ) (marks : List Bool) (lists : List WalkAhead)
     → ((k : ℕ) → low ≤ start + k → truth_at marks k ≡ false) → (m : ℕ) → low ≤ m
-    → truth_at (marked_or_listed start marks lists) m ≡ truth_at (united lists) m
+    → truth_at (marked_or_listed start marks lists) m ≡ truth_at (union_of lists) m
 unmarked-at start low marks lists none m le = grind (arith, both-at, cases_lt, padded-before, padded-from, united-at)
 
 -- ---- a window begins anew
@@ -285,12 +292,12 @@ none_at marks none k = ap (λ (xs : List Bool). truth_at xs k) none ∙ elim (ca
 pub drops_at_once : (n : ℕ) (old new : List Bool) → Drops (n + 0) old new → Drops n old new
 drops_at_once n old new drops = let same : n + 0 ≡ n = omega arith in subst (λ (k : ℕ). Drops k old new) same drops
 
-few_kept : (n : ℕ) (old new : List Ahead) → AreFew old → Drops n (united old) (united new) → AreFew new
+few_kept : (n : ℕ) (old new : List WalkAhead) → AreFew old → Drops n (union_of old) (union_of new) → AreFew new
 few_kept n old new few drops = λ m here. few m
-    (sym (united-at m old) ∙ kept n (united old) (united new) drops m (united-at m new ∙ here))
+    (sym (united-at m old) ∙ kept n (union_of old) (union_of new) drops m (united-at m new ∙ here))
 
-module _ (n start : ℕ) (cleared : List Bool) (lists cut : List Ahead) (few : AreFew lists)
-    (drops : Drops n (united lists) (united cut)) (clear : cleared ≡ replicate 4096 false) where
+module _ (n start : ℕ) (cleared : List Bool) (lists cut : List WalkAhead) (few : AreFew lists)
+    (drops : Drops n (union_of lists) (union_of cut)) (clear : cleared ≡ replicate 4096 false) where
   unmarked : (k : ℕ) → truth_at cleared k ≡ false
   unmarked = none_at cleared clear
 
@@ -300,30 +307,30 @@ module _ (n start : ℕ) (cleared : List Bool) (lists cut : List Ahead) (few : A
   pub few_cut : AreFew cut
   few_cut = few_kept n lists cut few drops
 
-  same_as_cut : (m : ℕ) → truth_at (marked_or_listed start cleared cut) m ≡ truth_at (united cut) m
+  same_as_cut : (m : ℕ) → truth_at (marked_or_listed start cleared cut) m ≡ truth_at (union_of cut) m
   same_as_cut m = unmarked-at start 0 cleared cut (λ k le. unmarked k) m (omega arith)
 
-  pub none_marks : (number : Option ℕ) → IsFirst (united cut) number → HaveMarks start cleared cut (Asked number)
+  pub none_marks : (number : Option ℕ) → IsFirst (union_of cut) number → HaveMarks start cleared cut (Asked number)
   none_marks number first = grind (arith, long, few_cut, both_ways, unmarked)
 
-  pub none_drops : Drops n (united lists) (marked_or_listed start cleared cut)
+  pub none_drops : Drops n (union_of lists) (marked_or_listed start cleared cut)
   none_drops = grind (arith, same_as_cut)
 
-  pub none_first : (number : Option ℕ) → IsFirst (united cut) number
+  pub none_first : (number : Option ℕ) → IsFirst (union_of cut) number
       → IsFirst (marked_or_listed start cleared cut) number
-  none_first number none = firsts_same (truth_at (united cut)) (truth_at (marked_or_listed start cleared cut)) number
+  none_first number none = firsts_same (truth_at (union_of cut)) (truth_at (marked_or_listed start cleared cut)) number
       same_as_cut none
 
-  module _ (first : ℕ) (now : List Bool) (left : List Ahead) (is : IsFirst (united cut) (Some first))
-      (taken : Drops (first + length cleared) (united cut) (united left))
-      (adds : Adds (λ k. truth_at (united cut) (first + k)) cleared now) where
-    marked-as : (k : ℕ) → k < length cleared → truth_at now k ≡ truth_at (united cut) (first + k)
-    marked-as k lt = adds.each k lt ∙ ap (λ (b : Bool). b || truth_at (united cut) (first + k)) (unmarked k)
+  module _ (first : ℕ) (now : List Bool) (left : List WalkAhead) (is : IsFirst (union_of cut) (Some first))
+      (taken : Drops (first + length cleared) (union_of cut) (union_of left))
+      (adds : Adds (λ k. truth_at (union_of cut) (first + k)) cleared now) where
+    marked-as : (k : ℕ) → k < length cleared → truth_at now k ≡ truth_at (union_of cut) (first + k)
+    marked-as k lt = adds.each k lt ∙ ap (λ (b : Bool). b || truth_at (union_of cut) (first + k)) (unmarked k)
 
     left-in : (m : ℕ) → m < first + length cleared → some_has m left ≡ false
     left-in m lt = sym (united-at m left) ∙ taken.below m lt
 
-    same_as_moved : (m : ℕ) → truth_at (marked_or_listed first now left) m ≡ truth_at (united cut) m
+    same_as_moved : (m : ℕ) → truth_at (marked_or_listed first now left) m ≡ truth_at (union_of cut) m
     same_as_moved m = grind (
       arith,
       both-at,
@@ -340,7 +347,7 @@ module _ (n start : ℕ) (cleared : List Bool) (lists cut : List Ahead) (few : A
     inside_marks : (k : ℕ) → truth_at now k ≡ true → k < length cleared
     inside_marks k here = grind (arith, cases_lt, both_ways, get_or_past)
 
-    pub begun_marks : (number : Option ℕ) → IsFirst (united left) number → HaveMarks first now left (Asked number)
+    pub begun_marks : (number : Option ℕ) → IsFirst (union_of left) number → HaveMarks first now left (Asked number)
     begun_marks number next = record {
       window = adds.long ∙ long;
       listed = few_kept (first + length cleared) cut left few_cut taken;
@@ -357,11 +364,11 @@ module _ (n start : ℕ) (cleared : List Bool) (lists cut : List Ahead) (few : A
           ];
     }
 
-    pub begun_drops : Drops n (united lists) (marked_or_listed first now left)
+    pub begun_drops : Drops n (union_of lists) (marked_or_listed first now left)
     begun_drops = grind (arith, same_as_moved)
 
     pub begun_first : IsFirst (marked_or_listed first now left) (Some first)
-    begun_first = firsts_same (truth_at (united cut)) (truth_at (marked_or_listed first now left)) (Some first)
+    begun_first = firsts_same (truth_at (union_of cut)) (truth_at (marked_or_listed first now left)) (Some first)
         same_as_moved is
 
 -- ---- the messages from a number on
@@ -377,7 +384,7 @@ drops_from : (n low low' : ℕ) (xs ys : List Bool) → low' ≡ max n low
     → ((m : ℕ) → low' ≤ m → truth_at ys m ≡ truth_at xs m) → Drops n (those_from low xs) (those_from low' ys)
 drops_from n low low' xs ys is same = grind (arith, cases_lt, those-before, those-from)
 
-module _ (n low low' start : ℕ) (marks : List Bool) (lists : List Ahead) (ahead : Head)
+module _ (n low low' start : ℕ) (marks : List Bool) (lists : List WalkAhead) (ahead : Head)
     (have : HaveMarks start marks lists ahead) (is : low' ≡ max n low) where
   pub found_drops : Drops n (truths_marked low start marks lists) (truths_marked low' start marks lists)
   found_drops = drops_from n low low' (marked_or_listed start marks lists) (marked_or_listed start marks lists) is
@@ -399,8 +406,8 @@ module _ (n low low' start : ℕ) (marks : List Bool) (lists : List Ahead) (ahea
     lacks,
   )
 
-  module _ (start' : ℕ) (now : List Bool) (left : List Ahead) (none : IsFirstMark start low' marks None)
-      (drops : Drops low' (united lists) (marked_or_listed start' now left)) where
+  module _ (start' : ℕ) (now : List Bool) (left : List WalkAhead) (none : IsFirstMark start low' marks None)
+      (drops : Drops low' (union_of lists) (marked_or_listed start' now left)) where
     pub windowed_drops : Drops n (truths_marked low start marks lists) (truths_marked low' start' now left)
     windowed_drops = grind (arith, drops_from, unmarked-at)
 
@@ -410,18 +417,18 @@ module _ (n low low' start : ℕ) (marks : List Bool) (lists : List Ahead) (ahea
 
 -- ---- a walk begins
 
-pub begins_marked : (lists : List Ahead) (marks : List Bool) → marks ≡ replicate 4096 false → (m : ℕ)
+pub begins_marked : (lists : List WalkAhead) (marks : List Bool) → marks ≡ replicate 4096 false → (m : ℕ)
     → truth_at (truths_marked 0 0 marks lists) m ≡ some_has m lists
 begins_marked lists marks none m =
     those-from 0 (marked_or_listed 0 marks lists) m (omega arith)
     ∙ unmarked-at 0 0 marks lists (λ k le. none_at marks none k) m (omega arith)
     ∙ united-at m lists
 
-pub begins_window : (lists : List Ahead) (marks : List Bool) → marks ≡ replicate 4096 false → AreFew lists
+pub begins_window : (lists : List WalkAhead) (marks : List Bool) → marks ≡ replicate 4096 false → AreFew lists
     → HaveMarks 0 marks lists Unasked
 begins_window lists marks none few = grind (arith, length-replicate, both_ways, none_at)
 
-pub if_marked : {E : Type 0} (r : Result Ahead E) (xs : List Bool) (ws : List Ahead)
+pub if_marked : {E : Type 0} (r : Result WalkAhead E) (xs : List Bool) (ws : List WalkAhead)
     → ((m : ℕ) → truth_at xs m ≡ some_has m ws) → IfOk r (λ w. w.truths ≡ xs)
     → IfOk r (λ w. (m : ℕ) → truth_at w.truths m ≡ some_has m ws)
 if_marked r xs ws h h2 = grind arith

@@ -3,7 +3,8 @@ use Rattle.mail_answer.proofs.Words.{◌≡◌, ◌∙◌, ◌+◌, ◌<◌, ◌
 use Rattle.mail_answer.proofs.Words.{[], ◌∷◌, ◌++◌, length, take, get_or, Option, Some, None, refl, sym, ap, arith, inl}
 use Rattle.mail_answer.proofs.Words.{inr, MatchOption, set, cases_lt, or_left, or_right, or_from, and_left, and_right}
 use Rattle.mail_answer.proofs.Words.{and_from, take_more, take_more_set, length-set, get_or-set_same, get_or-set_other}
-use Rattle.mail_answer.proofs.Words.{and-true, and_assoc, or-false, or_assoc, truth_at, Ahead, common, united, left_in}
+use Rattle.mail_answer.proofs.Words.{and-true, and_assoc, or-false, or_assoc, truth_at, WalkAhead, common, union_of}
+use Rattle.mail_answer.proofs.Words.{steps_left_in}
 use Rattle.mail_answer.proofs.Words.{postings_in, levels, CountsPostings, Drops, IsFirst, Reaches, Spends, lesser_of}
 use Rattle.mail_answer.proofs.Words.{some_has}
 use Rattle.std.proofs.lemmas.List.{take_all}
@@ -12,42 +13,44 @@ use Rattle.mail_answer.proofs.CursorLaws.Turns.{first_from}
 
 -- ---- one member changes
 
-pub left-set : (ws : List Ahead) (i : ℕ) (w v : Ahead) → i < length ws → w ≡ get_or ws i w
-    → left_in (set ws i v) + w.left ≡ left_in ws + v.left
+pub left-set : (ws : List WalkAhead) (i : ℕ) (w v : WalkAhead) → i < length ws → w ≡ get_or ws i w
+    → steps_left_in (set ws i v) + w.left ≡ steps_left_in ws + v.left
 left-set [] i w v lt is = absurd (omega (arith, lt))
-left-set (x ∷ ws) zero w v lt is = let same : w.left ≡ x.left = ap (λ (a : Ahead). a.left) is in omega (arith, same)
+left-set (x ∷ ws) zero w v lt is = let same : w.left ≡ x.left = ap (λ (a : WalkAhead). a.left) is in omega (arith, same)
 left-set (x ∷ ws) (suc i) w v lt is = omega (arith, left-set ws i w v (omega (arith, lt)) is)
 
-pub levels-set : (ws : List Ahead) (i : ℕ) (w v : Ahead) → i < length ws → w ≡ get_or ws i w → v.below ≡ w.below
+pub levels-set : (ws : List WalkAhead) (i : ℕ) (w v : WalkAhead) → i < length ws → w ≡ get_or ws i w → v.below ≡ w.below
     → levels (set ws i v) ≡ levels ws
 levels-set [] i w v lt is same = refl
-levels-set (x ∷ ws) zero w v lt is same = let here : w.below ≡ x.below = ap (λ (a : Ahead). a.below) is
+levels-set (x ∷ ws) zero w v lt is same = let here : w.below ≡ x.below = ap (λ (a : WalkAhead). a.below) is
     in omega (arith, same, here)
 levels-set (x ∷ ws) (suc i) w v lt is same =
     ap (λ (n : ℕ). max (x.below + 1) n) (levels-set ws i w v (omega (arith, lt)) is same)
 
-pub below-levels : (ws : List Ahead) (i : ℕ) (w : Ahead) → i < length ws → w ≡ get_or ws i w → w.below < levels ws
+pub below-levels : (ws : List WalkAhead) (i : ℕ) (w : WalkAhead) → i < length ws → w ≡ get_or ws i w
+    → w.below < levels ws
 below-levels [] i w lt is = absurd (omega (arith, lt))
-below-levels (x ∷ ws) zero w lt is = let here : w.below ≡ x.below = ap (λ (a : Ahead). a.below) is
+below-levels (x ∷ ws) zero w lt is = let here : w.below ≡ x.below = ap (λ (a : WalkAhead). a.below) is
     in omega (arith, here)
 below-levels (x ∷ ws) (suc i) w lt is = omega (arith, below-levels ws i w (omega (arith, lt)) is)
 
-pub turn_steps : (ws : List Ahead) (i left0 steps0 steps steps1 : ℕ) (w v : Ahead) → i < length ws → w ≡ get_or ws i w
-    → Spends left0 (left_in ws) steps0 steps → Spends w.left v.left steps steps1
-    → Spends left0 (left_in (set ws i v)) steps0 steps1
+pub turn_steps : (ws : List WalkAhead) (i left0 steps0 steps steps1 : ℕ) (w v : WalkAhead) → i < length ws → w
+    ≡ get_or ws i w
+    → Spends left0 (steps_left_in ws) steps0 steps → Spends w.left v.left steps steps1
+    → Spends left0 (steps_left_in (set ws i v)) steps0 steps1
 turn_steps ws i left0 steps0 steps steps1 w v lt is before now = grind (arith, left-set)
 
-postings-set : (ws : List Ahead) (i : ℕ) (w v : Ahead) → i < length ws → w ≡ get_or ws i w
+postings-set : (ws : List WalkAhead) (i : ℕ) (w v : WalkAhead) → i < length ws → w ≡ get_or ws i w
     → postings_in (set ws i v) + w.postings ≡ postings_in ws + v.postings
 postings-set [] i w v lt is = absurd (omega (arith, lt))
-postings-set (x ∷ ws) zero w v lt is = let same : w.postings ≡ x.postings = ap (λ (a : Ahead). a.postings) is
+postings-set (x ∷ ws) zero w v lt is = let same : w.postings ≡ x.postings = ap (λ (a : WalkAhead). a.postings) is
     in omega (arith, same)
 postings-set (x ∷ ws) (suc i) w v lt is = omega (arith, postings-set ws i w v (omega (arith, lt)) is)
 
 pub none_counted : (postings steps : ℕ) → CountsPostings postings postings steps steps
 none_counted postings steps = record { fewer = omega arith; counted = omega arith }
 
-pub turn_postings : (ws : List Ahead) (i postings0 steps0 steps steps1 : ℕ) (w v : Ahead) → i < length ws → w
+pub turn_postings : (ws : List WalkAhead) (i postings0 steps0 steps steps1 : ℕ) (w v : WalkAhead) → i < length ws → w
     ≡ get_or ws i w
     → CountsPostings postings0 (postings_in ws) steps0 steps → CountsPostings w.postings v.postings steps steps1
     → CountsPostings postings0 (postings_in (set ws i v)) steps0 steps1
@@ -55,29 +58,30 @@ turn_postings ws i postings0 steps0 steps steps1 w v lt is before now = grind (a
 
 -- ---- in each walk, and in at least one
 
-unfoldable pub each_has : ℕ → List Ahead → Bool
+unfoldable pub each_has : ℕ → List WalkAhead → Bool
 each_has m [] = true
 each_has m (w ∷ ws) = truth_at w.truths m && each_has m ws
 
-pub united-at : (m : ℕ) (ws : List Ahead) → truth_at (united ws) m ≡ some_has m ws
+pub united-at : (m : ℕ) (ws : List WalkAhead) → truth_at (union_of ws) m ≡ some_has m ws
 united-at m [] = refl
-united-at m (w ∷ ws) = one_or_other-at w.truths (united ws) m
+united-at m (w ∷ ws) = one_or_other-at w.truths (union_of ws) m
     ∙ ap (λ (b : Bool). truth_at w.truths m || b) (united-at m ws)
 
-pub common-at : (m : ℕ) (ws : List Ahead) → 0 < length ws → truth_at (common ws) m ≡ each_has m ws
+pub common-at : (m : ℕ) (ws : List WalkAhead) → 0 < length ws → truth_at (common ws) m ≡ each_has m ws
 unfolding each_has
 common-at m [] some = absurd (omega (arith, some))
 common-at m (w ∷ []) some = sym (and-true (truth_at w.truths m))
 common-at m (w ∷ v ∷ ws) some = both-at w.truths (common (v ∷ ws)) m
     ∙ ap (λ (b : Bool). truth_at w.truths m && b) (common-at m (v ∷ ws) (omega arith))
 
-pub some-append : (m : ℕ) (ws : List Ahead) (w : Ahead) → some_has m (ws ++ w ∷ [])
+pub some-append : (m : ℕ) (ws : List WalkAhead) (w : WalkAhead) → some_has m (ws ++ w ∷ [])
     ≡ (some_has m ws || truth_at w.truths m)
 some-append m [] w = or-false (truth_at w.truths m)
 some-append m (v ∷ ws) w = ap (λ (b : Bool). truth_at v.truths m || b) (some-append m ws w)
     ∙ sym (or_assoc (truth_at v.truths m) (some_has m ws) (truth_at w.truths m))
 
-each-append : (m : ℕ) (ws : List Ahead) (w : Ahead) → each_has m (ws ++ w ∷ []) ≡ (each_has m ws && truth_at w.truths m)
+each-append : (m : ℕ) (ws : List WalkAhead) (w : WalkAhead) → each_has m (ws ++ w ∷ [])
+    ≡ (each_has m ws && truth_at w.truths m)
 unfolding each_has
 each-append m [] w = and-true (truth_at w.truths m)
 each-append m (v ∷ ws) w = ap (λ (b : Bool). truth_at v.truths m && b) (each-append m ws w)
@@ -87,16 +91,17 @@ front_lacks : (b front whole : Bool) → (front ≡ false → whole ≡ false) �
 front_lacks b front whole h h2 = grind arith
 
 -- if one walk doesn't have the message, not each has it
-each-lacks : (m : ℕ) (ws : List Ahead) (i : ℕ) (w : Ahead) → i < length ws → w ≡ get_or ws i w → truth_at w.truths m
+each-lacks : (m : ℕ) (ws : List WalkAhead) (i : ℕ) (w : WalkAhead) → i < length ws → w ≡ get_or ws i w
+    → truth_at w.truths m
     ≡ false → each_has m ws ≡ false
 unfolding each_has
 each-lacks m [] i w lt is lacks = absurd (omega (arith, lt))
 each-lacks m (x ∷ ws) zero w lt is lacks =
-    and_left (truth_at x.truths m) (each_has m ws) (sym (ap (λ (a : Ahead). truth_at a.truths m) is) ∙ lacks)
+    and_left (truth_at x.truths m) (each_has m ws) (sym (ap (λ (a : WalkAhead). truth_at a.truths m) is) ∙ lacks)
 each-lacks m (x ∷ ws) (suc i) w lt is lacks =
     and_right (truth_at x.truths m) (each_has m ws) (each-lacks m ws i w (omega (arith, lt)) is lacks)
 
-each-front : (m : ℕ) (ws : List Ahead) (i : ℕ) → each_has m (take i ws) ≡ false → each_has m ws ≡ false
+each-front : (m : ℕ) (ws : List WalkAhead) (i : ℕ) → each_has m (take i ws) ≡ false → each_has m ws ≡ false
 unfolding each_has
 each-front m [] zero lacks = lacks
 each-front m [] (suc i) lacks = lacks
@@ -119,18 +124,18 @@ pub firsts_lesser : (f g : ℕ → Bool) (r s : Option ℕ) → Firsts f r → F
 firsts_lesser f g r s h h2 = grind (arith, or_from, or_right, or_left, cases_lt)
 
 -- members that dropped all numbers below n, and the first number that still comes in one of them
-pub record HaveDropped (n : ℕ) (old new : List Ahead) (least : Option ℕ) : Type 0 where
+pub record HaveDropped (n : ℕ) (old new : List WalkAhead) (least : Option ℕ) : Type 0 where
   pub rest : (m : ℕ) → n ≤ m → some_has m new ≡ some_has m old
   pub below : (m : ℕ) → m < n → some_has m new ≡ false
   pub first : Firsts (λ m. some_has m new) least
 
-dropped_one : (n : ℕ) (old new : List Ahead) (least : Option ℕ) (w v : Ahead) (number : Option ℕ)
+dropped_one : (n : ℕ) (old new : List WalkAhead) (least : Option ℕ) (w v : WalkAhead) (number : Option ℕ)
     → HaveDropped n old new least → Drops n w.truths v.truths → IsFirst v.truths number
     → HaveDropped n (old ++ w ∷ []) (new ++ v ∷ []) (lesser_of least number)
 dropped_one n old new least w v number have drops first =
     grind (arith, some-append, or_from, firsts_same, firsts_lesser)
 
-pub dropped_more : (n : ℕ) (old new : List Ahead) (i : ℕ) (least number result : Option ℕ) (w v : Ahead)
+pub dropped_more : (n : ℕ) (old new : List WalkAhead) (i : ℕ) (least number result : Option ℕ) (w v : WalkAhead)
     → i < length old → length new ≡ length old → w ≡ get_or old i w
     → HaveDropped n (take i old) (take i new) least → Drops n w.truths v.truths → IsFirst v.truths number → result
     ≡ lesser_of least number
@@ -138,23 +143,23 @@ pub dropped_more : (n : ℕ) (old new : List Ahead) (i : ℕ) (least number resu
 dropped_more n old new i least number result w v lt long is have drops first lesser =
     let within : i < length new = omega (arith, lt, long) in
     let fronts : take (i + 1) old ≡ take i old ++ w ∷ [] = take_more old i w lt
-    ∙ ap (λ (x : Ahead). take i old ++ x ∷ []) (sym is) in
+    ∙ ap (λ (x : WalkAhead). take i old ++ x ∷ []) (sym is) in
     rw (fronts, take_more_set new i v within, lesser)
     (dropped_one n (take i old) (take i new) least w v number have drops first)
 
-pub dropped_drops : (n : ℕ) (old new : List Ahead) (least : Option ℕ) → HaveDropped n old new least
-    → Drops n (united old) (united new)
+pub dropped_drops : (n : ℕ) (old new : List WalkAhead) (least : Option ℕ) → HaveDropped n old new least
+    → Drops n (union_of old) (union_of new)
 dropped_drops n old new least have = grind (arith, united-at)
 
-pub dropped_first : (n : ℕ) (old new : List Ahead) (least : Option ℕ) → HaveDropped n old new least
-    → IsFirst (united new) least
-dropped_first n old new least have = firsts_same (λ m. some_has m new) (truth_at (united new)) least
+pub dropped_first : (n : ℕ) (old new : List WalkAhead) (least : Option ℕ) → HaveDropped n old new least
+    → IsFirst (union_of new) least
+dropped_first n old new least have = firsts_same (λ m. some_has m new) (truth_at (union_of new)) least
     (λ m. united-at m new) have.first
 
 -- ---- each member
 
 -- the members went on, each from the number that the one before it reached; no number below this one is in each of them
-pub record HaveReached (n : ℕ) (old new : List Ahead) (number : ℕ) : Type 0 where
+pub record HaveReached (n : ℕ) (old new : List WalkAhead) (number : ℕ) : Type 0 where
   pub from : n ≤ number
   pub rest : (m : ℕ) → number ≤ m → each_has m new ≡ each_has m old
   pub passed : (m : ℕ) → 0 < length new → m < number → each_has m new ≡ false
@@ -171,7 +176,7 @@ reached_none n = record {
   reached = λ same. refl;
 }
 
-reached_one : (n : ℕ) (old new : List Ahead) (number least : ℕ) (w v : Ahead) → HaveReached n old new number
+reached_one : (n : ℕ) (old new : List WalkAhead) (number least : ℕ) (w v : WalkAhead) → HaveReached n old new number
     → Drops number w.truths v.truths → IsFirst v.truths (Some least)
     → HaveReached n (old ++ w ∷ []) (new ++ v ∷ []) least
 reached_one n old new number least w v have drops first =
@@ -194,18 +199,19 @@ reached_one n old new number least w v have drops first =
           (ap (truth_at v.truths) (sym same) ∙ first.0);
     }
 
-pub reached_more : (n : ℕ) (old new : List Ahead) (i number least : ℕ) (w v : Ahead) → i < length old → length new
+pub reached_more : (n : ℕ) (old new : List WalkAhead) (i number least : ℕ) (w v : WalkAhead) → i < length old
+    → length new
     ≡ length old → w ≡ get_or old i w
     → HaveReached n (take i old) (take i new) number → Drops number w.truths v.truths → IsFirst v.truths (Some least)
     → HaveReached n (take (i + 1) old) (take (i + 1) (set new i v)) least
 reached_more n old new i number least w v lt long is have drops first =
     let within : i < length new = omega (arith, lt, long) in
     let fronts : take (i + 1) old ≡ take i old ++ w ∷ [] = take_more old i w lt
-    ∙ ap (λ (x : Ahead). take i old ++ x ∷ []) (sym is) in
+    ∙ ap (λ (x : WalkAhead). take i old ++ x ∷ []) (sym is) in
     rw (fronts, take_more_set new i v within)
     (reached_one n (take i old) (take i new) number least w v have drops first)
 
-pub reached_drops : (n : ℕ) (old new : List Ahead) (number : ℕ) → 0 < length old → 0 < length new
+pub reached_drops : (n : ℕ) (old new : List WalkAhead) (number : ℕ) → 0 < length old → 0 < length new
     → HaveReached n old new number → Drops n (common old) (common new)
 reached_drops n old new number some some_new have = record {
   rest = λ m le. elim (cases_lt m number) [
@@ -216,13 +222,13 @@ reached_drops n old new number some some_new have = record {
   below = λ m lt. common-at m new some_new ∙ have.passed m some_new (omega (arith, lt, have.from));
 }
 
-pub reached_number : (n : ℕ) (old new : List Ahead) (number : ℕ) → 0 < length new → HaveReached n old new number
+pub reached_number : (n : ℕ) (old new : List WalkAhead) (number : ℕ) → 0 < length new → HaveReached n old new number
     → Reaches n (common new) (Some number)
 reached_number n old new number some have =
     (have.from, λ m lt. common-at m new some ∙ have.passed m some lt, λ same. common-at n new some ∙ have.reached same)
 
 -- a member without numbers ends them all
-pub ended_none : (new : List Ahead) (i : ℕ) (v : Ahead) → i < length new → IsFirst v.truths None → (m : ℕ)
+pub ended_none : (new : List WalkAhead) (i : ℕ) (v : WalkAhead) → i < length new → IsFirst v.truths None → (m : ℕ)
     → truth_at (common (set new i v)) m ≡ false
 ended_none new i v lt none m =
     let long : length (set new i v) ≡ length new = length-set new i v in
@@ -230,7 +236,8 @@ ended_none new i v lt none m =
     common-at m (set new i v) (omega (arith, within))
     ∙ each-lacks m (set new i v) i v within (sym (get_or-set_same new i v v lt)) (none m)
 
-pub ended_drops : (n : ℕ) (old new : List Ahead) (i number : ℕ) (w v : Ahead) → i < length old → length new ≡ length old
+pub ended_drops : (n : ℕ) (old new : List WalkAhead) (i number : ℕ) (w v : WalkAhead) → i < length old → length new
+    ≡ length old
     → w ≡ get_or old i w
     → HaveReached n (take i old) (take i new) number → Drops number w.truths v.truths → IsFirst v.truths None
     → Drops n (common old) (common (set new i v))
@@ -256,17 +263,18 @@ pub record HasRisen (n : ℕ) (old : List Bool) (number : ℕ) (xs : List Bool) 
 -- ---- the loop over members
 
 -- the members from this place on are unchanged
-abbrev pub Unvisited : List Ahead → List Ahead → ℕ → Type 0
-Unvisited old new i = (length new ≡ length old) × ((k : ℕ) (d : Ahead) → i ≤ k → get_or new k d ≡ get_or old k d)
+abbrev pub Unvisited : List WalkAhead → List WalkAhead → ℕ → Type 0
+Unvisited old new i = (length new ≡ length old) × ((k : ℕ) (d : WalkAhead) → i ≤ k → get_or new k d ≡ get_or old k d)
 
-pub unvisited_more : (old new : List Ahead) (i : ℕ) (v : Ahead) → Unvisited old new i
+pub unvisited_more : (old new : List WalkAhead) (i : ℕ) (v : WalkAhead) → Unvisited old new i
     → Unvisited old (set new i v) (i + 1)
 unvisited_more old new i v un = grind (arith, length-set, get_or-set_other)
 
-pub whole_dropped : (n : ℕ) (old new : List Ahead) (i : ℕ) (least : Option ℕ) → length new ≡ length old → length old ≤ i
+pub whole_dropped : (n : ℕ) (old new : List WalkAhead) (i : ℕ) (least : Option ℕ) → length new ≡ length old
+    → length old ≤ i
     → HaveDropped n (take i old) (take i new) least → HaveDropped n old new least
 whole_dropped n old new i least long past have = grind (arith, take_all)
 
-pub whole_reached : (n : ℕ) (old new : List Ahead) (i number : ℕ) → length new ≡ length old → length old ≤ i
+pub whole_reached : (n : ℕ) (old new : List WalkAhead) (i number : ℕ) → length new ≡ length old → length old ≤ i
     → HaveReached n (take i old) (take i new) number → HaveReached n old new number
 whole_reached n old new i number long past have = grind (arith, take_all)

@@ -2,7 +2,7 @@
 use Rattle.mail_answer.proofs.Words.{◌≡◌, ◌∙◌, ◌+◌, ◌<◌, ◌≤◌, ℕ, zero, suc, Bool, true, false, cond, ◌&&◌, max, List}
 use Rattle.mail_answer.proofs.Words.{[], ◌∷◌, ◌++◌, Option, Some, None, refl, sym, ap, subst, arith, inl, inr, nat_le}
 use Rattle.mail_answer.proofs.Words.{filter, range_with_len, AllByRecursion, cases_lt, lt-leb, both_ways, truth_at}
-use Rattle.mail_answer.proofs.Words.{Drops, IsFirst, numbers_from, AreWithin, TakesFirst, TakesFrom}
+use Rattle.mail_answer.proofs.Words.{Drops, IsFirst, numbers_to_come, AreWithin, TakesFirst, TakesFrom}
 use Rattle.std.proofs.lemmas.List.{append-nil}
 use Rattle.std.proofs.lemmas.Bool.{le-leb}
 use Rattle.mail_answer.proofs.CursorLaws.Turns.{first_from}
@@ -66,7 +66,7 @@ first_of_range f k a (suc n) le lt holds none =
     ]
 
 -- dropping the numbers below n leaves exactly the numbers from n on
-same_from : (n count : ℕ) (old new : List Bool) → Drops n old new → numbers_from n count old
+same_from : (n count : ℕ) (old new : List Bool) → Drops n old new → numbers_to_come n count old
     ≡ filter (truth_at new) (range_with_len 0 count)
 same_from n count old new drops = grind (arith, filter_alike, cases_lt, from-before, from-behind)
 
@@ -126,12 +126,12 @@ takes_first old new (Some m) h = h.1.2 ∙ ap (λ (ns : List ℕ). ns ++ m ∷ n
 
 -- a walk from the greater of n and low gives the least number from n on
 pub takes_none : (n low start count : ℕ) (old new : List Bool) → start ≡ max n low → Drops start old new
-    → IsFirst new None → TakesFrom n (numbers_from low count old) (numbers_from low count new) None
+    → IsFirst new None → TakesFrom n (numbers_to_come low count old) (numbers_to_come low count new) None
 takes_none n low start count old new is drops none =
     let s : Split n low (truth_at old) (range_with_len 0 count) = split_range n low (truth_at old) 0 count in
-    let gone : numbers_from (max n low) count old ≡ [] = ap (λ (m : ℕ). numbers_from m count old) (sym is)
+    let gone : numbers_to_come (max n low) count old ≡ [] = ap (λ (m : ℕ). numbers_to_come m count old) (sym is)
     ∙ same_from start count old new drops ∙ none_pass (truth_at new) 0 count (λ m a b. none m) in
-    let all : numbers_from low count old ≡ s.dropped = s.split ∙ ap (λ (ns : List ℕ). s.dropped ++ ns) gone
+    let all : numbers_to_come low count old ≡ s.dropped = s.split ∙ ap (λ (ns : List ℕ). s.dropped ++ ns) gone
     ∙ append-nil s.dropped in (
       subst (AllByRecursion (λ m. m < n)) (sym all) s.below,
       grind (arith, none_pass, cases_lt, from-before, from-behind),
@@ -139,13 +139,13 @@ takes_none n low start count old new is drops none =
 
 pub takes_one : (n low start count k : ℕ) (old new : List Bool) → start ≡ max n low → Drops start old new
     → IsFirst new (Some k) → k < count
-    → TakesFrom n (numbers_from low count old) (numbers_from (k + 1) count new) (Some k)
+    → TakesFrom n (numbers_to_come low count old) (numbers_to_come (k + 1) count new) (Some k)
 takes_one n low start count k old new is drops first lt =
     let s : Split n low (truth_at old) (range_with_len 0 count) = split_range n low (truth_at old) 0 count in
-    let one : numbers_from (max n low) count old ≡ k ∷ numbers_from (k + 1) count new =
-    ap (λ (m : ℕ). numbers_from m count old) (sym is) ∙ same_from start count old new drops
+    let one : numbers_to_come (max n low) count old ≡ k ∷ numbers_to_come (k + 1) count new =
+    ap (λ (m : ℕ). numbers_to_come m count old) (sym is) ∙ same_from start count old new drops
     ∙ first_of_range (truth_at new) k 0 count (omega arith) (omega (arith, lt)) first.0 first.1
-    ∙ ap (λ (m : ℕ). k ∷ numbers_from m count new) (omega arith) in (
+    ∙ ap (λ (m : ℕ). k ∷ numbers_to_come m count new) (omega arith) in (
       omega (arith, is, first_from start old new k drops first),
       (s.dropped, s.below, s.split ∙ ap (λ (ns : List ℕ). s.dropped ++ ns) one),
     )

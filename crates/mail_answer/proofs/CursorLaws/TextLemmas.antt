@@ -2,7 +2,7 @@
 use Rattle.mail_answer.proofs.Words.{◌≡◌, ◌∙◌, ℕ, Bool, true, false, ◌&&◌, List, [], ◌∷◌, map, refl, sym, ap, arith}
 use Rattle.mail_answer.proofs.Words.{bytes_eq, list_any, filter, AllByRecursion, and_left, and_right, and_from}
 use Rattle.mail_answer.proofs.Words.{and-false, and-true, Kind, Key, KeyBefore, AllNext, is_key, lies_to, numbers_at}
-use Rattle.mail_answer.proofs.Words.{AreSorted, text_and_numbers, bytes_turned, is_among, texts_with, some_key}
+use Rattle.mail_answer.proofs.Words.{AreSorted, text_and_numbers, bytes_turned, is_number_among, texts_with, some_key}
 use Rattle.mail_answer.proofs.Words.{any_text}
 use Rattle.std.specs.declared.cmp.Ordering.{Ordering}
 use Rattle.std.specs.declared.cmp.Ordering.TheVariants.{Less, Equal, Greater}
@@ -18,8 +18,8 @@ use Rattle.mail_index.proofs.ViewLaws.LookUpLemmas.{key_bytes, is_key-greater}
 
 -- a key passes and has the number exactly if one of the texts of this number passes
 pub fitting_keys : (passes : List ℕ → Bool) (n : ℕ) (ks : List Key)
-    → list_any passes (map (λ (k : Key). k.text) (filter (λ k. is_among n k.numbers) ks))
-    ≡ list_any (λ k. passes k.0 && is_among n k.1) (map text_and_numbers ks)
+    → list_any passes (map (λ (k : Key). k.text) (filter (λ k. is_number_among n k.numbers) ks))
+    ≡ list_any (λ k. passes k.0 && is_number_among n k.1) (map text_and_numbers ks)
 fitting_keys passes n [] = refl
 fitting_keys passes n (k ∷ ks) = grind (arith, and-true, and-false, fitting_keys passes n ks)
 
@@ -75,14 +75,14 @@ numbers_here kind text k ks here e = ap (λ (b : Bool). elim b as (λ _. List �
 
 looked_up_more : (kind : Kind) (text : List ℕ) (n : ℕ) (k : Key) (ks : List Key)
     → AllByRecursion (λ y. slice_cmp nat_cmp (key_bytes k) y ≡ Less) (map key_bytes ks)
-    → list_any (bytes_eq text) (texts_with kind n ks) ≡ is_among n (numbers_at kind text ks)
-    → list_any (bytes_eq text) (texts_with kind n (k ∷ ks)) ≡ is_among n (numbers_at kind text (k ∷ ks))
+    → list_any (bytes_eq text) (texts_with kind n ks) ≡ is_number_among n (numbers_at kind text ks)
+    → list_any (bytes_eq text) (texts_with kind n (k ∷ ks)) ≡ is_number_among n (numbers_at kind text (k ∷ ks))
 looked_up_more kind text n k ks later rest =
     grind (arith, and_left, numbers_here, and_right, bytes_turned, and_from, no_second)
 
 -- the numbers of a look-up are those of the messages that have the text
 pub looked_up : (kind : Kind) (text : List ℕ) (n : ℕ) (ks : List Key) → AreSorted ks
-    → list_any (bytes_eq text) (texts_with kind n ks) ≡ is_among n (numbers_at kind text ks)
+    → list_any (bytes_eq text) (texts_with kind n ks) ≡ is_number_among n (numbers_at kind text ks)
 unfolding IsStrictlySortedBy
 looked_up kind text n [] sorted = refl
 looked_up kind text n (k ∷ ks) sorted = looked_up_more kind text n k ks sorted.0 (looked_up kind text n ks sorted.1)

@@ -4,26 +4,28 @@ use Rattle.mail_answer.proofs.Words.{List, [], ◌∷◌, ◌++◌, length, map,
 use Rattle.mail_answer.proofs.Words.{Result, IfOk, bytes_eq, list_any, filter, AllByRecursion, add-mul, suc-mul}
 use Rattle.mail_answer.proofs.Words.{drop_more, or-false, or_assoc, Kind, Text, OwnId, Key, Table, IsKey, IsWellFormed}
 use Rattle.mail_answer.proofs.Words.{numbers_at, keys_of, keys_beginning, text_and_numbers, TakesDigits, bytes_turned}
-use Rattle.mail_answer.proofs.Words.{Kinds, has_kind, some_word, word_begins_with, text_kinds, is_among, texts_with}
-use Rattle.mail_answer.proofs.Words.{facts_at, is_in, kinds_in, numbers_of_keys, numbers_named, LooksUp, Ahead, left_in}
+use Rattle.mail_answer.proofs.Words.{Kinds, has_kind, some_word, word_begins_with, text_kinds, is_number_among}
+use Rattle.mail_answer.proofs.Words.{texts_with}
+use Rattle.mail_answer.proofs.Words.{facts_at, is_in, kinds_in, numbers_of_keys, numbers_named, LooksUp, WalkAhead}
+use Rattle.mail_answer.proofs.Words.{steps_left_in}
 use Rattle.mail_answer.proofs.Words.{AreNumbers, truths_among, some_has, HaveNumbers, numbers_passing, numbers_fitting}
 use Rattle.mail_answer.proofs.Words.{some_of_kinds, any_text}
 use Rattle.mail_words.specs.declared.kind.TextKind.{TextKind}
-use Rattle.mail_answer.specs.Inside.CursorTexts.{Joins}
+use Rattle.mail_answer.specs.Inside.CursorTexts.{AddsMatches}
 use Rattle.mail_answer.proofs.CursorLaws.Lists.{among-at, past_all}
 use Rattle.mail_answer.proofs.CursorLaws.Members.{some-append}
 
-pub left-append : (ws : List Ahead) (w : Ahead) → left_in (ws ++ w ∷ []) ≡ left_in ws + w.left
+pub left-append : (ws : List WalkAhead) (w : WalkAhead) → steps_left_in (ws ++ w ∷ []) ≡ steps_left_in ws + w.left
 left-append [] w = omega arith
 left-append (v ∷ ws) w = omega (arith, left-append ws w)
 
-pub joins_list : (count : ℕ) (ns : List ℕ) (w : Ahead) (old new : List Ahead) → AreNumbers count ns → w.truths
+pub joins_list : (count : ℕ) (ns : List ℕ) (w : WalkAhead) (old new : List WalkAhead) → AreNumbers count ns → w.truths
     ≡ truths_among count ns → w.left ≡ length ns → new ≡ old ++ w ∷ []
-    → Joins (λ n. is_among n ns) (length ns) old new
+    → AddsMatches (λ n. is_number_among n ns) (length ns) old new
 joins_list count ns w old new are told left is = grind (arith, some-append, among-at, left-append)
 
-pub joins_more : (f g : ℕ → Bool) (p q : ℕ) (ws bs cs : List Ahead) → Joins f p ws bs → Joins g q bs cs
-    → Joins (λ n. f n || g n) (p + q) ws cs
+pub joins_more : (f g : ℕ → Bool) (p q : ℕ) (ws bs cs : List WalkAhead) → AddsMatches f p ws bs → AddsMatches g q bs cs
+    → AddsMatches (λ n. f n || g n) (p + q) ws cs
 joins_more f g p q ws bs cs first then = grind (arith, or_assoc)
 
 -- ---- keys of a kind
@@ -104,10 +106,10 @@ looks_up_none keys old new same = record { rises = omega (arith, same); most = �
 
 -- the walks so far, and those of the kinds that still come
 pub record HaveKinds (passes : List ℕ → Bool) (keys : List Key) (each_kind : ℕ) (all coming : List Kind)
-    (old new : List Ahead) (steps_old steps_new : ℕ) : Type 0 where
+    (old new : List WalkAhead) (steps_old steps_new : ℕ) : Type 0 where
   pub each : (m : ℕ) → (some_has m new || some_of_kinds coming passes keys m)
       ≡ (some_has m old || some_of_kinds all passes keys m)
-  pub left : left_in new + numbers_named passes keys coming ≤ left_in old + numbers_named passes keys all
+  pub left : steps_left_in new + numbers_named passes keys coming ≤ steps_left_in old + numbers_named passes keys all
   pub rises : steps_old ≤ steps_new
   pub most : (digits : ℕ) → length keys < 2 ^ digits
       → steps_new + (length coming * each_kind) * digits ≤ steps_old + (length all * each_kind) * digits
@@ -118,25 +120,25 @@ times_suc n a d = ap (λ (x : ℕ). x * d) (suc-mul n a) ∙ add-mul (n * a) a d
 more_times : (n a d : ℕ) → (suc n * a) * d ≡ a * d + (n * a) * d
 more_times n a d = omega (arith, times_suc n a d)
 
-module _ (passes : List ℕ → Bool) (keys : List Key) (a : ℕ) (all : List Kind) (old : List Ahead) (steps0 : ℕ) where
-  pub kinds_more : (kind : Kind) (coming : List Kind) (ws vs : List Ahead) (steps1 steps2 : ℕ)
+module _ (passes : List ℕ → Bool) (keys : List Key) (a : ℕ) (all : List Kind) (old : List WalkAhead) (steps0 : ℕ) where
+  pub kinds_more : (kind : Kind) (coming : List Kind) (ws vs : List WalkAhead) (steps1 steps2 : ℕ)
       → HaveKinds passes keys a all (kind ∷ coming) old ws steps0 steps1
-      → Joins (λ n. list_any passes (texts_with kind n keys)) (numbers_fitting passes keys kind) ws vs
+      → AddsMatches (λ n. list_any passes (texts_with kind n keys)) (numbers_fitting passes keys kind) ws vs
       → LooksUp (length keys) a steps1 steps2 → HaveKinds passes keys a all coming old vs steps0 steps2
   kinds_more kind coming ws vs steps1 steps2 have joins looks = grind (arith, or_assoc, more_times)
 
-  pub kinds_steps : (kind : Kind) (coming : List Kind) (ws : List Ahead) (steps1 steps2 : ℕ)
+  pub kinds_steps : (kind : Kind) (coming : List Kind) (ws : List WalkAhead) (steps1 steps2 : ℕ)
       → HaveKinds passes keys a all (kind ∷ coming) old ws steps0 steps1
       → LooksUp (length keys) a steps1 steps2 → LooksUp (length keys) (length all * a) steps0 steps2
   kinds_steps kind coming ws steps1 steps2 have looks = grind (arith, more_times)
 
 -- after the last kind
-pub all_kinds : (passes : List ℕ → Bool) (keys : List Key) (a i : ℕ) (kinds : Kinds) (new : List Ahead)
+pub all_kinds : (passes : List ℕ → Bool) (keys : List Key) (a i : ℕ) (kinds : Kinds) (new : List WalkAhead)
     (steps0 steps : ℕ) → 8 ≤ i → i ≤ 8
     → HaveKinds passes keys a (kinds_in kinds) (filter (is_in kinds) (drop i (map Text text_kinds ++ OwnId ∷ []))) []
     new steps0 steps
     → ((m : ℕ) → some_has m new ≡ some_of_kinds (kinds_in kinds) passes keys m)
-    × (left_in new ≤ numbers_named passes keys (kinds_in kinds))
+    × (steps_left_in new ≤ numbers_named passes keys (kinds_in kinds))
     × LooksUp (length keys) (length (kinds_in kinds) * a) steps0 steps
 all_kinds passes keys a i kinds new steps0 steps from to have =
     let last : i ≡ 8 = omega (arith, from, to) in
@@ -151,8 +153,8 @@ pub next_kind : (kinds : Kinds) (kind : Kind) (rest : List Kind) (b : Bool) → 
 next_kind kinds kind rest b e = ap (λ (x : Bool). cond x (kind ∷ filter (is_in kinds) rest) (filter (is_in kinds) rest))
     e
 
-pub if_joins : {A E : Type 0} (r : Result A E) (f g : ℕ → Bool) (p q : ℕ) (ws bs : List Ahead)
-    → IfOk r (λ _. Joins f p ws bs) → ((m : ℕ) → g m ≡ f m) → p ≤ q → IfOk r (λ _. Joins g q ws bs)
+pub if_joins : {A E : Type 0} (r : Result A E) (f g : ℕ → Bool) (p q : ℕ) (ws bs : List WalkAhead)
+    → IfOk r (λ _. AddsMatches f p ws bs) → ((m : ℕ) → g m ≡ f m) → p ≤ q → IfOk r (λ _. AddsMatches g q ws bs)
 if_joins r f g p q ws bs h h2 h3 = grind arith
 
 -- the next kind, in the set or not
@@ -163,8 +165,8 @@ pub coming_at : (kinds : Kinds) (items : List Kind) (i : ℕ) (d : Kind) (b : Bo
 coming_at kinds items i d b lt e = ap (filter (is_in kinds)) (drop_more items i d lt)
     ∙ next_kind kinds (get_or items i d) (drop (i + 1) items) b e
 
-module _ (passes : List ℕ → Bool) (keys : List Key) (a : ℕ) (all : List Kind) (old : List Ahead) (steps0 : ℕ)
-    (kinds : Kinds) (items : List Kind) (i : ℕ) (d : Kind) (ws : List Ahead) (steps : ℕ) where
+module _ (passes : List ℕ → Bool) (keys : List Key) (a : ℕ) (all : List Kind) (old : List WalkAhead) (steps0 : ℕ)
+    (kinds : Kinds) (items : List Kind) (i : ℕ) (d : Kind) (ws : List WalkAhead) (steps : ℕ) where
   pub kinds_next : i < length items → is_in kinds (get_or items i d) ≡ true
       → HaveKinds passes keys a all (filter (is_in kinds) (drop i items)) old ws steps0 steps
       → HaveKinds passes keys a all (get_or items i d ∷ filter (is_in kinds) (drop (i + 1) items)) old ws steps0 steps

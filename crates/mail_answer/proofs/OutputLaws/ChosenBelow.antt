@@ -2,15 +2,16 @@
 -- their definition.
 use Rattle.mail_answer.proofs.Words.{◌≡◌, ℕ, zero, suc, ◌<◌, true, nat_eq, List, [], ◌∷◌, length, refl, arith, eq-eqb}
 use Rattle.mail_answer.proofs.Words.{slice_index_or, or_left, or_right, Table, Query, is_true, chosen_numbers, facts_at}
-use Rattle.mail_answer.proofs.Words.{is_among, AreThreads, ◌++◌}
+use Rattle.mail_answer.proofs.Words.{is_number_among, AreThreads, ◌++◌}
 use Rattle.std.specs.List.{All}
 use Rattle.mail_answer.proofs.ThreadLaws.ChosenThreads.{from_passed}
 
 -- each element is in the list
-each-among : (ns : List ℕ) (k d : ℕ) → k < length ns → is_among (slice_index_or ns k d) ns ≡ true
+each-among : (ns : List ℕ) (k d : ℕ) → k < length ns → is_number_among (slice_index_or ns k d) ns ≡ true
 each-among [] k d below = absurd (omega arith)
-each-among (n ∷ ns) zero d below = or_left (nat_eq n n) (is_among n ns) (eq-eqb n n refl)
-each-among (n ∷ ns) (suc k) d below = or_right (nat_eq (slice_index_or ns k d) n) (is_among (slice_index_or ns k d) ns)
+each-among (n ∷ ns) zero d below = or_left (nat_eq n n) (is_number_among n ns) (eq-eqb n n refl)
+each-among (n ∷ ns) (suc k) d below = or_right (nat_eq (slice_index_or ns k d) n)
+    (is_number_among (slice_index_or ns k d) ns)
     (each-among ns k d (omega arith))
 
 pub chosen-below : (t : Table) (q : Query) → All (λ n. n < length t.messages) (chosen_numbers t q)
@@ -27,7 +28,7 @@ pub threads-below : (t : Table) (numbers members : List ℕ) → AreThreads t nu
 threads-below t numbers members threads k d below =
     ((threads.each (slice_index_or members k d)).0 (each-among members k d below)).0
 
-pub is_among_behind : (n : ℕ) (done numbers : List ℕ) → is_among n (done ++ n ∷ numbers) ≡ true
-is_among_behind n [] numbers = or_left (nat_eq n n) (is_among n numbers) (eq-eqb n n refl)
-is_among_behind n (m ∷ done) numbers = or_right (nat_eq n m) (is_among n (done ++ n ∷ numbers))
+pub is_among_behind : (n : ℕ) (done numbers : List ℕ) → is_number_among n (done ++ n ∷ numbers) ≡ true
+is_among_behind n [] numbers = or_left (nat_eq n n) (is_number_among n numbers) (eq-eqb n n refl)
+is_among_behind n (m ∷ done) numbers = or_right (nat_eq n m) (is_number_among n (done ++ n ∷ numbers))
     (is_among_behind n done numbers)

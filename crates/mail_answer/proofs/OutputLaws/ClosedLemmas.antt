@@ -4,8 +4,9 @@ use Rattle.mail_answer.proofs.Words.{List, [], ◌∷◌, ◌++◌, Some, length
 use Rattle.mail_answer.proofs.Words.{append-nil, arith, nat_tests, drop-append-le, drop_all, take-append-drop, is_empty}
 use Rattle.mail_answer.proofs.Words.{lines, first_length, line_end_of, length_before_feed, line_end-more}
 use Rattle.mail_answer.proofs.Words.{first_length-le, length_before_feed-le, length_before_feed-append_out, lines-cons}
-use Rattle.mail_answer.proofs.Words.{lines-nil, feed, has_feed, feeds_behind, next_text, behind_next, closed, is_closed}
-use Rattle.mail_answer.proofs.Words.{last_of}
+use Rattle.mail_answer.proofs.Words.{lines-nil, feed, has_feed, feeds_behind, next_text, behind_next, closed_text}
+use Rattle.mail_answer.proofs.Words.{is_closed}
+use Rattle.mail_answer.proofs.Words.{last_line_of}
 use Rattle.std.specs.Str.{bytes_eq}
 use Rattle.std.proofs.lemmas.List.{length-append, length-drop, take_all}
 
@@ -13,12 +14,12 @@ ended : (b : List ℕ) → first_length b < length b → Some (first_length b) �
 unfolding first_length line_end_of
 ended b h = let k : length_before_feed b ≤ length b = length_before_feed-le b in grind (arith, nat_tests)
 
-pub last-cons : (l : List ℕ) (b : List ℕ) → 0 < length b → last_of (l ∷ lines b) ≡ last_of (lines b)
+pub last-cons : (l : List ℕ) (b : List ℕ) → 0 < length b → last_line_of (l ∷ lines b) ≡ last_line_of (lines b)
 last-cons l b h = let e = lines-cons b h in rw (e) refl
 
 -- the last line is decided by what follows the first line
-pub last_behind : (b x : List ℕ) → first_length b < length b → last_of (lines (b ++ x))
-    ≡ last_of (lines (behind_next b ++ x))
+pub last_behind : (b x : List ℕ) → first_length b < length b → last_line_of (lines (b ++ x))
+    ≡ last_line_of (lines (behind_next b ++ x))
 last_behind b x h =
     let n : ℕ = first_length b in
     let same : n ≡ first_length (b ++ x) = line_end-more b x n (ended b h) in
@@ -26,8 +27,8 @@ last_behind b x h =
     let rest : drop (first_length (b ++ x)) (b ++ x) ≡ drop n b ++ x = ap (λ k. drop k (b ++ x)) (sym same)
     ∙ drop-append-le n b x (omega arith) in
     let some : 0 < length (drop n b ++ x) = omega (arith, length-append (drop n b) x, length-drop n b) in
-    ap last_of (lines-cons (b ++ x) (omega arith))
-    ∙ ap (λ r. last_of (take (first_length (b ++ x)) (b ++ x) ∷ lines r)) rest
+    ap last_line_of (lines-cons (b ++ x) (omega arith))
+    ∙ ap (λ r. last_line_of (take (first_length (b ++ x)) (b ++ x) ∷ lines r)) rest
     ∙ last-cons (take (first_length (b ++ x)) (b ++ x)) (drop n b ++ x) some
 
 closed_behind : (b x : List ℕ) → first_length b < length b → is_closed (b ++ x) ≡ is_closed (behind_next b ++ x)
@@ -66,9 +67,9 @@ ended_line b h e f =
     let n : ℕ = first_length b in
     let same : n ≡ first_length (b ++ feed) = line_end-more b feed n (whole_end b e (sym (has_feed-is b) ∙ f)) in
     let long : length (b ++ feed) ≡ length b + 1 = length-append b feed in
-    ap (λ ls. is_empty (last_of ls)) (lines-cons (b ++ feed) (omega arith))
-    ∙ ap (λ k. is_empty (last_of (take k (b ++ feed) ∷ lines (drop k (b ++ feed))))) (sym same ∙ e)
-    ∙ ap (λ r. is_empty (last_of (take (length b) (b ++ feed) ∷ lines r)))
+    ap (λ ls. is_empty (last_line_of ls)) (lines-cons (b ++ feed) (omega arith))
+    ∙ ap (λ k. is_empty (last_line_of (take k (b ++ feed) ∷ lines (drop k (b ++ feed))))) (sym same ∙ e)
+    ∙ ap (λ r. is_empty (last_line_of (take (length b) (b ++ feed) ∷ lines r)))
     (drop-append-le (length b) b feed (omega arith) ∙ ap (λ r. r ++ feed) (drop_all (length b) b (omega arith)))
     ∙ ap is_empty (last-cons (take (length b) (b ++ feed)) feed (omega arith)) ∙ feed_closed
 
@@ -94,12 +95,12 @@ cr_line (x ∷ y ∷ z ∷ rest) h = tests (x == 10) (x == 13) (y == 10)
     tests : (a b c : Bool) → ((a && false) || (b && (c && false))) ≡ (b && false)
     tests a b c = grind arith
 
-with_feeds : (b : List ℕ) → (e f g : Bool) → is_closed b ≡ e → is_closed (b ++ feed) ≡ f → closed b
+with_feeds : (b : List ℕ) → (e f g : Bool) → is_closed b ≡ e → is_closed (b ++ feed) ≡ f → closed_text b
     ≡ cond e b (cond f (b ++ feed) (b ++ feed ++ feed))
-unfolding closed
+unfolding closed_text
 with_feeds b e f g p q = rw (p, q) refl
 
-pub one_line : (b : List ℕ) → 0 < length b → first_length b ≡ length b → closed b ≡ b ++ feeds_behind b
+pub one_line : (b : List ℕ) → 0 < length b → first_length b ≡ length b → closed_text b ≡ b ++ feeds_behind b
 one_line b h e = with_feeds b (is_empty b) (has_feed b || bytes_eq b (13 ∷ [])) true (single b h e) (feed_decides b h e)
     ∙ parts (is_empty b) (has_feed b || bytes_eq b (13 ∷ []))
   where
@@ -129,7 +130,7 @@ next_front b h = let front : List ℕ = take (first_length b) b
     in rw (not_last (first_length b) (length b) h) (append-nil front)
 
 -- the first of several lines
-pub closed_more : (b : List ℕ) → 0 < length (behind_next b) → closed b ≡ next_text b ++ closed (behind_next b)
+pub closed_more : (b : List ℕ) → 0 < length (behind_next b) → closed_text b ≡ next_text b ++ closed_text (behind_next b)
 closed_more b z =
     let h : first_length b < length b = omega (arith, behind-length b) in
     let rest : List ℕ = behind_next b in
@@ -141,7 +142,7 @@ closed_more b z =
     with_feeds b (is_closed rest) (is_closed (rest ++ feed)) true e (closed_behind b feed h)
     ∙ parts front rest b whole (is_closed rest) (is_closed (rest ++ feed))
     ∙ ap (λ l. front ++ l) (sym (with_feeds rest (is_closed rest) (is_closed (rest ++ feed)) true refl refl))
-    ∙ ap (λ l. l ++ closed rest) (sym next)
+    ∙ ap (λ l. l ++ closed_text rest) (sym next)
   where
     parts : (front rest b : List ℕ) → front ++ rest ≡ b → (e f : Bool)
         → cond e b (cond f (b ++ feed) (b ++ feed ++ feed))

@@ -5,7 +5,7 @@ use Rattle.mail_answer.proofs.Words.{◌++◌, length, take, drop, refl, ap, sym
 use Rattle.mail_answer.proofs.Words.{length-append, concat, take-append_seam, drop-append_seam, nat_tests, lines}
 use Rattle.mail_answer.proofs.Words.{is_empty, first_length, length_before_feed, IsLine, AreCut, is_separator}
 use Rattle.mail_answer.proofs.Words.{length_before_feed-append_out, length_before_feed-le, first_length-le, lines-cons}
-use Rattle.mail_answer.proofs.Words.{feed, has_feed, next_text, behind_next, ends_in_return, closed}
+use Rattle.mail_answer.proofs.Words.{feed, has_feed, next_text, behind_next, ends_in_return, closed_text}
 use Rattle.std.specs.Str.{bytes_eq}
 use Rattle.std.proofs.lemmas.List.{length-take-le}
 use Rattle.mail_answer.proofs.OutputLaws.ClosedLemmas.{closed_more, cr_line, has_feed-is, one_line}
@@ -36,11 +36,11 @@ first-is l ls c =
 
 -- ---- the bytes
 
-text-last : (l : List ℕ) → IsLine l → ends_in_return l ≡ false → closed (l ++ [])
+text-last : (l : List ℕ) → IsLine l → ends_in_return l ≡ false → closed_text (l ++ [])
     ≡ closed_first l [] ++ concat (closed_rest l [])
 text-last l c other =
     let first : first_length l ≡ length l = ap first_length (sym (append-nil l)) ∙ first-is l [] c in
-    ap closed (append-nil l) ∙ one_line l c.some first
+    ap closed_text (append-nil l) ∙ one_line l c.some first
     ∙ parts (is_empty l) (has_feed l) (bytes_eq l (13 ∷ [])) (return-alone l other)
   where
     parts : (v w r : Bool) → r ≡ false → l ++ cond v [] (cond (w || r) feed (feed ++ feed))
@@ -50,7 +50,7 @@ text-last l c other =
     parts false false r e = rw e (sym (append_assoc l feed feed))
 
 pub text-closed : (l : List ℕ) (ls : List (List ℕ)) → AreCut (l ∷ ls) → ends_in_return (concat (l ∷ ls)) ≡ false
-    → closed (concat (l ∷ ls)) ≡ concat (closed_first l ls ∷ closed_rest l ls)
+    → closed_text (concat (l ∷ ls)) ≡ concat (closed_first l ls ∷ closed_rest l ls)
 text-closed l [] c other = text-last l c (ap ends_in_return (sym (append-nil l)) ∙ other)
 text-closed l (m ∷ ls) c other =
     let rest : List ℕ = m ++ concat ls in
@@ -63,8 +63,8 @@ text-closed l (m ∷ ls) c other =
     let not_last : nat_eq (first_length b) (length b) ≡ false = grind (arith, nat_tests) in
     let next : next_text b ≡ l = rw (not_last, front) (append-nil l) in
     closed_more b (omega (arith, ap length behind))
-    ∙ ap (λ (t : List ℕ). t ++ closed (behind_next b)) next
-    ∙ ap (λ (t : List ℕ). l ++ closed t) behind
+    ∙ ap (λ (t : List ℕ). t ++ closed_text (behind_next b)) next
+    ∙ ap (λ (t : List ℕ). l ++ closed_text t) behind
     ∙ ap (λ (t : List ℕ). l ++ t) (text-closed m ls c.2 (sym (return-behind l rest some) ∙ other))
 
 -- ---- the lines

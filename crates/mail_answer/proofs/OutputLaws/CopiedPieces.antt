@@ -3,9 +3,12 @@ use Rattle.mail_answer.proofs.Words.{◌≡◌, ◌∙◌, ℕ, zero, suc, ◌+�
 use Rattle.mail_answer.proofs.Words.{◌++◌, Option, None, Some, Result, IsErr, length, take, drop, refl, ap, sym}
 use Rattle.mail_answer.proofs.Words.{append_assoc, append-nil, arith, inl, inr, option_map, cases_lt, drop-append-le}
 use Rattle.mail_answer.proofs.Words.{drop_all, take-append-drop, take_rest, lines, first_length, first_length-le}
-use Rattle.mail_answer.proofs.Words.{first_length-positive, archive_at, feed, feeds_behind, behind_next, ending_of}
-use Rattle.mail_answer.proofs.Words.{feeds_of, Reading, coming, coming_count, IsInside, ReadsBehind, closed, is_closed}
-use Rattle.mail_answer.proofs.Words.{last_of, Tells, JoinsFront, Ending, AnswerFaultKind, Sheet, Table, span_reading}
+use Rattle.mail_answer.proofs.Words.{first_length-positive, archive_at, feed, feeds_behind, behind_next}
+use Rattle.mail_answer.proofs.Words.{ending_of_bytes}
+use Rattle.mail_answer.proofs.Words.{feeds_of, Reading, bytes_not_passed, coming_count, IsInsideArchive, AppendsRead}
+use Rattle.mail_answer.proofs.Words.{closed_text, is_closed}
+use Rattle.mail_answer.proofs.Words.{last_line_of, IsIfKnown, JoinsFront, Ending, AnswerFaultKind, Sheet, Table}
+use Rattle.mail_answer.proofs.Words.{span_reading}
 use Rattle.mail_answer.proofs.Words.{record_at, known_message, Mbox}
 use Rattle.std.proofs.lemmas.List.{length-drop}
 use Rattle.mail_answer.specs.Inside.Copies.{Copies}
@@ -17,7 +20,7 @@ use Rattle.mail_answer.proofs.OutputLaws.Endings.{lines_single, feeds_told}
 
 pub copies_err : (t u : Option (List ℕ)) (a b : Sheet) (coming rest : Option (List ℕ)) (count left : ℕ)
     (before : Ending) (r : Result Ending AnswerFaultKind) → IsErr r
-    → ((text : List ℕ) × Tells coming text × JoinsFront t u a b text × (length text ≡ count))
+    → ((text : List ℕ) × IsIfKnown coming text × JoinsFront t u a b text × (length text ≡ count))
     → Copies t u a b coming rest count left before r
 copies_err t u a b coming rest count left before r h h2 = grind arith
 
@@ -27,22 +30,23 @@ some_bytes zero = ([], refl)
 some_bytes (suc count) = let bytes = some_bytes count in (0 ∷ bytes.0, omega (arith, bytes.1))
 
 -- the bytes that still come; if they aren't known, other bytes of the same length
-pub some_coming : (held : Option (List (List ℕ))) (number : ℕ) (r : Reading) → IsInside number held r → (text : List ℕ)
-    × Tells (coming held r) text × (length text ≡ coming_count r)
+pub some_coming : (held : Option (List (List ℕ))) (number : ℕ) (r : Reading) → IsInsideArchive number held r
+    → (text : List ℕ)
+    × IsIfKnown (bytes_not_passed held r) text × (length text ≡ coming_count r)
 some_coming None number r inside = let bytes = some_bytes (coming_count r) in (bytes.0, tt, bytes.1)
 some_coming (Some archives) number r inside =
     (r.unread ++ take r.left (drop r.next (archive_at archives r.archive)), refl, count_known archives number r inside)
 
 -- the part after a piece
 pub inside_behind : (number : ℕ) (held : Option (List (List ℕ))) (archive next left n : ℕ) → n ≤ left
-    → IsInside number held (record { archive = archive; unread = []; next = next; left = left })
-    → IsInside number held (record { archive = archive; unread = []; next = next + n; left = left - n })
+    → IsInsideArchive number held (record { archive = archive; unread = []; next = next; left = left })
+    → IsInsideArchive number held (record { archive = archive; unread = []; next = next + n; left = left - n })
 inside_behind number held archive next left n le h = grind arith
 
 -- ---- bytes are closed as their last line is
 
-closed_by_last-from : (most : ℕ) (b : List ℕ) → length b ≤ most → 0 < length b → closed b
-    ≡ b ++ feeds_behind (last_of (lines b))
+closed_by_last-from : (most : ℕ) (b : List ℕ) → length b ≤ most → 0 < length b → closed_text b
+    ≡ b ++ feeds_behind (last_line_of (lines b))
 closed_by_last-from zero b le some = absurd (omega (arith, le, some))
 closed_by_last-from (suc most) b le some =
     let positive : 0 < first_length b = first_length-positive b some in
@@ -52,28 +56,28 @@ closed_by_last-from (suc most) b le some =
     elim (cases_lt (first_length b) (length b)) [
       | inl more ↦
           let behind : length rest ≡ length b - first_length b = length-drop (first_length b) b in
-          let same : last_of (lines b) ≡ last_of (lines rest) =
-          ap (λ (l : List ℕ). last_of (lines l)) (sym (append-nil b)) ∙ last_behind b [] more
-          ∙ ap (λ (l : List ℕ). last_of (lines l)) (append-nil rest) in
-          closed_more b (omega (arith, behind, more)) ∙ ap (λ (l : List ℕ). l ++ closed rest) (next_front b more)
+          let same : last_line_of (lines b) ≡ last_line_of (lines rest) =
+          ap (λ (l : List ℕ). last_line_of (lines l)) (sym (append-nil b)) ∙ last_behind b [] more
+          ∙ ap (λ (l : List ℕ). last_line_of (lines l)) (append-nil rest) in
+          closed_more b (omega (arith, behind, more)) ∙ ap (λ (l : List ℕ). l ++ closed_text rest) (next_front b more)
           ∙ ap (λ (l : List ℕ). front ++ l) (closed_by_last-from most rest (omega (arith, behind, positive, le))
           (omega (arith, behind, more)))
-          ∙ sym (append_assoc front rest (feeds_behind (last_of (lines rest))))
-          ∙ ap (λ (l : List ℕ). l ++ feeds_behind (last_of (lines rest))) (take-append-drop (first_length b) b)
+          ∙ sym (append_assoc front rest (feeds_behind (last_line_of (lines rest))))
+          ∙ ap (λ (l : List ℕ). l ++ feeds_behind (last_line_of (lines rest))) (take-append-drop (first_length b) b)
           ∙ ap (λ (l : List ℕ). b ++ feeds_behind l) (sym same)
       | inr last ↦
           let whole : first_length b ≡ length b = omega (arith, last, within) in
-          one_line b some whole ∙ ap (λ (ls : List (List ℕ)). b ++ feeds_behind (last_of ls))
+          one_line b some whole ∙ ap (λ (ls : List (List ℕ)). b ++ feeds_behind (last_line_of ls))
           (sym (lines_single b some whole))
     ]
 
-pub closed_by_last : (b : List ℕ) → 0 < length b → closed b ≡ b ++ feeds_of (ending_of b)
+pub closed_by_last : (b : List ℕ) → 0 < length b → closed_text b ≡ b ++ feeds_of (ending_of_bytes b)
 closed_by_last b some = closed_by_last-from (length b) b (omega arith) some
-    ∙ ap (λ (l : List ℕ). b ++ l) (sym (feeds_told (last_of (lines b))))
+    ∙ ap (λ (l : List ℕ). b ++ l) (sym (feeds_told (last_line_of (lines b))))
 
 -- bytes are a front of the closed bytes
-pub closed_begins : (b : List ℕ) → (feeds : List ℕ) × (closed b ≡ b ++ feeds)
-unfolding closed
+pub closed_begins : (b : List ℕ) → (feeds : List ℕ) × (closed_text b ≡ b ++ feeds)
+unfolding closed_text
 closed_begins b = go (is_closed b) (is_closed (b ++ feed))
   where
     go : (v w : Bool) → (feeds : List ℕ) × (cond v b (cond w (b ++ feed) (b ++ feed ++ feed)) ≡ b ++ feeds)
@@ -85,18 +89,24 @@ closed_begins b = go (is_closed b) (is_closed (b ++ feed))
 
 -- what comes is the piece that was read, and what comes after it
 pub piece_read : (archive next left n : ℕ) (held : Option (List (List ℕ))) (old new : List ℕ)
-    (r : ReadsBehind archive next n held old new) → n ≤ left
-    → coming held (record { archive = archive; unread = []; next = next; left = left })
+    (r : AppendsRead archive next n held old new) → n ≤ left
+    → bytes_not_passed held (record { archive = archive; unread = []; next = next; left = left })
     ≡ option_map (λ bytes. r.bytes ++ bytes)
-    (coming held (record { archive = archive; unread = []; next = next + n; left = left - n }))
+    (bytes_not_passed held (record { archive = archive; unread = []; next = next + n; left = left - n }))
 piece_read archive next left n held old new r le =
     sym (coming_read archive next left n held [] r.bytes
     (record { bytes = r.bytes; behind = refl; number = r.number; some = r.some; known = r.known }) le) ∙ parts held
   where
     parts : (held : Option (List (List ℕ)))
-        → coming held (record { archive = archive; unread = drop 0 r.bytes; next = next + n; left = left - n })
+        → bytes_not_passed held (record {
+          archive = archive;
+          unread = drop 0 r.bytes;
+          next = next + n;
+          left =
+              left - n;
+        })
         ≡ option_map (λ bytes. r.bytes ++ bytes)
-        (coming held (record { archive = archive; unread = []; next = next + n; left = left - n }))
+        (bytes_not_passed held (record { archive = archive; unread = []; next = next + n; left = left - n }))
     parts None = refl
     parts (Some archives) = refl
 
@@ -106,8 +116,8 @@ pub behind_gathered : (old piece items : List ℕ) (at : ℕ) → items ≡ old 
 behind_gathered old piece items at is long = grind (arith, take_rest, drop-append-le, drop_all)
 
 -- a piece and what comes after it
-pub tells_behind : (known : Option (List ℕ)) (piece rest : List ℕ) → Tells known rest
-    → Tells (option_map (λ bytes. piece ++ bytes) known) (piece ++ rest)
+pub tells_behind : (known : Option (List ℕ)) (piece rest : List ℕ) → IsIfKnown known rest
+    → IsIfKnown (option_map (λ bytes. piece ++ bytes) known) (piece ++ rest)
 tells_behind known piece rest h = grind arith
 
 -- two pieces, one after the other
@@ -118,18 +128,20 @@ pieces_more known text piece = grind (arith, append_assoc)
 
 -- only a front of a closed span was copied
 pub front_told : (span part : Option (List ℕ)) (text rest : List ℕ) → span ≡ option_map (λ bytes. text ++ bytes) part
-    → Tells part rest
-    → (feeds : List ℕ) × Tells (option_map closed span) ((text ++ rest) ++ feeds)
+    → IsIfKnown part rest
+    → (feeds : List ℕ) × IsIfKnown (option_map closed_text span) ((text ++ rest) ++ feeds)
 front_told span None text rest is told = ([], rw is tt)
 front_told span (Some k) text rest is told =
     let begins = closed_begins (text ++ rest) in
-    (begins.0, rw is (ap (λ (l : List ℕ). closed (text ++ l)) told ∙ begins.1))
+    (begins.0, rw is (ap (λ (l : List ℕ). closed_text (text ++ l)) told ∙ begins.1))
 
 -- the whole span was copied
 pub closed_told : (held : Option (List (List ℕ))) (number : ℕ) (span part : Reading) (text : List ℕ)
-    → IsInside number held span → 0 < coming_count span
-    → coming held span ≡ option_map (λ bytes. text ++ bytes) (coming held part) → coming_count part ≡ 0
-    → IsInside number held part → Tells (option_map closed (coming held span)) (text ++ feeds_of (ending_of text))
+    → IsInsideArchive number held span → 0 < coming_count span
+    → bytes_not_passed held span ≡ option_map (λ bytes. text ++ bytes) (bytes_not_passed held part) → coming_count part
+    ≡ 0
+    → IsInsideArchive number held part → IsIfKnown (option_map closed_text (bytes_not_passed held span))
+    (text ++ feeds_of (ending_of_bytes text))
 closed_told None number span part text inside some is none within = tt
 closed_told (Some archives) number span part text inside some is none within =
     let all : List ℕ = span.unread ++ take span.left (drop span.next (archive_at archives span.archive)) in
@@ -139,7 +151,7 @@ closed_told (Some archives) number span part text inside some is none within =
     let joined : all ≡ text ++ rest = cc is in
     let same : all ≡ text = joined ∙ ap (λ (l : List ℕ). text ++ l) (empty rest (omega (arith, short, none)))
     ∙ append-nil text in
-    ap closed same ∙ closed_by_last text (omega (arith, ap length same, long, some))
+    ap closed_text same ∙ closed_by_last text (omega (arith, ap length same, long, some))
   where
     empty : (l : List ℕ) → length l ≡ 0 → l ≡ []
     empty [] long = refl
@@ -147,6 +159,7 @@ closed_told (Some archives) number span part text inside some is none within =
 
 -- what is known of a message is its span, closed, if this is known
 pub known_closed : (t : Table) (held : Option (List (List ℕ))) (n : ℕ)
-    → option_map closed (coming held (span_reading (record_at t.messages n))) ≡ known_message Mbox t held n
+    → option_map closed_text (bytes_not_passed held (span_reading (record_at t.messages n)))
+    ≡ known_message Mbox t held n
 known_closed t None n = refl
 known_closed t (Some archives) n = refl

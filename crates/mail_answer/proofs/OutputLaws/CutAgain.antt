@@ -1,7 +1,7 @@
 -- Messages that were cut out of archives, closed and joined, are cut again into these, because no other line starts a
 -- message.
 use Rattle.mail_answer.proofs.Words.{◌≡◌, ℕ, suc, false, List, [], ◌∷◌, map, refl, arith, flat_map, concat_is}
-use Rattle.mail_answer.proofs.Words.{flat_map-map, AreCut, IsCutOut, IsCutInto, ends_in_return, closed}
+use Rattle.mail_answer.proofs.Words.{flat_map-map, AreCut, IsCutOut, IsCutInto, ends_in_return, closed_text}
 use Rattle.std.specs.List.{All}
 use Rattle.mail_answer.proofs.OutputLaws.ClosedMessages.{closed_first, closed_rest, text-closed, cut-closed}
 use Rattle.mail_answer.proofs.OutputLaws.ClosedMessages.{separator-same, inside-closed, is-closed}
@@ -11,7 +11,7 @@ use Rattle.mail_answer.proofs.OutputLaws.MessageLines.{messages-cut}
 
 -- the closed texts are those of closed messages
 record AreMessages (gs : List Group) (texts : List (List ℕ)) : Type 0 where
-  pub are : map text_of gs ≡ map closed texts
+  pub are : map text_of gs ≡ map closed_text texts
   pub messages : Each IsMessage gs
   pub closing : Each IsClosed gs
   pub each_line : Each (λ g. AreCut (lines_of g)) gs
@@ -35,5 +35,5 @@ gathered (text ∷ texts) out other =
     (closed_group here.0 ∷ rest.0, one-more here.0 text here.1 (other 0 [] (omega arith)) rest.0 texts rest.1)
 
 pub cut-again : (texts : List (List ℕ)) → All IsCutOut texts → All (λ text. ends_in_return text ≡ false) texts
-    → IsCutInto (flat_map closed texts) (map closed texts)
+    → IsCutInto (flat_map closed_text texts) (map closed_text texts)
 cut-again texts out other = grind (arith, gathered, concat_is, flat_map-map, messages-cut)

@@ -5,7 +5,8 @@ use Rattle.mail_answer.proofs.Words.{arith, inl, inr, cases_lt, eqb-true, nat_te
 use Rattle.mail_answer.proofs.Words.{lines, first_length, length_before_feed, line_end-more, first_length-le}
 use Rattle.mail_answer.proofs.Words.{first_length-positive, length_before_feed-le, length_before_feed-append_out}
 use Rattle.mail_answer.proofs.Words.{lines-cons, lines-nil, feed, has_feed, feeds_behind, behind_next, ending_of_line}
-use Rattle.mail_answer.proofs.Words.{ending_of, line_of, with_byte, feeds_of, last_of, Ending, Empty, Ended, Return}
+use Rattle.mail_answer.proofs.Words.{ending_of_bytes, line_of, with_byte, feeds_of, last_line_of, Ending, Empty, Ended}
+use Rattle.mail_answer.proofs.Words.{Return}
 use Rattle.mail_answer.proofs.Words.{Open}
 use Rattle.std.specs.Str.{bytes_eq}
 use Rattle.std.proofs.lemmas.List.{length-append, length-drop, take_all}
@@ -14,7 +15,7 @@ use Rattle.mail_answer.proofs.OutputLaws.ClosedLemmas.{cr_line}
 
 -- ---- single lines
 
-pub no_lines : ending_of [] ≡ Open 0
+pub no_lines : ending_of_bytes [] ≡ Open 0
 unfolding lines is_empty
 no_lines = refl
 
@@ -29,20 +30,21 @@ one_byte b = go (b == 10) (b == 13)
 pub lines_single : (b : List ℕ) → 0 < length b → first_length b ≡ length b → lines b ≡ b ∷ []
 lines_single b h e = grind (arith, lines-cons, drop_all, lines-nil, take_all)
 
-single_ending : (b : List ℕ) → 0 < length b → first_length b ≡ length b → ending_of b ≡ ending_of_line b
-single_ending b h e = ap (λ (ls : List (List ℕ)). ending_of_line (last_of ls)) (lines_single b h e)
+single_ending : (b : List ℕ) → 0 < length b → first_length b ≡ length b → ending_of_bytes b ≡ ending_of_line b
+single_ending b h e = ap (λ (ls : List (List ℕ)). ending_of_line (last_line_of ls)) (lines_single b h e)
 
 one_length : (b : ℕ) → first_length (b ∷ []) ≡ 1
 unfolding first_length
 one_length b = elim (b == 10) as (λ v. cond (nat_lt 65536 (cond v 0 1)) 65536
     (cond (nat_lt (cond v 0 1) 1) (cond v 0 1 + 1) 1) ≡ 1) [ true ↦ refl | false ↦ refl ]
 
-one_line_of : (b : ℕ) → ending_of (b ∷ []) ≡ line_of b
+one_line_of : (b : ℕ) → ending_of_bytes (b ∷ []) ≡ line_of b
 one_line_of b = single_ending (b ∷ []) (omega arith) (one_length b) ∙ one_byte b
 
 -- a line that the next byte isn't part of
-cut_behind : (b x : List ℕ) → 0 < length b → 0 < length x → length b ≡ first_length (b ++ x) → last_of (lines (b ++ x))
-    ≡ last_of (lines x)
+cut_behind : (b x : List ℕ) → 0 < length b → 0 < length x → length b ≡ first_length (b ++ x)
+    → last_line_of (lines (b ++ x))
+    ≡ last_line_of (lines x)
 cut_behind b x h some same = grind (arith, length-append, lines-cons, drop-append-le, drop_all, last-cons)
 
 not_empty : (b : List ℕ) → has_feed b ≡ false → is_empty b ≡ false
@@ -96,7 +98,7 @@ open_ending : (b : List ℕ) → has_feed b ≡ false → ending_of_line b
     ≡ cond (bytes_eq b (13 ∷ [])) Return (Open (length b))
 open_ending b none = rw (not_empty b none, none) refl
 
-feed_more : (b : List ℕ) → 0 < length b → first_length b ≡ length b → has_feed b ≡ false → ending_of (b ++ feed)
+feed_more : (b : List ℕ) → 0 < length b → first_length b ≡ length b → has_feed b ≡ false → ending_of_bytes (b ++ feed)
     ≡ with_byte (ending_of_line b) 10
 feed_more b h e none = grind (
   arith,
@@ -123,7 +125,7 @@ unfolding first_length
 cut_line b full = grind (arith, nat_tests)
 
 byte_more : (b : List ℕ) (x : ℕ) → 0 < length b → first_length b ≡ length b → has_feed b ≡ false → (x == 10) ≡ false
-    → ending_of (b ++ x ∷ []) ≡ with_byte (ending_of_line b) x
+    → ending_of_bytes (b ++ x ∷ []) ≡ with_byte (ending_of_line b) x
 byte_more b x h e none other =
     elim (cases_lt (length b) 65536) [
       | inl short ↦
@@ -175,23 +177,23 @@ byte_more b x h e none other =
 
 -- a line that has its LF
 ended_more : (b : List ℕ) (x : ℕ) → 0 < length b → first_length b ≡ length b → has_feed b ≡ true
-    → ending_of (b ++ x ∷ []) ≡ with_byte (ending_of_line b) x
+    → ending_of_bytes (b ++ x ∷ []) ≡ with_byte (ending_of_line b) x
 ended_more b x h e ended = grind (arith, line_end-more, whole_end, has_feed-is, cut_behind, one_line_of)
 
-single_more : (b : List ℕ) (x : ℕ) → 0 < length b → first_length b ≡ length b → ending_of (b ++ x ∷ [])
-    ≡ with_byte (ending_of b) x
+single_more : (b : List ℕ) (x : ℕ) → 0 < length b → first_length b ≡ length b → ending_of_bytes (b ++ x ∷ [])
+    ≡ with_byte (ending_of_bytes b) x
 single_more b x h e = go (has_feed b) refl (x == 10) refl
     ∙ ap (λ (a : Ending). with_byte a x) (sym (single_ending b h e))
   where
-    go : (v : Bool) → has_feed b ≡ v → (w : Bool) → (x == 10) ≡ w → ending_of (b ++ x ∷ [])
+    go : (v : Bool) → has_feed b ≡ v → (w : Bool) → (x == 10) ≡ w → ending_of_bytes (b ++ x ∷ [])
         ≡ with_byte (ending_of_line b) x
     go true ended w is = ended_more b x h e ended
-    go false none true is = let ten : x ≡ 10 = eqb-true x 10 is in ap (λ (y : ℕ). ending_of (b ++ y ∷ [])) ten
+    go false none true is = let ten : x ≡ 10 = eqb-true x 10 is in ap (λ (y : ℕ). ending_of_bytes (b ++ y ∷ [])) ten
         ∙ feed_more b h e none ∙ ap (with_byte (ending_of_line b)) (sym ten)
     go false none false is = byte_more b x h e none is
 
-ending_more-from : (most : ℕ) (b : List ℕ) (x : ℕ) → length b ≤ most → ending_of (b ++ x ∷ [])
-    ≡ with_byte (ending_of b) x
+ending_more-from : (most : ℕ) (b : List ℕ) (x : ℕ) → length b ≤ most → ending_of_bytes (b ++ x ∷ [])
+    ≡ with_byte (ending_of_bytes b) x
 ending_more-from most [] x le = one_line_of x ∙ ap (λ (a : Ending). with_byte a x) (sym no_lines)
 ending_more-from zero (b ∷ bs) x le = absurd (omega arith)
 ending_more-from (suc most) (b ∷ bs) x le =
@@ -201,15 +203,15 @@ ending_more-from (suc most) (b ∷ bs) x le =
     elim (cases_lt (first_length all) (length all)) [
       | inl more ↦
           let rest : List ℕ = behind_next all in
-          let same : ending_of all ≡ ending_of rest = ap ending_of (sym (append-nil all))
-          ∙ ap ending_of_line (last_behind all [] more) ∙ ap ending_of (append-nil rest) in
+          let same : ending_of_bytes all ≡ ending_of_bytes rest = ap ending_of_bytes (sym (append-nil all))
+          ∙ ap ending_of_line (last_behind all [] more) ∙ ap ending_of_bytes (append-nil rest) in
           ap ending_of_line (last_behind all (x ∷ []) more)
           ∙ ending_more-from most rest x (omega (arith, length-drop (first_length all) all, some, le))
           ∙ ap (λ (a : Ending). with_byte a x) (sym same)
       | inr last ↦ single_more all x (omega arith) (omega arith)
     ]
 
-pub ending_more : (b : List ℕ) (x : ℕ) → ending_of (b ++ x ∷ []) ≡ with_byte (ending_of b) x
+pub ending_more : (b : List ℕ) (x : ℕ) → ending_of_bytes (b ++ x ∷ []) ≡ with_byte (ending_of_bytes b) x
 ending_more b x = ending_more-from (length b) b x (omega arith)
 
 -- ---- more bytes
@@ -218,19 +220,19 @@ with_bytes : Ending → List ℕ → Ending
 with_bytes e [] = e
 with_bytes e (x ∷ xs) = with_bytes (with_byte e x) xs
 
-endings_more : (b more : List ℕ) → ending_of (b ++ more) ≡ with_bytes (ending_of b) more
+endings_more : (b more : List ℕ) → ending_of_bytes (b ++ more) ≡ with_bytes (ending_of_bytes b) more
 unfolding with_bytes
-endings_more b [] = ap ending_of (append-nil b)
+endings_more b [] = ap ending_of_bytes (append-nil b)
 endings_more b (x ∷ xs) =
-    ap ending_of (sym (append_assoc b (x ∷ []) xs)) ∙ endings_more (b ++ x ∷ []) xs
+    ap ending_of_bytes (sym (append_assoc b (x ∷ []) xs)) ∙ endings_more (b ++ x ∷ []) xs
     ∙ ap (λ (e : Ending). with_bytes e xs) (ending_more b x)
 
 -- what comes before an LF makes no difference to the ending of the bytes after it
-pub ending_behind : (b rest : List ℕ) → 0 < length rest → ending_of (b ++ 10 ∷ rest) ≡ ending_of rest
+pub ending_behind : (b rest : List ℕ) → 0 < length rest → ending_of_bytes (b ++ 10 ∷ rest) ≡ ending_of_bytes rest
 unfolding with_bytes
 ending_behind b [] some = absurd (omega arith)
 ending_behind b (x ∷ xs) some =
-    endings_more b (10 ∷ x ∷ xs) ∙ ap (λ (e : Ending). with_bytes e xs) (begins (ending_of b))
+    endings_more b (10 ∷ x ∷ xs) ∙ ap (λ (e : Ending). with_bytes e xs) (begins (ending_of_bytes b))
     ∙ sym (endings_more [] (x ∷ xs) ∙ ap (λ (e : Ending). with_bytes (with_byte e x) xs) no_lines)
   where
     begins : (e : Ending) → with_byte (with_byte e 10) x ≡ line_of x

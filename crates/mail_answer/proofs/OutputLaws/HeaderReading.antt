@@ -4,8 +4,9 @@ use Rattle.mail_answer.proofs.Words.{take, drop, refl, ap, sym, ◌∙◌, appen
 use Rattle.mail_answer.proofs.Words.{take-append-le, drop-append-le, lines, first_length, lines-cons, lines-nil}
 use Rattle.mail_answer.proofs.Words.{HeaderField, fields_of, lines_before_empty, lines_within, fields_in}
 use Rattle.mail_answer.proofs.Words.{most_in_header, archive_at, HasFields, WillHaveFields, HasFieldsAfter, Record}
-use Rattle.mail_answer.proofs.Words.{Table, excerpt, excerpt_lines, Reading, coming, coming_count, IsInside}
-use Rattle.mail_answer.proofs.Words.{known_message, path_at, span, Tells, record_at, Excerpt}
+use Rattle.mail_answer.proofs.Words.{Table, excerpt, excerpt_lines, Reading, bytes_not_passed, coming_count}
+use Rattle.mail_answer.proofs.Words.{IsInsideArchive}
+use Rattle.mail_answer.proofs.Words.{known_message, path_at, span, IsIfKnown, record_at, Excerpt}
 use Rattle.header_text.specs.HeldLines.{HasLines, taken_of}
 use Rattle.header_text.specs.Stages.{has_empty}
 use Rattle.header_text.specs.declared.header.Header.{Header}
@@ -30,9 +31,9 @@ nothing (x ∷ xs) e = absurd (omega arith)
 
 -- no line comes any more
 pub none_comes : (held : Option (List (List ℕ))) (number : ℕ) (old new : Reading) (h : Header)
-    → IsInside number held old → coming held new ≡ coming held old → coming_count old ≡ 0
-    → (fields : List HeaderField) → WillHaveFields (coming held old) h fields
-    → HasFieldsAfter Ended (coming held new) h fields
+    → IsInsideArchive number held old → bytes_not_passed held new ≡ bytes_not_passed held old → coming_count old ≡ 0
+    → (fields : List HeaderField) → WillHaveFields (bytes_not_passed held old) h fields
+    → HasFieldsAfter Ended (bytes_not_passed held new) h fields
 none_comes None number old new h i c z fields w = tt
 none_comes (Some archives) number old new h i c z fields w = grind (arith, nothing, count_known, append-nil, lines-nil)
 
@@ -46,13 +47,13 @@ ended_is ls e = grind arith
 
 -- the header was given the next line
 pub line_given : (held : Option (List (List ℕ))) (n : ℕ) (old r new : Reading) (h h' : Header) (line : List ℕ)
-    (taken : Taken) → coming held r ≡ coming held old → 0 < n → n ≤ length r.unread
-    → IfSome (coming held old) (λ bytes. n ≡ first_length bytes) → line ≡ take n r.unread → new
+    (taken : Taken) → bytes_not_passed held r ≡ bytes_not_passed held old → 0 < n → n ≤ length r.unread
+    → IfSome (bytes_not_passed held old) (λ bytes. n ≡ first_length bytes) → line ≡ take n r.unread → new
     ≡ record r { unread = drop n r.unread }
     → ((ls : List (List ℕ)) → HasLines h ls → HasLines h' (ls ++ line ∷ []))
     → ((ls : List (List ℕ)) → HasLines h ls → taken ≡ taken_of (ls ++ line ∷ []))
-    → (fields : List HeaderField) → WillHaveFields (coming held old) h fields
-    → HasFieldsAfter taken (coming held new) h' fields
+    → (fields : List HeaderField) → WillHaveFields (bytes_not_passed held old) h fields
+    → HasFieldsAfter taken (bytes_not_passed held new) h' fields
 line_given None n old r new h h' line More c s w f l is push told fields before = tt
 line_given None n old r new h h' line Ended c s w f l is push told fields before = tt
 line_given (Some archives) n old r new h h' line taken c s w f l is push told fields before =
@@ -75,7 +76,8 @@ line_given (Some archives) n old r new h h' line taken c s w f l is push told fi
     whole = ap fields_of (append_assoc before.0 (line ∷ []) (lines (drop n r.unread ++ more))
         ∙ ap (λ (ls : List (List ℕ)). before.0 ++ ls) (sym parts)) ∙ before.2
 
-    given : (t : Taken) → t ≡ taken_of (before.0 ++ line ∷ []) → HasFieldsAfter t (coming (Some archives) new) h' fields
+    given : (t : Taken) → t ≡ taken_of (before.0 ++ line ∷ [])
+        → HasFieldsAfter t (bytes_not_passed (Some archives) new) h' fields
     given More e = rw is (before.0 ++ line ∷ [], push before.0 before.1, whole)
     given Ended e = (
       before.0 ++ line ∷ [],
@@ -86,10 +88,13 @@ line_given (Some archives) n old r new h h' line taken c s w f l is push told fi
 
 -- the first line was passed, and the header has no line yet
 pub first_passed : (held : Option (List (List ℕ))) (number n : ℕ) (old r new : Reading) (h : Header)
-    → IsInside number held old → coming held r ≡ coming held old → (n ≡ 0 → coming_count old ≡ 0) → n ≤ length r.unread
-    → IfSome (coming held old) (λ bytes. n ≡ first_length bytes) → new ≡ record r { unread = drop n r.unread }
+    → IsInsideArchive number held old → bytes_not_passed held r ≡ bytes_not_passed held old
+    → (n ≡ 0 → coming_count old ≡ 0)
+    → n ≤ length r.unread
+    → IfSome (bytes_not_passed held old) (λ bytes. n ≡ first_length bytes) → new ≡ record r { unread = drop n r.unread }
     → HasLines h []
-    → IfSome (coming held old) (λ bytes. WillHaveFields (coming held new) h (fields_of (drop 1 (lines bytes))))
+    → IfSome (bytes_not_passed held old) (λ bytes. WillHaveFields (bytes_not_passed held new) h
+    (fields_of (drop 1 (lines bytes))))
 first_passed None number n old r new h i c z w f is none = tt
 first_passed (Some archives) number n old r new h i c z w f is none =
     grind (arith, nothing, count_known, lines-nil, next_line)
@@ -107,7 +112,7 @@ pub excerpt_told : (t : Table) (held : Option (List (List ℕ))) (n : ℕ) (m : 
     → m ≡ record_at t.messages n → path ≡ path_at t.archives m.archive
     → IfSome held (λ archives. HasFields h (fields_of (drop 1 (lines (span archives m)))))
     → ((ls : List (List ℕ)) → HasLines h ls → text ≡ path ++ 10 ∷ excerpt_lines (fields_of ls))
-    → Tells (known_message Excerpt t held n) text
+    → IsIfKnown (known_message Excerpt t held n) text
 unfolding excerpt
 excerpt_told t None n m path text h e p f w = tt
 excerpt_told t (Some archives) n m path text h e p f w =

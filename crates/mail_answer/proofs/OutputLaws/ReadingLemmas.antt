@@ -2,9 +2,10 @@
 use Rattle.mail_answer.proofs.Words.{◌≡◌, ℕ, ◌+◌, ◌-◌, ◌<◌, ◌≤◌, List, ◌++◌, Option, None, Some, IfSome, Result, IfOk}
 use Rattle.mail_answer.proofs.Words.{length, take, drop, refl, ap, sym, ◌∙◌, append_assoc, append-nil, arith}
 use Rattle.mail_answer.proofs.Words.{take-append-add, take-append-le, drop-drop, DeviceFault, line_end_of, first_length}
-use Rattle.mail_answer.proofs.Words.{line_end-more, line_end-whole, archive_at, IsReadFromArchive, Reading, coming}
-use Rattle.mail_answer.proofs.Words.{ReadsBehind}
-use Rattle.mail_answer.proofs.Words.{ReadsTail, coming_count, IsInside}
+use Rattle.mail_answer.proofs.Words.{line_end-more, line_end-whole, archive_at, IsReadFromArchive, Reading}
+use Rattle.mail_answer.proofs.Words.{bytes_not_passed}
+use Rattle.mail_answer.proofs.Words.{AppendsRead}
+use Rattle.mail_answer.proofs.Words.{ReadsTail, coming_count, IsInsideArchive}
 use Rattle.std.proofs.Math.Seq.{take-add}
 use Rattle.std.proofs.lemmas.List.{length-take-le, length-append, length-drop}
 use borrow.Rule.Slice.PartMut.{put_mid}
@@ -27,9 +28,9 @@ tail_result archive offset from k held old into r h h2 h3 = grind (arith, tail_r
 
 -- the bytes that come are the same before and after a read
 pub coming_read : (archive next left n : ℕ) (held : Option (List (List ℕ))) (unread new : List ℕ)
-    → ReadsBehind archive next n held unread new → n ≤ left
-    → coming held (record { archive = archive; unread = drop 0 new; next = next + n; left = left - n })
-    ≡ coming held (record { archive = archive; unread = unread; next = next; left = left })
+    → AppendsRead archive next n held unread new → n ≤ left
+    → bytes_not_passed held (record { archive = archive; unread = drop 0 new; next = next + n; left = left - n })
+    ≡ bytes_not_passed held (record { archive = archive; unread = unread; next = next; left = left })
 coming_read archive next left n None unread new r h = refl
 coming_read archive next left n (Some archives) unread new r h =
     let rest : List ℕ = drop next (archive_at archives archive) in
@@ -47,15 +48,15 @@ coming_read archive next left n (Some archives) unread new r h =
 
 -- the end of a line is found in what was read
 pub line_found : (n : ℕ) (held : Option (List (List ℕ))) (r : Reading) → Some n ≡ line_end_of r.unread
-    → IfSome (coming held r) (λ bytes. n ≡ first_length bytes)
+    → IfSome (bytes_not_passed held r) (λ bytes. n ≡ first_length bytes)
 line_found n held r h = grind (arith, line_end-more)
 
 -- no byte is left, so the bytes that were read are the line
 pub line_left : (held : Option (List (List ℕ))) (r : Reading) → None ≡ line_end_of r.unread → r.left ≡ 0
-    → IfSome (coming held r) (λ bytes. length r.unread ≡ first_length bytes)
+    → IfSome (bytes_not_passed held r) (λ bytes. length r.unread ≡ first_length bytes)
 line_left held r h h2 = grind (arith, line_end-whole, append-nil)
 
 -- how many bytes come
-pub count_known : (archives : List (List ℕ)) (number : ℕ) (r : Reading) → IsInside number (Some archives) r
+pub count_known : (archives : List (List ℕ)) (number : ℕ) (r : Reading) → IsInsideArchive number (Some archives) r
     → length (r.unread ++ take r.left (drop r.next (archive_at archives r.archive))) ≡ coming_count r
 count_known archives number r h = grind (arith, length-drop, length-append, length-take-le)

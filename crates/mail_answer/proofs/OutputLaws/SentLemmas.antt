@@ -1,7 +1,8 @@
 -- What was sent of an answer is what the table answers, or a front of it: by the result of each call.
 use Rattle.mail_answer.proofs.Words.{◌≡◌, ℕ, List, [], Option, Result, Ok, Err, length, refl, subst, arith, flat_map}
 use Rattle.mail_answer.proofs.Words.{appends-nil, Table, SendsKnown, SendsSpans, Search, AreChosen, known_answer}
-use Rattle.mail_answer.proofs.Words.{closed, mail_told, TableAnswer, IsTableAnswer, Answers, KeepsArchives, IsReady}
+use Rattle.mail_answer.proofs.Words.{closed_text, mail_told, TableAnswer, IsTableAnswer, SendsTableAnswer}
+use Rattle.mail_answer.proofs.Words.{KeepsArchives, IsReadyToWrite}
 use Rattle.mail_answer.proofs.Words.{IsSameAnswer, Ghosts}
 use Rattle.std.specs.Result.{IsErrAnd}
 use Rattle.mail_answer.specs.declared.fault.AnswerFault.{AnswerFault}
@@ -34,7 +35,7 @@ nothing_sent taken known messages (Err fault) unsent =
 pub answered_sent : (t : Table) (s : Search) (held : Option (List (List ℕ))) (taken taken' : Option (List ℕ))
     (r : Result ℕ AnswerFault) (xs : List ℕ) → AreChosen (mail_told t) s xs
     → SendsKnown taken taken' (known_answer s.format t held xs) (length xs) r → (a : TableAnswer)
-    → IsTableAnswer t s held a → Answers taken taken' a r
+    → IsTableAnswer t s held a → SendsTableAnswer taken taken' a r
 answered_sent t s held taken taken' r xs are sent a is = grind (arith, one-choice)
 
 -- the same of an mbox answer
@@ -47,7 +48,7 @@ no_spans_sent taken t numbers (Err fault) unsent =
       spans.1,
       record {
         went = [];
-        unsent = flat_map closed spans.0;
+        unsent = flat_map closed_text spans.0;
         front = refl;
         appends = appends-nil taken;
         counted = omega (arith, unsent);
@@ -63,6 +64,6 @@ spans_sent t s taken taken' r xs are sent numbers chosen =
 
 -- after a message, the next one can be written
 pub still_ready : {A O : Type 0} (g : Ghosts A) (h : OutGhosts O) (w w' : AnswerWriter) (a a' : A) (o o' : O)
-    → IsReady g h w a o → IsSameAnswer w w' → KeepsArchives g a a'
-    → g.failures a' ≡ g.failures a → h.failures o' ≡ h.failures o → IsReady g h w' a' o'
+    → IsReadyToWrite g h w a o → IsSameAnswer w w' → KeepsArchives g a a'
+    → g.failures a' ≡ g.failures a → h.failures o' ≡ h.failures o → IsReadyToWrite g h w' a' o'
 still_ready g h w w' a a' o o' ready same keeps archives_count out_count = grind (arith, some_later)

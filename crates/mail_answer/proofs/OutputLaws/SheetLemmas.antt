@@ -2,20 +2,21 @@
 use Rattle.mail_answer.proofs.Words.{◌≡◌, ℕ, ◌+◌, ◌-◌, ◌^◌, min, List, [], ◌++◌, length, Option, None, Some, Result, Ok}
 use Rattle.mail_answer.proofs.Words.{Err, IsErr, refl, ap, sym, ◌∙◌, append_assoc, append-nil, length-append, take}
 use Rattle.mail_answer.proofs.Words.{drop, ◌≤◌, arith, take-append-drop, take_rest, Appends, Keeps, appends_join}
-use Rattle.mail_answer.proofs.Words.{appends-nil, Sheet, counted, Joins, JoinsFront, joined, Tells, Writes}
+use Rattle.mail_answer.proofs.Words.{appends-nil, Sheet, count_after, AddsBytes, JoinsFront, joined_texts, IsIfKnown}
+use Rattle.mail_answer.proofs.Words.{WritesText}
 use Rattle.std.proofs.lemmas.List.{length-take}
 use Rattle.std.proofs.Math.Seq.{take-add}
 
-counted-append : (n : ℕ) (a b : List ℕ) → counted (counted n a) b ≡ counted n (a ++ b)
+counted-append : (n : ℕ) (a b : List ℕ) → count_after (count_after n a) b ≡ count_after n (a ++ b)
 counted-append n a b = omega (arith, length-append a b)
 
 -- one text and then another
-pub joins_more : {t u v : Option (List ℕ)} {a b c : Sheet} {x y : List ℕ} → Joins t u a b x → Joins u v b c y
-    → Joins t v a c (x ++ y)
+pub joins_more : {t u v : Option (List ℕ)} {a b c : Sheet} {x y : List ℕ} → AddsBytes t u a b x → AddsBytes u v b c y
+    → AddsBytes t v a c (x ++ y)
 joins_more {t} {u} {v} {a} {b} {c} {x} {y} h k = grind (arith, append_assoc, appends_join, counted-append)
 
 -- one text and then a front of another
-pub joins_front : {t u v : Option (List ℕ)} {a b c : Sheet} {x y : List ℕ} → Joins t u a b x → JoinsFront u v b c y
+pub joins_front : {t u v : Option (List ℕ)} {a b c : Sheet} {x y : List ℕ} → AddsBytes t u a b x → JoinsFront u v b c y
     → JoinsFront t v a c (x ++ y)
 joins_front {t} {u} {v} {a} {b} {c} {x} {y} h k = grind (arith, append_assoc, appends_join, counted-append)
 
@@ -42,12 +43,12 @@ pub appends_step : (t u v : Option (List ℕ)) (items : List ℕ) (at n : ℕ) �
 appends_step t u v items at n h p q = rw (← take_step items at n h) (appends_join t u v _ _ p q)
 
 pub counted_step : (before : ℕ) (items : List ℕ) (sent at n sent' : ℕ) → at + n ≤ length items → sent
-    ≡ counted before (take at items) → sent' ≡ min (sent + n) (2 ^ 64 - 1)
-    → sent' ≡ counted before (take (at + n) items)
+    ≡ count_after before (take at items) → sent' ≡ min (sent + n) (2 ^ 64 - 1)
+    → sent' ≡ count_after before (take (at + n) items)
 counted_step before items sent at n sent' h p q = omega (arith, length-take at items, length-take (at + n) items)
 
 pub front_went : (t u v : Option (List ℕ)) (old new : Sheet) (at : ℕ) → Appends t u (take at old.text) → new.sent
-    ≡ counted old.sent (take at old.text)
+    ≡ count_after old.sent (take at old.text)
     → Keeps u v → JoinsFront t v old new []
 front_went t u v old new at p q e = record {
   went = take at old.text;
@@ -67,7 +68,7 @@ front_went t u v old new at p q e = record {
 
 -- the bytes are gathered, and nothing is sent
 pub joins_gathered : (t : Option (List ℕ)) (old new : Sheet) (bytes : List ℕ) → new.text ≡ old.text ++ bytes → new.sent
-    ≡ old.sent → Joins t t old new bytes
+    ≡ old.sent → AddsBytes t t old new bytes
 joins_gathered t old new bytes e s = grind (arith, appends-nil)
 
 -- nothing changes
@@ -78,51 +79,53 @@ nothing_went t old new bytes s = grind (arith, appends-nil)
 -- the gathered bytes are sent
 pub gathered_went : {T E : Type 0} (t u : Option (List ℕ)) (old mid new : Sheet) (bytes : List ℕ) (r : Result T E)
     → mid.text ≡ old.text ++ bytes → mid.sent ≡ old.sent
-    → Writes t u mid new (Some []) r → Writes t u old new (Some bytes) r
+    → WritesText t u mid new (Some []) r → WritesText t u old new (Some bytes) r
 gathered_went t u old mid new bytes r h h2 h3 = grind (arith, append-nil)
 
 -- ---- calls one after another
 
-pub tells-joined : (j k : Option (List ℕ)) (x y : List ℕ) → Tells j x → Tells k y → Tells (joined j k) (x ++ y)
+pub tells-joined : (j k : Option (List ℕ)) (x y : List ℕ) → IsIfKnown j x → IsIfKnown k y
+    → IsIfKnown (joined_texts j k) (x ++ y)
 tells-joined j k x y h h2 = grind arith
 
 -- there is a text, even if it isn't known
-pub some_text : (k : Option (List ℕ)) → (y : List ℕ) × Tells k y
+pub some_text : (k : Option (List ℕ)) → (y : List ℕ) × IsIfKnown k y
 some_text None = ([], tt)
 some_text (Some y) = (y, refl)
 
 -- a call after one that succeeded
 pub writes_next : {T E : Type 0} (t u v : Option (List ℕ)) (a b c : Sheet) (j k : Option (List ℕ)) (r : Result T E)
-    → ((x : List ℕ) × Tells j x × Joins t u a b x) → Writes u v b c k r → Writes t v a c (joined j k) r
+    → ((x : List ℕ) × IsIfKnown j x × AddsBytes t u a b x) → WritesText u v b c k r
+    → WritesText t v a c (joined_texts j k) r
 writes_next t u v a b c j k (Ok y) h w = (h.0 ++ w.0, tells-joined j k h.0 w.0 h.1 w.1, joins_more h.2 w.2)
 writes_next t u v a b c j k (Err e) h w = (h.0 ++ w.0, tells-joined j k h.0 w.0 h.1 w.1, joins_front h.2 w.2)
 
 -- a call that failed, before another
 pub writes_stop : {T E : Type 0} (t u : Option (List ℕ)) (a b : Sheet) (j k : Option (List ℕ)) (r : Result T E)
-    → IsErr r → ((x : List ℕ) × Tells j x × JoinsFront t u a b x) → Writes t u a b (joined j k) r
+    → IsErr r → ((x : List ℕ) × IsIfKnown j x × JoinsFront t u a b x) → WritesText t u a b (joined_texts j k) r
 writes_stop t u a b j k (Ok y) err w = absurd (cc err)
 writes_stop t u a b j k (Err f) err w = let y = some_text k
     in (w.0 ++ y.0, tells-joined j k w.0 y.0 w.1 y.1, front_more y.0 w.2)
 
 -- a call that failed and wrote nothing
 pub writes_nothing : {T F : Type 0} (t : Option (List ℕ)) (a b : Sheet) (k : Option (List ℕ)) (r : Result T F) → IsErr r
-    → b.sent ≡ a.sent → Writes t t a b k r
+    → b.sent ≡ a.sent → WritesText t t a b k r
 writes_nothing t a b k (Ok y) err s = absurd (cc err)
 writes_nothing t a b k (Err f) err s = let y = some_text k in (y.0, y.1, nothing_went t a b y.0 s)
 
 -- a call that failed
 pub writes_err : {T E : Type 0} (t u : Option (List ℕ)) (a b : Sheet) (k : Option (List ℕ)) (r : Result T E) → IsErr r
-    → ((x : List ℕ) × Tells k x × JoinsFront t u a b x) → Writes t u a b k r
+    → ((x : List ℕ) × IsIfKnown k x × JoinsFront t u a b x) → WritesText t u a b k r
 writes_err t u a b k r h h2 = grind arith
 
 -- less is known of the text
 pub writes_less : {T E : Type 0} (t u : Option (List ℕ)) (a b : Sheet) (k : Option (List ℕ)) (text : List ℕ)
-    (r : Result T E) → Tells k text → Writes t u a b (Some text) r → Writes t u a b k r
+    (r : Result T E) → IsIfKnown k text → WritesText t u a b (Some text) r → WritesText t u a b k r
 writes_less t u a b k text r h h2 = grind arith
 
 -- ---- if no byte was sent, none had been sent before
 
-pub unsent_before : {t u : Option (List ℕ)} {a b : Sheet} {x : List ℕ} → Joins t u a b x → b.sent ≡ 0 → a.sent ≡ 0
+pub unsent_before : {t u : Option (List ℕ)} {a b : Sheet} {x : List ℕ} → AddsBytes t u a b x → b.sent ≡ 0 → a.sent ≡ 0
 unsent_before {t} {u} {a} {b} {x} h unsent = omega (arith, h.count, unsent)
 
 pub unsent_before_front : {t u : Option (List ℕ)} {a b : Sheet} {x : List ℕ} → JoinsFront t u a b x → b.sent ≡ 0
@@ -130,11 +133,11 @@ pub unsent_before_front : {t u : Option (List ℕ)} {a b : Sheet} {x : List ℕ}
 unsent_before_front {t} {u} {a} {b} {x} h unsent = omega (arith, h.count, unsent)
 
 pub unsent_before_writes : {T E : Type 0} (t u : Option (List ℕ)) (a b : Sheet) (k : Option (List ℕ)) (r : Result T E)
-    → Writes t u a b k r → b.sent ≡ 0 → a.sent ≡ 0
+    → WritesText t u a b k r → b.sent ≡ 0 → a.sent ≡ 0
 unsent_before_writes t u a b k r h h2 = grind (arith, unsent_before, unsent_before_front)
 
-pub joined-nothing : (k : Option (List ℕ)) → k ≡ joined (Some []) k
+pub joined-nothing : (k : Option (List ℕ)) → k ≡ joined_texts (Some []) k
 joined-nothing k = grind arith
 
-pub joined-assoc : (a b c : Option (List ℕ)) → joined a (joined b c) ≡ joined (joined a b) c
+pub joined-assoc : (a b c : Option (List ℕ)) → joined_texts a (joined_texts b c) ≡ joined_texts (joined_texts a b) c
 joined-assoc a b c = grind (arith, append_assoc)

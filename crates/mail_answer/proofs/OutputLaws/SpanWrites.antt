@@ -1,7 +1,7 @@
 -- Closed spans are added to an answer message by message, and together they are the spans of the numbers.
 use Rattle.mail_answer.proofs.Words.{◌≡◌, ◌∙◌, ℕ, List, [], ◌∷◌, ◌++◌, length, Option, Some, Result, IsErr, refl, ap}
 use Rattle.mail_answer.proofs.Words.{ap₂, sym, subst, append-nil, arith, map-append, flat_map-append, flat_map, Table}
-use Rattle.mail_answer.proofs.Words.{closed, AreSpansOf, Joins, JoinsFront, Writes, record_at, Sheet}
+use Rattle.mail_answer.proofs.Words.{closed_text, AreSpansOf, AddsBytes, JoinsFront, WritesText, record_at, Sheet}
 use Rattle.mail_answer.specs.Inside.Spans.{WritesSpans}
 use Rattle.mail_answer.proofs.OutputLaws.CopiedPieces.{some_bytes}
 use Rattle.mail_answer.proofs.OutputLaws.SheetLemmas.{joins_more, writes_next, writes_stop}
@@ -20,51 +20,52 @@ are_spans t done numbers spans more are then = grind (arith, map-append)
 
 -- one more span
 pub spans_more : {t u v : Option (List ℕ)} {a b c : Sheet} (table : Table) (done : List ℕ) (n : ℕ)
-    → ((spans : List (List ℕ)) × AreSpansOf table done spans × Joins t u a b (flat_map closed spans))
+    → ((spans : List (List ℕ)) × AreSpansOf table done spans × AddsBytes t u a b (flat_map closed_text spans))
     → ((bytes : List ℕ) × (length bytes ≡ (record_at table.messages n).length)
-    × ((text : List ℕ) × (closed bytes ≡ text) × Joins u v b c text))
-    → (spans : List (List ℕ)) × AreSpansOf table (done ++ n ∷ []) spans × Joins t v a c (flat_map closed spans)
+    × ((text : List ℕ) × (closed_text bytes ≡ text) × AddsBytes u v b c text))
+    → (spans : List (List ℕ)) × AreSpansOf table (done ++ n ∷ []) spans × AddsBytes t v a c (flat_map closed_text spans)
 spans_more {t} {u} {v} {a} {b} {c} table done n so_far next =
     let spans : List (List ℕ) = so_far.0 in
     let bytes : List ℕ = next.0 in
-    let text : flat_map closed spans ++ next.2.0 ≡ flat_map closed (spans ++ bytes ∷ []) =
-    ap (λ (l : List ℕ). flat_map closed spans ++ l) (sym next.2.1 ∙ sym (append-nil (closed bytes)))
-    ∙ sym (flat_map-append closed spans (bytes ∷ [])) in (
+    let text : flat_map closed_text spans ++ next.2.0 ≡ flat_map closed_text (spans ++ bytes ∷ []) =
+    ap (λ (l : List ℕ). flat_map closed_text spans ++ l) (sym next.2.1 ∙ sym (append-nil (closed_text bytes)))
+    ∙ sym (flat_map-append closed_text spans (bytes ∷ [])) in (
       spans ++ bytes ∷ [],
       are_spans table done (n ∷ []) spans (bytes ∷ []) so_far.1 (ap (λ (k : ℕ). k ∷ []) next.1),
-      subst (Joins t v a c) text (joins_more so_far.2 next.2.2),
+      subst (AddsBytes t v a c) text (joins_more so_far.2 next.2.2),
     )
 
 -- a span that wasn't written whole, before others
 pub spans_stop : {T E : Type 0} (t u v : Option (List ℕ)) (a b c : Sheet) (table : Table) (done : List ℕ) (n : ℕ)
     (behind : List ℕ) (r : Result T E) → IsErr r
-    → ((spans : List (List ℕ)) × AreSpansOf table done spans × Joins t u a b (flat_map closed spans))
+    → ((spans : List (List ℕ)) × AreSpansOf table done spans × AddsBytes t u a b (flat_map closed_text spans))
     → ((bytes : List ℕ) × (length bytes ≡ (record_at table.messages n).length)
-    × ((text : List ℕ) × (closed bytes ≡ text) × JoinsFront u v b c text))
+    × ((text : List ℕ) × (closed_text bytes ≡ text) × JoinsFront u v b c text))
     → WritesSpans t v a c table (done ++ n ∷ behind) r
 spans_stop {T} {E} t u v a b c table done n behind r err so_far next =
     let spans : List (List ℕ) = so_far.0 in
     let bytes : List ℕ = next.0 in
     let rest = some_spans table behind in
-    let text : flat_map closed spans ++ (closed bytes ++ flat_map closed rest.0)
-    ≡ flat_map closed (spans ++ bytes ∷ rest.0) = sym (flat_map-append closed spans (bytes ∷ rest.0)) in (
+    let text : flat_map closed_text spans ++ (closed_text bytes ++ flat_map closed_text rest.0)
+    ≡ flat_map closed_text (spans ++ bytes ∷ rest.0) = sym (flat_map-append closed_text spans (bytes ∷ rest.0)) in (
       spans ++ bytes ∷ rest.0,
       are_spans table done (n ∷ behind) spans (bytes ∷ rest.0) so_far.1 (ap₂ (λ k ks. k ∷ ks) next.1 rest.1),
-      subst (λ (l : List ℕ). Writes t v a c (Some l) r) text
-          (writes_next t u v a b c (Some (flat_map closed spans)) (Some (closed bytes ++ flat_map closed rest.0)) r
-          (flat_map closed spans, refl, so_far.2)
-          (writes_stop u v b c (Some (closed bytes)) (Some (flat_map closed rest.0)) r err next.2)),
+      subst (λ (l : List ℕ). WritesText t v a c (Some l) r) text
+          (writes_next t u v a b c (Some (flat_map closed_text spans))
+          (Some (closed_text bytes ++ flat_map closed_text rest.0)) r
+          (flat_map closed_text spans, refl, so_far.2)
+          (writes_stop u v b c (Some (closed_text bytes)) (Some (flat_map closed_text rest.0)) r err next.2)),
     )
 
 -- the last call
 pub spans_end : {T E : Type 0} (t u v : Option (List ℕ)) (a b c : Sheet) (table : Table) (numbers : List ℕ)
     (r : Result T E)
-    → ((spans : List (List ℕ)) × AreSpansOf table numbers spans × Joins t u a b (flat_map closed spans))
-    → Writes u v b c (Some []) r → WritesSpans t v a c table numbers r
+    → ((spans : List (List ℕ)) × AreSpansOf table numbers spans × AddsBytes t u a b (flat_map closed_text spans))
+    → WritesText u v b c (Some []) r → WritesSpans t v a c table numbers r
 spans_end {T} {E} t u v a b c table numbers r so_far last =
-    let text : List ℕ = flat_map closed so_far.0 in (
+    let text : List ℕ = flat_map closed_text so_far.0 in (
       so_far.0,
       so_far.1,
-      subst (λ (l : List ℕ). Writes t v a c (Some l) r) (append-nil text)
+      subst (λ (l : List ℕ). WritesText t v a c (Some l) r) (append-nil text)
           (writes_next t u v a b c (Some text) (Some []) r (text, refl, so_far.2) last),
     )

@@ -3,37 +3,38 @@ use Rattle.mail_answer.proofs.Words.{◌≡◌, ◌∙◌, ◌+◌, ◌<◌, ◌
 use Rattle.mail_answer.proofs.Words.{[], ◌∷◌, length, get_or, inl, inr, refl, sym, ap, subst, arith, eq-eqb, add-one}
 use Rattle.mail_answer.proofs.Words.{Result, IfOk, AllByRecursion, filter, list_any, range_with_len}
 use Rattle.mail_answer.proofs.Words.{get_or-map-range_with_len, eqb-true, or_cases, or_left, or_right, eqb_tells}
-use Rattle.mail_answer.proofs.Words.{LinkId, Table, Key, RisesFrom, keys_of, is_among, truth_at, each_number, IsPath}
+use Rattle.mail_answer.proofs.Words.{LinkId, Table, Key, RisesFrom, keys_of, is_number_among, truth_at, each_number}
+use Rattle.mail_answer.proofs.Words.{IsPathOfLinks}
 use Rattle.mail_answer.proofs.Words.{IsInThreadOfSome, AreThreads, TellsThreads}
 use Rattle.mail_answer.proofs.ThreadLaws.ThreadLemmas.{itself}
 
 -- ---- membership
 
-below : (P : ℕ → Type 0) (ns : List ℕ) (n : ℕ) → AllByRecursion P ns → is_among n ns ≡ true → P n
+below : (P : ℕ → Type 0) (ns : List ℕ) (n : ℕ) → AllByRecursion P ns → is_number_among n ns ≡ true → P n
 below P [] n all among = absurd (cc among)
 below P (m ∷ ns) n all among =
-    elim (or_cases (nat_eq n m) (is_among n ns) among) [
+    elim (or_cases (nat_eq n m) (is_number_among n ns) among) [
       | inl this ↦ subst P (sym (eqb-true n m this)) all.0
       | inr behind ↦ below P ns n all.1 behind
     ]
 
 -- one of the numbers has the value
 some_from_any : (value : ℕ → ℕ) (r : ℕ) (ns : List ℕ) → list_any (λ n. nat_eq r (value n)) ns ≡ true → (m : ℕ)
-    × (is_among m ns ≡ true) × (r ≡ value m)
+    × (is_number_among m ns ≡ true) × (r ≡ value m)
 some_from_any value r [] any = absurd (cc any)
 some_from_any value r (n ∷ ns) any =
     elim (or_cases (nat_eq r (value n)) (list_any (λ m. nat_eq r (value m)) ns) any) [
-      | inl this ↦ (n, or_left (nat_eq n n) (is_among n ns) (eq-eqb n n refl), eqb-true r (value n) this)
+      | inl this ↦ (n, or_left (nat_eq n n) (is_number_among n ns) (eq-eqb n n refl), eqb-true r (value n) this)
       | inr behind ↦
           let later = some_from_any value r ns behind in
-          (later.0, or_right (nat_eq later.0 n) (is_among later.0 ns) later.1, later.2)
+          (later.0, or_right (nat_eq later.0 n) (is_number_among later.0 ns) later.1, later.2)
     ]
 
-any_from_some : (value : ℕ → ℕ) (r m : ℕ) (ns : List ℕ) → is_among m ns ≡ true → r ≡ value m
+any_from_some : (value : ℕ → ℕ) (r m : ℕ) (ns : List ℕ) → is_number_among m ns ≡ true → r ≡ value m
     → list_any (λ n. nat_eq r (value n)) ns ≡ true
 any_from_some value r m [] among same = absurd (cc among)
 any_from_some value r m (n ∷ ns) among same =
-    elim (or_cases (nat_eq m n) (is_among m ns) among) [
+    elim (or_cases (nat_eq m n) (is_number_among m ns) among) [
       | inl this ↦ or_left (nat_eq r (value n)) (list_any (λ k. nat_eq r (value k)) ns)
           (eq-eqb r (value n) (same ∙ ap value (eqb-true m n this)))
       | inr behind ↦ or_right (nat_eq r (value n)) (list_any (λ k. nat_eq r (value k)) ns)
@@ -50,17 +51,18 @@ pub passed_rise : (test : ℕ → Bool) (a count : ℕ) → RisesFrom a (filter 
 passed_rise test a zero = tt
 passed_rise test a (suc count) = grind (arith, add-one, lower, passed_rise test (a + 1) count)
 
-pub from_passed : (test : ℕ → Bool) (a count n : ℕ) → is_among n (filter test (range_with_len a count)) ≡ true
+pub from_passed : (test : ℕ → Bool) (a count n : ℕ) → is_number_among n (filter test (range_with_len a count)) ≡ true
     → (n < a + count) × (test n ≡ true)
 from_passed test a zero n among = absurd (cc among)
 from_passed test a (suc count) n among = go (test a) refl (λ behind. from_passed test (a + 1) count n behind) among
   where
     go : (passes : Bool) → test a ≡ passes
-        → (is_among n (filter test (range_with_len (a + 1) count)) ≡ true → (n < a + 1 + count) × (test n ≡ true))
-        → is_among n (cond passes (a ∷ filter test (range_with_len (a + 1) count))
+        → (is_number_among n (filter test (range_with_len (a + 1) count)) ≡ true → (n < a + 1 + count)
+        × (test n ≡ true))
+        → is_number_among n (cond passes (a ∷ filter test (range_with_len (a + 1) count))
         (filter test (range_with_len (a + 1) count))) ≡ true → (n < a + suc count) × (test n ≡ true)
     go true here rest given =
-        elim (or_cases (nat_eq n a) (is_among n (filter test (range_with_len (a + 1) count))) given) [
+        elim (or_cases (nat_eq n a) (is_number_among n (filter test (range_with_len (a + 1) count))) given) [
           | inl this ↦ let same : n ≡ a = eqb-true n a this in (omega (arith, same), ap test same ∙ here)
           | inr behind ↦ let later : (n < a + 1 + count) × (test n ≡ true) = rest behind
               in (omega (arith, later.0), later.1)
@@ -69,18 +71,19 @@ from_passed test a (suc count) n among = go (test a) refl (λ behind. from_passe
         in (omega (arith, later.0), later.1)
 
 pub to_passed : (test : ℕ → Bool) (a count n : ℕ) → a ≤ n → n < a + count → test n ≡ true
-    → is_among n (filter test (range_with_len a count)) ≡ true
+    → is_number_among n (filter test (range_with_len a count)) ≡ true
 to_passed test a zero n low high passes = absurd (omega (arith, low, high))
 to_passed test a (suc count) n low high passes =
     go (test a) refl (λ behind. to_passed test (a + 1) count n behind (omega (arith, high)) passes)
   where
-    go : (first : Bool) → test a ≡ first → (a + 1 ≤ n → is_among n (filter test (range_with_len (a + 1) count)) ≡ true)
-        → is_among n (cond first (a ∷ filter test (range_with_len (a + 1) count))
+    go : (first : Bool) → test a ≡ first →
+        (a + 1 ≤ n → is_number_among n (filter test (range_with_len (a + 1) count)) ≡ true)
+        → is_number_among n (cond first (a ∷ filter test (range_with_len (a + 1) count))
         (filter test (range_with_len (a + 1) count))) ≡ true
     go true here rest =
         elim (eqb_tells n a) [
-          | inl this ↦ or_left (nat_eq n a) (is_among n (filter test (range_with_len (a + 1) count))) this.0
-          | inr other ↦ or_right (nat_eq n a) (is_among n (filter test (range_with_len (a + 1) count)))
+          | inl this ↦ or_left (nat_eq n a) (is_number_among n (filter test (range_with_len (a + 1) count))) this.0
+          | inr other ↦ or_right (nat_eq n a) (is_number_among n (filter test (range_with_len (a + 1) count)))
               (rest (omega (arith, other.1, low)))
         ]
     go false here rest = rest (bigger low)
@@ -101,7 +104,8 @@ chosen_threads t numbers roots members test tells within marked are =
     subst (AreThreads t numbers) (sym are) record {
       rises = passed_rise (λ n. test (get_or roots n 0)) 0 (length roots);
       each = λ n. (
-        λ (among : is_among n (filter (λ k. test (get_or roots k 0)) (range_with_len 0 (length roots))) ≡ true). forth n
+        λ (among : is_number_among n (filter (λ k. test (get_or roots k 0)) (range_with_len 0 (length roots))) ≡ true).
+            forth n
             (from_passed (λ k. test (get_or roots k 0)) 0 (length roots) n among),
         λ (given : (n < length t.messages) × IsInThreadOfSome t numbers n). to_passed (λ k. test (get_or roots k 0)) 0
             (length roots) n (omega arith) (omega (arith, given.0, tells.long)) (back n given),
@@ -118,7 +122,7 @@ chosen_threads t numbers roots members test tells within marked are =
         × IsInThreadOfSome t numbers n
     forth n passed =
         let lt : n < length t.messages = omega (arith, passed.0, tells.long) in
-        let some : (m : ℕ) × (is_among m numbers ≡ true) × (root n ≡ root m) =
+        let some : (m : ℕ) × (is_number_among m numbers ≡ true) × (root n ≡ root m) =
         some_from_any root (root n) numbers (sym (marked (root n) (root_within n lt)) ∙ passed.1) in (
           lt,
           (
@@ -139,7 +143,7 @@ chosen_threads t numbers roots members test tells within marked are =
 
 -- ---- without links, or without numbers, the threads are the numbers themselves
 
-path_without : (t : Table) (m n : ℕ) (path : List ℕ) → keys_of LinkId t.keys ≡ [] → IsPath t m path n → m ≡ n
+path_without : (t : Table) (m n : ℕ) (path : List ℕ) → keys_of LinkId t.keys ≡ [] → IsPathOfLinks t m path n → m ≡ n
 path_without t m n [] none here = here
 path_without t m n (l ∷ path) none given = grind arith
 
@@ -175,11 +179,11 @@ chosen_by_marks t numbers roots members marks tells within marked are =
 
 -- ---- lists of numbers to choose from
 
-all_from_members : (P : ℕ → Type 0) (ns : List ℕ) → ((n : ℕ) → is_among n ns ≡ true → P n) → AllByRecursion P ns
+all_from_members : (P : ℕ → Type 0) (ns : List ℕ) → ((n : ℕ) → is_number_among n ns ≡ true → P n) → AllByRecursion P ns
 all_from_members P [] each = tt
 all_from_members P (n ∷ ns) each = (
-  each n (or_left (nat_eq n n) (is_among n ns) (eq-eqb n n refl)),
-  all_from_members P ns (λ m among. each m (or_right (nat_eq m n) (is_among m ns) among)),
+  each n (or_left (nat_eq n n) (is_number_among n ns) (eq-eqb n n refl)),
+  all_from_members P ns (λ m among. each m (or_right (nat_eq m n) (is_number_among m ns) among)),
 )
 
 -- the numbers of messages that pass a test are below their count

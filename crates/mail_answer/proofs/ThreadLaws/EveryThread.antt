@@ -1,25 +1,26 @@
 -- There are threads of any messages, however keys link them: the messages that the keys join, key by key.
 use Rattle.mail_answer.proofs.Words.{◌≡◌, ◌∙◌, ◌+◌, ◌<◌, ℕ, Bool, true, nat_eq, ◌&&◌, ◌||◌, List, [], ◌∷◌, ◌++◌, inl}
 use Rattle.mail_answer.proofs.Words.{inr, refl, sym, ap, subst, arith, eq-eqb, list_any, filter, range_with_len}
-use Rattle.mail_answer.proofs.Words.{eqb-true, or_cases, or_left, or_right, and_parts, and_from, Key, is_among, IsChain}
+use Rattle.mail_answer.proofs.Words.{eqb-true, or_cases, or_left, or_right, and_parts, and_from, Key, is_number_among}
+use Rattle.mail_answer.proofs.Words.{IsChain}
 use Rattle.mail_answer.proofs.Words.{IsLedTo, IsLedToBySome, AreThreadsOf}
 use Rattle.mail_answer.proofs.ThreadLaws.ChosenThreads.{passed_rise, from_passed, to_passed}
 
 -- ---- an element of a list
 
-some_of : (p : ℕ → Bool) (xs : List ℕ) → list_any p xs ≡ true → (x : ℕ) × (is_among x xs ≡ true) × (p x ≡ true)
+some_of : (p : ℕ → Bool) (xs : List ℕ) → list_any p xs ≡ true → (x : ℕ) × (is_number_among x xs ≡ true) × (p x ≡ true)
 some_of p [] any = absurd (cc any)
 some_of p (x ∷ xs) any =
     elim (or_cases (p x) (list_any p xs) any) [
-      | inl here ↦ (x, or_left (nat_eq x x) (is_among x xs) (eq-eqb x x refl), here)
+      | inl here ↦ (x, or_left (nat_eq x x) (is_number_among x xs) (eq-eqb x x refl), here)
       | inr behind ↦ let later = some_of p xs behind
-          in (later.0, or_right (nat_eq later.0 x) (is_among later.0 xs) later.1, later.2)
+          in (later.0, or_right (nat_eq later.0 x) (is_number_among later.0 xs) later.1, later.2)
     ]
 
-any_of : (p : ℕ → Bool) (x : ℕ) (xs : List ℕ) → is_among x xs ≡ true → p x ≡ true → list_any p xs ≡ true
+any_of : (p : ℕ → Bool) (x : ℕ) (xs : List ℕ) → is_number_among x xs ≡ true → p x ≡ true → list_any p xs ≡ true
 any_of p x [] among passes = absurd (cc among)
 any_of p x (y ∷ ys) among passes =
-    elim (or_cases (nat_eq x y) (is_among x ys) among) [
+    elim (or_cases (nat_eq x y) (is_number_among x ys) among) [
       | inl here ↦ or_left (p y) (list_any p ys) (ap p (sym (eqb-true x y here)) ∙ passes)
       | inr behind ↦ or_right (p y) (list_any p ys) (any_of p x ys behind passes)
     ]
@@ -32,7 +33,7 @@ any_more p q each xs any = let some = some_of p xs any in any_of q some.0 xs som
 
 -- a key has both numbers
 abbrev pub share_key : List Key → ℕ → ℕ → Bool
-share_key ks m n = list_any (λ k. is_among m k.numbers && is_among n k.numbers) ks
+share_key ks m n = list_any (λ k. is_number_among m k.numbers && is_number_among n k.numbers) ks
 
 -- The numbers are the same, or the keys join them: the first key joins all numbers that the others join to its own.
 abbrev pub are_joined : List Key → ℕ → ℕ → Bool
@@ -108,22 +109,23 @@ led_by_joined linked (k ∷ ks) links m n h =
           let x = some_of (are_joined ks m) k.numbers both.0 in
           let y = some_of (are_joined ks n) k.numbers both.1 in
           let here : linked x.0 y.0 ≡ true =
-          links x.0 y.0 (or_left (is_among x.0 k.numbers && is_among y.0 k.numbers) (share_key ks x.0 y.0)
-          (and_from (is_among x.0 k.numbers) (is_among y.0 k.numbers) x.1 y.1)) in
+          links x.0 y.0 (or_left (is_number_among x.0 k.numbers && is_number_among y.0 k.numbers) (share_key ks x.0 y.0)
+          (and_from (is_number_among x.0 k.numbers) (is_number_among y.0 k.numbers) x.1 y.1)) in
           led_through linked m x.0 n (led_by_joined linked ks rest m x.0 x.2)
           (led_through linked x.0 y.0 n (y.0 ∷ [], (here, refl))
           (led_by_joined linked ks rest y.0 n (joined_turned ks n y.0 y.2)))
     ]
   where
     rest : (a b : ℕ) → share_key ks a b ≡ true → linked a b ≡ true
-    rest a b shared = links a b (or_right (is_among a k.numbers && is_among b k.numbers) (share_key ks a b) shared)
+    rest a b shared = links a b (or_right (is_number_among a k.numbers && is_number_among b k.numbers)
+        (share_key ks a b) shared)
 
 joined_by_link : (ks : List Key) (m n : ℕ) → share_key ks m n ≡ true → are_joined ks m n ≡ true
 joined_by_link [] m n h = absurd (cc h)
 joined_by_link (k ∷ ks) m n h =
-    elim (or_cases (is_among m k.numbers && is_among n k.numbers) (share_key ks m n) h) [
+    elim (or_cases (is_number_among m k.numbers && is_number_among n k.numbers) (share_key ks m n) h) [
       | inl here ↦
-          let both = and_parts (is_among m k.numbers) (is_among n k.numbers) here in
+          let both = and_parts (is_number_among m k.numbers) (is_number_among n k.numbers) here in
           or_right (are_joined ks m n) (list_any (are_joined ks m) k.numbers && list_any (are_joined ks n) k.numbers)
           (and_from (list_any (are_joined ks m) k.numbers) (list_any (are_joined ks n) k.numbers)
           (any_of (are_joined ks m) m k.numbers both.0 (joined_itself ks m))
@@ -145,7 +147,8 @@ pub threads_by_keys : (ks : List Key) (count : ℕ) (numbers : List ℕ)
 threads_by_keys ks count numbers = record {
   rises = passed_rise test 0 count;
   each = λ n. (
-    λ (among : is_among n (filter test (range_with_len 0 count)) ≡ true). forth n (from_passed test 0 count n among),
+    λ (among : is_number_among n (filter test (range_with_len 0 count)) ≡ true). forth n
+        (from_passed test 0 count n among),
     λ (given : (n < count) × IsLedToBySome (share_key ks) numbers n). to_passed test 0 count n (omega arith)
         (omega (arith, given.0))
         (any_of (λ m. are_joined ks m n) given.1.0 numbers given.1.1

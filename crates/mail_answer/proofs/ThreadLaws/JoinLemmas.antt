@@ -1,7 +1,8 @@
 -- Trees are joined by hanging a root at an earlier root, message by message and key by key.
 use Rattle.mail_answer.proofs.Words.{◌≡◌, ◌∙◌, ◌<◌, ◌≤◌, ℕ, true, nat_eq, ◌&&◌, List, [], ◌∷◌, length, get_or, inl, inr}
 use Rattle.mail_answer.proofs.Words.{refl, sym, ap, eq-eqb, arith, list_any, set, eqb-true, or_cases, or_left, or_right}
-use Rattle.mail_answer.proofs.Words.{and_parts, and_from, Table, is_among, IsInThread, StaysInThreads, LabelsTrees}
+use Rattle.mail_answer.proofs.Words.{and_parts, and_from, Table, is_number_among, IsInThread, StaysInThreads}
+use Rattle.mail_answer.proofs.Words.{LabelsTrees}
 use Rattle.mail_answer.proofs.Words.{Shortens, Unites, AreBothAmong, ShareKey}
 use Rattle.std.proofs.Math.ListN.{length-set}
 use Rattle.mail_answer.proofs.ThreadLaws.ThreadLemmas.{through, back_again}
@@ -32,19 +33,20 @@ roots_linked t number other first second one two linked =
 
 -- ---- all messages of a key
 
-one_of : (first n : ℕ) (ns : List ℕ) → n ≡ first → is_among n (first ∷ ns) ≡ true
-one_of first n ns same = or_left (nat_eq n first) (is_among n ns) (eq-eqb n first same)
+one_of : (first n : ℕ) (ns : List ℕ) → n ≡ first → is_number_among n (first ∷ ns) ≡ true
+one_of first n ns same = or_left (nat_eq n first) (is_number_among n ns) (eq-eqb n first same)
 
-behind_first : (first n : ℕ) (ns : List ℕ) → is_among n ns ≡ true → is_among n (first ∷ ns) ≡ true
-behind_first first n ns among = or_right (nat_eq n first) (is_among n ns) among
+behind_first : (first n : ℕ) (ns : List ℕ) → is_number_among n ns ≡ true → is_number_among n (first ∷ ns) ≡ true
+behind_first first n ns among = or_right (nat_eq n first) (is_number_among n ns) among
 
-between : (first n x : ℕ) (ns : List ℕ) → is_among x (first ∷ ns) ≡ true → is_among x (first ∷ n ∷ ns) ≡ true
+between : (first n x : ℕ) (ns : List ℕ) → is_number_among x (first ∷ ns) ≡ true → is_number_among x (first ∷ n ∷ ns)
+    ≡ true
 between first n x ns among = grind (arith, or_cases, one_of, eqb-true, behind_first)
 
 -- if one more number has the label of the first, all have it
 as_first : (label : ℕ → ℕ) (first n : ℕ) (ns : List ℕ) → label n ≡ label first
-    → ((x : ℕ) → is_among x (first ∷ ns) ≡ true → label x ≡ label first)
-    → (x : ℕ) → is_among x (first ∷ n ∷ ns) ≡ true → label x ≡ label first
+    → ((x : ℕ) → is_number_among x (first ∷ ns) ≡ true → label x ≡ label first)
+    → (x : ℕ) → is_number_among x (first ∷ n ∷ ns) ≡ true → label x ≡ label first
 as_first label first n ns second rest x among = grind (arith, or_cases, eqb-true, behind_first)
 
 pub united_one : (p : List ℕ) (first : ℕ) → Unites (AreBothAmong (first ∷ [])) p p
@@ -65,7 +67,8 @@ united_more p q r first n ns one rest = record {
       )) stays);
 }
   where
-    all : (label : ℕ → ℕ) → LabelsTrees label r → (x : ℕ) → is_among x (first ∷ n ∷ ns) ≡ true → label x ≡ label first
+    all : (label : ℕ → ℕ) → LabelsTrees label r → (x : ℕ) → is_number_among x (first ∷ n ∷ ns) ≡ true → label x
+        ≡ label first
     all label labels =
         as_first label first n ns (sym (one.united first n (refl, refl) label (rest.labels label labels)))
         (λ x among. rest.united x first (among, one_of first first ns refl) label labels)
@@ -79,16 +82,17 @@ keys_more p q r k ks one rest = record {
   back = λ back. rest.back (one.back back);
   labels = λ label labels. one.labels label (rest.labels label labels);
   united = λ x y share label labels.
-      elim (or_cases (is_among x k.1 && is_among y k.1)
-      (list_any (λ (key : List ℕ × List ℕ). is_among x key.1 && is_among y key.1) ks) share) [
-        | inl here ↦ one.united x y (and_parts (is_among x k.1) (is_among y k.1) here) label (rest.labels label labels)
+      elim (or_cases (is_number_among x k.1 && is_number_among y k.1)
+      (list_any (λ (key : List ℕ × List ℕ). is_number_among x key.1 && is_number_among y key.1) ks) share) [
+        | inl here ↦ one.united x y (and_parts (is_number_among x k.1) (is_number_among y k.1) here) label
+            (rest.labels label labels)
         | inr behind ↦ rest.united x y behind label labels
       ];
   threads = λ t given stays.
       rest.threads t (λ x y share. given x y
-      (or_right (is_among x k.1 && is_among y k.1)
-      (list_any (λ (key : List ℕ × List ℕ). is_among x key.1 && is_among y key.1) ks) share))
-      (one.threads t (λ x y both. given x y (or_left (is_among x k.1 && is_among y k.1)
-      (list_any (λ (key : List ℕ × List ℕ). is_among x key.1 && is_among y key.1) ks)
-      (and_from (is_among x k.1) (is_among y k.1) both.0 both.1))) stays);
+      (or_right (is_number_among x k.1 && is_number_among y k.1)
+      (list_any (λ (key : List ℕ × List ℕ). is_number_among x key.1 && is_number_among y key.1) ks) share))
+      (one.threads t (λ x y both. given x y (or_left (is_number_among x k.1 && is_number_among y k.1)
+      (list_any (λ (key : List ℕ × List ℕ). is_number_among x key.1 && is_number_among y key.1) ks)
+      (and_from (is_number_among x k.1) (is_number_among y k.1) both.0 both.1))) stays);
 }

@@ -1,7 +1,8 @@
 -- Lists of rising numbers of messages, and the text of an answer, number by number.
 use Rattle.mail_answer.proofs.Words.{◌≡◌, ℕ, suc, ◌+◌, ◌<◌, ◌≤◌, List, [], ◌∷◌, ◌++◌, length, Option, arith}
 use Rattle.mail_answer.proofs.Words.{AllByRecursion, flat_map-cons, Table, RisesFrom, Query, AreNumbers, known_answer}
-use Rattle.mail_answer.proofs.Words.{known_message, answer_text, message_text, joined, Tells, record_at, chosen_numbers}
+use Rattle.mail_answer.proofs.Words.{known_message, answer_text, message_text, joined_texts, IsIfKnown, record_at}
+use Rattle.mail_answer.proofs.Words.{chosen_numbers}
 use Rattle.mail_answer.specs.declared.format.Format.{Format}
 use Rattle.mail_answer.proofs.ThreadLaws.ChosenThreads.{passed_rise, passed_below, lower}
 
@@ -30,11 +31,11 @@ text_first format t archives n ns = flat_map-cons
     (λ k. message_text format t.archives archives (record_at t.messages k)) n ns
 
 pub known_first : (format : Format) (t : Table) (held : Option (List (List ℕ))) (n : ℕ) (ns : List ℕ)
-    → known_answer format t held (n ∷ ns) ≡ joined (known_message format t held n) (known_answer format t held ns)
+    → known_answer format t held (n ∷ ns) ≡ joined_texts (known_message format t held n) (known_answer format t held ns)
 known_first format t held n ns = grind (arith, text_first)
 
 pub known_none : (format : Format) (t : Table) (held : Option (List (List ℕ)))
-    → Tells (known_answer format t held []) []
+    → IsIfKnown (known_answer format t held []) []
 known_none format t held = grind arith
 
 -- ---- a list of which some numbers were returned

@@ -1,26 +1,28 @@
 -- Messages have only one list of threads, because rising lists with the same members are the same.
 use Rattle.mail_answer.proofs.Words.{◌≡◌, ◌∙◌, ◌≤◌, ℕ, suc, true, nat_eq, List, [], ◌∷◌, inl, inr, refl, ap, subst}
-use Rattle.mail_answer.proofs.Words.{arith, eq-eqb, eqb-true, or_cases, or_left, or_right, Table, RisesFrom, is_among}
+use Rattle.mail_answer.proofs.Words.{arith, eq-eqb, eqb-true, or_cases, or_left, or_right, Table, RisesFrom}
+use Rattle.mail_answer.proofs.Words.{is_number_among}
 use Rattle.mail_answer.proofs.Words.{AreThreads}
 
-not_before : (low : ℕ) (ns : List ℕ) (n : ℕ) → RisesFrom low ns → is_among n ns ≡ true → low ≤ n
+not_before : (low : ℕ) (ns : List ℕ) (n : ℕ) → RisesFrom low ns → is_number_among n ns ≡ true → low ≤ n
 not_before low [] n rises among = absurd (cc among)
 not_before low (m ∷ ns) n rises among =
     let first : low ≤ m = rises.0 in
-    elim (or_cases (nat_eq n m) (is_among n ns) among) [
+    elim (or_cases (nat_eq n m) (is_number_among n ns) among) [
       | inl this ↦ let same : n ≡ m = eqb-true n m this in omega arith
       | inr behind ↦ let later : suc m ≤ n = not_before (suc m) ns n rises.1 behind in omega arith
     ]
 
-behind : (m n : ℕ) (ns : List ℕ) → suc m ≤ n → is_among n (m ∷ ns) ≡ true → is_among n ns ≡ true
+behind : (m n : ℕ) (ns : List ℕ) → suc m ≤ n → is_number_among n (m ∷ ns) ≡ true → is_number_among n ns ≡ true
 behind m n ns later among = grind (arith, or_cases, eqb-true)
 
-first_of : (m : ℕ) (ns : List ℕ) → is_among m (m ∷ ns) ≡ true
-first_of m ns = or_left (nat_eq m m) (is_among m ns) (eq-eqb m m refl)
+first_of : (m : ℕ) (ns : List ℕ) → is_number_among m (m ∷ ns) ≡ true
+first_of m ns = or_left (nat_eq m m) (is_number_among m ns) (eq-eqb m m refl)
 
 -- rising lists with the same members are the same
 one_list : (low : ℕ) (xs ys : List ℕ) → RisesFrom low xs → RisesFrom low ys
-    → ((n : ℕ) → is_among n xs ≡ true → is_among n ys ≡ true) → ((n : ℕ) → is_among n ys ≡ true → is_among n xs ≡ true)
+    → ((n : ℕ) → is_number_among n xs ≡ true → is_number_among n ys ≡ true)
+    → ((n : ℕ) → is_number_among n ys ≡ true → is_number_among n xs ≡ true)
     → xs ≡ ys
 one_list low [] [] xs_rise ys_rise forth back = refl
 one_list low [] (y ∷ ys) xs_rise ys_rise forth back = absurd (cc (back y (first_of y ys)))
@@ -34,10 +36,10 @@ one_list low (x ∷ xs) (y ∷ ys) xs_rise ys_rise forth back =
     ∙ ap (λ (ns : List ℕ). y ∷ ns)
     (one_list (suc y) xs ys rest ys_rise.1
     (λ n among. behind y n ys (not_before (suc y) xs n rest among)
-    (forth n (or_right (nat_eq n x) (is_among n xs) among)))
+    (forth n (or_right (nat_eq n x) (is_number_among n xs) among)))
     (λ n among.
     let later : suc y ≤ n = not_before (suc y) ys n ys_rise.1 among in
-    behind x n xs (omega arith) (back n (or_right (nat_eq n y) (is_among n ys) among))))
+    behind x n xs (omega arith) (back n (or_right (nat_eq n y) (is_number_among n ys) among))))
 
 pub one_thread_list : (t : Table) (numbers xs ys : List ℕ) → AreThreads t numbers xs → AreThreads t numbers ys → xs ≡ ys
 one_thread_list t numbers xs ys first second = grind (arith, one_list)

@@ -2,8 +2,10 @@
 use Rattle.mail_answer.proofs.Words.{◌≡◌, ◌∙◌, ◌<◌, ℕ, Bool, true, ◌&&◌, ◌||◌, List, [], ◌∷◌, ◌++◌, length, map, take}
 use Rattle.mail_answer.proofs.Words.{take_all, take-append-le, get_or, refl, sym, ap, subst, arith, AllByRecursion}
 use Rattle.mail_answer.proofs.Words.{list_any, range_with_len, get_or-range_with_len, length-range_with_len, LinkId}
-use Rattle.mail_answer.proofs.Words.{Table, Key, IsKey, IsWellFormed, keys_of, text_and_numbers, is_among, are_linked}
-use Rattle.mail_answer.proofs.Words.{IsPath, IsInThread, LeadsBack, StaysInThreads, LabelsTrees, Shortens, Unites}
+use Rattle.mail_answer.proofs.Words.{Table, Key, IsKey, IsWellFormed, keys_of, text_and_numbers, is_number_among}
+use Rattle.mail_answer.proofs.Words.{are_linked}
+use Rattle.mail_answer.proofs.Words.{IsPathOfLinks, IsInThread, LeadsBack, StaysInThreads, LabelsTrees, Shortens}
+use Rattle.mail_answer.proofs.Words.{Unites}
 use Rattle.mail_answer.proofs.Words.{ShareKey, TellsThreads}
 use Rattle.mail_answer.proofs.ThreadLaws.ThreadLemmas.{itself, by_link, through, back_again}
 
@@ -31,16 +33,16 @@ link_keys_below t p given single =
     (keys_below t.version (length t.messages) t.keys given.keys)
 
 share_is_link : (m n : ℕ) (ks : List Key)
-    → list_any (λ (k : List ℕ × List ℕ). is_among m k.1 && is_among n k.1) (map text_and_numbers ks)
-    ≡ list_any (λ (k : Key). is_among m k.numbers && is_among n k.numbers) ks
+    → list_any (λ (k : List ℕ × List ℕ). is_number_among m k.1 && is_number_among n k.1) (map text_and_numbers ks)
+    ≡ list_any (λ (k : Key). is_number_among m k.numbers && is_number_among n k.numbers) ks
 share_is_link m n [] = refl
-share_is_link m n (k ∷ ks) = ap (λ (b : Bool). (is_among m k.numbers && is_among n k.numbers) || b)
+share_is_link m n (k ∷ ks) = ap (λ (b : Bool). (is_number_among m k.numbers && is_number_among n k.numbers) || b)
     (share_is_link m n ks)
 
 -- ---- trees that are joined by all link ids are threads
 
 along : (t : Table) (label : ℕ → ℕ) → ((m n : ℕ) → are_linked t m n ≡ true → label m ≡ label n)
-    → (m n : ℕ) (path : List ℕ) → IsPath t m path n → label m ≡ label n
+    → (m n : ℕ) (path : List ℕ) → IsPathOfLinks t m path n → label m ≡ label n
 along t label links m n [] here = ap label here
 along t label links m n (l ∷ path) given = links m l given.0 ∙ along t label links l n path given.1
 

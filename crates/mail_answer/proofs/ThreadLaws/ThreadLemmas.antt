@@ -1,10 +1,12 @@
 -- Paths of links can be joined and turned around, so a thread is the same from each of its messages.
 use Rattle.mail_answer.proofs.Words.{◌≡◌, ◌∙◌, ℕ, true, ◌&&◌, List, [], ◌∷◌, ◌++◌, refl, sym, subst, arith, list_any}
-use Rattle.mail_answer.proofs.Words.{and_comm, LinkId, Key, Table, keys_of, is_among, are_linked, IsPath, IsInThread}
+use Rattle.mail_answer.proofs.Words.{and_comm, LinkId, Key, Table, keys_of, is_number_among, are_linked, IsPathOfLinks}
+use Rattle.mail_answer.proofs.Words.{IsInThread}
 
 -- a key has both numbers, whichever is named first
-both_turned : (m n : ℕ) (ks : List Key) → list_any (λ (k : Key). is_among m k.numbers && is_among n k.numbers) ks
-    ≡ list_any (λ (k : Key). is_among n k.numbers && is_among m k.numbers) ks
+both_turned : (m n : ℕ) (ks : List Key) → list_any
+    (λ (k : Key). is_number_among m k.numbers && is_number_among n k.numbers) ks
+    ≡ list_any (λ (k : Key). is_number_among n k.numbers && is_number_among m k.numbers) ks
 both_turned m n [] = refl
 both_turned m n (k ∷ ks) = grind (arith, and_comm, both_turned m n ks)
 
@@ -17,15 +19,15 @@ itself t n = ([], refl)
 pub by_link : (t : Table) (m n : ℕ) → are_linked t m n ≡ true → IsInThread t m n
 by_link t m n linked = (n ∷ [], (linked, refl))
 
-path_joined : (t : Table) (l m n : ℕ) (front back : List ℕ) → IsPath t l front m → IsPath t m back n
-    → IsPath t l (front ++ back) n
-path_joined t l m n [] back here rest = subst (λ (k : ℕ). IsPath t k back n) (sym here) rest
+path_joined : (t : Table) (l m n : ℕ) (front back : List ℕ) → IsPathOfLinks t l front m → IsPathOfLinks t m back n
+    → IsPathOfLinks t l (front ++ back) n
+path_joined t l m n [] back here rest = subst (λ (k : ℕ). IsPathOfLinks t k back n) (sym here) rest
 path_joined t l m n (k ∷ front) back given rest = (given.0, path_joined t k m n front back given.1 rest)
 
 pub through : (t : Table) (l m n : ℕ) → IsInThread t l m → IsInThread t m n → IsInThread t l n
 through t l m n first rest = (first.0 ++ rest.0, path_joined t l m n first.0 rest.0 first.1 rest.1)
 
-turned_path : (t : Table) (m n : ℕ) (path : List ℕ) → IsPath t m path n → IsInThread t n m
+turned_path : (t : Table) (m n : ℕ) (path : List ℕ) → IsPathOfLinks t m path n → IsInThread t n m
 turned_path t m n [] here = ([], sym here)
 turned_path t m n (l ∷ path) given = through t n l m (turned_path t l n path given.1)
     (by_link t l m (linked_turned t m l given.0))

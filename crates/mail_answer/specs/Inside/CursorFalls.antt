@@ -2,19 +2,19 @@
 use Rattle.std.specs.Prelude.{◌≤◌, ◌+◌, max, List, [], ◌∷◌}
 use Rattle.std.proofs.Common.{arith}
 use denote.Param.Weighed.{most}
-use Rattle.mail_answer.specs.CursorAhead.{Ahead, levels}
-use Rattle.mail_answer.specs.Inside.CursorWalks.{ahead}
+use Rattle.mail_answer.specs.CursorAhead.{WalkAhead, levels}
+use Rattle.mail_answer.specs.Inside.CursorWalks.{ahead_of_node}
 use Rattle.mail_answer.specs.declared.cursor.walk.Node.{Node}
 use Rattle.mail_answer.specs.declared.cursor.walk.Node.TheVariants.{Listed, Marked, Scanned, Others, Common, United}
 use Rattle.mail_answer.specs.declared.cursor.walk.Walk.TheDeep.{deep-Node}
 
 -- each walk is below the level of all of them
-pub most_le-levels : (ws : List Ahead) → most (λ w. w.below + 1) ws ≤ levels ws
+pub most_le-levels : (ws : List WalkAhead) → most (λ w. w.below + 1) ws ≤ levels ws
 most_le-levels [] = omega arith
 most_le-levels (w ∷ ws) = omega (arith, most_le-levels ws)
 
 -- the walks inside a node are below its level
-pub children_below : (n : Node) → max (deep-Node n) 0 ≤ (ahead n).below
+pub children_below : (n : Node) → max (deep-Node n) 0 ≤ (ahead_of_node n).below
 children_below (Listed list) = omega arith
 children_below (Marked marked) = omega arith
 children_below (Scanned scan) = omega arith

@@ -3,8 +3,8 @@ use Rattle.std.specs.Prelude.{◌≡◌, ℕ, ◌<◌, Bool, true, nat_lt, List,
 use Rattle.std.specs.List.{AllByRecursion}
 use Rattle.std.specs.Option.{option_to_list}
 use Rattle.mail_index.specs.Tables.{RisesFrom}
-use Rattle.mail_answer.specs.TableFacts.{is_among}
-use Rattle.mail_answer.specs.CursorAhead.{Ahead}
+use Rattle.mail_answer.specs.TableFacts.{is_number_among}
+use Rattle.mail_answer.specs.CursorAhead.{WalkAhead}
 use Rattle.mail_answer.specs.Marks.{each_number}
 
 -- the first number, if it was taken from its list already, and the others
@@ -13,10 +13,10 @@ numbers_ahead first behind = option_to_list first ++ behind
 
 -- for each of `count` messages, whether it is among the numbers
 abbrev pub truths_among : ℕ → List ℕ → List Bool
-truths_among count numbers = each_number count (λ n. is_among n numbers)
+truths_among count numbers = each_number count (λ n. is_number_among n numbers)
 
 -- what the list still gives, with one step for each number that wasn't taken from it yet
-abbrev pub list_ahead : ℕ → Option ℕ → List ℕ → Ahead
+abbrev pub list_ahead : ℕ → Option ℕ → List ℕ → WalkAhead
 list_ahead count first behind = record {
   truths = truths_among count (numbers_ahead first behind);
   left = length behind;
@@ -35,7 +35,7 @@ is_before None n = true
 is_before (Some m) n = nat_lt m n
 
 -- the numbers below n are dropped from the front of the list
-pub record AreCut (n : ℕ) (old new : List ℕ) : Type 0 where
+pub record AreDroppedBelow (n : ℕ) (old new : List ℕ) : Type 0 where
   pub dropped : List ℕ
   pub split : old ≡ dropped ++ new
   pub below : AllByRecursion (λ m. m < n) dropped

@@ -2,29 +2,29 @@
 use Rattle.std.specs.Prelude.{◌≡◌, ℕ, ◌+◌, ◌^◌, ◌<◌, ◌≤◌, nat_le, Bool, true, false, ◌&&◌, List, ◌++◌, length}
 use Rattle.std.specs.Prelude.{replicate, Option, MatchOption}
 use Rattle.mail_answer.specs.Marks.{truth_at, each_number}
-use Rattle.mail_answer.specs.CursorAhead.{Ahead, IsFirst, left_in, one_or_other, united}
+use Rattle.mail_answer.specs.CursorAhead.{WalkAhead, IsFirst, steps_left_in, one_or_other, union_of}
 use Rattle.mail_answer.specs.declared.cursor.head.Head.{Head}
 use Rattle.mail_answer.specs.declared.cursor.head.Head.TheVariants.{Unasked, Asked}
 use Rattle.mail_answer.specs.Inside.CursorTexts.{some_has}
 
 -- the messages that are marked, from the window's first message on, or are in a list
-abbrev pub marked_or_listed : ℕ → List Bool → List Ahead → List Bool
-marked_or_listed start marks lists = one_or_other (replicate start false ++ marks) (united lists)
+abbrev pub marked_or_listed : ℕ → List Bool → List WalkAhead → List Bool
+marked_or_listed start marks lists = one_or_other (replicate start false ++ marks) (union_of lists)
 
 -- the messages that are true, from `low` on
 abbrev pub those_from : ℕ → List Bool → List Bool
 those_from low truths = each_number (length truths) (λ n. nat_le low n && truth_at truths n)
 
 -- the messages from `low` on that are marked or are in a list
-abbrev pub truths_marked : ℕ → ℕ → List Bool → List Ahead → List Bool
+abbrev pub truths_marked : ℕ → ℕ → List Bool → List WalkAhead → List Bool
 truths_marked low start marks lists = those_from low (marked_or_listed start marks lists)
 
 -- what the window and the lists still give, with one step for each number of the lists
-abbrev pub marks_ahead : ℕ → ℕ → List Bool → List Ahead → Ahead
+abbrev pub marks_ahead : ℕ → ℕ → List Bool → List WalkAhead → WalkAhead
 marks_ahead low start marks lists = record {
   truths = truths_marked low start marks lists;
-  left = left_in lists;
-  postings = left_in lists;
+  left = steps_left_in lists;
+  postings = steps_left_in lists;
   below = 0;
 }
 
@@ -34,15 +34,15 @@ IsHead truths Unasked = Unit {0}
 IsHead truths (Asked first) = IsFirst truths first
 
 -- for each number in a list, the next number fits in 32 bits
-abbrev pub AreFew : List Ahead → Type 0
+abbrev pub AreFew : List WalkAhead → Type 0
 AreFew lists = (m : ℕ) → some_has m lists ≡ true → m + 1 < 2 ^ 32
 
 -- The marks are those of a window, each comes before all that is left in the lists, and what is remembered of the first
 -- of these is true.
-pub record HaveMarks (start : ℕ) (marks : List Bool) (lists : List Ahead) (ahead : Head) : Type 0 where
+pub record HaveMarks (start : ℕ) (marks : List Bool) (lists : List WalkAhead) (ahead : Head) : Type 0 where
   pub window : length marks ≡ 4096
   pub listed : AreFew lists
-  pub next : IsHead (united lists) ahead
+  pub next : IsHead (union_of lists) ahead
   pub marked : (k : ℕ) → truth_at marks k ≡ true → start + k < 2 ^ 32
   pub before : (k m : ℕ) → truth_at marks k ≡ true → some_has m lists ≡ true → start + k < m
 

@@ -8,8 +8,8 @@ use Rattle.mail_query.specs.Query.{Query}
 use Rattle.mail_query.specs.Truth.{is_true}
 use Rattle.mail_answer.specs.declared.cursor.scanned.Asked.{Asked}
 use Rattle.mail_answer.specs.declared.cursor.scanned.Asked.TheVariants.{Any, Date, Size, Flag}
-use Rattle.mail_answer.specs.TableFacts.{is_among, facts_of_record, record_at}
-use Rattle.mail_answer.specs.CursorAhead.{Ahead}
+use Rattle.mail_answer.specs.TableFacts.{is_number_among, facts_of_record, record_at}
+use Rattle.mail_answer.specs.CursorAhead.{WalkAhead}
 use Rattle.mail_answer.specs.Marks.{each_number}
 
 -- a condition on a record, as a query
@@ -30,14 +30,14 @@ satisfies records asked n = is_as_asked asked (record_at records n)
 
 -- whether the message is the first one, if this was found already, or comes from the next record on and passes the test
 abbrev pub is_ahead : (ℕ → Bool) → ℕ → Option ℕ → ℕ → Bool
-is_ahead test next first n = is_among n (option_to_list first) || (nat_le next n && test n)
+is_ahead test next first n = is_number_among n (option_to_list first) || (nat_le next n && test n)
 
 -- for each of `count` messages, whether it still comes
 abbrev pub truths_scanned : ℕ → (ℕ → Bool) → ℕ → Option ℕ → List Bool
 truths_scanned count test next first = each_number count (is_ahead test next first)
 
 -- what the walk still gives, with at most one step for each record from the next one on
-abbrev pub scan_ahead : List Record → Asked → ℕ → Option ℕ → Ahead
+abbrev pub scan_ahead : List Record → Asked → ℕ → Option ℕ → WalkAhead
 scan_ahead records asked next first = record {
   truths = truths_scanned (length records) (satisfies records asked) next first;
   left = length records - next;

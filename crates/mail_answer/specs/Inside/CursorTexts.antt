@@ -9,18 +9,18 @@ use Rattle.mail_answer.specs.declared.cursor.texts.Fit.{Fit}
 use Rattle.mail_answer.specs.declared.cursor.texts.Fit.TheVariants.{Whole, Within, Front}
 use Rattle.mail_answer.specs.Marks.{truth_at}
 use Rattle.mail_answer.specs.Cursors.{numbers_of_keys}
-use Rattle.mail_answer.specs.CursorAhead.{Ahead, left_in}
+use Rattle.mail_answer.specs.CursorAhead.{WalkAhead, steps_left_in}
 use Rattle.mail_answer.specs.Inside.CursorLists.{AreNumbers}
 
 -- whether the message is in at least one walk
-abbrev pub some_has : ℕ → List Ahead → Bool
+abbrev pub some_has : ℕ → List WalkAhead → Bool
 some_has m [] = false
 some_has m (w ∷ ws) = truth_at w.truths m || some_has m ws
 
 -- the messages whose numbers pass the test were added, with at most `most` more steps
-pub record Joins (test : ℕ → Bool) (most : ℕ) (old new : List Ahead) : Type 0 where
+pub record AddsMatches (test : ℕ → Bool) (most : ℕ) (old new : List WalkAhead) : Type 0 where
   pub each : (m : ℕ) → some_has m new ≡ (some_has m old || test m)
-  pub left : left_in new ≤ left_in old + most
+  pub left : steps_left_in new ≤ steps_left_in old + most
 
 -- each text passes
 abbrev pub any_text : List ℕ → Bool

@@ -3,7 +3,7 @@ use Rattle.std.specs.Prelude.{ℕ, ◌+◌, ◌==◌, nat_lt, List, [], ◌∷�
 use Rattle.std.specs.Str.{bytes_eq}
 use Rattle.mbox_cutter.specs.Lines.{is_empty, lines}
 use Rattle.mail_answer.specs.Closing.{feed, has_feed}
-use Rattle.mail_answer.specs.Shapes.{last_of}
+use Rattle.mail_answer.specs.Shapes.{last_line_of}
 use Rattle.mail_answer.specs.declared.output.ending.Ending.{Ending}
 use Rattle.mail_answer.specs.declared.output.ending.Ending.TheVariants.{Empty, Ended, Return, Open}
 
@@ -13,8 +13,8 @@ ending_of_line line = if is_empty line then Empty else if has_feed line then End
     then Return else Open (length line)
 
 -- the ending of the last line of these bytes
-abbrev pub ending_of : List ℕ → Ending
-ending_of bytes = ending_of_line (last_of (lines bytes))
+abbrev pub ending_of_bytes : List ℕ → Ending
+ending_of_bytes bytes = ending_of_line (last_line_of (lines bytes))
 
 -- the ending of a line that is this byte
 abbrev pub line_of : ℕ → Ending

@@ -2,7 +2,7 @@
 use Rattle.std.specs.Prelude.{◌≡◌, ℕ, ◌<◌, ◌≤◌, IsTrue, ◌↔◌, ◌&&◌, List, length, slice_index}
 use Rattle.std.specs.List.{list_any}
 use Rattle.mail_index.specs.Tables.{Table}
-use Rattle.mail_answer.specs.TableFacts.{is_among}
+use Rattle.mail_answer.specs.TableFacts.{is_number_among}
 use Rattle.mail_answer.specs.Threads.{IsInThread}
 
 -- no parent comes after its child
@@ -39,11 +39,11 @@ pub record Unites (pairs : ℕ → ℕ → Type 0) (old new : List ℕ) : Type 0
 
 -- two of these numbers
 abbrev pub AreBothAmong : List ℕ → ℕ → ℕ → Type 0
-AreBothAmong numbers m n = IsTrue (is_among m numbers) × IsTrue (is_among n numbers)
+AreBothAmong numbers m n = IsTrue (is_number_among m numbers) × IsTrue (is_number_among n numbers)
 
 -- two numbers of one of these keys
 abbrev pub ShareKey : List (List ℕ × List ℕ) → ℕ → ℕ → Type 0
-ShareKey keys m n = IsTrue (list_any (λ k. is_among m k.1 && is_among n k.1) keys)
+ShareKey keys m n = IsTrue (list_any (λ k. is_number_among m k.1 && is_number_among n k.1) keys)
 
 -- for each message the root of its thread: two messages have the same one exactly if they are in one thread
 pub record TellsThreads (t : Table) (roots : List ℕ) : Type 0 where

@@ -13,8 +13,9 @@ pub record Reading : Type 0 where
   pub left : ℕ
 
 -- the bytes of the part that weren't passed, if the archives' bytes are known
-abbrev pub coming : Option (List (List ℕ)) → Reading → Option (List ℕ)
-coming held r = option_map (λ archives. r.unread ++ take r.left (drop r.next (archive_at archives r.archive))) held
+abbrev pub bytes_not_passed : Option (List (List ℕ)) → Reading → Option (List ℕ)
+bytes_not_passed held r = option_map (λ archives. r.unread ++ take r.left (drop r.next (archive_at archives r.archive)))
+    held
 
 -- the number of bytes that weren't passed
 abbrev pub coming_count : Reading → ℕ
@@ -29,13 +30,13 @@ abbrev pub span_reading : Record → Reading
 span_reading m = reading m.archive [] m.offset m.length
 
 -- the part is in one of this many archives
-pub record IsInside (number : ℕ) (held : Option (List (List ℕ))) (r : Reading) : Type 0 where
+pub record IsInsideArchive (number : ℕ) (held : Option (List (List ℕ))) (r : Reading) : Type 0 where
   pub exists : r.archive < number
   pub fits : r.next + r.left < 2 ^ 64
   pub within : IfSome held (λ archives. r.next + r.left ≤ length (archive_at archives r.archive))
 
 -- this many bytes of an archive, from an offset on, were appended; at least one
-pub record ReadsBehind (archive offset count : ℕ) (held : Option (List (List ℕ))) (old new : List ℕ) : Type 0 where
+pub record AppendsRead (archive offset count : ℕ) (held : Option (List (List ℕ))) (old new : List ℕ) : Type 0 where
   pub bytes : List ℕ
   pub behind : new ≡ old ++ bytes
   pub number : length bytes ≡ count

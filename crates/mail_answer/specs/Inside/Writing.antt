@@ -8,7 +8,7 @@ use Rattle.mail_answer.specs.Faults.{has_fault, is_of_archives, is_stale}
 use Rattle.mail_answer.specs.Inside.Calls.{AreAsIndexed, KeepsArchives}
 use Rattle.mail_answer.specs.Inside.Spans.{WritesSpan, WritesSpans}
 use Rattle.mail_answer.specs.Shapes.{known_answer, known_message}
-use Rattle.mail_answer.specs.Sheets.{Writes}
+use Rattle.mail_answer.specs.Sheets.{WritesText}
 use Rattle.mail_answer.specs.TableFacts.{record_at}
 use Rattle.mail_answer.specs.declared.archives.Archives.{Ghosts}
 use Rattle.mail_answer.specs.declared.fault.AnswerFault.{AnswerFault}
@@ -18,11 +18,12 @@ use Rattle.mail_answer.specs.declared.format.Format.TheVariants.{Raw, Mbox}
 use Rattle.mail_answer.specs.declared.output.answer_writer.AnswerWriter.{AnswerWriter}
 
 -- the archives were found to have the lengths that were indexed, and each device's failures can still be counted
-pub record IsReady {A O : Type 0} (g : Ghosts A) (h : OutGhosts O) (w : AnswerWriter) (a : A) (o : O) : Type 0 where
-  pub table : IsWellFormed w.places.table
-  pub indexed : AreAsIndexed g w.places.table.archives a
-  pub archives : g.failures a < 2 ^ 64 - 1
-  pub out : h.failures o < 2 ^ 64 - 1
+pub record IsReadyToWrite {A O : Type 0} (g : Ghosts A) (h : OutGhosts O) (w : AnswerWriter) (a : A) (o : O) : Type 0
+  where
+    pub table : IsWellFormed w.places.table
+    pub indexed : AreAsIndexed g w.places.table.archives a
+    pub archives : g.failures a < 2 ^ 64 - 1
+    pub out : h.failures o < 2 ^ 64 - 1
 
 -- it is the same answer: from the same index, in the same form
 pub record IsSameAnswer (old new : AnswerWriter) : Type 0 where
@@ -38,7 +39,7 @@ pub record IsBegun (w : AnswerWriter) : Type 0 where
 pub record WritesMessage {T : Type 0} (taken taken' : Option (List ℕ)) (held : Option (List (List ℕ))) (n : ℕ)
     (old new : AnswerWriter) (result : Result T AnswerFaultKind) : Type 0 where
   -- its text is the known one, if there is a known one
-  pub text : Writes taken taken' old.sheet new.sheet (known_message old.format old.places.table held n) result
+  pub text : WritesText taken taken' old.sheet new.sheet (known_message old.format old.places.table held n) result
   -- whatever bytes the archives have, an mbox answer has as many bytes of the message as were indexed, closed
   pub span : old.format ≡ Mbox → WritesSpan taken taken' old.sheet new.sheet
       (record_at old.places.table.messages n).length result
@@ -46,7 +47,7 @@ pub record WritesMessage {T : Type 0} (taken taken' : Option (List ℕ)) (held :
 -- The messages with these numbers were added to the answer; if the call fails, only a front of them.
 pub record WritesMessages {T : Type 0} (taken taken' : Option (List ℕ)) (held : Option (List (List ℕ)))
     (numbers : List ℕ) (old new : AnswerWriter) (result : Result T AnswerFaultKind) : Type 0 where
-  pub text : Writes taken taken' old.sheet new.sheet (known_answer old.format old.places.table held numbers) result
+  pub text : WritesText taken taken' old.sheet new.sheet (known_answer old.format old.places.table held numbers) result
   pub spans : old.format ≡ Mbox → WritesSpans taken taken' old.sheet new.sheet old.places.table numbers result
 
 -- The messages with these numbers were sent and counted; if the call fails, only a front of them was sent.

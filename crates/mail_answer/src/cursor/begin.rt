@@ -4,8 +4,8 @@ ghost use Rattle.mail_index.specs.Steps.{add_steps};
 ghost use Rattle.mail_index.specs.Tables.{IsWellFormed};
 ghost use Rattle.mail_query.specs.Query.{query_of, queries_of, members_of};
 ghost use Rattle.mail_answer.specs.Cursors.{most_left, most_left_of_all, look_ups, look_ups_of_all, look_up_steps, look_up_steps_of_all, run_finding_steps, run_finding_steps_of_all, LooksUp};
-ghost use Rattle.mail_answer.specs.CursorAhead.{left_in};
-ghost use Rattle.mail_answer.specs.Inside.CursorBegins.{Tells, TellAll};
+ghost use Rattle.mail_answer.specs.CursorAhead.{steps_left_in};
+ghost use Rattle.mail_answer.specs.Inside.CursorBegins.{AreTruthsOf, TellAll};
 
 use crate::cursor::scanned::Asked;
 use crate::cursor::texts::{Fit, with_text};
@@ -22,7 +22,7 @@ pub(crate) fn walk_of<'a>(
     node: &Node,
 ) -> Result<Walk<'a>, AllocError>
     requires { IsWellFormed index.old.table }
-    ensures truths { IfOk result (λ w. Tells index.old.table (query_of node.now) w.truths) }
+    ensures truths { IfOk result (λ w. AreTruthsOf index.old.table (query_of node.now) w.truths) }
     ensures left { IfOk result (λ w. w.left ≤ most_left index.old.table (query_of node.now)) }
     ensures exact { IfOk result (λ _. index.new.steps ≡ add_steps index.old.steps
         (look_up_steps index.old.table.keys (query_of node.now))) }
@@ -82,7 +82,7 @@ fn walks_of<'a>(
 ) -> Result<Vec<Walk<'a>>, AllocError>
     requires { IsWellFormed index.old.table }
     ensures truths { IfOk result (λ v. TellAll index.old.table (queries_of nodes.now) v.items) }
-    ensures left { IfOk result (λ v. left_in v.items
+    ensures left { IfOk result (λ v. steps_left_in v.items
         ≤ most_left_of_all index.old.table (members_of (queries_of nodes.now))) }
     ensures exact { IfOk result (λ _. index.new.steps ≡ add_steps index.old.steps
         (look_up_steps_of_all index.old.table.keys (members_of (queries_of nodes.now)))) }

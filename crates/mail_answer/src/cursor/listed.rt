@@ -1,6 +1,6 @@
 //! The walk along a posting list.
 ghost use Rattle.std.specs.Prelude.{◌≡◌, length, IfNone};
-ghost use Rattle.mail_answer.specs.CursorAhead.{Counts, Drops, IsFirst};
+ghost use Rattle.mail_answer.specs.CursorAhead.{CountsSteps, Drops, IsFirst};
 ghost use Rattle.mail_answer.specs.Inside.CursorLists.{truths_among, AreNumbers, is_before as is_before_of};
 
 use mail_index::{Postings, Steps};
@@ -16,9 +16,9 @@ pub(crate) struct Listed<'a> {
 
 impl<'a> Model for Listed<'a> {
     ghost use Rattle.mail_answer.specs.Inside.CursorLists.{list_ahead, numbers_ahead, AreNumbers};
-    ghost use Rattle.mail_answer.specs.CursorAhead.{Ahead};
+    ghost use Rattle.mail_answer.specs.CursorAhead.{WalkAhead};
 
-    ghost Value = { Ahead };
+    ghost Value = { WalkAhead };
 
     ghost view = { λ s. list_ahead s.count s.first s.postings };
 
@@ -53,7 +53,7 @@ impl<'a> Listed<'a> {
     pub(crate) fn least_from(&mut self, n: u32, steps: &mut Steps) -> Option<u32>
         ensures rest { Drops n self.old.truths self.new.truths }
         ensures number { IsFirst self.new.truths result }
-        ensures steps { Counts self.old.left self.new.left steps.old steps.new }
+        ensures steps { CountsSteps self.old.left self.new.left steps.old steps.new }
         ensures ended { IfNone result (self.new.left ≡ 0) }
         ensures below { self.new.below ≡ self.old.below }
     {

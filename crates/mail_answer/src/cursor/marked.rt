@@ -3,7 +3,7 @@
 //! A union of many lists marks the messages of a window, and walks along the marks. Going from list to list at each
 //! number would be slowed down by memory at nearly every step (decision 74 in docs/DECISIONS.md).
 ghost use Rattle.std.specs.Prelude.{◌≡◌, ◌<◌, ◌^◌, ◌+◌, ℕ, true, length, IfNone};
-ghost use Rattle.mail_answer.specs.CursorAhead.{Counts, Drops, IsFirst, left_in, united};
+ghost use Rattle.mail_answer.specs.CursorAhead.{CountsSteps, Drops, IsFirst, steps_left_in, union_of};
 ghost use Rattle.mail_answer.specs.Inside.CursorMarks.{AreFew, HaveMarks, IsFirstMark, IsHead, marked_or_listed, truths_marked};
 ghost use Rattle.mail_answer.specs.Inside.CursorTexts.{some_has};
 ghost use Rattle.mail_answer.specs.Marks.{Adds, truth_at};
@@ -33,10 +33,10 @@ pub(crate) struct Marked<'a> {
 }
 
 impl<'a> Model for Marked<'a> {
-    ghost use Rattle.mail_answer.specs.CursorAhead.{Ahead};
+    ghost use Rattle.mail_answer.specs.CursorAhead.{WalkAhead};
     ghost use Rattle.mail_answer.specs.Inside.CursorMarks.{HaveMarks, marks_ahead};
 
-    ghost Value = { Ahead };
+    ghost Value = { WalkAhead };
 
     ghost view = { λ s. marks_ahead s.low s.start s.marks s.lists.items };
 
@@ -50,7 +50,7 @@ fn mark(list: &mut Listed<'_>, start: u32, marks: &mut [bool], steps: &mut Steps
     ensures rest { Drops (start + length marks.old) list.old.truths list.new.truths }
     ensures number { IsFirst list.new.truths result }
     ensures marks { Adds (λ k. truth_at list.old.truths (start + k)) marks.old marks.new }
-    ensures steps { Counts list.old.left list.new.left steps.old steps.new }
+    ensures steps { CountsSteps list.old.left list.new.left steps.old steps.new }
     ensures ended { IfNone result (list.new.left ≡ 0) }
 {
     let mut least = list.least_from(start, steps);
@@ -74,11 +74,13 @@ fn mark_all(
     steps: &mut Steps,
 ) -> Option<u32>
     requires { AreFew lists.old.items }
-    ensures rest { Drops (start + length marks.old) (united lists.old.items)
-        (united lists.new.items) }
-    ensures number { IsFirst (united lists.new.items) result }
-    ensures marks { Adds (λ k. truth_at (united lists.old.items) (start + k)) marks.old marks.new }
-    ensures steps { Counts (left_in lists.old.items) (left_in lists.new.items) steps.old steps.new }
+    ensures rest { Drops (start + length marks.old) (union_of lists.old.items)
+        (union_of lists.new.items) }
+    ensures number { IsFirst (union_of lists.new.items) result }
+    ensures marks { Adds (λ k. truth_at (union_of lists.old.items)
+        (start + k)) marks.old marks.new }
+    ensures steps { CountsSteps (steps_left_in lists.old.items)
+        (steps_left_in lists.new.items) steps.old steps.new }
 {
     let mut least = None;
     let mut place = 0;
@@ -100,10 +102,11 @@ fn mark_all(
 #[tactic(auto, using(crate::proofs::CursorLaws::MarkedLists::drops_at_once))]
 fn least_ahead(lists: &mut Vec<Listed<'_>>, ahead: Head, n: u32, steps: &mut Steps) -> Option<u32>
     requires few { AreFew lists.old.items }
-    requires ahead { IsHead (united lists.old.items) ahead }
-    ensures rest { Drops n (united lists.old.items) (united lists.new.items) }
-    ensures number { IsFirst (united lists.new.items) result }
-    ensures steps { Counts (left_in lists.old.items) (left_in lists.new.items) steps.old steps.new }
+    requires ahead { IsHead (union_of lists.old.items) ahead }
+    ensures rest { Drops n (union_of lists.old.items) (union_of lists.new.items) }
+    ensures number { IsFirst (union_of lists.new.items) result }
+    ensures steps { CountsSteps (steps_left_in lists.old.items)
+        (steps_left_in lists.new.items) steps.old steps.new }
 {
     if let Head::Asked(first) = ahead
         && is_none_below(first, n)
@@ -125,10 +128,11 @@ fn begin_window(
 ) -> Option<u32>
     requires { HaveMarks start.old marks.old lists.old.items ahead.old }
     ensures marks { HaveMarks start.new marks.new lists.new.items ahead.new }
-    ensures rest { Drops n (united lists.old.items)
+    ensures rest { Drops n (union_of lists.old.items)
         (marked_or_listed start.new marks.new lists.new.items) }
     ensures number { IsFirst (marked_or_listed start.new marks.new lists.new.items) result }
-    ensures steps { Counts (left_in lists.old.items) (left_in lists.new.items) steps.old steps.new }
+    ensures steps { CountsSteps (steps_left_in lists.old.items)
+        (steps_left_in lists.new.items) steps.old steps.new }
 {
     let number = least_ahead(lists, *ahead, n, steps);
     *ahead = Head::Asked(number);
@@ -160,7 +164,7 @@ impl<'a> Marked<'a> {
     pub(crate) fn new(lists: Vec<Listed<'a>>) -> Self
         requires { AreFew lists.items }
         ensures truths { (m : ℕ) → truth_at result.truths m ≡ some_has m lists.entry.items }
-        ensures left { result.left ≡ left_in lists.entry.items }
+        ensures left { result.left ≡ steps_left_in lists.entry.items }
     {
         Marked {
             lists,
@@ -175,7 +179,7 @@ impl<'a> Marked<'a> {
     pub(crate) fn least_from(&mut self, n: u32, steps: &mut Steps) -> Option<u32>
         ensures rest { Drops n self.old.truths self.new.truths }
         ensures number { IsFirst self.new.truths result }
-        ensures steps { Counts self.old.left self.new.left steps.old steps.new }
+        ensures steps { CountsSteps self.old.left self.new.left steps.old steps.new }
         ensures below { self.new.below ≡ self.old.below }
     {
         self.low = n.max(self.low);

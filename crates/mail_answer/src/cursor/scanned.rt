@@ -77,9 +77,9 @@ pub(crate) struct Scanned<'a> {
 impl<'a> Model for Scanned<'a> {
     ghost use Rattle.std.specs.Prelude.{length};
     ghost use Rattle.mail_answer.specs.Inside.CursorScans.{scan_ahead, IsFound};
-    ghost use Rattle.mail_answer.specs.CursorAhead.{Ahead};
+    ghost use Rattle.mail_answer.specs.CursorAhead.{WalkAhead};
 
-    ghost Value = { Ahead };
+    ghost Value = { WalkAhead };
 
     ghost view = { λ s. scan_ahead s.records s.asked s.next s.first };
 

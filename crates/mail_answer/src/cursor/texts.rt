@@ -4,11 +4,11 @@ ghost use Rattle.std.specs.List.{list_any};
 ghost use Rattle.mail_index.specs.Steps.{add_steps};
 ghost use Rattle.mail_index.specs.Tables.{IsWellFormed};
 ghost use Rattle.mail_query.specs.Truth.{contains_text, some_word};
-ghost use Rattle.mail_answer.specs.TableFacts.{texts_with, is_among, facts_at};
+ghost use Rattle.mail_answer.specs.TableFacts.{texts_with, is_number_among, facts_at};
 ghost use Rattle.mail_answer.specs.Marks.{fits, some_key, truth_at};
 ghost use Rattle.mail_answer.specs.Cursors.{numbers_named, kinds_in, is_in, compared_in_all, LooksUp};
 ghost use Rattle.mail_answer.specs.Inside.CursorLists.{AreNumbers};
-ghost use Rattle.mail_answer.specs.Inside.CursorTexts.{any_text, Joins, HaveNumbers, numbers_passing, numbers_fitting, looked_up_by, compared_by, run_compared_by};
+ghost use Rattle.mail_answer.specs.Inside.CursorTexts.{any_text, AddsMatches, HaveNumbers, numbers_passing, numbers_fitting, looked_up_by, compared_by, run_compared_by};
 
 use crate::cursor::listed::Listed;
 use crate::cursor::walk::Walk;
@@ -59,7 +59,8 @@ fn push_list<'a>(
     postings: Postings<'a>,
 ) -> Result<(), AllocError>
     requires { AreNumbers count postings }
-    ensures { IfOk result (λ _. Joins (λ n. is_among n postings.entry) (length postings.entry)
+    ensures { IfOk result (λ _. AddsMatches (λ n. is_number_among n postings.entry)
+        (length postings.entry)
         members.old.items members.new.items) }
 {
     members.push(Listed::new(count, postings))?;
@@ -73,7 +74,7 @@ fn push_all<'a>(
     mut keys: Keys<'a>,
 ) -> Result<(), AllocError>
     requires { HaveNumbers count keys }
-    ensures { IfOk result (λ _. Joins (λ n. some_key any_text n keys.entry)
+    ensures { IfOk result (λ _. AddsMatches (λ n. some_key any_text n keys.entry)
         (numbers_passing any_text keys.entry) members.old.items members.new.items) }
 {
     while let Some(key) = keys.next() {
@@ -91,7 +92,7 @@ fn push_containing<'a>(
     text: &[u8],
 ) -> Result<(), AllocError>
     requires { HaveNumbers count keys }
-    ensures { IfOk result (λ _. Joins (λ n. some_key (contains_text text.now) n keys.entry)
+    ensures { IfOk result (λ _. AddsMatches (λ n. some_key (contains_text text.now) n keys.entry)
         (numbers_passing (contains_text text.now) keys.entry) members.old.items members.new.items) }
 {
     while let Some(key) = keys.next() {
@@ -111,7 +112,7 @@ fn push_kind<'a>(
     text: &[u8],
 ) -> Result<(), AllocError>
     requires { IsWellFormed index.old.table }
-    ensures joins { IfOk result (λ _. Joins (λ n. list_any (fits fit text.now)
+    ensures joins { IfOk result (λ _. AddsMatches (λ n. list_any (fits fit text.now)
         (texts_with kind n index.old.table.keys)) (numbers_fitting (fits fit text.now)
         index.old.table.keys kind) members.old.items members.new.items) }
     ensures exact { index.new.steps ≡ add_steps index.old.steps

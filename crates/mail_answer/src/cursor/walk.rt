@@ -1,7 +1,7 @@
 //! The tree of walks.
 ghost use Rattle.std.specs.Prelude.{◌≡◌, ◌<◌, ℕ, IfOk, length};
 ghost use Rattle.mail_answer.specs.Marks.{truth_at, each_number};
-ghost use Rattle.mail_answer.specs.CursorAhead.{CountsPostings, Drops, IsFirst, Reaches, Spends, common, united, others, left_in, postings_in, levels};
+ghost use Rattle.mail_answer.specs.CursorAhead.{CountsPostings, Drops, IsFirst, Reaches, Spends, common, union_of, others, steps_left_in, postings_in, levels};
 ghost use Rattle.mail_answer.specs.Inside.CursorMarks.{AreFew};
 ghost use Rattle.mail_answer.specs.Inside.CursorScans.{satisfies};
 ghost use Rattle.mail_answer.specs.Inside.CursorTexts.{some_has};
@@ -54,17 +54,17 @@ struct Others<'a> {
 }
 
 impl<'a> Model for Walk<'a> {
-    ghost use Rattle.mail_answer.specs.CursorAhead.{Ahead};
+    ghost use Rattle.mail_answer.specs.CursorAhead.{WalkAhead};
 
-    ghost Value = { Ahead };
+    ghost Value = { WalkAhead };
 
-    ghost use Rattle.mail_answer.specs.Inside.CursorWalks.{ahead};
+    ghost use Rattle.mail_answer.specs.Inside.CursorWalks.{ahead_of_node};
 
-    ghost view = { λ s. ahead s.node };
+    ghost view = { λ s. ahead_of_node s.node };
 
     ghost use Rattle.mail_answer.specs.Inside.CursorMarks.{IsHead};
 
-    ghost invariant = { λ s. IsHead (ahead s.node).truths s.head };
+    ghost invariant = { λ s. IsHead (ahead_of_node s.node).truths s.head };
 
     ghost size = { λ w. w.below };
 
@@ -74,11 +74,11 @@ impl<'a> Model for Walk<'a> {
 }
 
 impl<'a> Walk<'a> {
-    ghost use Rattle.mail_answer.specs.Inside.CursorWalks.{ahead};
+    ghost use Rattle.mail_answer.specs.Inside.CursorWalks.{ahead_of_node};
 
     /// A walk along this node, before its first step.
     fn of(node: Node<'a>) -> Self
-        ensures { result ≡ ahead node.entry }
+        ensures { result ≡ ahead_of_node node.entry }
     {
         Walk {
             node,
@@ -93,7 +93,7 @@ impl<'a> Walk<'a> {
         requires { AreFew lists.items }
         ensures truths { IfOk result (λ w. (m : ℕ) → truth_at w.truths m
             ≡ some_has m lists.entry.items) }
-        ensures left { IfOk result (λ w. w.left ≡ left_in lists.entry.items) }
+        ensures left { IfOk result (λ w. w.left ≡ steps_left_in lists.entry.items) }
     {
         if lists.len() > MOST {
             let marked = Box::new(alloc, Marked::new(lists))?;
@@ -136,15 +136,15 @@ impl<'a> Walk<'a> {
     /// The walk through the messages that are in each of one or more walks.
     pub(crate) fn common(members: Vec<Walk<'a>>) -> Self
         ensures truths { result.truths ≡ common members.entry.items }
-        ensures left { result.left ≡ left_in members.entry.items }
+        ensures left { result.left ≡ steps_left_in members.entry.items }
     {
         Walk::of(Node::Common(members))
     }
 
     /// The walk through the messages that are in at least one of these walks.
     pub(crate) fn united(members: Vec<Walk<'a>>) -> Self
-        ensures truths { result.truths ≡ united members.entry.items }
-        ensures left { result.left ≡ left_in members.entry.items }
+        ensures truths { result.truths ≡ union_of members.entry.items }
+        ensures left { result.left ≡ steps_left_in members.entry.items }
     {
         Walk::of(Node::United(members))
     }
@@ -157,7 +157,7 @@ impl<'a> Walk<'a> {
     ) -> Result<Self, AllocError>
         ensures truths { IfOk result (λ w. (m : ℕ) → truth_at w.truths m
             ≡ some_has m members.entry.items) }
-        ensures left { IfOk result (λ w. w.left ≡ left_in members.entry.items) }
+        ensures left { IfOk result (λ w. w.left ≡ steps_left_in members.entry.items) }
     {
         let mut walks = members;
         while walks.len() > MOST {
@@ -193,17 +193,19 @@ impl<'a> Walk<'a> {
 }
 
 impl<'a> Node<'a> {
-    ghost use Rattle.mail_answer.specs.Inside.CursorWalks.{ahead};
+    ghost use Rattle.mail_answer.specs.Inside.CursorWalks.{ahead_of_node};
 
     /// Returns the least number still to come that is at least n, and drops all before it.
     #[cycle(least)]
     fn least_from(&mut self, n: u32, steps: &mut Steps) -> Option<u32>
-        ensures rest { Drops n (ahead self.old).truths (ahead self.new).truths }
-        ensures number { IsFirst (ahead self.new).truths result }
-        ensures steps { Spends (ahead self.old).left (ahead self.new).left steps.old steps.new }
-        ensures postings { CountsPostings (ahead self.old).postings (ahead self.new).postings
+        ensures rest { Drops n (ahead_of_node self.old).truths (ahead_of_node self.new).truths }
+        ensures number { IsFirst (ahead_of_node self.new).truths result }
+        ensures steps { Spends (ahead_of_node self.old).left
+            (ahead_of_node self.new).left steps.old steps.new }
+        ensures postings { CountsPostings (ahead_of_node self.old).postings
+            (ahead_of_node self.new).postings
             steps.old steps.new }
-        ensures below { (ahead self.new).below ≡ (ahead self.old).below }
+        ensures below { (ahead_of_node self.new).below ≡ (ahead_of_node self.old).below }
     {
         match self {
             Node::Listed(list) => list.least_from(n, steps),
@@ -247,7 +249,8 @@ fn least_other(walk: &mut Others<'_>, n: u32, steps: &mut Steps) -> Option<u32>
 fn least_common(members: &mut [Walk<'_>], n: u32, steps: &mut Steps) -> Option<u32>
     ensures rest { Drops n (common members.old) (common members.new) }
     ensures number { IsFirst (common members.new) result }
-    ensures steps { Spends (left_in members.old) (left_in members.new) steps.old steps.new }
+    ensures steps { Spends (steps_left_in members.old)
+        (steps_left_in members.new) steps.old steps.new }
     ensures postings { CountsPostings (postings_in members.old) (postings_in members.new)
         steps.old steps.new }
     ensures below { levels members.new ≡ levels members.old }
@@ -271,7 +274,8 @@ fn reach_common(members: &mut [Walk<'_>], n: u32, steps: &mut Steps) -> Option<u
     requires { 0 < length members.old }
     ensures rest { Drops n (common members.old) (common members.new) }
     ensures number { Reaches n (common members.new) result }
-    ensures steps { Spends (left_in members.old) (left_in members.new) steps.old steps.new }
+    ensures steps { Spends (steps_left_in members.old)
+        (steps_left_in members.new) steps.old steps.new }
     ensures postings { CountsPostings (postings_in members.old) (postings_in members.new)
         steps.old steps.new }
     ensures below { levels members.new ≡ levels members.old }
@@ -286,9 +290,10 @@ fn reach_common(members: &mut [Walk<'_>], n: u32, steps: &mut Steps) -> Option<u
 /// Returns the least number from n on that is in at least one member.
 #[cycle(least)]
 fn least_united(members: &mut [Walk<'_>], n: u32, steps: &mut Steps) -> Option<u32>
-    ensures rest { Drops n (united members.old) (united members.new) }
-    ensures number { IsFirst (united members.new) result }
-    ensures steps { Spends (left_in members.old) (left_in members.new) steps.old steps.new }
+    ensures rest { Drops n (union_of members.old) (union_of members.new) }
+    ensures number { IsFirst (union_of members.new) result }
+    ensures steps { Spends (steps_left_in members.old)
+        (steps_left_in members.new) steps.old steps.new }
     ensures postings { CountsPostings (postings_in members.old) (postings_in members.new)
         steps.old steps.new }
     ensures below { levels members.new ≡ levels members.old }

@@ -35,7 +35,7 @@ pub(crate) struct AnswerWriter<'a> {
 }
 
 impl<'a> AnswerWriter<'a> {
-    ghost use Rattle.mail_answer.specs.Inside.Writing.{IsReady, IsSameAnswer, IsBegun, WritesMessage, WritesMessages, SendsMessages, LeavesArchives, AnswersOver};
+    ghost use Rattle.mail_answer.specs.Inside.Writing.{IsReadyToWrite, IsSameAnswer, IsBegun, WritesMessage, WritesMessages, SendsMessages, LeavesArchives, AnswersOver};
 
     /// Returns an answer from this index, of which nothing is written. Takes no memory.
     pub(crate) fn new(alloc: Global, index: &IndexView<'a>, format: Format) -> Self
@@ -63,7 +63,7 @@ impl<'a> AnswerWriter<'a> {
         archives: &mut A,
         out: &mut O,
     ) -> Result<(), AnswerFaultKind>
-        requires ready { IsReady A.Archives O.Out self.old archives.old out.old }
+        requires ready { IsReadyToWrite A.Archives O.Out self.old archives.old out.old }
         requires below { n < length self.old.places.table.messages }
         ensures same { IsSameAnswer self.old self.new }
         ensures message { WritesMessage (O.taken out.old) (O.taken out.new) (A.held archives.new) n
@@ -96,7 +96,7 @@ impl<'a> AnswerWriter<'a> {
         archives: &mut A,
         out: &mut O,
     ) -> Result<u64, AnswerFaultKind>
-        requires ready { IsReady A.Archives O.Out self.old archives.old out.old }
+        requires ready { IsReadyToWrite A.Archives O.Out self.old archives.old out.old }
         requires numbers { AreNumbers (length self.old.places.table.messages) numbers.old }
         ensures messages { WritesMessages (O.taken out.old) (O.taken out.new) (A.held archives.new)
             numbers.old self.old self.new result }
@@ -127,7 +127,7 @@ impl<'a> AnswerWriter<'a> {
         archives: &mut A,
         out: &mut O,
     ) -> Result<u64, AnswerFault>
-        requires ready { IsReady A.Archives O.Out self.old archives.old out.old }
+        requires ready { IsReadyToWrite A.Archives O.Out self.old archives.old out.old }
         requires begun { IsBegun self.old }
         requires numbers { AreNumbers (length self.old.places.table.messages) numbers.old }
         ensures messages { SendsMessages (O.taken out.old) (O.taken out.new) (A.held archives.new)

@@ -1,6 +1,6 @@
 //! The last line of some bytes, and what closes it.
 ghost use Rattle.std.specs.Prelude.{◌≡◌, ℕ, List, [], ◌++◌};
-ghost use Rattle.mail_answer.specs.Inside.Endings.{ending_of, with_byte as with_byte_of, feeds_of};
+ghost use Rattle.mail_answer.specs.Inside.Endings.{ending_of_bytes, with_byte as with_byte_of, feeds_of};
 
 use memchr::memrchr;
 
@@ -38,7 +38,8 @@ fn with_byte(ending: Ending, b: u8) -> Ending
 
 /// Returns the ending after these bytes, each of which is read.
 fn with_each(before: Ending, more: &[u8]) -> Ending
-    ensures { (bytes : List ℕ) → before ≡ ending_of bytes → result ≡ ending_of (bytes ++ more.now) }
+    ensures { (bytes : List ℕ) → before ≡ ending_of_bytes bytes → result
+        ≡ ending_of_bytes (bytes ++ more.now) }
 {
     let mut ending = before;
     for b in more {
@@ -50,15 +51,15 @@ fn with_each(before: Ending, more: &[u8]) -> Ending
 impl Ending {
     /// Returns the ending of no bytes.
     pub(crate) fn new() -> Self
-        ensures { result ≡ ending_of [] }
+        ensures { result ≡ ending_of_bytes [] }
     {
         Ending::Open(0)
     }
 
     /// Returns the ending after these bytes. Reads only the last line.
     pub(crate) fn with_bytes(self, more: &[u8]) -> Self
-        ensures { (bytes : List ℕ) → self ≡ ending_of bytes
-            → result ≡ ending_of (bytes ++ more.now) }
+        ensures { (bytes : List ℕ) → self ≡ ending_of_bytes bytes
+            → result ≡ ending_of_bytes (bytes ++ more.now) }
     {
         // The last line begins after the last LF that isn't the last byte.
         let most = more.len().saturating_sub(1);

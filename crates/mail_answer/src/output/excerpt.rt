@@ -2,11 +2,11 @@
 ghost use Rattle.std.specs.Prelude.{◌≡◌, ◌<◌, ◌-◌, ◌^◌, ℕ, List, [], ◌∷◌, ◌++◌, length, IfErr, OnOk};
 ghost use Rattle.header_text.specs.HeldLines.{HasLines};
 ghost use Rattle.header_text.specs.Headers.{fields_of};
-ghost use Rattle.mail_answer.specs.Excerpts.{without_controls, spaced, field_line, excerpt_lines};
+ghost use Rattle.mail_answer.specs.Excerpts.{without_controls, text_after_space, field_line, excerpt_lines};
 ghost use Rattle.mail_answer.specs.Faults.{IfStale};
 ghost use Rattle.mail_answer.specs.Inside.Calls.{AreAsIndexed, ReadsArchives, WritesOut};
 ghost use Rattle.mail_answer.specs.Shapes.{known_message};
-ghost use Rattle.mail_answer.specs.Sheets.{Writes};
+ghost use Rattle.mail_answer.specs.Sheets.{WritesText};
 ghost use Rattle.mail_answer.specs.TableFacts.{record_at};
 ghost use Rattle.mail_answer.specs.declared.format.Format.TheVariants.{Excerpt};
 ghost use Rattle.mail_index.specs.Tables.{IsWellFormed};
@@ -37,7 +37,7 @@ fn hide_controls(text: &mut [u8])
 /// Adds a line: a name, a colon, a space and a value if the value isn't empty, and LF.
 fn push_line(name: &str, value: &[u8], text: &mut Vec<u8>) -> Result<(), AllocError>
     ensures { OnOk result (text.new.items
-        ≡ text.old.items ++ name.now ++ 58 ∷ spaced value.now ++ 10 ∷ []) }
+        ≡ text.old.items ++ name.now ++ 58 ∷ text_after_space value.now ++ 10 ∷ []) }
 {
     let colon: &[u8] = if value.is_empty() { b":" } else { b": " };
     text.extend_from_slice(name.as_bytes())?;
@@ -99,7 +99,7 @@ pub(crate) fn push_excerpt<A: Archives, O: Out>(
     requires out { O.failures out.old < 2 ^ 64 - 1 }
     ensures archives { ReadsArchives A.Archives archives.old archives.new result }
     ensures same { places.new.table ≡ places.old.table }
-    ensures writes { Writes (O.taken out.old) (O.taken out.new) sheet.old sheet.new
+    ensures writes { WritesText (O.taken out.old) (O.taken out.new) sheet.old sheet.new
         (known_message Excerpt places.old.table (A.held archives.new) n) result }
     ensures out { WritesOut O.Out sheet.new.sent out.old out.new result }
     ensures stale { IfErr result (λ kind. IfStale kind

@@ -5,7 +5,7 @@ ghost use Rattle.mbox_cutter.specs.Lines.{lines};
 ghost use Rattle.mail_answer.specs.Faults.{has_fault, is_of_output, IfStale};
 ghost use Rattle.mail_answer.specs.Inside.Calls.{ReadsArchives};
 ghost use Rattle.mail_answer.specs.Inside.HeaderReads.{HasFields, WillHaveFields, HasFieldsAfter};
-ghost use Rattle.mail_answer.specs.Inside.Readings.{coming, coming_count, span_reading, IsInside};
+ghost use Rattle.mail_answer.specs.Inside.Readings.{bytes_not_passed, coming_count, span_reading, IsInsideArchive};
 ghost use Rattle.mail_answer.specs.Shapes.{span};
 
 use crate::archives::Archives;
@@ -21,14 +21,15 @@ fn read_line<A: Archives>(
     archives: &mut A,
     header: &mut Header,
 ) -> Result<Taken, AnswerFaultKind>
-    requires inside { IsInside (A.number archives.old) (A.held archives.old) reader.old }
+    requires inside { IsInsideArchive (A.number archives.old) (A.held archives.old) reader.old }
     requires count { A.failures archives.old < 2 ^ 64 - 1 }
     ensures archives { ReadsArchives A.Archives archives.old archives.new result }
-    ensures inside { OnOk result (IsInside (A.number archives.new) (A.held archives.new)
+    ensures inside { OnOk result (IsInsideArchive (A.number archives.new) (A.held archives.new)
         reader.new) }
     ensures fields { IfOk result (λ taken. (fields : List HeaderField)
-        → WillHaveFields (coming (A.held archives.new) reader.old) header.old fields
-        → HasFieldsAfter taken (coming (A.held archives.new) reader.new) header.new fields) }
+        → WillHaveFields (bytes_not_passed (A.held archives.new) reader.old) header.old fields
+        → HasFieldsAfter taken (bytes_not_passed
+        (A.held archives.new) reader.new) header.new fields) }
     ensures archive { OnOk result (reader.new.archive ≡ reader.old.archive) }
     ensures less { IfOk result (λ taken. taken ≡ Taken.More
         → coming_count reader.new < coming_count reader.old) }
@@ -51,7 +52,7 @@ pub(crate) fn read_header<A: Archives>(
     message: Record,
     archives: &mut A,
 ) -> Result<Header, AnswerFaultKind>
-    requires inside { IsInside (A.number archives.old) (A.held archives.old)
+    requires inside { IsInsideArchive (A.number archives.old) (A.held archives.old)
         (span_reading message) }
     requires count { A.failures archives.old < 2 ^ 64 - 1 }
     ensures archives { ReadsArchives A.Archives archives.old archives.new result }

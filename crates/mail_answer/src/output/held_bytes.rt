@@ -4,7 +4,7 @@ ghost use Rattle.contract_words.specs.Archives.{archive_at};
 ghost use Rattle.contract_words.specs.Devices.{Counted, Counts};
 ghost use Rattle.mail_answer.specs.Faults.{has_fault, is_of_output, is_of_archives, is_stale, IfStale};
 ghost use Rattle.mail_answer.specs.Inside.Calls.{KeepsArchives};
-ghost use Rattle.mail_answer.specs.Inside.Readings.{ReadsBehind, ReadsTail};
+ghost use Rattle.mail_answer.specs.Inside.Readings.{AppendsRead, ReadsTail};
 
 use crate::archives::Archives;
 use crate::fault::AnswerFaultKind;
@@ -98,7 +98,7 @@ impl HeldBytes {
         requires count { A.failures archives.old < 2 ^ 64 - 1 }
         ensures keeps { KeepsArchives A.Archives archives.old archives.new }
         ensures bound { IfOk result (λ n. n ≤ most) }
-        ensures bytes { IfOk result (λ n. ReadsBehind archive offset n (A.held archives.new)
+        ensures bytes { IfOk result (λ n. AppendsRead archive offset n (A.held archives.new)
             self.old self.new) }
         ensures refused { OnErr result (self.new ≡ self.old) }
         ensures count { Counted (has_fault is_of_archives result) (A.failures archives.old)

@@ -3,7 +3,7 @@ ghost use Rattle.std.specs.Prelude.{◌≡◌, ◌<◌, ◌≤◌, ◌+◌, ◌-
 ghost use Rattle.mbox_cutter.specs.Lines.{first_length};
 ghost use Rattle.mail_answer.specs.Faults.{has_fault, is_of_output, IfStale};
 ghost use Rattle.mail_answer.specs.Inside.Calls.{ReadsArchives};
-ghost use Rattle.mail_answer.specs.Inside.Readings.{coming, coming_count, IsInside};
+ghost use Rattle.mail_answer.specs.Inside.Readings.{bytes_not_passed, coming_count, IsInsideArchive};
 
 use crate::archives::Archives;
 use crate::fault::AnswerFaultKind;
@@ -72,15 +72,15 @@ impl LineReader {
     /// Reads one more piece.
     #[tactic(auto, using(crate::proofs::OutputLaws::ReadingLemmas::coming_read))]
     fn fill<A: Archives>(&mut self, archives: &mut A) -> Result<(), AnswerFaultKind>
-        requires inside { IsInside (A.number archives.old) (A.held archives.old) self.old }
+        requires inside { IsInsideArchive (A.number archives.old) (A.held archives.old) self.old }
         requires more { 0 < self.old.left }
         requires count { A.failures archives.old < 2 ^ 64 - 1 }
         ensures archives { ReadsArchives A.Archives archives.old archives.new result }
-        ensures inside { OnOk result (IsInside (A.number archives.new) (A.held archives.new)
+        ensures inside { OnOk result (IsInsideArchive (A.number archives.new) (A.held archives.new)
             self.new) }
         ensures archive { OnOk result (self.new.archive ≡ self.old.archive) }
-        ensures coming { OnOk result (coming (A.held archives.new) self.new
-            ≡ coming (A.held archives.new) self.old) }
+        ensures coming { OnOk result (bytes_not_passed (A.held archives.new) self.new
+            ≡ bytes_not_passed (A.held archives.new) self.old) }
         ensures as_many { OnOk result (coming_count self.new ≡ coming_count self.old) }
         ensures less { OnOk result (self.new.left < self.old.left) }
         ensures own { has_fault is_of_output result ≡ false }
@@ -100,17 +100,17 @@ impl LineReader {
         &mut self,
         archives: &mut A,
     ) -> Result<usize, AnswerFaultKind>
-        requires inside { IsInside (A.number archives.old) (A.held archives.old) self.old }
+        requires inside { IsInsideArchive (A.number archives.old) (A.held archives.old) self.old }
         requires count { A.failures archives.old < 2 ^ 64 - 1 }
         ensures archives { ReadsArchives A.Archives archives.old archives.new result }
-        ensures inside { OnOk result (IsInside (A.number archives.new) (A.held archives.new)
+        ensures inside { OnOk result (IsInsideArchive (A.number archives.new) (A.held archives.new)
             self.new) }
         ensures archive { OnOk result (self.new.archive ≡ self.old.archive) }
-        ensures coming { OnOk result (coming (A.held archives.new) self.new
-            ≡ coming (A.held archives.new) self.old) }
+        ensures coming { OnOk result (bytes_not_passed (A.held archives.new) self.new
+            ≡ bytes_not_passed (A.held archives.new) self.old) }
         ensures as_many { OnOk result (coming_count self.new ≡ coming_count self.old) }
         ensures within { IfOk result (λ n. n ≤ length self.new.unread) }
-        ensures line { IfOk result (λ n. IfSome (coming (A.held archives.new) self.old)
+        ensures line { IfOk result (λ n. IfSome (bytes_not_passed (A.held archives.new) self.old)
             (λ bytes. n ≡ first_length bytes)) }
         ensures some { IfOk result (λ n. n ≡ 0 → coming_count self.old ≡ 0) }
         ensures own { has_fault is_of_output result ≡ false }

@@ -4,10 +4,10 @@ ghost use Rattle.mail_index.specs.Tables.{IsWellFormed};
 ghost use Rattle.mail_answer.specs.Faults.{IfStale};
 ghost use Rattle.mail_answer.specs.Inside.Calls.{AreAsIndexed, ReadsArchives, WritesOut};
 ghost use Rattle.mail_answer.specs.Inside.Copies.{Copies};
-ghost use Rattle.mail_answer.specs.Inside.Readings.{coming, coming_count, span_reading, IsInside};
+ghost use Rattle.mail_answer.specs.Inside.Readings.{bytes_not_passed, coming_count, span_reading, IsInsideArchive};
 ghost use Rattle.mail_answer.specs.Inside.Spans.{WritesSpan};
 ghost use Rattle.mail_answer.specs.Shapes.{known_message};
-ghost use Rattle.mail_answer.specs.Sheets.{Writes};
+ghost use Rattle.mail_answer.specs.Sheets.{WritesText};
 ghost use Rattle.mail_answer.specs.TableFacts.{record_at};
 ghost use Rattle.mail_answer.specs.declared.format.Format.TheVariants.{Mbox};
 
@@ -60,16 +60,17 @@ impl Part {
         sheet: &mut Sheet,
         out: &mut O,
     ) -> Result<Ending, AnswerFaultKind>
-        requires inside { IsInside (A.number archives.old) (A.held archives.old) self.old }
+        requires inside { IsInsideArchive (A.number archives.old) (A.held archives.old) self.old }
         requires some { 0 < coming_count self.old }
         requires archives { A.failures archives.old < 2 ^ 64 - 1 }
         requires out { O.failures out.old < 2 ^ 64 - 1 }
         ensures archives { ReadsArchives A.Archives archives.old archives.new result }
-        ensures inside { OnOk result (IsInside (A.number archives.new) (A.held archives.new)
+        ensures inside { OnOk result (IsInsideArchive (A.number archives.new) (A.held archives.new)
             self.new) }
         ensures archive { OnOk result (self.new.archive ≡ self.old.archive) }
         ensures copies { Copies (O.taken out.old) (O.taken out.new) sheet.old sheet.new
-            (coming (A.held archives.new) self.old) (coming (A.held archives.new) self.new)
+            (bytes_not_passed (A.held archives.new) self.old) (bytes_not_passed
+            (A.held archives.new) self.new)
             (coming_count self.old) (coming_count self.new) before result }
         ensures less { OnOk result (coming_count self.new < coming_count self.old) }
         ensures out { WritesOut O.Out sheet.new.sent out.old out.new result }
@@ -102,7 +103,7 @@ pub(crate) fn push_mbox<A: Archives, O: Out>(
     requires archives { A.failures archives.old < 2 ^ 64 - 1 }
     requires out { O.failures out.old < 2 ^ 64 - 1 }
     ensures archives { ReadsArchives A.Archives archives.old archives.new result }
-    ensures writes { Writes (O.taken out.old) (O.taken out.new) sheet.old sheet.new
+    ensures writes { WritesText (O.taken out.old) (O.taken out.new) sheet.old sheet.new
         (known_message Mbox index.now (A.held archives.new) n) result }
     ensures span { WritesSpan (O.taken out.old) (O.taken out.new) sheet.old sheet.new
         (record_at index.now.messages n).length result }

@@ -4,7 +4,7 @@ ghost use Rattle.mail_index.specs.Tables.{IsWellFormed};
 ghost use Rattle.mail_answer.specs.Faults.{has_fault, is_of_archives, is_stale};
 ghost use Rattle.mail_answer.specs.Inside.Calls.{WritesOut};
 ghost use Rattle.mail_answer.specs.Shapes.{message_text};
-ghost use Rattle.mail_answer.specs.Sheets.{Writes};
+ghost use Rattle.mail_answer.specs.Sheets.{WritesText};
 ghost use Rattle.mail_answer.specs.TableFacts.{record_at};
 ghost use Rattle.mail_answer.specs.declared.format.Format.TheVariants.{Raw};
 
@@ -27,7 +27,7 @@ pub(crate) fn push_raw<O: Out>(
     requires below { n < length places.old.table.messages }
     requires out { O.failures out.old < 2 ^ 64 - 1 }
     ensures same { places.new.table ≡ places.old.table }
-    ensures writes { Writes (O.taken out.old) (O.taken out.new) sheet.old sheet.new
+    ensures writes { WritesText (O.taken out.old) (O.taken out.new) sheet.old sheet.new
         (Some (message_text Raw places.old.table.archives []
         (record_at places.old.table.messages n))) result }
     ensures out { WritesOut O.Out sheet.new.sent out.old out.new result }

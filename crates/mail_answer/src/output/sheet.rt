@@ -21,13 +21,13 @@ pub(crate) struct Sheet {
 }
 
 impl Sheet {
-    ghost use Rattle.mail_answer.specs.Sheets.{Writes};
+    ghost use Rattle.mail_answer.specs.Sheets.{WritesText};
 
     /// Adds bytes to the answer, and sends what is gathered if it is enough. Fails if memory runs out or if the output
     /// fails.
     pub(crate) fn push<O: Out>(&mut self, out: &mut O, bytes: &[u8]) -> Result<(), AnswerFaultKind>
         requires { O.failures out.old < 2 ^ 64 - 1 }
-        ensures writes { Writes (O.taken out.old) (O.taken out.new) self.old self.new
+        ensures writes { WritesText (O.taken out.old) (O.taken out.new) self.old self.new
             (Some bytes.now) result }
         ensures few { OnOk result (length self.new.text < FULL) }
         ensures out { WritesOut O.Out self.new.sent out.old out.new result }
@@ -41,7 +41,7 @@ impl Sheet {
     /// Sends all that is gathered if it is enough. Fails if the output does.
     pub(crate) fn send_full<O: Out>(&mut self, out: &mut O) -> Result<(), AnswerFaultKind>
         requires { O.failures out.old < 2 ^ 64 - 1 }
-        ensures writes { Writes (O.taken out.old) (O.taken out.new) self.old self.new (Some [])
+        ensures writes { WritesText (O.taken out.old) (O.taken out.new) self.old self.new (Some [])
             result }
         ensures few { OnOk result (length self.new.text < FULL) }
         ensures out { WritesOut O.Out self.new.sent out.old out.new result }
@@ -56,7 +56,7 @@ impl Sheet {
     /// Sends all that is gathered, in as many calls as it takes. Fails if the output does.
     pub(crate) fn send<O: Out>(&mut self, out: &mut O) -> Result<(), AnswerFaultKind>
         requires { O.failures out.old < 2 ^ 64 - 1 }
-        ensures writes { Writes (O.taken out.old) (O.taken out.new) self.old self.new (Some [])
+        ensures writes { WritesText (O.taken out.old) (O.taken out.new) self.old self.new (Some [])
             result }
         ensures all { OnOk result (self.new.text ≡ []) }
         ensures out { WritesOut O.Out self.new.sent out.old out.new result }

@@ -1,7 +1,7 @@
 -- The paths that a run reads are valid paths, as many as the rcfile has, because the rcfile's reader checks them.
 use Rattle.mairix_tool.proofs.Words.{◌≡◌, ◌++◌, ℕ, List, [], ◌∷◌, length, map, append-nil, All, IfOk, Result, Ok, refl}
 use Rattle.mairix_tool.proofs.Words.{sym, ap, subst, arith, join_by, join_with_byte, IsPath, Query, Fault, Wanted}
-use Rattle.mairix_tool.proofs.Words.{asked, asked_by, asked_rc, query_asked, wanted_by}
+use Rattle.mairix_tool.proofs.Words.{wanted_of_words, wanted_of_plan, asked_rc, query_asked, wanted_by}
 use Rattle.contract_words.specs.Answers.{◌>>=◌, fault_as}
 use Rattle.mail_query.specs.declared.fault.QueryFault.{QueryFault}
 use Rattle.run_faults.specs.declared.fault.Fault.TheVariants as of
@@ -22,7 +22,7 @@ paths-by : (planned : Result Plan UsageFault) (read : Result Rc RcFault) (querie
     (w : Wanted) → asked-by planned read queried ≡ Ok w → (r : Rc) × (read ≡ Ok r) × (w.paths ≡ r.paths)
 paths-by planned read queried w h = grind arith
 
-pub asked-paths : (words : List (List ℕ)) (rc : List ℕ) (now : ℕ) (w : Wanted) → asked words rc now ≡ Ok w
+pub asked-paths : (words : List (List ℕ)) (rc : List ℕ) (now : ℕ) (w : Wanted) → wanted_of_words words rc now ≡ Ok w
     → All IsPath w.paths
 asked-paths words rc now w is =
     let found = paths-by (plan words) (rc_of rc) (λ p. query_asked p.boolean p.patterns now) w is in
@@ -37,7 +37,7 @@ many-by planned read queried n more h = grind arith
 
 pub asked-many : (words : List (List ℕ)) (rc : List ℕ) (now n : ℕ) (more : Rc → Type 0)
     → IfOk (asked_rc words rc) (λ r. (length r.paths ≡ n) × more r)
-    → IfOk (asked words rc now) (λ w. length w.paths ≡ n)
+    → IfOk (wanted_of_words words rc now) (λ w. length w.paths ≡ n)
 asked-many words rc now n more given = many-by (plan words) (rc_of rc) (λ p. query_asked p.boolean p.patterns now) n
     more given
 
@@ -48,7 +48,7 @@ answered-by : (read : Result Rc RcFault) (queried : Result Query QueryFault) (p 
 answered-by read queried p r q of_rc of_query = grind arith
 
 pub asked-in-full : (p : Plan) (rc : List ℕ) (now : ℕ) (r : Rc) (q : Query) → rc_of rc ≡ Ok r
-    → query_asked p.boolean p.patterns now ≡ Ok q → asked_by p rc now ≡ Ok (wanted_by p r q)
+    → query_asked p.boolean p.patterns now ≡ Ok q → wanted_of_plan p rc now ≡ Ok (wanted_by p r q)
 asked-in-full p rc now r q of_rc of_query =
     answered-by (rc_of rc) (query_asked p.boolean p.patterns now) p r q of_rc of_query
 

@@ -2,20 +2,21 @@
 use Rattle.mairix_tool.proofs.Words.{◌≡◌, ◌∙◌, ℕ, List, [], length, Option, None, Some, Result, Ok, Err, refl, sym, ap}
 use Rattle.mairix_tool.proofs.Words.{subst, append-nil, arith, Appends, Keeps, Sends, Table, Format, Raw, Excerpt}
 use Rattle.mairix_tool.proofs.Words.{AnswersStale, Search, answer_text, known_answer, stale_archive, TableAnswer}
-use Rattle.mairix_tool.proofs.Words.{IsTableAnswer, Answers, answer_of_numbers, some-chosen, Fault, Answer}
-use Rattle.mairix_tool.proofs.Words.{status_of_count, answered, IsStaleOr, IsFoundIn, IsTold, RepliesBy, reply_of}
+use Rattle.mairix_tool.proofs.Words.{IsTableAnswer, SendsTableAnswer, answer_of_numbers, some-chosen, Fault, Answer}
+use Rattle.mairix_tool.proofs.Words.{status_of_count, answer_of_text, IsStaleOr, IsAnswerFrom, IsTold, RepliesBy}
+use Rattle.mairix_tool.proofs.Words.{reply_of}
 use Rattle.mairix_tool.proofs.Words.{fault_of_answer_kind, IsCountedWhere}
 use Rattle.std.specs.Result.{IsErrAnd, MatchResult}
 use Rattle.mail_answer.specs.declared.format.Format.TheVariants.{Mbox}
 use Rattle.mail_answer.specs.declared.fault.AnswerFault.{AnswerFault}
 use Rattle.mail_answer.specs.declared.fault.AnswerFaultKind.{AnswerFaultKind}
 use Rattle.mail_answer.specs.declared.fault.AnswerFaultKind.TheVariants as kind
-use Rattle.mail_answer.specs.Sheets.{Tells}
+use Rattle.mail_answer.specs.Sheets.{IsIfKnown}
 use Rattle.mairix_tool.specs.Searching.{run_of_answer}
 
 -- the known text is that of the answer
 known-text : (format : Format) (t : Table) (h : List (List ℕ)) (ns : List ℕ) (text : List ℕ)
-    → Tells (known_answer format t (Some h) ns) text → answer_text format t h ns ≡ text
+    → IsIfKnown (known_answer format t (Some h) ns) text → answer_text format t h ns ≡ text
 known-text Raw t h ns text tells = tells
 known-text Excerpt t h ns text tells = tells
 known-text Mbox t h ns text tells = tells
@@ -34,7 +35,7 @@ told-so (Err fault) (Ok messages) h = absurd h
 told-so (Err fault) (Err e) h = ap Err h
 
 module _ (t : Table) (s : Search) (h : List (List ℕ)) (old new : Option (List ℕ)) where
-  ok-told : (count : ℕ) → ((a : TableAnswer) → IsTableAnswer t s (Some h) a → Answers old new a (Ok count))
+  ok-told : (count : ℕ) → ((a : TableAnswer) → IsTableAnswer t s (Some h) a → SendsTableAnswer old new a (Ok count))
       → stale_archive t.archives h ≡ None
       → RepliesBy (IsTold t s h) (reply_of (Ok count)) old new
   ok-told count given fresh =
@@ -42,8 +43,8 @@ module _ (t : Table) (s : Search) (h : List (List ℕ)) (old new : Option (List 
       let went = given (answer_of_numbers t s (Some h) some.0) (some.0, some.1, refl) in
       let text : List ℕ = answer_text s.format t h some.0 in
       let same : text ≡ went.0 = known-text s.format t h some.0 went.0 went.1 in (
-        answered text (length some.0),
-        subst (λ (o : Option ℕ). IsStaleOr o (IsFoundIn t s h) (answered text (length some.0))) (sym fresh)
+        answer_of_text text (length some.0),
+        subst (λ (o : Option ℕ). IsStaleOr o (IsAnswerFrom t s h) (answer_of_text text (length some.0))) (sym fresh)
             (some.0, some.1, refl),
         ap (λ (k : ℕ). record { status = status_of_count k; messages = k; fault = None }) went.2.0,
         subst (Appends old new) (sym same) went.2.1,
@@ -51,7 +52,8 @@ module _ (t : Table) (s : Search) (h : List (List ℕ)) (old new : Option (List 
 
   -- with a fault, a front of what the table answers was sent
   front-sent : (fault : AnswerFault) → ((a : TableAnswer) → IsTableAnswer t s (Some h) a
-      → Answers old new a (Err fault)) → (answer : Answer) → IsFoundIn t s h answer → Sends old new answer.text
+      → SendsTableAnswer old new a (Err fault)) → (answer : Answer) → IsAnswerFrom t s h answer
+      → Sends old new answer.text
   front-sent fault given answer (numbers, chosen, is) =
       let went = given (answer_of_numbers t s (Some h) numbers) (numbers, chosen, refl) in
       let text : answer.text ≡ went.0 = ap (λ (a : Answer). a.text) is ∙ known-text s.format t h numbers went.0 went.1
@@ -74,17 +76,17 @@ err-by F (Some m) kind.OutFailed sent old new stale sends = let kinds : kind.Out
     ap (λ (f : AnswerFault). f.kind) stale.0 in absurd cc
 
 pub told-by : (t : Table) (s : Search) (h : List (List ℕ)) (old new : Option (List ℕ)) (r : Result ℕ AnswerFault)
-    → ((a : TableAnswer) → IsTableAnswer t s (Some h) a → Answers old new a r)
+    → ((a : TableAnswer) → IsTableAnswer t s (Some h) a → SendsTableAnswer old new a r)
     → AnswersStale old new (stale_archive t.archives h) r
     → RepliesBy (IsTold t s h) (reply_of (run_of_answer r)) old new
 told-by t s h old new (Ok count) given fresh = ok-told t s h old new count given fresh
 told-by t s h old new (Err fault) given stale =
-    err-by (IsFoundIn t s h) (stale_archive t.archives h) fault.kind fault.sent old new stale
+    err-by (IsAnswerFrom t s h) (stale_archive t.archives h) fault.kind fault.sent old new stale
     (front-sent t s h old new fault given)
 
 -- whatever the archives hold, the messages are counted
 pub counted-by : (t : Table) (s : Search) (held : Option (List (List ℕ))) (old new : Option (List ℕ))
-    (r : Result ℕ AnswerFault) → ((a : TableAnswer) → IsTableAnswer t s held a → Answers old new a r)
+    (r : Result ℕ AnswerFault) → ((a : TableAnswer) → IsTableAnswer t s held a → SendsTableAnswer old new a r)
     → IsCountedWhere t s held (reply_of (run_of_answer r)).fault (reply_of (run_of_answer r)) old new
 counted-by t s held old new (Err fault) given = tt
 counted-by t s held old new (Ok count) given =

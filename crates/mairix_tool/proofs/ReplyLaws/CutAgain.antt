@@ -3,7 +3,8 @@ use Rattle.contract_words.specs.Archives.{archive_at}
 use Rattle.mairix_tool.proofs.Words.{◌≡◌, ◌∙◌, ℕ, zero, suc, ◌<◌, false, List, [], ◌∷◌, ◌++◌, Option, Some, None}
 use Rattle.mairix_tool.proofs.Words.{length, map, take, drop, unwrap_or, refl, sym, ap, subst, arith, append_assoc}
 use Rattle.mairix_tool.proofs.Words.{slice_index_or, option_map, map-append, length-map, length_push, get_or_at}
-use Rattle.mairix_tool.proofs.Words.{All-map, flat_map-map, Record, Message, spans_of, messages, span_length, closed}
+use Rattle.mairix_tool.proofs.Words.{All-map, flat_map-map, Record, Message, spans_of, messages, span_length}
+use Rattle.mairix_tool.proofs.Words.{closed_text}
 use Rattle.mairix_tool.proofs.Words.{span}
 use Rattle.mairix_tool.proofs.Words.{answer_text, record_at, no_record, Mbox, messages_in, record_of, records_from}
 use Rattle.mairix_tool.proofs.Words.{table}
@@ -12,7 +13,7 @@ use Rattle.mail_answer.specs.declared.format.Format.TheVariants as format
 use Rattle.mail_answer.specs.CutAgain.{IsCutOut, IsCutInto, ends_in_return}
 use Rattle.mail_answer.proofs.OutputLaws.CutAgain.{cut-again}
 use Rattle.mail_answer.proofs.OutputLaws.MessageLines.{Each, span_of}
-use Rattle.mairix_tool.specs.CutAgain.{bytes_held, spans_at}
+use Rattle.mairix_tool.specs.CutAgain.{bytes_of_archives, spans_at}
 
 each-joined : {A : Type 0} (P : A → Type 0) (xs ys : List A) → Each P xs → Each P ys → Each P (xs ++ ys)
 each-joined P [] ys h k = k
@@ -26,10 +27,11 @@ each-at P (x ∷ xs) (suc i) d below h = each-at P xs i d (omega arith) h.1
 
 -- the span of a record of archives is cut out of one of them
 abbrev IsOf : List Mbox → Record → Type 0
-IsOf archives r = IsCutOut (span (bytes_held archives) r)
+IsOf archives r = IsCutOut (span (bytes_of_archives archives) r)
 
 -- the spans of an archive's messages, after those before them
-each-cut : (all : List Mbox) (n : ℕ) (bytes : List ℕ) (before ms : List Message) → archive_at (bytes_held all) n ≡ bytes
+each-cut : (all : List Mbox) (n : ℕ) (bytes : List ℕ) (before ms : List Message) → archive_at (bytes_of_archives all) n
+    ≡ bytes
     → messages bytes ≡ Some (before ++ ms) → Each (IsOf all) (map (record_of n) ms)
 each-cut all n bytes before [] is cuts = tt
 each-cut all n bytes before (m ∷ ms) is cuts =
@@ -48,7 +50,7 @@ each-cut all n bytes before (m ∷ ms) is cuts =
       each-cut all n bytes (before ++ m ∷ []) ms is (cuts ∙ ap Some (sym (append_assoc before (m ∷ []) ms))),
     )
 
-each-in : (all : List Mbox) (n : ℕ) (bytes : List ℕ) → archive_at (bytes_held all) n ≡ bytes
+each-in : (all : List Mbox) (n : ℕ) (bytes : List ℕ) → archive_at (bytes_of_archives all) n ≡ bytes
     → Each (IsOf all) (map (record_of n) (messages_in bytes))
 each-in all n bytes is = go (messages bytes) refl
   where
@@ -60,9 +62,9 @@ each-record : (n : ℕ) (before archives : List Mbox) → length before ≡ n
     → Each (IsOf (before ++ archives)) (records_from n archives)
 each-record n before [] long = tt
 each-record n before (a ∷ archives) long =
-    let is : archive_at (bytes_held (before ++ a ∷ archives)) n ≡ a.bytes =
+    let is : archive_at (bytes_of_archives (before ++ a ∷ archives)) n ≡ a.bytes =
     ap (λ (bs : List (List ℕ)). archive_at bs n) (map-append (λ (b : Mbox). b.bytes) before (a ∷ archives))
-    ∙ get_or_at (bytes_held before) a.bytes (bytes_held archives) [] n
+    ∙ get_or_at (bytes_of_archives before) a.bytes (bytes_of_archives archives) [] n
     (length-map before (λ (b : Mbox). b.bytes) ∙ long) in
     let rest : Each (IsOf ((before ++ a ∷ []) ++ archives)) (records_from (suc n) archives) =
     each-record (suc n) (before ++ a ∷ []) archives (omega (arith, length_push before a)) in
@@ -75,14 +77,14 @@ each-record n before (a ∷ archives) long =
 pub answer-cut-again : (archives : List Mbox) (numbers : List ℕ)
     → All (λ n. n < length (table archives).messages) numbers
     → All (λ text. ends_in_return text ≡ false) (spans_at archives numbers)
-    → IsCutInto (answer_text format.Mbox (table archives) (bytes_held archives) numbers)
-    (map closed (spans_at archives numbers))
+    → IsCutInto (answer_text format.Mbox (table archives) (bytes_of_archives archives) numbers)
+    (map closed_text (spans_at archives numbers))
 answer-cut-again archives numbers within other =
     let records : List Record = (table archives).messages in
-    let span_at : ℕ → List ℕ = λ n. span (bytes_held archives) (record_at records n) in
+    let span_at : ℕ → List ℕ = λ n. span (bytes_of_archives archives) (record_at records n) in
     let each : Each (IsOf archives) records = each-record 0 [] archives refl in
     let out : All IsCutOut (map span_at numbers) =
     All-map IsCutOut span_at numbers (λ k d h. each-at (IsOf archives) records (slice_index_or numbers k d) no_record
     (within k d h) each) in
-    subst (λ (text : List ℕ). IsCutInto text (map closed (spans_at archives numbers)))
-    (flat_map-map closed span_at numbers) (cut-again (spans_at archives numbers) out other)
+    subst (λ (text : List ℕ). IsCutInto text (map closed_text (spans_at archives numbers)))
+    (flat_map-map closed_text span_at numbers) (cut-again (spans_at archives numbers) out other)

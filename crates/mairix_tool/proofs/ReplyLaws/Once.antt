@@ -5,8 +5,9 @@ use Rattle.mairix_tool.proofs.Words.{Ok, Err, IfOk, IfSome, refl, ap, subst, ari
 use Rattle.mairix_tool.proofs.Words.{Search, answer_text, stale_archive, some-chosen, Fault, Reply, Mbox, table}
 use Rattle.mairix_tool.proofs.Words.{AreSound, mboxes, RefusesArchives, IsArchivesFault, Wanted, is_failure}
 use Rattle.mairix_tool.proofs.Words.{refusal_of_fault, Answer}
-use Rattle.mairix_tool.proofs.Words.{refused, IsAnswer, IsTold, IsStaleOr, IsFoundIn, IsReply, IsOnceReply}
-use Rattle.mairix_tool.proofs.Words.{IsThisOrMemory, IsUnindexed, RepliesBy, reply_of, answered, sound-not-refused}
+use Rattle.mairix_tool.proofs.Words.{answer_of_fault, IsAnswer, IsTold, IsStaleOr, IsAnswerFrom, IsReply, IsOnceReply}
+use Rattle.mairix_tool.proofs.Words.{IsThisOrMemory, IsUnindexed, RepliesBy, reply_of, answer_of_text}
+use Rattle.mairix_tool.proofs.Words.{sound-not-refused}
 use Rattle.run_faults.specs.Faults.{IsEarly}
 use Rattle.run_faults.specs.declared.fault.Fault.TheVariants.{Stale}
 use Rattle.mairix_tool.proofs.TableLaws.MailSame.{chosen-same, chosen-back, shape-same, not-stale}
@@ -51,19 +52,19 @@ reply-once (Ok w) bytes answer many (inr bad) = inr bad
 -- ---- every run has a reply
 
 pub some-told : (t : Table) (s : Search) (held : List (List ℕ)) (o : Option ℕ) → (answer : Answer)
-    × IsStaleOr o (IsFoundIn t s held) answer
-some-told t s held (Some n) = (refused (Stale n), refl)
+    × IsStaleOr o (IsAnswerFrom t s held) answer
+some-told t s held (Some n) = (answer_of_fault (Stale n), refl)
 some-told t s held None = let some = some-chosen t s.threads s.query
-    in (answered (answer_text s.format t held some.0) (length some.0), (some.0, some.1, refl))
+    in (answer_of_text (answer_text s.format t held some.0) (length some.0), (some.0, some.1, refl))
 
 pub some-once-reply : (asked : Result Wanted Fault) (bytes held : List (List ℕ)) → (answer : Answer)
     × IsOnceReply asked bytes held answer
-some-once-reply (Err fault) bytes held = (refused fault, refl)
+some-once-reply (Err fault) bytes held = (answer_of_fault fault, refl)
 some-once-reply (Ok w) bytes held =
     elim (decided (mboxes w.paths bytes) [] (mboxes w.paths bytes) refl none-sound) [
       | inl sound ↦ let some = some-told (table (mboxes w.paths bytes)) w.search held
           (stale_archive (table (mboxes w.paths bytes)).archives held) in (some.0, inl (sound, some.1))
-      | inr bad ↦ (refused bad.0, inr (bad.0, bad.1, refl))
+      | inr bad ↦ (answer_of_fault bad.0, inr (bad.0, bad.1, refl))
     ]
 
 -- ---- what a run returned
@@ -82,7 +83,7 @@ nothing-sent o text = ([], text, refl, nothing-more o)
 
 -- a fault that the definition gives as an answer, or one of a device or of memory; nothing was sent
 pub unanswered : (Is : Answer → Type 0) (f : Fault) (old : Option (List ℕ))
-    → (is_failure (Some f) ≡ false → Is (refused f)) → RepliesBy Is (reply_of (Err f)) old old
+    → (is_failure (Some f) ≡ false → Is (answer_of_fault f)) → RepliesBy Is (reply_of (Err f)) old old
 unanswered Is f old is = grind (arith, nothing-sent, nothing-more)
 
 -- ---- nothing was indexed
@@ -97,7 +98,7 @@ this-archive : (archives : List Mbox) (f : Fault) → IsArchivesFault archives f
 this-archive archives f h h2 = grind arith
 
 unindexed-reply : (asked : Result Wanted Fault) (bytes held : List (List ℕ)) (f : Fault) → IsUnindexed asked bytes f
-    → is_failure (Some f) ≡ false → IsOnceReply asked bytes held (refused f)
+    → is_failure (Some f) ≡ false → IsOnceReply asked bytes held (answer_of_fault f)
 unindexed-reply asked bytes held f h h2 = grind (arith, this-fault, this-archive)
 
 pub refused-once : (asked : Result Wanted Fault) (bytes held : List (List ℕ)) (f : Fault) (old : Option (List ℕ))
@@ -109,7 +110,7 @@ refused-once asked bytes held f old is =
 -- the refusal of words, rcfile or query, or lack of memory before it was found
 early-reply : (asked : Result Wanted Fault) (bytes held : List (List ℕ)) (f : Fault)
     → IfSome (refusal_of_fault f) (λ r. asked ≡ Err r) → IsEarly f
-    → is_failure (Some f) ≡ false → IsOnceReply asked bytes held (refused f)
+    → is_failure (Some f) ≡ false → IsOnceReply asked bytes held (answer_of_fault f)
 early-reply asked bytes held f h early h2 = grind arith
 
 pub early-once : (asked : Result Wanted Fault) (bytes held : List (List ℕ)) (f : Fault) (old : Option (List ℕ))

@@ -5,8 +5,9 @@ use Rattle.mairix_tool.proofs.Words.{◌∷◌, map, length, Some, None, Option,
 use Rattle.mairix_tool.proofs.Words.{ap₂, subst, arith, inl, inr, append-nil, length-append, length-map, IndexFault}
 use Rattle.mairix_tool.proofs.Words.{AreBytes, Table, Search, answer_text, AreSound, Mbox, table, all_messages}
 use Rattle.mairix_tool.proofs.Words.{messages_in, with_messages, RefusesArchives, mboxes, Fault, Wanted, Answer}
-use Rattle.mairix_tool.proofs.Words.{refused}
-use Rattle.mairix_tool.proofs.Words.{answered, IsAnswer, IsFoundIn, IsTold, IsToldOf, IsProvedAndTold, IsStaleOr}
+use Rattle.mairix_tool.proofs.Words.{answer_of_fault}
+use Rattle.mairix_tool.proofs.Words.{answer_of_text, IsAnswer, IsAnswerFrom, IsTold, IsToldOf, IsProvedAndTold}
+use Rattle.mairix_tool.proofs.Words.{IsStaleOr}
 use Rattle.mairix_tool.proofs.Words.{IsOldOr, IsReply, IsOnceReply, IsStoredReply, stale_archive, renamed_archive}
 use Rattle.mairix_tool.proofs.Words.{unproved_archive, is_too_old, sound-not-refused}
 use Rattle.std.proofs.lemmas.Grind.{flat_map-append}
@@ -37,15 +38,15 @@ one-stale (Some n) IsFound a b same is other = is ∙ sym other
 one-stale None IsFound a b same is other = same is other
 
 module _ (t : Table) (s : Search) (held : List (List ℕ)) (a b : Answer) where
-  one-found : IsFoundIn t s held a → IsFoundIn t s held b → a ≡ b
+  one-found : IsAnswerFrom t s held a → IsAnswerFrom t s held b → a ≡ b
   one-found (xs, first, is) (ys, second, other) =
       is
-      ∙ ap (λ (ns : List ℕ). answered (answer_text s.format t held ns) (length ns))
+      ∙ ap (λ (ns : List ℕ). answer_of_text (answer_text s.format t held ns) (length ns))
       (one-choice t s.threads s.query xs ys first second)
       ∙ sym other
 
   one-told : IsTold t s held a → IsTold t s held b → a ≡ b
-  one-told = one-stale (stale_archive t.archives held) (IsFoundIn t s held) a b one-found
+  one-told = one-stale (stale_archive t.archives held) (IsAnswerFrom t s held) a b one-found
 
 one-answer : (archives : List Mbox) (s : Search) (a b : Answer) → IsAnswer archives s a → IsAnswer archives s b → a ≡ b
 one-answer archives s a b is other =
@@ -192,7 +193,7 @@ module _ (archives : List Mbox) (a b : Answer) where
   one-refusal (f, h, is) (g, k, other) = go (alike archives f g h k)
     where
       go : AreAlike archives f g → (a ≡ b) ⊎ AreOfOneArchive archives a b
-      go (inl same) = inl (is ∙ ap refused same ∙ sym other)
+      go (inl same) = inl (is ∙ ap answer_of_fault same ∙ sym other)
       go (inr (n, t, x, y)) = grind arith
 
   -- the archives are sound and there is an answer, or they are refused
@@ -255,7 +256,7 @@ module _ (index : List ℕ) (are : AreBytes index) (few : length index < 2 ^ 64)
         → a ≡ b
     one-stored (Err fault) h k = h ∙ sym k
     one-stored (Ok w) (inl (f, h, is)) (inl (g, k, other)) =
-        is ∙ ap (λ (e : IndexFault). refused (of.Index e)) (one-first-fault index are f g h k) ∙ sym other
+        is ∙ ap (λ (e : IndexFault). answer_of_fault (of.Index e)) (one-first-fault index are f g h k) ∙ sym other
     one-stored (Ok w) (inl (f, h, is)) (inr (t, file, told)) = absurd (no_fault index t few file f h)
     one-stored (Ok w) (inr (t, file, told)) (inl (f, h, is)) = absurd (no_fault index t few file f h)
     one-stored (Ok w) (inr (t, file, told)) (inr (u, other, so)) =

@@ -9,7 +9,7 @@ use Rattle.mail_index.proofs.FileLaws.Accepts.{no_fault}
 use Rattle.mail_index.proofs.FileLaws.SameTable.{same-table}
 use Rattle.run_faults.specs.Faults.{IsEarly}
 use Rattle.run_faults.specs.declared.fault.Fault.TheVariants as of
-use Rattle.mairix_tool.specs.Searching.{AsksNothing, IsIndexed, Searches, SearchesFor, SearchesStored}
+use Rattle.mairix_tool.specs.Searching.{AsksNothing, IsIndexedTable, Searches, SearchesFor, SearchesStored}
 use Rattle.mairix_tool.specs.Searching.{VerifiesAndSearches, VerifiesWhere}
 use Rattle.std.specs.Bool.{MatchBool}
 
@@ -75,7 +75,7 @@ same-asked asked v w h h2 = grind arith
 pub indexed-table : (paths : List (List ℕ)) (unread read : List (Option (List ℕ))) (file : List ℕ) (view : Table)
     → ((t : Table) → IsFileOfTable file t → view ≡ t) → ((t : Table) × IsFileOfTable file t)
     → ((bytes : List (List ℕ)) → AreStillKnown unread read bytes → IsFileOfTable file (table (mboxes paths bytes)))
-    → IsIndexed paths unread read view
+    → IsIndexedTable paths unread read view
 indexed-table paths unread read file view same (t, formed) known = record {
   formed = subst (λ (u : Table). IsWellFormed u) (sym (same t formed)) formed.0;
   known = λ bytes are. same (table (mboxes paths bytes)) (known bytes are);

@@ -9,7 +9,8 @@ use Rattle.mairix_tool.proofs.Words.{AreSound}
 use Rattle.mairix_tool.proofs.Words.{Mbox, table, entry_of_archive, Fault, Reply, mboxes, Wanted, refusal_of_fault}
 use Rattle.mairix_tool.proofs.Words.{is_failure}
 use Rattle.mairix_tool.proofs.Words.{IsOfAnswer, AreToldApart, altered_archive, ServesFor, but_digests, old_table}
-use Rattle.mairix_tool.proofs.Words.{Answer, refused, IsTold, IsToldOf, IsProvedAndTold, unproved_archive, TellsProved}
+use Rattle.mairix_tool.proofs.Words.{Answer, answer_of_fault, IsTold, IsToldOf, IsProvedAndTold, unproved_archive}
+use Rattle.mairix_tool.proofs.Words.{TellsProved}
 use Rattle.mairix_tool.proofs.Words.{IsStaleOr, IsOldOr, is_too_old, IsReply, IsStoredReply, IsForNoOtherCause}
 use Rattle.mairix_tool.proofs.Words.{IsIndexRefusal, IsRefusedAs, RepliesBy, reply_of, renamed_archive, first_renamed}
 use Rattle.mairix_tool.proofs.Words.{WereVerified, sound-not-refused}
@@ -265,20 +266,20 @@ replies-by-messages asked index few bytes paths reply old new given = record {
 
 some-stale : (o : Option ℕ) (IsFound : Answer → Type 0) → (answer : Answer) × IsFound answer → (answer : Answer)
     × IsStaleOr o IsFound answer
-some-stale (Some n) IsFound found = (refused (of.Stale n), refl)
+some-stale (Some n) IsFound found = (answer_of_fault (of.Stale n), refl)
 some-stale None IsFound found = found
 
 -- an index that is too old is refused, and any other one answers
 some-old : (old : Bool) (IsFound : Answer → Type 0) → (answer : Answer) × IsFound answer → (answer : Answer)
     × IsOldOr old IsFound answer
-some-old true IsFound found = (refused of.OldIndex, refl)
+some-old true IsFound found = (answer_of_fault of.OldIndex, refl)
 some-old false IsFound found = found
 
 -- by the result of reading the index
 pub some-stored-reply : (index : List ℕ) (read : Result Table IndexFault) → IfOk read (IsFileOfTable index)
     → IfErr read (IsFirstFaultOfFile index)
     → (asked : Result Wanted Fault) (held : List (List ℕ)) → (answer : Answer) × IsStoredReply asked index held answer
-some-stored-reply index read file bad (Err fault) held = (refused fault, refl)
+some-stored-reply index read file bad (Err fault) held = (answer_of_fault fault, refl)
 some-stored-reply index (Ok t) file bad (Ok w) held =
     let told = some-told t w.search held (stale_archive t.archives held) in
     let proved = some-stale (unproved_archive w.verify t.archives held) (IsTold t w.search held) told in
@@ -286,7 +287,7 @@ some-stored-reply index (Ok t) file bad (Ok w) held =
     let some = some-old (is_too_old t w) (IsStaleOr (renamed_archive t.archives w.paths) (IsProvedAndTold w t held))
     named in
     (some.0, inr (t, file, some.1))
-some-stored-reply index (Err f) file bad (Ok w) held = (refused (of.Index f), inl (f, bad, refl))
+some-stored-reply index (Err f) file bad (Ok w) held = (answer_of_fault (of.Index f), inl (f, bad, refl))
 
 -- ---- refusals
 
@@ -295,7 +296,7 @@ refusal-known : (f : Fault) → is_failure (Some f) ≡ false → refusal_of_fau
 refusal-known f h = grind arith
 
 stored-refusal : (asked : Result Wanted Fault) (index : List ℕ) (held : List (List ℕ)) (f : Fault)
-    → IsRefusedAs asked index f → IsStoredReply asked index held (refused f)
+    → IsRefusedAs asked index f → IsStoredReply asked index held (answer_of_fault f)
 stored-refusal asked index held f h = grind arith
 
 pub refused-stored : (asked : Result Wanted Fault) (index : List ℕ) (held : List (List ℕ)) (f : Fault)

@@ -7,10 +7,10 @@ use Rattle.mairix_tool.proofs.Words.{Facts, TextKind, words, folding, Text, Link
 use Rattle.mairix_tool.proofs.Words.{Archive, Key, Table, Query, is_true, Format, Raw, Excerpt, Search, IsChain}
 use Rattle.mairix_tool.proofs.Words.{IsLedToBySome, AreThreadsOf, AreChosen, AreChosenBy, satisfying, message_text}
 use Rattle.mairix_tool.proofs.Words.{answer_text, first_changed, stale_archive, mail_told, facts_at, record_at}
-use Rattle.mairix_tool.proofs.Words.{texts_with, is_among, are_linked, table, entry_of_archive, with_messages, Term}
-use Rattle.mairix_tool.proofs.Words.{text_terms}
+use Rattle.mairix_tool.proofs.Words.{texts_with, is_number_among, are_linked, table, entry_of_archive, with_messages}
+use Rattle.mairix_tool.proofs.Words.{Term, text_terms}
 use Rattle.mairix_tool.proofs.Words.{own_id_terms, link_terms, Numbered, numbered_messages, numbered_at, nobody}
-use Rattle.mairix_tool.proofs.Words.{link_ids, share_id, mail_in, shape, shape_of}
+use Rattle.mairix_tool.proofs.Words.{link_ids, share_id, mail_in, shape, text_in_form}
 use Rattle.std.specs.List.{filter}
 use Rattle.std.specs.Str.{bytes_eq}
 use Rattle.mail_answer.specs.declared.format.Format.TheVariants.{Mbox}
@@ -89,7 +89,7 @@ share-same xs ys us vs first second =
 pub links-same : (archives : List Archived) (m n : ℕ) → are_linked (table archives) m n ≡ (mail_in archives).linked m n
 links-same archives m n =
     let xs : List Numbered = numbered_messages 0 archives in
-    ap (λ (ms : List Message). list_any (λ (k : Key). is_among m k.numbers && is_among n k.numbers)
+    ap (λ (ms : List Message). list_any (λ (k : Key). is_number_among m k.numbers && is_number_among n k.numbers)
     (keys_of LinkId (with_messages 0 ms []))) (messages-numbered 0 archives)
     ∙ linked-by-texts m n (with_messages 0 (map message_in xs) []) (messages-sorted 0 (map message_in xs) [] tt)
     ∙ share-same (texts_with LinkId m (with_messages 0 (map message_in xs) []))
@@ -141,7 +141,7 @@ threads-same : (linked other : ℕ → ℕ → Bool) → ((m n : ℕ) → linked
 threads-same linked other same count numbers members are = record {
   rises = are.rises;
   each = λ n. (
-    λ (among : is_among n members ≡ true). let inside = (are.each n).0 among
+    λ (among : is_number_among n members ≡ true). let inside = (are.each n).0 among
         in (inside.0, led-same linked other same numbers n inside.1),
     λ (given : (n < count) × IsLedToBySome other numbers n). (are.each n).1
         (given.0, led-same other linked (λ m k. sym (same m k)) numbers n given.1),
@@ -200,7 +200,7 @@ pub shape-same : (archives : List Archived) (format : Format) (numbers : List �
 shape-same archives format numbers =
     all-shown (λ n. message_text format (map entry_of_archive archives) (map (λ (a : Archived). a.bytes) archives)
     (record_at (table archives).messages n))
-    (λ n. shape_of format archives (numbered_at (numbered_messages 0 archives) n))
+    (λ n. text_in_form format archives (numbered_at (numbered_messages 0 archives) n))
     (λ n. ap (λ (rs : List Record). message_text format (map entry_of_archive archives)
     (map (λ (a : Archived). a.bytes) archives) (record_at rs n)) (records-numbered 0 archives)
     ∙ shown-at format (map entry_of_archive archives) (map (λ (a : Archived). a.bytes) archives)

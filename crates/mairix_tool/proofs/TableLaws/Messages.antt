@@ -2,7 +2,7 @@
 use Rattle.mairix_tool.proofs.Words.{◌≡◌, ◌∙◌, ℕ, zero, suc, ◌+◌, ◌<◌, Bool, true, false, cond, List, [], ◌∷◌, ◌++◌}
 use Rattle.mairix_tool.proofs.Words.{length, map, filter, refl, ap, arith, ◌&&◌, ◌||◌, list_any, bytes_eq}
 use Rattle.mairix_tool.proofs.Words.{bytes_eq-Decides, nat_tests, Kind, Key, KeyBefore, AllNext, is_of_kind, keys_of}
-use Rattle.mairix_tool.proofs.Words.{is_among, texts_with, Message, text, Term, message_terms, with_messages}
+use Rattle.mairix_tool.proofs.Words.{is_number_among, texts_with, Message, text, Term, message_terms, with_messages}
 use Rattle.std.specs.Cmp.{both_ways}
 use Rattle.mail_index.specs.LookUps.{is_key, numbers_at}
 use Rattle.index_job.specs.MessageTerms.{has_term}
@@ -27,7 +27,7 @@ terms-here (suc n) [] m after h = absurd (omega (arith, h))
 terms-here (suc n) (x ∷ before) m after h = terms-here n before m after (omega (arith, h))
 
 module _ (kind : Kind) (term : List ℕ) where
-  none-below : (n low : ℕ) (ms : List Message) → n < low → is_among n (numbers_from kind term low ms) ≡ false
+  none-below : (n low : ℕ) (ms : List Message) → n < low → is_number_among n (numbers_from kind term low ms) ≡ false
   none-below n low [] h = refl
   none-below n low (m ∷ ms) h = grind (
     arith,
@@ -36,7 +36,7 @@ module _ (kind : Kind) (term : List ℕ) where
     none-below n (suc low) ms (omega (arith, h)),
   )
 
-  numbers-tell : (n low i : ℕ) (ms : List Message) → low + i ≡ n → is_among n (numbers_from kind term low ms)
+  numbers-tell : (n low i : ℕ) (ms : List Message) → low + i ≡ n → is_number_among n (numbers_from kind term low ms)
       ≡ has_term kind term (terms_at i ms)
   numbers-tell n low i [] h = refl
   numbers-tell n low zero (m ∷ ms) h =
@@ -48,7 +48,7 @@ module _ (kind : Kind) (term : List ℕ) where
 
 -- the key is of this kind and has this number, and its text passes
 abbrev says : Kind → ℕ → (List ℕ → Bool) → Key → Bool
-says kind n passes k = is_of_kind kind k && (is_among n k.numbers && passes k.text)
+says kind n passes k = is_of_kind kind k && (is_number_among n k.numbers && passes k.text)
 
 -- a text with this number passes exactly if a key says so
 texts-say : (kind : Kind) (n : ℕ) (passes : List ℕ → Bool) (ks : List Key)
@@ -58,15 +58,15 @@ texts-say kind n passes (k ∷ ks) = go (is_of_kind kind k) (texts-say kind n pa
   where
     with_number_too : (among : Bool) → list_any passes (texts_with kind n ks) ≡ list_any (says kind n passes) ks
         → list_any passes (map (λ (key : Key). key.text)
-        (cond among (k ∷ filter (λ key. is_among n key.numbers) (keys_of kind ks))
-        (filter (λ key. is_among n key.numbers) (keys_of kind ks))))
+        (cond among (k ∷ filter (λ key. is_number_among n key.numbers) (keys_of kind ks))
+        (filter (λ key. is_number_among n key.numbers) (keys_of kind ks))))
         ≡ ((among && passes k.text) || list_any (says kind n passes) ks)
     with_number_too among h = grind arith
 
     go : (of : Bool) → list_any passes (texts_with kind n ks) ≡ list_any (says kind n passes) ks
         → list_any passes (map (λ (key : Key). key.text)
-        (filter (λ key. is_among n key.numbers) (cond of (k ∷ keys_of kind ks) (keys_of kind ks))))
-        ≡ ((of && (is_among n k.numbers && passes k.text)) || list_any (says kind n passes) ks)
+        (filter (λ key. is_number_among n key.numbers) (cond of (k ∷ keys_of kind ks) (keys_of kind ks))))
+        ≡ ((of && (is_number_among n k.numbers && passes k.text)) || list_any (says kind n passes) ks)
     go of h = grind (arith, with_number_too)
 
 -- there is a text that passes both tests
@@ -76,34 +76,36 @@ SomePasses passes has = (term : List ℕ) × (passes term ≡ true) × (has term
 module _ (kind : Kind) (n : ℕ) (passes : List ℕ → Bool) where
   -- from the keys, by their numbers
   key-found : (ks : List Key) → AllNext KeyBefore ks → list_any (says kind n passes) ks ≡ true
-      → SomePasses passes (λ term. is_among n (numbers_at kind term ks))
+      → SomePasses passes (λ term. is_number_among n (numbers_at kind term ks))
   key-found [] sorted e = absurd cc
   key-found (k ∷ ks) sorted e = go (says kind n passes k) refl e (key-found ks (rest-sorted k ks sorted))
     where
-      other : (term : List ℕ) → is_among n (numbers_at kind term ks) ≡ true → is_among n (numbers_at kind term (k ∷ ks))
+      other : (term : List ℕ) → is_number_among n (numbers_at kind term ks) ≡ true
+          → is_number_among n (numbers_at kind term (k ∷ ks))
           ≡ true
       other term h = by_key (is_key kind term k) refl
         where
-          by_key : (b : Bool) → is_key kind term k ≡ b → is_among n (numbers_at kind term (k ∷ ks)) ≡ true
+          by_key : (b : Bool) → is_key kind term k ≡ b → is_number_among n (numbers_at kind term (k ∷ ks)) ≡ true
           by_key true is = grind (arith, key-same kind term k is, none-after k ks sorted)
           by_key false is = grind arith
 
       go : (b : Bool) → says kind n passes k ≡ b → (b || list_any (says kind n passes) ks) ≡ true
-          → (list_any (says kind n passes) ks ≡ true → SomePasses passes (λ term. is_among n (numbers_at kind term ks)))
-          → SomePasses passes (λ term. is_among n (numbers_at kind term (k ∷ ks)))
+          → (list_any (says kind n passes) ks ≡ true
+          → SomePasses passes (λ term. is_number_among n (numbers_at kind term ks)))
+          → SomePasses passes (λ term. is_number_among n (numbers_at kind term (k ∷ ks)))
       go true h e rest =
           let itself : is_key kind k.text k ≡ true = grind (arith, bytes_eq-Decides k.text k.text) in
           let passing : passes k.text ≡ true = grind arith in
           (k.text, passing, grind arith)
       go false h e rest = let found = rest e in (found.0, found.1, other found.0 found.2)
 
-  key-says : (term : List ℕ) → passes term ≡ true → (ks : List Key) → is_among n (numbers_at kind term ks) ≡ true
+  key-says : (term : List ℕ) → passes term ≡ true → (ks : List Key) → is_number_among n (numbers_at kind term ks) ≡ true
       → list_any (says kind n passes) ks ≡ true
   key-says term h [] e = absurd cc
   key-says term h (k ∷ ks) e = go (is_key kind term k) refl (key-says term h ks)
     where
       go : (b : Bool) → is_key kind term k ≡ b
-          → (is_among n (numbers_at kind term ks) ≡ true → list_any (says kind n passes) ks ≡ true)
+          → (is_number_among n (numbers_at kind term ks) ≡ true → list_any (says kind n passes) ks ≡ true)
           → list_any (says kind n passes) (k ∷ ks) ≡ true
       go true is rest = grind (arith, key-same kind term k is)
       go false is rest = grind (arith, rest)
@@ -138,8 +140,8 @@ module _ (kind : Kind) (n : ℕ) (passes : List ℕ → Bool) where
       ks : List Key
       ks = with_messages 0 ms []
 
-      same : (term : List ℕ) → is_among n (numbers_at kind term ks) ≡ has_term kind term (terms_at n ms)
-      same term = ap (is_among n) (messages-at kind term 0 ms [] tt (omega arith))
+      same : (term : List ℕ) → is_number_among n (numbers_at kind term ks) ≡ has_term kind term (terms_at n ms)
+      same term = ap (is_number_among n) (messages-at kind term 0 ms [] tt (omega arith))
           ∙ numbers-tell kind term n 0 n ms (omega arith)
 
       there : list_any (says kind n passes) ks ≡ true → list_any (term_says kind passes) (terms_at n ms) ≡ true

@@ -6,9 +6,10 @@ use Rattle.mairix_tool.proofs.Words.{filter, list_any, range_with_len, slice_get
 use Rattle.mairix_tool.proofs.Words.{TextKind, Name, Kind, Text, OwnId, LinkId, kind_number, is_of_kind, keys_of}
 use Rattle.mairix_tool.proofs.Words.{Archive, Key, Table, Query, uses_names, is_true, words_but_names, without_names}
 use Rattle.mairix_tool.proofs.Words.{Format, Raw, Excerpt, Search, AreChosen, AreChosenBy, satisfying, path_at}
-use Rattle.mairix_tool.proofs.Words.{answer_text, first_changed, stale_archive, mail_told, is_among, texts_with}
+use Rattle.mairix_tool.proofs.Words.{answer_text, first_changed, stale_archive, mail_told, is_number_among, texts_with}
 use Rattle.mairix_tool.proofs.Words.{facts_at, record_at, are_linked, without_digest, keys_but_names, but_digests}
-use Rattle.mairix_tool.proofs.Words.{old_table, Answer, IsTold, IsStaleOr, answered, first_renamed, renamed_archive}
+use Rattle.mairix_tool.proofs.Words.{old_table, Answer, IsTold, IsStaleOr, answer_of_text, first_renamed}
+use Rattle.mairix_tool.proofs.Words.{renamed_archive}
 use Rattle.std.specs.Str.{bytes_eq}
 use Rattle.mail_answer.specs.declared.format.Format.TheVariants.{Mbox}
 use Rattle.std.proofs.Math.Path.{transport, transport⁻¹}
@@ -44,9 +45,11 @@ no-names (k ∷ ks) = go (is_of_kind (Text Name) k) refl (no-names ks)
 
 -- ---- what a message says
 
-texts-of : (n : ℕ) (ks ls : List Key) → ks ≡ ls → map (λ (k : Key). k.text) (filter (λ k. is_among n k.numbers) ks)
-    ≡ map (λ (k : Key). k.text) (filter (λ k. is_among n k.numbers) ls)
-texts-of n ks ls e = ap (λ (keys : List Key). map (λ (k : Key). k.text) (filter (λ k. is_among n k.numbers) keys)) e
+texts-of : (n : ℕ) (ks ls : List Key) → ks ≡ ls
+    → map (λ (k : Key). k.text) (filter (λ k. is_number_among n k.numbers) ks)
+    ≡ map (λ (k : Key). k.text) (filter (λ k. is_number_among n k.numbers) ls)
+texts-of n ks ls e = ap (λ (keys : List Key). map (λ (k : Key). k.text)
+    (filter (λ k. is_number_among n k.numbers) keys)) e
 
 texts-old : (t : Table) (n : ℕ) (kind : TextKind) → texts_with (Text kind) n (keys_but_names t.keys)
     ≡ words_but_names (λ k. texts_with (Text k) n t.keys) kind
@@ -66,7 +69,7 @@ truth-old : (t : Table) (q : Query) → uses_names q ≡ false → (n : ℕ) →
 truth-old t q none n = ap (is_true q) (facts-old t n) ∙ true-without q (facts_at t n) none
 
 linked-old : (t : Table) (m n : ℕ) → are_linked (old_table t) m n ≡ are_linked t m n
-linked-old t m n = ap (list_any (λ (k : Key). is_among m k.numbers && is_among n k.numbers))
+linked-old t m n = ap (list_any (λ (k : Key). is_number_among m k.numbers && is_number_among n k.numbers))
     (others-stay LinkId refl t.keys)
 
 -- ---- the messages that are chosen
@@ -139,7 +142,7 @@ told-undigested : (t : Table) (s : Search) (held : List (List ℕ)) (answer : An
 told-undigested t s held answer = λ i.
     IsStaleOr (stale-old t.archives held i)
     (λ (a : Answer). (numbers : List ℕ) × AreChosen (mail_told t) s numbers
-    × (a ≡ answered (text-undigested t s.format held numbers i) (length numbers))) answer
+    × (a ≡ answer_of_text (text-undigested t s.format held numbers i) (length numbers))) answer
 
 -- two tables that differ only in their digests give the same answers
 module _ (t u : Table) (same : but_digests t ≡ but_digests u) (s : Search) (held : List (List ℕ)) (answer : Answer)
@@ -159,7 +162,7 @@ told-alike : (t : Table) (s : Search) (held : List (List ℕ)) (answer : Answer)
 told-alike t s held answer none = λ i.
     IsStaleOr (stale-old t.archives held i)
     (λ (a : Answer). (numbers : List ℕ) × chosen-by-old t s.threads s.query numbers none i
-    × (a ≡ answered (text-old t s.format held numbers i) (length numbers))) answer
+    × (a ≡ answer_of_text (text-old t s.format held numbers i) (length numbers))) answer
 
 pub told-old : (t : Table) (s : Search) (held : List (List ℕ)) (answer : Answer) → uses_names s.query ≡ false
     → IsTold (old_table t) s held answer → IsTold t s held answer

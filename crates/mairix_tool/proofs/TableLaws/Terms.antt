@@ -3,7 +3,7 @@ use Rattle.mairix_tool.proofs.Words.{◌≡◌, ◌∙◌, ℕ, Bool, true, fals
 use Rattle.mairix_tool.proofs.Words.{Option, refl, sym, ap, arith, ◌&&◌, ◌||◌, nat_eq, list_any, or-false}
 use Rattle.mairix_tool.proofs.Words.{list_any-append, TextKind, words, folding, Kind, Text, OwnId, LinkId, kind_number}
 use Rattle.mairix_tool.proofs.Words.{Facts, Pair, Term, text_terms, own_id_terms, link_terms, id_terms, is_kind}
-use Rattle.mairix_tool.proofs.Words.{words_of, ids_in}
+use Rattle.mairix_tool.proofs.Words.{words_of, id_list}
 
 -- the term is of this kind, and its text passes
 abbrev pub term_says : Kind → (List ℕ → Bool) → Term → Bool
@@ -79,7 +79,7 @@ own-says-text kind passes own = grind (arith, own-no-text)
 
 -- about own ids it says what it is
 own-says : (passes : List ℕ → Bool) (own : Option (List ℕ)) → list_any (term_says OwnId passes) (own_id_terms own)
-    ≡ list_any passes (ids_in own)
+    ≡ list_any passes (id_list own)
 own-says passes own = grind arith
 
 -- ---- all terms of a message
@@ -102,5 +102,5 @@ terms-say-words kind passes texts facts =
 -- for own ids, the terms say what the message's own id says
 pub terms-say-own : (passes : List ℕ → Bool) (texts : List Pair) (facts : Facts)
     → list_any (term_says OwnId passes) (flat_map text_terms texts ++ id_terms facts)
-    ≡ list_any passes (ids_in facts.own_id)
+    ≡ list_any passes (id_list facts.own_id)
 terms-say-own passes texts facts = grind (arith, parts-say, texts-no-own, own-says, links-say, or-false)

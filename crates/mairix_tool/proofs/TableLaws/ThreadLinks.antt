@@ -1,7 +1,7 @@
 -- The table of archives links two messages exactly if they share a link id, because no two keys have the same id.
 use Rattle.mairix_tool.proofs.Words.{◌≡◌, ◌∙◌, ℕ, Bool, true, false, cond, ◌&&◌, ◌||◌, List, [], ◌∷◌, map, filter, refl}
 use Rattle.mairix_tool.proofs.Words.{sym, ap, subst, arith, list_any, Less, Equal, eqb-true, bytes_eq-Decides, Kind}
-use Rattle.mairix_tool.proofs.Words.{LinkId, kind_number, Key, KeyBefore, AllNext, is_of_kind, keys_of, is_among}
+use Rattle.mairix_tool.proofs.Words.{LinkId, kind_number, Key, KeyBefore, AllNext, is_of_kind, keys_of, is_number_among}
 use Rattle.mairix_tool.proofs.Words.{texts_with, share_id}
 use Rattle.std.specs.Str.{bytes_eq}
 use Rattle.std.proofs.lemmas.Cmp.{nat_list_cmp_total, tied_itself}
@@ -20,7 +20,7 @@ AreApart (k ∷ ks) = IsNew k.text ks × AreApart ks
 
 -- texts of the keys that have a number
 abbrev texts_of : ℕ → List Key → List (List ℕ)
-texts_of n ks = map (λ (k : Key). k.text) (filter (λ (k : Key). is_among n k.numbers) ks)
+texts_of n ks = map (λ (k : Key). k.text) (filter (λ (k : Key). is_number_among n k.numbers) ks)
 
 bytes-same : (xs : List ℕ) → bytes_eq xs xs ≡ true
 bytes-same xs = (bytes_eq-Decides xs xs).1 refl
@@ -37,15 +37,15 @@ or-none a b h = grind arith
 -- a new text isn't among the texts of these keys
 new-of : (n : ℕ) (text : List ℕ) (ks : List Key) → IsNew text ks → list_any (bytes_eq text) (texts_of n ks) ≡ false
 new-of n text [] new = refl
-new-of n text (k ∷ ks) new = go (is_among n k.numbers) (λ later. new-of n text ks later)
+new-of n text (k ∷ ks) new = go (is_number_among n k.numbers) (λ later. new-of n text ks later)
   where
     both : (bytes_eq text k.text ≡ false) × IsNew text ks
     both = or-none (bytes_eq text k.text) (list_any (λ (j : Key). bytes_eq text j.text) ks) new
 
     go : (b : Bool) → (IsNew text ks → list_any (bytes_eq text) (texts_of n ks) ≡ false)
         → list_any (bytes_eq text) (map (λ (j : Key). j.text)
-        (cond b (k ∷ filter (λ (j : Key). is_among n j.numbers) ks)
-        (filter (λ (j : Key). is_among n j.numbers) ks))) ≡ false
+        (cond b (k ∷ filter (λ (j : Key). is_number_among n j.numbers) ks)
+        (filter (λ (j : Key). is_number_among n j.numbers) ks))) ≡ false
     go true rest = ap (λ (b : Bool). b || list_any (bytes_eq text) (texts_of n ks)) both.0 ∙ rest both.1
     go false rest = rest both.1
 
@@ -53,13 +53,13 @@ new-of n text (k ∷ ks) new = go (is_among n k.numbers) (λ later. new-of n tex
 without-new : (m : ℕ) (text : List ℕ) (others : List (List ℕ)) (ks : List Key) → IsNew text ks
     → share_id (texts_of m ks) (text ∷ others) ≡ share_id (texts_of m ks) others
 without-new m text others [] new = refl
-without-new m text others (k ∷ ks) new = go (is_among m k.numbers) (λ later. without-new m text others ks later)
+without-new m text others (k ∷ ks) new = go (is_number_among m k.numbers) (λ later. without-new m text others ks later)
   where
     both : (bytes_eq text k.text ≡ false) × IsNew text ks
     both = or-none (bytes_eq text k.text) (list_any (λ (j : Key). bytes_eq text j.text) ks) new
 
     rest : List Key
-    rest = filter (λ (j : Key). is_among m j.numbers) ks
+    rest = filter (λ (j : Key). is_number_among m j.numbers) ks
 
     go : (b : Bool) → (IsNew text ks → share_id (texts_of m ks) (text ∷ others) ≡ share_id (texts_of m ks) others)
         → share_id (map (λ (j : Key). j.text) (cond b (k ∷ rest) rest)) (text ∷ others)
@@ -73,19 +73,20 @@ without-new m text others (k ∷ ks) new = go (is_among m k.numbers) (λ later. 
 -- ---- a key has both numbers exactly if both have a common text
 
 both-keys : (m n : ℕ) (ks : List Key) → AreApart ks
-    → list_any (λ (k : Key). is_among m k.numbers && is_among n k.numbers) ks ≡ share_id (texts_of m ks) (texts_of n ks)
+    → list_any (λ (k : Key). is_number_among m k.numbers && is_number_among n k.numbers) ks
+    ≡ share_id (texts_of m ks) (texts_of n ks)
 both-keys m n [] apart = refl
-both-keys m n (k ∷ ks) apart = go (is_among m k.numbers) (is_among n k.numbers) (both-keys m n ks apart.1)
+both-keys m n (k ∷ ks) apart = go (is_number_among m k.numbers) (is_number_among n k.numbers) (both-keys m n ks apart.1)
   where
     ms : List Key
-    ms = filter (λ (j : Key). is_among m j.numbers) ks
+    ms = filter (λ (j : Key). is_number_among m j.numbers) ks
 
     ns : List Key
-    ns = filter (λ (j : Key). is_among n j.numbers) ks
+    ns = filter (λ (j : Key). is_number_among n j.numbers) ks
 
-    go : (a b : Bool) → list_any (λ (j : Key). is_among m j.numbers && is_among n j.numbers) ks
+    go : (a b : Bool) → list_any (λ (j : Key). is_number_among m j.numbers && is_number_among n j.numbers) ks
         ≡ share_id (texts_of m ks) (texts_of n ks)
-        → ((a && b) || list_any (λ (j : Key). is_among m j.numbers && is_among n j.numbers) ks)
+        → ((a && b) || list_any (λ (j : Key). is_number_among m j.numbers && is_number_among n j.numbers) ks)
         ≡ share_id (map (λ (j : Key). j.text) (cond a (k ∷ ms) ms)) (map (λ (j : Key). j.text) (cond b (k ∷ ns) ns))
     go true true e = sym (ap (λ (b : Bool). (b || list_any (bytes_eq k.text) (texts_of n ks)) || share_id
         (texts_of m ks) (k.text ∷ texts_of n ks)) (bytes-same k.text))
@@ -158,6 +159,6 @@ sorted-apart kind (k ∷ ks) sorted = go (is_of_kind kind k) refl (λ rest. sort
 
 -- a link id of sorted keys has both numbers exactly if both have a common link id
 pub linked-by-texts : (m n : ℕ) (ks : List Key) → AllNext KeyBefore ks
-    → list_any (λ (k : Key). is_among m k.numbers && is_among n k.numbers) (keys_of LinkId ks)
+    → list_any (λ (k : Key). is_number_among m k.numbers && is_number_among n k.numbers) (keys_of LinkId ks)
     ≡ share_id (texts_with LinkId m ks) (texts_with LinkId n ks)
 linked-by-texts m n ks sorted = both-keys m n (keys_of LinkId ks) (sorted-apart LinkId ks sorted)

@@ -20,7 +20,7 @@ use Rattle.mairix_run.proofs.NamedSources.{counted-new, has-cause, known-now}
 use Rattle.mairix_run.proofs.UnreadArchives.{indexing-reads, sent-err, sent-fault, sent-ok, source-counted}
 use Rattle.mairix_run.proofs.UnreadArchives.{unread-cause}
 use Rattle.mairix_run.proofs.UnreadArchives.{with-memory}
-use Rattle.mairix_run.specs.Indexed.{IsIndexed}
+use Rattle.mairix_run.specs.Indexed.{IsIndexRunResult}
 use Rattle.mairix_run.proofs.indexing.index_names.Goals as goal
 
 pub send_index-sent-requires-clause-many : goal.send_index-sent-requires-clause-many
@@ -61,7 +61,8 @@ returns-clause-indexed g c = λ bytes files agrees.
     let many-archives = mboxes-length (map string_bytes names) bytes (sym of_bytes ∙ many) in
     let lengths = length-map news (λ s. s.failures) ∙ of_news ∙ of_items ∙ many ∙ sym many-archives in
     let archives = mboxes (map string_bytes names) bytes in
-    with-memory (IsIndexed archives (g.O.Out.taken c.args.out.now) (g.O.Out.taken sent.new.out)) (λ n h. tt) (λ h. tt)
+    with-memory (IsIndexRunResult archives (g.O.Out.taken c.args.out.now) (g.O.Out.taken sent.new.out)) (λ n h. tt)
+    (λ h. tt)
     _ c.and.result c.by_memory.result c.by_memory.ensures
     (indexed-by archives _ _ (map (λ s. s.failures) news) sent.result
     c.and.result c.and.ensures lengths counted (λ zeros. sent.ensures.known bytes (

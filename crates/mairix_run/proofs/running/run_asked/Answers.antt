@@ -16,7 +16,7 @@ use Rattle.mairix_run.proofs.RunParts.{ran-ended, ran-made, ran-wider}
 use Rattle.mairix_run.proofs.RunStages.{archives-end, task-index, task-once, task-stored}
 use Rattle.mairix_run.specs.Inside.Running.{Ran}
 use Rattle.mairix_run.specs.NamesUsed.{names_asked, both_names}
-use Rattle.mairix_run.specs.Stops.{ending_of, ending_of_stopped}
+use Rattle.mairix_run.specs.Stops.{ending_of_result, ending_of_stopped}
 use Rattle.mairix_run.specs.Tasks.{files_at, index_task, names_indexed, search_stored_task, search_task, task_of_rc}
 use Rattle.mairix_run.specs.Tasks.{task_over}
 use Rattle.mairix_run.specs.Tasks.Work.{Index, SearchNew}
@@ -40,7 +40,7 @@ returns-then-is_index_run-clause-ran g c = λ agree.
     found.1 in
     let known : files_of (F.holds old) archives ≡ map Some bytes = files-known (F.holds old) archives bytes
     (ap (files_at (F.holds old)) c.as_slice-then-is_index_run.ensures ∙ files) in
-    let ended = ending_of c.replace_index.result in
+    let ended = ending_of_result c.replace_index.result in
     let task = index_task p rc bytes in
     let both = name ∷ passing_of name ∷ [] in
     let same : (c.as_str.result.now ∷ map string_bytes archives) ≡ names_indexed p rc =
@@ -90,11 +90,11 @@ returns-then-plan-clause-ran g c = λ agree.
     ap (files_at (F.holds old)) (sym c.as_slice.ensures) ∙ found.1 in
     let task = search_task p rc (SearchNew (asks asked.words.now asked.text.now asked.now) found.0) in
     subst (λ t. Ran F g.O.Out g.O.Stream.handed_on (names_asked p rc) t old c.run_search.new.folder c.args.out.now
-    c.run_search.new.out (ending_of c.run_search.result))
+    c.run_search.new.out (ending_of_result c.run_search.result))
     (sym (task-once (F.holds old) (asks asked.words.now asked.text.now asked.now) p rc found.0 files c.if-plan.true))
     (ran-wider F g.O.Out g.O.Stream.handed_on (both_names (answer_file p rc)) (names_asked p rc)
     (once-asked p rc c.if-plan.true) (Ok task) old c.run_search.new.folder c.args.out.now c.run_search.new.out
-    (ending_of c.run_search.result) (c.run_search.ensures.ran found.0 files agree))
+    (ending_of_result c.run_search.result) (c.run_search.ensures.ran found.0 files agree))
 
 -- the states are those of the archives
 pub run_search-requires-clause-states : goal.run_search-requires-clause-states
@@ -161,7 +161,7 @@ returns-clause-ran g c = λ agree.
     let new-index = sym c.is_index_run.ensures ∙ c.if-is_index_run.false in
     let task = search_stored_task (F.holds old) wanted p rc found.0 in
     subst (λ t. Ran F g.O.Out g.O.Stream.handed_on (names_asked p rc) t old run.new.folder c.args.out.now run.new.out
-    (ending_of run.result)) (sym (task-stored (F.holds old) wanted p rc found.0 files new-index c.if-plan.false))
+    (ending_of_result run.result)) (sym (task-stored (F.holds old) wanted p rc found.0 files new-index c.if-plan.false))
     (ran-wider F g.O.Out g.O.Stream.handed_on (rc.database ∷ both_names (answer_file p rc)) (names_asked p rc)
     (stored-asked p rc new-index c.if-plan.false) task old run.new.folder c.args.out.now run.new.out
-    (ending_of run.result) (run.ensures.ran found.0 files agree))
+    (ending_of_result run.result) (run.ensures.ran found.0 files agree))

@@ -12,7 +12,7 @@ use Rattle.mairix_run.proofs.RunStages.{Ends, given-ok, read-fails}
 use Rattle.mairix_run.specs.Inside.Running.{Ran}
 use Rattle.mairix_run.specs.IndexReads.{IsIndexRead}
 use Rattle.mairix_run.specs.NamesUsed.{both_names}
-use Rattle.mairix_run.specs.Stops.{Ending, ending_of, ending_of_stopped}
+use Rattle.mairix_run.specs.Stops.{Ending, ending_of_result, ending_of_stopped}
 use Rattle.mairix_run.specs.Stops.Ending.{CannotOpen}
 use Rattle.mairix_run.specs.Tasks.{Task, search_stored_task, search_task}
 use Rattle.mairix_run.specs.Tasks.Work.{SearchStored}
@@ -37,7 +37,7 @@ returns-clause-ran g c = λ bytes files agree.
     let all = read.0 in
     let is : IsIndexRead all c.as_slice.result.now =
     subst (λ b. IsIndexRead all b) (sym c.as_slice.ensures.value) read.1 in
-    let ended = ending_of c.run_search.result in
+    let ended = ending_of_result c.run_search.result in
     let names = both_names (answer_file p rc) in
     let ran : Ran F g.O.Out g.O.Stream.handed_on names (Ok (search_task p rc (SearchStored wanted all bytes))) old
     c.run_search.new.folder c.args.out.now c.run_search.new.out ended =

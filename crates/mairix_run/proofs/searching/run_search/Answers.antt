@@ -9,7 +9,7 @@ use Rattle.mairix_run.proofs.FilesAt.{files-known}
 use Rattle.mairix_run.proofs.RunParts.{ran-made, ran-printed}
 use Rattle.mairix_run.specs.Inside.Running.{Ran}
 use Rattle.mairix_run.specs.NamesUsed.{both_names}
-use Rattle.mairix_run.specs.Stops.{ending_of}
+use Rattle.mairix_run.specs.Stops.{ending_of_result}
 use Rattle.mairix_run.specs.Tasks.{files_at, names_searched, search_task, search_work}
 use Rattle.mairix_run.specs.WholeRuns.{IsTrouble, MakesFor, Puts, passing_of, refused_name}
 use Rattle.mairix_tool.specs.Asked.{asks}
@@ -35,7 +35,7 @@ returns-in-Some-clause-ran g c = λ bytes files agree.
     λ i. c.as_str.ensures i ∷ c.as_str-in-Some.ensures i ∷ c.as_slice-paths.ensures i in
     let known : files_of (F.holds old) paths ≡ map Some bytes =
     files-known (F.holds old) paths bytes (ap (files_at (F.holds old)) c.as_slice-paths.ensures ∙ files) in
-    let ended = ending_of c.make_answer_file.result in
+    let ended = ending_of_result c.make_answer_file.result in
     let names = name ∷ passing_of name ∷ [] in
     subst (λ (file : Option (List ℕ)). Ran F g.O.Out g.O.Stream.handed_on (both_names file)
     (Ok (search_task p rc work)) old new c.args.out.now c.args.out.now ended) (sym some)
@@ -64,5 +64,6 @@ returns-in-None-clause-ran g c = λ bytes files agree.
     files-known (F.holds old) paths bytes (ap (files_at (F.holds old)) c.as_slice-paths.ensures ∙ files) in
     ran-printed F g.O.Out g.O.Stream.handed_on (both_names (answer_file asked.plan.now asked.rc.now))
     (search_task asked.plan.now asked.rc.now work)
-    (sym c.in-Ok.ensures ∙ c.in-None.is) old c.args.out.now c.print_answer.new.out (ending_of c.print_answer.result)
+    (sym c.in-Ok.ensures ∙ c.in-None.is) old c.args.out.now c.print_answer.new.out
+    (ending_of_result c.print_answer.result)
     (g.met.F.Folder.only_now old) (c.print_answer.ensures.run bytes known agree)

@@ -1,6 +1,6 @@
 -- `answer_indexed` replies as the definition says, because its index is the table of the archives.
-use Rattle.mairix_tool.proofs.Words.{ℕ, List, sym, subst, arith, IsFileOfTable, table, mboxes, Wanted, wanted, reply_of}
-use Rattle.mairix_tool.proofs.Words.{map}
+use Rattle.mairix_tool.proofs.Words.{ℕ, List, sym, subst, arith, IsFileOfTable, table, mboxes, Wanted, shown_wanted}
+use Rattle.mairix_tool.proofs.Words.{reply_of, map}
 use Rattle.mairix_tool.proofs.Words.{inl, inr}
 use Rattle.mairix_tool.proofs.ReplyLaws.Once.{refused-once, sound-once}
 use Rattle.mairix_tool.proofs.ReplyLaws.Searching.{asks-nothing, indexed-table}
@@ -15,7 +15,7 @@ returns-in_err-file-clause-told g c = grind (arith, refused-once)
 
 pub returns-clause-told : goal.returns-clause-told
 returns-clause-told g c = λ bytes held known holds.
-    let w : Wanted = wanted c.args.wanted.now in
+    let w : Wanted = shown_wanted c.args.wanted.now in
     let indexed = rw c.as_slice.ensures at (c.in_ok-file.ensures.known bytes known) in
     let same = c.of_file-index.ensures (table (mboxes w.paths bytes))
     (subst (λ (b : List ℕ). IsFileOfTable b (table (mboxes w.paths bytes))) (sym c.bytes.ensures) indexed.1) in
@@ -30,7 +30,7 @@ returns-in_err-file-clause-searched g c =
 
 pub returns-clause-searched : goal.returns-clause-searched
 returns-clause-searched g c =
-    let w : Wanted = wanted c.args.wanted.now in
+    let w : Wanted = shown_wanted c.args.wanted.now in
     let file = rw c.bytes.ensures at c.of_file-index.ensures in
     inr (
       c.of_file-index.result,
@@ -43,7 +43,7 @@ returns-clause-searched g c =
 
 pub returns-clause-counted : goal.returns-clause-counted
 returns-clause-counted g c = λ bytes known.
-    let w : Wanted = wanted c.args.wanted.now in
+    let w : Wanted = shown_wanted c.args.wanted.now in
     let indexed = rw c.as_slice.ensures at (c.in_ok-file.ensures.known bytes known) in
     let same = c.of_file-index.ensures (table (mboxes w.paths bytes))
     (subst (λ (b : List ℕ). IsFileOfTable b (table (mboxes w.paths bytes))) (sym c.bytes.ensures) indexed.1) in

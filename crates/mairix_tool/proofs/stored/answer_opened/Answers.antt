@@ -1,5 +1,6 @@
 -- `answer_opened` replies what the table says, by the results of verification and search.
-use Rattle.mairix_tool.proofs.Words.{◌≡◌, ℕ, List, Option, None, Some, Err, IfSome, sym, subst, wanted, IsStaleOr}
+use Rattle.mairix_tool.proofs.Words.{◌≡◌, ℕ, List, Option, None, Some, Err, IfSome, sym, subst, shown_wanted}
+use Rattle.mairix_tool.proofs.Words.{IsStaleOr}
 use Rattle.mairix_tool.proofs.Words.{IsTold, RepliesBy, TellsProved, unproved_archive, reply_of}
 use Rattle.std.proofs.lemmas.Result.{err_from_is_err_and}
 use Rattle.mairix_tool.proofs.ReplyLaws.Searching.{unverified-searched, verified-searched}
@@ -9,7 +10,7 @@ use Rattle.mairix_tool.proofs.stored.answer_opened.Goals as goal
 
 pub returns-in_err-prove_archives-clause-told : goal.returns-in_err-prove_archives-clause-told
 returns-in_err-prove_archives-clause-told g c = λ held holds.
-    let w = wanted c.args.wanted.now in
+    let w = shown_wanted c.args.wanted.now in
     let t = c.args.view.now in
     let fault = c.in_err-prove_archives.field-0.0 in
     let p = err_from_is_err_and c.from_residual.result c.from_residual.ensures.1 in
@@ -21,7 +22,7 @@ returns-in_err-prove_archives-clause-told g c = λ held holds.
 
 pub returns-clause-told : goal.returns-clause-told
 returns-clause-told g c = λ held holds.
-    let w = wanted c.args.wanted.now in
+    let w = shown_wanted c.args.wanted.now in
     let t = c.args.view.now in
     let held-before : g.A.Archives.held c.prove_archives.new.archives ≡ Some held =
     rw holds at c.answer_view.ensures.searched.keeps.held in
@@ -41,7 +42,7 @@ returns-clause-counted g c = record {
 
 pub returns-in_err-prove_archives-clause-searched : goal.returns-in_err-prove_archives-clause-searched
 returns-in_err-prove_archives-clause-searched g c =
-    let w = wanted c.args.wanted.now in
+    let w = shown_wanted c.args.wanted.now in
     let p = err_from_is_err_and c.from_residual.result c.from_residual.ensures.1 in
     rw (p.1, p.2) (unverified-searched g.A.Archives g.O.Out c.args.view.now w.search c.args.archives.now
     c.prove_archives.new.archives w.verify c.in_err-prove_archives.field-0.0 c.args.out.now
@@ -49,7 +50,7 @@ returns-in_err-prove_archives-clause-searched g c =
 
 pub returns-clause-searched : goal.returns-clause-searched
 returns-clause-searched g c =
-    let w = wanted c.args.wanted.now in
+    let w = shown_wanted c.args.wanted.now in
     verified-searched g.A.Archives g.O.Out c.args.view.now w.search c.args.archives.now c.prove_archives.new.archives
     w.verify _ c.answer_view.new.archives c.args.out.now c.answer_view.new.out (reply_of c.answer_view.result)
     c.in_ok-prove_archives.ensures.asked c.answer_view.ensures.searched

@@ -1,26 +1,27 @@
 -- `answer_view` replies what the table says, by the result of the search.
 use Rattle.mairix_tool.proofs.Words.{ℕ, List, Option, arith, subst, AnswersStale, stale_archive, TableAnswer}
-use Rattle.mairix_tool.proofs.Words.{IsTableAnswer, Answers, IfSome, wanted, ap, reply_of}
+use Rattle.mairix_tool.proofs.Words.{IsTableAnswer, SendsTableAnswer, IfSome, shown_wanted, ap, reply_of}
 use Rattle.mairix_tool.proofs.ReplyLaws.Answers.{told-so, told-by, counted-by}
 use Rattle.mairix_tool.proofs.view_answer.answer_view.Goals as goal
 
 pub returns-clause-told : goal.returns-clause-told
 returns-clause-told g c = λ held known.
-    let s = (wanted c.args.wanted.now).search in
+    let s = (shown_wanted c.args.wanted.now).search in
     let t = c.args.index.now in
     let old = g.O.Out.taken c.args.out.now in
     let new = g.O.Out.taken c.answer-found.new.out in
     let r = c.answer-found.result in
     rw (told-so r c.map_err.result (grind arith))
     (told-by t s held old new r (subst (λ (o : Option (List (List ℕ))). (a : TableAnswer) → IsTableAnswer t s o a
-    → Answers old new a r) known c.answer-found.ensures.answered)
+    → SendsTableAnswer old new a r) known c.answer-found.ensures.answered)
     (subst (λ (o : Option (List (List ℕ))). IfSome o (λ bytes. AnswersStale old new (stale_archive t.archives bytes) r))
     known c.answer-found.ensures.stale))
 
 pub returns-clause-counted : goal.returns-clause-counted
 returns-clause-counted g c =
     rw (told-so c.answer-found.result c.map_err.result (grind arith))
-    (counted-by c.args.index.now (wanted c.args.wanted.now).search (g.A.Archives.held c.answer-found.new.archives)
+    (counted-by c.args.index.now (shown_wanted c.args.wanted.now).search
+    (g.A.Archives.held c.answer-found.new.archives)
     (g.O.Out.taken c.args.out.now) (g.O.Out.taken c.answer-found.new.out) c.answer-found.result
     c.answer-found.ensures.answered)
 

@@ -1,5 +1,6 @@
 -- `check_digests` finds the first altered archive, because it compares one digest after another.
-use Rattle.mail_answer.proofs.Words.{◌≡◌, ◌∙◌, true, false, subst, bytes_eq, sym, arith, drop, None, AreRead, Archive}
+use Rattle.mail_answer.proofs.Words.{◌≡◌, ◌∙◌, true, false, subst, bytes_eq, sym, arith, drop, None, AreReadOnce}
+use Rattle.mail_answer.proofs.Words.{Archive}
 use Rattle.mail_answer.proofs.Words.{archive_of, stale_archive}
 use Rattle.mail_answer.proofs.ArchiveLaws.StaleLemmas.{named_here, next_named, none_left}
 use Rattle.mail_answer.proofs.ArchiveLaws.VerifiedLemmas.{UnalteredTo, told_next, other_read, more_read}
@@ -75,7 +76,8 @@ loop-archive-preserved g c =
 pub returns-clause-found : goal.returns-clause-found
 returns-clause-found g c =
     let i = c.loop-archive.invariant in
-    subst (λ count. AreRead g.A.Archives c.args.index.now.archives count c.args.archives.now c.loop-archive.archives)
+    subst (λ count. AreReadOnce g.A.Archives c.args.index.now.archives count c.args.archives.now
+    c.loop-archive.archives)
     (none_left _ c.loop-archive.n i.within (sym i.coming ∙ c.in_default.ensures.0)) i.read
 
 pub returns-then-ne-clause-keeps : goal.returns-then-ne-clause-keeps

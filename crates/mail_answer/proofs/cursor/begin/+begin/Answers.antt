@@ -9,7 +9,7 @@ use Rattle.mail_query.specs.Query as query
 use Rattle.mail_query.proofs.NodeLemmas.{query_of-Flag, query_of-Not}
 use Rattle.mail_answer.proofs.CursorLaws.NodeQueries.{query_of-Any, query_of-Word, query_of-Part, query_of-Prefix}
 use Rattle.mail_answer.proofs.CursorLaws.NodeQueries.{query_of-Either}
-use Rattle.mail_answer.specs.Inside.CursorBegins.{Tells}
+use Rattle.mail_answer.specs.Inside.CursorBegins.{AreTruthsOf}
 use Rattle.mail_answer.proofs.CursorLaws.MemberLemmas.{next_member, no_member}
 use Rattle.mail_answer.proofs.CursorLaws.Texts.{word_past}
 use Rattle.mail_answer.proofs.CursorLaws.Begins.{some_walk, query_of-Date, query_of-Size, query_of-All, tells_scanned}
@@ -230,7 +230,7 @@ walks_of-loop-node-preserved t c =
           (queries_of (drop (i + 1) nodes)) c.loop-node.walks.items c.push.new.self.items c.in_ok-walk.walk
           c.loop-node.index.steps c.walk_of.new.index.steps c.loop-node.invariant.walks
           (next_member nodes i c.node-item.result c.loop-node-test.true c.node-item.is) c.in_ok-push.ensures.items
-          (subst (λ (u : Table). Tells u q c.in_ok-walk.walk.truths) same c.in_ok-walk.ensures.truths)
+          (subst (λ (u : Table). AreTruthsOf u q c.in_ok-walk.walk.truths) same c.in_ok-walk.ensures.truths)
           (subst (λ (u : Table). c.in_ok-walk.walk.left ≤ most_left u q) same c.in_ok-walk.ensures.left)
           (subst (λ (u : Table). LooksUp (length u.keys) (look_ups q) c.loop-node.index.steps c.walk_of.new.index.steps)
           same c.walk_of.ensures.steps);

@@ -1,5 +1,5 @@
 -- The walks so far, and those of the keys that still come.
-use Rattle.mail_answer.proofs.Words.{◌≡◌, ◌≤◌, ◌+◌, ◌||◌, ℕ, length, some_key, left_in, some_has, HaveNumbers}
+use Rattle.mail_answer.proofs.Words.{◌≡◌, ◌≤◌, ◌+◌, ◌||◌, ℕ, length, some_key, steps_left_in, some_has, HaveNumbers}
 use Rattle.mail_answer.proofs.Words.{numbers_passing, any_text}
 use Rattle.mail_answer.proofs.cursor.texts.push_all.Given as goal
 
@@ -8,7 +8,8 @@ invariant-loop-key l = record {
   numbers : HaveNumbers l.count l.keys;
   each : (n : ℕ) → (some_has n l.members.items || some_key any_text n l.keys)
       ≡ (some_has n l.initial.members.items || some_key any_text n l.initial.keys);
-  left : left_in l.members.items + numbers_passing any_text l.keys ≤ left_in l.initial.members.items + numbers_passing
+  left : steps_left_in l.members.items + numbers_passing any_text l.keys ≤ steps_left_in l.initial.members.items +
+      numbers_passing
       any_text l.initial.keys;
 }
 

@@ -3,7 +3,7 @@ use Rattle.mail_answer.proofs.Words.{◌≡◌, ◌∙◌, ℕ, Bool, add_steps,
 use Rattle.mail_answer.proofs.Words.{length, map, get_or, sym, subst, arith, list_any, texts_with, numbers_fitting}
 use Rattle.mail_answer.proofs.Words.{LooksUp, Table, Key, IsWellFormed, cases_lt, both_ways, To, Kind, Text, OwnId}
 use Rattle.mail_answer.proofs.Words.{text_kinds, fits, kinds_in, looked_up_by}
-use Rattle.mail_answer.specs.Inside.CursorTexts.{Joins}
+use Rattle.mail_answer.specs.Inside.CursorTexts.{AddsMatches}
 use Rattle.mail_answer.proofs.CursorLaws.Texts.{some_of_all, word_past, kinds_more, kinds_steps, kinds_skip, kinds_next}
 use Rattle.mail_answer.proofs.CursorLaws.Texts.{all_kinds}
 use Rattle.mail_answer.proofs.CursorLaws.LookUpSteps.{if_always, all_compared, compared_more, compared_skip}
@@ -31,7 +31,8 @@ loop-kind-preserved c =
                 (kinds_next passes keys (looked_up_by c.args.fit) (kinds_in c.args.kinds) [] c.args.index.now.steps
                 c.args.kinds items i (Text To) c.loop-kind.members.items c.loop-kind.index.steps
                 c.loop-kind-test.true (sym c.is_in.ensures ∙ w.if-is_in.true) c.loop-kind.invariant.kinds)
-                (subst (λ (u : Table). Joins (λ n. list_any passes (texts_with (get_or items i (Text To)) n u.keys))
+                (subst (λ (u : Table). AddsMatches
+                (λ n. list_any passes (texts_with (get_or items i (Text To)) n u.keys))
                 (numbers_fitting passes u.keys (get_or items i (Text To))) c.loop-kind.members.items
                 w.push_kind.new.members.items) same (rw w.as_bytes.ensures at w.in_ok-push_kind.ensures.joins))
                 (subst (λ (u : Table). LooksUp (length u.keys) (looked_up_by c.args.fit) c.loop-kind.index.steps

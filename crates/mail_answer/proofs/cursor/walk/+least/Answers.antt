@@ -1,6 +1,6 @@
 -- The walks of a tree return the least number from n on, each by the numbers that its members return.
-use Rattle.mail_answer.proofs.Words.{◌≡◌, ◌∙◌, ◌<◌, ℕ, List, length, get_or, arith, eq-eqb, get_or_default, Ahead}
-use Rattle.mail_answer.proofs.Words.{left_in, postings_in}
+use Rattle.mail_answer.proofs.Words.{◌≡◌, ◌∙◌, ◌<◌, ℕ, List, length, get_or, arith, eq-eqb, get_or_default, WalkAhead}
+use Rattle.mail_answer.proofs.Words.{steps_left_in, postings_in}
 use Rattle.mail_answer.proofs.CursorLaws.Turns.{passed_drops, passed_first, passed_all}
 use Rattle.mail_answer.proofs.CursorLaws.Members.{below-levels, turn_steps, turn_postings, none_counted, levels-set}
 use Rattle.mail_answer.proofs.CursorLaws.Members.{dropped_more, dropped_drops, dropped_first, reached_none}
@@ -30,11 +30,11 @@ least_united-least_from-number-requires t c = grind (arith, get_or_default, belo
 
 pub least_united-loop-member-preserved : goal.least_united-loop-member-preserved
 least_united-loop-member-preserved t c =
-    let old : List Ahead = c.args.members.now in
-    let xs : List Ahead = c.loop-member.members in
+    let old : List WalkAhead = c.args.members.now in
+    let xs : List WalkAhead = c.loop-member.members in
     let i : ℕ = c.loop-member.member-index in
-    let w : Ahead = get_or xs i c.member-item.result in
-    let v : Ahead = c.least_from-number.new.self in
+    let w : WalkAhead = get_or xs i c.member-item.result in
+    let v : WalkAhead = c.least_from-number.new.self in
     let lt : i < length old = c.loop-member-test.true in
     let long : length xs ≡ length old = c.loop-member.auto.members in
     let within : i < length xs = omega (arith, lt, long) in
@@ -45,7 +45,7 @@ least_united-loop-member-preserved t c =
       dropped = dropped_more c.args.n old xs i c.loop-member.least c.least_from-number.result c.lesser_of-least.result w
           v lt long was c.loop-member.invariant.dropped c.least_from-number.ensures.rest
           c.least_from-number.ensures.number c.lesser_of-least.ensures;
-      steps = turn_steps xs i (left_in old) c.args.steps.now c.loop-member.steps c.least_from-number.new.steps w v
+      steps = turn_steps xs i (steps_left_in old) c.args.steps.now c.loop-member.steps c.least_from-number.new.steps w v
           within is c.loop-member.invariant.steps c.least_from-number.ensures.steps;
       postings = turn_postings xs i (postings_in old) c.args.steps.now c.loop-member.steps c.least_from-number.new.steps
           w v within is c.loop-member.invariant.postings c.least_from-number.ensures.postings;
@@ -78,19 +78,19 @@ reach_common-returns-in_err-number-clause-number t c = grind (arith, ended_none)
 
 pub reach_common-returns-in_err-number-clause-steps : goal.reach_common-returns-in_err-number-clause-steps
 reach_common-returns-in_err-number-clause-steps t c =
-    let xs : List Ahead = c.loop-member.members in
+    let xs : List WalkAhead = c.loop-member.members in
     let i : ℕ = c.loop-member.member-index in
-    let w : Ahead = get_or xs i c.member-item.result in
+    let w : WalkAhead = get_or xs i c.member-item.result in
     let within : i < length xs = omega (arith, c.loop-member-test.true, c.loop-member.auto.members) in
     let is : w ≡ get_or xs i w = get_or_default xs i c.member-item.result w within in
-    turn_steps xs i (left_in c.args.members.now) c.args.steps.now c.loop-member.steps c.least_from.new.steps w
+    turn_steps xs i (steps_left_in c.args.members.now) c.args.steps.now c.loop-member.steps c.least_from.new.steps w
     c.least_from.new.self within is c.loop-member.invariant.steps c.least_from.ensures.steps
 
 pub reach_common-returns-in_err-number-clause-postings : goal.reach_common-returns-in_err-number-clause-postings
 reach_common-returns-in_err-number-clause-postings t c =
-    let xs : List Ahead = c.loop-member.members in
+    let xs : List WalkAhead = c.loop-member.members in
     let i : ℕ = c.loop-member.member-index in
-    let w : Ahead = get_or xs i c.member-item.result in
+    let w : WalkAhead = get_or xs i c.member-item.result in
     let within : i < length xs = omega (arith, c.loop-member-test.true, c.loop-member.auto.members) in
     let is : w ≡ get_or xs i w = get_or_default xs i c.member-item.result w within in
     turn_postings xs i (postings_in c.args.members.now) c.args.steps.now c.loop-member.steps c.least_from.new.steps w
@@ -101,11 +101,11 @@ reach_common-returns-in_err-number-clause-below t c = grind (arith, get_or_defau
 
 pub reach_common-loop-member-preserved : goal.reach_common-loop-member-preserved
 reach_common-loop-member-preserved t c =
-    let old : List Ahead = c.args.members.now in
-    let xs : List Ahead = c.loop-member.members in
+    let old : List WalkAhead = c.args.members.now in
+    let xs : List WalkAhead = c.loop-member.members in
     let i : ℕ = c.loop-member.member-index in
-    let w : Ahead = get_or xs i c.member-item.result in
-    let v : Ahead = c.least_from.new.self in
+    let w : WalkAhead = get_or xs i c.member-item.result in
+    let v : WalkAhead = c.least_from.new.self in
     let lt : i < length old = c.loop-member-test.true in
     let long : length xs ≡ length old = c.loop-member.auto.members in
     let within : i < length xs = omega (arith, lt, long) in
@@ -115,7 +115,8 @@ reach_common-loop-member-preserved t c =
       unvisited = unvisited_more old xs i v c.loop-member.invariant.unvisited;
       reached = reached_more c.args.n old xs i c.loop-member.number c.in_ok-number.number w v lt long was
           c.loop-member.invariant.reached c.least_from.ensures.rest c.in_ok-number.ensures.number;
-      steps = turn_steps xs i (left_in old) c.args.steps.now c.loop-member.steps c.least_from.new.steps w v within is
+      steps = turn_steps xs i (steps_left_in old) c.args.steps.now c.loop-member.steps c.least_from.new.steps w v within
+          is
           c.loop-member.invariant.steps c.least_from.ensures.steps;
       postings = turn_postings xs i (postings_in old) c.args.steps.now c.loop-member.steps c.least_from.new.steps w v
           within is c.loop-member.invariant.postings c.least_from.ensures.postings;

@@ -1,7 +1,7 @@
 -- What the members have passed so far is what the node drops; the calls end, because members are on lower levels.
 use Rattle.mail_answer.proofs.Words.{◌-◌, ◌^◌, ◌≡◌, ◌+◌, ◌*◌, ◌<◌, length, take, CountsPostings, Spends, common}
-use Rattle.mail_answer.proofs.Words.{left_in, postings_in, levels}
-use Rattle.mail_answer.specs.Inside.CursorWalks.{ahead}
+use Rattle.mail_answer.proofs.Words.{steps_left_in, postings_in, levels}
+use Rattle.mail_answer.specs.Inside.CursorWalks.{ahead_of_node}
 use Rattle.mail_answer.proofs.CursorLaws.Turns.{HasPassed}
 use Rattle.mail_answer.proofs.CursorLaws.Members.{Unvisited, HaveDropped, HaveReached, HasRisen}
 use Rattle.mail_answer.proofs.cursor.walk.+least.Given as goal
@@ -10,7 +10,7 @@ abbrev pub invariant-least_common-loop-reached : goal.invariant-least_common-loo
 invariant-least_common-loop-reached l = record {
   some : 0 < length l.members;
   risen : HasRisen l.n (common l.initial.members) l.number (common l.members);
-  steps : Spends (left_in l.initial.members) (left_in l.members) l.initial.steps l.steps;
+  steps : Spends (steps_left_in l.initial.members) (steps_left_in l.members) l.initial.steps l.steps;
   postings : CountsPostings (postings_in l.initial.members) (postings_in l.members) l.initial.steps l.steps;
   levels : levels l.members ≡ levels l.initial.members;
 }
@@ -35,7 +35,7 @@ abbrev pub invariant-least_united-loop-member : goal.invariant-least_united-loop
 invariant-least_united-loop-member l = record {
   unvisited : Unvisited l.initial.members l.members l.member-index;
   dropped : HaveDropped l.n (take l.member-index l.initial.members) (take l.member-index l.members) l.least;
-  steps : Spends (left_in l.initial.members) (left_in l.members) l.initial.steps l.steps;
+  steps : Spends (steps_left_in l.initial.members) (steps_left_in l.members) l.initial.steps l.steps;
   postings : CountsPostings (postings_in l.initial.members) (postings_in l.members) l.initial.steps l.steps;
   levels : levels l.members ≡ levels l.initial.members;
 }
@@ -44,7 +44,7 @@ abbrev pub invariant-reach_common-loop-member : goal.invariant-reach_common-loop
 invariant-reach_common-loop-member l = record {
   unvisited : Unvisited l.initial.members l.members l.member-index;
   reached : HaveReached l.n (take l.member-index l.initial.members) (take l.member-index l.members) l.number;
-  steps : Spends (left_in l.initial.members) (left_in l.members) l.initial.steps l.steps;
+  steps : Spends (steps_left_in l.initial.members) (steps_left_in l.members) l.initial.steps l.steps;
   postings : CountsPostings (postings_in l.initial.members) (postings_in l.members) l.initial.steps l.steps;
   levels : levels l.members ≡ levels l.initial.members;
 }
@@ -53,7 +53,7 @@ abbrev pub decreases-Walk::least_from : goal.decreases-Walk::least_from
 decreases-Walk::least_from l = 4 * l.self.now.below + 3
 
 abbrev pub decreases-Node::least_from : goal.decreases-Node::least_from
-decreases-Node::least_from l = 4 * (ahead l.self.now).below + 2
+decreases-Node::least_from l = 4 * (ahead_of_node l.self.now).below + 2
 
 abbrev pub decreases-least_other : goal.decreases-least_other
 decreases-least_other l = 4 * l.walk.now.inner.value.below + 4

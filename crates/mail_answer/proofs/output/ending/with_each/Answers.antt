@@ -1,6 +1,6 @@
 -- `with_each` returns the ending after more bytes, byte by byte.
 use Rattle.mail_answer.proofs.Words.{◌≡◌, ◌∙◌, ◌+◌, ℕ, List, [], ◌∷◌, ◌++◌, get_or, take, ap, sym, append_assoc, arith}
-use Rattle.mail_answer.proofs.Words.{take_more, ending_of, with_byte, Ending}
+use Rattle.mail_answer.proofs.Words.{take_more, ending_of_bytes, with_byte, Ending}
 use Rattle.mail_answer.proofs.OutputLaws.Endings.{ending_more}
 use Rattle.mail_answer.proofs.output.ending.with_each.Goals as goal
 
@@ -12,5 +12,5 @@ loop-b-preserved c =
     let next : take (i + 1) more ≡ take i more ++ get_or more i 0 ∷ [] = take_more more i 0 (omega arith) in
     c.with_byte-ending.ensures ∙ ap (λ (e : Ending). with_byte e (get_or more i 0)) (c.loop-b.invariant bytes is)
     ∙ sym (ending_more (bytes ++ take i more) (get_or more i 0))
-    ∙ ap ending_of (append_assoc bytes (take i more) (get_or more i 0 ∷ [])
+    ∙ ap ending_of_bytes (append_assoc bytes (take i more) (get_or more i 0 ∷ [])
     ∙ ap (λ (l : List ℕ). bytes ++ l) (sym next))

@@ -1,5 +1,6 @@
 -- `push_excerpt` adds the excerpt of a message, because the header that it read has the message's fields.
-use Rattle.mail_answer.proofs.Words.{◌≡◌, ◌<◌, ℕ, List, Option, length, arith, known_message, Tells, record_at, Excerpt}
+use Rattle.mail_answer.proofs.Words.{◌≡◌, ◌<◌, ℕ, List, Option, length, arith, known_message, IsIfKnown, record_at}
+use Rattle.mail_answer.proofs.Words.{Excerpt}
 use Rattle.mail_answer.proofs.OutputLaws.HeaderReading.{excerpt_told}
 use Rattle.mail_answer.proofs.ArchiveLaws.IndexedLemmas.{message_inside}
 use Rattle.mail_answer.proofs.OutputLaws.SheetLemmas.{writes_nothing, writes_less}
@@ -37,7 +38,7 @@ returns-clause-writes g c =
     let held : Option (List (List ℕ)) = g.A.Archives.held c.read_header.new.archives in
     let is : c.message-message.result ≡ record_at t.messages c.args.n =
     cc (c.message-message.ensures, c.index.ensures, record_known t.messages c.args.n c.requires.below) in
-    let told : Tells (known_message Excerpt t held c.args.n) c.as_slice.result.now =
+    let told : IsIfKnown (known_message Excerpt t held c.args.n) c.as_slice.result.now =
     rw c.as_slice.ensures.value (excerpt_told t held c.args.n c.message-message.result c.path_of-path.result.now
     c.push_lines.new.text.items c.in_ok-header.header is c.path_of-path.ensures.path c.in_ok-header.ensures.fields
     (rw c.new-text.ensures.items at c.in_ok-push_lines.ensures)) in

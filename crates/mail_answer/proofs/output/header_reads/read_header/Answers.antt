@@ -1,6 +1,6 @@
 -- `read_header` reads the fields of a message, line by line.
 use Rattle.mail_answer.proofs.Words.{ℕ, List, Option, IfSome, drop, ap, ◌∙◌, subst, lines, fields_of, WillHaveFields}
-use Rattle.mail_answer.proofs.Words.{Reading, coming, IsInside}
+use Rattle.mail_answer.proofs.Words.{Reading, bytes_not_passed, IsInsideArchive}
 use Rattle.mail_answer.proofs.ArchiveLaws.KnowledgeLemmas.{inside_later}
 use Rattle.mail_answer.proofs.OutputLaws.HeaderReading.{first_passed}
 use Rattle.mail_answer.proofs.output.header_reads.read_header.Goals as goal
@@ -9,7 +9,7 @@ pub lines-init : goal.lines-init
 lines-init g c =
     let held : Option (List (List ℕ)) = g.A.Archives.held c.first_line.new.archives in
     let number : ℕ = g.A.Archives.number c.args.archives.now in
-    let old : IsInside number held c.over-reader.result = rw c.over-reader.ensures
+    let old : IsInsideArchive number held c.over-reader.result = rw c.over-reader.ensures
     (inside_later (g.A.Archives.held c.args.archives.now) held number _ c.in_ok-first.ensures.archives.keeps.held
     c.requires.inside) in
     let inside = c.in_ok-first.ensures.inside in
@@ -18,8 +18,8 @@ lines-init g c =
       inside = rw c.pass.ensures (record { exists = inside.exists; fits = inside.fits; within = inside.within });
       archive = ap (λ (r : Reading). r.archive) c.pass.ensures ∙ c.in_ok-first.ensures.archive
           ∙ ap (λ (r : Reading). r.archive) c.over-reader.ensures;
-      fields = subst (λ (r : Reading). IfSome (coming held r)
-          (λ bytes. WillHaveFields (coming held c.pass.new.self) c.new-header.result
+      fields = subst (λ (r : Reading). IfSome (bytes_not_passed held r)
+          (λ bytes. WillHaveFields (bytes_not_passed held c.pass.new.self) c.new-header.result
           (fields_of (drop 1 (lines bytes))))) c.over-reader.ensures
           (first_passed held number c.in_ok-first.first c.over-reader.result c.first_line.new.self c.pass.new.self
           c.new-header.result old c.in_ok-first.ensures.coming c.in_ok-first.ensures.some

@@ -1,6 +1,7 @@
 -- `Walk::united_in_groups` has the messages of all walks, group by group, and each round leaves fewer walks.
-use Rattle.mail_answer.proofs.Words.{◌≡◌, ◌∙◌, Bool, ℕ, List, length, drop, sym, ap, arith, truth_at, Ahead, united}
-use Rattle.mail_answer.proofs.Words.{left_in}
+use Rattle.mail_answer.proofs.Words.{◌≡◌, ◌∙◌, Bool, ℕ, List, length, drop, sym, ap, arith, truth_at, WalkAhead}
+use Rattle.mail_answer.proofs.Words.{union_of}
+use Rattle.mail_answer.proofs.Words.{steps_left_in}
 use Rattle.std.specs.Vec.{vec_len}
 use Rattle.mail_answer.proofs.CursorLaws.Groups.{grouped_more}
 use Rattle.mail_answer.proofs.CursorLaws.Begins.{some_walk}
@@ -9,11 +10,11 @@ use Rattle.mail_answer.proofs.cursor.walk.Walk.united_in_groups.Goals as goal
 
 pub loop-walks-preserved : goal.loop-walks-preserved
 loop-walks-preserved c =
-    let walks : List Ahead = c.loop-walks.walks.items in
+    let walks : List WalkAhead = c.loop-walks.walks.items in
     let at : ℕ = c.saturating_sub.result in
     let items : c.in_ok-group.group.items ≡ drop at walks = c.in_ok-group.ensures.tail in
-    let left : c.united.result.left ≡ left_in (drop at walks) = c.united.ensures.left ∙ ap left_in items in
-    let told : c.united.result.truths ≡ united (drop at walks) = c.united.ensures.truths ∙ ap united items in
+    let left : c.united.result.left ≡ steps_left_in (drop at walks) = c.united.ensures.left ∙ ap steps_left_in items in
+    let told : c.united.result.truths ≡ union_of (drop at walks) = c.united.ensures.truths ∙ ap union_of items in
     rw (c.in_ok-push.ensures.items, c.in_ok-group.ensures.items)
     (grouped_more _ c.loop-walks.groups.items walks at c.united.result
     (omega (arith, c.saturating_sub.ensures, c.len.ensures, c.loop-walks.walks.ok.0))

@@ -1,7 +1,7 @@
 -- `AnswerWriter::push_all` adds the messages to the answer, message by message.
 use Rattle.mail_answer.proofs.Words.{◌≡◌, ℕ, List, [], ◌∷◌, ◌++◌, length, Option, Some, Result, Ok, refl, ap, subst}
 use Rattle.mail_answer.proofs.Words.{sym, ◌∙◌, append_assoc, append-nil, arith, err_from_is_err_and, AreNumbers}
-use Rattle.mail_answer.proofs.Words.{known_answer, known_message, joined, Tells, Writes}
+use Rattle.mail_answer.proofs.Words.{known_answer, known_message, joined_texts, IsIfKnown, WritesText}
 use Rattle.mail_answer.proofs.ThreadLaws.NumberLists.{numbers_next, few_numbers, known_first, known_none}
 use Rattle.mail_answer.proofs.OutputLaws.SheetLemmas.{joins_gathered, writes_next, writes_stop, writes_less, writes_err}
 use Rattle.mail_answer.proofs.OutputLaws.SheetLemmas.{tells-joined, joins_more, unsent_before, joined-nothing}
@@ -65,7 +65,7 @@ returns-in_err-push-clause-messages g c =
     record {
       text = rw (so_far, ap (known_answer f t held) took ∙ known_first f t held c.in-Some.n c.next.new.self)
           (writes_next (g.O.Out.taken c.args.out.now) (g.O.Out.taken c.loop-n.out) (g.O.Out.taken c.push.new.out)
-          c.args.self.now.sheet c.loop-n.self.sheet c.push.new.self.sheet j.0 (joined next rest)
+          c.args.self.now.sheet c.loop-n.self.sheet c.push.new.self.sheet j.0 (joined_texts next rest)
           c.from_residual.result (j.1, j.3, j.4)
           (writes_stop (g.O.Out.taken c.loop-n.out) (g.O.Out.taken c.push.new.out) c.loop-n.self.sheet
           c.push.new.self.sheet next rest c.from_residual.result c.from_residual.ensures.0
@@ -107,9 +107,9 @@ loop-n-preserved g c =
           (subst (AreNumbers (length t.messages)) took i.numbers);
       counted = omega (arith, i.counted, ap length took);
       joins = (
-        joined j.0 next,
+        joined_texts j.0 next,
         j.1 ++ w.0,
-        so_far ∙ ap (λ (k : Option (List ℕ)). joined j.0 k)
+        so_far ∙ ap (λ (k : Option (List ℕ)). joined_texts j.0 k)
             (ap (known_answer c.args.self.now.format t held) took
             ∙ known_first c.args.self.now.format t held c.in-Some.n c.next.new.self) ∙ joined-assoc j.0 next rest,
         tells-joined j.0 next j.1 w.0 j.3 w.1,
@@ -137,10 +137,11 @@ returns-in_err-send-clause-messages g c =
     let held : Option (List (List ℕ)) = g.A.Archives.held c.loop-n.archives in
     let rest : Option (List ℕ) = known_answer f t held c.loop-n.numbers in
     let ended : c.loop-n.numbers ≡ [] = c.in_default.ensures.0 in
-    let nothing : Tells rest [] = rw ended (known_none f t held) in
+    let nothing : IsIfKnown rest [] = rw ended (known_none f t held) in
     let all : i.passed.0 ≡ c.args.numbers.now =
     sym (i.passed.1 ∙ ap (λ (ns : List ℕ). i.passed.0 ++ ns) ended ∙ append-nil i.passed.0) in
-    let last : Writes (g.O.Out.taken c.loop-n.out) (g.O.Out.taken c.send.new.out) c.loop-n.self.sheet c.send.new.self
+    let last : WritesText (g.O.Out.taken c.loop-n.out) (g.O.Out.taken c.send.new.out) c.loop-n.self.sheet
+    c.send.new.self
     (Some []) c.from_residual-in_err-send.result =
     writes_err (g.O.Out.taken c.loop-n.out) (g.O.Out.taken c.send.new.out) c.loop-n.self.sheet c.send.new.self (Some [])
     c.from_residual-in_err-send.result c.from_residual-in_err-send.ensures.0 c.in_err-send.ensures.writes in
@@ -167,7 +168,7 @@ returns-clause-messages g c =
     let held : Option (List (List ℕ)) = g.A.Archives.held c.loop-n.archives in
     let rest : Option (List ℕ) = known_answer f t held c.loop-n.numbers in
     let ended : c.loop-n.numbers ≡ [] = c.in_default.ensures.0 in
-    let nothing : Tells rest [] = rw ended (known_none f t held) in
+    let nothing : IsIfKnown rest [] = rw ended (known_none f t held) in
     let all : i.passed.0 ≡ c.args.numbers.now =
     sym (i.passed.1 ∙ ap (λ (ns : List ℕ). i.passed.0 ++ ns) ended ∙ append-nil i.passed.0) in
     let done : Result ℕ ℕ = Ok 0 in

@@ -1,6 +1,7 @@
 -- The messages so far were added to the answer and counted.
 use Rattle.mail_answer.proofs.Words.{◌≡◌, ◌+◌, ◌++◌, ℕ, List, length, Option, flat_map, AreNumbers, known_answer}
-use Rattle.mail_answer.proofs.Words.{closed, AreSpansOf, joined, Tells, Joins, Raw, Mbox, KeepsArchives, IsSameAnswer}
+use Rattle.mail_answer.proofs.Words.{closed_text, AreSpansOf, joined_texts, IsIfKnown, AddsBytes, Raw, Mbox}
+use Rattle.mail_answer.proofs.Words.{KeepsArchives, IsSameAnswer}
 use Rattle.mail_answer.proofs.output.answer_writer.AnswerWriter.push_all.Given as goal
 
 abbrev pub invariant-loop-n : goal.invariant-loop-n
@@ -11,14 +12,16 @@ invariant-loop-n g l = record {
   counted : l.count + length l.numbers ≡ length l.fn.numbers;
   joins : (known : Option (List ℕ)) × (text : List ℕ)
       × (known_answer l.fn.self.format l.fn.self.places.table (g.A.Archives.held l.archives) l.fn.numbers
-      ≡ joined known (known_answer l.fn.self.format l.fn.self.places.table (g.A.Archives.held l.archives)
+      ≡ joined_texts known (known_answer l.fn.self.format l.fn.self.places.table (g.A.Archives.held l.archives)
       l.numbers))
-      × Tells known text × Joins (g.O.Out.taken l.fn.out) (g.O.Out.taken l.out) l.fn.self.sheet l.self.sheet text;
+      × IsIfKnown known text × AddsBytes (g.O.Out.taken l.fn.out) (g.O.Out.taken l.out) l.fn.self.sheet l.self.sheet
+      text;
   kept : l.self.sheet.sent ≡ 0 → l.out ≡ l.fn.out;
   out_count : g.O.Out.failures l.out ≡ g.O.Out.failures l.fn.out;
   passed : (done : List ℕ) × (l.fn.numbers ≡ done ++ l.numbers)
       × (l.fn.self.format ≡ Mbox → (spans : List (List ℕ)) × AreSpansOf l.fn.self.places.table done spans
-      × Joins (g.O.Out.taken l.fn.out) (g.O.Out.taken l.out) l.fn.self.sheet l.self.sheet (flat_map closed spans));
+      × AddsBytes (g.O.Out.taken l.fn.out) (g.O.Out.taken l.out) l.fn.self.sheet l.self.sheet
+      (flat_map closed_text spans));
   unasked : l.fn.self.format ≡ Raw → l.archives ≡ l.fn.archives;
   archives_count : g.A.Archives.failures l.archives ≡ g.A.Archives.failures l.fn.archives;
 }

@@ -2,7 +2,7 @@
 -- difference.
 use Rattle.mail_answer.proofs.Words.{◌≡◌, ◌∙◌, ◌+◌, ◌-◌, ◌<◌, ◌≤◌, ◌==◌, true, ℕ, List, [], ◌∷◌, ◌++◌, length, get_or}
 use Rattle.mail_answer.proofs.Words.{take, drop, drop-cons, add-one, append_assoc, ap, sym, arith, eqb-true}
-use Rattle.mail_answer.proofs.Words.{take-append-drop, take_rest, get_or-take, ending_of}
+use Rattle.mail_answer.proofs.Words.{take-append-drop, take_rest, get_or-take, ending_of_bytes}
 use Rattle.std.proofs.lemmas.List.{length-take, length-drop}
 use Rattle.mail_answer.proofs.OutputLaws.Endings.{ending_behind}
 use Rattle.mail_answer.proofs.output.ending.Ending.with_bytes.Goals as goal
@@ -23,8 +23,8 @@ returns-in-Some c =
     let before : at < most = omega (arith, low, length-take most more) in
     let split : more ≡ take at more ++ 10 ∷ drop (at + 1) more =
     split_at more at most before (omega arith) c.in-Some.ensures.1 in
-    c.with_each.ensures [] c.new.ensures ∙ ap ending_of behind
+    c.with_each.ensures [] c.new.ensures ∙ ap ending_of_bytes behind
     ∙ sym (ending_behind (bytes ++ take at more) (drop (at + 1) more)
     (omega (arith, before, length-drop (at + 1) more)))
-    ∙ ap ending_of (append_assoc bytes (take at more) (10 ∷ drop (at + 1) more)
+    ∙ ap ending_of_bytes (append_assoc bytes (take at more) (10 ∷ drop (at + 1) more)
     ∙ ap (λ (l : List ℕ). bytes ++ l) (sym split))
