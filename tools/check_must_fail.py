@@ -109,12 +109,12 @@ pub fn rest_of(n: u32) -> u32
     ensures less { result < 2 }
     ensures most { result ≤ n }
 {
-    if n < 2 { n } else { rest_behind(n) }
+    if n < 2 { n } else { rest_after(n) }
 }
 
 /// The same of a number that 2 can be taken away from.
 #[cycle(halving)]
-fn rest_behind(n: u32) -> u32
+fn rest_after(n: u32) -> u32
     requires { 2 ≤ n }
     ensures less { result < 2 }
     ensures most { result ≤ n }
@@ -152,8 +152,8 @@ use Rattle.counters.proofs.+halving.Given as goal
 abbrev pub decreases-rest_of : goal.decreases-rest_of
 decreases-rest_of l = 2 * l.n + 1
 
-abbrev pub decreases-rest_behind : goal.decreases-rest_behind
-decreases-rest_behind l = 2 * l.n
+abbrev pub decreases-rest_after : goal.decreases-rest_after
+decreases-rest_after l = 2 * l.n
 """
 
 # What a check says of a function whose proof names what an edit took away, where the name of the record is long.
@@ -194,7 +194,7 @@ EDITS = {
     "given_one_more": ([("smaller(self.count, 100)", "smaller(self.count, 101)")], "most", TOGETHER),
     "given_none": ([("smaller(self.count, 100)", "smaller(self.count, 0)")], "count", TOGETHER),
     "rest_is_two": ([("if n < 2 { n }", "if n < 3 { n }")], "less", TOGETHER),
-    "rest_is_whole": ([("rest_behind(n) }", "rest_behind(n) + n }")], "less", TOGETHER),
+    "rest_is_whole": ([("rest_after(n) }", "rest_after(n) + n }")], "less", TOGETHER),
     "unknown_name": ([("if a < b { a } else { b }", "if a < c { a } else { b }")], "either", "NOT refused: it didn't reach the prover"),
     "without_a_clause": ([("let whole = sum;", "let whole = n;")], "", "NOT refused by a clause that it names, but by returns"),
 }

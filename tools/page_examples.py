@@ -141,7 +141,7 @@ def markdown_sessions(lines):
         if kind == "console":
             yield place, steps_of(block)
         if kind == "sh" and not block[0].startswith(("#!", "make ")):
-            yield place, [("\n".join(block), text_behind(lines, place))]
+            yield place, [("\n".join(block), text_after(lines, place))]
 
 
 def blocks_of(lines):
@@ -155,7 +155,7 @@ def blocks_of(lines):
         place += 1
 
 
-def text_behind(lines, place):
+def text_after(lines, place):
     """The lines of the first block behind the one at this line, if it is of text."""
     behind = next((it for it in blocks_of(lines) if it[0] > place), None)
     return behind[2] if behind and behind[1] == "text" else []

@@ -14,9 +14,9 @@ same_at xs ys i d h =
     ∙ get_or-drop i ys zero d ∙ ap (λ k. get_or ys k d) (add-zero i)
 
 -- after a write at the index, the elements after the index are as they were
-pub same_behind : {X : Type 0} (xs ys : List X) (i : ℕ) (v : X) → drop i xs ≡ drop i ys → drop (i + 1) (set xs i v)
+pub same_after : {X : Type 0} (xs ys : List X) (i : ℕ) (v : X) → drop i xs ≡ drop i ys → drop (i + 1) (set xs i v)
     ≡ drop (i + 1) ys
-same_behind xs ys i v h =
+same_after xs ys i v h =
     drop-set-lt (i + 1) xs i v (omega arith) ∙ sym (drop-drop 1 i xs) ∙ ap (λ l. drop 1 l) h ∙ drop-drop 1 i ys
 
 -- the bytes at an index, if all are known

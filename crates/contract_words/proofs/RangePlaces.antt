@@ -18,8 +18,8 @@ cut_inside front inside rest =
     let count : length (front ++ inside) - length front ≡ length inside = omega (arith, length-append front inside) in
     ap₂ (λ n xs. take n xs) count (drop-append_seam front (inside ++ rest)) ∙ take-append_seam inside rest
 
-cut_behind : (front inside rest : List ℕ) → drop (length (front ++ inside)) (front ++ (inside ++ rest)) ≡ rest
-cut_behind front inside rest = ap (drop (length (front ++ inside))) (sym (append_assoc front inside rest))
+cut_after : (front inside rest : List ℕ) → drop (length (front ++ inside)) (front ++ (inside ++ rest)) ≡ rest
+cut_after front inside rest = ap (drop (length (front ++ inside))) (sym (append_assoc front inside rest))
     ∙ drop-append_seam (front ++ inside) rest
 
 map_one : {X Y : Type 0} (f : X → Y) (x : X) (b : Bool) → map f (cond b (x ∷ []) []) ≡ cond b (f x ∷ []) []
@@ -29,7 +29,7 @@ map_one f x b = grind arith
 module _ (passes : List ℕ → List ℕ → List ℕ → Bool) (view : List ℕ → List ℕ) where
   -- the view of the elements, if they pass
   abbrev pub if_passes : List ℕ → List ℕ → List ℕ → List (List ℕ)
-  if_passes before inside behind = cond (passes before inside behind) (view inside ∷ []) []
+  if_passes before inside after = cond (passes before inside after) (view inside ∷ []) []
 
   -- the views of the ranges that begin with these elements and end in the rest
   abbrev pub seen_on : List ℕ → List ℕ → List ℕ → List (List ℕ)
@@ -51,7 +51,7 @@ module _ (passes : List ℕ → List ℕ → List ℕ → Bool) (view : List ℕ
   seen_in_one : (front inside rest : List ℕ)
       → seen_in (front ++ (inside ++ rest)) ((length front, length (front ++ inside)) ∷ [])
       ≡ if_passes (reverse front) inside rest
-  seen_in_one front inside rest = grind (arith, map_one, cut_before, cut_inside, cut_behind)
+  seen_in_one front inside rest = grind (arith, map_one, cut_before, cut_inside, cut_after)
 
   -- the ranges from one place that end in the rest
   seen_in_place : (front inside rest : List ℕ)
@@ -69,10 +69,10 @@ module _ (passes : List ℕ → List ℕ → List ℕ → Bool) (view : List ℕ
       (map (λ end. (length front, end)) (numbers_from (suc (length (front ++ longer))) (length cs)))
       ∙ ap₂ ◌++◌ (seen_in_one front longer cs) (seen_in_place front longer cs)
 
-  pub seen_behind-places : (front rest : List ℕ) → seen_in (front ++ rest) (ranges_from (length front) rest)
+  pub seen_after-places : (front rest : List ℕ) → seen_in (front ++ rest) (ranges_from (length front) rest)
       ≡ seen_from (reverse front) rest
-  seen_behind-places front [] = refl
-  seen_behind-places front (c ∷ cs) =
+  seen_after-places front [] = refl
+  seen_after-places front (c ∷ cs) =
       let front' : List ℕ = front ++ c ∷ [] in
       let here : List (ℕ × ℕ) = map (λ end. (length front, end)) (numbers_from (suc (length front)) (length (c ∷ cs)))
       in
@@ -83,4 +83,4 @@ module _ (passes : List ℕ → List ℕ → List ℕ → Bool) (view : List ℕ
       (numbers_from (suc (length l)) (length (c ∷ cs))))) (sym (append-nil front))
       ∙ seen_in_place front [] (c ∷ cs))
       (ap₂ (λ text n. seen_in text (ranges_from n cs)) (sym (append_assoc front (c ∷ []) cs)) place
-      ∙ seen_behind-places front' cs ∙ ap (λ before. seen_from before cs) (reverse-append front (c ∷ [])))
+      ∙ seen_after-places front' cs ∙ ap (λ before. seen_from before cs) (reverse-append front (c ∷ [])))

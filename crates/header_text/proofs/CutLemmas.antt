@@ -10,8 +10,8 @@ Lacks c [] = Unit {0}
 Lacks c (b ∷ bs) = ((b == c) ≡ false) × Lacks c bs
 
 -- the parts are what is before the first byte c, and what is after it
-pub record IsCut (c : ℕ) (bytes before behind : List ℕ) : Type 0 where
-  pub joined : bytes ≡ before ++ c ∷ behind
+pub record IsCut (c : ℕ) (bytes before after : List ℕ) : Type 0 where
+  pub joined : bytes ≡ before ++ c ∷ after
   pub free : Lacks c before
 
 abbrev put : ℕ → Option (List ℕ × List ℕ) → Option (List ℕ × List ℕ)
@@ -47,25 +47,25 @@ cut_at-none c (b ∷ bs) before = cut_at-no c b bs (before 0 (omega arith))
     ∙ ap (put b) (cut_at-none c bs (λ k l. before (suc k) (omega arith)))
 
 -- cut into given parts: the first of them doesn't have the byte
-pub cut_at-is : (c : ℕ) (before behind : List ℕ) → Lacks c before → cut_at c (before ++ c ∷ behind)
-    ≡ Some (before, behind)
-cut_at-is c [] behind free = cut_at-yes c c behind (grind arith)
-cut_at-is c (b ∷ before) behind free = cut_at-no c b (before ++ c ∷ behind) free.0
-    ∙ ap (put b) (cut_at-is c before behind free.1)
+pub cut_at-is : (c : ℕ) (before after : List ℕ) → Lacks c before → cut_at c (before ++ c ∷ after)
+    ≡ Some (before, after)
+cut_at-is c [] after free = cut_at-yes c c after (grind arith)
+cut_at-is c (b ∷ before) after free = cut_at-no c b (before ++ c ∷ after) free.0
+    ∙ ap (put b) (cut_at-is c before after free.1)
 
 same_parts : (p q : List ℕ × List ℕ) → Some p ≡ Some q → p ≡ q
 same_parts p q h = ap (λ (o : Option (List ℕ × List ℕ)). unwrap_or o p) h
 
-pub IsCut-from : (c : ℕ) (bytes before behind : List ℕ) → cut_at c bytes ≡ Some (before, behind)
-    → IsCut c bytes before behind
-IsCut-from c [] before behind e = absurd (cc)
-IsCut-from c (b ∷ bs) before behind e = go (b == c) refl (cut_at c bs) refl (IsCut-from c bs)
+pub IsCut-from : (c : ℕ) (bytes before after : List ℕ) → cut_at c bytes ≡ Some (before, after)
+    → IsCut c bytes before after
+IsCut-from c [] before after e = absurd (cc)
+IsCut-from c (b ∷ bs) before after e = go (b == c) refl (cut_at c bs) refl (IsCut-from c bs)
   where
     parts : List ℕ × List ℕ
-    parts = (before, behind)
+    parts = (before, after)
 
     go : (t : Bool) → (b == c) ≡ t → (o : Option (List ℕ × List ℕ)) → cut_at c bs ≡ o
-        → ((x y : List ℕ) → cut_at c bs ≡ Some (x, y) → IsCut c bs x y) → IsCut c (b ∷ bs) before behind
+        → ((x y : List ℕ) → cut_at c bs ≡ Some (x, y) → IsCut c bs x y) → IsCut c (b ∷ bs) before after
     go true t o f later = grind (arith, parts, eqb-true)
     go false t None f later = absurd (cc (sym (cut_at-no c b bs t ∙ ap (put b) f) ∙ e))
     go false t (Some (x, y)) f later =
@@ -73,7 +73,7 @@ IsCut-from c (b ∷ bs) before behind e = go (b == c) refl (cut_at c bs) refl (I
         let here : List ℕ × List ℕ = (b ∷ x, y) in
         let same : here ≡ parts = same_parts here parts (sym (cut_at-no c b bs t ∙ ap (put b) f) ∙ e) in
         let front : b ∷ x ≡ before = ap (λ (p : List ℕ × List ℕ). p.0) same in
-        let back : y ≡ behind = ap (λ (p : List ℕ × List ℕ). p.1) same in
+        let back : y ≡ after = ap (λ (p : List ℕ × List ℕ). p.1) same in
         record {
           joined = rw (← front, ← back) (ap (λ (l : List ℕ). b ∷ l) inner.joined);
           free =
@@ -85,16 +85,16 @@ Lacks-from c [] e = tt
 Lacks-from c (b ∷ bs) e = grind (arith, Lacks-from c bs)
 
 -- the front up to a byte is what is before it
-pub split_while-lacks : (c : ℕ) (before behind : List ℕ) → Lacks c before
-    → split_while (λ b. not (b == c)) (before ++ c ∷ behind) ≡ (before, c ∷ behind)
-split_while-lacks c [] behind free = let is : (c == c) ≡ true = grind arith in rw (is, split_while) refl
-split_while-lacks c (b ∷ before) behind free = grind (arith, split_while-lacks c before behind free.1)
+pub split_while-lacks : (c : ℕ) (before after : List ℕ) → Lacks c before
+    → split_while (λ b. not (b == c)) (before ++ c ∷ after) ≡ (before, c ∷ after)
+split_while-lacks c [] after free = let is : (c == c) ≡ true = grind arith in rw (is, split_while) refl
+split_while-lacks c (b ∷ before) after free = grind (arith, split_while-lacks c before after free.1)
 
-pub split_while-cut : (c : ℕ) (bytes before behind : List ℕ) → cut_at c bytes ≡ Some (before, behind)
+pub split_while-cut : (c : ℕ) (bytes before after : List ℕ) → cut_at c bytes ≡ Some (before, after)
     → (split_while (λ b. not (b == c)) bytes).0 ≡ before
-split_while-cut c bytes before behind e =
-    let cut = IsCut-from c bytes before behind e in
-    rw cut.joined (ap (λ (p : List ℕ × List ℕ). p.0) (split_while-lacks c before behind cut.free))
+split_while-cut c bytes before after e =
+    let cut = IsCut-from c bytes before after e in
+    rw cut.joined (ap (λ (p : List ℕ × List ℕ). p.0) (split_while-lacks c before after cut.free))
 
 split_while-whole : (c : ℕ) (bytes : List ℕ) → Lacks c bytes → split_while (λ b. not (b == c)) bytes ≡ (bytes, [])
 split_while-whole c [] free = refl

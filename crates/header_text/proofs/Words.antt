@@ -15,12 +15,11 @@ unfoldable pub use Rattle.header_text.specs.Charsets.{charset_of, text_of}
 pub use Rattle.header_text.specs.Cuts.{cut_at}
 pub use Rattle.header_text.specs.EncodedWords.{AreLeftmost, BeginsWord, EncodedWord, NoneBegins, Pieces, WordAfter}
 pub use Rattle.header_text.specs.EncodedWords.{after, equals_sign, is_b, is_charset_byte, is_q, is_text_byte}
-pub use Rattle.header_text.specs.EncodedWords.{is_well_formed, later_words_text, onto_front, value_pieces}
-pub use Rattle.header_text.specs.EncodedWords.{pieces_behind}
+pub use Rattle.header_text.specs.EncodedWords.{is_well_formed, later_words_text, onto_front, value_pieces, pieces_after}
 pub use Rattle.header_text.specs.EncodedWords.{plain_text, question, spelling_of, text_between, word_of, word_text}
 pub use Rattle.header_text.specs.EncodedWords.{words_text, ◌>>=◌}
 unfoldable pub use Rattle.header_text.specs.EncodedWords.{decoded_value, word_and_later, word_at}
-pub use Rattle.header_text.specs.Escapes.{behind_equals, escaped_byte, unescaped_by}
+pub use Rattle.header_text.specs.Escapes.{after_equals, escaped_byte, unescaped_by}
 unfoldable pub use Rattle.header_text.specs.Escapes.{q_bytes, unescaped_bytes}
 pub use Rattle.header_text.specs.Headers.{HeaderField, continued_and_fields, field_of_line, fields_in, fields_size}
 pub use Rattle.header_text.specs.Headers.{header, is_continuation, is_field_name_byte, lines_before_empty, lines_within}
@@ -36,7 +35,7 @@ pub use Rattle.header_text.specs.Inside.Fronts.{IsFront}
 pub use Rattle.header_text.specs.Inside.Ids.{after_last_open, closed_texts, ids_of_texts, onto_first}
 pub use Rattle.header_text.specs.Inside.ShownWords.{no_word, shown_found, shown_word, word_first}
 pub use Rattle.header_text.specs.OpenFields.{fields_with, is_field_open_after, is_field_open_after_lines, onto_last}
-pub use Rattle.header_text.specs.Stages.{has_empty, lines_size, stage_behind}
+pub use Rattle.header_text.specs.Stages.{has_empty, lines_size, stage_after}
 unfoldable pub use Rattle.header_text.specs.Stages.{stage_of}
 pub use Rattle.header_text.specs.Symbols.{symbols_of}
 pub use Rattle.header_text.specs.Unfolding.{without_breaks}

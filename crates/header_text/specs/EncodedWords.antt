@@ -108,18 +108,18 @@ onto_front b [] rest = record { words = []; rest = b ∷ rest }
 onto_front b (w ∷ ws) rest = record { words = record { between = b ∷ w.between; word = w.word } ∷ ws; rest = rest }
 
 -- the pieces of what comes after this many bytes
-abbrev pub pieces_behind : ℕ → List ℕ → Pieces
-pieces_behind skipped [] = record { words = []; rest = [] }
-pieces_behind (suc skipped) (b ∷ bs) = pieces_behind skipped bs
-pieces_behind zero (b ∷ bs) = elim (word_at (b ∷ bs)) [
-  | Some w ↦ let later : Pieces = pieces_behind (length (spelling_of w) - 1) bs
+abbrev pub pieces_after : ℕ → List ℕ → Pieces
+pieces_after skipped [] = record { words = []; rest = [] }
+pieces_after (suc skipped) (b ∷ bs) = pieces_after skipped bs
+pieces_after zero (b ∷ bs) = elim (word_at (b ∷ bs)) [
+  | Some w ↦ let later : Pieces = pieces_after (length (spelling_of w) - 1) bs
       in record { words = record { between = []; word = w } ∷ later.words; rest = later.rest }
-  | None ↦ let later : Pieces = pieces_behind zero bs in onto_front b later.words later.rest
+  | None ↦ let later : Pieces = pieces_after zero bs in onto_front b later.words later.rest
 ]
 
 -- the pieces of a value
 abbrev pub value_pieces : List ℕ → Pieces
-value_pieces value = pieces_behind zero value
+value_pieces value = pieces_after zero value
 
 -- no encoded word begins at any byte of a text that `later` follows
 abbrev pub NoneBegins : List ℕ → List ℕ → Type 0

@@ -35,6 +35,6 @@ q_bytes = unescaped_by (λ b. if b == 0x5F then 0x20 else b)
 
 -- an `=` before these bytes, decoded: the byte of the escape and what follows it, or the `=` and these bytes if it
 -- begins no escape
-abbrev pub behind_equals : List ℕ → ℕ × List ℕ
-behind_equals (b ∷ c ∷ bytes) = elim (escaped_byte 0x3D b c) [ Some n ↦ (n, bytes) | None ↦ (0x3D, b ∷ c ∷ bytes) ]
-behind_equals bytes = (0x3D, bytes)
+abbrev pub after_equals : List ℕ → ℕ × List ℕ
+after_equals (b ∷ c ∷ bytes) = elim (escaped_byte 0x3D b c) [ Some n ↦ (n, bytes) | None ↦ (0x3D, b ∷ c ∷ bytes) ]
+after_equals bytes = (0x3D, bytes)

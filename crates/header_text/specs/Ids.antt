@@ -25,9 +25,9 @@ is_inside_id b = not ((b == open_sign) || (b == close_sign))
 -- Whether a range of a value is an id: it is directly between a `<` and a `>`, and has neither. The range is given as
 -- the bytes before it, the nearest first, those inside it, and those after it.
 abbrev pub is_id_range : List ℕ → List ℕ → List ℕ → Bool
-is_id_range before inside behind = begins_with_byte open_sign before && list_all is_inside_id inside && begins_with_byte
+is_id_range before inside after = begins_with_byte open_sign before && list_all is_inside_id inside && begins_with_byte
     close_sign
-    behind
+    after
 
 -- the ranges of a value that are ids, in order
 abbrev pub id_ranges : List ℕ → List (ℕ × ℕ)

@@ -21,8 +21,8 @@ unfoldable pub stage_of : List (List ℕ) → Stage
 stage_of ls = if has_empty ls then Ended else if nat_lt (length (header ls)) (length ls) then Full else Open
 
 -- the stage after a line; the lines that counted before it have `size` bytes
-abbrev pub stage_behind : Stage → ℕ → List ℕ → Stage
-stage_behind Ended size l = Ended
-stage_behind Full size l = if is_empty l then Ended else Full
-stage_behind Open size l = if is_empty l then Ended else if nat_lt (most_in_header - size) (length l) then Full
+abbrev pub stage_after : Stage → ℕ → List ℕ → Stage
+stage_after Ended size l = Ended
+stage_after Full size l = if is_empty l then Ended else Full
+stage_after Open size l = if is_empty l then Ended else if nat_lt (most_in_header - size) (length l) then Full
     else Open

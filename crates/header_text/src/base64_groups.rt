@@ -64,12 +64,12 @@ pub fn decode_groups(symbols: &[u8], into: &mut Vec<u8>) -> Result<(), AllocErro
     let start = into.len();
     let size = symbols.len() / 4 * 3;
     into.resize(start + size, 0)?;
-    decode_behind(symbols, into, start);
+    decode_after(symbols, into, start);
     Ok(())
 }
 
 /// Writes the bytes of symbols in whole groups of four, from a place to the end.
-fn decode_behind(symbols: &[u8], into: &mut [u8], start: usize)
+fn decode_after(symbols: &[u8], into: &mut [u8], start: usize)
     requires some { 0 < length symbols.now }
     requires groups { length symbols.now % 4 ≡ 0 }
     requires symbols { (k : ℕ) → k < length symbols.now
@@ -77,6 +77,6 @@ fn decode_behind(symbols: &[u8], into: &mut [u8], start: usize)
     requires room { length into.old ≡ start + length symbols.now / 4 * 3 }
     ensures { into.new ≡ take start into.old ++ bytes_of_symbols symbols.now }
 {
-    let (_, behind) = into.split_at_mut(start);
-    let _ = STANDARD.decode_slice(symbols, behind);
+    let (_, after) = into.split_at_mut(start);
+    let _ = STANDARD.decode_slice(symbols, after);
 }

@@ -9,10 +9,10 @@ pub fn cut_at(byte: u8, bytes: &[u8]) -> Option<(&[u8], &[u8])>
     ensures { option_map (λ parts. (parts.0.now, parts.1.now)) result ≡ cut_at_of byte bytes.now }
 {
     // If the bytes begin with it, as when one escape follows another, no search is needed.
-    if let [first, behind @ ..] = bytes
+    if let [first, after @ ..] = bytes
         && *first == byte
     {
-        return Some((&bytes[..0], behind));
+        return Some((&bytes[..0], after));
     }
     let at = memchr(byte, bytes)?;
     Some((&bytes[..at], &bytes[at + 1..]))

@@ -66,7 +66,7 @@ fn word_of<'a>(charset: &'a [u8], encoding: &[u8], text: &'a [u8]) -> Option<Enc
 
 /// Returns the encoded word that begins with `=` and these bytes, and what follows it, if there is one.
 #[tactic(auto, unfolding(crate::specs::EncodedWords::word_and_later))]
-fn word_behind(bytes: &[u8]) -> Option<(EncodedWord<'_>, &[u8])>
+fn word_after(bytes: &[u8]) -> Option<(EncodedWord<'_>, &[u8])>
     ensures { option_map (λ f. (shown_word f.0, f.1.now)) result ≡ word_and_later bytes.now }
 {
     if let Some(rest) = bytes.strip_prefix(b"?")
@@ -89,15 +89,15 @@ fn find_word(value: &[u8]) -> Option<Found<'_>>
         f.later.now < length value.now) }
 {
     let mut rest = value;
-    while let Some((_, behind)) = cut_at(b'=', rest) {
-        if let Some((word, later)) = word_behind(behind) {
+    while let Some((_, after)) = cut_at(b'=', rest) {
+        if let Some((word, later)) = word_after(after) {
             return Some(Found {
-                between: &value[..value.len() - behind.len() - 1],
+                between: &value[..value.len() - after.len() - 1],
                 word,
                 later,
             });
         }
-        rest = behind;
+        rest = after;
     }
     None
 }

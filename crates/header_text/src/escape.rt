@@ -1,7 +1,7 @@
 //! Decodes bytes that are written as `=` and two hexadecimal digits.
 ghost use Rattle.std.specs.Prelude.{◌≡◌, ◌<◌, ◌≤◌, ◌+◌, ◌++◌, length, IfSome, OnOk, OnErr};
 ghost use Rattle.bstr.specs.Text.{Extends};
-ghost use Rattle.header_text.specs.Escapes.{hex_value, behind_equals as behind_equals_of, unescaped_bytes, q_bytes};
+ghost use Rattle.header_text.specs.Escapes.{hex_value, after_equals as after_equals_of, unescaped_bytes, q_bytes};
 
 use crate::cut::cut_at;
 use std::alloc::AllocError;
@@ -21,8 +21,8 @@ fn hex_digit(b: u8) -> Option<u8>
 
 /// Decodes an `=` before these bytes. If they begin with two hexadecimal digits, returns the byte with this value and
 /// what follows the digits; otherwise returns the `=` and these bytes.
-fn behind_equals(bytes: &[u8]) -> (u8, &[u8])
-    ensures { (result.0, result.1.now) ≡ behind_equals_of bytes.now }
+fn after_equals(bytes: &[u8]) -> (u8, &[u8])
+    ensures { (result.0, result.1.now) ≡ after_equals_of bytes.now }
 {
     if let [high, low, rest @ ..] = bytes
         && let Some(high) = hex_digit(*high)
@@ -50,9 +50,9 @@ fn add_unescaped(bytes: &[u8], into: &mut Vec<u8>) -> Result<(), AllocError>
     ensures kept { Extends into.old.items into.new.items }
 {
     let mut rest = bytes;
-    while let Some((plain, behind)) = cut_at(b'=', rest) {
+    while let Some((plain, after)) = cut_at(b'=', rest) {
         add_plain(plain, into)?;
-        let (byte, later) = behind_equals(behind);
+        let (byte, later) = after_equals(after);
         into.push(byte)?;
         rest = later;
     }
@@ -86,10 +86,10 @@ pub fn decode_q_into(text: &[u8], into: &mut Vec<u8>) -> Result<(), AllocError>
     ensures size { OnOk result (length into.new.items ≤ length into.old.items + length text.now) }
 {
     let mut rest = text;
-    while let Some((stretch, behind)) = cut_at(b'_', rest) {
+    while let Some((stretch, after)) = cut_at(b'_', rest) {
         unescape_into(stretch, into)?;
         into.push(b' ')?;
-        rest = behind;
+        rest = after;
     }
     unescape_into(rest, into)
 }

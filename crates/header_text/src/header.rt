@@ -2,7 +2,7 @@
 ghost use Rattle.std.specs.Prelude.{◌≡◌, ℕ, ◌+◌, ◌≤◌, Bool, true, List, [], ◌∷◌, ◌++◌, length, IfOk, OnOk, OnErr};
 ghost use Rattle.header_text.specs.Headers.{fields_of, fields_size, most_in_header};
 ghost use Rattle.header_text.specs.OpenFields.{is_field_open_after, fields_with};
-ghost use Rattle.header_text.specs.Stages.{stage_behind as stage_behind_of};
+ghost use Rattle.header_text.specs.Stages.{stage_after as stage_after_of};
 
 use crate::field::field_of_line;
 use crate::field_list::{FieldList, Fields};
@@ -92,7 +92,7 @@ impl Header {
         if let Stage::Ended = self.stage {
             return Ok(Taken::Ended);
         }
-        match stage_behind(self.stage, self.size, line) {
+        match stage_after(self.stage, self.size, line) {
             Stage::Open => {
                 self.in_field = add_line(&mut self.fields, self.in_field, line)?;
                 self.size += line.len();
@@ -122,9 +122,9 @@ impl Header {
 
 /// Returns the stage after a line, if the lines that counted before it have `size` bytes. It is `Open` exactly if the
 /// line counts.
-fn stage_behind(stage: Stage, size: usize, line: &[u8]) -> Stage
+fn stage_after(stage: Stage, size: usize, line: &[u8]) -> Stage
     requires { size ≤ most_in_header }
-    ensures { result ≡ stage_behind_of stage size line.now }
+    ensures { result ≡ stage_after_of stage size line.now }
 {
     match stage {
         Stage::Ended => Stage::Ended,

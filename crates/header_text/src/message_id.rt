@@ -39,9 +39,9 @@ fn push_each(alloc: Global, value: &[u8], ids: &mut Vec<Vec<u8>>) -> Result<(), 
     ensures kept { IsFront ids.old.items ids.new.items }
 {
     let mut rest = value;
-    while let Some((text, behind)) = cut_at(b'>', rest) {
+    while let Some((text, after)) = cut_at(b'>', rest) {
         push_id(alloc, ids, text)?;
-        rest = behind;
+        rest = after;
     }
     Ok(())
 }

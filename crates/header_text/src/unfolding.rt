@@ -33,9 +33,9 @@ fn add_lines(body: &[u8], start: usize, into: &mut Vec<u8>) -> Result<(), AllocE
     ensures kept { Extends into.old.items into.new.items }
 {
     let mut rest = body;
-    while let Some((line, behind)) = cut_at(b'\n', rest) {
+    while let Some((line, after)) = cut_at(b'\n', rest) {
         add_part(into, start, line.strip_suffix(b"\r").unwrap_or(line))?;
-        rest = behind;
+        rest = after;
     }
     add_part(into, start, rest)
 }

@@ -119,9 +119,9 @@ pub texts-fail : (ls : List (List ℕ)) (d : Option Draft) (f : JobFault)
 texts-fail ls d f h = grind (arith, texts-and-ids, still-gather-fails)
 
 -- the message is still open after its texts
-pub open-behind : (archive place : ℕ) (ls : List (List ℕ)) (d : Draft) (builder : Option Draft) → builder
+pub open-after : (archive place : ℕ) (ls : List (List ℕ)) (d : Draft) (builder : Option Draft) → builder
     ≡ with_texts (texts_of_message ls) (Some d) → IsOpenAt archive place d → IsBuilderOpen archive place builder
-open-behind archive place ls d builder is h = grind (arith, flat_map)
+open-after archive place ls d builder is h = grind (arith, flat_map)
 
 module _ (facts : Facts) (text : MessageText) (old mid : Option Draft)
     (facts-are : (ls : List (List ℕ)) (d : Option Draft) → HasGathered text old d ls → facts ≡ facts_of (fields_of ls))

@@ -31,7 +31,7 @@ message-fault archive d w f h = grind arith
 
 pub opens : (archive place : ℕ) (d : Draft) → IsReadyForMessage archive place d
     → IsOpenAt archive place (with_open_message d)
-opens archive place d h = record { phase = (h.phase.0, refl); most = h.most; archive = h.archive; behind = h.behind }
+opens archive place d h = record { phase = (h.phase.0, refl); most = h.most; archive = h.archive; after = h.after }
 
 -- ---- its end
 
@@ -42,14 +42,14 @@ module _ (span : Span) (d : Draft) where
       (ended_with facts span (draft_with_terms ts (with_open_message d)))
   ended-ready facts ts h = grind (arith, end_of-last)
 
-  pub ready-behind : {T : Type 0} (place : ℕ) (r : Result T JobFault) (gathered : MessageText)
+  pub ready-after : {T : Type 0} (place : ℕ) (r : Result T JobFault) (gathered : MessageText)
       (builder new : Option Draft) (ls : List (List ℕ)) → HasGathered gathered builder (Some (with_open_message d)) ls
       → IsReadyForMessage span.archive span.offset d → place ≡ span.offset + span.length
       → OnOk r ((ls : List (List ℕ)) (d : Option Draft) → HasGathered gathered builder d ls → new
       ≡ option_map (ended_with (facts_of (fields_of ls)) span) (with_texts (texts_of_message ls) d))
       → OnOk r (IsBuilderReady span.archive place new)
-  ready-behind place (Err f) gathered builder new ls g h at is = tt
-  ready-behind place (Ok x) gathered builder new ls g h at is = (
+  ready-after place (Err f) gathered builder new ls g h at is = tt
+  ready-after place (Ok x) gathered builder new ls g h at is = (
     ended_with (facts_of (fields_of ls)) span
         (draft_with_terms (flat_map text_terms (texts_of_message ls)) (with_open_message d)),
     is ls (Some (with_open_message d)) g,

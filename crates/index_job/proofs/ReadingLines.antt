@@ -8,18 +8,18 @@ use Rattle.index_job.proofs.Gatherings.{texts-fail}
 use Rattle.contract_words.proofs.StillKnown.{still-other}
 
 -- what is known to come agrees with the text that is left
-behind-line : (w : Awaited) (rest : List (List ℕ)) (l : List ℕ) (now' : Option ComingEvents)
+after-line : (w : Awaited) (rest : List (List ℕ)) (l : List ℕ) (now' : Option ComingEvents)
     → TakesKnown (Line l) (Some (coming_inside w rest)) now'
     → (left : List (List ℕ)) × (rest ≡ l ∷ left) × (now' ≡ Some (coming_inside w left))
-behind-line w [] l now' (after, is, takes) = absurd cc
-behind-line w (l' ∷ left) l now' (after, is, (events, refusal)) = grind arith
+after-line w [] l now' (after, is, takes) = absurd cc
+after-line w (l' ∷ left) l now' (after, is, (events, refusal)) = grind arith
 
-behind-end : (w : Awaited) (rest : List (List ℕ)) (span told_size : ℕ) (now' : Option ComingEvents)
+after-end : (w : Awaited) (rest : List (List ℕ)) (span told_size : ℕ) (now' : Option ComingEvents)
     → TakesKnown (End span told_size) (Some (coming_inside w rest)) now'
     → (rest ≡ []) × (span ≡ span_length w.message) × (told_size ≡ size w.message)
     × (now' ≡ Some (coming_between w.all w.later w.refusal))
-behind-end w (l ∷ rest) span told_size now' (after, is, takes) = absurd cc
-behind-end w [] span told_size now' (after, is, (events, refusal)) = grind arith
+after-end w (l ∷ rest) span told_size now' (after, is, takes) = absurd cc
+after-end w [] span told_size now' (after, is, (events, refusal)) = grind arith
 
 -- a fault of gathering is a fault of the job
 pub gather-is-job : (whole : Option Draft) (refusal : Option CutFault) (f : JobFault) → IsGatherFault whole f
@@ -37,7 +37,7 @@ module _ (d : Option Draft) (w : Awaited) (ls rest : List (List ℕ)) (gathered 
       → HasGathered gathered' builder' d (ls ++ l ∷ []) → (more left : List (List ℕ))
       × IsReading d w more left gathered' builder' now'
   reads-line gathered' builder' r takes more =
-      let b = behind-line w rest l now' (subst (λ o. TakesKnown (Line l) o now') r.comes takes) in (
+      let b = after-line w rest l now' (subst (λ o. TakesKnown (Line l) o now') r.comes takes) in (
         ls ++ l ∷ [],
         b.0,
         record {
@@ -51,7 +51,7 @@ module _ (d : Option Draft) (w : Awaited) (ls rest : List (List ℕ)) (gathered 
   pub line-is-fault : (f : JobFault) → IsReading d w ls rest gathered builder now → TakesKnown (Line l) now now'
       → ((ms : List (List ℕ)) → IsGatherFault (with_texts (texts_of_message (ls ++ l ∷ ms)) d) f) → IsMessageFault d w f
   line-is-fault f r takes fails =
-      let b = behind-line w rest l now' (subst (λ o. TakesKnown (Line l) o now') r.comes takes) in
+      let b = after-line w rest l now' (subst (λ o. TakesKnown (Line l) o now') r.comes takes) in
       let whole : ls ++ l ∷ b.0 ≡ text w.message = ap (λ x. ls ++ x) (sym b.1) ∙ sym r.whole in
       gather-is-job _ w.refusal f (texts-fail (text w.message) d f
       (subst (λ t. IsGatherFault (with_texts (texts_of_message t) d) f) whole (fails b.0)))
@@ -62,7 +62,7 @@ pub reads-end : (d : Option Draft) (w : Awaited) (ls rest : List (List ℕ)) (ga
     → IsReading d w ls rest gathered builder now → TakesKnown (End ended.length ended.size) now now'
     → HasReadAll d w ended gathered builder now'
 reads-end d w ls rest gathered builder now now' ended r takes =
-    let b = behind-end w rest ended.length ended.size now'
+    let b = after-end w rest ended.length ended.size now'
     (subst (λ o. TakesKnown (End ended.length ended.size) o now') r.comes takes) in
     let all : ls ≡ text w.message = sym (r.whole ∙ ap (λ x. ls ++ x) b.0 ∙ append-nil ls) in
     record {

@@ -44,14 +44,14 @@ pub record IsReadyForMessage (number place : ℕ) (d : Draft) : Type 0 where
   pub phase : IsInArchive d
   pub most : d.most ≡ most_in_index
   pub archive : archive_count d ≡ number
-  pub behind : end_of number d.table.messages ≤ place
+  pub after : end_of number d.table.messages ≤ place
 
 -- a message of the archive with this number is open, and the messages before it end at this place or before it
 pub record IsOpenAt (number place : ℕ) (d : Draft) : Type 0 where
   pub phase : IsInMessage d
   pub most : d.most ≡ most_in_index
   pub archive : archive_count d ≡ number
-  pub behind : end_of number d.table.messages ≤ place
+  pub after : end_of number d.table.messages ≤ place
 
 -- the builder hasn't failed, and its draft is ready for the next message
 abbrev pub IsBuilderReady : ℕ → ℕ → Option Draft → Type 0

@@ -90,9 +90,9 @@ pub(crate) fn add_cut_words(
     let mut batch = Batch::new();
     let mut rest = bytes;
     for &length in lengths {
-        let (word, behind) = rest.split_at(length);
+        let (word, after) = rest.split_at(length);
         batch.push(builder, kind, word)?;
-        rest = behind;
+        rest = after;
     }
     batch.add(builder, kind)
 }

@@ -47,7 +47,7 @@ module _ (paths bytes : List (List ℕ)) (i : ℕ) (same : length paths ≡ leng
   pub parted-here : Parted (mboxes paths bytes) (take i (mboxes paths bytes))
       (record { path = get_or paths i []; bytes = get_or bytes i [] })
   parted-here = record {
-    behind = drop (suc i) (mboxes paths bytes);
+    after = drop (suc i) (mboxes paths bytes);
     whole = sym (take-append-drop i (mboxes paths bytes))
         ∙ ap (λ l. take i (mboxes paths bytes) ++ l)
         (drop-cons (mboxes paths bytes) i here inside

@@ -41,7 +41,7 @@ IsDecided archives = AreSound archives ⊎ ((fault : Fault) × RefusesArchives a
 module _ (archives before rest : List Mbox) (a : Mbox) (whole : archives ≡ before ++ a ∷ rest) (sound : AreSound before)
   where
     parted : Parted archives before a
-    parted = record { behind = rest; whole = whole }
+    parted = record { after = rest; whole = whole }
 
     too-many : IsTooMuch (table (before ++ a ∷ [])) → IsDecided archives
     too-many much = inr (TooMany, (before, a, parted, record { sound = sound; much = much }))

@@ -8,7 +8,7 @@ use Rattle.std.proofs.Math.ListN.{set}
 use Rattle.std.proofs.lemmas.List.{drop-drop, take-set, take_more_set}
 use Rattle.std.specs.List.{AllZip}
 use Rattle.std.specs.Io.KnownBytes.{IsAtEnd}
-use Rattle.contract_words.proofs.DeviceLists.{same_behind}
+use Rattle.contract_words.proofs.DeviceLists.{same_after}
 use Rattle.mbox_cutter.specs.declared.device.Source.{Ghosts}
 use Rattle.mbox_cutter.specs.Sources.{Stays}
 use Rattle.mbox_cutter.proofs.Sources.{Stays-self, Stays-join}
@@ -61,7 +61,7 @@ module _ {S : Type 0} (g : Ghosts S) where
     read = i;
     ends = subst (λ l. All Ends l) (sym (take-set ys i v)) ends;
     many = are-read (length xs) i f;
-    unread = same_behind ys xs i v unread;
+    unread = same_after ys xs i v unread;
   }
 
   -- all of them are read

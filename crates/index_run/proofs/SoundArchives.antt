@@ -37,38 +37,38 @@ archives-grow xs ys = omega (
   length-append xs ys,
 )
 
-never-too-much : (archives before behind : List Mbox) (a : Mbox) → archives ≡ before ++ a ∷ behind
+never-too-much : (archives before after : List Mbox) (a : Mbox) → archives ≡ before ++ a ∷ after
     → IsWithinLimit (table archives) → IsTooMuch (table (before ++ a ∷ [])) → ⊥
-never-too-much archives before behind a whole few much =
-    let same : archives ≡ (before ++ a ∷ []) ++ behind = whole ∙ sym (append_assoc before (a ∷ []) behind) in
-    let limit : IsWithinLimit (table ((before ++ a ∷ []) ++ behind)) = subst (λ l. IsWithinLimit (table l)) same few in
+never-too-much archives before after a whole few much =
+    let same : archives ≡ (before ++ a ∷ []) ++ after = whole ∙ sym (append_assoc before (a ∷ []) after) in
+    let limit : IsWithinLimit (table ((before ++ a ∷ []) ++ after)) = subst (λ l. IsWithinLimit (table l)) same few in
     ⊎_elim
-    (λ m. omega (arith, m, archives-grow (before ++ a ∷ []) behind, limit.archives))
+    (λ m. omega (arith, m, archives-grow (before ++ a ∷ []) after, limit.archives))
     (λ rest. ⊎_elim
-    (λ m. omega (arith, m, messages-grow (before ++ a ∷ []) behind, limit.messages))
-    (λ m. omega (arith, m, keys-grow (before ++ a ∷ []) behind, limit.keys))
+    (λ m. omega (arith, m, messages-grow (before ++ a ∷ []) after, limit.messages))
+    (λ m. omega (arith, m, keys-grow (before ++ a ∷ []) after, limit.keys))
     rest)
     much
 
-never-cut-off : (archives before behind : List Mbox) (a : Mbox) (f : CutFault) → archives ≡ before ++ a ∷ behind
+never-cut-off : (archives before after : List Mbox) (a : Mbox) (f : CutFault) → archives ≡ before ++ a ∷ after
     → AreSound archives → archive_refusal most_in_archive a.bytes ≡ Some f → ⊥
-never-cut-off archives before behind a f whole sound is =
-    let all : All (λ (b : Mbox). archive_refusal most_in_archive b.bytes ≡ None) (before ++ a ∷ behind) =
+never-cut-off archives before after a f whole sound is =
+    let all : All (λ (b : Mbox). archive_refusal most_in_archive b.bytes ≡ None) (before ++ a ∷ after) =
     subst (λ l. All (λ (b : Mbox). archive_refusal most_in_archive b.bytes ≡ None) l) whole sound.each in
-    let inside : length before < length (before ++ a ∷ behind) = omega (arith, length-append before (a ∷ behind)) in
-    let none : archive_refusal most_in_archive (get_or (before ++ a ∷ behind) (length before) a).bytes ≡ None =
-    All-get_or (λ (b : Mbox). archive_refusal most_in_archive b.bytes ≡ None) (before ++ a ∷ behind) (length before) a
+    let inside : length before < length (before ++ a ∷ after) = omega (arith, length-append before (a ∷ after)) in
+    let none : archive_refusal most_in_archive (get_or (before ++ a ∷ after) (length before) a).bytes ≡ None =
+    All-get_or (λ (b : Mbox). archive_refusal most_in_archive b.bytes ≡ None) (before ++ a ∷ after) (length before) a
     inside all in
-    let here : get_or (before ++ a ∷ behind) (length before) a ≡ a = get_or-append_seam before a behind a in
+    let here : get_or (before ++ a ∷ after) (length before) a ≡ a = get_or-append_seam before a after a in
     let none-here : archive_refusal most_in_archive a.bytes ≡ None =
     subst (λ (b : Mbox). archive_refusal most_in_archive b.bytes ≡ None) here none in
     cc
 
 pub sound-not-refused : (archives : List Mbox) (f : Fault) → AreSound archives → RefusesArchives archives f → ⊥
 sound-not-refused archives (of.Archive number fault) sound (before, a, parted, same, h) =
-    never-cut-off archives before parted.behind a fault parted.whole sound h.refused
+    never-cut-off archives before parted.after a fault parted.whole sound h.refused
 sound-not-refused archives of.TooMany sound (before, a, parted, h) =
-    never-too-much archives before parted.behind a parted.whole sound.few h.much
+    never-too-much archives before parted.after a parted.whole sound.few h.much
 sound-not-refused archives (of.Usage f) sound h = h
 sound-not-refused archives (of.Rc f) sound h = h
 sound-not-refused archives (of.Query f) sound h = h

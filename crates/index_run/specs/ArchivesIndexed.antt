@@ -16,8 +16,8 @@ mboxes (path ∷ paths) (b ∷ bytes) = record { path = path; bytes = b } ∷ mb
 
 -- the archives are those before, the archive a, and those after it
 pub record Parted (archives before : List Mbox) (a : Mbox) : Type 0 where
-  pub behind : List Mbox
-  pub whole : archives ≡ before ++ a ∷ behind
+  pub after : List Mbox
+  pub whole : archives ≡ before ++ a ∷ after
 
 -- the archives are refused with this fault: the first archive that is refused, or the first that is too much together
 -- with those before it

@@ -6,7 +6,7 @@ pub use Rattle.header_text.specs.Headers.{HeaderField, fields_in, lines_before_e
 unfoldable pub use Rattle.header_text.specs.Headers.{fields_of}
 pub use Rattle.mail_answer.specs.Answers.{SendsKnown, SendsSpans}
 pub use Rattle.mail_answer.specs.Asked.{Agree, HoldsArchives, TellLengths, indexed_lengths}
-pub use Rattle.mail_answer.specs.Closing.{behind_next, feed, feeds_behind, has_feed, next_text}
+pub use Rattle.mail_answer.specs.Closing.{after_next, feed, feeds_after, has_feed, next_text}
 pub use Rattle.mail_answer.specs.CursorAhead.{WalkAhead, CountsSteps, CountsPostings, Drops, IsFirst, Reaches, Spends}
 pub use Rattle.mail_answer.specs.CursorAhead.{both}
 pub use Rattle.mail_answer.specs.CursorAhead.{common, steps_left_in, lesser_of, levels, one_or_other, others}

@@ -78,7 +78,7 @@ IsArchiveOfChosen t s archive = (numbers : List ℕ) × AreChosen (mail_told t) 
     × IsArchiveOfSome t numbers archive
 
 -- after lengths that agree
-pub record GoesOnBehind {A : Type 0} (g : Ghosts A) (t : Table) (s : Search) (found new : A)
+pub record GoesOnAfter {A : Type 0} (g : Ghosts A) (t : Table) (s : Search) (found new : A)
     (result : Result ℕ AnswerFault) : Type 0 where
   -- what is known at the end was known after the lengths
   pub held : WasKnown (g.held found) (g.held new)
@@ -94,7 +94,7 @@ pub record GoesOnBehind {A : Type 0} (g : Ghosts A) (t : Table) (s : Search) (fo
 abbrev pub GoesOnWith : {A : Type 0} → Ghosts A → Table → Search → Result (Unit {0}) AnswerFaultKind → A → A
     → Result ℕ AnswerFault → Type 0
 GoesOnWith g t s (Err kind) found new result = (new ≡ found) × (result ≡ Err (record { kind = kind; sent = 0 }))
-GoesOnWith g t s (Ok _) found new result = GoesOnBehind g t s found new result
+GoesOnWith g t s (Ok _) found new result = GoesOnAfter g t s found new result
 
 -- What a search does if there are as many archives as were indexed: it first reads their lengths.
 abbrev pub AsksFirst : {A : Type 0} → Ghosts A → Table → Search → A → A → Result ℕ AnswerFault → Type 0

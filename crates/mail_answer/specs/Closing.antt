@@ -14,17 +14,17 @@ has_feed line = list_any (λ b. b == 10) line
 
 -- the line feeds that close a last line: none after an empty one, one after a line with LF or after CR alone, otherwise
 -- two
-abbrev pub feeds_behind : List ℕ → List ℕ
-feeds_behind line = if is_empty line then [] else if has_feed line || bytes_eq line (13 ∷ []) then feed
+abbrev pub feeds_after : List ℕ → List ℕ
+feeds_after line = if is_empty line then [] else if has_feed line || bytes_eq line (13 ∷ []) then feed
     else feed ++ feed
 
 -- the bytes after the first line
-abbrev pub behind_next : List ℕ → List ℕ
-behind_next bytes = drop (first_length bytes) bytes
+abbrev pub after_next : List ℕ → List ℕ
+after_next bytes = drop (first_length bytes) bytes
 
 -- what closes the line, if it is the last
 abbrev pub feeds_if : Bool → List ℕ → List ℕ
-feeds_if last line = if last then feeds_behind line else []
+feeds_if last line = if last then feeds_after line else []
 
 -- the first line, with what closes it if it is the last
 abbrev pub next_text : List ℕ → List ℕ

@@ -14,8 +14,8 @@ pub record IsCutOut (text : List ℕ) : Type 0 where
   pub archive : List ℕ
   pub before : List (ℕ × ℕ)
   pub here : ℕ × ℕ
-  pub behind : List (ℕ × ℕ)
-  pub is_cut : spans_of archive ≡ Some (before ++ here ∷ behind)
+  pub after : List (ℕ × ℕ)
+  pub is_cut : spans_of archive ≡ Some (before ++ here ∷ after)
   pub is_text : text ≡ take here.1 (drop here.0 archive)
 
 -- the offset and the length of each of these texts, if they are one after another from an offset on

@@ -71,8 +71,8 @@ pub record AreReadOnce {A : Type 0} (g : Ghosts A) (named : List Archive) (count
 pub record ReadsUpTo {A : Type 0} (g : Ghosts A) (named : List Archive) (n : ℕ) (Finds : Archive → A → A → Type 0)
     (old new : A) : Type 0 where
   pub here : Archive
-  pub behind : List Archive
-  pub place : drop n named ≡ here ∷ behind
+  pub after : List Archive
+  pub place : drop n named ≡ here ∷ after
   pub before : A
   pub read : AreReadOnce g named n old before
   pub last : Finds here before new

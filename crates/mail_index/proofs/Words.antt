@@ -65,17 +65,17 @@ pub use Rattle.mail_index.specs.OrderOfKeys.{key_cmp}
 pub use Rattle.mail_index.specs.Pairs.{IsIn, HasPosting}
 pub use Rattle.mail_index.specs.PostingLists.{IsPosted, Told, end_from, numbers_so_far, told_whole}
 unfoldable pub use Rattle.mail_index.specs.PostingLists.{numbers_of, told_more, with_number}
-pub use Rattle.mail_index.specs.PostingReads.{ArePosted, ArePostings, IsShort, numbers_behind, shown_split}
+pub use Rattle.mail_index.specs.PostingReads.{ArePosted, ArePostings, IsShort, numbers_after, shown_split}
 unfoldable pub use Rattle.mail_index.specs.PostingReads.{numbers_read}
 pub use Rattle.mail_index.specs.Postings.{differences_from, leb128, postings, postings_from}
-pub use Rattle.mail_index.specs.Records.{AreRecords, HasArchive, IsNextRecord, SpellsArchives, behind_archives}
-pub use Rattle.mail_index.specs.Records.{behind_path, has_bit, is_behind, read_archives, read_date, read_flags}
+pub use Rattle.mail_index.specs.Records.{AreRecords, HasArchive, IsNextRecord, SpellsArchives, after_archives}
+pub use Rattle.mail_index.specs.Records.{after_path, has_bit, is_after, read_archives, read_date, read_flags}
 pub use Rattle.mail_index.specs.Records.{read_records}
-unfoldable pub use Rattle.mail_index.specs.Records.{behind_archive, is_record, read_archive, read_record}
+unfoldable pub use Rattle.mail_index.specs.Records.{after_archive, is_record, read_archive, read_record}
 pub use Rattle.mail_index.specs.Steps.{add_steps}
 pub use Rattle.mail_index.specs.Tables.{AllNext, Archive, Follows, IsArchive, IsKey, IsMessage, IsPath, IsWellFormed}
 pub use Rattle.mail_index.specs.Tables.{Key, KeyBefore, RisesFrom, Table, archive_length}
-pub use Rattle.mail_index.specs.Versions.{IsDigest, IsVersion, behind_digest, digest_length, last_kind, newest}
+pub use Rattle.mail_index.specs.Versions.{IsDigest, IsVersion, after_digest, digest_length, last_kind, newest}
 pub use Rattle.mail_index.specs.Versions.{read_digest, version_number}
 pub use Rattle.mail_index.specs.declared.kind.Kind.{Kind}
 pub use Rattle.mail_index.specs.declared.kind.Kind.TheVariants.{LinkId, Text}

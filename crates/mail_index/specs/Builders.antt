@@ -112,7 +112,7 @@ end_of archive (r ∷ s ∷ rs) = end_of archive (s ∷ rs)
 -- the record is right for the next message of the open archive, which comes after those before it
 pub record IsNextMessage (d : Draft) (r : Record) : Type 0 where
   pub archive : r.archive ≡ archive_count d
-  pub behind : end_of (archive_count d) d.table.messages ≤ r.offset
+  pub after : end_of (archive_count d) d.table.messages ≤ r.offset
   pub within : r.offset + r.length ≤ most_in_archive
   pub size : r.size < r.length
 

@@ -53,8 +53,8 @@ abbrev pub comparisons_within : ℕ → Kind → List ℕ → List Key → ℕ
 comparisons_within zero kind text ks = 0
 comparisons_within (suc most) kind text ks = elim (drop (length ks / 2) ks) [
   | [] ↦ 0
-  | k ∷ behind ↦ suc (elim (lies_to kind text k) [
-    | Less ↦ comparisons_within most kind text behind
+  | k ∷ after ↦ suc (elim (lies_to kind text k) [
+    | Less ↦ comparisons_within most kind text after
     | Equal ↦ 0
     | Greater ↦ comparisons_within most kind text (take (length ks / 2) ks)
   ])
@@ -87,8 +87,8 @@ abbrev pub bisections_within : ℕ → (Key → Bool) → List Key → ℕ
 bisections_within zero passes ks = 0
 bisections_within (suc most) passes ks = elim (drop (length ks / 2) ks) [
   | [] ↦ 0
-  | k ∷ behind ↦ suc (elim (passes k) [
-    | true ↦ bisections_within most passes behind
+  | k ∷ after ↦ suc (elim (passes k) [
+    | true ↦ bisections_within most passes after
     | false ↦ bisections_within most
         passes (take (length ks / 2) ks)
   ])

@@ -18,16 +18,16 @@ shown_split (Some p) = Some (p.0, p.1.now)
 
 -- The numbers that bytes give, if the last number was low - 1, and `part` of the next difference has come, whose next
 -- seven bits have the weight `weight`.
-abbrev pub numbers_behind : ℕ → ℕ → ℕ → List ℕ → List ℕ
-numbers_behind low part weight [] = []
-numbers_behind low part weight (b ∷ bs) = elim (nat_lt b 128) [
-  | true ↦ (low + (part + b * weight) - 1) ∷ numbers_behind (low + (part + b * weight)) 0 1 bs
-  | false ↦ numbers_behind low (part + (b - 128) * weight) (128 * weight) bs
+abbrev pub numbers_after : ℕ → ℕ → ℕ → List ℕ → List ℕ
+numbers_after low part weight [] = []
+numbers_after low part weight (b ∷ bs) = elim (nat_lt b 128) [
+  | true ↦ (low + (part + b * weight) - 1) ∷ numbers_after (low + (part + b * weight)) 0 1 bs
+  | false ↦ numbers_after low (part + (b - 128) * weight) (128 * weight) bs
 ]
 
 -- the numbers that bytes give, if the last number was low - 1
 unfoldable pub numbers_read : ℕ → List ℕ → List ℕ
-numbers_read low bytes = numbers_behind low 0 1 bytes
+numbers_read low bytes = numbers_after low 0 1 bytes
 
 -- the bytes are the postings of these rising numbers from `low` on, each below a limit
 pub record ArePostings (limit low : ℕ) (bytes ns : List ℕ) : Type 0 where

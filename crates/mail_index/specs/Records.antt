@@ -10,7 +10,7 @@ use Rattle.mail_index.specs.Fields.{byte_at, u32_at, u64_at, are_zeros_at}
 use Rattle.mail_index.specs.Places.{record_size, archive_length_at, path_length_at, path_start, archive_number_at}
 use Rattle.mail_index.specs.Places.{flags_at, record_zeros_at, offset_at, length_at, size_at, date_at, seen_flag}
 use Rattle.mail_index.specs.Places.{replied_flag, flagged_flag, dated_flag, all_flags}
-use Rattle.mail_index.specs.Versions.{read_digest, behind_digest}
+use Rattle.mail_index.specs.Versions.{read_digest, after_digest}
 use Rattle.mail_index.specs.Tables.{Archive, IsArchive}
 use Rattle.mail_index.specs.Files.{archive_bytes}
 
@@ -57,8 +57,8 @@ is_record r =
 -- ---- archives
 
 -- the bytes after the path of the first archive
-abbrev pub behind_path : List ℕ → List ℕ
-behind_path r = drop (u32_at r path_length_at) (drop path_start r)
+abbrev pub after_path : List ℕ → List ℕ
+after_path r = drop (u32_at r path_length_at) (drop path_start r)
 
 -- the first archive
 unfoldable pub read_archive : ℕ → List ℕ → Archive
@@ -66,21 +66,21 @@ read_archive version r = record {
   path = take (u32_at r path_length_at) (drop path_start r);
   length = u64_at r archive_length_at;
   digest =
-      read_digest version (behind_path r);
+      read_digest version (after_path r);
 }
 
 -- the bytes after the first archive
-unfoldable pub behind_archive : ℕ → List ℕ → List ℕ
-behind_archive version r = behind_digest version (behind_path r)
+unfoldable pub after_archive : ℕ → List ℕ → List ℕ
+after_archive version r = after_digest version (after_path r)
 
 -- this many archives, one after another
 abbrev pub read_archives : ℕ → ℕ → List ℕ → List Archive
 read_archives version zero r = []
-read_archives version (suc n) r = read_archive version r ∷ read_archives version n (behind_archive version r)
+read_archives version (suc n) r = read_archive version r ∷ read_archives version n (after_archive version r)
 
 -- the bytes begin with an archive
 pub record HasArchive (version : ℕ) (r : List ℕ) : Type 0 where
-  pub spelled : r ≡ archive_bytes (read_archive version r) ++ behind_archive version r
+  pub spelled : r ≡ archive_bytes (read_archive version r) ++ after_archive version r
   pub valid : IsArchive version (read_archive version r)
 
 -- the bytes consist of exactly this many archives
@@ -89,22 +89,22 @@ pub record SpellsArchives (version n : ℕ) (r : List ℕ) : Type 0 where
   pub each : AllByRecursion (IsArchive version) (read_archives version n r)
 
 -- the bytes after this many archives
-abbrev pub behind_archives : ℕ → ℕ → List ℕ → List ℕ
-behind_archives version zero r = r
-behind_archives version (suc n) r = behind_archives version n (behind_archive version r)
+abbrev pub after_archives : ℕ → ℕ → List ℕ → List ℕ
+after_archives version zero r = r
+after_archives version (suc n) r = after_archives version n (after_archive version r)
 
 -- ---- the records of a section, from where an earlier one ended
 
 -- whether the message is in a later archive, or in this one from the place on
-abbrev pub is_behind : ℕ → ℕ → Record → Bool
-is_behind archive place m = nat_lt archive m.archive || (nat_eq archive m.archive && nat_le place m.offset)
+abbrev pub is_after : ℕ → ℕ → Record → Bool
+is_after archive place m = nat_lt archive m.archive || (nat_eq archive m.archive && nat_le place m.offset)
 
 -- The record may come next: in the archive of this number from the place on, or in a later one. `rest` is the bytes of
 -- the archives from this number on.
 pub record IsNextRecord (version count archive place : ℕ) (rest : List ℕ) (m : Record) : Type 0 where
   pub exists : m.archive < count
-  pub follows : is_behind archive place m ≡ true
-  pub within : m.offset + m.length ≤ u64_at (behind_archives version (m.archive - archive) rest) archive_length_at
+  pub follows : is_after archive place m ≡ true
+  pub within : m.offset + m.length ≤ u64_at (after_archives version (m.archive - archive) rest) archive_length_at
   pub size : m.size < m.length
 
 -- this many records may come from this place on, each after the end of the one before it
@@ -113,4 +113,4 @@ AreRecords version count archive place rest zero r = Unit {0}
 AreRecords version count archive place rest (suc n) r =
     (is_record r ≡ true) × IsNextRecord version count archive place rest (read_record r)
     × AreRecords version count (read_record r).archive ((read_record r).offset + (read_record r).length)
-    (behind_archives version ((read_record r).archive - archive) rest) n (drop record_size r)
+    (after_archives version ((read_record r).archive - archive) rest) n (drop record_size r)

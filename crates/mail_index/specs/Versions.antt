@@ -36,5 +36,5 @@ abbrev pub read_digest : ℕ → List ℕ → Option (List ℕ)
 read_digest version bytes = if nat_eq version 1 then None else Some (take digest_size bytes)
 
 -- the bytes after that digest
-abbrev pub behind_digest : ℕ → List ℕ → List ℕ
-behind_digest version bytes = drop (digest_length version) bytes
+abbrev pub after_digest : ℕ → List ℕ → List ℕ
+after_digest version bytes = drop (digest_length version) bytes

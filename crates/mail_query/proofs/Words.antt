@@ -8,7 +8,7 @@ pub use Rattle.mail_query.specs.BooleanFaults.{open_count, operator_fault, term_
 pub use Rattle.mail_query.specs.BooleanGrammar.{Beside, ByAnd, ByOr, Chain, Group, Item, Last, Leaf, Link, NotOf, Reads}
 pub use Rattle.mail_query.specs.BooleanGrammar.{Then, chain_queries, chain_tokens, into_first, is_fine_chain}
 pub use Rattle.mail_query.specs.BooleanGrammar.{is_fine_item, item_query, item_tokens, link_tokens, with_link}
-pub use Rattle.mail_query.specs.BooleanGrammar.{plain_prefix, query_or_any, seen_behind, term_prefix, tree_query}
+pub use Rattle.mail_query.specs.BooleanGrammar.{plain_prefix, query_or_any, seen_after, term_prefix, tree_query}
 pub use Rattle.mail_query.specs.BooleanReading.{ForClose, ForNot, Level, State, Waiting, state_after_close}
 pub use Rattle.mail_query.specs.BooleanReading.{cut_term_step, deeper}
 pub use Rattle.mail_query.specs.BooleanReading.{each_ended, empty_level, query_at_end, has_open, is_negated}
@@ -20,7 +20,7 @@ pub use Rattle.mail_query.specs.BooleanTerms.{TermParts, cut_query, has_field, i
 pub use Rattle.mail_query.specs.BooleanTerms.{parts_query}
 pub use Rattle.mail_query.specs.BooleanTerms.{with_field}
 pub use Rattle.mail_query.specs.FlagGrammar.{AreFlags, EachFlag, IsFlags, NoFlag}
-pub use Rattle.mail_query.specs.Flags.{flag_of, flags_behind, some_of, with_flag}
+pub use Rattle.mail_query.specs.Flags.{flag_of, flags_after, some_of, with_flag}
 unfoldable pub use Rattle.mail_query.specs.Flags.{flags_of_text}
 pub use Rattle.mail_query.specs.Inside.Reading.{forms_of, fault_with_number}
 pub use Rattle.mail_query.specs.Inside.Shown.{blank_count, nearest_first, run_length, shown_level, shown_stack}
@@ -32,7 +32,7 @@ pub use Rattle.mail_query.specs.Mairix.{Forms, all_query, atom_query, each_read,
 pub use Rattle.mail_query.specs.Mairix.{is_approximate, may_be_id, is_sign, kinds_of, kinds_of_letter, kinds_with}
 pub use Rattle.mail_query.specs.Mairix.{marked_query, part_query, pattern_query, patterns_from, patterns_query}
 pub use Rattle.mail_query.specs.Mairix.{plain_kinds, prefix_query, prefixed_query, rest_query, term_query, word_forms}
-pub use Rattle.mail_query.specs.MairixFaults.{AsksApproximately, Behind, Digits, HasNoDate, HasNoFlags, HasNoForm}
+pub use Rattle.mail_query.specs.MairixFaults.{AsksApproximately, After, Digits, HasNoDate, HasNoFlags, HasNoForm}
 pub use Rattle.mail_query.specs.MairixFaults.{HasNoPrefix, HasNoSize, HasNone, InAll, InId, InPattern, InPlain, InTerm}
 pub use Rattle.mail_query.specs.MairixFaults.{InUnwanted, InWanted, InWords, IsAllFault, IsApproximate, IsAtomFault}
 pub use Rattle.mail_query.specs.MairixFaults.{IsFirstFault, IsFirstOf, IsPatternFault, IsPatternPrefix, IsRestFault}

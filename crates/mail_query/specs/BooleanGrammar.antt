@@ -74,9 +74,9 @@ plain_prefix (Leaf t) = term_prefix t
 plain_prefix _ = None
 
 -- the prefixes of the plain terms since the last operator, after one more operand and what joins it to the next
-abbrev pub seen_behind : Item → Link → Fields → Fields
-seen_behind i Beside seen = with_field (plain_prefix i) seen
-seen_behind i _ seen = no_fields
+abbrev pub seen_after : Item → Link → Fields → Fields
+seen_after i Beside seen = with_field (plain_prefix i) seen
+seen_after i _ seen = no_fields
 
 module _ (lexicon : Lexicon) where
   abbrev mutual
@@ -108,7 +108,7 @@ module _ (lexicon : Lexicon) where
 
     pub is_fine_chain : Chain → ℕ → Fields → Bool
     is_fine_chain (Last i) n seen = is_fine_item i n seen
-    is_fine_chain (Then i l c) n seen = is_fine_item i n seen && is_fine_chain c n (seen_behind i l seen)
+    is_fine_chain (Then i l c) n seen = is_fine_item i n seen && is_fine_chain c n (seen_after i l seen)
 
   -- the tokens are those of an allowed tree whose query is q
   pub record Reads (ts : List Token) (q : Query) : Type 0 where

@@ -18,10 +18,10 @@ with_flag wanted letter rest = option_and_then (λ flag. option_map (λ qs. HasF
     (flag_of letter)
 
 -- the flags of the letters; a dash before a letter negates it, and `wanted` is false right after a dash
-abbrev pub flags_behind : Bool → List ℕ → Option (List Query)
-flags_behind wanted [] = if wanted then Some [] else None
-flags_behind wanted (b ∷ bs) =
-    let rest = flags_behind (not (b == 0x2D)) bs in
+abbrev pub flags_after : Bool → List ℕ → Option (List Query)
+flags_after wanted [] = if wanted then Some [] else None
+flags_after wanted (b ∷ bs) =
+    let rest = flags_after (not (b == 0x2D)) bs in
     if b == 0x2D then (if wanted then rest else None) else with_flag wanted b rest
 
 -- all of these queries, if there are any
@@ -31,4 +31,4 @@ some_of (q ∷ qs) = Some (all_of (q ∷ qs))
 
 -- all flags that the text names, one or more; None for any other text
 unfoldable pub flags_of_text : List ℕ → Option Query
-flags_of_text text = option_and_then some_of (flags_behind true text)
+flags_of_text text = option_and_then some_of (flags_after true text)

@@ -18,7 +18,7 @@ use Rattle.mail_query.specs.MairixGrammar.{kinds_named, IsAtom, IsTerm, IsAll, A
 -- the first faulty text has this fault, with this many texts before it; each text before it means a query
 pub data IsFirstOf (Asks : List ℕ → Query → Type 0) (Shows : List ℕ → QueryFaultKind → Type 0)
     : List (List ℕ) → ℕ → QueryFaultKind → Type 0 where
-  Behind : (before : List (List ℕ)) (text : List ℕ) (more : List (List ℕ)) (kind : QueryFaultKind)
+  After : (before : List (List ℕ)) (text : List ℕ) (more : List (List ℕ)) (kind : QueryFaultKind)
       → All (λ (t : List ℕ). (q : Query) × Asks t q) before
       → Shows text kind
       → IsFirstOf Asks Shows (before ++ text ∷ more) (length before) kind

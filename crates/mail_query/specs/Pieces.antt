@@ -26,7 +26,7 @@ without_last c (b ∷ d ∷ bs) = option_map (λ (front : List ℕ). b ∷ front
 abbrev pub without_angles : List ℕ → List ℕ
 without_angles text = elim (without_first 0x3C text) [
   | None ↦ text
-  | Some behind ↦ elim (without_last 0x3E behind) [ None ↦ text | Some inside ↦ inside ]
+  | Some after ↦ elim (without_last 0x3E after) [ None ↦ text | Some inside ↦ inside ]
 ]
 
 -- whether a text has a byte

@@ -26,20 +26,20 @@ closed_run (b ∷ bs) ts = token_of (b ∷ bs) ∷ ts
 -- a text as it follows a run: the bytes at its front that belong to the run, and the tokens after them
 pub record Cut : Type 0 where
   pub run : List ℕ
-  pub behind : List Token
+  pub after : List Token
 
 -- the tokens of a text that follows no run
 abbrev pub all_tokens : Cut → List Token
-all_tokens cut = closed_run cut.run cut.behind
+all_tokens cut = closed_run cut.run cut.after
 
 -- a text cut into the run at its front and the tokens after it
 abbrev pub cut_tokens : List ℕ → Cut
-cut_tokens [] = record { run = []; behind = [] }
+cut_tokens [] = record { run = []; after = [] }
 cut_tokens (b ∷ bs) = let rest = cut_tokens bs in
-    if is_blank_or_feed b then record { run = []; behind = all_tokens rest }
-    else (if b == 0x28 then record { run = []; behind = Open ∷ all_tokens rest }
-    else (if b == 0x29 then record { run = []; behind = Close ∷ all_tokens rest }
-    else record { run = b ∷ rest.run; behind = rest.behind }))
+    if is_blank_or_feed b then record { run = []; after = all_tokens rest }
+    else (if b == 0x28 then record { run = []; after = Open ∷ all_tokens rest }
+    else (if b == 0x29 then record { run = []; after = Close ∷ all_tokens rest }
+    else record { run = b ∷ rest.run; after = rest.after }))
 
 -- the tokens of a text: each parenthesis, and each longest run of other bytes that aren't blank
 unfoldable pub query_tokens : List ℕ → List Token

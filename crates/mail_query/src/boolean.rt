@@ -53,11 +53,11 @@ fn read_tokens(
 {
     let mut rest = text;
     let mut number = 1;
-    'tokens: while let Some((token, behind)) = next_token(rest) {
+    'tokens: while let Some((token, after)) = next_token(rest) {
         if let Err(given) = reader.read(alloc, token) {
             return Err(numbered(number, given));
         }
-        rest = behind;
+        rest = after;
         number += 1;
     }
     if number == 1 {

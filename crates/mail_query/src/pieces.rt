@@ -30,8 +30,8 @@ pub(crate) fn without_last(text: &str, sign: char) -> Option<&str>
 pub(crate) fn without_angles(text: &str) -> &str
     ensures { result.now ≡ without_angles text.now }
 {
-    let behind = without_first(text, '<');
-    behind
+    let after = without_first(text, '<');
+    after
         .and_then(|rest| without_last(rest, '>'))
         .unwrap_or(text)
 }

@@ -16,7 +16,7 @@ use Rattle.unicode.proofs.RangedFacts.{values_ok, Stepped-at_values}
 use Rattle.unicode.proofs.TableComputing.{tables}
 use Rattle.mail_words.specs.Folding.{are_alike, is_one_like, folds_evenly}
 use Rattle.mail_words.specs.Inside.Folds.{keeps_itself}
-use Rattle.mail_words.proofs.Places.{if_word, words_on, words_from, words_behind-places}
+use Rattle.mail_words.proofs.Places.{if_word, words_on, words_from, words_after-places}
 use Rattle.mail_words.proofs.RunLemmas.{after_joiners-joiner, after_joiners-other}
 
 -- ---- characters
@@ -164,14 +164,14 @@ bytes-low (c ∷ cs) =
       bytes-low cs,
     )
 
-is_word-low : (before inside behind : List ℕ) → is_word is_word_character (low before) (low inside) (low behind)
-    ≡ is_word is_word_character before inside behind
+is_word-low : (before inside after : List ℕ) → is_word is_word_character (low before) (low inside) (low after)
+    ≡ is_word is_word_character before inside after
 unfolding is_word
-is_word-low before inside behind = (λ k.
+is_word-low before inside after = (λ k.
     (begins-low inside k && all-low is_word_character word-low inside k && not (begins-low before k) && not
-    (begins-low behind k)
+    (begins-low after k)
     || begins-low inside k && ends-low inside k && all-low is_piece piece-low inside k && joins-low inside k && not
-    (run-low before k) && not (run-low behind k))
+    (run-low before k) && not (run-low after k))
     && nat_le (bytes-low inside k) word_limit)
 
 -- ---- words, place by place
@@ -194,11 +194,11 @@ folding-low cs h = ap encode_utf8_all (sym (fold-all cs h.even)
 folded_one : (word : List ℕ) (b : Bool) → map folding (cond b (word ∷ []) []) ≡ cond b (folding word ∷ []) []
 folded_one word b = grind arith
 
-if_word-low : (before inside behind : List ℕ) → AreEven inside → if_word (low before) (low inside) (low behind)
-    ≡ map folding (if_word before inside behind)
-if_word-low before inside behind h =
-    (λ k. cond (is_word-low before inside behind k) (folding-low inside h k ∷ []) [])
-    ∙ sym (folded_one (encode_utf8_all inside) (is_word is_word_character before inside behind))
+if_word-low : (before inside after : List ℕ) → AreEven inside → if_word (low before) (low inside) (low after)
+    ≡ map folding (if_word before inside after)
+if_word-low before inside after h =
+    (λ k. cond (is_word-low before inside after k) (folding-low inside h k ∷ []) [])
+    ∙ sym (folded_one (encode_utf8_all inside) (is_word is_word_character before inside after))
 
 even-nil : AreEven []
 even-nil = record { scalars = refl; even = refl }
@@ -249,8 +249,8 @@ unfolding words
 words-folding-even text utf8 even =
     let cs : List ℕ = chars text in
     let own : scalars cs ≡ true = scalars-chars text utf8 in
-    words_behind-places [] (chars (folding text))
+    words_after-places [] (chars (folding text))
     ∙ ap (words_from []) (ap (λ ds. chars (encode_utf8_all ds)) (fold-all cs even)
     ∙ chars-encodes (low cs) (scalars-low cs own))
     ∙ words_from-low [] cs (record { scalars = own; even = even })
-    ∙ sym (ap (map folding) (words_behind-places [] cs))
+    ∙ sym (ap (map folding) (words_after-places [] cs))

@@ -3,7 +3,7 @@ use Rattle.mail_words.proofs.Imports.{◌≡◌, ℕ, ◌+◌, Bool, true, false
 use Rattle.mail_words.proofs.Imports.{encode_utf8, encode_utf8_all, IsUtf8, refl, sym, ap, ◌∙◌, arith, append_assoc}
 use Rattle.mail_words.proofs.Imports.{length-append, list_all-append, encodes-append, chars_past_char, IsUtf8-past_char}
 use Rattle.mail_words.proofs.Imports.{IsCharBoundary, nil_from_length, subst, chars-nil, and_parts, length-encode}
-use Rattle.mail_words.proofs.Imports.{len_utf8, list_all, front, behind, folding}
+use Rattle.mail_words.proofs.Imports.{len_utf8, list_all, front, after_front, folding}
 use Rattle.std.proofs.Common.{chars, append-nil, eqb-true}
 use Rattle.std.proofs.lemmas.Str.{IsUtf8-drop}
 use Rattle.caseless.specs.Caseless.{default_case_fold}
@@ -13,7 +13,7 @@ use Rattle.mail_words.specs.Folding.{are_alike, is_one_like, folds_evenly}
 use Rattle.mail_words.specs.Inside.Folds.{keeps_itself}
 use Rattle.mail_words.proofs.FoldingLemmas.{keeps_characters}
 use Rattle.mail_words.proofs.EvenFolding.{even-kept}
-use Rattle.mail_words.proofs.RunLemmas.{front-pass, front-fail, front-behind}
+use Rattle.mail_words.proofs.RunLemmas.{front-pass, front-fail, front-after}
 use Rattle.mail_words.proofs.Seams.{front_seam, seam_boundary, seam_front, chars_back, seam_back}
 
 -- these bytes are the folding of the text up to this rest
@@ -51,8 +51,8 @@ folds-piece text into rest kept after n h place is is_after =
     let fore : List ℕ = front keeps_itself (chars rest) in
     let cut = front_seam keeps_itself rest h.utf8 in
     let kept_is = seam_front _ _ _ n kept cut place is in
-    let left : chars after ≡ behind keeps_itself (chars rest) = chars_back _ _ _ n after cut place is_after in
-    let whole : chars rest ≡ fore ++ chars after = sym (front-behind keeps_itself (chars rest))
+    let left : chars after ≡ after_front keeps_itself (chars rest) = chars_back _ _ _ n after cut place is_after in
+    let whole : chars rest ≡ fore ++ chars after = sym (front-after keeps_itself (chars rest))
     ∙ ap (λ cs. fore ++ cs) (sym left) in
     let all = all-front keeps_itself (chars rest) in
     let folded : folding rest ≡ kept ++ folding after =
@@ -82,12 +82,12 @@ same-length c d e is =
     let like : are_alike c d ≡ true = ap (is_one_like c) (sym is) ∙ e in
     eqb-true _ _ (and_parts _ _ (and_parts _ _ like).0).0
 
-pub folds-character : (text into behind rest : List ℕ) (c d : ℕ) → FoldsSoFar text into behind → behind
+pub folds-character : (text into after rest : List ℕ) (c d : ℕ) → FoldsSoFar text into after → after
     ≡ encode_utf8 c ++ rest → folds_evenly c ≡ true → full_fold c ≡ d ∷ []
     → FoldsSoFar text (into ++ encode_utf8 d) rest
-folds-character text into behind rest c d h parts e is =
-    let next = chars_past_char behind rest c h.utf8 parts in
-    let folded : folding behind ≡ encode_utf8 d ++ folding rest =
+folds-character text into after rest c d h parts e is =
+    let next = chars_past_char after rest c h.utf8 parts in
+    let folded : folding after ≡ encode_utf8 d ++ folding rest =
     ap (λ cs. encode_utf8_all (default_case_fold cs)) next
     ∙ ap encode_utf8_all (default_case_fold-cons c (chars rest) ∙ ap (λ ds. ds ++ default_case_fold (chars rest)) is) in
     record {
@@ -103,15 +103,15 @@ folds-character text into behind rest c d h parts e is =
         length-encode d,
         same-length c d e is,
       );
-      utf8 = IsUtf8-past_char behind rest c h.utf8 parts;
+      utf8 = IsUtf8-past_char after rest c h.utf8 parts;
     }
 
 -- a character that doesn't
-pub folds-uneven : (text into behind rest : List ℕ) (c : ℕ) → FoldsSoFar text into behind → behind
+pub folds-uneven : (text into after rest : List ℕ) (c : ℕ) → FoldsSoFar text into after → after
     ≡ encode_utf8 c ++ rest → folds_evenly c ≡ false
     → false ≡ list_all folds_evenly (chars text)
-folds-uneven text into behind rest c h parts e =
-    sym (h.even ∙ ap (list_all folds_evenly) (chars_past_char behind rest c h.utf8 parts)
+folds-uneven text into after rest c h parts e =
+    sym (h.even ∙ ap (list_all folds_evenly) (chars_past_char after rest c h.utf8 parts)
     ∙ ap (λ t. t && list_all folds_evenly (chars rest)) e)
 
 -- ---- the end

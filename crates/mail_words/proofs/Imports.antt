@@ -1,11 +1,11 @@
 -- The names of std and of the definitions that the proofs use, in one place.
 pub use Rattle.mail_words.specs.Folding.{folding}
-pub use Rattle.mail_words.specs.Inside.Runs.{behind, front, HasGapAndWord, is_ascii_other, is_ascii_word}
+pub use Rattle.mail_words.specs.Inside.Runs.{after_front, front, HasGapAndWord, is_ascii_other, is_ascii_word}
 pub use Rattle.mail_words.specs.Inside.Runs.{is_beyond_ascii, is_no_ascii_word, is_other, is_piece, joined_front}
 pub use Rattle.mail_words.specs.Inside.Runs.{joined_on, joined_to, long_at, read_front, within}
 unfoldable pub use Rattle.mail_words.specs.Inside.Runs.{words_left}
 pub use Rattle.mail_words.specs.Words.{HasWordLength, after_joiners, begins, is_word_range, word_limit, word_ranges}
-pub use Rattle.mail_words.specs.Words.{words_behind}
+pub use Rattle.mail_words.specs.Words.{words_after}
 unfoldable pub use Rattle.mail_words.specs.Words.{
   is_joiner,
   is_one_word,

@@ -10,7 +10,7 @@ use Rattle.mail_words.specs.Inside.Folds.{keeps_itself, is_kept_byte, is_kept_le
 use Rattle.mail_words.proofs.ByteReads.{front_bytes-passed}
 use Rattle.mail_words.proofs.FoldingLemmas.{kept_byte}
 use Rattle.mail_words.proofs.FrontReads.{FrontRead}
-use Rattle.mail_words.proofs.RunLemmas.{front-pass, front-fail, front-behind}
+use Rattle.mail_words.proofs.RunLemmas.{front-pass, front-fail, front-after}
 use Rattle.mail_words.proofs.Seams.{front_seam, seam_boundary, seam_back, chars_back, nil_from_bytes}
 
 pub front_read-chain : (p : ℕ → Bool) (text rest after : List ℕ) (at n : ℕ) → FrontRead p text at rest
@@ -69,7 +69,7 @@ pub kept_letters : (text after : List ℕ) (n : ℕ) → IsUtf8 text → n
 kept_letters text after n utf8 place is =
     let fore : List ℕ = front is_kept_letter (chars text) in
     let cut = front_seam is_kept_letter text utf8 in
-    let whole : chars text ≡ fore ++ chars after = sym (front-behind is_kept_letter (chars text))
+    let whole : chars text ≡ fore ++ chars after = sym (front-after is_kept_letter (chars text))
     ∙ ap (λ cs. fore ++ cs) (sym (chars_back _ _ _ n after cut place is)) in
     let kept = ap (λ cs. length (encode_utf8_all cs))
     (ap (front keeps_itself) whole ∙ front-over (chars text) (chars after)) in

@@ -113,10 +113,10 @@ ascii_to bytes mask place room within same clear k below = go (eqb mask 0) refl
         let bits : 0 < mask_l (map is_beyond_ascii load) = subst (λ m. 0 < m) same (grind (arith, some, nat_tests)) in
         let first = ap (count_trailing_zeros 64) same
         ∙ trailing_mask_l is_beyond_ascii 64 load (omega (arith, long)) bits in
-        let behind : place < count_trailing_zeros 64 mask = grind (arith, some, clear, nat_tests) in
+        let after : place < count_trailing_zeros 64 mask = grind (arith, some, clear, nat_tests) in
         small (subst (λ b. is_beyond_ascii b ≡ false) (get_or-take 16 bytes k 0 (omega (arith, within, below)))
         (not-true _ (prefix_len_passes (λ b. not (is_beyond_ascii b)) load k 0
-        (omega (arith, below, behind, first)))))
+        (omega (arith, below, after, first)))))
 
 -- the mask of a load in which a word of ASCII begins and ends before the last bit
 module _ (bytes : List ℕ) (mask : ℕ) (room : 16 ≤ length bytes)
@@ -175,8 +175,8 @@ module _ (bytes : List ℕ) (mask : ℕ) (room : 16 ≤ length bytes)
       (not-false _ (prefix_len_stops (λ b. not (is_no_ascii_word b)) rest 0
       (bit_within is_no_ascii_word rest some_bit)))
 
-  behind_gap : is_no_ascii_word (get_or bytes gap 0) ≡ false
-  behind_gap =
+  after_gap : is_no_ascii_word (get_or bytes gap 0) ≡ false
+  after_gap =
       subst (λ b. is_no_ascii_word b ≡ false)
       (ap (λ k. get_or load k 0) (sym from_front) ∙ lane gap (omega (arith, within)))
       (prefix_len_stops is_no_ascii_word load 0 (omega (arith, from_front, within, long)))
@@ -187,7 +187,7 @@ module _ (bytes : List ℕ) (mask : ℕ) (room : 16 ≤ length bytes)
         | inl more ↦ more
         | inr none ↦
             let same_place : gap + word ≡ gap = omega (arith, none) in
-            let clash = sym end ∙ ap (λ k. is_no_ascii_word (get_or bytes k 0)) same_place ∙ behind_gap in
+            let clash = sym end ∙ ap (λ k. is_no_ascii_word (get_or bytes k 0)) same_place ∙ after_gap in
             absurd (grind (arith, clash))
       ]
 

@@ -5,7 +5,7 @@ use Rattle.mail_words.proofs.Imports.{length-le-encodes, is_word_character, begi
 use Rattle.mail_words.proofs.Imports.{HasWordLength, words_left}
 use Rattle.std.proofs.Common.{chars}
 use Rattle.std.proofs.lemmas.List.Elements.{All-append}
-use Rattle.mail_words.proofs.Places.{if_word, words_on, words_from, words_behind-places}
+use Rattle.mail_words.proofs.Places.{if_word, words_on, words_from, words_after-places}
 use Rattle.mail_words.proofs.WordTests.{none_begins}
 
 all-nil : All HasWordLength []
@@ -19,24 +19,24 @@ begun_length : (cs : List ℕ) → begins is_word_character cs ≡ true → 1 �
 begun_length [] e = cc
 begun_length (c ∷ cs) e = omega (arith, length-le-encodes (c ∷ cs))
 
-short_of_word : (before inside behind : List ℕ) → is_word is_word_character before inside behind ≡ true
+short_of_word : (before inside after : List ℕ) → is_word is_word_character before inside after ≡ true
     → nat_le (length (encode_utf8_all inside)) word_limit ≡ true
 unfolding is_word
-short_of_word before inside behind e = (and_parts _ (nat_le (length (encode_utf8_all inside)) word_limit) e).1
+short_of_word before inside after e = (and_parts _ (nat_le (length (encode_utf8_all inside)) word_limit) e).1
 
-all-if_word : (before inside behind : List ℕ) → All HasWordLength (if_word before inside behind)
-all-if_word before inside behind = go (is_word is_word_character before inside behind) (begins is_word_character inside)
+all-if_word : (before inside after : List ℕ) → All HasWordLength (if_word before inside after)
+all-if_word before inside after = go (is_word is_word_character before inside after) (begins is_word_character inside)
     refl refl
   where
-    go : (word begun : Bool) → is_word is_word_character before inside behind ≡ word → begins is_word_character inside
-        ≡ begun → All HasWordLength (if_word before inside behind)
-    go word false e b = subst (All HasWordLength) (sym (none_begins before inside behind b)) all-nil
+    go : (word begun : Bool) → is_word is_word_character before inside after ≡ word → begins is_word_character inside
+        ≡ begun → All HasWordLength (if_word before inside after)
+    go word false e b = subst (All HasWordLength) (sym (none_begins before inside after b)) all-nil
     go false true e b = subst (λ t. All HasWordLength (cond t (encode_utf8_all inside ∷ []) [])) (sym e) all-nil
     go true true e b =
         subst (λ t. All HasWordLength (cond t (encode_utf8_all inside ∷ []) [])) (sym e)
         (all-one (encode_utf8_all inside) (
           begun_length inside b,
-          leb-true (length (encode_utf8_all inside)) word_limit (short_of_word before inside behind e),
+          leb-true (length (encode_utf8_all inside)) word_limit (short_of_word before inside after e),
         ))
 
 all-words_on : (before inside rest : List ℕ) → All HasWordLength (words_on before inside rest)
@@ -58,4 +58,4 @@ words_left-whole text = refl
 
 pub all-words : (text : List ℕ) → All HasWordLength (words text)
 unfolding words
-all-words text = subst (All HasWordLength) (sym (words_behind-places [] (chars text))) (all-words_from [] (chars text))
+all-words text = subst (All HasWordLength) (sym (words_after-places [] (chars text))) (all-words_from [] (chars text))

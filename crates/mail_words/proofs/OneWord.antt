@@ -4,12 +4,12 @@ use Rattle.mail_words.proofs.Imports.{reverse, encode_utf8_all, IsUtf8, nat_le, 
 use Rattle.mail_words.proofs.Imports.{length-append, and-true, and-false, and_parts, le-leb, eq-eqb, eqb-true}
 use Rattle.mail_words.proofs.Imports.{reverse-append, encodes-append, encodes-chars, length-le-encodes, length-encode}
 use Rattle.mail_words.proofs.Imports.{len_utf8_bounds, list_all, list_any, is_word_character, is_joiner, begins}
-use Rattle.mail_words.proofs.Imports.{is_one_word, is_part_of_word, is_word, word_limit, is_piece, front, behind}
+use Rattle.mail_words.proofs.Imports.{is_one_word, is_part_of_word, is_word, word_limit, is_piece, front, after_front}
 use Rattle.mail_words.proofs.Imports.{joined_to, joined_front}
 use Rattle.std.proofs.Common.{chars}
 use Rattle.std.specs.Prelude.{◌==◌}
 use Rattle.std.proofs.lemmas.List.{append-nil}
-use Rattle.mail_words.proofs.RunLemmas.{is_some, front-pass, front-fail, front-behind, joined_front-word}
+use Rattle.mail_words.proofs.RunLemmas.{is_some, front-pass, front-fail, front-after, joined_front-word}
 use Rattle.mail_words.proofs.RunLemmas.{joined_front-joiner, joined_front-other}
 
 -- ---- the last character
@@ -235,8 +235,8 @@ whole-front p text utf8 = go (list_all p (chars text)) (length (encode_utf8_all 
         → (length (encode_utf8_all (front p (chars text))) == length text) ≡ whole → whole ≡ all
     go true whole e f = sym f ∙ eq-eqb _ _ (ap (λ ds. length (encode_utf8_all ds)) (front-all p (chars text) e) ∙ bytes)
     go false true e f =
-        let same = same_length (chars text) (front p (chars text)) (behind p (chars text))
-        (sym (front-behind p (chars text))) (eqb-true _ _ f ∙ sym bytes) in
+        let same = same_length (chars text) (front p (chars text)) (after_front p (chars text))
+        (sym (front-after p (chars text))) (eqb-true _ _ f ∙ sym bytes) in
         sym (all-front p (chars text)) ∙ ap (list_all p) same ∙ e
     go false false e f = refl
 

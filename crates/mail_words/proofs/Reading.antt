@@ -1,13 +1,14 @@
 -- The words that are left after a place, as a text is read from its front.
 use Rattle.mail_words.proofs.Imports.{◌≡◌, ℕ, Bool, true, false, ◌&&◌, List, [], ◌∷◌, ◌++◌, reverse, refl, sym, ap, ap₂}
 use Rattle.mail_words.proofs.Imports.{◌∙◌, lit<, arith, and-true, and-false, list_all, is_word_character, is_joiner}
-use Rattle.mail_words.proofs.Imports.{begins, after_joiners, front, behind, is_other, read_front, words_left, within}
+use Rattle.mail_words.proofs.Imports.{begins, after_joiners, front, after_front, is_other, read_front, words_left}
+use Rattle.mail_words.proofs.Imports.{within}
 use Rattle.mail_words.proofs.Imports.{long_at}
 use Rattle.mail_words.proofs.Characters.{joiner_is_no_word_character, word_character_is_no_joiner}
 use Rattle.mail_words.proofs.Characters.{is_word_character-ascii}
-use Rattle.mail_words.proofs.RunLemmas.{front-pass, front-fail, behind-pass, behind-fail, begins-behind, is_some}
+use Rattle.mail_words.proofs.RunLemmas.{front-pass, front-fail, after-pass, after-fail, begins-after, is_some}
 use Rattle.mail_words.proofs.RunLemmas.{after_joiners-joiner, after_joiners-other, run-word}
-use Rattle.mail_words.proofs.Places.{words_on, words_from, words_behind-places}
+use Rattle.mail_words.proofs.Places.{words_on, words_from, words_after-places}
 use Rattle.mail_words.proofs.WordTests.{same_before}
 use Rattle.mail_words.proofs.Steps.{words_on-other, none_within, words_on-word}
 
@@ -65,7 +66,7 @@ run_before_rest false = refl
 
 words_left-places : (in_run : Bool) (cs : List ℕ) → words_left in_run cs ≡ words_from (before_rest in_run) cs
 unfolding words_left
-words_left-places in_run cs = words_behind-places (read_front in_run) cs
+words_left-places in_run cs = words_after-places (read_front in_run) cs
 
 -- after a character at which no word begins
 words_left-gap : (in_run : Bool) (c : ℕ) (cs : List ℕ) → is_word_character c ≡ false → words_left in_run (c ∷ cs)
@@ -90,44 +91,44 @@ words_left-end in_run = words_left-places in_run []
 
 -- after a word character, the words left are those left after its plain word
 words_from-past : (before cs : List ℕ) → begins is_word_character before ≡ true → words_from before cs
-    ≡ words_left true (behind is_word_character cs)
+    ≡ words_left true (after_front is_word_character cs)
 words_from-past before [] first = sym (words_left-end true)
 words_from-past before (c ∷ cs) first = go (is_word_character c) refl (words_from-past (c ∷ before) cs)
   where
     go : (t : Bool) → is_word_character c ≡ t
-        → (is_word_character c ≡ true → words_from (c ∷ before) cs ≡ words_left true (behind is_word_character cs))
-        → words_from before (c ∷ cs) ≡ words_left true (behind is_word_character (c ∷ cs))
+        → (is_word_character c ≡ true → words_from (c ∷ before) cs ≡ words_left true (after_front is_word_character cs))
+        → words_from before (c ∷ cs) ≡ words_left true (after_front is_word_character (c ∷ cs))
     go true e rest =
         ap₂ ◌++◌ (none_within before [] (c ∷ cs) first (run-word before first)) (rest e)
-        ∙ ap (words_left true) (sym (behind-pass is_word_character c cs e))
+        ∙ ap (words_left true) (sym (after-pass is_word_character c cs e))
     go false e rest =
         words_from-run before (before_rest true) (c ∷ cs) e (run-word before first ∙ sym (run_before_rest true))
         ∙ sym (words_left-places true (c ∷ cs))
-        ∙ ap (words_left true) (sym (behind-fail is_word_character (c ∷ cs) e))
+        ∙ ap (words_left true) (sym (after-fail is_word_character (c ∷ cs) e))
 
 -- at a word character, the words left are those that begin there and those left after its plain word
 pub words_left-word : (in_run : Bool) (cs : List ℕ) → begins is_word_character cs ≡ true
     → words_left in_run cs ≡ (within (front is_word_character cs) ++ long_at in_run cs) ++ words_left true
-    (behind is_word_character cs)
+    (after_front is_word_character cs)
 words_left-word in_run [] e = cc
 words_left-word in_run (c ∷ cs) e =
     words_left-places in_run (c ∷ cs)
     ∙ ap₂ ◌++◌ (words_on-word in_run (before_rest in_run) (c ∷ cs) (first_before_rest in_run) (run_before_rest in_run)
     e)
-    (words_from-past (c ∷ before_rest in_run) cs e ∙ ap (words_left true) (sym (behind-pass is_word_character c cs e)))
+    (words_from-past (c ∷ before_rest in_run) cs e ∙ ap (words_left true) (sym (after-pass is_word_character c cs e)))
 
 -- after all characters at which no word begins
 pub words_left-gaps : (in_run : Bool) (cs : List ℕ) → words_left in_run cs
-    ≡ words_left (in_run && list_all is_joiner (front is_other cs)) (behind is_other cs)
+    ≡ words_left (in_run && list_all is_joiner (front is_other cs)) (after_front is_other cs)
 words_left-gaps in_run [] = words_left-end in_run ∙ sym (words_left-end (in_run && true))
 words_left-gaps in_run (c ∷ cs) = grind (
   arith,
   and-true,
   front-fail,
-  behind-fail,
+  after-fail,
   words_left-gap,
   front-pass,
-  behind-pass,
+  after-pass,
   words_left-gaps (in_run && is_joiner c) cs,
 )
 
@@ -135,6 +136,7 @@ begins-other : (cs : List ℕ) → begins is_other cs ≡ false → is_some cs �
 begins-other cs h h2 = grind arith
 
 -- a word begins after these, unless nothing is left
-pub begins-gaps : (cs : List ℕ) → is_some (behind is_other cs) ≡ true → begins is_word_character (behind is_other cs)
+pub begins-gaps : (cs : List ℕ) → is_some (after_front is_other cs) ≡ true
+    → begins is_word_character (after_front is_other cs)
     ≡ true
-begins-gaps cs some = begins-other (behind is_other cs) (begins-behind is_other cs) some
+begins-gaps cs some = begins-other (after_front is_other cs) (begins-after is_other cs) some

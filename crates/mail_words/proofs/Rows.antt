@@ -1,13 +1,13 @@
 -- Words of given texts, by computation. Here word characters are the letters and digits of ASCII.
 use Rattle.mail_words.proofs.Imports.{ℕ, Bool, ◌||◌, ◌&&◌, List, [], ◌∷◌, refl, leb, codes, is_joiner, is_word}
-use Rattle.mail_words.proofs.Imports.{words_behind}
+use Rattle.mail_words.proofs.Imports.{words_after}
 use Rattle.mail_words.proofs.RowTables.{Each}
 
 abbrev is_ascii_word : ℕ → Bool
 is_ascii_word c = (leb 0x61 c && leb c 0x7A) || (leb 0x41 c && leb c 0x5A) || (leb 0x30 c && leb c 0x39)
 
 abbrev words_of : List ℕ → List (List ℕ)
-words_of = words_behind is_ascii_word []
+words_of = words_after is_ascii_word []
 
 rows : Each words_of (([], []) ∷ (codes " ", []) ∷ (codes "-", []) ∷ (codes "-_.+@", []) ∷ (codes "a", codes "a" ∷ [])
     ∷ (codes "hello", codes "hello" ∷ [])

@@ -1,6 +1,6 @@
 -- Laws of the runs at the front of the rest of a text.
 use Rattle.mail_words.proofs.Imports.{◌≡◌, ℕ, Bool, true, false, List, [], ◌∷◌, ◌++◌, refl, arith, is_word_character}
-use Rattle.mail_words.proofs.Imports.{is_joiner, begins, after_joiners, front, behind, joined_to, joined_front}
+use Rattle.mail_words.proofs.Imports.{is_joiner, begins, after_joiners, front, after_front, joined_to, joined_front}
 use Rattle.mail_words.proofs.Characters.{joiner_is_no_word_character, word_character_is_no_joiner}
 
 pub front-pass : (p : ℕ → Bool) (c : ℕ) (cs : List ℕ) → p c ≡ true → front p (c ∷ cs) ≡ c ∷ front p cs
@@ -9,19 +9,19 @@ front-pass p c cs e = rw (e, front) refl
 pub front-fail : (p : ℕ → Bool) (cs : List ℕ) → begins p cs ≡ false → front p cs ≡ []
 front-fail p cs h = grind arith
 
-pub behind-pass : (p : ℕ → Bool) (c : ℕ) (cs : List ℕ) → p c ≡ true → behind p (c ∷ cs) ≡ behind p cs
-behind-pass p c cs e = rw (e, behind) refl
+pub after-pass : (p : ℕ → Bool) (c : ℕ) (cs : List ℕ) → p c ≡ true → after_front p (c ∷ cs) ≡ after_front p cs
+after-pass p c cs e = rw (e, after_front) refl
 
-pub behind-fail : (p : ℕ → Bool) (cs : List ℕ) → begins p cs ≡ false → behind p cs ≡ cs
-behind-fail p cs h = grind arith
+pub after-fail : (p : ℕ → Bool) (cs : List ℕ) → begins p cs ≡ false → after_front p cs ≡ cs
+after-fail p cs h = grind arith
 
-pub front-behind : (p : ℕ → Bool) (cs : List ℕ) → front p cs ++ behind p cs ≡ cs
-front-behind p [] = refl
-front-behind p (c ∷ cs) = grind (arith, front-pass, behind-pass, front-fail, behind-fail, front-behind p cs)
+pub front-after : (p : ℕ → Bool) (cs : List ℕ) → front p cs ++ after_front p cs ≡ cs
+front-after p [] = refl
+front-after p (c ∷ cs) = grind (arith, front-pass, after-pass, front-fail, after-fail, front-after p cs)
 
-pub begins-behind : (p : ℕ → Bool) (cs : List ℕ) → begins p (behind p cs) ≡ false
-begins-behind p [] = refl
-begins-behind p (c ∷ cs) = grind (arith, behind-pass, behind-fail, begins-behind p cs)
+pub begins-after : (p : ℕ → Bool) (cs : List ℕ) → begins p (after_front p cs) ≡ false
+begins-after p [] = refl
+begins-after p (c ∷ cs) = grind (arith, after-pass, after-fail, begins-after p cs)
 
 -- whether there is a first element
 abbrev pub is_some : List ℕ → Bool

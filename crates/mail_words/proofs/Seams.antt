@@ -3,11 +3,11 @@ use lib.Utf8.{scalar}
 use Rattle.mail_words.proofs.Imports.{◌≡◌, ℕ, ◌+◌, ◌<◌, Bool, true, ◌&&◌, List, [], ◌∷◌, ◌++◌, length, take, drop}
 use Rattle.mail_words.proofs.Imports.{encode_utf8_all, IsUtf8, refl, sym, ap, subst, ◌∙◌, arith, length-append}
 use Rattle.mail_words.proofs.Imports.{and_parts, encodes-append, encodes-chars, chars-encodes, scalars-chars}
-use Rattle.mail_words.proofs.Imports.{length-le-encodes, IsCharBoundary-at_seam, IsCharBoundary, front, behind}
+use Rattle.mail_words.proofs.Imports.{length-le-encodes, IsCharBoundary-at_seam, IsCharBoundary, front, after_front}
 use Rattle.std.proofs.Common.{chars}
 use Rattle.std.proofs.Math.Seq.{take-append_seam, drop-append_seam}
 use Rattle.std.proofs.Math.Utf8.{scalars}
-use Rattle.mail_words.proofs.RunLemmas.{front-behind, is_some}
+use Rattle.mail_words.proofs.RunLemmas.{front-after, is_some}
 
 scalars-front : (xs ys : List ℕ) → scalars (xs ++ ys) ≡ true → scalars xs ≡ true
 scalars-front [] ys h = refl
@@ -68,9 +68,9 @@ chars_back text xs ys n part s place is = ap chars (seam_back text xs ys n part 
 
 -- the text can be cut after the characters that pass
 pub front_seam : (p : ℕ → Bool) (text : List ℕ) → IsUtf8 text
-    → IsSeam text (front p (chars text)) (behind p (chars text))
-front_seam p text utf8 = seam text (front p (chars text)) (behind p (chars text)) utf8
-    (sym (front-behind p (chars text)))
+    → IsSeam text (front p (chars text)) (after_front p (chars text))
+front_seam p text utf8 = seam text (front p (chars text)) (after_front p (chars text)) utf8
+    (sym (front-after p (chars text)))
 
 -- there are characters if there are bytes
 pub some_from_bytes : (cs : List ℕ) → 0 < length (encode_utf8_all cs) → is_some cs ≡ true

@@ -2,11 +2,11 @@
 use Rattle.mail_words.proofs.Imports.{◌≡◌, ℕ, Bool, true, false, ◌&&◌, ◌||◌, List, [], ◌∷◌, ◌++◌, reverse, refl, sym}
 use Rattle.mail_words.proofs.Imports.{ap, ap₂, ◌∙◌, append_assoc, arith, and-false, or-true, and_parts, reverse-append}
 use Rattle.mail_words.proofs.Imports.{list_all-append, list_any-append, list_all, list_any, is_word_character}
-use Rattle.mail_words.proofs.Imports.{is_joiner, begins, after_joiners, is_piece, front, behind, joined_to}
+use Rattle.mail_words.proofs.Imports.{is_joiner, begins, after_joiners, is_piece, front, after_front, joined_to}
 use Rattle.mail_words.proofs.Imports.{joined_front, within, joined_on, long_at}
 use Rattle.std.proofs.Common.{append-nil}
 use Rattle.mail_words.proofs.Characters.{joiner_is_no_word_character, word_character_is_no_joiner}
-use Rattle.mail_words.proofs.RunLemmas.{front-pass, front-fail, behind-pass, behind-fail, begins-behind, is_some}
+use Rattle.mail_words.proofs.RunLemmas.{front-pass, front-fail, after-pass, after-fail, begins-after, is_some}
 use Rattle.mail_words.proofs.RunLemmas.{nil_from_none, joined_front-word, joined_front-joiner, joined_front-other}
 use Rattle.mail_words.proofs.RunLemmas.{is_some-joined_front}
 use Rattle.mail_words.proofs.Places.{words_on}
@@ -79,11 +79,11 @@ plain_first before inside fore rest = within (inside ++ fore) ++ words_on before
 words_on-plain : (before inside cs : List ℕ) → list_all is_word_character inside ≡ true → list_any is_joiner inside
     ≡ false → begins is_word_character before ≡ false
     → begins is_word_character cs ≡ true → words_on before inside cs
-    ≡ plain_first before inside (front is_word_character cs) (behind is_word_character cs)
+    ≡ plain_first before inside (front is_word_character cs) (after_front is_word_character cs)
 words_on-plain before inside [] all joins first e = cc
 words_on-plain before inside (c ∷ cs) all joins first e =
     go (begins is_word_character cs) refl (words_on-plain before longer cs all' joins' first)
-    ∙ sym (ap₂ (plain_first before inside) (front-pass is_word_character c cs e) (behind-pass is_word_character c cs e))
+    ∙ sym (ap₂ (plain_first before inside) (front-pass is_word_character c cs e) (after-pass is_word_character c cs e))
   where
     longer : List ℕ
     longer = inside ++ c ∷ []
@@ -96,15 +96,15 @@ words_on-plain before inside (c ∷ cs) all joins first e =
 
     go : (t : Bool) → begins is_word_character cs ≡ t
         → (begins is_word_character cs ≡ true → words_on before longer cs
-        ≡ plain_first before longer (front is_word_character cs) (behind is_word_character cs))
+        ≡ plain_first before longer (front is_word_character cs) (after_front is_word_character cs))
         → words_on before inside (c ∷ cs) ≡ plain_first before inside (c ∷ front is_word_character cs)
-        (behind is_word_character cs)
+        (after_front is_word_character cs)
     go true more rest = grind (arith, none_yet, longer, joins', words_on, append_assoc)
     go false last rest =
         ap (λ ws. ws ++ words_on before longer cs)
         (is_plain before longer cs (begins-all is_word_character inside c all') all' first last)
         ∙ sym (ap₂ (λ fore rest. plain_first before inside (c ∷ fore) rest) (front-fail is_word_character cs last)
-        (behind-fail is_word_character cs last))
+        (after-fail is_word_character cs last))
 
 -- ---- a long word
 
@@ -193,11 +193,11 @@ begins-front : (p : ℕ → Bool) (cs : List ℕ) → begins p cs ≡ true → b
 begins-front p cs h = grind (arith, front-pass)
 
 -- the long word, after the plain one with which it begins
-long_behind : (before plain rest : List ℕ) → begins is_word_character plain ≡ true → list_all is_word_character plain
+long_after : (before plain rest : List ℕ) → begins is_word_character plain ≡ true → list_all is_word_character plain
     ≡ true → begins is_word_character rest ≡ false
     → begins is_word_character (after_joiners before) ≡ false → words_on before plain rest
     ≡ joined_on plain (joined_front rest)
-long_behind before plain rest h h2 h3 h4 =
+long_after before plain rest h h2 h3 h4 =
     grind (
       arith,
       words_on,
@@ -214,13 +214,13 @@ long_behind before plain rest h h2 h3 h4 =
     )
 
 -- no long word, because its run began earlier
-no_long_behind : (before plain rest : List ℕ) → begins is_word_character rest ≡ false
+no_long_after : (before plain rest : List ℕ) → begins is_word_character rest ≡ false
     → begins is_word_character (after_joiners before) ≡ true → words_on before plain rest ≡ []
-no_long_behind before plain rest h h2 = grind (arith, none_in_run, none_again, all-push, and-false)
+no_long_after before plain rest h h2 = grind (arith, none_in_run, none_again, all-push, and-false)
 
 -- the plain word and the long one that begin at a word character
 pub words_on-word : (in_run : Bool) (before cs : List ℕ) → begins is_word_character before ≡ false
     → begins is_word_character (after_joiners before) ≡ in_run → begins is_word_character cs ≡ true
     → words_on before [] cs ≡ within (front is_word_character cs) ++ long_at in_run cs
 words_on-word in_run before cs first run e =
-    grind (arith, words_on-plain, words_on, no_long_behind, begins-behind, long_behind, begins-front, all-front)
+    grind (arith, words_on-plain, words_on, no_long_after, begins-after, long_after, begins-front, all-front)

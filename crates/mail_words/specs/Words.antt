@@ -42,22 +42,22 @@ after_joiners (c ∷ cs) = elim (is_joiner c) [ true ↦ after_joiners cs | fals
 module _ (in_word : ℕ → Bool) where
   -- whether a range is a maximal run of word characters, with at least one
   abbrev pub is_plain_word : List ℕ → List ℕ → List ℕ → Bool
-  is_plain_word before inside behind =
-      begins in_word inside && list_all in_word inside && not (begins in_word before) && not (begins in_word behind)
+  is_plain_word before inside after =
+      begins in_word inside && list_all in_word inside && not (begins in_word before) && not (begins in_word after)
 
   -- whether a range is a maximal run of word characters and joiners, without the joiners at both its ends, in which a
   -- joiner is left. It begins and ends with a word character. Outside, no word character is next to it, and none comes
   -- after joiners alone.
   abbrev pub is_long_word : List ℕ → List ℕ → List ℕ → Bool
-  is_long_word before inside behind =
+  is_long_word before inside after =
       begins in_word inside && begins in_word (reverse inside)
       && list_all (λ c. in_word c || is_joiner c) inside && list_any is_joiner inside
-      && not (begins in_word (after_joiners before)) && not (begins in_word (after_joiners behind))
+      && not (begins in_word (after_joiners before)) && not (begins in_word (after_joiners after))
 
   -- whether a range is a plain or a long word of at most 128 bytes
   unfoldable pub is_word : List ℕ → List ℕ → List ℕ → Bool
-  is_word before inside behind =
-      (is_plain_word before inside behind || is_long_word before inside behind) && nat_le
+  is_word before inside after =
+      (is_plain_word before inside after || is_long_word before inside after) && nat_le
       (length (encode_utf8_all inside)) word_limit
 
   -- whether a range of these characters, given by its start and its end, is such a word
@@ -65,17 +65,17 @@ module _ (in_word : ℕ → Bool) where
   is_word_range = passes_at is_word
 
   -- the ranges that are words and begin in the rest of a text, after its front
-  abbrev pub word_ranges_behind : List ℕ → List ℕ → List (ℕ × ℕ)
-  word_ranges_behind front rest = filter (is_word_range (front ++ rest)) (ranges_from (length front) rest)
+  abbrev pub word_ranges_after : List ℕ → List ℕ → List (ℕ × ℕ)
+  word_ranges_after front rest = filter (is_word_range (front ++ rest)) (ranges_from (length front) rest)
 
   -- the words that begin in the rest of a text, after its front
-  abbrev pub words_behind : List ℕ → List ℕ → List (List ℕ)
-  words_behind front rest = map (range_bytes (front ++ rest)) (word_ranges_behind front rest)
+  abbrev pub words_after : List ℕ → List ℕ → List (List ℕ)
+  words_after front rest = map (range_bytes (front ++ rest)) (word_ranges_after front rest)
 
 -- the ranges of a text's characters that are words, in the order of where they begin, the plain word before the long
 -- one
 abbrev pub word_ranges : List ℕ → List (ℕ × ℕ)
-word_ranges text = word_ranges_behind is_word_character [] (chars text)
+word_ranges text = word_ranges_after is_word_character [] (chars text)
 
 -- the words of a text, in the same order
 unfoldable pub words : List ℕ → List (List ℕ)

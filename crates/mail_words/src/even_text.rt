@@ -51,9 +51,9 @@ pub fn fold_evenly(text: &str, into: &mut String) -> Result<bool, AllocError>
     into.clear();
     let mut rest = text;
     'pieces: loop {
-        let (kept, behind) = rest.split_at(kept_len(rest));
+        let (kept, after) = rest.split_at(kept_len(rest));
         into.push_str(kept)?;
-        let mut left = behind.chars();
+        let mut left = after.chars();
         let Some(c) = left.next() else {
             return Ok(true);
         };

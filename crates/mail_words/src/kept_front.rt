@@ -12,12 +12,12 @@ pub(crate) fn kept_len(text: &str) -> usize
 {
     let mut rest = text;
     'runs: loop {
-        let behind = rest.split_at(ascii_len(rest.as_bytes())).1;
-        let letters = letters_len(behind);
+        let after = rest.split_at(ascii_len(rest.as_bytes())).1;
+        let letters = letters_len(after);
         if letters == 0 {
-            return text.len() - behind.len();
+            return text.len() - after.len();
         }
-        rest = behind.split_at(letters).1;
+        rest = after.split_at(letters).1;
     }
 }
 

@@ -4,7 +4,7 @@ ghost use Rattle.std.specs.Iterator.{YieldsFirstRef, item_count};
 ghost use Rattle.std.specs.List.{list_all};
 ghost use Rattle.std.specs.Option.{option_copied};
 ghost use Rattle.mail_words.specs.Words.{words, HasWordLength, is_word_character, is_joiner, begins};
-ghost use Rattle.mail_words.specs.Inside.Runs.{words_left, front, behind, is_other, long_at};
+ghost use Rattle.mail_words.specs.Inside.Runs.{words_left, front, after_front, is_other, long_at};
 
 use crate::ascii::is_ascii_joiner;
 use crate::lanes::gap_and_word;
@@ -70,7 +70,7 @@ impl<'a> Iterator for Words<'a> {
         }
         let place = next_place(self.rest, self.in_run)?;
         self.long = place.long;
-        self.rest = place.behind;
+        self.rest = place.after;
         self.in_run = true;
         Some(place.plain)
     }
@@ -83,7 +83,7 @@ struct WordPlace<'a> {
     /// The long word that begins with the plain word, if there is one.
     long: Option<&'a str>,
     /// The text after the plain word.
-    behind: &'a str,
+    after: &'a str,
 }
 
 /// Finds the next place where a word begins that has at most 128 bytes. `in_run` says whether the text may continue a
@@ -92,7 +92,7 @@ struct WordPlace<'a> {
 fn next_place(text: &str, in_run: bool) -> Option<WordPlace<'_>>
     ensures { MatchOption result (words_left in_run (chars text.now) ≡ [])
         (λ p. words_left in_run (chars text.now) ≡ p.plain.now
-        ∷ (option_to_list (option_copied p.long) ++ words_left true (chars p.behind.now))) }
+        ∷ (option_to_list (option_copied p.long) ++ words_left true (chars p.after.now))) }
 {
     if let Some(place) = place_by_one_load(text, in_run) {
         return Some(place);
@@ -100,7 +100,7 @@ fn next_place(text: &str, in_run: bool) -> Option<WordPlace<'_>>
     let mut rest = text;
     let mut goes_on = in_run;
     'places: loop {
-        let (start, start_goes_on) = behind_gap(rest, gap_len(rest), goes_on);
+        let (start, start_goes_on) = after_gap(rest, gap_len(rest), goes_on);
         if start.is_empty() {
             return None;
         }
@@ -109,7 +109,7 @@ fn next_place(text: &str, in_run: bool) -> Option<WordPlace<'_>>
             return Some(place);
         }
         // The long word that begins with it is longer still.
-        rest = place.behind;
+        rest = place.after;
         goes_on = true;
     }
 }
@@ -119,16 +119,16 @@ fn next_place(text: &str, in_run: bool) -> Option<WordPlace<'_>>
 #[inline(always)]
 fn place_by_one_load(text: &str, in_run: bool) -> Option<WordPlace<'_>>
     ensures { IfSome result (λ p. words_left in_run (chars text.now) ≡ p.plain.now
-        ∷ (option_to_list (option_copied p.long) ++ words_left true (chars p.behind.now))) }
+        ∷ (option_to_list (option_copied p.long) ++ words_left true (chars p.after.now))) }
 {
     let (gap, word) = gap_and_word(text.as_bytes())?;
-    let (start, goes_on) = behind_gap(text, gap, in_run);
+    let (start, goes_on) = after_gap(text, gap, in_run);
     Some(place_at(start, word, goes_on))
 }
 
 /// Returns the text after its gap, which has `gap` bytes, and whether this still continues the run.
 #[inline(always)]
-fn behind_gap(text: &str, gap: usize, in_run: bool) -> (&str, bool)
+fn after_gap(text: &str, gap: usize, in_run: bool) -> (&str, bool)
     requires { gap ≡ length (encode_utf8_all (front is_other (chars text.now))) }
     ensures start { result.0.now ≡ drop gap text.now }
     ensures left { words_left in_run (chars text.now) ≡ words_left result.1 (chars result.0.now) }
@@ -155,18 +155,14 @@ fn place_at(text: &str, len: usize, in_run: bool) -> WordPlace<'_>
     requires { len ≡ length (encode_utf8_all (front is_word_character (chars text.now))) }
     ensures plain { result.plain.now ≡ encode_utf8_all (front is_word_character (chars text.now)) }
     ensures long { option_to_list (option_copied result.long) ≡ long_at in_run (chars text.now) }
-    ensures behind { result.behind.now ≡ encode_utf8_all
-        (behind is_word_character (chars text.now)) }
-    ensures lengths { length result.plain.now + length result.behind.now ≡ length text.now }
-    ensures behind_chars { chars result.behind.now ≡ behind is_word_character (chars text.now) }
+    ensures after { result.after.now ≡ encode_utf8_all
+        (after_front is_word_character (chars text.now)) }
+    ensures lengths { length result.plain.now + length result.after.now ≡ length text.now }
+    ensures after_chars { chars result.after.now ≡ after_front is_word_character (chars text.now) }
 {
-    let (plain, behind) = text.split_at(len);
+    let (plain, after) = text.split_at(len);
     let long = if in_run { None } else { long_word(text, len) };
-    WordPlace {
-        plain,
-        long,
-        behind,
-    }
+    WordPlace { plain, long, after }
 }
 
 /// Returns the long word that begins at the front of a text, whose plain word has `plain` bytes. Returns None if there
@@ -175,11 +171,11 @@ fn long_word(text: &str, plain: usize) -> Option<&str>
     requires { plain ≡ length (encode_utf8_all (front is_word_character (chars text.now))) }
     ensures { option_to_list (option_copied result) ≡ long_at false (chars text.now) }
 {
-    let behind = text.split_at(plain).1;
-    if !begins_in_joiner(behind) {
+    let after = text.split_at(plain).1;
+    if !begins_in_joiner(after) {
         return None;
     }
-    let joined = joined_len(behind);
+    let joined = joined_len(after);
     if joined == 0 {
         return None;
     }

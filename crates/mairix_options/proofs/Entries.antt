@@ -27,7 +27,7 @@ pub entry-no_value : (base : Option (List ℕ)) (n : ℕ) (text : List ℕ) → 
     → position_or_len (λ b. b == 61) text ≡ length text → entry base n text ≡ Err (BadLine n)
 entry-no_value base n text whole none =
     let past : length text ≤ position_or_len (λ b. b == 61) text + 1 = omega arith in
-    let behind : after_first (λ b. b == 61) text ≡ [] = drop_all (position_or_len (λ b. b == 61) text + 1) text past in
+    let after : after_first (λ b. b == 61) text ≡ [] = drop_all (position_or_len (λ b. b == 61) text + 1) text past in
     entry-assigned base n text (text_without_blanks (before_first (λ b. b == 61) text)) [] whole refl
-    (sym (ap text_without_blanks behind ∙ trimmed-nil))
+    (sym (ap text_without_blanks after ∙ trimmed-nil))
     ∙ assigned-nothing base n (text_without_blanks (before_first (λ b. b == 61) text))

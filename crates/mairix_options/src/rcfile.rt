@@ -4,7 +4,7 @@ ghost use Rattle.std.specs.List.{All, filter_map, slice_get};
 ghost use Rattle.contract_words.specs.Answers.{Gives};
 ghost use Rattle.mail_index.specs.Tables.{IsPath};
 ghost use Rattle.mairix_options.specs.Rcfile.{archives_misfit, first_misfit, all_paths, rc_with, rc_of};
-ghost use Rattle.mairix_options.specs.Inside.Said.{Says, rc_behind};
+ghost use Rattle.mairix_options.specs.Inside.Said.{Says, rc_after};
 ghost use Rattle.mairix_options.specs.declared.setting.Setting.{Setting};
 ghost use Rattle.or_memory.specs.Refusals.{refusal};
 
@@ -97,13 +97,13 @@ pub fn read_rc(alloc: Global, rc: &[u8]) -> Result<Rc, OrMemory<RcFault>>
         mfolder: None,
         format: None,
     };
-    rc_behind(alloc, &mut said, rc)
+    rc_after(alloc, &mut said, rc)
 }
 
 /// Reads all lines, after those that `said` has already. A loop that begins with any settings is easier to prove.
-fn rc_behind(alloc: Global, said: &mut Said, rc: &[u8]) -> Result<Rc, OrMemory<RcFault>>
+fn rc_after(alloc: Global, said: &mut Said, rc: &[u8]) -> Result<Rc, OrMemory<RcFault>>
     ensures { (before : List Setting) → Says before said.old
-        → Gives (λ r. r) refusal result (rc_behind before rc.now) }
+        → Gives (λ r. r) refusal result (rc_after before rc.now) }
 {
     let mut number = 1;
     for line in rc.lines() {

@@ -255,7 +255,7 @@ no_mbox =
       (
         [],
         _,
-        record { behind = []; whole = refl },
+        record { after = []; whole = refl },
         refl,
         record { sound = none-sound; few = omega arith; refused = refl },
       ),

@@ -4,8 +4,8 @@ use Rattle.mbox_cutter.proofs.Words.{length-drop, lines, first_lines, first_leng
 use Rattle.mbox_cutter.proofs.FirstLines.{first_length-positive}
 
 -- after the first line there are fewer bytes
-behind-fewer : (b : List ℕ) (n : ℕ) → 0 < length b → length b ≤ suc n → length (drop (first_length b) b) ≤ n
-behind-fewer b n some h = grind (arith, first_length-positive, length-drop)
+after-fewer : (b : List ℕ) (n : ℕ) → 0 < length b → length b ≤ suc n → length (drop (first_length b) b) ≤ n
+after-fewer b n some h = grind (arith, first_length-positive, length-drop)
 
 -- what holds of no bytes, and of any bytes if it holds of those after their first line, holds of all bytes
 pub by_lines : (P : List ℕ → Type 0) → P [] → ((b : List ℕ) → 0 < length b → P (drop (first_length b) b) → P b)
@@ -15,9 +15,9 @@ by_lines P none each zero (x ∷ xs) h = absurd (omega arith)
 by_lines P none each (suc n) (x ∷ xs) h =
     grind (
       arith,
-      behind-fewer,
+      after-fewer,
       by_lines P none each n (drop (first_length (x ∷ xs)) (x ∷ xs))
-          (behind-fewer (x ∷ xs) n (omega arith) h),
+          (after-fewer (x ∷ xs) n (omega arith) h),
     )
 
 -- more turns than bytes change nothing
@@ -31,9 +31,9 @@ first_lines-enough (suc n) (suc m) [] p q = refl
 first_lines-enough (suc n) (suc m) (x ∷ xs) p q =
     grind (
       arith,
-      behind-fewer,
+      after-fewer,
       first_lines-enough n m (drop (first_length (x ∷ xs)) (x ∷ xs))
-          (behind-fewer (x ∷ xs) n (omega arith) p) (behind-fewer (x ∷ xs) m (omega arith) q),
+          (after-fewer (x ∷ xs) n (omega arith) p) (after-fewer (x ∷ xs) m (omega arith) q),
     )
 
 pub lines-cons : (b : List ℕ) → 0 < length b → lines b ≡ take (first_length b) b ∷ lines (drop (first_length b) b)
@@ -42,7 +42,7 @@ lines-cons [] h = absurd (omega arith)
 lines-cons (x ∷ xs) h =
     ap (λ (ls : List (List ℕ)). take (first_length (x ∷ xs)) (x ∷ xs) ∷ ls)
     (first_lines-enough (length xs) _ (drop (first_length (x ∷ xs)) (x ∷ xs))
-    (behind-fewer (x ∷ xs) (length xs) h (omega arith)) (omega arith))
+    (after-fewer (x ∷ xs) (length xs) h (omega arith)) (omega arith))
 
 pub lines-nil : lines [] ≡ []
 unfolding lines

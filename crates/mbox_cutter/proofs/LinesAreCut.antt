@@ -65,7 +65,7 @@ joined_cut l (y ∷ ys) is full cut = grind (arith, lines-cons)
 pub lines-AreLines : (b : List ℕ) → AreLines b (lines b)
 lines-AreLines b = record {
   joined = by_lines (λ b. concat (lines b) ≡ b) (rw lines-nil refl) (λ b some rest. ap concat (lines-cons b some)
-      ∙ ap (λ (behind : List ℕ). take (first_length b) b ++ behind) rest ∙ take-append-drop (first_length b) b)
+      ∙ ap (λ (after : List ℕ). take (first_length b) b ++ after) rest ∙ take-append-drop (first_length b) b)
       (length b) b (omega arith);
   each = by_lines (λ b. AreCut (lines b)) (rw lines-nil tt) (λ b some rest. rw (lines-cons b some)
       (joined_cut (take (first_length b) b) (drop (first_length b) b) (first_line-IsLine b some) (first_line-full b)

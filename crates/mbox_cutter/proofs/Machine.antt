@@ -38,7 +38,7 @@ module _ (l : List ℕ) (ls : List (List ℕ)) (k : ℕ) (len : length l ≡ k) 
       → told_inside all at start size (l ∷ ls) ≡ End ((at + k) - start) size ∷ told_between all (at + k) ls
   inside-closing_last all at start size e none = rw (← len, none) (rw e (simp add-zero))
 
-  module _ (m : List ℕ) (behind : List (List ℕ)) (next : ls ≡ m ∷ behind) where
+  module _ (m : List ℕ) (after : List (List ℕ)) (next : ls ≡ m ∷ after) where
     -- an empty line before a start
     pub inside-closing : (all at start size : ℕ) → is_empty l ≡ true → is_separator m ≡ true → is_empty m ≡ false →
         told_inside all at start size (l ∷ ls) ≡ End ((at + k) - start) size ∷ told_between all (at + k) ls

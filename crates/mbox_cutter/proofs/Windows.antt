@@ -12,16 +12,16 @@ use Rattle.mbox_cutter.proofs.FirstLines.{line_end-more, line_end-whole}
 use Rattle.mbox_cutter.proofs.Parts.{take_front}
 use Rattle.mbox_cutter.proofs.Sources.{Stays-join}
 
-take_behind : (front into post : List ℕ) (held n : ℕ) → length front ≡ held → n ≤ length into
+take_after : (front into post : List ℕ) (held n : ℕ) → length front ≡ held → n ≤ length into
     → take (held + n) (front ++ (into ++ post)) ≡ front ++ take n into
-take_behind front into post held n e h =
+take_after front into post held n e h =
     rw (← e) (take-append-add front (into ++ post) n ∙ ap (λ (s : List ℕ). front ++ s) (take-append-le n into post h))
 
-pub reads_behind : (held : ℕ) (old new : Option (List ℕ)) (result : Result ℕ DeviceFault) (before into : List ℕ) →
+pub reads_after : (held : ℕ) (old new : Option (List ℕ)) (result : Result ℕ DeviceFault) (before into : List ℕ) →
     held < length before → length into ≡ length before - held → IfOk result (λ n. n ≤ length into)
     → ReadConsumes old new result into →
     ReadsAfter held old new result before (put_mid held (length before - held) before into)
-reads_behind held old new result before into h h2 h3 h4 = grind (arith, length-take-le, take_behind, take_front)
+reads_after held old new result before into h h2 h3 h4 = grind (arith, length-take-le, take_after, take_front)
 
 -- the end of the line is in what was read
 pub at_some : (skip n : ℕ) (u : List ℕ) (old now : Option (List ℕ)) → skip ≤ length u → Some n

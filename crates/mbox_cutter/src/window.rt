@@ -131,7 +131,7 @@ impl<'a, S: Source> Window<'a, S> {
         self.taken = 0;
         self.from = 0;
         self.to = held;
-        let n = read_behind(self.source, self.buffer.as_mut_slice(), held)?;
+        let n = read_after(self.source, self.buffer.as_mut_slice(), held)?;
         self.to += n;
         self.ended = n == 0;
         Ok(())
@@ -148,7 +148,7 @@ fn move_to_front(buffer: &mut [u8], from: usize, to: usize)
 }
 
 /// Reads into the buffer, after its first `held` bytes.
-fn read_behind<S: Source>(
+fn read_after<S: Source>(
     source: &mut S,
     buffer: &mut [u8],
     held: usize,

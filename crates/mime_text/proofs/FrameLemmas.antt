@@ -5,7 +5,7 @@ use Rattle.mime_text.proofs.Words.{get_or, Bor, slice_get, option_map, MatchOpti
 use Rattle.mime_text.proofs.Words.{without_break, after_blanks, DefaultType, Frame, Delimiter, are_blanks, is_delimiter}
 use Rattle.mime_text.proofs.Words.{is_closing, StreamPlace, Skip, InHeader, or_else, own_hit, place_after_hit}
 use Rattle.mime_text.proofs.Words.{dash_dash, dashes}
-use Rattle.mime_text.proofs.Words.{kind_behind, delimiter_of, place_after_delimiter, scan, inside_out, with_frame}
+use Rattle.mime_text.proofs.Words.{kind_after, delimiter_of, place_after_delimiter, scan, inside_out, with_frame}
 use Rattle.mime_text.proofs.Words.{AreNested}
 use Rattle.std.proofs.lemmas.Option.{slice_get-get_or}
 use Rattle.header_text.specs.EncodedWords.{after}
@@ -76,7 +76,7 @@ own_hit-is {A} l f outer =
     by_bools closing blank = grind arith
 
     by_rest : (o : Option (List ℕ)) → own_hit {A = A} (are_blanks (then_after o dash_dash)) (are_blanks o) f outer
-        ≡ place_after_delimiter (kind_behind o) f outer
+        ≡ place_after_delimiter (kind_after o) f outer
     by_rest o = grind (arith, by_bools)
 
     by_dashes : (o : Option (List ℕ)) → own_hit {A = A} (are_blanks (then_after o (f.boundary ++ dash_dash)))

@@ -46,9 +46,9 @@ module _ {S : Type 0} (takes : S → TextKind → List ℕ → S → Type 0)
       }
 
   -- the pairs that come after the call may be replaced by equal ones
-  pub gave-behind : (A B C : ComingPairs) (s t : S) → ((ms : List (List ℕ)) → B ms ≡ C ms) → Gave takes refuses A B s t
+  pub gave-after : (A B C : ComingPairs) (s t : S) → ((ms : List (List ℕ)) → B ms ≡ C ms) → Gave takes refuses A B s t
       → Gave takes refuses A C s t
-  gave-behind A B C s t e h = record {
+  gave-after A B C s t e h = record {
     pairs = h.pairs;
     taken = h.taken;
     rest = λ ms. h.rest ms

@@ -53,7 +53,7 @@ module _ {T E : Type 0} (old new : List (Vec ℕ Global)) (more : List (List ℕ
 -- the ids of a linking field after others: they are those of the fields so far, and there is still room for those of
 -- the fields that are left
 module _ (f : HeaderField) (rest fields : List HeaderField) (ids more new : List (List ℕ)) (split : fields ≡ f ∷ rest)
-    (behind : new ≡ ids ++ more) where
+    (after : new ≡ ids ++ more) where
   pub ids_step : (all : List (List ℕ)) → is_linking f.name ≡ true → more ≡ ids_of f.body → all
       ≡ ids ++ ids_of_fields fields → all ≡ new ++ ids_of_fields rest
   ids_step all links here sofar = grind (arith, append_assoc)

@@ -7,7 +7,7 @@ use Rattle.mime_text.proofs.Words.{length_before_feed, line_end_of, lines, line_
 use Rattle.mime_text.proofs.Words.{line_end-within, line_end-whole, TextKind, SinkFault, TextFault, OutOfMemory, Sink}
 use Rattle.mime_text.proofs.Words.{Failed, LineTexts, Pair, Gave, Broke, Hands, ends_in, line_text}
 use Rattle.mime_text.proofs.Words.{is_tag_open_after_line}
-use Rattle.mime_text.proofs.Words.{texts_behind, body_pairs, pairs_of_lines, pairs_of_bytes}
+use Rattle.mime_text.proofs.Words.{texts_after, body_pairs, pairs_of_lines, pairs_of_bytes}
 use Rattle.std.proofs.lemmas.Slice.Eq.{bytes_eq-Decides}
 use Rattle.mbox_cutter.proofs.LineLists.{lines-cons, lines-nil}
 use Rattle.mail_words.specs.declared.kind.TextKind.TheVariants as kind
@@ -106,7 +106,7 @@ module _ {S : Type 0} (takes : S → TextKind → List ℕ → S → Type 0)
         pairs = p ∷ [];
         broken = ([], p, s, refl, refl, h);
         front = λ ls. (
-          body_pairs (texts_behind old.charset old.is_html
+          body_pairs (texts_after old.charset old.is_html
               (is_tag_open_after_line old.charset old.is_html old.is_open line) ls),
           refl,
         );

@@ -5,8 +5,8 @@ use Rattle.mime_text.proofs.Words.{unwrap_or, find, option_map_or, option_to_lis
 use Rattle.mime_text.proofs.Words.{without_outer_blanks}
 use Rattle.mime_text.proofs.Words.{cut_at, length-split_while, split_while-joined, IsCut-from, Parameter, Piece}
 use Rattle.mime_text.proofs.Words.{quoted_and_rest}
-use Rattle.mime_text.proofs.Words.{value_and_rest, is_parameter_name_byte, behind_semicolon, piece_of}
-use Rattle.mime_text.proofs.Words.{parameters_within, parameters_behind, first_named, parameter}
+use Rattle.mime_text.proofs.Words.{value_and_rest, is_parameter_name_byte, after_semicolon, piece_of}
+use Rattle.mime_text.proofs.Words.{parameters_within, parameters_after, first_named, parameter}
 use Rattle.header_text.specs.Names.{is_named}
 
 -- ---- what follows is shorter
@@ -27,45 +27,45 @@ length-value_and_rest bs = grind (arith, length-quoted, length-split_while)
 same_some : (x y : List ℕ) → Some x ≡ Some y → x ≡ y
 same_some x y h = ap (λ (o : Option (List ℕ)). unwrap_or o x) h
 
-length-behind : (bs rest : List ℕ) (o : Option (List ℕ × List ℕ)) → cut_at 0x3B bs ≡ o → option_map (λ parts. parts.1) o
+length-after : (bs rest : List ℕ) (o : Option (List ℕ × List ℕ)) → cut_at 0x3B bs ≡ o → option_map (λ parts. parts.1) o
     ≡ Some rest → length rest < length bs
-length-behind bs rest None e h = absurd (cc h)
-length-behind bs rest (Some (x, y)) e h = grind (arith, (IsCut-from 0x3B bs x y e).joined, length-append x (0x3B ∷ y))
+length-after bs rest None e h = absurd (cc h)
+length-after bs rest (Some (x, y)) e h = grind (arith, (IsCut-from 0x3B bs x y e).joined, length-append x (0x3B ∷ y))
 
-length-behind_semicolon : (bs rest : List ℕ) → behind_semicolon bs ≡ Some rest → length rest < length bs
-length-behind_semicolon bs rest h = length-behind bs rest (cut_at 0x3B bs) refl h
+length-after_semicolon : (bs rest : List ℕ) → after_semicolon bs ≡ Some rest → length rest < length bs
+length-after_semicolon bs rest h = length-after bs rest (cut_at 0x3B bs) refl h
 
-piece_behind : List ℕ → List ℕ → Piece
-piece_behind name behind = elim behind [
+piece_after : List ℕ → List ℕ → Piece
+piece_after name after = elim after [
   | [] ↦ record { parameter = None; later = None }
   | c ∷ rest ↦ elim (c == 0x3D) [
     | false ↦ record { parameter = None; later = Some rest }
     | true ↦ record {
       parameter = Some (record { name = name; value = (value_and_rest (after_blanks rest)).0 });
       later =
-          behind_semicolon (value_and_rest (after_blanks rest)).1;
+          after_semicolon (value_and_rest (after_blanks rest)).1;
     }
   ]
 ]
 
-later-shorter_behind : (name behind rest : List ℕ) → (piece_behind name behind).later ≡ Some rest
-    → length rest < length behind
-unfolding piece_behind
-later-shorter_behind name [] rest h = absurd (cc h)
-later-shorter_behind name (c ∷ bs) rest h =
+later-shorter_after : (name after rest : List ℕ) → (piece_after name after).later ≡ Some rest
+    → length rest < length after
+unfolding piece_after
+later-shorter_after name [] rest h = absurd (cc h)
+later-shorter_after name (c ∷ bs) rest h =
     grind (
       arith,
-      length-behind_semicolon (value_and_rest (after_blanks bs)).1 rest,
+      length-after_semicolon (value_and_rest (after_blanks bs)).1 rest,
       length-value_and_rest (after_blanks bs),
       length-after_blanks bs,
     )
 
 pub later-shorter : (bs rest : List ℕ) → (piece_of bs).later ≡ Some rest → length rest < length bs
-unfolding piece_of piece_behind
+unfolding piece_of piece_after
 later-shorter bs rest h = grind (
   arith,
   length-split_while is_parameter_name_byte bs,
-  later-shorter_behind (without_outer_blanks (split_while is_parameter_name_byte bs).0)
+  later-shorter_after (without_outer_blanks (split_while is_parameter_name_byte bs).0)
       (split_while is_parameter_name_byte bs).1
       rest h,
 )
@@ -84,42 +84,42 @@ within-enough zero m (b ∷ bs) h k = absurd (omega arith)
 within-enough (suc n) zero (b ∷ bs) h k = absurd (omega arith)
 within-enough (suc n) (suc m) (b ∷ bs) h k = grind (arith, later-shorter (b ∷ bs), within-enough n m)
 
-behind-nil : [] ≡ option_to_list (piece_of []).parameter ++ parameters_behind (piece_of []).later
+after-nil : [] ≡ option_to_list (piece_of []).parameter ++ parameters_after (piece_of []).later
 unfolding piece_of
-behind-nil = refl
+after-nil = refl
 
 -- the parameters with one piece more
-pub behind-step : (bs : List ℕ) → parameters_behind (Some bs)
-    ≡ option_to_list (piece_of bs).parameter ++ parameters_behind (piece_of bs).later
-behind-step [] = behind-nil
-behind-step (b ∷ bs) = grind (arith, later-shorter (b ∷ bs), within-enough)
+pub after-step : (bs : List ℕ) → parameters_after (Some bs)
+    ≡ option_to_list (piece_of bs).parameter ++ parameters_after (piece_of bs).later
+after-step [] = after-nil
+after-step (b ∷ bs) = grind (arith, later-shorter (b ∷ bs), within-enough)
 
 -- a piece that is no parameter, a parameter with another name, and one with the name
-pub named-none : (name bs : List ℕ) → (piece_of bs).parameter ≡ None → first_named name (parameters_behind (Some bs))
-    ≡ first_named name (parameters_behind (piece_of bs).later)
-named-none name bs e = ap (first_named name) (behind-step bs) ∙ rw e refl
+pub named-none : (name bs : List ℕ) → (piece_of bs).parameter ≡ None → first_named name (parameters_after (Some bs))
+    ≡ first_named name (parameters_after (piece_of bs).later)
+named-none name bs e = ap (first_named name) (after-step bs) ∙ rw e refl
 
 pub named-other : (name bs : List ℕ) (p : Parameter) → (piece_of bs).parameter ≡ Some p → is_named p.name name ≡ false
-    → first_named name (parameters_behind (Some bs)) ≡ first_named name (parameters_behind (piece_of bs).later)
-named-other name bs p e f = ap (first_named name) (behind-step bs) ∙ rw e (rw f refl)
+    → first_named name (parameters_after (Some bs)) ≡ first_named name (parameters_after (piece_of bs).later)
+named-other name bs p e f = ap (first_named name) (after-step bs) ∙ rw e (rw f refl)
 
 pub named-found : (name bs : List ℕ) (p : Parameter) → (piece_of bs).parameter ≡ Some p → is_named p.name name ≡ true
-    → first_named name (parameters_behind (Some bs)) ≡ Some p.value
-named-found name bs p e f = ap (first_named name) (behind-step bs) ∙ rw e (rw f refl)
+    → first_named name (parameters_after (Some bs)) ≡ Some p.value
+named-found name bs p e f = ap (first_named name) (after-step bs) ∙ rw e (rw f refl)
 
 abbrev parameter_of : List ℕ → List ℕ → Parameter
 parameter_of name value = record { name = name; value = value }
 
 pub piece-other : {A : Type 0} (o : Option A) (now : A → List ℕ) (name value bs : List ℕ)
     → option_map (λ a. parameter_of (now a) value) o ≡ (piece_of bs).parameter
-    → option_map_or (λ a. is_named (now a) name) o false ≡ false → first_named name (parameters_behind (Some bs))
-    ≡ first_named name (parameters_behind (piece_of bs).later)
+    → option_map_or (λ a. is_named (now a) name) o false ≡ false → first_named name (parameters_after (Some bs))
+    ≡ first_named name (parameters_after (piece_of bs).later)
 piece-other None now name value bs e f = named-none name bs (sym e)
 piece-other (Some a) now name value bs e f = named-other name bs (parameter_of (now a) value) (sym e) f
 
 pub piece-found : {A : Type 0} (o : Option A) (now : A → List ℕ) (name value bs : List ℕ)
     → option_map (λ a. parameter_of (now a) value) o ≡ (piece_of bs).parameter
-    → option_map_or (λ a. is_named (now a) name) o false ≡ true → first_named name (parameters_behind (Some bs))
+    → option_map_or (λ a. is_named (now a) name) o false ≡ true → first_named name (parameters_after (Some bs))
     ≡ Some value
 piece-found None now name value bs e f = absurd (cc f)
 piece-found (Some a) now name value bs e f = named-found name bs (parameter_of (now a) value) (sym e) f
@@ -157,17 +157,17 @@ abbrev size_of : Option Parameter → ℕ
 size_of None = 0
 size_of (Some p) = length p.value
 
-size-piece_behind : (name behind : List ℕ) → size_of (piece_behind name behind).parameter ≤ length behind
-unfolding piece_behind
-size-piece_behind name [] = omega arith
-size-piece_behind name (c ∷ bs) = grind (arith, size-value (after_blanks bs), length-after_blanks bs)
+size-piece_after : (name after : List ℕ) → size_of (piece_after name after).parameter ≤ length after
+unfolding piece_after
+size-piece_after name [] = omega arith
+size-piece_after name (c ∷ bs) = grind (arith, size-value (after_blanks bs), length-after_blanks bs)
 
 size-piece : (bs : List ℕ) → size_of (piece_of bs).parameter ≤ length bs
-unfolding piece_of piece_behind
+unfolding piece_of piece_after
 size-piece bs = grind (
   arith,
   length-split_while is_parameter_name_byte bs,
-  size-piece_behind (without_outer_blanks (split_while is_parameter_name_byte bs).0)
+  size-piece_after (without_outer_blanks (split_while is_parameter_name_byte bs).0)
       (split_while is_parameter_name_byte bs).1,
 )
 
@@ -203,10 +203,10 @@ size-within (suc n) name bs found h = by_piece (piece_of bs).parameter refl (λ 
         → first_named name (option_to_list o ++ others (piece_of bs).later) ≡ Some found → length found ≤ length bs
     by_piece o h h2 h3 = grind (arith, by_later, by_name)
 
-size-behind : (name value found : List ℕ) (o : Option (List ℕ)) → behind_semicolon value ≡ o
-    → first_named name (parameters_behind o) ≡ Some found → length found ≤ length value
-size-behind name value found o h h2 = grind (arith, length-behind_semicolon, size-within)
+size-after : (name value found : List ℕ) (o : Option (List ℕ)) → after_semicolon value ≡ o
+    → first_named name (parameters_after o) ≡ Some found → length found ≤ length value
+size-after name value found o h h2 = grind (arith, length-after_semicolon, size-within)
 
 pub parameter-size : (name value found : List ℕ) → parameter name value ≡ Some found → length found ≤ length value
 unfolding parameter
-parameter-size name value found h = size-behind name value found (behind_semicolon value) refl h
+parameter-size name value found h = size-after name value found (after_semicolon value) refl h

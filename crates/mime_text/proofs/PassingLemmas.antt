@@ -8,7 +8,7 @@ use Rattle.mime_text.proofs.Words.{StreamPlace, Skip, InHeader, InLeaf, place_af
 use Rattle.mime_text.proofs.Words.{texts_of_message, PassedPairs}
 use Rattle.mime_text.proofs.Words.{Stopped, PassesPairs, IsOver, given_from, header_texts, ending, given_after_header}
 use Rattle.mime_text.proofs.Words.{given_after_delimiter}
-use Rattle.mime_text.proofs.Words.{ComesAt, Comes, ComesBehindHeader, ComesEndingAt, ComesEnding, KnowsAt, KnowsFacts}
+use Rattle.mime_text.proofs.Words.{ComesAt, Comes, ComesAfterHeader, ComesEndingAt, ComesEnding, KnowsAt, KnowsFacts}
 use Rattle.mime_text.proofs.Words.{NotesFacts}
 use Rattle.std.proofs.lemmas.List.{append-nil}
 use Rattle.std.specs.Result.{result_or}
@@ -16,7 +16,7 @@ use Rattle.header_text.specs.declared.header.Header.{Header}
 use Rattle.mime_text.specs.declared.header.facts.Facts.{Facts}
 use Rattle.mime_text.specs.declared.parts.part_reader.State.TheVariants as state
 use Rattle.mime_text.specs.declared.parts.nesting.Lead.{Lead}
-use Rattle.mime_text.specs.declared.parts.nesting.Lead.TheVariants.{Nowhere, Piece, Behind}
+use Rattle.mime_text.specs.declared.parts.nesting.Lead.TheVariants.{Nowhere, Piece, After}
 use Rattle.mime_text.proofs.StepLemmas.{value-header, given-hit, given-leaf_line, given-more, given-ended, given-leaf}
 use Rattle.mime_text.proofs.StepLemmas.{empty_ends, fields-on, given-message}
 
@@ -100,7 +100,7 @@ facts-delimited r n nest lead l e away same ls k = let P : Option Facts → Type
     outside : (x : Lead) → lead_to {A = Pair} x nest ≡ None → (x ≡ Nowhere → ⊥) → ⊥
     outside Nowhere q away = away refl
     outside (Piece d) q away = absurd (cc)
-    outside Behind q away = absurd (cc)
+    outside After q away = absurd (cc)
 
     go : (o : Option Facts) → KnowsAt o r ls → KnowsAt o n (ls ++ l ∷ [])
     go None k = absurd (outside lead (e ∙ ap (λ (fs : List Frame). place_after_hit {A = Pair} fs l) k.outside) away)
@@ -133,15 +133,15 @@ facts-whole r f notes ls k = go r.facts notes k
     go (Some g) e k = let q : f ≡ g = cc in q ∙ k [] ∙ ap (λ (ks : List Line). facts_of (fields_of ks)) (append-nil ls)
 
 -- what comes after the header of these lines
-abbrev behind_lines : PartReader → DefaultType → List Line → ComingPairs
-behind_lines r d ls = given_after_header (shape_of d (fields_of ls)) r.nesting (fields_of ls)
+abbrev after_lines : PartReader → DefaultType → List Line → ComingPairs
+after_lines r d ls = given_after_header (shape_of d (fields_of ls)) r.nesting (fields_of ls)
 
 header-is_first : (r : PartReader) (counted : Bool) (d : DefaultType) (fields : List HeaderField)
     → ((ls : List Line) → HasLines r.header ls → fields ≡ fields_of ls)
-    → (c : ComingPairs) (k : ComesBehindHeader r counted d c) (ms : List Line) → c ms
-    ≡ header_texts counted fields ++ behind_lines r d k.0 ms
+    → (c : ComingPairs) (k : ComesAfterHeader r counted d c) (ms : List Line) → c ms
+    ≡ header_texts counted fields ++ after_lines r d k.0 ms
 header-is_first r counted d fields f c k ms = k.2 ms
-    ∙ ap (λ (fs : List HeaderField). header_texts counted fs ++ behind_lines r d k.0 ms) (sym (f k.0 k.1))
+    ∙ ap (λ (fs : List HeaderField). header_texts counted fs ++ after_lines r d k.0 ms) (sym (f k.0 k.1))
 
 module _ {S : Type 0} (takes : S → TextKind → List ℕ → S → Type 0)
     (refuses : S → TextKind → List ℕ → SinkFault → S → Type 0) where
@@ -199,15 +199,15 @@ module _ {S : Type 0} (takes : S → TextKind → List ℕ → S → Type 0)
       (fault : TextFault) (s t : S)
       → ((ls : List Line) → HasLines r.header ls → fields ≡ fields_of ls)
       → Broke takes refuses (λ _. header_texts counted fields) fault s t
-      → Stopped takes refuses (ComesBehindHeader r counted d) (λ c. c) fault s t
+      → Stopped takes refuses (ComesAfterHeader r counted d) (λ c. c) fault s t
   header-stopped r counted d fields fault s t f h =
-      stopped-front (ComesBehindHeader r counted d) (λ _. header_texts counted fields) fault s t
-      (λ c k. behind_lines r d k.0) (header-is_first r counted d fields f) h
+      stopped-front (ComesAfterHeader r counted d) (λ _. header_texts counted fields) fault s t
+      (λ c k. after_lines r d k.0) (header-is_first r counted d fields f) h
 
   -- all was given, and then memory ran out
-  pub broke-memory_behind : (A : ComingPairs) (s t : S) → Gave takes refuses A (λ _. []) s t
+  pub broke-memory_after : (A : ComingPairs) (s t : S) → Gave takes refuses A (λ _. []) s t
       → Broke takes refuses A OutOfMemory s t
-  broke-memory_behind A s t h = record { pairs = h.pairs; broken = h.taken; front = λ ms. ([], h.rest ms) }
+  broke-memory_after A s t h = record { pairs = h.pairs; broken = h.taken; front = λ ms. ([], h.rest ms) }
 
   -- the header's texts were given, and then the body begins or memory runs out
   pub header-passes : {T E : Type 0} (r : PartReader) (counted : Bool) (d : DefaultType) (fields : List HeaderField)
@@ -216,12 +216,12 @@ module _ {S : Type 0} (takes : S → TextKind → List ℕ → S → Type 0)
       → Gave takes refuses (λ _. header_texts counted fields) (λ _. []) s t
       → OnOk begun ((ls : List Line) → HasLines r.header ls
       → after (given_after_header (shape_of d (fields_of ls)) r.nesting (fields_of ls)))
-      → PassesPairs takes refuses (ComesBehindHeader r counted d) after (λ c. c) (result_or begun (Err OutOfMemory)) s t
+      → PassesPairs takes refuses (ComesAfterHeader r counted d) after (λ c. c) (result_or begun (Err OutOfMemory)) s t
   header-passes r counted d fields after (Ok x) s t f h a =
-      passed-front (ComesBehindHeader r counted d) after (λ _. header_texts counted fields) s t
-      (λ c k. behind_lines r d k.0) (λ c k. a k.0 k.1) (header-is_first r counted d fields f) h
+      passed-front (ComesAfterHeader r counted d) after (λ _. header_texts counted fields) s t
+      (λ c k. after_lines r d k.0) (λ c k. a k.0 k.1) (header-is_first r counted d fields f) h
   header-passes r counted d fields after (Err fault) s t f h a =
-      header-stopped r counted d fields OutOfMemory s t f (broke-memory_behind _ s t h)
+      header-stopped r counted d fields OutOfMemory s t f (broke-memory_after _ s t h)
 
   -- ---- a line in a leaf, and in a header
 
@@ -295,7 +295,7 @@ module _ {S : Type 0} (takes : S → TextKind → List ℕ → S → Type 0)
       ≡ state.InHeader counted d → n.nesting ≡ r.nesting → place_after_hit {A = Pair} r.nesting.frames l ≡ None
       → ((ls : List Line) → HasLines r.header ls → HasLines n.header (ls ++ l ∷ []))
       → ((ls : List Line) → HasLines r.header ls → Ended ≡ taken_of (ls ++ l ∷ []))
-      → (c : ComingPairs) → Comes r c → ComesBehindHeader n counted d (λ ms. c (l ∷ ms))
+      → (c : ComingPairs) → Comes r c → ComesAfterHeader n counted d (λ ms. c (l ∷ ms))
   ended-comes r n l counted d e q away push taken c k =
       let at : ComesAt (state.InHeader counted d) r c = (let P : State → Type 0 = λ u. ComesAt u r c in subst P e k) in
       let t : is_empty l ≡ true = empty_ends at.0 l true at.2
@@ -344,4 +344,4 @@ module _ {S : Type 0} (takes : S → TextKind → List ℕ → S → Type 0)
     rest =
         λ c k. (λ _. [], λ ms. refl, λ ms. whole-ending r fields c f k ∙ h.rest ms);
   }
-  end-passes r fields (Err fault) s t f h e = end-stopped r fields fault s t f (rw e (broke-memory_behind _ s t h))
+  end-passes r fields (Err fault) s t f h e = end-stopped r fields fault s t f (rw e (broke-memory_after _ s t h))

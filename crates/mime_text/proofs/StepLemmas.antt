@@ -7,7 +7,7 @@ use Rattle.mime_text.proofs.Words.{Identity, QuotedPrintable, Base64, Pair, Comi
 use Rattle.mime_text.proofs.Words.{parameter, shape_of, charset_in, transfer_in, name_texts, leaf_texts, body_pairs}
 use Rattle.mime_text.proofs.Words.{body_lines, multipart_pieces, parts, parts_by, is_left, StreamPlace, InHeader}
 use Rattle.mime_text.proofs.Words.{InLeaf, place_after_hit}
-use Rattle.mime_text.proofs.Words.{counted_part, header_parts, value, behind_header, inner_step, Nest, part_texts}
+use Rattle.mime_text.proofs.Words.{counted_part, header_parts, value, after_header, inner_step, Nest, part_texts}
 use Rattle.mime_text.proofs.Words.{texts_of_message, given_from, counted_texts, header_texts, given_after_header}
 use Rattle.std.proofs.lemmas.List.{append-nil}
 use Rattle.mime_text.specs.declared.leaf.transfer.TransferEncoding.{TransferEncoding}
@@ -134,7 +134,7 @@ abbrev header_step : Bool → Nest → Bool → DefaultType → List Line → Li
 header_step t nest c d held l = elim t [
   | true ↦ (
     flat_map part_texts (header_parts c held),
-    behind_header shape_of part_texts (shape_of d (fields_of held)) nest.frames nest.left (fields_of held),
+    after_header shape_of part_texts (shape_of d (fields_of held)) nest.frames nest.left (fields_of held),
   )
   | false ↦ ([], (nest.frames, InHeader c nest.left d (held ++ l ∷ [])))
 ]

@@ -7,7 +7,7 @@ use Rattle.mime_text.proofs.Words.{is_delimiter, preamble_and_pieces, multipart_
 use Rattle.mime_text.proofs.Words.{StreamPlace}
 use Rattle.mime_text.proofs.Words.{Skip, InHeader, InLeaf, or_else, own_hit, place_after_hit, counted_part}
 use Rattle.mime_text.proofs.Words.{header_parts, value}
-use Rattle.mime_text.proofs.Words.{behind_header, inner_step, step_by, values_given}
+use Rattle.mime_text.proofs.Words.{after_header, inner_step, step_by, values_given}
 use Rattle.std.proofs.lemmas.List.{append-nil}
 
 abbrev Line : Type 0
@@ -133,8 +133,8 @@ module _ {A : Type 0} (shape_of : DefaultType → List HeaderField → Shape) (g
   -- the entity whose header has ended, and what comes after it
   abbrev EntityIs : Shape → List Line → List Frame → ℕ → List Line → Line → Type 0
   EntityIs sh ls fs left lines l =
-      values_given shape_of gives (behind_header shape_of gives sh fs left (fields_of lines)).0
-      (behind_header shape_of gives sh fs left (fields_of lines)).1 ls
+      values_given shape_of gives (after_header shape_of gives sh fs left (fields_of lines)).0
+      (after_header shape_of gives sh fs left (fields_of lines)).1 ls
       ≡ flat_map gives (parts_by shape_of (λ e ks. parts shape_of left e ks) (is_left left) sh
       (lines ++ l ∷ before fs ls)) ++ later fs ls
 
@@ -152,9 +152,9 @@ module _ {A : Type 0} (shape_of : DefaultType → List HeaderField → Shape) (g
   by_end : (ls : List Line) (fs : List Frame) (c : Bool) (left : ℕ) (d : DefaultType) (lines : List Line) (l : Line)
       → AllStreams ls → AllFrames ls → IsHeader lines → is_empty l ≡ true
       → flat_map gives (header_parts c lines)
-      ++ values_given shape_of gives (behind_header shape_of gives (shape_of d (fields_of lines)) fs left
+      ++ values_given shape_of gives (after_header shape_of gives (shape_of d (fields_of lines)) fs left
       (fields_of lines)).0
-      (behind_header shape_of gives (shape_of d (fields_of lines)) fs left (fields_of lines)).1 ls
+      (after_header shape_of gives (shape_of d (fields_of lines)) fs left (fields_of lines)).1 ls
       ≡ value shape_of gives (InHeader c left d lines) (l ∷ before fs ls) ++ later fs ls
   by_end ls fs c left d lines l m g h t =
       let x = before fs ls in

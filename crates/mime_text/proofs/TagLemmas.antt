@@ -4,7 +4,7 @@ use Rattle.mime_text.proofs.Words.{ap, ap₂, arith, append_assoc, encode_utf8_a
 use Rattle.mime_text.proofs.Words.{encode_ascii, encodes-chars, Lacks, text_of, Charset, is_open, without_tags}
 use Rattle.mime_text.proofs.Words.{lines_without_tags, texts_of_lines, is_tag_open_after, is_tag_open_after_all}
 use Rattle.mime_text.proofs.Words.{blanked_tags}
-use Rattle.mime_text.proofs.Words.{texts_behind}
+use Rattle.mime_text.proofs.Words.{texts_after}
 use Rattle.std.specs.Char.{encode_utf8}
 use Rattle.std.specs.Str.{chars}
 
@@ -28,7 +28,7 @@ is_open-line before (c ∷ cs) =
 
 tagged_lines : (charset : Charset) (before : List ℕ) (o : Bool) (ls : List (List ℕ)) → is_open before ≡ o
     → map encode_utf8_all (lines_without_tags before (map (λ line. chars (text_of charset line)) ls))
-    ≡ texts_behind charset true o ls
+    ≡ texts_after charset true o ls
 tagged_lines charset before o [] h = refl
 tagged_lines charset before o (l ∷ ls) h =
     let cs : List ℕ = chars (text_of charset l) in
@@ -37,12 +37,12 @@ tagged_lines charset before o (l ∷ ls) h =
     (is_open-line before cs ∙ ap (λ (b : Bool). is_tag_open_after_all b cs) h))
 
 plain_lines : (charset : Charset) (o : Bool) (ls : List (List ℕ)) → map (text_of charset) ls
-    ≡ texts_behind charset false o ls
+    ≡ texts_after charset false o ls
 plain_lines charset o [] = refl
 plain_lines charset o (l ∷ ls) = ap (λ (ts : List (List ℕ)). text_of charset l ∷ ts) (plain_lines charset o ls)
 
 -- at the beginning no tag is open
-pub texts_begin : (charset : Charset) (is_html : Bool) (ls : List (List ℕ)) → texts_behind charset is_html false ls
+pub texts_begin : (charset : Charset) (is_html : Bool) (ls : List (List ℕ)) → texts_after charset is_html false ls
     ≡ texts_of_lines charset is_html ls
 texts_begin charset is_html ls = grind (arith, plain_lines, tagged_lines)
 
@@ -77,7 +77,7 @@ pub free-text : (text : List ℕ) (o : Bool) → o ≡ false → IsUtf8 text →
 free-text text o e utf8 h = rw e (ap encode_utf8_all
     (blanked-free (chars text) (lacks-text 0x3C (omega arith) text utf8 h)) ∙ encodes-chars text utf8)
 
-pub free-behind : (text : List ℕ) (o : Bool) → o ≡ false → IsUtf8 text → Lacks 0x3C text
+pub free-after : (text : List ℕ) (o : Bool) → o ≡ false → IsUtf8 text → Lacks 0x3C text
     → is_tag_open_after_all o (chars text)
     ≡ false
-free-behind text o e utf8 h = rw e (is_open-free (chars text) (lacks-text 0x3C (omega arith) text utf8 h))
+free-after text o e utf8 h = rw e (is_open-free (chars text) (lacks-text 0x3C (omega arith) text utf8 h))

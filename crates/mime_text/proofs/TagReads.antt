@@ -15,10 +15,10 @@ use Rattle.mime_text.proofs.TagLemmas.{lacks-text, blanked-free, is_open-free}
 
 -- ---- characters one after another
 
-is_open_behind-append : (o : Bool) (xs ys : List ℕ) → is_tag_open_after_all o (xs ++ ys)
+is_open_after-append : (o : Bool) (xs ys : List ℕ) → is_tag_open_after_all o (xs ++ ys)
     ≡ is_tag_open_after_all (is_tag_open_after_all o xs) ys
-is_open_behind-append o [] ys = refl
-is_open_behind-append o (x ∷ xs) ys = is_open_behind-append (is_tag_open_after o x) xs ys
+is_open_after-append o [] ys = refl
+is_open_after-append o (x ∷ xs) ys = is_open_after-append (is_tag_open_after o x) xs ys
 
 blanked-append : (o : Bool) (xs ys : List ℕ) → blanked_tags o (xs ++ ys)
     ≡ blanked_tags o xs ++ blanked_tags (is_tag_open_after_all o xs) ys
@@ -89,29 +89,29 @@ pub cut_from_split : (o : Bool) (sign : ℕ) (bs : List ℕ) (r : Option (Bor (L
     → option_map (λ parts. (parts.0.now, parts.1.now)) r ≡ cut_at (span_end o) bs
 cut_from_split o sign bs r is h = grind (arith, cut-ascii, IsSplitOnceResult)
 
-record CutText (c : ℕ) (before behind : List ℕ) : Type 0 where
+record CutText (c : ℕ) (before after : List ℕ) : Type 0 where
   utf8_before : IsUtf8 before
-  utf8_behind : IsUtf8 behind
-  characters : chars (before ++ c ∷ behind) ≡ chars before ++ c ∷ chars behind
+  utf8_after : IsUtf8 after
+  characters : chars (before ++ c ∷ after) ≡ chars before ++ c ∷ chars after
 
-cut_text : (c : ℕ) (before behind : List ℕ) → c < 128 → IsUtf8 (before ++ c ∷ behind) → CutText c before behind
-cut_text c before behind ascii utf8 =
-    let bs : List ℕ = before ++ c ∷ behind in
+cut_text : (c : ℕ) (before after : List ℕ) → c < 128 → IsUtf8 (before ++ c ∷ after) → CutText c before after
+cut_text c before after ascii utf8 =
+    let bs : List ℕ = before ++ c ∷ after in
     let n : ℕ = length before in
-    let is : get_or bs n 0 ≡ c = get_or_at before c behind 0 n refl in
-    let lt : n < length bs = omega (arith, length-append before (c ∷ behind)) in
-    let front : IsUtf8 before = subst (λ (l : List ℕ). IsUtf8 l) (take_at before (c ∷ behind) n refl)
+    let is : get_or bs n 0 ≡ c = get_or_at before c after 0 n refl in
+    let lt : n < length bs = omega (arith, length-append before (c ∷ after)) in
+    let front : IsUtf8 before = subst (λ (l : List ℕ). IsUtf8 l) (take_at before (c ∷ after) n refl)
     (IsUtf8-take bs n utf8 (IsCharBoundary-before_ascii bs n lt (omega (arith, is)))) in
-    let rest : drop (n + 1) bs ≡ behind = ap (drop (n + 1)) (sym (append_assoc before (c ∷ []) behind))
-    ∙ drop_at (before ++ c ∷ []) behind (n + 1) (length_push before c) in
+    let rest : drop (n + 1) bs ≡ after = ap (drop (n + 1)) (sym (append_assoc before (c ∷ []) after))
+    ∙ drop_at (before ++ c ∷ []) after (n + 1) (length_push before c) in
     let small : IsAscii (c ∷ []) = IsAscii-cons c [] ascii IsAscii-nil in
-    let later : chars (c ∷ behind) ≡ c ∷ chars behind =
-    grind (arith, chars-append (c ∷ []) behind (IsUtf8-from_ascii (c ∷ []) small), chars-IsAscii (c ∷ []) small) in
+    let later : chars (c ∷ after) ≡ c ∷ chars after =
+    grind (arith, chars-append (c ∷ []) after (IsUtf8-from_ascii (c ∷ []) small), chars-IsAscii (c ∷ []) small) in
     record {
       utf8_before = front;
-      utf8_behind = subst (λ (l : List ℕ). IsUtf8 l) rest
+      utf8_after = subst (λ (l : List ℕ). IsUtf8 l) rest
           (IsUtf8-drop bs (n + 1) utf8 (IsCharBoundary-after_ascii bs n utf8 lt (omega (arith, is))));
-      characters = chars-append before (c ∷ behind) front ∙ ap (λ (l : List ℕ). chars before ++ l) later;
+      characters = chars-append before (c ∷ after) front ∙ ap (λ (l : List ℕ). chars before ++ l) later;
     }
 
 -- ---- the loop
@@ -121,25 +121,25 @@ pub record TagsRead (text : List ℕ) (start : Bool) (old into : List ℕ) (o : 
   utf8 : IsUtf8 rest
   sofar : into ++ encode_utf8_all (blanked_tags o (chars rest))
       ≡ old ++ encode_utf8_all (blanked_tags start (chars text))
-  behind : is_tag_open_after_all o (chars rest) ≡ is_tag_open_after_all start (chars text)
+  after : is_tag_open_after_all o (chars rest) ≡ is_tag_open_after_all start (chars text)
   size : length into + length rest ≤ length old + length text
 
 -- the whole text is written
 pub record TagsBlanked (text : List ℕ) (start : Bool) (old into : List ℕ) (o : Bool) : Type 0 where
   pub whole : into ≡ old ++ encode_utf8_all (blanked_tags start (chars text))
-  pub behind : o ≡ is_tag_open_after_all start (chars text)
+  pub after : o ≡ is_tag_open_after_all start (chars text)
   pub size : length into ≤ length old + length text
 
 pub tags_read-start : (text : List ℕ) (start : Bool) (old : List ℕ) → IsUtf8 text
     → TagsRead text start old old start text
-tags_read-start text start old utf8 = record { utf8 = utf8; sofar = refl; behind = refl; size = omega arith }
+tags_read-start text start old utf8 = record { utf8 = utf8; sofar = refl; after = refl; size = omega arith }
 
 pub tags_read-step : (text : List ℕ) (start : Bool) (old into : List ℕ) (o : Bool)
-    (rest before behind spanned new : List ℕ) → TagsRead text start old into o rest
-    → IsCut (span_end o) rest before behind → spanned ≡ into ++ encode_utf8_all (shown_span o (chars before)) → new
+    (rest before after spanned new : List ℕ) → TagsRead text start old into o rest
+    → IsCut (span_end o) rest before after → spanned ≡ into ++ encode_utf8_all (shown_span o (chars before)) → new
     ≡ spanned ++ encode_utf8 0x20
-    → TagsRead text start old new (not o) behind
-tags_read-step text start old into o rest before behind spanned new h cut written ended =
+    → TagsRead text start old new (not o) after
+tags_read-step text start old into o rest before after spanned new h cut written ended =
     grind (
       arith,
       cut_text,
@@ -150,7 +150,7 @@ tags_read-step text start old into o rest before behind spanned new h cut writte
       encode_utf8_all,
       encode_utf8,
       encodes-append,
-      is_open_behind-append,
+      is_open_after-append,
       append_assoc,
       length-append,
       length-span,

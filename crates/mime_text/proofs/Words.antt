@@ -25,12 +25,12 @@ pub use Rattle.mbox_cutter.specs.Lines.{length_before_feed}
 unfoldable pub use Rattle.mbox_cutter.specs.Lines.{first_length, is_empty, line_end_of, lines}
 unfoldable pub use Rattle.mbox_cutter.specs.Separators.{without_break}
 pub use Rattle.mime_text.specs.Decoders.{still_decoded}
-pub use Rattle.mime_text.specs.Feeding.{Comes, ComesAt, ComesBehindHeader, ComesEnding, ComesEndingAt, KnowsAt}
+pub use Rattle.mime_text.specs.Feeding.{Comes, ComesAt, ComesAfterHeader, ComesEnding, ComesEndingAt, KnowsAt}
 pub use Rattle.mime_text.specs.Feeding.{KnowsFacts, NotesFacts, counted_texts, ending, given_after_delimiter}
 pub use Rattle.mime_text.specs.Feeding.{given_after_header, given_from}
 pub use Rattle.mime_text.specs.Feeding.{header_texts}
 pub use Rattle.mime_text.specs.FieldTexts.{kind_of_field, text_of_body, texts_of_fields}
-pub use Rattle.mime_text.specs.Frames.{AreNested, Nest, dash_dash, inside_out, kind_behind, lead_to}
+pub use Rattle.mime_text.specs.Frames.{AreNested, Nest, dash_dash, inside_out, kind_after, lead_to}
 pub use Rattle.mime_text.specs.Frames.{place_after_delimiter, with_frame, scan}
 unfoldable pub use Rattle.mime_text.specs.Frames.{dashes, delimiter_of}
 pub use Rattle.mime_text.specs.Inside.Passing.{IsOver, PassedPairs, PassesPairs, Stopped}
@@ -43,17 +43,17 @@ pub use Rattle.mime_text.specs.MessageFacts.{own_id_of}
 pub use Rattle.mime_text.specs.Names.{name_of, name_text, name_texts}
 pub use Rattle.mime_text.specs.OpenTags.{blanked_tags, is_tag_open_after, is_tag_open_after_all, is_tag_open_after_line}
 pub use Rattle.mime_text.specs.OpenTags.{line_text}
-pub use Rattle.mime_text.specs.OpenTags.{texts_behind}
-pub use Rattle.mime_text.specs.Parameters.{AreParameters, Parameter, Piece, behind_semicolon, first_named}
+pub use Rattle.mime_text.specs.OpenTags.{texts_after}
+pub use Rattle.mime_text.specs.Parameters.{AreParameters, Parameter, Piece, after_semicolon, first_named}
 pub use Rattle.mime_text.specs.Parameters.{is_parameter_name_byte, is_token_byte, none_left, parameters}
-pub use Rattle.mime_text.specs.Parameters.{parameters_behind, parameters_within, piece_first, quoted_and_rest}
+pub use Rattle.mime_text.specs.Parameters.{parameters_after, parameters_within, piece_first, quoted_and_rest}
 pub use Rattle.mime_text.specs.Parameters.{value_and_rest}
 unfoldable pub use Rattle.mime_text.specs.Parameters.{parameter, piece_of}
 pub use Rattle.mime_text.specs.Parts.{Counted, Entity, Leaf, Part, are_blanks, body_lines, is_closing, is_left, parts}
 pub use Rattle.mime_text.specs.Parts.{parts_by, parts_of_message, multipart_pieces, preamble_and_pieces}
 unfoldable pub use Rattle.mime_text.specs.Parts.{is_delimiter}
 pub use Rattle.mime_text.specs.Sinks.{Breaks, Broke, ComingPairs, Gave, Hands, Pair, TakesAll}
-pub use Rattle.mime_text.specs.Stream.{InHeader, InLeaf, Skip, StreamPlace, behind_header, counted_part, values_given}
+pub use Rattle.mime_text.specs.Stream.{InHeader, InLeaf, Skip, StreamPlace, after_header, counted_part, values_given}
 pub use Rattle.mime_text.specs.Stream.{header_parts, place_after_hit, inner_step, or_else, own_hit, step_by, value}
 pub use Rattle.mime_text.specs.Tags.{is_open, lines_without_tags, without_tags}
 pub use Rattle.mime_text.specs.Texts.{part_texts}

@@ -15,14 +15,14 @@ use Rattle.mime_text.specs.declared.parts.part_reader.State.{State}
 use Rattle.mime_text.specs.declared.parts.part_reader.State.TheVariants as state
 use Rattle.mime_text.specs.declared.parts.part_reader.PartReader.{PartReader}
 use Rattle.mime_text.specs.declared.parts.nesting.Lead.{Lead}
-use Rattle.mime_text.specs.declared.parts.nesting.Lead.TheVariants.{Nowhere, Piece, Behind}
+use Rattle.mime_text.specs.declared.parts.nesting.Lead.TheVariants.{Nowhere, Piece, After}
 use Rattle.mime_text.specs.Sinks.{Pair, ComingPairs}
 use Rattle.mime_text.specs.FieldTexts.{texts_of_fields}
 use Rattle.mime_text.specs.Names.{name_texts}
 use Rattle.mime_text.specs.LeafReading.{pairs_to_come}
 use Rattle.mime_text.specs.MessageFacts.{facts_of}
 use Rattle.mime_text.specs.Types.{shape_of}
-use Rattle.mime_text.specs.Stream.{StreamPlace, Skip, InHeader, InLeaf, behind_header, values_given}
+use Rattle.mime_text.specs.Stream.{StreamPlace, Skip, InHeader, InLeaf, after_header, values_given}
 use Rattle.mime_text.specs.Frames.{Nest}
 use Rattle.mime_text.specs.Texts.{part_texts}
 
@@ -48,13 +48,13 @@ ending state.InLeaf fields leaf = pairs_to_come leaf []
 -- what comes after the end of a header with these fields
 abbrev pub given_after_header : Shape → Nest → List HeaderField → ComingPairs
 given_after_header shape nest fields ms =
-    let behind = behind_header shape_of part_texts shape nest.frames nest.left fields in given_from behind.0 behind.1 ms
+    let after = after_header shape_of part_texts shape nest.frames nest.left fields in given_from after.0 after.1 ms
 
 -- what comes after a delimiter line, by what the line delimits
 abbrev pub given_after_delimiter : Lead → Nest → ComingPairs
 given_after_delimiter Nowhere nest ms = given_from nest.frames Skip ms
 given_after_delimiter (Piece d) nest ms = given_from nest.frames (InHeader false nest.left d []) ms
-given_after_delimiter Behind nest ms = given_from nest.frames Skip ms
+given_after_delimiter After nest ms = given_from nest.frames Skip ms
 
 -- these pairs come, if the reader is in this state
 abbrev pub ComesAt : State → PartReader → ComingPairs → Type 0
@@ -68,8 +68,8 @@ abbrev pub Comes : PartReader → ComingPairs → Type 0
 Comes r c = ComesAt r.state r c
 
 -- these pairs come from a reader whose header has just ended
-abbrev pub ComesBehindHeader : PartReader → Bool → DefaultType → ComingPairs → Type 0
-ComesBehindHeader r counted d c = (ls : List (List ℕ)) × HasLines r.header ls
+abbrev pub ComesAfterHeader : PartReader → Bool → DefaultType → ComingPairs → Type 0
+ComesAfterHeader r counted d c = (ls : List (List ℕ)) × HasLines r.header ls
     × ((ms : List (List ℕ)) → c ms ≡ header_texts counted (fields_of ls) ++ given_after_header
     (shape_of d (fields_of ls))
     r.nesting (fields_of ls) ms)

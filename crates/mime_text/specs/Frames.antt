@@ -9,7 +9,7 @@ use Rattle.mime_text.specs.declared.parts.frame.Frame.{Frame}
 use Rattle.mime_text.specs.declared.parts.delimiter.Delimiter.{Delimiter}
 use Rattle.mime_text.specs.declared.parts.delimiter.Delimiter.TheVariants.{Next, Closing}
 use Rattle.mime_text.specs.declared.parts.nesting.Lead.{Lead}
-use Rattle.mime_text.specs.declared.parts.nesting.Lead.TheVariants.{Nowhere, Piece, Behind}
+use Rattle.mime_text.specs.declared.parts.nesting.Lead.TheVariants.{Nowhere, Piece, After}
 use Rattle.mime_text.specs.Parts.{are_blanks}
 use Rattle.mime_text.specs.Stream.{StreamPlace, Skip, InHeader, or_else}
 
@@ -23,14 +23,14 @@ unfoldable pub dashes : List ℕ → Option (List ℕ)
 dashes l = after dash_dash (without_break l)
 
 -- what a line is, if this follows the boundary in it: the closing delimiter, another one, or none
-abbrev pub kind_behind : Option (List ℕ) → Option Delimiter
-kind_behind None = None
-kind_behind (Some rest) = if are_blanks (after dash_dash rest) then Some Closing else if are_blanks (Some rest)
+abbrev pub kind_after : Option (List ℕ) → Option Delimiter
+kind_after None = None
+kind_after (Some rest) = if are_blanks (after dash_dash rest) then Some Closing else if are_blanks (Some rest)
     then Some Next else None
 
 -- what a line is to the multipart of a boundary, if this text follows the line's two dashes
 unfoldable pub delimiter_of : List ℕ → List ℕ → Option Delimiter
-delimiter_of boundary text = kind_behind (after boundary text)
+delimiter_of boundary text = kind_after (after boundary text)
 
 -- the place after a delimiter of the multipart f, which is in the multiparts `outer`; None if the line is no delimiter
 abbrev pub place_after_delimiter : {A : Type 0} → Option Delimiter → Frame → List Frame
@@ -66,7 +66,7 @@ pub record Nest : Type 0 where
 abbrev pub lead_to : {A : Type 0} → Lead → Nest → Option (List Frame × StreamPlace A)
 lead_to Nowhere nest = None
 lead_to (Piece d) nest = Some (nest.frames, InHeader false nest.left d [])
-lead_to Behind nest = Some (nest.frames, Skip)
+lead_to After nest = Some (nest.frames, Skip)
 
 -- the open multiparts with one more, if a depth is left for its pieces
 abbrev pub with_frame : ℕ → List ℕ → DefaultType → List Frame → List Frame

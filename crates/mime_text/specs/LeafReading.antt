@@ -3,7 +3,7 @@ use Rattle.std.specs.Prelude.{ℕ, List, ◌++◌, map}
 use Rattle.mail_words.specs.declared.kind.TextKind.TheVariants as kind
 use Rattle.mbox_cutter.specs.Lines.{lines}
 use Rattle.mime_text.specs.Sinks.{Pair}
-use Rattle.mime_text.specs.OpenTags.{texts_behind}
+use Rattle.mime_text.specs.OpenTags.{texts_after}
 use Rattle.mime_text.specs.Decoders.{still_decoded}
 use Rattle.mime_text.specs.declared.leaf.line_texts.LineTexts.{LineTexts}
 use Rattle.mime_text.specs.declared.leaf.leaf_reader.LeafReader.{LeafReader}
@@ -14,7 +14,7 @@ body_pairs texts = map (λ text. (kind.Body, text)) texts
 
 -- the texts of the decoded lines to come
 abbrev pub pairs_of_lines : LineTexts → List (List ℕ) → List Pair
-pairs_of_lines texts ls = body_pairs (texts_behind texts.charset texts.is_html texts.is_open ls)
+pairs_of_lines texts ls = body_pairs (texts_after texts.charset texts.is_html texts.is_open ls)
 
 -- the texts of the decoded bytes to come
 abbrev pub pairs_of_bytes : LineTexts → List ℕ → List Pair

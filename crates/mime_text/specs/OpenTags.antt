@@ -34,8 +34,8 @@ is_tag_open_after_line charset false open_before line = open_before
 is_tag_open_after_line charset true open_before line = is_tag_open_after_all open_before (chars (text_of charset line))
 
 -- the texts of the lines that follow, if a tag is open before them or none is
-abbrev pub texts_behind : Charset → Bool → Bool → List (List ℕ) → List (List ℕ)
-texts_behind charset is_html open_before [] = []
-texts_behind charset is_html open_before (l ∷ ls) =
-    line_text charset is_html open_before l ∷ texts_behind charset is_html
+abbrev pub texts_after : Charset → Bool → Bool → List (List ℕ) → List (List ℕ)
+texts_after charset is_html open_before [] = []
+texts_after charset is_html open_before (l ∷ ls) =
+    line_text charset is_html open_before l ∷ texts_after charset is_html
     (is_tag_open_after_line charset is_html open_before l) ls

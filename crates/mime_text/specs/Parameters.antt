@@ -59,8 +59,8 @@ pub record Piece : Type 0 where
   pub later : Option (List ℕ)
 
 -- what follows the first semicolon, if there is one
-abbrev pub behind_semicolon : List ℕ → Option (List ℕ)
-behind_semicolon bs = option_map (λ parts. parts.1) (cut_at semicolon bs)
+abbrev pub after_semicolon : List ℕ → Option (List ℕ)
+after_semicolon bs = option_map (λ parts. parts.1) (cut_at semicolon bs)
 
 -- A parameter is a name, `=` and a value, with spaces and tabs around each. Text without `=` before the next semicolon
 -- isn't a parameter, and text between a value and the next semicolon doesn't count.
@@ -73,7 +73,7 @@ piece_of bs = let front = split_while is_parameter_name_byte bs in elim (front.1
         record {
           parameter = Some (record { name = without_outer_blanks front.0; value = found.0 });
           later =
-              behind_semicolon found.1;
+              after_semicolon found.1;
         }
   ]
 ]
@@ -93,13 +93,13 @@ parameters_within (suc n) bs = option_to_list (piece_of bs).parameter ++ option_
 
 -- The parameters after a semicolon, if there is one; there are no more pieces than bytes. These are the parameters of
 -- the pieces, as AreParameters defines them, and no other list is.
-abbrev pub parameters_behind : Option (List ℕ) → List Parameter
-parameters_behind None = []
-parameters_behind (Some bs) = parameters_within (length bs) bs
+abbrev pub parameters_after : Option (List ℕ) → List Parameter
+parameters_after None = []
+parameters_after (Some bs) = parameters_within (length bs) bs
 
 -- the parameters of an unfolded value, in order
 abbrev pub parameters : List ℕ → List Parameter
-parameters value = parameters_behind (behind_semicolon value)
+parameters value = parameters_after (after_semicolon value)
 
 -- the value of the first parameter with this name, in any ASCII case
 abbrev pub first_named : List ℕ → List Parameter → Option (List ℕ)

@@ -54,13 +54,13 @@ module _ {A : Type 0} (shape_of : DefaultType → List HeaderField → Shape) (g
   value (InLeaf leaf) ls = leaf ls
 
   -- the place after a header's end, by what the header says
-  abbrev pub behind_header : Shape → List Frame → ℕ → List HeaderField → List Frame × StreamPlace A
-  behind_header (Multipart b d) fs zero fields = (fs, Skip)
-  behind_header (Multipart b d) fs (suc left) fields = (record { boundary = b; default = d; left = left } ∷ fs, Skip)
-  behind_header Message fs zero fields = (fs, Skip)
-  behind_header Message fs (suc left) fields = (fs, InHeader true left TextPlain [])
-  behind_header (Text is_html) fs left fields = (fs, InLeaf (λ body. gives (Leaf is_html fields body)))
-  behind_header Other fs left fields = (fs, Skip)
+  abbrev pub after_header : Shape → List Frame → ℕ → List HeaderField → List Frame × StreamPlace A
+  after_header (Multipart b d) fs zero fields = (fs, Skip)
+  after_header (Multipart b d) fs (suc left) fields = (record { boundary = b; default = d; left = left } ∷ fs, Skip)
+  after_header Message fs zero fields = (fs, Skip)
+  after_header Message fs (suc left) fields = (fs, InHeader true left TextPlain [])
+  after_header (Text is_html) fs left fields = (fs, InLeaf (λ body. gives (Leaf is_html fields body)))
+  after_header Other fs left fields = (fs, Skip)
 
   -- what a line gives that delimits nothing, and the place after it
   abbrev pub inner_step : List Frame → StreamPlace A → List ℕ → List A × (List Frame × StreamPlace A)
@@ -68,7 +68,7 @@ module _ {A : Type 0} (shape_of : DefaultType → List HeaderField → Shape) (g
   inner_step fs (InHeader counted left d lines) l = elim (is_empty l) [
     | true ↦ (
       flat_map gives (header_parts counted lines),
-      behind_header (shape_of d (fields_of lines)) fs left (fields_of lines),
+      after_header (shape_of d (fields_of lines)) fs left (fields_of lines),
     )
     | false ↦ ([], (fs, InHeader counted left d (lines ++ l ∷ [])))
   ]

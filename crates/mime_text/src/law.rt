@@ -3,7 +3,7 @@ ghost use Rattle.std.specs.Prelude.{◌≡◌, ℕ, suc, List, [], ◌++◌, Boo
 ghost use Rattle.header_text.specs.Headers.{HeaderField};
 ghost use Rattle.mime_text.specs.declared.parts.shape.DefaultType.{DefaultType};
 ghost use Rattle.mime_text.specs.declared.parts.shape.Shape.{Shape};
-ghost use Rattle.mime_text.specs.Parameters.{Parameter, AreParameters, behind_semicolon, parameters};
+ghost use Rattle.mime_text.specs.Parameters.{Parameter, AreParameters, after_semicolon, parameters};
 ghost use Rattle.mime_text.specs.Parts.{Part, parts};
 ghost use Rattle.mime_text.specs.Stream.{values_given, InHeader, counted_part};
 
@@ -19,7 +19,7 @@ pub fn one_line_at_a_time()
 /// The parameters of a value are those of its pieces, the first of which begins after the value's first semicolon, and
 /// no other list is. The function has no code: its contract is the law.
 pub fn parameters_are_of_pieces()
-    ensures some { (value : List ℕ) → AreParameters (behind_semicolon value) (parameters value) }
+    ensures some { (value : List ℕ) → AreParameters (after_semicolon value) (parameters value) }
     ensures only { (value : List ℕ) (ps : List Parameter)
-        → AreParameters (behind_semicolon value) ps → ps ≡ parameters value }
+        → AreParameters (after_semicolon value) ps → ps ≡ parameters value }
 {}

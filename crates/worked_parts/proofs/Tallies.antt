@@ -42,11 +42,11 @@ tallied_on before now None (Some x) count bytes h t = absurd (cc (h refl))
 tallied_on before now (Some y) (Some x) count bytes h t = t
 
 -- the texts that have ended come before the bytes taken, and before an open message
-abbrev pub IsBehind : ℕ → Phase → ℕ → Type 0
-IsBehind bytes Between at = bytes ≤ at
-IsBehind bytes (Inside start size) at = bytes ≤ start
-IsBehind bytes Ended at = bytes ≤ at
-IsBehind bytes Failed at = Unit {0}
+abbrev pub IsAfter : ℕ → Phase → ℕ → Type 0
+IsAfter bytes Between at = bytes ≤ at
+IsAfter bytes (Inside start size) at = bytes ≤ start
+IsAfter bytes Ended at = bytes ≤ at
+IsAfter bytes Failed at = Unit {0}
 
 starts-lines : (ls : List (List ℕ)) (es : List ArchiveEvent) → starts (map Line ls ++ es) ≡ starts es
 starts-lines [] es = refl

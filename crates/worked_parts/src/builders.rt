@@ -164,12 +164,12 @@ fn tells_key(builder: &mut Builder, path: &str) -> Result<bool, BuildFault>
     builder.begin_message()?;
     let before = builder.has_recent(Kind::OwnId, b"1@x", place);
     builder.add(Kind::OwnId, b"1@x")?;
-    let behind = builder.has_recent(Kind::OwnId, b"1@x", place);
+    let after = builder.has_recent(Kind::OwnId, b"1@x", place);
     let of_others = builder.has_recent(Kind::LinkId, b"1@x", place);
     builder.end_message(ONLY)?;
     builder.begin_message()?;
     let in_next = builder.has_recent(Kind::OwnId, b"1@x", place);
-    Ok([before, behind, of_others, in_next] == [false, true, false, false])
+    Ok([before, after, of_others, in_next] == [false, true, false, false])
 }
 
 /// Whether a new builder does that.

@@ -166,10 +166,10 @@ fn turn(bytes: &mut [u8], bit: usize) {
 }
 
 /// Returns the file of a body with its own digest, after bytes were put into the body and some after it.
-fn changed(alloc: Global, body: &[u8], puts: &[(usize, &[u8])], behind: &[u8]) -> Option<Vec<u8>> {
+fn changed(alloc: Global, body: &[u8], puts: &[(usize, &[u8])], after: &[u8]) -> Option<Vec<u8>> {
     let mut file = body.to_vec(alloc).ok()?;
     put(&mut file, puts);
-    file.extend_from_slice(behind).ok()?;
+    file.extend_from_slice(after).ok()?;
     let digest = Sha256::digest(&file);
     file.extend_from_slice(&digest).ok()?;
     Some(file)
@@ -332,16 +332,16 @@ fn found_of_change(
     alloc: Global,
     body: &[u8],
     puts: &[(usize, &[u8])],
-    behind: &[u8],
+    after: &[u8],
 ) -> Option<Result<(), IndexFault>> {
-    found(alloc, &changed(alloc, body, puts, behind)?)
+    found(alloc, &changed(alloc, body, puts, after)?)
 }
 
 #[test]
 fn changed_bodies_are_refused(rt: HostRuntime) {
-    for (body, puts, behind, wanted) in CHANGED_BODIES {
-        let found = found_of_change(rt.alloc(), body, puts, behind);
-        assert!(rt; is_found(found, *wanted), "{puts:?}, {behind:?}: {found:?}");
+    for (body, puts, after, wanted) in CHANGED_BODIES {
+        let found = found_of_change(rt.alloc(), body, puts, after);
+        assert!(rt; is_found(found, *wanted), "{puts:?}, {after:?}: {found:?}");
     }
 }
 

@@ -11,7 +11,7 @@ use std::fmt::{Display, InlineText};
 /// Whether the result of a reader is that of the line.
 pub fn is_told(answer: &Result<Query, QueryFault>, told: &str) -> bool {
     match answer {
-        Ok(query) => behind_node(told, query.root()) == Some(""),
+        Ok(query) => after_node(told, query.root()) == Some(""),
         Err(fault) => {
             let text: InlineText<64> = InlineText::of(*fault);
             text.as_str() == told
@@ -20,28 +20,28 @@ pub fn is_told(answer: &Result<Query, QueryFault>, told: &str) -> bool {
 }
 
 /// Returns what follows a query in the line, if the line begins with this query.
-fn behind_node<'a>(told: &'a str, node: &Node) -> Option<&'a str> {
+fn after_node<'a>(told: &'a str, node: &Node) -> Option<&'a str> {
     match node {
         Node::Any => told.strip_prefix("any"),
-        Node::Word { kinds, text } => behind_sought(told, "word ", *kinds, text.as_str()),
-        Node::Part { kinds, text } => behind_sought(told, "part ", *kinds, text.as_str()),
-        Node::Prefix { kinds, text } => behind_sought(told, "prefix ", *kinds, text.as_str()),
+        Node::Word { kinds, text } => after_sought(told, "word ", *kinds, text.as_str()),
+        Node::Part { kinds, text } => after_sought(told, "part ", *kinds, text.as_str()),
+        Node::Prefix { kinds, text } => after_sought(told, "prefix ", *kinds, text.as_str()),
         Node::Date(range) => {
-            let rest = behind_bound(told.strip_prefix("date ")?, range.from)?;
-            behind_bound(rest.strip_prefix(" ")?, range.until)
+            let rest = after_bound(told.strip_prefix("date ")?, range.from)?;
+            after_bound(rest.strip_prefix(" ")?, range.until)
         }
         Node::Size { low, high } => {
-            let rest = behind_bound(told.strip_prefix("size ")?, Some(*low))?;
-            behind_bound(rest.strip_prefix(" ")?, *high)
+            let rest = after_bound(told.strip_prefix("size ")?, Some(*low))?;
+            after_bound(rest.strip_prefix(" ")?, *high)
         }
-        Node::Flag { flag, wanted } => behind_flag(told.strip_prefix("flag ")?, *flag, *wanted),
-        Node::Not(inner) => behind_node(told.strip_prefix("not ")?, inner),
+        Node::Flag { flag, wanted } => after_flag(told.strip_prefix("flag ")?, *flag, *wanted),
+        Node::Not(inner) => after_node(told.strip_prefix("not ")?, inner),
         Node::All(members) | Node::Either(members) => {
             let is_all = matches!(node, Node::All(_));
             let mut rest = told.strip_prefix(if is_all { "all(" } else { "either(" })?;
             let mut separator = "";
             for member in members {
-                rest = behind_node(rest.strip_prefix(separator)?, member)?;
+                rest = after_node(rest.strip_prefix(separator)?, member)?;
                 separator = ", ";
             }
             rest.strip_prefix(")")
@@ -49,7 +49,7 @@ fn behind_node<'a>(told: &'a str, node: &Node) -> Option<&'a str> {
     }
 }
 
-fn behind_sought<'a>(told: &'a str, name: &str, kinds: Kinds, text: &str) -> Option<&'a str> {
+fn after_sought<'a>(told: &'a str, name: &str, kinds: Kinds, text: &str) -> Option<&'a str> {
     let (letters, rest) = told.strip_prefix(name)?.split_once(' ')?;
     if kinds_of(letters) == Some(kinds) {
         rest.strip_prefix(text)
@@ -78,7 +78,7 @@ fn kinds_of(letters: &str) -> Option<Kinds> {
     Some(kinds)
 }
 
-fn behind_bound<N: Display + Drop>(told: &str, bound: Option<N>) -> Option<&str> {
+fn after_bound<N: Display + Drop>(told: &str, bound: Option<N>) -> Option<&str> {
     match bound {
         None => told.strip_prefix("-"),
         Some(number) => {
@@ -88,7 +88,7 @@ fn behind_bound<N: Display + Drop>(told: &str, bound: Option<N>) -> Option<&str>
     }
 }
 
-fn behind_flag(told: &str, flag: Flag, wanted: bool) -> Option<&str> {
+fn after_flag(told: &str, flag: Flag, wanted: bool) -> Option<&str> {
     let rest = if wanted {
         told
     } else {

@@ -70,12 +70,12 @@ fn depth_of_nested(alloc: Global, index: &IndexView<'_>, first: usize, step: usi
     for round in 0..=MOST_WAITS as usize {
         depth = depth_of(alloc, index, text.as_str(), messages)?;
         let number = step.wrapping_mul(round).wrapping_add(first) % 6;
-        let (front, behind, more, turned, kept, added) = SHAPES[number];
+        let (front, after, more, turned, kept, added) = SHAPES[number];
         waits = waits.saturating_add(more);
         if waits > MOST_WAITS {
             break;
         }
-        text = format!(in alloc; "{front}{text}{behind}").ok()?;
+        text = format!(in alloc; "{front}{text}{after}").ok()?;
         messages = (messages ^ turned) & kept | added;
     }
     Some(depth)

@@ -114,10 +114,10 @@ fields_in-push ls l = go (is_continuation l) refl (is_field_open_after_lines fal
     go true e true f = ((continued None ls l e).goes f).0 ∙ rw (e, f) refl
     go true e false f = (continued None ls l e).skips f ∙ rw (e, f) refl
 
-pub is_open_behind-push : (b : Bool) (ls : List (List ℕ)) (l : List ℕ) → is_field_open_after_lines b (ls ++ l ∷ [])
+pub is_open_after-push : (b : Bool) (ls : List (List ℕ)) (l : List ℕ) → is_field_open_after_lines b (ls ++ l ∷ [])
     ≡ is_field_open_after (is_field_open_after_lines b ls) l
-is_open_behind-push b [] l = refl
-is_open_behind-push b (k ∷ ks) l = is_open_behind-push (is_field_open_after b k) ks l
+is_open_after-push b [] l = refl
+is_open_after-push b (k ∷ ks) l = is_open_after-push (is_field_open_after b k) ks l
 
 -- ---- how many bytes fields have
 

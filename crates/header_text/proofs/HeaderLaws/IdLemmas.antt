@@ -31,11 +31,11 @@ after_last_open-last (b ∷ bs) (suc at) lt is after =
 
 -- ---- text by text
 
-pub closed_texts-cut : (text behind : List ℕ) → Lacks 0x3E text → closed_texts (text ++ 0x3E ∷ behind)
-    ≡ text ∷ closed_texts behind
-closed_texts-cut [] behind free = refl
-closed_texts-cut (b ∷ text) behind free =
-    rw (free.0, closed_texts) (ap (onto_first b) (closed_texts-cut text behind free.1))
+pub closed_texts-cut : (text after : List ℕ) → Lacks 0x3E text → closed_texts (text ++ 0x3E ∷ after)
+    ≡ text ∷ closed_texts after
+closed_texts-cut [] after free = refl
+closed_texts-cut (b ∷ text) after free =
+    rw (free.0, closed_texts) (ap (onto_first b) (closed_texts-cut text after free.1))
 
 pub closed_texts-free : (text : List ℕ) → Lacks 0x3E text → closed_texts text ≡ []
 closed_texts-free [] free = refl

@@ -6,7 +6,7 @@ use Rattle.header_text.proofs.Words.{close_sign, begins_with_byte, is_inside_id,
 use Rattle.header_text.proofs.Words.{closed_texts}
 use Rattle.header_text.proofs.Words.{after_last_open, ids_of_texts}
 use Rattle.std.proofs.lemmas.List.Folds.{list_all-append}
-use Rattle.contract_words.proofs.RangePlaces.{seen_on, seen_from, if_passes, seen_behind-places}
+use Rattle.contract_words.proofs.RangePlaces.{seen_on, seen_from, if_passes, seen_after-places}
 use Rattle.header_text.proofs.CutLemmas.{Lacks}
 
 -- ---- three tests
@@ -28,12 +28,11 @@ ids_from = seen_from is_id_range (λ bs. bs)
 abbrev one : List ℕ → List ℕ → List ℕ → List (List ℕ)
 one = if_passes is_id_range (λ bs. bs)
 
-refused : (before inside behind : List ℕ) → is_id_range before inside behind ≡ false → one before inside behind ≡ []
-refused before inside behind e = ap (λ (t : Bool). cond t (inside ∷ []) []) e
+refused : (before inside after : List ℕ) → is_id_range before inside after ≡ false → one before inside after ≡ []
+refused before inside after e = ap (λ (t : Bool). cond t (inside ∷ []) []) e
 
-taken : (before inside behind : List ℕ) → is_id_range before inside behind ≡ true → one before inside behind
-    ≡ inside ∷ []
-taken before inside behind e = ap (λ (t : Bool). cond t (inside ∷ []) []) e
+taken : (before inside after : List ℕ) → is_id_range before inside after ≡ true → one before inside after ≡ inside ∷ []
+taken before inside after e = ap (λ (t : Bool). cond t (inside ∷ []) []) e
 
 -- one more byte inside
 inside_more : (inside : List ℕ) (b : ℕ) → list_all is_inside_id inside ≡ true → is_inside_id b ≡ true
@@ -59,12 +58,11 @@ on-unopened before inside [] e = refl
 on-unopened before inside (c ∷ cs) e = grind
     (arith, refused, before, not_first, on-unopened before (inside ++ c ∷ []) cs e)
 
-refused_broken : (before inside behind : List ℕ) → list_all is_inside_id inside ≡ false → one before inside behind ≡ []
-refused_broken before inside behind e = grind (arith, refused, before, behind)
+refused_broken : (before inside after : List ℕ) → list_all is_inside_id inside ≡ false → one before inside after ≡ []
+refused_broken before inside after e = grind (arith, refused, before, after)
 
-refused_open : (before inside behind : List ℕ) → begins_with_byte close_sign behind ≡ false → one before inside behind
-    ≡ []
-refused_open before inside behind e = grind (arith, refused, before, behind)
+refused_open : (before inside after : List ℕ) → begins_with_byte close_sign after ≡ false → one before inside after ≡ []
+refused_open before inside after e = grind (arith, refused, before, after)
 
 -- a `<` or a `>` is among them
 on-broken : (before inside rest : List ℕ) → list_all is_inside_id inside ≡ false → ids_on before inside rest ≡ []
@@ -161,12 +159,12 @@ ids_in-cons text texts = grind (arith, filter_map-append, kept-append)
 -- a `<` is in the text, and none after it
 record LastOpen (text : List ℕ) : Type 0 where
   before : List ℕ
-  behind : List ℕ
-  joined : text ≡ before ++ open_sign ∷ behind
-  is : after_last_open text ≡ Some behind
-  unopened : Lacks open_sign behind
+  after : List ℕ
+  joined : text ≡ before ++ open_sign ∷ after
+  is : after_last_open text ≡ Some after
+  unopened : Lacks open_sign after
   unclosed_before : Lacks close_sign before
-  unclosed : Lacks close_sign behind
+  unclosed : Lacks close_sign after
 
 abbrev judged : ℕ → List ℕ → Option (List ℕ) → Option (List ℕ)
 judged b bs o = elim o [ Some id ↦ Some id | None ↦ elim (b == open_sign) [ true ↦ Some bs | false ↦ None ] ]
@@ -177,7 +175,7 @@ last_open [] free = inl (refl, tt)
 last_open (b ∷ bs) free = elim (last_open bs free.1) [
   | inr o ↦ inr (record {
     before = b ∷ o.before;
-    behind = o.behind;
+    after = o.after;
     joined = ap (λ (l : List ℕ). b ∷ l) o.joined;
     is = ap (judged b bs) o.is;
     unopened = o.unopened;
@@ -191,7 +189,7 @@ last_open (b ∷ bs) free = elim (last_open bs free.1) [
         → ((after_last_open (b ∷ bs) ≡ None) × Lacks open_sign (b ∷ bs)) ⊎ LastOpen (b ∷ bs)
     go true t none = inr (record {
       before = [];
-      behind = bs;
+      after = bs;
       joined = ap (λ (x : ℕ). x ∷ bs) (eqb-true b open_sign t);
       is = ap (judged b bs) none.0 ∙ rw (judged, t) refl;
       unopened = none.1;
@@ -229,18 +227,18 @@ from-texts front (b ∷ bs) free = go (b == close_sign) refl (from-texts [] bs t
         → ((b == close_sign) ≡ false → kept_ids (ids_from [] ((front ++ b ∷ []) ++ bs))
         ≡ ids_of_texts (onto_text (front ++ b ∷ []) (closed_texts bs)))
         → kept_ids (ids_from [] (front ++ b ∷ bs)) ≡ ids_of_texts (onto_text front (closed_texts (b ∷ bs)))
-    go true t behind longer =
+    go true t after longer =
         let texts : closed_texts (b ∷ bs) ≡ [] ∷ closed_texts bs = rw (t, closed_texts) refl in
-        let later : kept_ids (ids_from [] bs) ≡ ids_of_texts (closed_texts bs) = behind
+        let later : kept_ids (ids_from [] bs) ≡ ids_of_texts (closed_texts bs) = after
         ∙ ap ids_of_texts (onto_text-nil (closed_texts bs)) in
         ap (λ (c : ℕ). kept_ids (ids_from [] (front ++ c ∷ bs))) (eqb-true b close_sign t) ∙ from-text front bs free
         ∙ ap (λ (l : List (List ℕ)). ids_of_texts (front ∷ []) ++ l) later ∙ sym (ids_in-cons front (closed_texts bs))
         ∙ ap (λ (l : List ℕ). ids_of_texts (l ∷ closed_texts bs)) (sym (append-nil front))
         ∙ ap (λ (l : List (List ℕ)). ids_of_texts (onto_text front l)) (sym texts)
-    go false t behind longer = grind (arith, append_assoc)
+    go false t after longer = grind (arith, append_assoc)
 
 pub ids_of-closed : (value : List ℕ) → ids_of value ≡ ids_of_texts (closed_texts value)
 unfolding ids_of
 ids_of-closed value =
-    ap kept_ids (seen_behind-places is_id_range (λ bs. bs) [] value) ∙ from-texts [] value tt
+    ap kept_ids (seen_after-places is_id_range (λ bs. bs) [] value) ∙ from-texts [] value tt
     ∙ ap ids_of_texts (onto_text-nil (closed_texts value))

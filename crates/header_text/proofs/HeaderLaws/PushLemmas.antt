@@ -4,11 +4,11 @@ use Rattle.header_text.proofs.Words.{nat_le, nat_lt, List, [], ◌∷◌, length
 use Rattle.header_text.proofs.Words.{cases_lt, nat_tests, is_empty, HeaderField, most_in_header, lines_before_empty}
 use Rattle.header_text.proofs.Words.{lines_within, header, fields_in, fields_of, is_field_open_after}
 use Rattle.header_text.proofs.Words.{is_field_open_after_lines}
-use Rattle.header_text.proofs.Words.{fields_with, has_empty, lines_size, stage_of, stage_behind, Open, Full, Ended}
+use Rattle.header_text.proofs.Words.{fields_with, has_empty, lines_size, stage_of, stage_after, Open, Full, Ended}
 use Rattle.header_text.specs.HeldLines.{Holds, taken_of}
 use Rattle.header_text.specs.declared.header.Stage.{Stage}
 use Rattle.header_text.specs.declared.header.Taken.TheVariants.{More, Ended as HeaderEnded}
-use Rattle.header_text.proofs.HeaderLaws.HeaderLemmas.{fields_in-push, is_open_behind-push}
+use Rattle.header_text.proofs.HeaderLaws.HeaderLemmas.{fields_in-push, is_open_after-push}
 
 -- ---- the empty line
 
@@ -77,7 +77,7 @@ stage_of-open ls h same = grind (arith, same, nat_lt)
 
 -- the stage after a line, and whether the line counts
 pub record Steps (ls : List (List ℕ)) (l : List ℕ) (stage : Stage) (size : ℕ) : Type 0 where
-  pub next : stage_behind stage size l ≡ stage_of (ls ++ l ∷ [])
+  pub next : stage_after stage size l ≡ stage_of (ls ++ l ∷ [])
   pub counts : stage_of (ls ++ l ∷ []) ≡ Open → header (ls ++ l ∷ []) ≡ header ls ++ l ∷ []
   pub was_open : stage_of (ls ++ l ∷ []) ≡ Open → stage ≡ Open
   pub stays : (stage_of (ls ++ l ∷ []) ≡ Open → ⊥) → header (ls ++ l ∷ []) ≡ header ls
@@ -114,7 +114,7 @@ steps-end ls l stage size h e =
       stays = λ _. ap front (before_empty-push_end ls l e);
     }
   where
-    ends : (s : Stage) → stage_of (ls ++ l ∷ []) ≡ Ended → stage_behind s size l ≡ stage_of (ls ++ l ∷ [])
+    ends : (s : Stage) → stage_of (ls ++ l ∷ []) ≡ Ended → stage_after s size l ≡ stage_of (ls ++ l ∷ [])
     ends s h = grind arith
 
 -- a line didn't fit before this line
@@ -212,7 +212,7 @@ module _ (fs : List HeaderField) (size : ℕ) (in_field : Bool) (stage : Stage) 
   stepped = steps ls l stage size h.stage_is h.size_is
 
   -- a line that counts
-  pub holds-counted : (new : List HeaderField) (after : Bool) → stage_behind stage size l ≡ Open → new
+  pub holds-counted : (new : List HeaderField) (after : Bool) → stage_after stage size l ≡ Open → new
       ≡ fields_with in_field l fs → after ≡ is_field_open_after in_field l
       → Holds new (size + length l) after stage (ls ++ l ∷ [])
   unfolding fields_of
@@ -225,12 +225,12 @@ module _ (fs : List HeaderField) (size : ℕ) (in_field : Bool) (stage : Stage) 
         size_is = ap (λ (n : ℕ). n + length l) h.size_is ∙ sym (lines_size-push (header ls) l)
             ∙ ap lines_size (sym more);
         in_field_is = g ∙ ap (λ (b : Bool). is_field_open_after b l) h.in_field_is
-            ∙ sym (is_open_behind-push false (header ls) l) ∙ ap (is_field_open_after_lines false) (sym more);
+            ∙ sym (is_open_after-push false (header ls) l) ∙ ap (is_field_open_after_lines false) (sym more);
         stage_is = stepped.was_open still ∙ sym still;
       }
 
   -- a line that doesn't count
-  pub holds-skipped : (next : Stage) → stage_behind stage size l ≡ next → (next ≡ Open → ⊥)
+  pub holds-skipped : (next : Stage) → stage_after stage size l ≡ next → (next ≡ Open → ⊥)
       → Holds fs size in_field next (ls ++ l ∷ [])
   unfolding fields_of
   holds-skipped next e closed =
@@ -245,7 +245,7 @@ module _ (fs : List HeaderField) (size : ℕ) (in_field : Bool) (stage : Stage) 
 
   -- a line after the end
   pub holds-ended : stage ≡ Ended → Holds fs size in_field stage (ls ++ l ∷ [])
-  holds-ended e = let next : stage_behind stage size l ≡ stage = rw e refl
+  holds-ended e = let next : stage_after stage size l ≡ stage = rw e refl
       in holds-skipped stage next (λ o. absurd (cc))
 
   pub has_empty-ended : stage ≡ Ended → has_empty (ls ++ l ∷ []) ≡ true
@@ -256,10 +256,10 @@ module _ (fs : List HeaderField) (size : ℕ) (in_field : Bool) (stage : Stage) 
   never_ended some goes_on = goes_on (h.stage_is ∙ stage_of-ended ls some)
 
   -- what the line means for the header
-  pub taken-next_ended : stage_behind stage size l ≡ Ended → HeaderEnded ≡ taken_of (ls ++ l ∷ [])
+  pub taken-next_ended : stage_after stage size l ≡ Ended → HeaderEnded ≡ taken_of (ls ++ l ∷ [])
   taken-next_ended e = taken-ended (ls ++ l ∷ []) (stage_of-ended_only (ls ++ l ∷ []) (sym stepped.next ∙ e))
 
-  pub taken-next_more : (stage_behind stage size l ≡ Ended → ⊥) → More ≡ taken_of (ls ++ l ∷ [])
+  pub taken-next_more : (stage_after stage size l ≡ Ended → ⊥) → More ≡ taken_of (ls ++ l ∷ [])
   taken-next_more goes_on = taken-more (ls ++ l ∷ []) (λ e. goes_on (stepped.next ∙ e))
 
 -- ---- the bounds

@@ -91,21 +91,21 @@ pub record Unfolds (old body items rest : List ℕ) : Type 0 where
 pub unfolds-start : (old body : List ℕ) → Unfolds old body old body
 unfolds-start old body = record { done = []; items_are = sym (append-nil old); sofar = refl }
 
-pub unfolds-line : (old body items rest line behind new : List ℕ) → Unfolds old body items rest
-    → IsCut 0x0A rest line behind
+pub unfolds-line : (old body items rest line after new : List ℕ) → Unfolds old body items rest
+    → IsCut 0x0A rest line after
     → new ≡ items ++ added_part (nat_lt (length old) (length items)) (without_final_cr line)
-    → Unfolds old body new behind
-unfolds-line old body items rest line behind new h cut e =
+    → Unfolds old body new after
+unfolds-line old body items rest line after new h cut e =
     let part : List ℕ = without_final_cr line in
     let test : nat_lt (length old) (length items) ≡ is_some_bytes h.done = rw h.items_are (is_some-test old h.done) in
     let more : List ℕ = added_part (is_some_bytes h.done) part in
-    let split : without_breaks rest ≡ part ++ without_breaks behind = ap without_breaks cut.joined
-    ∙ breaks-cut line behind cut.free in
+    let split : without_breaks rest ≡ part ++ without_breaks after = ap without_breaks cut.joined
+    ∙ breaks-cut line after cut.free in
     record {
       done = h.done ++ more;
       items_are = e ∙ ap₂ (λ (l : List ℕ) (t : Bool). l ++ added_part t part) h.items_are test
           ∙ append_assoc old h.done more;
-      sofar = led-append h.done part (without_breaks behind)
+      sofar = led-append h.done part (without_breaks after)
           ∙ ap (λ (l : List ℕ). h.done ++ added_part (is_some_bytes h.done) l) (sym split) ∙ h.sofar;
     }
 

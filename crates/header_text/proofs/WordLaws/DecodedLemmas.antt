@@ -5,17 +5,17 @@ use Rattle.header_text.proofs.Words.{later_words_text}
 use Rattle.header_text.proofs.Words.{words_text, decoded_value, word_first}
 
 -- the text of words, which follow a word or are at the front
-abbrev pub words_behind : Bool → List WordAfter → List ℕ
-words_behind follows ws = if follows then later_words_text ws else words_text ws
+abbrev pub words_after : Bool → List WordAfter → List ℕ
+words_after follows ws = if follows then later_words_text ws else words_text ws
 
-pub decoded-start : (value : List ℕ) → words_behind false (value_pieces value).words ++ plain_text
+pub decoded-start : (value : List ℕ) → words_after false (value_pieces value).words ++ plain_text
     (value_pieces value).rest
     ≡ decoded_value value
 unfolding decoded_value
 decoded-start value = refl
 
 abbrev pub rest_text : Bool → Pieces → List ℕ
-rest_text follows p = words_behind follows p.words ++ plain_text p.rest
+rest_text follows p = words_after follows p.words ++ plain_text p.rest
 
 -- one more word
 pub decoded-step : (follows : Bool) (w : WordAfter) (p : Pieces) (later old new newer : List ℕ) → p ≡ word_first w later

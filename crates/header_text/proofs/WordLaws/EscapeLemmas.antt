@@ -1,7 +1,7 @@
 -- Decoding escapes part by part gives the whole text decoded.
 use Rattle.header_text.proofs.Words.{◌≡◌, ◌∙◌, ◌==◌, ◌≤◌, ◌++◌, ℕ, false, List, [], ◌∷◌, Option, Some, None, length}
 use Rattle.header_text.proofs.Words.{refl, sym, ap, arith, append_assoc, append-nil, if◌then◌else◌, escaped_byte}
-use Rattle.header_text.proofs.Words.{unescaped_by, unescaped_bytes, q_bytes, behind_equals}
+use Rattle.header_text.proofs.Words.{unescaped_by, unescaped_bytes, q_bytes, after_equals}
 use Rattle.header_text.proofs.CutLemmas.{Lacks, IsCut}
 
 module _ (other : ℕ → ℕ) where
@@ -60,14 +60,14 @@ unfolding unescaped_bytes
 unescaped-nil = refl
 
 pub unescaped-equals : (bytes : List ℕ) → unescaped_bytes (0x3D ∷ bytes)
-    ≡ (behind_equals bytes).0 ∷ unescaped_bytes (behind_equals bytes).1
+    ≡ (after_equals bytes).0 ∷ unescaped_bytes (after_equals bytes).1
 unfolding unescaped_bytes
 unescaped-equals [] = refl
 unescaped-equals (b ∷ []) = refl
 unescaped-equals (b ∷ c ∷ bytes) = grind arith
 
-pub length-behind_equals : (bytes : List ℕ) → length (behind_equals bytes).1 ≤ length bytes
-length-behind_equals bytes = grind arith
+pub length-after_equals : (bytes : List ℕ) → length (after_equals bytes).1 ≤ length bytes
+length-after_equals bytes = grind arith
 
 -- ---- Q
 
@@ -98,10 +98,10 @@ q_bytes-free (a ∷ b ∷ c ∷ stretch) free =
 
 -- ---- one more part
 
-pub unescaped-step : (rest plain behind later : List ℕ) (byte : ℕ) → IsCut 0x3D rest plain behind → byte
-    ≡ (behind_equals behind).0 → later ≡ (behind_equals behind).1
+pub unescaped-step : (rest plain after later : List ℕ) (byte : ℕ) → IsCut 0x3D rest plain after → byte
+    ≡ (after_equals after).0 → later ≡ (after_equals after).1
     → unescaped_bytes rest ≡ plain ++ byte ∷ unescaped_bytes later
-unescaped-step rest plain behind later byte cut e f = grind (arith, unescaped-plain, unescaped-equals)
+unescaped-step rest plain after later byte cut e f = grind (arith, unescaped-plain, unescaped-equals)
 
 pub unescaped-rest : (rest : List ℕ) → Lacks 0x3D rest → unescaped_bytes rest ≡ rest
 unescaped-rest rest free = ap unescaped_bytes (sym (append-nil rest)) ∙ unescaped-plain rest [] free

@@ -336,19 +336,19 @@ module _ (symbols : List ℕ) (count symbol : ℕ) (size : length symbols ≡ 4)
 
 pub text-groups : (symbols : List ℕ) (count : ℕ) (rest : List ℕ) (n : ℕ) → count ≡ 0 → n ≤ length rest → n % 4 ≡ 0
     → ((k : ℕ) → k < n → is_symbol (slice_index rest k) ≡ true)
-    → (later old new : List ℕ) → new ≡ old ++ bytes_of_symbols (take n rest) → (behind : List ℕ) → behind ≡ drop n rest
-    → new ++ bytes_of_symbols (take count symbols ++ (behind ++ later))
+    → (later old new : List ℕ) → new ≡ old ++ bytes_of_symbols (take n rest) → (after : List ℕ) → after ≡ drop n rest
+    → new ++ bytes_of_symbols (take count symbols ++ (after ++ later))
     ≡ old ++ bytes_of_symbols (take count symbols ++ (rest ++ later))
-text-groups symbols count rest n none fits whole are later old new e behind f =
+text-groups symbols count rest n none fits whole are later old new e after f =
     let run : List ℕ = take n rest in
     let size : length run ≡ n = length-take-le n rest fits in
     let symbols : AreSymbols run = λ k lt. let inside : k < n = omega (arith, lt, size)
     in rw (get_or-take n rest k 0 inside) (are k inside) in
-    let split : run ++ (behind ++ later) ≡ rest ++ later = sym (append_assoc run behind later)
+    let split : run ++ (after ++ later) ≡ rest ++ later = sym (append_assoc run after later)
     ∙ ap (λ (l : List ℕ). l ++ later) (ap (λ (l : List ℕ). run ++ l) f ∙ take-append-drop n rest) in
-    rw none (ap (λ (l : List ℕ). l ++ bytes_of_symbols (behind ++ later)) e
-    ∙ append_assoc old (bytes_of_symbols run) (bytes_of_symbols (behind ++ later))
-    ∙ ap (λ (l : List ℕ). old ++ l) (sym (bytes_of_symbols-groups run (behind ++ later) symbols (rw size whole))
+    rw none (ap (λ (l : List ℕ). l ++ bytes_of_symbols (after ++ later)) e
+    ∙ append_assoc old (bytes_of_symbols run) (bytes_of_symbols (after ++ later))
+    ∙ ap (λ (l : List ℕ). old ++ l) (sym (bytes_of_symbols-groups run (after ++ later) symbols (rw size whole))
     ∙ ap bytes_of_symbols split))
 
 -- a byte that is skipped

@@ -3,7 +3,7 @@ use Rattle.header_text.proofs.Words.{◌≡◌, ◌∙◌, ◌==◌, ◌<◌, �
 use Rattle.header_text.proofs.Words.{Option, Some, None, length, take, drop, refl, sym, ap, ap₂, arith, length-append}
 use Rattle.header_text.proofs.Words.{append_assoc, append-nil, option_map, take_at, cut_at, EncodedWord, spelling_of}
 use Rattle.header_text.proofs.Words.{is_well_formed, question, equals_sign, after, word_of, ◌>>=◌, word_and_later}
-use Rattle.header_text.proofs.Words.{word_at, WordAfter, Pieces, onto_front, pieces_behind, value_pieces, no_word}
+use Rattle.header_text.proofs.Words.{word_at, WordAfter, Pieces, onto_front, pieces_after, value_pieces, no_word}
 use Rattle.header_text.proofs.Words.{word_first}
 use Rattle.header_text.proofs.CutLemmas.{Lacks, IsCut-from, Lacks-from}
 
@@ -131,9 +131,9 @@ in_front-append seen more p = grind (arith, append_assoc)
 
 judged : ℕ → List ℕ → Option EncodedWord → Pieces
 judged b bs o = elim o [
-  | Some w ↦ let later : Pieces = pieces_behind (length (spelling_of w) - 1) bs
+  | Some w ↦ let later : Pieces = pieces_after (length (spelling_of w) - 1) bs
       in record { words = record { between = []; word = w } ∷ later.words; rest = later.rest }
-  | None ↦ let later : Pieces = pieces_behind zero bs in onto_front b later.words later.rest
+  | None ↦ let later : Pieces = pieces_after zero bs in onto_front b later.words later.rest
 ]
 
 pieces-cons : (b : ℕ) (bs : List ℕ) → value_pieces (b ∷ bs) ≡ judged b bs (word_at (b ∷ bs))
@@ -146,10 +146,10 @@ unfolding judged
 pieces-none b bs e = grind (arith, pieces-cons)
 
 -- the pieces after the skipped bytes are those of the rest
-pieces_behind-skip : (front later : List ℕ) → pieces_behind (length front) (front ++ later) ≡ value_pieces later
-pieces_behind-skip [] [] = refl
-pieces_behind-skip [] (b ∷ later) = refl
-pieces_behind-skip (b ∷ front) later = pieces_behind-skip front later
+pieces_after-skip : (front later : List ℕ) → pieces_after (length front) (front ++ later) ≡ value_pieces later
+pieces_after-skip [] [] = refl
+pieces_after-skip [] (b ∷ later) = refl
+pieces_after-skip (b ∷ front) later = pieces_after-skip front later
 
 pub pieces-some : (bytes later : List ℕ) (w : EncodedWord) → word_at (equals_sign ∷ bytes) ≡ Some w
     → equals_sign ∷ bytes ≡ spelling_of w ++ later
@@ -160,8 +160,8 @@ pieces-some bytes later w e joined =
     (w.text ++ question ∷ equals_sign ∷ [])) in
     let rest : bytes ≡ front ++ later = ap (λ (l : List ℕ). drop 1 l) joined in
     let size : length (spelling_of w) - 1 ≡ length front = omega arith in
-    let skipped : pieces_behind (length (spelling_of w) - 1) bytes ≡ value_pieces later =
-    rw (size, rest) (pieces_behind-skip front later) in
+    let skipped : pieces_after (length (spelling_of w) - 1) bytes ≡ value_pieces later =
+    rw (size, rest) (pieces_after-skip front later) in
     pieces-cons equals_sign bytes ∙ ap (judged equals_sign bytes) e
     ∙ ap (λ (p : Pieces). record { words = record { between = []; word = w } ∷ p.words; rest = p.rest }) skipped
 
@@ -190,51 +190,53 @@ pub record Seen (value rest : List ℕ) : Type 0 where
   pub found : value_pieces value ≡ in_front seen (value_pieces rest)
 
 -- an `=` at which no word begins
-pub seen-more : (value rest plain behind : List ℕ) → Seen value rest → Some (plain, behind) ≡ cut_at equals_sign rest
-    → word_and_later behind ≡ None → Seen value behind
-seen-more value rest plain behind s h e =
-    let cut = IsCut-from equals_sign rest plain behind (sym h) in
-    let none : word_at (equals_sign ∷ behind) ≡ None = word_at-equals behind
+pub seen-more : (value rest plain after_sign : List ℕ) → Seen value rest → Some (plain, after_sign)
+    ≡ cut_at equals_sign rest
+    → word_and_later after_sign ≡ None → Seen value after_sign
+seen-more value rest plain after_sign s h e =
+    let cut = IsCut-from equals_sign rest plain after_sign (sym h) in
+    let none : word_at (equals_sign ∷ after_sign) ≡ None = word_at-equals after_sign
     ∙ ap (option_map (λ (found : EncodedWord × List ℕ). found.0)) e in
-    let passed : value_pieces rest ≡ in_front (plain ++ equals_sign ∷ []) (value_pieces behind) =
-    ap value_pieces cut.joined ∙ pieces-plain plain (equals_sign ∷ behind) cut.free
-    ∙ ap (in_front plain) (pieces-none equals_sign behind none)
-    ∙ sym (in_front-append plain (equals_sign ∷ []) (value_pieces behind)) in
+    let passed : value_pieces rest ≡ in_front (plain ++ equals_sign ∷ []) (value_pieces after_sign) =
+    ap value_pieces cut.joined ∙ pieces-plain plain (equals_sign ∷ after_sign) cut.free
+    ∙ ap (in_front plain) (pieces-none equals_sign after_sign none)
+    ∙ sym (in_front-append plain (equals_sign ∷ []) (value_pieces after_sign)) in
     record {
       seen = s.seen ++ (plain ++ equals_sign ∷ []);
       joined = s.joined ∙ ap (λ (l : List ℕ). s.seen ++ l)
-          (cut.joined ∙ sym (append_assoc plain (equals_sign ∷ []) behind))
-          ∙ sym (append_assoc s.seen (plain ++ equals_sign ∷ []) behind);
+          (cut.joined ∙ sym (append_assoc plain (equals_sign ∷ []) after_sign))
+          ∙ sym (append_assoc s.seen (plain ++ equals_sign ∷ []) after_sign);
       found = s.found ∙ ap (in_front s.seen) passed
-          ∙ sym (in_front-append s.seen (plain ++ equals_sign ∷ []) (value_pieces behind));
+          ∙ sym (in_front-append s.seen (plain ++ equals_sign ∷ []) (value_pieces after_sign));
     }
 
 -- an `=` at which a word begins
-pub record First (value behind later : List ℕ) (w : EncodedWord) : Type 0 where
+pub record First (value after_sign later : List ℕ) (w : EncodedWord) : Type 0 where
   pub found : value_pieces value ≡ word_first
-      (record { between = take (length value - length behind - 1) value; word = w })
+      (record { between = take (length value - length after_sign - 1) value; word = w })
       later
-  pub size : length (take (length value - length behind - 1) value) + length w.text + length later < length value
+  pub size : length (take (length value - length after_sign - 1) value) + length w.text + length later < length value
 
-pub seen-first : (value rest plain behind later : List ℕ) (w : EncodedWord) → Seen value rest → Some (plain, behind)
-    ≡ cut_at equals_sign rest → word_and_later behind ≡ Some (w, later) → First value behind later w
-seen-first value rest plain behind later w s h e =
-    let cut = IsCut-from equals_sign rest plain behind (sym h) in
-    let is = spells behind w later e in
-    let here : word_at (equals_sign ∷ behind) ≡ Some w = word_at-equals behind
+pub seen-first : (value rest plain after_sign later : List ℕ) (w : EncodedWord) → Seen value rest
+    → Some (plain, after_sign)
+    ≡ cut_at equals_sign rest → word_and_later after_sign ≡ Some (w, later) → First value after_sign later w
+seen-first value rest plain after_sign later w s h e =
+    let cut = IsCut-from equals_sign rest plain after_sign (sym h) in
+    let is = spells after_sign w later e in
+    let here : word_at (equals_sign ∷ after_sign) ≡ Some w = word_at-equals after_sign
     ∙ ap (option_map (λ (found : EncodedWord × List ℕ). found.0)) e in
     let front : List ℕ = s.seen ++ plain in
-    let split : value ≡ front ++ equals_sign ∷ behind = s.joined ∙ ap (λ (l : List ℕ). s.seen ++ l) cut.joined
-    ∙ sym (append_assoc s.seen plain (equals_sign ∷ behind)) in
-    let sizes : length value ≡ length front + suc (length behind) = ap length split
-    ∙ length-append front (equals_sign ∷ behind) in
-    let n : length front ≡ length value - length behind - 1 = omega arith in
-    let taken : take (length value - length behind - 1) value ≡ front =
-    ap (λ (l : List ℕ). take (length value - length behind - 1) l) split
-    ∙ take_at front (equals_sign ∷ behind) (length value - length behind - 1) n in
+    let split : value ≡ front ++ equals_sign ∷ after_sign = s.joined ∙ ap (λ (l : List ℕ). s.seen ++ l) cut.joined
+    ∙ sym (append_assoc s.seen plain (equals_sign ∷ after_sign)) in
+    let sizes : length value ≡ length front + suc (length after_sign) = ap length split
+    ∙ length-append front (equals_sign ∷ after_sign) in
+    let n : length front ≡ length value - length after_sign - 1 = omega arith in
+    let taken : take (length value - length after_sign - 1) value ≡ front =
+    ap (λ (l : List ℕ). take (length value - length after_sign - 1) l) split
+    ∙ take_at front (equals_sign ∷ after_sign) (length value - length after_sign - 1) n in
     let first : value_pieces rest ≡ in_front plain (word_first (record { between = []; word = w }) later) =
-    ap value_pieces cut.joined ∙ pieces-plain plain (equals_sign ∷ behind) cut.free
-    ∙ ap (in_front plain) (pieces-some behind later w here is.joined) in
+    ap value_pieces cut.joined ∙ pieces-plain plain (equals_sign ∷ after_sign) cut.free
+    ∙ ap (in_front plain) (pieces-some after_sign later w here is.joined) in
     let all : value_pieces value ≡ word_first (record { between = front; word = w }) later =
     s.found ∙ ap (in_front s.seen) first ∙ ap (λ (l : List ℕ). word_first (record { between = l; word = w }) later)
     (ap (λ (l : List ℕ). s.seen ++ l) (append-nil plain)) in
@@ -256,14 +258,15 @@ seen-end value rest s e =
     s.found ∙ ap (in_front s.seen) alone ∙ ap no_word (sym s.joined)
 
 -- what is after an `=` is shorter
-pub seen-shorter : (value rest plain behind : List ℕ) → Seen value rest → Some (plain, behind) ≡ cut_at equals_sign rest
-    → length behind < length value
-seen-shorter value rest plain behind s h =
-    let cut = IsCut-from equals_sign rest plain behind (sym h) in
+pub seen-shorter : (value rest plain after_sign : List ℕ) → Seen value rest → Some (plain, after_sign)
+    ≡ cut_at equals_sign rest
+    → length after_sign < length value
+seen-shorter value rest plain after_sign s h =
+    let cut = IsCut-from equals_sign rest plain after_sign (sym h) in
     omega (
       arith,
       ap length s.joined,
       length-append s.seen rest,
       ap length cut.joined,
-      length-append plain (equals_sign ∷ behind),
+      length-append plain (equals_sign ∷ after_sign),
     )

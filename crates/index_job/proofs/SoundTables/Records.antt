@@ -9,53 +9,53 @@ use Rattle.index_job.proofs.SoundTables.Spans.{AreSpanned, messages-spanned}
 -- ---- in order
 
 -- the record comes after this place of the archive with this number
-abbrev LiesBehind : ℕ → ℕ → Record → Type 0
-LiesBehind archive at r = (archive < r.archive) ⊎ ((archive ≡ r.archive) × (at ≤ r.offset))
+abbrev LiesAfter : ℕ → ℕ → Record → Type 0
+LiesAfter archive at r = (archive < r.archive) ⊎ ((archive ≡ r.archive) × (at ≤ r.offset))
 
 -- each record comes after the one before it
-abbrev AreBehind : ℕ → ℕ → List Record → Type 0
-AreBehind archive at [] = Unit {0}
-AreBehind archive at (r ∷ rs) = LiesBehind archive at r × AreBehind r.archive (r.offset + r.length) rs
+abbrev AreAfter : ℕ → ℕ → List Record → Type 0
+AreAfter archive at [] = Unit {0}
+AreAfter archive at (r ∷ rs) = LiesAfter archive at r × AreAfter r.archive (r.offset + r.length) rs
 
-each-next : (archive at : ℕ) (rs : List Record) → AreBehind archive at rs → AllNext Follows rs
+each-next : (archive at : ℕ) (rs : List Record) → AreAfter archive at rs → AllNext Follows rs
 each-next archive at [] h = tt
 each-next archive at (r ∷ []) h = tt
 each-next archive at (r ∷ s ∷ rs) h = (h.1.0, each-next r.archive (r.offset + r.length) (s ∷ rs) h.1)
 
 -- the records of one archive's messages, and then those of later archives
-one-behind : (n at end : ℕ) (ms : List Message) (rest : List Record) → AreSpanned at end ms
-    → ((place : ℕ) → AreBehind n place rest) → AreBehind n at (map (record_of n) ms ++ rest)
-one-behind n at end [] rest spanned later = later at
-one-behind n at end (m ∷ ms) rest spanned later =
-    (inr (refl, spanned.0), one-behind n (m.offset + span_length m) end ms rest spanned.3 later)
+one-after : (n at end : ℕ) (ms : List Message) (rest : List Record) → AreSpanned at end ms
+    → ((place : ℕ) → AreAfter n place rest) → AreAfter n at (map (record_of n) ms ++ rest)
+one-after n at end [] rest spanned later = later at
+one-after n at end (m ∷ ms) rest spanned later =
+    (inr (refl, spanned.0), one-after n (m.offset + span_length m) end ms rest spanned.3 later)
 
 -- the records of archives with numbers from n on, after a place in an earlier archive or at the beginning
-all-behind : (n : ℕ) (archives : List Mbox) (archive at : ℕ) → (archive < n) ⊎ ((archive ≡ n) × (at ≡ 0))
-    → AreBehind archive at (records_from n archives)
-all-behind n [] archive at before = tt
-all-behind n (a ∷ archives) archive at before =
+all-after : (n : ℕ) (archives : List Mbox) (archive at : ℕ) → (archive < n) ⊎ ((archive ≡ n) × (at ≡ 0))
+    → AreAfter archive at (records_from n archives)
+all-after n [] archive at before = tt
+all-after n (a ∷ archives) archive at before =
     go (messages_in a.bytes) (messages-spanned a.bytes)
-    (λ k place low. all-behind (suc n) archives k place (inl (omega (arith, low)))) before
+    (λ k place low. all-after (suc n) archives k place (inl (omega (arith, low)))) before
   where
     go : (ms : List Message) → AreSpanned 0 (length a.bytes) ms
-        → ((k place : ℕ) → k ≤ n → AreBehind k place (records_from (suc n) archives)) → (archive < n)
+        → ((k place : ℕ) → k ≤ n → AreAfter k place (records_from (suc n) archives)) → (archive < n)
         ⊎ ((archive ≡ n) × (at ≡ 0))
-        → AreBehind archive at (map (record_of n) ms ++ records_from (suc n) archives)
+        → AreAfter archive at (map (record_of n) ms ++ records_from (suc n) archives)
     go [] spanned later (inl low) = later archive at (omega (arith, low))
     go [] spanned later (inr same) = later archive at (omega (arith, same.0))
     go (m ∷ ms) spanned later (inl low) = (
       inl low,
-      one-behind n (m.offset + span_length m) (length a.bytes) ms (records_from (suc n) archives) spanned.3
+      one-after n (m.offset + span_length m) (length a.bytes) ms (records_from (suc n) archives) spanned.3
           (λ place. later n place (omega arith)),
     )
     go (m ∷ ms) spanned later (inr same) = (
       inr (same.0, omega (arith, same.1)),
-      one-behind n (m.offset + span_length m) (length a.bytes) ms (records_from (suc n) archives) spanned.3
+      one-after n (m.offset + span_length m) (length a.bytes) ms (records_from (suc n) archives) spanned.3
           (λ place. later n place (omega arith)),
     )
 
 pub records-in-order : (archives : List Mbox) → AllNext Follows (records_from 0 archives)
-records-in-order archives = each-next 0 0 (records_from 0 archives) (all-behind 0 archives 0 0 (inr (refl, refl)))
+records-in-order archives = each-next 0 0 (records_from 0 archives) (all-after 0 archives 0 0 (inr (refl, refl)))
 
 -- ---- within their archives
 

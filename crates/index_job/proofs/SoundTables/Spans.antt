@@ -94,9 +94,9 @@ grouped-some (mark ∷ marks) all = go mark.0 refl (grouped-some marks all.1)
 from-groups : (low at end : ℕ) (gs : List Group) → low ≤ at → at + groups_total gs ≤ end
     → AllByRecursion (λ (g : Group). 0 < length g.0) gs → AreSpanned low end (messages_from at gs)
 unfolding groups_total
-from-groups low at end [] behind within some = tt
-from-groups low at end (g ∷ gs) behind within some = (
-  behind,
+from-groups low at end [] after within some = tt
+from-groups low at end (g ∷ gs) after within some = (
+  after,
   omega (arith, within),
   omega (arith, some.0, closing-fewer g.1),
   from-groups (at + (length g.0 + total g.1)) (at + (length g.0 + total g.1)) end gs (omega arith)

@@ -11,11 +11,11 @@ tell_more : {A : Type 0} (g : Ghosts A) (n : ℕ) (lengths : List ℕ) (l : ℕ)
     → TellLengths g n (lengths ++ l ∷ []) old new
 tell_more {A} g n [] l old before new e m = grind arith
 tell_more {A} g n (k ∷ lengths) l old before new told m =
-    let behind : n + length (k ∷ lengths) ≡ n + 1 + length lengths = omega arith in (
+    let after : n + length (k ∷ lengths) ≡ n + 1 + length lengths = omega arith in (
       told.0,
       told.1,
       tell_more g (n + 1) lengths l told.0 before new told.2
-          (subst (λ (i : ℕ). g.measures before i (Ok l) new) behind m),
+          (subst (λ (i : ℕ). g.measures before i (Ok l) new) after m),
     )
 
 map_one_more : {X : Type 0} (f : X → ℕ) (xs : List X) (n : ℕ) (x : X) (rest : List X) → drop n xs ≡ x ∷ rest

@@ -28,12 +28,12 @@ more_pieces : {A : Type 0} (g : Ghosts A) (n offset : ℕ) (pieces : List (List 
     → TellPieces g n offset (pieces ++ piece ∷ []) old new
 more_pieces {A} g n offset [] piece old before new e told = grind arith
 more_pieces {A} g n offset (p ∷ pieces) piece old before new so_far told =
-    let behind : offset + length (p ++ concat pieces) ≡ offset + length p + length (concat pieces) =
+    let after : offset + length (p ++ concat pieces) ≡ offset + length p + length (concat pieces) =
     omega (arith, length-append p (concat pieces)) in (
       so_far.0,
       so_far.1,
       more_pieces g n (offset + length p) pieces piece so_far.0 before new so_far.2
-          (subst (λ (k : ℕ). g.reads before n k (Ok piece) new) behind told),
+          (subst (λ (k : ℕ). g.reads before n k (Ok piece) new) after told),
     )
 
 -- the bytes that were read before an offset

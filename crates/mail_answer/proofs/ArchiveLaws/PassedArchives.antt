@@ -12,6 +12,6 @@ next_path (b ∷ archives) (suc n) a rest e = next_path archives n a rest e
 
 -- one more archive was passed
 pub passed_more : (archives : List Archive) (passed : ℕ) (rest : List Archive) (last : List ℕ) (a : Archive)
-    (behind : List Archive) → ArePassed archives passed rest last → rest ≡ a ∷ behind
-    → ArePassed archives (passed + 1) behind a.path
-passed_more archives passed rest last a behind are e = grind (arith, next_named, next_path)
+    (after : List Archive) → ArePassed archives passed rest last → rest ≡ a ∷ after
+    → ArePassed archives (passed + 1) after a.path
+passed_more archives passed rest last a after are e = grind (arith, next_named, next_path)

@@ -67,9 +67,9 @@ from_lengths n [] archives h = refl
 from_lengths n (a ∷ named) [] h = refl
 from_lengths n (a ∷ named) (bytes ∷ archives) h =
     let first : a.length ≡ length bytes = cc in
-    let behind : map (λ (a : Archive). a.length) named ≡ map length archives = cc in
+    let after : map (λ (a : Archive). a.length) named ≡ map length archives = cc in
     ap (λ b. cond b (first_changed (n + 1) named archives) (Some n)) (eq-eqb (length bytes) a.length (sym first))
-    ∙ from_lengths (n + 1) named archives behind
+    ∙ from_lengths (n + 1) named archives after
 
 from_digests : (n : ℕ) (named : List Archive) (archives : List (List ℕ)) → map (λ a. a.digest) named
     ≡ map (λ bytes. Some (sha256 bytes)) archives → first_altered n named archives ≡ None
@@ -77,9 +77,9 @@ from_digests n [] archives h = refl
 from_digests n (a ∷ named) [] h = refl
 from_digests n (a ∷ named) (bytes ∷ archives) h =
     let first : a.digest ≡ Some (sha256 bytes) = cc in
-    let behind : map (λ (a : Archive). a.digest) named ≡ map (λ (bytes : List ℕ). Some (sha256 bytes)) archives = cc in
+    let after : map (λ (a : Archive). a.digest) named ≡ map (λ (bytes : List ℕ). Some (sha256 bytes)) archives = cc in
     ap (λ b. cond b (first_altered (n + 1) named archives) (Some n)) (told_digest a.digest bytes first)
-    ∙ from_digests (n + 1) named archives behind
+    ∙ from_digests (n + 1) named archives after
 
 -- archives that are verified are those that were indexed
 pub verified_are : (named : List Archive) (archives : List (List ℕ)) → unverified_archive named archives ≡ None
@@ -172,11 +172,11 @@ more_each : {A : Type 0} (g : Ghosts A) (n : ℕ) (archives : List (List ℕ)) (
     → ReadEach g n (archives ++ bytes ∷ []) old new
 more_each {A} g n [] bytes old before new e front = grind arith
 more_each {A} g n (first ∷ archives) bytes old before new so_far front =
-    let behind : n + length (first ∷ archives) ≡ n + 1 + length archives = omega arith in (
+    let after : n + length (first ∷ archives) ≡ n + 1 + length archives = omega arith in (
       so_far.0,
       so_far.1,
       more_each g (n + 1) archives bytes so_far.0 before new so_far.2
-          (subst (λ (k : ℕ). ReadsFront g k bytes before new) behind front),
+          (subst (λ (k : ℕ). ReadsFront g k bytes before new) after front),
     )
 
 whole_known : (named : List Archive) (held : Option (List (List ℕ))) (n : ℕ) (a : Archive) (rest : List Archive)

@@ -15,13 +15,13 @@ pub rises_lower : (low high : ℕ) (ns : List ℕ) → low ≤ high → RisesFro
 rises_lower low high [] le rises = tt
 rises_lower low high (n ∷ ns) le rises = (omega (arith, rises.0), rises.1)
 
-rises_behind : (low : ℕ) (front rest : List ℕ) → RisesFrom low (front ++ rest) → RisesFrom 0 rest
-rises_behind low [] rest rises = rises_lower 0 low rest (omega arith) rises
-rises_behind low (n ∷ ns) rest rises = rises_behind (suc n) ns rest rises.1
+rises_after : (low : ℕ) (front rest : List ℕ) → RisesFrom low (front ++ rest) → RisesFrom 0 rest
+rises_after low [] rest rises = rises_lower 0 low rest (omega arith) rises
+rises_after low (n ∷ ns) rest rises = rises_after (suc n) ns rest rises.1
 
-all_behind : (P : ℕ → Type 0) (front rest : List ℕ) → AllByRecursion P (front ++ rest) → AllByRecursion P rest
-all_behind P [] rest all = all
-all_behind P (n ∷ ns) rest all = all_behind P ns rest all.1
+all_after : (P : ℕ → Type 0) (front rest : List ℕ) → AllByRecursion P (front ++ rest) → AllByRecursion P rest
+all_after P [] rest all = all
+all_after P (n ∷ ns) rest all = all_after P ns rest all.1
 
 all_joined : (P : ℕ → Type 0) (front rest : List ℕ) → AllByRecursion P front → AllByRecursion P rest
     → AllByRecursion P (front ++ rest)
@@ -34,10 +34,10 @@ not_below : (low m : ℕ) (ns : List ℕ) → m < low → RisesFrom low ns → i
 not_below low m [] lt rises = refl
 not_below low m (n ∷ ns) lt rises = grind (arith, ne_eqb, not_below (suc n) m ns (omega (arith, rises.0)) rises.1)
 
-among_behind : (n m : ℕ) (front rest : List ℕ) → n ≤ m → AllByRecursion (λ k. k < n) front → is_number_among m rest
+among_after : (n m : ℕ) (front rest : List ℕ) → n ≤ m → AllByRecursion (λ k. k < n) front → is_number_among m rest
     ≡ is_number_among m (front ++ rest)
-among_behind n m [] rest le below = refl
-among_behind n m (k ∷ ks) rest le below = grind (arith, ne_eqb, among_behind n m ks rest le below.1)
+among_after n m [] rest le below = refl
+among_after n m (k ∷ ks) rest le below = grind (arith, ne_eqb, among_after n m ks rest le below.1)
 
 pub past_all : (count m : ℕ) (ns : List ℕ) → count ≤ m → AllByRecursion (λ n. n < count) ns → is_number_among m ns
     ≡ false
@@ -72,27 +72,27 @@ cut_more first n old new (Some m) before rises gave =
     let split : option_to_list first ++ old ≡ (option_to_list first ++ dropped) ++ m ∷ new =
     ap (λ (ns : List ℕ). option_to_list first ++ ns) gave.1.2
     ∙ sym (append_assoc (option_to_list first) dropped (m ∷ new)) in
-    let behind : RisesFrom 0 (m ∷ new) = rises_behind 0 (option_to_list first ++ dropped) (m ∷ new)
+    let after : RisesFrom 0 (m ∷ new) = rises_after 0 (option_to_list first ++ dropped) (m ∷ new)
     (subst (RisesFrom 0) split rises) in
     record {
       dropped = option_to_list first ++ dropped;
       split = split;
       below = all_joined (λ k. k < n) (option_to_list first) dropped (before_all first n before) gave.1.1;
-      rises = (gave.0, behind.1);
+      rises = (gave.0, after.1);
     }
 
 -- ---- what still comes from it
 
 pub cut_numbers : (count n : ℕ) (old new : List ℕ) → AreNumbers count old → AreDroppedBelow n old new
     → AreNumbers count new
-cut_numbers count n old new are cut = grind (arith, rises_lower, all_behind)
+cut_numbers count n old new are cut = grind (arith, rises_lower, all_after)
 
 pub cut_drops : (count n : ℕ) (old new : List ℕ) → AreNumbers count old → AreDroppedBelow n old new
     → Drops n (truths_among count old) (truths_among count new)
 cut_drops count n old new are cut =
     let then : AreNumbers count new = cut_numbers count n old new are cut in
     record {
-      rest = λ m le. among-at count m new then ∙ among_behind n m cut.dropped new le cut.below
+      rest = λ m le. among-at count m new then ∙ among_after n m cut.dropped new le cut.below
           ∙ sym (ap (is_number_among m) cut.split) ∙ sym (among-at count m old are);
       below = λ m lt. among-at count m new then ∙ not_below n m new lt cut.rises;
     }

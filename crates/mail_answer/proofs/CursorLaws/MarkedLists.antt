@@ -94,14 +94,14 @@ pub record HasMarked (start : ℕ) (list marks rest now : List Bool) : Type 0 wh
   pub long : length now ≡ length marks
   pub moved : (k : ℕ) → k < length marks → (truth_at now k || truth_at rest (start + k))
       ≡ (truth_at marks k || truth_at list (start + k))
-  pub behind : (m : ℕ) → start + length marks ≤ m → truth_at rest m ≡ truth_at list m
+  pub after : (m : ℕ) → start + length marks ≤ m → truth_at rest m ≡ truth_at list m
   pub before : (m : ℕ) → m < start → truth_at rest m ≡ false
   pub were : (m : ℕ) → truth_at rest m ≡ true → truth_at list m ≡ true
 
 -- how many numbers may still follow the first
-abbrev pub room_behind : Option ℕ → ℕ
-room_behind None = 0
-room_behind (Some n) = 2 ^ 32 - n
+abbrev pub room_after : Option ℕ → ℕ
+room_after None = 0
+room_after (Some n) = 2 ^ 32 - n
 
 -- what dropping leaves was there before
 kept : (n : ℕ) (xs ys : List Bool) → Drops n xs ys → (m : ℕ) → truth_at ys m ≡ true → truth_at xs m ≡ true
@@ -109,7 +109,7 @@ kept n xs ys drops m here = grind (arith, cases_lt, both_ways)
 
 module _ (start : ℕ) (list marks rest now : List Bool) (has : HasMarked start list marks rest now) where
   passed : ((m : ℕ) → m < start + length marks → truth_at rest m ≡ false) → Drops (start + length marks) list rest
-  passed none = record { rest = has.behind; below = none }
+  passed none = record { rest = has.after; below = none }
 
   pub ended_drops : IsFirst rest None → Drops (start + length marks) list rest
   ended_drops none = passed (λ m lt. none m)
@@ -122,7 +122,7 @@ pub record HaveMarked (start : ℕ) (lists : List WalkAhead) (marks : List Bool)
   pub long : length now ≡ length marks
   pub moved : (k : ℕ) → k < length marks → (truth_at now k || some_has (start + k) now_lists)
       ≡ (truth_at marks k || some_has (start + k) lists)
-  pub behind : (m : ℕ) → start + length marks ≤ m → some_has m now_lists ≡ some_has m lists
+  pub after : (m : ℕ) → start + length marks ≤ m → some_has m now_lists ≡ some_has m lists
   pub gone : (m : ℕ) → m < start + length marks → some_has m (take place now_lists) ≡ false
   pub first : Firsts (λ m. some_has m (take place now_lists)) least
   pub few : AreFew now_lists
@@ -149,8 +149,8 @@ module _ (start : ℕ) (lists : List WalkAhead) (marks : List Bool) (place : ℕ
         ≡ some_has m ws
     some_before m less = some-set_gone m ws place w v lt is (drops.below m less)
 
-    some_behind : (m : ℕ) → start + length marks ≤ m → some_has m (set ws place v) ≡ some_has m ws
-    some_behind m le = some-set_same m ws place w v lt is (drops.rest m le)
+    some_after : (m : ℕ) → start + length marks ≤ m → some_has m (set ws place v) ≡ some_has m ws
+    some_after m le = some-set_same m ws place w v lt is (drops.rest m le)
 
     -- for a list that stays, or for one that has come to its end
     after : (vs : List WalkAhead) (place' : ℕ) (least' : Option ℕ)
@@ -165,14 +165,14 @@ module _ (start : ℕ) (lists : List WalkAhead) (marks : List Bool) (place : ℕ
           ∙ swap_last (truth_at now k) (some_has (start + k) (set ws place v)) (truth_at w.truths (start + k))
           ∙ ap (λ (b : Bool). truth_at now k || b) (some_before (start + k) (omega (arith, less)))
           ∙ have.moved k less;
-      behind = λ m le. same m ∙ some_behind m le ∙ have.behind m le;
+      after = λ m le. same m ∙ some_after m le ∙ have.after m le;
       gone = gone;
       first = first;
       few = λ m here.
           let set_here : some_has m (set ws place v) ≡ true = sym (same m) ∙ here in
           have.few m (elim (cases_lt m (start + length marks)) [
             | inl less ↦ sym (some_before m less) ∙ or_left (some_has m (set ws place v)) (truth_at w.truths m) set_here
-            | inr le ↦ sym (some_behind m le) ∙ set_here
+            | inr le ↦ sym (some_after m le) ∙ set_here
           ]);
     }
 

@@ -40,8 +40,8 @@ from low f n = nat_le low n && f n
 from-before : (low : ℕ) (f : ℕ → Bool) (n : ℕ) → n < low → from low f n ≡ false
 from-before low f n lt = ap (λ (b : Bool). b && f n) (lt-leb low n lt)
 
-from-behind : (low : ℕ) (f : ℕ → Bool) (n : ℕ) → low ≤ n → from low f n ≡ f n
-from-behind low f n le = ap (λ (b : Bool). b && f n) (le-leb low n le)
+from-after : (low : ℕ) (f : ℕ → Bool) (n : ℕ) → low ≤ n → from low f n ≡ f n
+from-after low f n le = ap (λ (b : Bool). b && f n) (le-leb low n le)
 
 first_of_range : (f : ℕ → Bool) (k a n : ℕ) → a ≤ k → k < a + n → f k ≡ true → ((m : ℕ) → m < k → f m ≡ false)
     → filter f (range_with_len a n) ≡ k ∷ filter (from (suc k) f) (range_with_len a n)
@@ -54,21 +54,21 @@ first_of_range f k a (suc n) le lt holds none =
           skips (from (suc k) f) a n (from-before (suc k) f a (omega (arith, before))) in
           skips f a n (none a before) ∙ first_of_range f k (a + 1) n (omega (arith, before)) (omega (arith, lt)) holds
           none ∙ ap (λ (ns : List ℕ). k ∷ ns) (sym skip)
-      | inr behind ↦
-          let same : a ≡ k = omega (arith, le, behind) in
+      | inr after ↦
+          let same : a ≡ k = omega (arith, le, after) in
           let here : f a ≡ true = ap f same ∙ holds in
           let skip : filter (from (suc k) f) (range_with_len a (suc n))
           ≡ filter (from (suc k) f) (range_with_len (a + 1) n) =
           skips (from (suc k) f) a n (from-before (suc k) f a (omega (arith, same))) in
           takes f a n here ∙ ap (λ (m : ℕ). m ∷ filter f (range_with_len (a + 1) n)) same
           ∙ ap (λ (ns : List ℕ). k ∷ ns) (filter_alike f (from (suc k) f) (a + 1) n
-          (λ m above below. sym (from-behind (suc k) f m (omega (arith, above, same)))) ∙ sym skip)
+          (λ m above below. sym (from-after (suc k) f m (omega (arith, above, same)))) ∙ sym skip)
     ]
 
 -- dropping the numbers below n leaves exactly the numbers from n on
 same_from : (n count : ℕ) (old new : List Bool) → Drops n old new → numbers_to_come n count old
     ≡ filter (truth_at new) (range_with_len 0 count)
-same_from n count old new drops = grind (arith, filter_alike, cases_lt, from-before, from-behind)
+same_from n count old new drops = grind (arith, filter_alike, cases_lt, from-before, from-after)
 
 pub within_still : (n count : ℕ) (old new : List Bool) → Drops n old new → AreWithin count old → AreWithin count new
 within_still n count old new drops within m holds = grind (arith, cases_lt, both_ways)
@@ -89,12 +89,12 @@ split_range n low f a (suc k) = elim (cases_lt a n) [
       ≡ filter (from (max n low) f) (range_with_len (a + 1) k) =
       skips (from (max n low) f) a k (from-before (max n low) f a (omega (arith, before))) in
       split_one n low f a k before rest gone (from low f a) refl
-  | inr behind ↦ record {
+  | inr after ↦ record {
     dropped = [];
     below = tt;
     split = filter_alike (from low f) (from (max n low) f) a (suc k) (λ m above lt. elim (cases_lt m low) [
       | inl under ↦ from-before low f m under ∙ sym (from-before (max n low) f m (omega (arith, under)))
-      | inr over ↦ from-behind low f m over ∙ sym (from-behind (max n low) f m (omega (arith, over, above, behind)))
+      | inr over ↦ from-after low f m over ∙ sym (from-after (max n low) f m (omega (arith, over, above, after)))
     ]);
   }
 ]
@@ -134,7 +134,7 @@ takes_none n low start count old new is drops none =
     let all : numbers_to_come low count old ≡ s.dropped = s.split ∙ ap (λ (ns : List ℕ). s.dropped ++ ns) gone
     ∙ append-nil s.dropped in (
       subst (AllByRecursion (λ m. m < n)) (sym all) s.below,
-      grind (arith, none_pass, cases_lt, from-before, from-behind),
+      grind (arith, none_pass, cases_lt, from-before, from-after),
     )
 
 pub takes_one : (n low start count k : ℕ) (old new : List Bool) → start ≡ max n low → Drops start old new

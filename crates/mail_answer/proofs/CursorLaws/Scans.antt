@@ -14,8 +14,8 @@ module _ (count : ℕ) (test : ℕ → Bool) where
   told_none : (next m : ℕ) → m < next → truth_at (truths_scanned count test next None) m ≡ false
   told_none next m lt = grind (arith, cases_lt, each-at, lt-leb, each-past)
 
-  told_behind : (next m : ℕ) → m < count → next ≤ m → truth_at (truths_scanned count test next None) m ≡ test m
-  told_behind next m within le = each-at count (is_ahead test next None) m within
+  told_after : (next m : ℕ) → m < count → next ≤ m → truth_at (truths_scanned count test next None) m ≡ test m
+  told_after next m within le = each-at count (is_ahead test next None) m within
       ∙ ap (λ (b : Bool). b && test m) (le-leb next m le)
 
   told_past : (next m : ℕ) (first : Option ℕ) → count ≤ m → truth_at (truths_scanned count test next first) m ≡ false
@@ -48,7 +48,7 @@ module _ (count : ℕ) (test : ℕ → Bool) where
       → (m : ℕ) → n ≤ m
       → truth_at (truths_scanned count test next found) m ≡ truth_at (truths_scanned count test old None) m
   scan_rest n old start next found is scans m le =
-      grind (arith, cases_lt, told_past, told_none, told_behind, scan_first, told_other, cases_order, told_found)
+      grind (arith, cases_lt, told_past, told_none, told_after, scan_first, told_other, cases_order, told_found)
 
   scan_below : (n start next : ℕ) (found : Option ℕ) → n ≤ start → Scans count test start next found → (m : ℕ) → m < n
       → truth_at (truths_scanned count test next found) m ≡ false

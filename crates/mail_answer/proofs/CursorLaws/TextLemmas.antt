@@ -32,13 +32,13 @@ kept_keys passes n (k ∷ ks) = grind (arith, kept_keys passes n ks)
 -- ---- one key looked up
 
 -- keys in the order of a table are strictly sorted
-behind : (a b : Key) (ks : List Key) → slice_cmp nat_cmp (key_bytes a) (key_bytes b) ≡ Less
+after : (a b : Key) (ks : List Key) → slice_cmp nat_cmp (key_bytes a) (key_bytes b) ≡ Less
     → AllByRecursion (λ y. slice_cmp nat_cmp (key_bytes b) y ≡ Less) (map key_bytes ks)
     → AllByRecursion (λ y. slice_cmp nat_cmp (key_bytes a) y ≡ Less) (map key_bytes ks)
-behind a b [] first rest = tt
-behind a b (k ∷ ks) first rest = (
+after a b [] first rest = tt
+after a b (k ∷ ks) first rest = (
   nat_list_cmp_total.trans (key_bytes a) (key_bytes b) (key_bytes k) first rest.0,
-  behind a b ks first rest.1,
+  after a b ks first rest.1,
 )
 
 pub sorted_keys : (ks : List Key) → AllNext KeyBefore ks → AreSorted ks
@@ -48,7 +48,7 @@ sorted_keys (k ∷ []) h = (tt, tt)
 sorted_keys (a ∷ b ∷ ks) h =
     let rest = sorted_keys (b ∷ ks) h.1 in
     let first : slice_cmp nat_cmp (key_bytes a) (key_bytes b) ≡ Less = h.0 in
-    ((first, behind a b ks first rest.0), rest)
+    ((first, after a b ks first rest.0), rest)
 
 equal_from : (o : Ordering) → is_eq o ≡ true → o ≡ Equal
 equal_from o h = grind arith

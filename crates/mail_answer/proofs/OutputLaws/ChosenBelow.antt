@@ -28,7 +28,7 @@ pub threads-below : (t : Table) (numbers members : List ℕ) → AreThreads t nu
 threads-below t numbers members threads k d below =
     ((threads.each (slice_index_or members k d)).0 (each-among members k d below)).0
 
-pub is_among_behind : (n : ℕ) (done numbers : List ℕ) → is_number_among n (done ++ n ∷ numbers) ≡ true
-is_among_behind n [] numbers = or_left (nat_eq n n) (is_number_among n numbers) (eq-eqb n n refl)
-is_among_behind n (m ∷ done) numbers = or_right (nat_eq n m) (is_number_among n (done ++ n ∷ numbers))
-    (is_among_behind n done numbers)
+pub is_among_after : (n : ℕ) (done numbers : List ℕ) → is_number_among n (done ++ n ∷ numbers) ≡ true
+is_among_after n [] numbers = or_left (nat_eq n n) (is_number_among n numbers) (eq-eqb n n refl)
+is_among_after n (m ∷ done) numbers = or_right (nat_eq n m) (is_number_among n (done ++ n ∷ numbers))
+    (is_among_after n done numbers)

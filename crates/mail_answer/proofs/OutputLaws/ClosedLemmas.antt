@@ -4,7 +4,7 @@ use Rattle.mail_answer.proofs.Words.{List, [], ◌∷◌, ◌++◌, Some, length
 use Rattle.mail_answer.proofs.Words.{append-nil, arith, nat_tests, drop-append-le, drop_all, take-append-drop, is_empty}
 use Rattle.mail_answer.proofs.Words.{lines, first_length, line_end_of, length_before_feed, line_end-more}
 use Rattle.mail_answer.proofs.Words.{first_length-le, length_before_feed-le, length_before_feed-append_out, lines-cons}
-use Rattle.mail_answer.proofs.Words.{lines-nil, feed, has_feed, feeds_behind, next_text, behind_next, closed_text}
+use Rattle.mail_answer.proofs.Words.{lines-nil, feed, has_feed, feeds_after, next_text, after_next, closed_text}
 use Rattle.mail_answer.proofs.Words.{is_closed}
 use Rattle.mail_answer.proofs.Words.{last_line_of}
 use Rattle.std.specs.Str.{bytes_eq}
@@ -18,9 +18,9 @@ pub last-cons : (l : List ℕ) (b : List ℕ) → 0 < length b → last_line_of 
 last-cons l b h = let e = lines-cons b h in rw (e) refl
 
 -- the last line is decided by what follows the first line
-pub last_behind : (b x : List ℕ) → first_length b < length b → last_line_of (lines (b ++ x))
-    ≡ last_line_of (lines (behind_next b ++ x))
-last_behind b x h =
+pub last_after : (b x : List ℕ) → first_length b < length b → last_line_of (lines (b ++ x))
+    ≡ last_line_of (lines (after_next b ++ x))
+last_after b x h =
     let n : ℕ = first_length b in
     let same : n ≡ first_length (b ++ x) = line_end-more b x n (ended b h) in
     let long : length (b ++ x) ≡ length b + length x = length-append b x in
@@ -31,8 +31,8 @@ last_behind b x h =
     ∙ ap (λ r. last_line_of (take (first_length (b ++ x)) (b ++ x) ∷ lines r)) rest
     ∙ last-cons (take (first_length (b ++ x)) (b ++ x)) (drop n b ++ x) some
 
-closed_behind : (b x : List ℕ) → first_length b < length b → is_closed (b ++ x) ≡ is_closed (behind_next b ++ x)
-closed_behind b x h = ap is_empty (last_behind b x h)
+closed_after : (b x : List ℕ) → first_length b < length b → is_closed (b ++ x) ≡ is_closed (after_next b ++ x)
+closed_after b x h = ap is_empty (last_after b x h)
 
 -- a single line
 single : (b : List ℕ) → 0 < length b → first_length b ≡ length b → is_closed b ≡ is_empty b
@@ -100,7 +100,7 @@ with_feeds : (b : List ℕ) → (e f g : Bool) → is_closed b ≡ e → is_clos
 unfolding closed_text
 with_feeds b e f g p q = rw (p, q) refl
 
-pub one_line : (b : List ℕ) → 0 < length b → first_length b ≡ length b → closed_text b ≡ b ++ feeds_behind b
+pub one_line : (b : List ℕ) → 0 < length b → first_length b ≡ length b → closed_text b ≡ b ++ feeds_after b
 one_line b h e = with_feeds b (is_empty b) (has_feed b || bytes_eq b (13 ∷ [])) true (single b h e) (feed_decides b h e)
     ∙ parts (is_empty b) (has_feed b || bytes_eq b (13 ∷ []))
   where
@@ -118,8 +118,8 @@ one_line b h e = with_feeds b (is_empty b) (has_feed b || bytes_eq b (13 ∷ [])
         go true f = ended_line b h e f ∙ ap (λ v. v || bytes_eq b (13 ∷ [])) (sym f)
         go false f = open_line b h e f ∙ cr_line b h ∙ ap (λ v. v || bytes_eq b (13 ∷ [])) (sym f)
 
-behind-length : (b : List ℕ) → length (behind_next b) + first_length b ≡ length b
-behind-length b = omega (arith, length-drop (first_length b) b, first_length-le b)
+after-length : (b : List ℕ) → length (after_next b) + first_length b ≡ length b
+after-length b = omega (arith, length-drop (first_length b) b, first_length-le b)
 
 not_last : (n m : ℕ) → n < m → nat_eq n m ≡ false
 not_last n m h = grind (arith, nat_tests)
@@ -130,16 +130,16 @@ next_front b h = let front : List ℕ = take (first_length b) b
     in rw (not_last (first_length b) (length b) h) (append-nil front)
 
 -- the first of several lines
-pub closed_more : (b : List ℕ) → 0 < length (behind_next b) → closed_text b ≡ next_text b ++ closed_text (behind_next b)
+pub closed_more : (b : List ℕ) → 0 < length (after_next b) → closed_text b ≡ next_text b ++ closed_text (after_next b)
 closed_more b z =
-    let h : first_length b < length b = omega (arith, behind-length b) in
-    let rest : List ℕ = behind_next b in
+    let h : first_length b < length b = omega (arith, after-length b) in
+    let rest : List ℕ = after_next b in
     let front : List ℕ = take (first_length b) b in
     let next : next_text b ≡ front = rw (not_last (first_length b) (length b) h) (append-nil front) in
     let whole : front ++ rest ≡ b = take-append-drop (first_length b) b in
-    let e : is_closed b ≡ is_closed rest = ap is_closed (sym (append-nil b)) ∙ closed_behind b [] h
+    let e : is_closed b ≡ is_closed rest = ap is_closed (sym (append-nil b)) ∙ closed_after b [] h
     ∙ ap is_closed (append-nil rest) in
-    with_feeds b (is_closed rest) (is_closed (rest ++ feed)) true e (closed_behind b feed h)
+    with_feeds b (is_closed rest) (is_closed (rest ++ feed)) true e (closed_after b feed h)
     ∙ parts front rest b whole (is_closed rest) (is_closed (rest ++ feed))
     ∙ ap (λ l. front ++ l) (sym (with_feeds rest (is_closed rest) (is_closed (rest ++ feed)) true refl refl))
     ∙ ap (λ l. l ++ closed_text rest) (sym next)

@@ -5,12 +5,12 @@ use Rattle.mail_answer.proofs.Words.{◌++◌, length, take, drop, refl, ap, sym
 use Rattle.mail_answer.proofs.Words.{length-append, concat, take-append_seam, drop-append_seam, nat_tests, lines}
 use Rattle.mail_answer.proofs.Words.{is_empty, first_length, length_before_feed, IsLine, AreCut, is_separator}
 use Rattle.mail_answer.proofs.Words.{length_before_feed-append_out, length_before_feed-le, first_length-le, lines-cons}
-use Rattle.mail_answer.proofs.Words.{feed, has_feed, next_text, behind_next, ends_in_return, closed_text}
+use Rattle.mail_answer.proofs.Words.{feed, has_feed, next_text, after_next, ends_in_return, closed_text}
 use Rattle.std.specs.Str.{bytes_eq}
 use Rattle.std.proofs.lemmas.List.{length-take-le}
 use Rattle.mail_answer.proofs.OutputLaws.ClosedLemmas.{closed_more, cr_line, has_feed-is, one_line}
-use Rattle.mail_answer.proofs.OutputLaws.MessageLines.{StartsNowhere, may_behind, lines-concat}
-use Rattle.mail_answer.proofs.OutputLaws.Separated.{separator-feed, return-alone, return-behind, feed_is_empty}
+use Rattle.mail_answer.proofs.OutputLaws.MessageLines.{StartsNowhere, may_after, lines-concat}
+use Rattle.mail_answer.proofs.OutputLaws.Separated.{separator-feed, return-alone, return-after, feed_is_empty}
 
 -- the first line, and the lines after it, once they are closed
 abbrev pub closed_first : List ℕ → List (List ℕ) → List ℕ
@@ -58,14 +58,14 @@ text-closed l (m ∷ ls) c other =
     let some : 0 < length rest = omega (arith, (is_line m ls c.2).some, length-append m (concat ls)) in
     let long : length b ≡ length l + length rest = length-append l rest in
     let first : first_length b ≡ length l = first-is l (m ∷ ls) c in
-    let behind : behind_next b ≡ rest = ap (λ (n : ℕ). drop n b) first ∙ drop-append_seam l rest in
+    let after : after_next b ≡ rest = ap (λ (n : ℕ). drop n b) first ∙ drop-append_seam l rest in
     let front : take (first_length b) b ≡ l = ap (λ (n : ℕ). take n b) first ∙ take-append_seam l rest in
     let not_last : nat_eq (first_length b) (length b) ≡ false = grind (arith, nat_tests) in
     let next : next_text b ≡ l = rw (not_last, front) (append-nil l) in
-    closed_more b (omega (arith, ap length behind))
-    ∙ ap (λ (t : List ℕ). t ++ closed_text (behind_next b)) next
-    ∙ ap (λ (t : List ℕ). l ++ closed_text t) behind
-    ∙ ap (λ (t : List ℕ). l ++ t) (text-closed m ls c.2 (sym (return-behind l rest some) ∙ other))
+    closed_more b (omega (arith, ap length after))
+    ∙ ap (λ (t : List ℕ). t ++ closed_text (after_next b)) next
+    ∙ ap (λ (t : List ℕ). l ++ closed_text t) after
+    ∙ ap (λ (t : List ℕ). l ++ t) (text-closed m ls c.2 (sym (return-after l rest some) ∙ other))
 
 -- ---- the lines
 
@@ -115,7 +115,7 @@ last-no l other = ap ends_in_return (sym (append-nil l)) ∙ other
 
 rest-no : (l m : List ℕ) (ls : List (List ℕ)) → AreCut (l ∷ m ∷ ls) → ends_in_return (concat (l ∷ m ∷ ls)) ≡ false
     → ends_in_return (concat (m ∷ ls)) ≡ false
-rest-no l m ls c other = grind (arith, is_line, length-append, return-behind)
+rest-no l m ls c other = grind (arith, is_line, length-append, return-after)
 
 pub separator-same : (l : List ℕ) (ls : List (List ℕ)) → AreCut (l ∷ ls) → ends_in_return (concat (l ∷ ls)) ≡ false
     → is_separator (closed_first l ls) ≡ is_separator l
@@ -138,6 +138,6 @@ inside-closed l (m ∷ ls) c other h =
     (ap (λ (v : Bool). is_empty l && v) (separator-same m ls c.2 no_rest) ∙ h.0, inside-closed m ls c.2 no_rest h.1)
 
 -- the last line is empty
-pub is-closed : (l : List ℕ) (ls : List (List ℕ)) → may_behind (is_empty (closed_first l ls)) (closed_rest l ls) ≡ true
-is-closed l [] = grind (arith, may_behind, feed_is_empty)
+pub is-closed : (l : List ℕ) (ls : List (List ℕ)) → may_after (is_empty (closed_first l ls)) (closed_rest l ls) ≡ true
+is-closed l [] = grind (arith, may_after, feed_is_empty)
 is-closed l (m ∷ ls) = is-closed m ls

@@ -3,16 +3,16 @@ use Rattle.mail_answer.proofs.Words.{◌≡◌, ◌∙◌, ℕ, zero, suc, ◌+�
 use Rattle.mail_answer.proofs.Words.{◌++◌, Option, None, Some, Result, IsErr, length, take, drop, refl, ap, sym}
 use Rattle.mail_answer.proofs.Words.{append_assoc, append-nil, arith, inl, inr, option_map, cases_lt, drop-append-le}
 use Rattle.mail_answer.proofs.Words.{drop_all, take-append-drop, take_rest, lines, first_length, first_length-le}
-use Rattle.mail_answer.proofs.Words.{first_length-positive, archive_at, feed, feeds_behind, behind_next}
-use Rattle.mail_answer.proofs.Words.{ending_of_bytes}
+use Rattle.mail_answer.proofs.Words.{first_length-positive, archive_at, feed, feeds_after, after_next, ending_of_bytes}
 use Rattle.mail_answer.proofs.Words.{feeds_of, Reading, bytes_not_passed, coming_count, IsInsideArchive, AppendsRead}
-use Rattle.mail_answer.proofs.Words.{closed_text, is_closed}
+use Rattle.mail_answer.proofs.Words.{closed_text}
+use Rattle.mail_answer.proofs.Words.{is_closed}
 use Rattle.mail_answer.proofs.Words.{last_line_of, IsIfKnown, JoinsFront, Ending, AnswerFaultKind, Sheet, Table}
 use Rattle.mail_answer.proofs.Words.{span_reading}
 use Rattle.mail_answer.proofs.Words.{record_at, known_message, Mbox}
 use Rattle.std.proofs.lemmas.List.{length-drop}
 use Rattle.mail_answer.specs.Inside.Copies.{Copies}
-use Rattle.mail_answer.proofs.OutputLaws.ClosedLemmas.{closed_more, next_front, last_behind, one_line}
+use Rattle.mail_answer.proofs.OutputLaws.ClosedLemmas.{closed_more, next_front, last_after, one_line}
 use Rattle.mail_answer.proofs.OutputLaws.ReadingLemmas.{count_known, coming_read}
 use Rattle.mail_answer.proofs.OutputLaws.Endings.{lines_single, feeds_told}
 
@@ -38,36 +38,36 @@ some_coming (Some archives) number r inside =
     (r.unread ++ take r.left (drop r.next (archive_at archives r.archive)), refl, count_known archives number r inside)
 
 -- the part after a piece
-pub inside_behind : (number : ℕ) (held : Option (List (List ℕ))) (archive next left n : ℕ) → n ≤ left
+pub inside_after : (number : ℕ) (held : Option (List (List ℕ))) (archive next left n : ℕ) → n ≤ left
     → IsInsideArchive number held (record { archive = archive; unread = []; next = next; left = left })
     → IsInsideArchive number held (record { archive = archive; unread = []; next = next + n; left = left - n })
-inside_behind number held archive next left n le h = grind arith
+inside_after number held archive next left n le h = grind arith
 
 -- ---- bytes are closed as their last line is
 
 closed_by_last-from : (most : ℕ) (b : List ℕ) → length b ≤ most → 0 < length b → closed_text b
-    ≡ b ++ feeds_behind (last_line_of (lines b))
+    ≡ b ++ feeds_after (last_line_of (lines b))
 closed_by_last-from zero b le some = absurd (omega (arith, le, some))
 closed_by_last-from (suc most) b le some =
     let positive : 0 < first_length b = first_length-positive b some in
     let within : first_length b ≤ length b = first_length-le b in
-    let rest : List ℕ = behind_next b in
+    let rest : List ℕ = after_next b in
     let front : List ℕ = take (first_length b) b in
     elim (cases_lt (first_length b) (length b)) [
       | inl more ↦
-          let behind : length rest ≡ length b - first_length b = length-drop (first_length b) b in
+          let after : length rest ≡ length b - first_length b = length-drop (first_length b) b in
           let same : last_line_of (lines b) ≡ last_line_of (lines rest) =
-          ap (λ (l : List ℕ). last_line_of (lines l)) (sym (append-nil b)) ∙ last_behind b [] more
+          ap (λ (l : List ℕ). last_line_of (lines l)) (sym (append-nil b)) ∙ last_after b [] more
           ∙ ap (λ (l : List ℕ). last_line_of (lines l)) (append-nil rest) in
-          closed_more b (omega (arith, behind, more)) ∙ ap (λ (l : List ℕ). l ++ closed_text rest) (next_front b more)
-          ∙ ap (λ (l : List ℕ). front ++ l) (closed_by_last-from most rest (omega (arith, behind, positive, le))
-          (omega (arith, behind, more)))
-          ∙ sym (append_assoc front rest (feeds_behind (last_line_of (lines rest))))
-          ∙ ap (λ (l : List ℕ). l ++ feeds_behind (last_line_of (lines rest))) (take-append-drop (first_length b) b)
-          ∙ ap (λ (l : List ℕ). b ++ feeds_behind l) (sym same)
+          closed_more b (omega (arith, after, more)) ∙ ap (λ (l : List ℕ). l ++ closed_text rest) (next_front b more)
+          ∙ ap (λ (l : List ℕ). front ++ l) (closed_by_last-from most rest (omega (arith, after, positive, le))
+          (omega (arith, after, more)))
+          ∙ sym (append_assoc front rest (feeds_after (last_line_of (lines rest))))
+          ∙ ap (λ (l : List ℕ). l ++ feeds_after (last_line_of (lines rest))) (take-append-drop (first_length b) b)
+          ∙ ap (λ (l : List ℕ). b ++ feeds_after l) (sym same)
       | inr last ↦
           let whole : first_length b ≡ length b = omega (arith, last, within) in
-          one_line b some whole ∙ ap (λ (ls : List (List ℕ)). b ++ feeds_behind (last_line_of ls))
+          one_line b some whole ∙ ap (λ (ls : List (List ℕ)). b ++ feeds_after (last_line_of ls))
           (sym (lines_single b some whole))
     ]
 
@@ -95,7 +95,7 @@ pub piece_read : (archive next left n : ℕ) (held : Option (List (List ℕ))) (
     (bytes_not_passed held (record { archive = archive; unread = []; next = next + n; left = left - n }))
 piece_read archive next left n held old new r le =
     sym (coming_read archive next left n held [] r.bytes
-    (record { bytes = r.bytes; behind = refl; number = r.number; some = r.some; known = r.known }) le) ∙ parts held
+    (record { bytes = r.bytes; after = refl; number = r.number; some = r.some; known = r.known }) le) ∙ parts held
   where
     parts : (held : Option (List (List ℕ)))
         → bytes_not_passed held (record {
@@ -111,14 +111,14 @@ piece_read archive next left n held old new r le =
     parts (Some archives) = refl
 
 -- the bytes after those that were there
-pub behind_gathered : (old piece items : List ℕ) (at : ℕ) → items ≡ old ++ piece → at ≡ length old
+pub after_gathered : (old piece items : List ℕ) (at : ℕ) → items ≡ old ++ piece → at ≡ length old
     → take (length items - at) (drop at items) ≡ piece
-behind_gathered old piece items at is long = grind (arith, take_rest, drop-append-le, drop_all)
+after_gathered old piece items at is long = grind (arith, take_rest, drop-append-le, drop_all)
 
 -- a piece and what comes after it
-pub tells_behind : (known : Option (List ℕ)) (piece rest : List ℕ) → IsIfKnown known rest
+pub tells_after : (known : Option (List ℕ)) (piece rest : List ℕ) → IsIfKnown known rest
     → IsIfKnown (option_map (λ bytes. piece ++ bytes) known) (piece ++ rest)
-tells_behind known piece rest h = grind arith
+tells_after known piece rest h = grind arith
 
 -- two pieces, one after the other
 pub pieces_more : (known : Option (List ℕ)) (text piece : List ℕ)

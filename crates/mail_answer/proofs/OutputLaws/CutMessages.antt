@@ -38,9 +38,9 @@ cut-front l [] [] c = c
 cut-front l [] (m ∷ ms) c = c.0
 cut-front l (k ∷ ls) ms c = (c.0, c.1, cut-front k ls ms c.2)
 
-cut-behind : (ls ms : List (List ℕ)) → AreCut (ls ++ ms) → AreCut ms
-cut-behind [] ms c = c
-cut-behind (l ∷ ls) ms c = cut-behind ls ms (rest-cut l (ls ++ ms) c)
+cut-after : (ls ms : List (List ℕ)) → AreCut (ls ++ ms) → AreCut ms
+cut-after [] ms c = c
+cut-after (l ∷ ls) ms c = cut-after ls ms (rest-cut l (ls ++ ms) c)
 
 -- ---- messages
 
@@ -65,7 +65,7 @@ messages-are archive offset (g ∷ gs) is c e =
     ∙ ap (λ (k : ℕ). drop k (text_of g ++ concat (all_lines gs))) long
     ∙ drop-append_seam (text_of g) (concat (all_lines gs)) in (
       record { message = is.0; each_line = cut-front g.0 g.1 (all_lines gs) c; is_text = here },
-      messages-are archive (offset + n) gs is.1 (cut-behind (lines_of g) (all_lines gs) c) next,
+      messages-are archive (offset + n) gs is.1 (cut-after (lines_of g) (all_lines gs) c) next,
     )
 
 -- the messages of an archive
@@ -77,33 +77,33 @@ messages-in archive ms e =
     let are : AreLines archive (lines archive) = lines-AreLines archive in
     let whole : archive ≡ concat groups.0 ++ concat (all_lines groups.1) =
     sym are.joined ∙ ap concat (sym h.joined) ∙ concat-append groups.0 (all_lines groups.1) in
-    let behind : drop (total groups.0) archive ≡ concat (all_lines groups.1) =
+    let after : drop (total groups.0) archive ≡ concat (all_lines groups.1) =
     ap (λ (k : ℕ). drop k archive) (total-length groups.0) ∙ ap (drop (length (concat groups.0))) whole
     ∙ drop-append_seam (concat groups.0) (concat (all_lines groups.1)) in
     let each : AreCut (all_lines groups.1) =
-    cut-behind groups.0 (all_lines groups.1) (subst AreCut (sym h.joined) are.each) in
+    cut-after groups.0 (all_lines groups.1) (subst AreCut (sym h.joined) are.each) in
     subst (Each (IsIn archive)) (accepted (is_refused (marked_lines true (lines archive)))
-    (messages_from (total groups.0) groups.1) e) (messages-are archive (total groups.0) groups.1 h.each each behind)
+    (messages_from (total groups.0) groups.1) e) (messages-are archive (total groups.0) groups.1 h.each each after)
   where
     accepted : (refused : Bool) (all : List Message) → cond refused None (Some all) ≡ Some ms → all ≡ ms
     accepted refused all h = grind arith
 
-found : (archive : List ℕ) (ms : List Message) (before : List (ℕ × ℕ)) (here : ℕ × ℕ) (behind : List (ℕ × ℕ))
-    → Each (IsIn archive) ms → map span_of ms ≡ before ++ here ∷ behind
+found : (archive : List ℕ) (ms : List Message) (before : List (ℕ × ℕ)) (here : ℕ × ℕ) (after : List (ℕ × ℕ))
+    → Each (IsIn archive) ms → map span_of ms ≡ before ++ here ∷ after
     → (g : Group) × IsText g (take here.1 (drop here.0 archive))
-found archive [] [] here behind each e = absurd (cc e)
-found archive [] (b ∷ before) here behind each e = absurd (cc e)
-found archive (m ∷ ms) [] here behind each e = grind (arith, span_of)
-found archive (m ∷ ms) (b ∷ before) here behind each e = found archive ms before here behind each.1 (cc e)
+found archive [] [] here after each e = absurd (cc e)
+found archive [] (b ∷ before) here after each e = absurd (cc e)
+found archive (m ∷ ms) [] here after each e = grind (arith, span_of)
+found archive (m ∷ ms) (b ∷ before) here after each e = found archive ms before here after each.1 (cc e)
 
 -- a text that is cut out is a message
 pub cut-out : (text : List ℕ) → IsCutOut text → (g : Group) × IsText g text
 cut-out text h = go (messages h.archive) refl h.is_cut
   where
     go : (o : Option (List Message)) → messages h.archive ≡ o → option_map (map span_of) o
-        ≡ Some (h.before ++ h.here ∷ h.behind) → (g : Group) × IsText g text
+        ≡ Some (h.before ++ h.here ∷ h.after) → (g : Group) × IsText g text
     go None e c = absurd (cc c)
     go (Some ms) e c =
         let here : (g : Group) × IsText g (take h.here.1 (drop h.here.0 h.archive)) =
-        found h.archive ms h.before h.here h.behind (messages-in h.archive ms e) (cc c) in
+        found h.archive ms h.before h.here h.after (messages-in h.archive ms e) (cc c) in
         (here.0, subst (IsText here.0) (sym h.is_text) here.1)

@@ -4,13 +4,13 @@ use Rattle.mail_answer.proofs.Words.{nat_lt, List, [], ◌∷◌, ◌++◌, leng
 use Rattle.mail_answer.proofs.Words.{arith, inl, inr, cases_lt, eqb-true, nat_tests, drop-append-le, drop_all, is_empty}
 use Rattle.mail_answer.proofs.Words.{lines, first_length, length_before_feed, line_end-more, first_length-le}
 use Rattle.mail_answer.proofs.Words.{first_length-positive, length_before_feed-le, length_before_feed-append_out}
-use Rattle.mail_answer.proofs.Words.{lines-cons, lines-nil, feed, has_feed, feeds_behind, behind_next, ending_of_line}
+use Rattle.mail_answer.proofs.Words.{lines-cons, lines-nil, feed, has_feed, feeds_after, after_next, ending_of_line}
 use Rattle.mail_answer.proofs.Words.{ending_of_bytes, line_of, with_byte, feeds_of, last_line_of, Ending, Empty, Ended}
 use Rattle.mail_answer.proofs.Words.{Return}
 use Rattle.mail_answer.proofs.Words.{Open}
 use Rattle.std.specs.Str.{bytes_eq}
 use Rattle.std.proofs.lemmas.List.{length-append, length-drop, take_all}
-use Rattle.mail_answer.proofs.OutputLaws.ClosedLemmas.{last_behind, last-cons, whole_end, whole_feed, has_feed-is}
+use Rattle.mail_answer.proofs.OutputLaws.ClosedLemmas.{last_after, last-cons, whole_end, whole_feed, has_feed-is}
 use Rattle.mail_answer.proofs.OutputLaws.ClosedLemmas.{cr_line}
 
 -- ---- single lines
@@ -42,10 +42,10 @@ one_line_of : (b : ℕ) → ending_of_bytes (b ∷ []) ≡ line_of b
 one_line_of b = single_ending (b ∷ []) (omega arith) (one_length b) ∙ one_byte b
 
 -- a line that the next byte isn't part of
-cut_behind : (b x : List ℕ) → 0 < length b → 0 < length x → length b ≡ first_length (b ++ x)
+cut_after : (b x : List ℕ) → 0 < length b → 0 < length x → length b ≡ first_length (b ++ x)
     → last_line_of (lines (b ++ x))
     ≡ last_line_of (lines x)
-cut_behind b x h some same = grind (arith, length-append, lines-cons, drop-append-le, drop_all, last-cons)
+cut_after b x h some same = grind (arith, length-append, lines-cons, drop-append-le, drop_all, last-cons)
 
 not_empty : (b : List ℕ) → has_feed b ≡ false → is_empty b ≡ false
 unfolding is_empty
@@ -134,7 +134,7 @@ byte_more b x h e none other =
           (not_return (b ++ x ∷ []) (omega (arith, long, h)))
           ∙ ap Open long ∙ rw (open_ending b none) (parts (bytes_eq b (13 ∷ [])) refl short)
       | inr full ↦
-          ap ending_of_line (cut_behind b (x ∷ []) h (omega arith) (cut (omega arith))) ∙ one_line_of x
+          ap ending_of_line (cut_after b (x ∷ []) h (omega arith) (cut (omega arith))) ∙ one_line_of x
           ∙ rw (open_ending b none, not_return b (omega arith)) (begins (omega arith))
     ]
   where
@@ -178,7 +178,7 @@ byte_more b x h e none other =
 -- a line that has its LF
 ended_more : (b : List ℕ) (x : ℕ) → 0 < length b → first_length b ≡ length b → has_feed b ≡ true
     → ending_of_bytes (b ++ x ∷ []) ≡ with_byte (ending_of_line b) x
-ended_more b x h e ended = grind (arith, line_end-more, whole_end, has_feed-is, cut_behind, one_line_of)
+ended_more b x h e ended = grind (arith, line_end-more, whole_end, has_feed-is, cut_after, one_line_of)
 
 single_more : (b : List ℕ) (x : ℕ) → 0 < length b → first_length b ≡ length b → ending_of_bytes (b ++ x ∷ [])
     ≡ with_byte (ending_of_bytes b) x
@@ -202,10 +202,10 @@ ending_more-from (suc most) (b ∷ bs) x le =
     let within : first_length all ≤ length all = first_length-le all in
     elim (cases_lt (first_length all) (length all)) [
       | inl more ↦
-          let rest : List ℕ = behind_next all in
+          let rest : List ℕ = after_next all in
           let same : ending_of_bytes all ≡ ending_of_bytes rest = ap ending_of_bytes (sym (append-nil all))
-          ∙ ap ending_of_line (last_behind all [] more) ∙ ap ending_of_bytes (append-nil rest) in
-          ap ending_of_line (last_behind all (x ∷ []) more)
+          ∙ ap ending_of_line (last_after all [] more) ∙ ap ending_of_bytes (append-nil rest) in
+          ap ending_of_line (last_after all (x ∷ []) more)
           ∙ ending_more-from most rest x (omega (arith, length-drop (first_length all) all, some, le))
           ∙ ap (λ (a : Ending). with_byte a x) (sym same)
       | inr last ↦ single_more all x (omega arith) (omega arith)
@@ -228,10 +228,10 @@ endings_more b (x ∷ xs) =
     ∙ ap (λ (e : Ending). with_bytes e xs) (ending_more b x)
 
 -- what comes before an LF makes no difference to the ending of the bytes after it
-pub ending_behind : (b rest : List ℕ) → 0 < length rest → ending_of_bytes (b ++ 10 ∷ rest) ≡ ending_of_bytes rest
+pub ending_after : (b rest : List ℕ) → 0 < length rest → ending_of_bytes (b ++ 10 ∷ rest) ≡ ending_of_bytes rest
 unfolding with_bytes
-ending_behind b [] some = absurd (omega arith)
-ending_behind b (x ∷ xs) some =
+ending_after b [] some = absurd (omega arith)
+ending_after b (x ∷ xs) some =
     endings_more b (10 ∷ x ∷ xs) ∙ ap (λ (e : Ending). with_bytes e xs) (begins (ending_of_bytes b))
     ∙ sym (endings_more [] (x ∷ xs) ∙ ap (λ (e : Ending). with_bytes (with_byte e x) xs) no_lines)
   where
@@ -240,7 +240,7 @@ ending_behind b (x ∷ xs) some =
 
 -- ---- what closes the last line
 
-pub feeds_told : (line : List ℕ) → feeds_of (ending_of_line line) ≡ feeds_behind line
+pub feeds_told : (line : List ℕ) → feeds_of (ending_of_line line) ≡ feeds_after line
 feeds_told line = go (is_empty line) (has_feed line) (bytes_eq line (13 ∷ []))
   where
     go : (e f r : Bool) → feeds_of (cond e Empty (cond f Ended (cond r Return (Open (length line)))))

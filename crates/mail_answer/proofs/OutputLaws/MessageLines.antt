@@ -18,9 +18,9 @@ StartsNowhere may [] = Unit {0}
 StartsNowhere may (l ∷ ls) = ((may && is_separator l) ≡ false) × StartsNowhere (is_empty l) ls
 
 -- whether a message may start after these lines
-abbrev pub may_behind : Bool → List (List ℕ) → Bool
-may_behind may [] = may
-may_behind may (l ∷ ls) = may_behind (is_empty l) ls
+abbrev pub may_after : Bool → List (List ℕ) → Bool
+may_after may [] = may
+may_after may (l ∷ ls) = may_after (is_empty l) ls
 
 -- a line and the lines after it
 abbrev pub Group : Type 0
@@ -33,7 +33,7 @@ pub record IsMessage (g : Group) : Type 0 where
 
 -- the last line is empty
 abbrev pub IsClosed : Group → Type 0
-IsClosed g = may_behind (is_empty g.0) g.1 ≡ true
+IsClosed g = may_after (is_empty g.0) g.1 ≡ true
 
 abbrev pub lines_of : Group → List (List ℕ)
 lines_of g = g.0 ∷ g.1
@@ -45,20 +45,20 @@ all_lines (g ∷ gs) = lines_of g ++ all_lines gs
 abbrev pub text_of : Group → List ℕ
 text_of g = concat (lines_of g)
 
-grouped-behind : (may : Bool) (ls rest : List (List ℕ)) → StartsNowhere may ls
+grouped-after : (may : Bool) (ls rest : List (List ℕ)) → StartsNowhere may ls
     → grouped_lines (marked_lines may (ls ++ rest)) ≡ (
-      ls ++ (grouped_lines (marked_lines (may_behind may ls) rest)).0,
-      (grouped_lines (marked_lines (may_behind may ls) rest)).1,
+      ls ++ (grouped_lines (marked_lines (may_after may ls) rest)).0,
+      (grouped_lines (marked_lines (may_after may ls) rest)).1,
     )
-grouped-behind may [] rest h = refl
-grouped-behind may (l ∷ ls) rest h = grind (arith, grouped-behind (is_empty l) ls rest h.1)
+grouped-after may [] rest h = refl
+grouped-after may (l ∷ ls) rest h = grind (arith, grouped-after (is_empty l) ls rest h.1)
 
 -- messages with a closing line are grouped again as they are
 grouped-messages : (gs : List Group) → Each IsMessage gs → Each IsClosed gs
     → grouped_lines (marked_lines true (all_lines gs))
     ≡ ([], gs)
 grouped-messages [] is closed = refl
-grouped-messages (g ∷ gs) is closed = grind (arith, grouped-behind, append-nil, grouped-messages gs is.1 closed.1)
+grouped-messages (g ∷ gs) is closed = grind (arith, grouped-after, append-nil, grouped-messages gs is.1 closed.1)
 
 -- a separator isn't an empty line
 pub separator-some : (l : List ℕ) → is_separator l ≡ true → is_empty l ≡ false
@@ -113,15 +113,15 @@ empty-feed (x ∷ y ∷ z ∷ xs) e n = tests (x == 10) (x == 13) (y == 10) e
     tests a b c h = grind arith
 
 -- the lines after an empty one
-behind-closed : (l : List ℕ) (ls ms : List (List ℕ)) → AreCut (l ∷ ls) → may_behind (is_empty l) ls ≡ true → AreCut ms
+after-closed : (l : List ℕ) (ls ms : List (List ℕ)) → AreCut (l ∷ ls) → may_after (is_empty l) ls ≡ true → AreCut ms
     → AreCut (l ∷ (ls ++ ms))
-behind-closed l [] [] c closed d = c
-behind-closed l [] (m ∷ ms) c closed d = (c, λ e. absurd (empty-feed l closed e), d)
-behind-closed l (k ∷ ls) ms c closed d = (c.0, c.1, behind-closed k ls ms c.2 closed d)
+after-closed l [] [] c closed d = c
+after-closed l [] (m ∷ ms) c closed d = (c, λ e. absurd (empty-feed l closed e), d)
+after-closed l (k ∷ ls) ms c closed d = (c.0, c.1, after-closed k ls ms c.2 closed d)
 
 all-cut : (gs : List Group) → Each IsClosed gs → Each (λ g. AreCut (lines_of g)) gs → AreCut (all_lines gs)
 all-cut [] closed each = tt
-all-cut (g ∷ gs) closed each = behind-closed g.0 g.1 (all_lines gs) each.0 closed.0 (all-cut gs closed.1 each.1)
+all-cut (g ∷ gs) closed each = after-closed g.0 g.1 (all_lines gs) each.0 closed.0 (all-cut gs closed.1 each.1)
 
 -- messages with a closing line, joined, are cut into these messages
 pub messages-cut : (gs : List Group) → Each IsMessage gs → Each IsClosed gs → Each (λ g. AreCut (lines_of g)) gs

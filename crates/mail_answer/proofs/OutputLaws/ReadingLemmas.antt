@@ -10,15 +10,15 @@ use Rattle.std.proofs.Math.Seq.{take-add}
 use Rattle.std.proofs.lemmas.List.{length-take-le, length-append, length-drop}
 use borrow.Rule.Slice.PartMut.{put_mid}
 
-take_behind : (front into post : List ℕ) (held n : ℕ) → length front ≡ held → n ≤ length into
+take_after : (front into post : List ℕ) (held n : ℕ) → length front ≡ held → n ≤ length into
     → take (held + n) (front ++ (into ++ post)) ≡ front ++ take n into
-take_behind front into post held n e h =
+take_after front into post held n e h =
     rw (← e) (take-append-add front (into ++ post) n ∙ ap (λ (s : List ℕ). front ++ s) (take-append-le n into post h))
 
 pub tail_read : (archive offset from n k : ℕ) (held : Option (List (List ℕ))) (old into : List ℕ) → from < length old
     → n ≤ length into → IsReadFromArchive archive offset (take n into) held
     → ReadsTail archive offset from n held old (put_mid from k old into)
-tail_read archive offset from n k held old into room bound r = grind (arith, take_behind, length-take-le)
+tail_read archive offset from n k held old into room bound r = grind (arith, take_after, length-take-le)
 
 pub tail_result : (archive offset from k : ℕ) (held : Option (List (List ℕ))) (old into : List ℕ)
     (r : Result ℕ DeviceFault) → from < length old → IfOk r (λ n. n ≤ length into)
@@ -40,7 +40,7 @@ coming_read archive next left n (Some archives) unread new r h =
     sym (drop-drop n next (archive_at archives archive)) in
     ap Some (
     ap (λ l. l ++ take (left - n) (drop (next + n) (archive_at archives archive)))
-    (r.behind ∙ ap (λ l. unread ++ l) r.known)
+    (r.after ∙ ap (λ l. unread ++ l) r.known)
     ∙ append_assoc unread (take n rest) (take (left - n) (drop (next + n) (archive_at archives archive)))
     ∙ ap (λ l. unread ++ (take n rest ++ take (left - n) l)) further
     ∙ ap (λ l. unread ++ l) (sym parts)

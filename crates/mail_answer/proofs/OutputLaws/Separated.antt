@@ -20,11 +20,11 @@ return-alone (x ∷ []) other = rw other refl
 return-alone (x ∷ y ∷ l) other = and_right (x == 13) false refl
 
 -- bytes before others don't change the last byte
-pub return-behind : (a b : List ℕ) → 0 < length b → ends_in_return (a ++ b) ≡ ends_in_return b
-return-behind [] b some = refl
-return-behind (x ∷ []) [] some = absurd (omega arith)
-return-behind (x ∷ []) (y ∷ b) some = refl
-return-behind (x ∷ z ∷ a) b some = return-behind (z ∷ a) b some
+pub return-after : (a b : List ℕ) → 0 < length b → ends_in_return (a ++ b) ≡ ends_in_return b
+return-after [] b some = refl
+return-after (x ∷ []) [] some = absurd (omega arith)
+return-after (x ∷ []) (y ∷ b) some = refl
+return-after (x ∷ z ∷ a) b some = return-after (z ∷ a) b some
 
 -- the last byte, which isn't CR
 record IsLast (l : List ℕ) : Type 0 where

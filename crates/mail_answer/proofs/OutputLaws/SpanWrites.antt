@@ -37,19 +37,19 @@ spans_more {t} {u} {v} {a} {b} {c} table done n so_far next =
 
 -- a span that wasn't written whole, before others
 pub spans_stop : {T E : Type 0} (t u v : Option (List ℕ)) (a b c : Sheet) (table : Table) (done : List ℕ) (n : ℕ)
-    (behind : List ℕ) (r : Result T E) → IsErr r
+    (after : List ℕ) (r : Result T E) → IsErr r
     → ((spans : List (List ℕ)) × AreSpansOf table done spans × AddsBytes t u a b (flat_map closed_text spans))
     → ((bytes : List ℕ) × (length bytes ≡ (record_at table.messages n).length)
     × ((text : List ℕ) × (closed_text bytes ≡ text) × JoinsFront u v b c text))
-    → WritesSpans t v a c table (done ++ n ∷ behind) r
-spans_stop {T} {E} t u v a b c table done n behind r err so_far next =
+    → WritesSpans t v a c table (done ++ n ∷ after) r
+spans_stop {T} {E} t u v a b c table done n after r err so_far next =
     let spans : List (List ℕ) = so_far.0 in
     let bytes : List ℕ = next.0 in
-    let rest = some_spans table behind in
+    let rest = some_spans table after in
     let text : flat_map closed_text spans ++ (closed_text bytes ++ flat_map closed_text rest.0)
     ≡ flat_map closed_text (spans ++ bytes ∷ rest.0) = sym (flat_map-append closed_text spans (bytes ∷ rest.0)) in (
       spans ++ bytes ∷ rest.0,
-      are_spans table done (n ∷ behind) spans (bytes ∷ rest.0) so_far.1 (ap₂ (λ k ks. k ∷ ks) next.1 rest.1),
+      are_spans table done (n ∷ after) spans (bytes ∷ rest.0) so_far.1 (ap₂ (λ k ks. k ∷ ks) next.1 rest.1),
       subst (λ (l : List ℕ). WritesText t v a c (Some l) r) text
           (writes_next t u v a b c (Some (flat_map closed_text spans))
           (Some (closed_text bytes ++ flat_map closed_text rest.0)) r

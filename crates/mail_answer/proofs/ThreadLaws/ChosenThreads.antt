@@ -15,7 +15,7 @@ below P [] n all among = absurd (cc among)
 below P (m ∷ ns) n all among =
     elim (or_cases (nat_eq n m) (is_number_among n ns) among) [
       | inl this ↦ subst P (sym (eqb-true n m this)) all.0
-      | inr behind ↦ below P ns n all.1 behind
+      | inr after ↦ below P ns n all.1 after
     ]
 
 -- one of the numbers has the value
@@ -25,8 +25,8 @@ some_from_any value r [] any = absurd (cc any)
 some_from_any value r (n ∷ ns) any =
     elim (or_cases (nat_eq r (value n)) (list_any (λ m. nat_eq r (value m)) ns) any) [
       | inl this ↦ (n, or_left (nat_eq n n) (is_number_among n ns) (eq-eqb n n refl), eqb-true r (value n) this)
-      | inr behind ↦
-          let later = some_from_any value r ns behind in
+      | inr after ↦
+          let later = some_from_any value r ns after in
           (later.0, or_right (nat_eq later.0 n) (is_number_among later.0 ns) later.1, later.2)
     ]
 
@@ -37,8 +37,8 @@ any_from_some value r m (n ∷ ns) among same =
     elim (or_cases (nat_eq m n) (is_number_among m ns) among) [
       | inl this ↦ or_left (nat_eq r (value n)) (list_any (λ k. nat_eq r (value k)) ns)
           (eq-eqb r (value n) (same ∙ ap value (eqb-true m n this)))
-      | inr behind ↦ or_right (nat_eq r (value n)) (list_any (λ k. nat_eq r (value k)) ns)
-          (any_from_some value r m ns behind same)
+      | inr after ↦ or_right (nat_eq r (value n)) (list_any (λ k. nat_eq r (value k)) ns)
+          (any_from_some value r m ns after same)
     ]
 
 -- ---- the numbers that pass a test
@@ -54,7 +54,7 @@ passed_rise test a (suc count) = grind (arith, add-one, lower, passed_rise test 
 pub from_passed : (test : ℕ → Bool) (a count n : ℕ) → is_number_among n (filter test (range_with_len a count)) ≡ true
     → (n < a + count) × (test n ≡ true)
 from_passed test a zero n among = absurd (cc among)
-from_passed test a (suc count) n among = go (test a) refl (λ behind. from_passed test (a + 1) count n behind) among
+from_passed test a (suc count) n among = go (test a) refl (λ after. from_passed test (a + 1) count n after) among
   where
     go : (passes : Bool) → test a ≡ passes
         → (is_number_among n (filter test (range_with_len (a + 1) count)) ≡ true → (n < a + 1 + count)
@@ -64,7 +64,7 @@ from_passed test a (suc count) n among = go (test a) refl (λ behind. from_passe
     go true here rest given =
         elim (or_cases (nat_eq n a) (is_number_among n (filter test (range_with_len (a + 1) count))) given) [
           | inl this ↦ let same : n ≡ a = eqb-true n a this in (omega (arith, same), ap test same ∙ here)
-          | inr behind ↦ let later : (n < a + 1 + count) × (test n ≡ true) = rest behind
+          | inr after ↦ let later : (n < a + 1 + count) × (test n ≡ true) = rest after
               in (omega (arith, later.0), later.1)
         ]
     go false here rest given = let later : (n < a + 1 + count) × (test n ≡ true) = rest given
@@ -74,7 +74,7 @@ pub to_passed : (test : ℕ → Bool) (a count n : ℕ) → a ≤ n → n < a + 
     → is_number_among n (filter test (range_with_len a count)) ≡ true
 to_passed test a zero n low high passes = absurd (omega (arith, low, high))
 to_passed test a (suc count) n low high passes =
-    go (test a) refl (λ behind. to_passed test (a + 1) count n behind (omega (arith, high)) passes)
+    go (test a) refl (λ after. to_passed test (a + 1) count n after (omega (arith, high)) passes)
   where
     go : (first : Bool) → test a ≡ first →
         (a + 1 ≤ n → is_number_among n (filter test (range_with_len (a + 1) count)) ≡ true)

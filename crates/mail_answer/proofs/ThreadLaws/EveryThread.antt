@@ -13,7 +13,7 @@ some_of p [] any = absurd (cc any)
 some_of p (x ∷ xs) any =
     elim (or_cases (p x) (list_any p xs) any) [
       | inl here ↦ (x, or_left (nat_eq x x) (is_number_among x xs) (eq-eqb x x refl), here)
-      | inr behind ↦ let later = some_of p xs behind
+      | inr after ↦ let later = some_of p xs after
           in (later.0, or_right (nat_eq later.0 x) (is_number_among later.0 xs) later.1, later.2)
     ]
 
@@ -22,7 +22,7 @@ any_of p x [] among passes = absurd (cc among)
 any_of p x (y ∷ ys) among passes =
     elim (or_cases (nat_eq x y) (is_number_among x ys) among) [
       | inl here ↦ or_left (p y) (list_any p ys) (ap p (sym (eqb-true x y here)) ∙ passes)
-      | inr behind ↦ or_right (p y) (list_any p ys) (any_of p x ys behind passes)
+      | inr after ↦ or_right (p y) (list_any p ys) (any_of p x ys after passes)
     ]
 
 any_more : (p q : ℕ → Bool) → ((x : ℕ) → p x ≡ true → q x ≡ true) → (xs : List ℕ) → list_any p xs ≡ true → list_any q xs
@@ -130,8 +130,8 @@ joined_by_link (k ∷ ks) m n h =
           (and_from (list_any (are_joined ks m) k.numbers) (list_any (are_joined ks n) k.numbers)
           (any_of (are_joined ks m) m k.numbers both.0 (joined_itself ks m))
           (any_of (are_joined ks n) n k.numbers both.1 (joined_itself ks n)))
-      | inr behind ↦ or_left (are_joined ks m n)
-          (list_any (are_joined ks m) k.numbers && list_any (are_joined ks n) k.numbers) (joined_by_link ks m n behind)
+      | inr after ↦ or_left (are_joined ks m n)
+          (list_any (are_joined ks m) k.numbers && list_any (are_joined ks n) k.numbers) (joined_by_link ks m n after)
     ]
 
 joined_by_chain : (ks : List Key) (m n : ℕ) (path : List ℕ) → IsChain (share_key ks) m path n → are_joined ks m n ≡ true

@@ -36,18 +36,18 @@ roots_linked t number other first second one two linked =
 one_of : (first n : ℕ) (ns : List ℕ) → n ≡ first → is_number_among n (first ∷ ns) ≡ true
 one_of first n ns same = or_left (nat_eq n first) (is_number_among n ns) (eq-eqb n first same)
 
-behind_first : (first n : ℕ) (ns : List ℕ) → is_number_among n ns ≡ true → is_number_among n (first ∷ ns) ≡ true
-behind_first first n ns among = or_right (nat_eq n first) (is_number_among n ns) among
+after_first : (first n : ℕ) (ns : List ℕ) → is_number_among n ns ≡ true → is_number_among n (first ∷ ns) ≡ true
+after_first first n ns among = or_right (nat_eq n first) (is_number_among n ns) among
 
 between : (first n x : ℕ) (ns : List ℕ) → is_number_among x (first ∷ ns) ≡ true → is_number_among x (first ∷ n ∷ ns)
     ≡ true
-between first n x ns among = grind (arith, or_cases, one_of, eqb-true, behind_first)
+between first n x ns among = grind (arith, or_cases, one_of, eqb-true, after_first)
 
 -- if one more number has the label of the first, all have it
 as_first : (label : ℕ → ℕ) (first n : ℕ) (ns : List ℕ) → label n ≡ label first
     → ((x : ℕ) → is_number_among x (first ∷ ns) ≡ true → label x ≡ label first)
     → (x : ℕ) → is_number_among x (first ∷ n ∷ ns) ≡ true → label x ≡ label first
-as_first label first n ns second rest x among = grind (arith, or_cases, eqb-true, behind_first)
+as_first label first n ns second rest x among = grind (arith, or_cases, eqb-true, after_first)
 
 pub united_one : (p : List ℕ) (first : ℕ) → Unites (AreBothAmong (first ∷ [])) p p
 united_one p first = grind (arith, or_cases, eqb-true)
@@ -63,7 +63,7 @@ united_more p q r first n ns one rest = record {
       rest.threads t (λ x y both. given x y (between first n x ns both.0, between first n y ns both.1))
       (one.threads t (λ x y pair. given x y (
         one_of first x (n ∷ ns) pair.0,
-        behind_first first y (n ∷ ns) (one_of n y ns pair.1),
+        after_first first y (n ∷ ns) (one_of n y ns pair.1),
       )) stays);
 }
   where
@@ -86,7 +86,7 @@ keys_more p q r k ks one rest = record {
       (list_any (λ (key : List ℕ × List ℕ). is_number_among x key.1 && is_number_among y key.1) ks) share) [
         | inl here ↦ one.united x y (and_parts (is_number_among x k.1) (is_number_among y k.1) here) label
             (rest.labels label labels)
-        | inr behind ↦ rest.united x y behind label labels
+        | inr after ↦ rest.united x y after label labels
       ];
   threads = λ t given stays.
       rest.threads t (λ x y share. given x y

@@ -10,11 +10,11 @@ not_before low (m ∷ ns) n rises among =
     let first : low ≤ m = rises.0 in
     elim (or_cases (nat_eq n m) (is_number_among n ns) among) [
       | inl this ↦ let same : n ≡ m = eqb-true n m this in omega arith
-      | inr behind ↦ let later : suc m ≤ n = not_before (suc m) ns n rises.1 behind in omega arith
+      | inr after ↦ let later : suc m ≤ n = not_before (suc m) ns n rises.1 after in omega arith
     ]
 
-behind : (m n : ℕ) (ns : List ℕ) → suc m ≤ n → is_number_among n (m ∷ ns) ≡ true → is_number_among n ns ≡ true
-behind m n ns later among = grind (arith, or_cases, eqb-true)
+after : (m n : ℕ) (ns : List ℕ) → suc m ≤ n → is_number_among n (m ∷ ns) ≡ true → is_number_among n ns ≡ true
+after m n ns later among = grind (arith, or_cases, eqb-true)
 
 first_of : (m : ℕ) (ns : List ℕ) → is_number_among m (m ∷ ns) ≡ true
 first_of m ns = or_left (nat_eq m m) (is_number_among m ns) (eq-eqb m m refl)
@@ -35,11 +35,11 @@ one_list low (x ∷ xs) (y ∷ ys) xs_rise ys_rise forth back =
     ap (λ (n : ℕ). n ∷ xs) same
     ∙ ap (λ (ns : List ℕ). y ∷ ns)
     (one_list (suc y) xs ys rest ys_rise.1
-    (λ n among. behind y n ys (not_before (suc y) xs n rest among)
+    (λ n among. after y n ys (not_before (suc y) xs n rest among)
     (forth n (or_right (nat_eq n x) (is_number_among n xs) among)))
     (λ n among.
     let later : suc y ≤ n = not_before (suc y) ys n ys_rise.1 among in
-    behind x n xs (omega arith) (back n (or_right (nat_eq n y) (is_number_among n ys) among))))
+    after x n xs (omega arith) (back n (or_right (nat_eq n y) (is_number_among n ys) among))))
 
 pub one_thread_list : (t : Table) (numbers xs ys : List ℕ) → AreThreads t numbers xs → AreThreads t numbers ys → xs ≡ ys
 one_thread_list t numbers xs ys first second = grind (arith, one_list)

@@ -9,7 +9,7 @@ use Rattle.mail_answer.specs.Marks.{each_number}
 
 -- the first number, if it was taken from its list already, and the others
 abbrev pub numbers_ahead : Option ℕ → List ℕ → List ℕ
-numbers_ahead first behind = option_to_list first ++ behind
+numbers_ahead first after = option_to_list first ++ after
 
 -- for each of `count` messages, whether it is among the numbers
 abbrev pub truths_among : ℕ → List ℕ → List Bool
@@ -17,10 +17,10 @@ truths_among count numbers = each_number count (λ n. is_number_among n numbers)
 
 -- what the list still gives, with one step for each number that wasn't taken from it yet
 abbrev pub list_ahead : ℕ → Option ℕ → List ℕ → WalkAhead
-list_ahead count first behind = record {
-  truths = truths_among count (numbers_ahead first behind);
-  left = length behind;
-  postings = length behind;
+list_ahead count first after = record {
+  truths = truths_among count (numbers_ahead first after);
+  left = length after;
+  postings = length after;
   below = 0;
 }
 

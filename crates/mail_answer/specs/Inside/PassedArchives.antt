@@ -11,5 +11,5 @@ pub record Passed : Type 0 where
 -- the rest are the archives after the passed ones, and the last path is that of the last passed one
 pub record ArePassed (archives : List Archive) (passed : ℕ) (rest : List Archive) (last : List ℕ) : Type 0 where
   pub few : length archives < 2 ^ 32
-  pub behind : rest ≡ drop passed archives
+  pub after : rest ≡ drop passed archives
   pub path : 0 < passed → last ≡ path_at archives (passed - 1)

@@ -38,7 +38,7 @@ pub record IsInsideArchive (number : ℕ) (held : Option (List (List ℕ))) (r :
 -- this many bytes of an archive, from an offset on, were appended; at least one
 pub record AppendsRead (archive offset count : ℕ) (held : Option (List (List ℕ))) (old new : List ℕ) : Type 0 where
   pub bytes : List ℕ
-  pub behind : new ≡ old ++ bytes
+  pub after : new ≡ old ++ bytes
   pub number : length bytes ≡ count
   pub some : 0 < count
   pub known : IfSome held (λ archives. bytes ≡ take count (drop offset (archive_at archives archive)))
@@ -46,6 +46,6 @@ pub record AppendsRead (archive offset count : ℕ) (held : Option (List (List �
 -- this many bytes of an archive, from an offset on, or none at its end, were put after the first `from` bytes
 pub record ReadsTail (archive offset from count : ℕ) (held : Option (List (List ℕ))) (old new : List ℕ) : Type 0 where
   pub bytes : List ℕ
-  pub behind : take (from + count) new ≡ take from old ++ bytes
+  pub after : take (from + count) new ≡ take from old ++ bytes
   pub number : length bytes ≡ count
   pub read : IsReadFromArchive archive offset bytes held

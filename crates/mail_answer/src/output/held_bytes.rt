@@ -112,7 +112,7 @@ impl HeldBytes {
     {
         make_room(&mut self.room, self.count, most)?;
         let room = self.room.as_mut_slice();
-        let Ok(n) = read_behind(archives, archive, offset, self.count, most, room) else {
+        let Ok(n) = read_after(archives, archive, offset, self.count, most, room) else {
             return Err(AnswerFaultKind::Device);
         };
         if n == 0 {
@@ -139,7 +139,7 @@ fn make_room(room: &mut Vec<u8>, held: usize, more: usize) -> Result<(), AllocEr
 
 /// Reads at most this many bytes of an archive, from an offset on, into the room after the first `held` bytes.
 #[tactic(auto, using(crate::proofs::OutputLaws::ReadingLemmas::tail_result))]
-fn read_behind<A: Archives>(
+fn read_after<A: Archives>(
     archives: &mut A,
     archive: u32,
     offset: u64,

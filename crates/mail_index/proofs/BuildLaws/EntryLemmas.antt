@@ -16,19 +16,19 @@ front-all : (b : ℕ) (text : List ℕ) → take (length text + 1) (b ∷ text) 
 front-all b text = let long : length text + 1 ≡ length (b ∷ text) = omega arith
     in ap (λ (n : ℕ). take n (b ∷ text)) long ∙ take-length (b ∷ text)
 
-behind-none : (b : ℕ) (text : List ℕ) → drop (length text + 1) (b ∷ text) ≡ []
-behind-none b text =
+after-none : (b : ℕ) (text : List ℕ) → drop (length text + 1) (b ∷ text) ≡ []
+after-none b text =
     let long : length text + 1 ≡ length (b ∷ text) = omega arith in
     ap₂ (λ (n : ℕ) (l : List ℕ). drop n l) long (sym (append-nil (b ∷ text))) ∙ drop-append_seam (b ∷ text) []
 
 entry-none : (kind : Kind) (text bytes : List ℕ) → bytes ≡ kind_number kind ∷ text
     → AreEntryBytes bytes (length text + 1) 0
-entry-none kind text bytes e = grind (arith, front-all, kind_number, kind_of-number, behind-none, posted-nil)
+entry-none kind text bytes e = grind (arith, front-all, kind_number, kind_of-number, after-none, posted-nil)
 
 key-none : (kind : Kind) (text bytes : List ℕ) → bytes ≡ kind_number kind ∷ text
     → key_in (take (length text + 1) bytes) (drop (length text + 1) bytes)
     ≡ record { kind = kind; text = text; numbers = [] }
-key-none kind text bytes e = grind (arith, front-all, kind_number, behind-none, kind_of-number, numbers_of-nil)
+key-none kind text bytes e = grind (arith, front-all, kind_number, after-none, kind_of-number, numbers_of-nil)
 
 -- ---- the front, which is kept apart if it is short
 
@@ -48,14 +48,14 @@ holder-long kept bytes n h long = let e : nat_le n 16 ≡ false = grind (arith, 
     in subst (λ (b : Bool). n ≤ length (cond b kept (slice_index kept 0 ∷ bytes))) e long
 
 -- after a short front, which is kept apart, all other bytes are the postings
-pub behind-short : (kept bytes recent : List ℕ) (n : ℕ) → n ≤ 16 → n ≤ length (front_holder kept n bytes)
+pub after-short : (kept bytes recent : List ℕ) (n : ℕ) → n ≤ 16 → n ≤ length (front_holder kept n bytes)
     → bytes ++ recent ≡ drop n (key_bytes kept n bytes recent)
-behind-short kept bytes recent n h long = grind (arith, length-take-le, holder-short, short-front, drop_at)
+after-short kept bytes recent n h long = grind (arith, length-take-le, holder-short, short-front, drop_at)
 
 -- a long text comes before the postings, in the same bytes
-pub behind-long : (kept bytes recent : List ℕ) (m : ℕ) → 16 < m + 1 → m + 1 ≤ length (front_holder kept (m + 1) bytes)
+pub after-long : (kept bytes recent : List ℕ) (m : ℕ) → 16 < m + 1 → m + 1 ≤ length (front_holder kept (m + 1) bytes)
     → drop m bytes ++ recent ≡ drop (m + 1) (key_bytes kept (m + 1) bytes recent)
-behind-long kept bytes recent m h long = grind (arith, long-front, drop-append-le, holder-long)
+after-long kept bytes recent m h long = grind (arith, long-front, drop-append-le, holder-long)
 
 -- longer bytes hold the front too
 pub within-more : (kept old new : List ℕ) (n : ℕ) → n ≤ length (front_holder kept n old) → length old ≤ length new

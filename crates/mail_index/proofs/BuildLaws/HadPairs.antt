@@ -20,14 +20,14 @@ abbrev lies : Kind → List ℕ → Key → Ordering
 lies kind text key = key_cmp (kind_number kind) text (kind_number key.kind) key.text
 
 -- a key that isn't before a third one comes after each key that is
-behind : (xs ys zs : List ℕ) → slice_cmp nat_cmp ys zs ≡ Less → slice_cmp nat_cmp xs zs ≡ Equal
+after : (xs ys zs : List ℕ) → slice_cmp nat_cmp ys zs ≡ Less → slice_cmp nat_cmp xs zs ≡ Equal
     → slice_cmp nat_cmp xs ys ≡ Greater
-behind xs ys zs less equal = nat_list_cmp_total.congr xs zs ys equal ∙ nat_list_cmp_total.antisymm zs ys
+after xs ys zs less equal = nat_list_cmp_total.congr xs zs ys equal ∙ nat_list_cmp_total.antisymm zs ys
     ∙ ap ordering_reverse less
 
-further_behind : (xs ys zs : List ℕ) → slice_cmp nat_cmp ys zs ≡ Less → slice_cmp nat_cmp xs zs ≡ Greater
+further_after : (xs ys zs : List ℕ) → slice_cmp nat_cmp ys zs ≡ Less → slice_cmp nat_cmp xs zs ≡ Greater
     → slice_cmp nat_cmp xs ys ≡ Greater
-further_behind xs ys zs less greater =
+further_after xs ys zs less greater =
     nat_list_cmp_total.antisymm xs ys
     ∙ ap ordering_reverse (nat_list_cmp_total.trans ys zs xs less
     (nat_list_cmp_total.antisymm zs xs ∙ ap ordering_reverse greater))
@@ -52,11 +52,11 @@ with_pair-had n kind text (key ∷ ks) k t had =
         → (with_pair k t n ks ≡ ks → with_pair k t n (with_pair kind text n ks) ≡ with_pair kind text n ks)
         → with_pair k t n (step kind text n key ks p) ≡ step kind text n key ks p
     at Less e p f rest = absurd (omega (arith, ap length (had-as Less e)))
-    at Equal e Less f rest = first (behind (bytes_of k t) (bytes_of kind text) (key_bytes key) f e)
+    at Equal e Less f rest = first (after (bytes_of k t) (bytes_of kind text) (key_bytes key) f e)
     at Equal e Equal f rest = subst (λ l. with_pair k t n l ≡ l) (sym (had-as Equal e)) had
     at Equal e Greater f rest = ap (step k t n key (with_pair kind text n ks)) e
         ∙ ap (λ l. get_or l 0 key ∷ with_pair kind text n ks) (had-as Equal e)
-    at Greater e Less f rest = first (further_behind (bytes_of k t) (bytes_of kind text) (key_bytes key) f e)
+    at Greater e Less f rest = first (further_after (bytes_of k t) (bytes_of kind text) (key_bytes key) f e)
     at Greater e Equal f rest = ap (step k t n (with_one key n) ks) e
         ∙ ap (λ l. with_one key n ∷ drop 1 l) (had-as Greater e)
     at Greater e Greater f rest = ap (step k t n key (with_pair kind text n ks)) e

@@ -11,7 +11,7 @@ use Rattle.mail_index.specs.declared.build.key_front.Fronted.{Fronted}
 use Rattle.mail_index.specs.Inside.KeyMaps.{new_key, with_one, keys_by_numbers, numbers_of_slots, slot_keys, rows}
 use Rattle.mail_index.specs.Inside.KeyMaps.{in_pages}
 use Rattle.mail_index.specs.Inside.KeyMaps.{position, IsAmong, IsOrder, IsGap}
-use Rattle.mail_index.proofs.ViewLaws.LookUpLemmas.{key_bytes, before-less, behind-greater}
+use Rattle.mail_index.proofs.ViewLaws.LookUpLemmas.{key_bytes, before-less, after-greater}
 use Rattle.mail_index.proofs.BuildLaws.PageLemmas.{position-step, position-next, position-last, position-within}
 use Rattle.mail_index.proofs.BuildLaws.PageLemmas.{at-page, at-head}
 use Rattle.mail_index.proofs.Items.{all-weaker}
@@ -146,7 +146,7 @@ gap-below kind text ks (suc m) j s g h =
 gap-above : (kind : Kind) (text : List ℕ) (ks : List Key) (place j : ℕ) → AreSorted ks → IsGap kind text ks place
     → place ≤ j → j < length ks → lies_to kind text (key_at ks j) ≡ Greater
 gap-above kind text ks place j s g le lt =
-    behind-greater kind text ks no_key place j s (g.above (omega (arith, le, lt))) le lt
+    after-greater kind text ks no_key place j s (g.above (omega (arith, le, lt))) le lt
 
 -- ---- one more key
 
@@ -165,13 +165,13 @@ with_pair-new kind text n (k ∷ ks) (suc place) w below above =
     ∙ ap (λ (l : List Key). k ∷ l) (with_pair-new kind text n ks place (omega (arith, w))
     (λ j lt. below (suc j) (omega (arith, lt))) (λ j le lt. above (suc j) (omega (arith, le)) (omega (arith, lt))))
 
-all-behind : (kind : Kind) (text : List ℕ) (ks : List Key)
+all-after : (kind : Kind) (text : List ℕ) (ks : List Key)
     → ((j : ℕ) → j < length ks → lies_to kind text (key_at ks j) ≡ Greater)
     → AllByRecursion (λ y. slice_cmp nat_cmp (bytes_of kind text) y ≡ Less) (map key_bytes ks)
-all-behind kind text [] above = tt
-all-behind kind text (k ∷ ks) above = (
+all-after kind text [] above = tt
+all-after kind text (k ∷ ks) above = (
   wanted-to kind text k Greater (above 0 (omega arith)),
-  all-behind kind text ks (λ j lt. above (suc j) (omega (arith, lt))),
+  all-after kind text ks (λ j lt. above (suc j) (omega (arith, lt))),
 )
 
 all-insert : (P : List ℕ → Type 0) (ks : List Key) (place : ℕ) (k : Key) → AllByRecursion P (map key_bytes ks)
@@ -189,7 +189,7 @@ unfolding IsStrictlySortedBy
 sorted-new kind text n [] zero s w below above = (tt, tt)
 sorted-new kind text n [] (suc place) s w below above = (tt, tt)
 sorted-new kind text n (k ∷ ks) zero s w below above =
-    (all-behind kind text (k ∷ ks) (λ j lt. above j (omega arith) lt), s)
+    (all-after kind text (k ∷ ks) (λ j lt. above j (omega arith) lt), s)
 sorted-new kind text n (k ∷ ks) (suc place) s w below above = (
   all-insert (λ y. slice_cmp nat_cmp (key_bytes k) y ≡ Less) ks place (new_key kind text n) s.0 (below 0 (omega arith)),
   sorted-new kind text n ks place s.1 (omega (arith, w)) (λ j lt. below (suc j) (omega (arith, lt)))
@@ -314,13 +314,13 @@ placed-other entries i k (j ∷ order) all =
     go false e = key-other entries i j k e
 
 -- a key among those after a key comes after it
-among-behind : (entries : List Key) (i : ℕ) (first : List ℕ) (order : List ℕ) → IsAmong i order
+among-after : (entries : List Key) (i : ℕ) (first : List ℕ) (order : List ℕ) → IsAmong i order
     → AllByRecursion (λ y. slice_cmp nat_cmp first y ≡ Less) (map key_bytes (keys_by_numbers entries order))
     → slice_cmp nat_cmp first (key_bytes (key_at entries i)) ≡ Less
-among-behind entries i first [] a all = absurd a
-among-behind entries i first (j ∷ order) a all = elim a [
+among-after entries i first [] a all = absurd a
+among-after entries i first (j ∷ order) a all = elim a [
   | inl e ↦ subst (λ (m : ℕ). slice_cmp nat_cmp first (key_bytes (key_at entries m)) ≡ Less) e all.0
-  | inr b ↦ among-behind entries i first order b all.1
+  | inr b ↦ among-after entries i first order b all.1
 ]
 
 pub with_pair-found : (kind : Kind) (text : List ℕ) (n : ℕ) (entries : List Key) (i : ℕ) (order : List ℕ)
@@ -353,17 +353,17 @@ with_pair-found kind text n entries i (j ∷ order) lt equal s a =
         ap (key_at (set entries i (with_one (key_at entries i) n))) same
         ∙ get_or-set_same entries i (with_one (key_at entries i) n) no_key lt
         ∙ ap (λ (m : ℕ). with_one (key_at entries m) n) (sym same) in
-        let behind : AllByRecursion (λ y. slice_cmp nat_cmp (key_bytes (key_at entries i)) y ≡ Less)
+        let after : AllByRecursion (λ y. slice_cmp nat_cmp (key_bytes (key_at entries i)) y ≡ Less)
         (map key_bytes (keys_by_numbers entries order)) =
         subst (λ (m : ℕ). AllByRecursion (λ y. slice_cmp nat_cmp (key_bytes (key_at entries m)) y ≡ Less)
         (map key_bytes (keys_by_numbers entries order))) same s.0 in
         ap branch (wanted-to kind text (key_at entries j) Equal here)
         ∙ sym (ap₂ (λ (x : Key) (l : List Key). x ∷ l) first
-        (placed-other entries i (with_one (key_at entries i) n) order behind))
+        (placed-other entries i (with_one (key_at entries i) n) order after))
     go others false e =
         let rest : IsAmong i order = elim a [ inl f ↦ absurd (grind (arith, nat_tests)) | inr b ↦ b ] in
         let less : slice_cmp nat_cmp (key_bytes (key_at entries j)) (key_bytes (key_at entries i)) ≡ Less =
-        among-behind entries i (key_bytes (key_at entries j)) order rest s.0 in
+        among-after entries i (key_bytes (key_at entries j)) order rest s.0 in
         let greater : slice_cmp nat_cmp (bytes_of kind text) (key_bytes (key_at entries j)) ≡ Greater =
         sym (nat_list_cmp_total.congr (key_bytes (key_at entries i)) (bytes_of kind text) (key_bytes (key_at entries j))
         equal)

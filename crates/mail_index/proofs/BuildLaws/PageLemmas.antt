@@ -8,23 +8,23 @@ use Rattle.mail_index.specs.declared.build.key_front.Fronted.{Fronted}
 use Rattle.mail_index.specs.Inside.KeyMaps.{rows, in_pages, position}
 
 -- the slots after a page: each next head, and its page
-abbrev behind_page : List (List Fronted) → List Fronted → List Fronted
-behind_page rest [] = []
-behind_page rest (head ∷ heads) = head ∷ in_pages rest heads
+abbrev after_page : List (List Fronted) → List Fronted → List Fronted
+after_page rest [] = []
+after_page rest (head ∷ heads) = head ∷ in_pages rest heads
 
 -- the slots of the first page, and those after them
 pub in_pages-front : (row : List Fronted) (rest : List (List Fronted)) (heads : List Fronted)
-    → in_pages (row ∷ rest) heads ≡ row ++ behind_page rest heads
+    → in_pages (row ∷ rest) heads ≡ row ++ after_page rest heads
 in_pages-front row rest heads = grind arith
 
 -- ---- an insertion
 
-insert-behind : (xs : List Fronted) (y : Fronted) (ys : List Fronted) (i : ℕ) (n : Fronted)
+insert-after : (xs : List Fronted) (y : Fronted) (ys : List Fronted) (i : ℕ) (n : Fronted)
     → insert (xs ++ y ∷ ys) (length xs + suc i) n ≡ xs ++ y ∷ insert ys i n
-insert-behind xs y ys i n =
-    let behind : length xs + suc i - length xs ≡ suc i = omega arith in
+insert-after xs y ys i n =
+    let after : length xs + suc i - length xs ≡ suc i = omega arith in
     insert-append_right xs (y ∷ ys) (length xs) (length xs + suc i) n refl (omega arith)
-    ∙ ap (λ k. xs ++ insert (y ∷ ys) k n) behind
+    ∙ ap (λ k. xs ++ insert (y ∷ ys) k n) after
 
 pub pages-insert : (pages : List (List Fronted)) (heads : List Fronted) (page at : ℕ) (n : Fronted) → length heads
     ≡ length pages - 1 → page < length pages → at ≤ length (get_or pages page [])
@@ -34,7 +34,7 @@ pages-insert [] heads page at n b h w = absurd (omega (arith, h))
 pages-insert (row ∷ rest) heads zero at n b h w = grind (arith, in_pages-front, insert, insert-append_left)
 pages-insert (row ∷ rest) [] (suc page) at n b h w = absurd (omega (arith, b, h))
 pages-insert (row ∷ rest) (head ∷ heads) (suc page) at n b h w =
-    grind (arith, insert-behind, pages-insert rest heads page)
+    grind (arith, insert-after, pages-insert rest heads page)
 
 -- ---- positions
 
@@ -51,9 +51,9 @@ position-next (row ∷ []) page h = absurd (omega (arith, h))
 position-next (row ∷ next ∷ rest) zero h = omega arith
 position-next (row ∷ next ∷ rest) (suc page) h = omega (arith, position-next (next ∷ rest) page (omega (arith, h)))
 
-length-behind : (xs : List Fronted) (y : Fronted) (ys : List Fronted) → length (xs ++ y ∷ ys)
+length-after : (xs : List Fronted) (y : Fronted) (ys : List Fronted) → length (xs ++ y ∷ ys)
     ≡ length xs + suc (length ys)
-length-behind xs y ys = length-append xs (y ∷ ys)
+length-after xs y ys = length-append xs (y ∷ ys)
 
 pub position-last : (pages : List (List Fronted)) (heads : List Fronted) (page : ℕ) → length heads ≡ length pages - 1
     → page < length pages → length heads ≤ page
@@ -65,7 +65,7 @@ position-last (row ∷ rest) [] (suc page) b h l = absurd (omega (arith, b, h))
 position-last (row ∷ rest) (head ∷ heads) (suc page) b h l =
     grind (
       arith,
-      length-behind,
+      length-after,
       position-last rest heads page (omega (arith, b, h)) (omega (arith, h))
           (omega (arith, l)),
     )
@@ -77,21 +77,21 @@ position-within [] heads page at b h w = absurd (omega (arith, h))
 position-within (row ∷ rest) heads zero at b h w = grind (arith, in_pages-front, length-append)
 position-within (row ∷ rest) [] (suc page) at b h w = absurd (omega (arith, b, h))
 position-within (row ∷ rest) (head ∷ heads) (suc page) at b h w =
-    grind (arith, length-behind, position-within rest heads page)
+    grind (arith, length-after, position-within rest heads page)
 
 -- what comes after a head
-get_or-behind : (xs : List Fronted) (y : Fronted) (ys : List Fronted) (i : ℕ) (d : Fronted)
+get_or-after : (xs : List Fronted) (y : Fronted) (ys : List Fronted) (i : ℕ) (d : Fronted)
     → get_or (xs ++ y ∷ ys) (length xs + suc i) d ≡ get_or ys i d
-get_or-behind xs y ys i d = get_or-append-add xs (y ∷ ys) (suc i) d
+get_or-after xs y ys i d = get_or-append-add xs (y ∷ ys) (suc i) d
 
 pub at-page : (pages : List (List Fronted)) (heads : List Fronted) (page at : ℕ) (d : Fronted) → length heads
     ≡ length pages - 1 → page < length pages → at < length (get_or pages page [])
     → get_or (in_pages pages heads) (position pages page at) d ≡ get_or (get_or pages page []) at d
 at-page [] heads page at d b h w = absurd (omega (arith, h))
 at-page (row ∷ rest) heads zero at d b h w = ap (λ (l : List Fronted). get_or l at d) (in_pages-front row rest heads)
-    ∙ get_or_append_left row (behind_page rest heads) d at w
+    ∙ get_or_append_left row (after_page rest heads) d at w
 at-page (row ∷ rest) [] (suc page) at d b h w = absurd (omega (arith, b, h))
-at-page (row ∷ rest) (head ∷ heads) (suc page) at d b h w = grind (arith, get_or-behind, at-page rest heads page)
+at-page (row ∷ rest) (head ∷ heads) (suc page) at d b h w = grind (arith, get_or-after, at-page rest heads page)
 
 pub at-head : (pages : List (List Fronted)) (heads : List Fronted) (page : ℕ) (d : Fronted) → length heads
     ≡ length pages - 1 → page < length heads
@@ -101,7 +101,7 @@ at-head (row ∷ rest) [] page d b h = absurd (omega (arith, h))
 at-head (row ∷ rest) (head ∷ heads) zero d b h = get_or-append_seam row head (in_pages rest heads) d
 at-head (row ∷ rest) (head ∷ heads) (suc page) d b h =
     let few : length heads ≡ length rest - 1 = omega (arith, b, h) in
-    get_or-behind row head (in_pages rest heads) (position rest page (length (get_or rest page []))) d
+    get_or-after row head (in_pages rest heads) (position rest page (length (get_or rest page []))) d
     ∙ at-head rest heads page d few (omega (arith, h))
 
 -- ---- properties of all slots
@@ -125,7 +125,7 @@ pub all-page : (P : Fronted → Type 0) (pages : List (List Fronted)) (heads : L
     → AllByRecursion P (get_or pages page [])
 all-page P [] heads page b h all = absurd (omega (arith, h))
 all-page P (row ∷ rest) heads zero b h all =
-    (all-append P row (behind_page rest heads) (subst (AllByRecursion P) (in_pages-front row rest heads) all)).0
+    (all-append P row (after_page rest heads) (subst (AllByRecursion P) (in_pages-front row rest heads) all)).0
 all-page P (row ∷ rest) [] (suc page) b h all = absurd (omega (arith, b, h))
 all-page P (row ∷ rest) (head ∷ heads) (suc page) b h all =
     grind (
@@ -138,20 +138,20 @@ all-page P (row ∷ rest) (head ∷ heads) (suc page) b h all =
 -- ---- a split
 
 pub pages-split : (pages : List (List Fronted)) (heads : List Fronted) (page half : ℕ) (head : Fronted)
-    (behind : List Fronted) → length heads ≡ length pages - 1 → page < length pages → head ∷ behind
+    (after : List Fronted) → length heads ≡ length pages - 1 → page < length pages → head ∷ after
     ≡ drop half (get_or pages page [])
-    → in_pages (set (insert pages (suc page) behind) page (take half (get_or (insert pages (suc page) behind) page [])))
+    → in_pages (set (insert pages (suc page) after) page (take half (get_or (insert pages (suc page) after) page [])))
     (insert heads page head) ≡ in_pages pages heads
-pages-split [] heads page half head behind b h w = absurd (omega (arith, h))
-pages-split (row ∷ rest) heads zero half head behind b h w =
-    ap (λ (l : List Fronted). take half row ++ head ∷ l) (in_pages-front behind rest heads)
-    ∙ sym (append_assoc (take half row) (head ∷ behind) (behind_page rest heads))
-    ∙ ap (λ (l : List Fronted). (take half row ++ l) ++ behind_page rest heads) w
-    ∙ ap (λ (l : List Fronted). l ++ behind_page rest heads) (take-append-drop half row)
+pages-split [] heads page half head after b h w = absurd (omega (arith, h))
+pages-split (row ∷ rest) heads zero half head after b h w =
+    ap (λ (l : List Fronted). take half row ++ head ∷ l) (in_pages-front after rest heads)
+    ∙ sym (append_assoc (take half row) (head ∷ after) (after_page rest heads))
+    ∙ ap (λ (l : List Fronted). (take half row ++ l) ++ after_page rest heads) w
+    ∙ ap (λ (l : List Fronted). l ++ after_page rest heads) (take-append-drop half row)
     ∙ sym (in_pages-front row rest heads)
-pages-split (row ∷ rest) [] (suc page) half head behind b h w = absurd (omega (arith, b, h))
-pages-split (row ∷ rest) (next ∷ heads) (suc page) half head behind b h w =
-    grind (arith, pages-split rest heads page half head behind (omega (arith, b, h)) (omega (arith, h)) w)
+pages-split (row ∷ rest) [] (suc page) half head after b h w = absurd (omega (arith, b, h))
+pages-split (row ∷ rest) (next ∷ heads) (suc page) half head after b h w =
+    grind (arith, pages-split rest heads page half head after (omega (arith, b, h)) (omega (arith, h)) w)
 
 -- ---- the pages' vectors
 

@@ -46,8 +46,8 @@ is_in-last : (low : ℕ) (ns : List ℕ) (n : ℕ) → RisesFrom low ns → end_
 is_in-last low [] n r e h = absurd (omega arith)
 is_in-last low (x ∷ []) n r e h = let same : x ≡ n = omega arith in inl same
 is_in-last low (x ∷ y ∷ ns) n r e h =
-    let behind : suc x ≤ n = omega (arith, r.1.0, end_from-rises (suc y) ns r.1.1) in
-    inr (is_in-last (suc x) (y ∷ ns) n r.1 e behind)
+    let after : suc x ≤ n = omega (arith, r.1.0, end_from-rises (suc y) ns r.1.1) in
+    inr (is_in-last (suc x) (y ∷ ns) n r.1 e after)
 
 pub with_number-tells : (ns : List ℕ) (n m : ℕ) → IsIn (with_number ns n) m → IsIn ns m ⊎ (n ≡ m)
 with_number-tells ns n m = by-number (λ xs. IsIn xs m → IsIn ns m ⊎ (n ≡ m)) ns n (λ h. inl h)

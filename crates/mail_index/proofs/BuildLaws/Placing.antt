@@ -124,8 +124,8 @@ message-ended_draft d r is inside next date =
     let low : AllByRecursion (λ m. m.archive ≤ r.archive) d.table.messages =
     subst (λ (n : ℕ). AllByRecursion (λ (m : Record). m.archive ≤ n) d.table.messages) (sym next.archive)
     (archives-low_open d.table.archives d.path d.table.messages is.placed) in
-    let behind : end_of r.archive d.table.messages ≤ r.offset =
-    subst (λ (n : ℕ). end_of n d.table.messages ≤ r.offset) (sym next.archive) next.behind in
+    let after : end_of r.archive d.table.messages ≤ r.offset =
+    subst (λ (n : ℕ). end_of n d.table.messages ≤ r.offset) (sym next.archive) next.after in
     let room : length d.table.messages < d.most = is.open_message inside.1 in
     let listed : AllByRecursion (IsKey newest (suc (length d.table.messages))) d.table.keys =
     subst (λ (b : Bool). AllByRecursion (IsKey newest
@@ -143,7 +143,7 @@ message-ended_draft d r is inside next date =
       named = is.named;
       placed = all-snoc (IsMessage (with_open d.table.archives d.path)) d.table.messages r is.placed
           (message-open d.table.archives d.path r inside.0 next.archive next.within next.size date);
-      in_order = in_order-next d.table.messages r is.in_order low behind;
+      in_order = in_order-next d.table.messages r is.in_order low after;
       listed = listed-weaker (suc (length d.table.messages)) (length (d.table.messages ++ r ∷ [])) count d.table.keys
           listed;
       sorted = is.sorted;

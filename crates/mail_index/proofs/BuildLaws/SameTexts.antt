@@ -3,9 +3,9 @@ use Rattle.mail_index.proofs.Words.{◌≡◌, ◌∙◌, ℕ, ◌+◌, ◌-◌,
 use Rattle.mail_index.proofs.Words.{take-append-drop, drop-drop}
 
 -- the items after the first n, of a list of n to 2 * n: they are among the last n
-behind-first : (n : ℕ) (l : List ℕ) → n ≤ length l → length l ≤ n + n
+after-first : (n : ℕ) (l : List ℕ) → n ≤ length l → length l ≤ n + n
     → drop (n - (length l - n)) (drop (length l - n) l) ≡ drop n l
-behind-first n l low high = grind (arith, drop-drop)
+after-first n l low high = grind (arith, drop-drop)
 
 -- lists of the same length, n to 2 * n, with the same first n and the same last n items are the same
 pub same-by-ends : (n : ℕ) (a b : List ℕ) → length a ≡ length b → n ≤ length a → length a ≤ n + n
@@ -13,7 +13,7 @@ pub same-by-ends : (n : ℕ) (a b : List ℕ) → length a ≡ length b → n �
 same-by-ends n a b same low high first last =
     let low' : n ≤ length b = omega (arith, same, low) in
     let high' : length b ≤ n + n = omega (arith, same, high) in
-    let behind : drop n a ≡ drop n b =
-    sym (behind-first n a low high) ∙ ap₂ (λ (k : ℕ) (l : List ℕ). drop (n - (k - n)) l) same last
-    ∙ behind-first n b low' high' in
-    sym (take-append-drop n a) ∙ ap₂ (λ (x y : List ℕ). x ++ y) first behind ∙ take-append-drop n b
+    let after : drop n a ≡ drop n b =
+    sym (after-first n a low high) ∙ ap₂ (λ (k : ℕ) (l : List ℕ). drop (n - (k - n)) l) same last
+    ∙ after-first n b low' high' in
+    sym (take-append-drop n a) ∙ ap₂ (λ (x y : List ℕ). x ++ y) first after ∙ take-append-drop n b

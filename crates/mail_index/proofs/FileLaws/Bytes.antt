@@ -21,8 +21,8 @@ take_below (suc n) [] h i = h i
 take_below (suc n) (b ∷ bs) h zero = h zero
 take_below (suc n) (b ∷ bs) h (suc i) = take_below n bs (tail_below b bs h) i
 
-pub bytes_behind : (n : ℕ) (bytes : List ℕ) → AreBytes bytes → AreBytes (drop n bytes)
-bytes_behind n bytes h = record { below = drop_below n bytes h.below }
+pub bytes_after : (n : ℕ) (bytes : List ℕ) → AreBytes bytes → AreBytes (drop n bytes)
+bytes_after n bytes h = record { below = drop_below n bytes h.below }
 
 pub bytes_before : (n : ℕ) (bytes : List ℕ) → AreBytes bytes → AreBytes (take n bytes)
 bytes_before n bytes h = record { below = take_below n bytes h.below }

@@ -5,9 +5,9 @@ use Rattle.mail_index.proofs.Words.{record_bytes, version_number, Archive, IsArc
 use Rattle.mail_index.proofs.Words.{texts_start, HasCounts, HasArchives, HasRecords, read_archives, SpellsArchives}
 use Rattle.mail_index.proofs.Words.{AreRecords, read_records, IsLayout}
 use Rattle.mail_index.specs.declared.view.layout.Layout.{Layout}
-use Rattle.mail_index.proofs.FileLaws.Bytes.{AreBytes, bytes_behind, bytes_before, length_part}
+use Rattle.mail_index.proofs.FileLaws.Bytes.{AreBytes, bytes_after, bytes_before, length_part}
 use Rattle.mail_index.proofs.ViewLaws.ArchiveReads.{read_count}
-use Rattle.mail_index.proofs.ViewLaws.RecordSections.{shows_records, are_records_of, are_behind, in_order}
+use Rattle.mail_index.proofs.ViewLaws.RecordSections.{shows_records, are_records_of, are_records_after, in_order}
 use Rattle.mail_index.proofs.ViewLaws.Opening.{spells_these, length_records}
 
 -- what is known of a file and its layout
@@ -24,7 +24,7 @@ pub section_length : (i j : ℕ) (xs : List ℕ) → i ≤ j → j ≤ length xs
 section_length i j xs l m = length_part (j - i) (drop i xs) (omega (arith, l, m, length-drop i xs))
 
 pub section_bytes : (i j : ℕ) (xs ys : List ℕ) → ys ≡ slice_range xs i j → AreBytes xs → AreBytes ys
-section_bytes i j xs ys e b = subst AreBytes (sym e) (bytes_before (j - i) (drop i xs) (bytes_behind i xs b))
+section_bytes i j xs ys e b = subst AreBytes (sym e) (bytes_before (j - i) (drop i xs) (bytes_after i xs b))
 
 pub has_archives : (bytes : List ℕ) (l : Layout) → IsLaidOut bytes l
     → SpellsArchives (version_number l.version) l.archive_count l.archives.now
@@ -66,7 +66,7 @@ has_records bytes l f a h =
       spelled = sym f.layout.records ∙ s.spelled;
       each = s.each;
       in_order =
-          in_order 0 0 (read_records l.message_count l.records.now) s.behind;
+          in_order 0 0 (read_records l.message_count l.records.now) s.after;
     }
 
 -- only the records that are read can be those of the section
@@ -78,6 +78,6 @@ these_records bytes l f a ms h =
     let e : l.records.now ≡ flat_map record_bytes ms = f.layout.records ∙ h.spelled in
     let n : length ms ≡ l.message_count = omega (arith, ap length e, length_records ms, record_section bytes l f) in
     let r = are_records_of (version_number l.version) l.archive_count l.archives.now 0 0 l.archives.now ms
-    f.few_archives a.each refl h.each (are_behind ms h.in_order) in
+    f.few_archives a.each refl h.each (are_records_after ms h.in_order) in
     let e' : flat_map record_bytes ms ≡ l.records.now = sym e in
     transport (λ i. AreRecords (version_number l.version) l.archive_count 0 0 l.archives.now (n i) (e' i)) r

@@ -4,17 +4,17 @@ use Rattle.mail_index.proofs.Words.{◌++◌, length, take, drop, Option, refl, 
 use Rattle.mail_index.proofs.Words.{length-drop, append_assoc, unwrap_or, flat_map, take-append_seam, drop-append_seam}
 use Rattle.mail_index.proofs.Words.{take-append-drop, append-nil, AllByRecursion, from_be_bytes-to_be_bytes_4}
 use Rattle.mail_index.proofs.Words.{from_be_bytes-to_be_bytes_8, u32_at, u64_at, be32, be64, archive_bytes, IsDigest}
-use Rattle.mail_index.proofs.Words.{digest_length, read_digest, behind_digest, Archive, IsArchive, IsPath}
-use Rattle.mail_index.proofs.Words.{archive_length, behind_path, read_archive, behind_archive, read_archives}
-use Rattle.mail_index.proofs.Words.{behind_archives, HasArchive, SpellsArchives}
+use Rattle.mail_index.proofs.Words.{digest_length, read_digest, after_digest, Archive, IsArchive, IsPath}
+use Rattle.mail_index.proofs.Words.{archive_length, after_path, read_archive, after_archive, read_archives}
+use Rattle.mail_index.proofs.Words.{after_archives, HasArchive, SpellsArchives}
 use Rattle.mail_index.proofs.ViewLaws.DigestReads.{digest_back, digest_kept, digest_room}
 use Rattle.mail_index.proofs.FileLaws.Fronts.{concat_then}
 use Rattle.mail_index.proofs.FileLaws.Bytes.{AreBytes, u32_back, u64_back, length_part}
 
 -- an archive is read back from its bytes, with whatever follows them
 pub archive_back : (version : ℕ) (a : Archive) (x : List ℕ) → IsArchive version a
-    → (read_archive version (archive_bytes a ++ x) ≡ a) × (behind_archive version (archive_bytes a ++ x) ≡ x)
-unfolding read_archive behind_archive
+    → (read_archive version (archive_bytes a ++ x) ≡ a) × (after_archive version (archive_bytes a ++ x) ≡ x)
+unfolding read_archive after_archive
 archive_back version a x h =
     let r = archive_bytes a ++ x in
     let d = unwrap_or a.digest [] in
@@ -24,28 +24,28 @@ archive_back version a x h =
     let span : u64_at r 0 ≡ a.length = from_be_bytes-to_be_bytes_8 a.length (omega (arith, h.1)) in
     let path : take (u32_at r 8) (drop 12 r) ≡ a.path = ap (λ (n : ℕ). take n (drop 12 r)) size
     ∙ ap (take (length a.path)) tail ∙ take-append_seam a.path (d ++ x) in
-    let after : behind_path r ≡ d ++ x = ap (λ (n : ℕ). drop n (drop 12 r)) size ∙ ap (drop (length a.path)) tail
+    let after : after_path r ≡ d ++ x = ap (λ (n : ℕ). drop n (drop 12 r)) size ∙ ap (drop (length a.path)) tail
     ∙ drop-append_seam a.path (d ++ x) in
     let back = digest_back version a.digest x h.2 in
-    let digest : read_digest version (behind_path r) ≡ a.digest = ap (read_digest version) after ∙ back.0 in
-    let behind : behind_digest version (behind_path r) ≡ x = ap (behind_digest version) after ∙ back.1 in
-    ((λ i. record { path = path i; length = span i; digest = digest i }), behind)
+    let digest : read_digest version (after_path r) ≡ a.digest = ap (read_digest version) after ∙ back.0 in
+    let later : after_digest version (after_path r) ≡ x = ap (after_digest version) after ∙ back.1 in
+    ((λ i. record { path = path i; length = span i; digest = digest i }), later)
 
 -- bytes begin with an archive if they have room for a path, this is a valid path, and a digest follows it
 pub has_archive : (version : ℕ) (r : List ℕ) → AreBytes r → 12 ≤ length r → u32_at r 8 ≤ length (drop 12 r)
     → IsPath (take (u32_at r 8) (drop 12 r)) → u64_at r 0 ≤ 2 ^ 40
-    → IsDigest version (read_digest version (behind_path r)) → HasArchive version r
-unfolding read_archive behind_archive
+    → IsDigest version (read_digest version (after_path r)) → HasArchive version r
+unfolding read_archive after_archive
 has_archive version r h l n p s t =
     let path = take (u32_at r 8) (drop 12 r) in
-    let digest = unwrap_or (read_digest version (behind_path r)) [] in
-    let behind = behind_digest version (behind_path r) in
+    let digest = unwrap_or (read_digest version (after_path r)) [] in
+    let later = after_digest version (after_path r) in
     let size : length path ≡ u32_at r 8 = length_part (u32_at r 8) (drop 12 r) n in
-    let tail : path ++ behind_path r ≡ drop 12 r = take-append-drop (u32_at r 8) (drop 12 r) in
-    let e : archive_bytes (read_archive version r) ++ behind ≡ r =
-    concat_then (be64 (u64_at r 0) ∷ be32 (length path) ∷ path ∷ digest ∷ []) behind
+    let tail : path ++ after_path r ≡ drop 12 r = take-append-drop (u32_at r 8) (drop 12 r) in
+    let e : archive_bytes (read_archive version r) ++ later ≡ r =
+    concat_then (be64 (u64_at r 0) ∷ be32 (length path) ∷ path ∷ digest ∷ []) later
     ∙ ap (λ (x : List ℕ). be64 (u64_at r 0) ++ (be32 (length path) ++ (path ++ x)))
-    (digest_kept version (behind_path r))
+    (digest_kept version (after_path r))
     ∙ ap (λ (x : List ℕ). be64 (u64_at r 0) ++ (be32 (length path) ++ x)) tail
     ∙ ap (λ (k : ℕ). be64 (u64_at r 0) ++ (be32 k ++ drop 12 r)) size
     ∙ ap (λ (x : List ℕ). be64 (u64_at r 0) ++ x) (u32_back r 8 12 h (omega (arith, l)) refl)
@@ -62,15 +62,15 @@ pub record ArchiveFront (version : ℕ) (r : List ℕ) : Type 0 where
   pub path : u32_at r 8 ≤ length (drop 12 r)
   pub valid : IsPath (take (u32_at r 8) (drop 12 r))
   pub size : u64_at r 0 ≤ 2 ^ 40
-  pub digest : IsDigest version (read_digest version (behind_path r))
-  pub room : digest_length version ≤ length (behind_path r)
+  pub digest : IsDigest version (read_digest version (after_path r))
+  pub room : digest_length version ≤ length (after_path r)
 
 pub archive_front_of : (version : ℕ) (r : List ℕ) → HasArchive version r → ArchiveFront version r
-unfolding read_archive behind_archive
+unfolding read_archive after_archive
 archive_front_of version r h =
     let a = read_archive version r in
-    let n : length r ≡ 12 + length a.path + length (unwrap_or a.digest []) + length (behind_archive version r) =
-    ap length h.spelled ∙ length_archive a (behind_archive version r) in
+    let n : length r ≡ 12 + length a.path + length (unwrap_or a.digest []) + length (after_archive version r) =
+    ap length h.spelled ∙ length_archive a (after_archive version r) in
     let size : u32_at r 8 ≡ length a.path = ap (λ (x : List ℕ). u32_at x 8) h.spelled
     ∙ from_be_bytes-to_be_bytes_4 (length a.path) (omega (arith, h.valid.0.most)) in
     let path : u32_at r 8 ≤ length (drop 12 r) = omega (arith, n, size, length-drop 12 r) in
@@ -81,30 +81,30 @@ archive_front_of version r h =
       size = h.valid.1;
       digest = h.valid.2;
       room =
-          digest_room version (behind_path r) h.valid.2;
+          digest_room version (after_path r) h.valid.2;
     }
 
 -- the first of these archives, and the others
-behind_spelled : (version n : ℕ) (r : List ℕ) → SpellsArchives version (suc n) r → behind_archive version r
-    ≡ flat_map archive_bytes (read_archives version n (behind_archive version r))
-behind_spelled version n r h = ap (behind_archive version) h.spelled
+after_spelled : (version n : ℕ) (r : List ℕ) → SpellsArchives version (suc n) r → after_archive version r
+    ≡ flat_map archive_bytes (read_archives version n (after_archive version r))
+after_spelled version n r h = ap (after_archive version) h.spelled
     ∙ (archive_back version (read_archive version r)
-    (flat_map archive_bytes (read_archives version n (behind_archive version r))) h.each.0).1
+    (flat_map archive_bytes (read_archives version n (after_archive version r))) h.each.0).1
 
 pub spells_front : (version n : ℕ) (r : List ℕ) → SpellsArchives version (suc n) r → HasArchive version r
 spells_front version n r h = record {
   spelled = h.spelled
-      ∙ ap (λ (x : List ℕ). archive_bytes (read_archive version r) ++ x) (sym (behind_spelled version n r h));
+      ∙ ap (λ (x : List ℕ). archive_bytes (read_archive version r) ++ x) (sym (after_spelled version n r h));
   valid =
       h.each.0;
 }
 
 pub spells_rest : (version n : ℕ) (r : List ℕ) → SpellsArchives version (suc n) r
-    → SpellsArchives version n (behind_archive version r)
-spells_rest version n r h = record { spelled = behind_spelled version n r h; each = h.each.1 }
+    → SpellsArchives version n (after_archive version r)
+spells_rest version n r h = record { spelled = after_spelled version n r h; each = h.each.1 }
 
 pub spells_more : (version n : ℕ) (r : List ℕ) → HasArchive version r
-    → SpellsArchives version n (behind_archive version r) → SpellsArchives version (suc n) r
+    → SpellsArchives version n (after_archive version r) → SpellsArchives version (suc n) r
 spells_more version n r h s = record {
   spelled = h.spelled
       ∙ ap (λ (x : List ℕ). archive_bytes (read_archive version r) ++ x) s.spelled;
@@ -118,7 +118,7 @@ archives_back version [] h = refl
 archives_back version (a ∷ rest) h =
     let b = archive_back version a (flat_map archive_bytes rest) h.0 in
     let head : read_archive version (flat_map archive_bytes (a ∷ rest)) ≡ a = b.0 in
-    let tail : read_archives version (length rest) (behind_archive version (flat_map archive_bytes (a ∷ rest))) ≡ rest =
+    let tail : read_archives version (length rest) (after_archive version (flat_map archive_bytes (a ∷ rest))) ≡ rest =
     ap (read_archives version (length rest)) b.1 ∙ archives_back version rest h.1 in
     cc
 
@@ -137,45 +137,45 @@ unnamed_has_none version r tail path n e t p refuses h =
     in
     refuses (subst IsPath same f.valid)
 
-pub undigested_has_none : (version : ℕ) (r tail behind : List ℕ) (n : ℕ) → n ≡ u32_at r 8 → tail ≡ drop 12 r → behind
-    ≡ drop n tail → (IsDigest version (read_digest version behind) → ⊥)
+pub undigested_has_none : (version : ℕ) (r tail later : List ℕ) (n : ℕ) → n ≡ u32_at r 8 → tail ≡ drop 12 r → later
+    ≡ drop n tail → (IsDigest version (read_digest version later) → ⊥)
     → HasArchive version r → ⊥
-undigested_has_none version r tail behind n e t b refuses h =
+undigested_has_none version r tail later n e t b refuses h =
     let f = archive_front_of version r h in
-    let same : behind_path r ≡ behind = sym (b ∙ ap (λ (k : ℕ). drop k tail) e ∙ ap (drop (u32_at r 8)) t) in
+    let same : after_path r ≡ later = sym (b ∙ ap (λ (k : ℕ). drop k tail) e ∙ ap (drop (u32_at r 8)) t) in
     refuses (subst (λ (y : List ℕ). IsDigest version (read_digest version y)) same f.digest)
 
-pub found : (version : ℕ) (r tail path behind : List ℕ) (n s : ℕ) (digest : Option (List ℕ)) (rest : List ℕ)
+pub found : (version : ℕ) (r tail path later : List ℕ) (n s : ℕ) (digest : Option (List ℕ)) (rest : List ℕ)
     → AreBytes r → 12 ≤ length r → s ≡ u64_at r 0 → n ≡ u32_at r 8
-    → tail ≡ drop 12 r → n ≤ length tail → path ≡ take n tail → behind ≡ drop n tail → IsPath path → s ≤ 2 ^ 40
-    → IsDigest version (read_digest version behind) → digest ≡ read_digest version behind → rest
-    ≡ behind_digest version behind
+    → tail ≡ drop 12 r → n ≤ length tail → path ≡ take n tail → later ≡ drop n tail → IsPath path → s ≤ 2 ^ 40
+    → IsDigest version (read_digest version later) → digest ≡ read_digest version later → rest
+    ≡ after_digest version later
     → HasArchive version r × (record { path = path; length = s; digest = digest } ≡ read_archive version r)
-    × (rest ≡ behind_archive version r)
-unfolding read_archive behind_archive
-found version r tail path behind n s digest rest h l es en et nl ep eb valid most its ed er =
+    × (rest ≡ after_archive version r)
+unfolding read_archive after_archive
+found version r tail path later n s digest rest h l es en et nl ep eb valid most its ed er =
     let same : path ≡ take (u32_at r 8) (drop 12 r) = ep ∙ ap (λ (k : ℕ). take k tail) en ∙ ap (take (u32_at r 8)) et in
-    let after : behind ≡ behind_path r = eb ∙ ap (λ (k : ℕ). drop k tail) en ∙ ap (drop (u32_at r 8)) et in
-    let d : digest ≡ read_digest version (behind_path r) = ed ∙ ap (read_digest version) after in
+    let after : later ≡ after_path r = eb ∙ ap (λ (k : ℕ). drop k tail) en ∙ ap (drop (u32_at r 8)) et in
+    let d : digest ≡ read_digest version (after_path r) = ed ∙ ap (read_digest version) after in
     let front = subst (λ (y : List ℕ). IsDigest version (read_digest version y)) after its in (
       has_archive version r h l (omega (arith, en, ap length et, nl)) (subst IsPath same valid)
           (omega (arith, es, most)) front,
       (λ i. record { path = same i; length = es i; digest = d i }),
-      er ∙ ap (behind_digest version) after,
+      er ∙ ap (after_digest version) after,
     )
 
 -- ---- the loop over archives
 
-pub spells_step : (version n i : ℕ) (s r behind : List ℕ) → i < n
-    → (SpellsArchives version n s ↔ SpellsArchives version (n - i) r) → HasArchive version r → behind
-    ≡ behind_archive version r
-    → SpellsArchives version n s ↔ SpellsArchives version (n - (i + 1)) behind
-spells_step version n i s r behind l h a b =
+pub spells_step : (version n i : ℕ) (s r later : List ℕ) → i < n
+    → (SpellsArchives version n s ↔ SpellsArchives version (n - i) r) → HasArchive version r → later
+    ≡ after_archive version r
+    → SpellsArchives version n s ↔ SpellsArchives version (n - (i + 1)) later
+spells_step version n i s r later l h a b =
     let e : n - i ≡ suc (n - (i + 1)) = omega (arith, l) in
-    let forth : SpellsArchives version n s → SpellsArchives version (n - (i + 1)) behind =
+    let forth : SpellsArchives version n s → SpellsArchives version (n - (i + 1)) later =
     λ p. subst (SpellsArchives version (n - (i + 1))) (sym b)
     (spells_rest version (n - (i + 1)) r (subst (λ (k : ℕ). SpellsArchives version k r) e (h.0 p))) in
-    let back : SpellsArchives version (n - (i + 1)) behind → SpellsArchives version n s =
+    let back : SpellsArchives version (n - (i + 1)) later → SpellsArchives version n s =
     λ p. h.1 (subst (λ (k : ℕ). SpellsArchives version k r) (sym e)
     (spells_more version (n - (i + 1)) r a (subst (SpellsArchives version (n - (i + 1))) b p))) in
     (forth, back)
@@ -189,49 +189,49 @@ spells_stop version n i s r l h refuses p =
 
 -- ---- the walk past the first archives
 
-pub pass_step : (version count n i : ℕ) (s r behind : List ℕ) → i < n → n ≤ count → SpellsArchives version (count - i) r
-    → behind_archives version (n - i) r ≡ behind_archives version n s → behind ≡ behind_archive version r
-    → SpellsArchives version (count - (i + 1)) behind
-    × (behind_archives version (n - (i + 1)) behind ≡ behind_archives version n s)
-pass_step version count n i s r behind l b h e g =
+pub pass_step : (version count n i : ℕ) (s r later : List ℕ) → i < n → n ≤ count → SpellsArchives version (count - i) r
+    → after_archives version (n - i) r ≡ after_archives version n s → later ≡ after_archive version r
+    → SpellsArchives version (count - (i + 1)) later
+    × (after_archives version (n - (i + 1)) later ≡ after_archives version n s)
+pass_step version count n i s r later l b h e g =
     let f : count - i ≡ suc (count - (i + 1)) = omega (arith, l, b) in
     let k : n - i ≡ suc (n - (i + 1)) = omega (arith, l) in
     let spelled = spells_rest version (count - (i + 1)) r (subst (λ (j : ℕ). SpellsArchives version j r) f h) in (
       subst (SpellsArchives version (count - (i + 1))) (sym g) spelled,
-      ap (behind_archives version (n - (i + 1))) g
-          ∙ ap (λ (j : ℕ). behind_archives version j r) (sym k) ∙ e,
+      ap (after_archives version (n - (i + 1))) g
+          ∙ ap (λ (j : ℕ). after_archives version j r) (sym k) ∙ e,
     )
 
-pub behind_value : (version : ℕ) (r tail behind rest : List ℕ) (n k : ℕ) → n ≡ u32_at r 8 → tail ≡ drop 12 r → behind
-    ≡ drop n tail → k ≡ digest_length version → rest ≡ drop k behind
-    → rest ≡ behind_archive version r
-unfolding behind_archive
-behind_value version r tail behind rest n k en et eb ek er =
-    let after : behind ≡ behind_path r = eb ∙ ap (λ (j : ℕ). drop j tail) en ∙ ap (drop (u32_at r 8)) et in
-    er ∙ ap (λ (j : ℕ). drop j behind) ek ∙ ap (behind_digest version) after
+pub after_value : (version : ℕ) (r tail later rest : List ℕ) (n k : ℕ) → n ≡ u32_at r 8 → tail ≡ drop 12 r → later
+    ≡ drop n tail → k ≡ digest_length version → rest ≡ drop k later
+    → rest ≡ after_archive version r
+unfolding after_archive
+after_value version r tail later rest n k en et eb ek er =
+    let after : later ≡ after_path r = eb ∙ ap (λ (j : ℕ). drop j tail) en ∙ ap (drop (u32_at r 8)) et in
+    er ∙ ap (λ (j : ℕ). drop j later) ek ∙ ap (after_digest version) after
 
-pub behind_some : (version count : ℕ) (r behind : List ℕ) → 0 < count → SpellsArchives version count r → behind
-    ≡ behind_archive version r → SpellsArchives version (count - 1) behind
-behind_some version count r behind h h2 h3 = grind (arith, spells_rest)
+pub after_some : (version count : ℕ) (r later : List ℕ) → 0 < count → SpellsArchives version count r → later
+    ≡ after_archive version r → SpellsArchives version (count - 1) later
+after_some version count r later h h2 h3 = grind (arith, spells_rest)
 
 -- ---- lengths of archives
 
-pub archives_behind : (version n k : ℕ) (r : List ℕ) → behind_archives version (n + k) r
-    ≡ behind_archives version k (behind_archives version n r)
-archives_behind version zero k r = ap (λ (j : ℕ). behind_archives version j r) (let e : 0 + k ≡ k = omega arith in e)
-archives_behind version (suc n) k r = ap (λ (j : ℕ). behind_archives version j r)
-    (let e : suc n + k ≡ suc (n + k) = omega arith in e) ∙ archives_behind version n k (behind_archive version r)
+pub archives_after : (version n k : ℕ) (r : List ℕ) → after_archives version (n + k) r
+    ≡ after_archives version k (after_archives version n r)
+archives_after version zero k r = ap (λ (j : ℕ). after_archives version j r) (let e : 0 + k ≡ k = omega arith in e)
+archives_after version (suc n) k r = ap (λ (j : ℕ). after_archives version j r)
+    (let e : suc n + k ≡ suc (n + k) = omega arith in e) ∙ archives_after version n k (after_archive version r)
 
 pub length_at : (version count n : ℕ) (r : List ℕ) → n < count → archive_length (read_archives version count r) n
-    ≡ u64_at (behind_archives version n r) 0
+    ≡ u64_at (after_archives version n r) 0
 unfolding read_archive
 length_at version zero n r l = absurd (omega (arith, l))
 length_at version (suc count) zero r l = refl
-length_at version (suc count) (suc n) r l = length_at version count n (behind_archive version r) (omega (arith, l))
+length_at version (suc count) (suc n) r l = length_at version count n (after_archive version r) (omega (arith, l))
 
 pub read_count : (version count : ℕ) (r : List ℕ) → length (read_archives version count r) ≡ count
 read_count version zero r = refl
-read_count version (suc n) r = ap suc (read_count version n (behind_archive version r))
+read_count version (suc n) r = ap suc (read_count version n (after_archive version r))
 
 pub front_of_some : (version count : ℕ) (r : List ℕ) → 0 < count → SpellsArchives version count r
     → ArchiveFront version r
@@ -242,7 +242,7 @@ pub has_first : (version count : ℕ) (r : List ℕ) → 0 < count → SpellsArc
 has_first version count r h h2 = grind (arith, spells_front)
 
 pub archive_at : (version count n : ℕ) (r : List ℕ) → n < count → slice_get (read_archives version count r) n
-    ≡ Some (read_archive version (behind_archives version n r))
+    ≡ Some (read_archive version (after_archives version n r))
 archive_at version zero n r l = absurd (omega (arith, l))
 archive_at version (suc count) zero r l = refl
-archive_at version (suc count) (suc n) r l = archive_at version count n (behind_archive version r) (omega (arith, l))
+archive_at version (suc count) (suc n) r l = archive_at version count n (after_archive version r) (omega (arith, l))

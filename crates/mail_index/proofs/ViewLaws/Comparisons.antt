@@ -13,22 +13,22 @@ use Rattle.mail_index.proofs.ViewLaws.RunLemmas.{between-next}
 
 -- how many comparisons come after that with the key in the middle
 abbrev pub left : ℕ → Kind → List ℕ → Ordering → List Key → List Key → ℕ
-left most kind text Less before behind = comparisons_within most kind text behind
-left most kind text Equal before behind = 0
-left most kind text Greater before behind = comparisons_within most kind text before
+left most kind text Less before after = comparisons_within most kind text after
+left most kind text Equal before after = 0
+left most kind text Greater before after = comparisons_within most kind text before
 
-comparisons-more : (most : ℕ) (kind : Kind) (text : List ℕ) (ks : List Key) (k : Key) (before behind : List Key)
+comparisons-more : (most : ℕ) (kind : Kind) (text : List ℕ) (ks : List Key) (k : Key) (before after : List Key)
     (o : Ordering)
-    → drop (length ks / 2) ks ≡ k ∷ behind → take (length ks / 2) ks ≡ before → lies_to kind text k ≡ o
-    → comparisons_within (suc most) kind text ks ≡ suc (left most kind text o before behind)
-comparisons-more most kind text ks k before behind o h h2 h3 = grind (arith, comparisons_within)
+    → drop (length ks / 2) ks ≡ k ∷ after → take (length ks / 2) ks ≡ before → lies_to kind text k ≡ o
+    → comparisons_within (suc most) kind text ks ≡ suc (left most kind text o before after)
+comparisons-more most kind text ks k before after o h h2 h3 = grind (arith, comparisons_within)
 
 -- ---- there are few comparisons
 
-left-few : (most : ℕ) (kind : Kind) (text : List ℕ) (o : Ordering) (before behind : List Key) (few : ℕ)
-    → comparisons_within most kind text before ≤ few → comparisons_within most kind text behind ≤ few
-    → left most kind text o before behind ≤ few
-left-few most kind text o before behind few h h2 = grind arith
+left-few : (most : ℕ) (kind : Kind) (text : List ℕ) (o : Ordering) (before after : List Key) (few : ℕ)
+    → comparisons_within most kind text before ≤ few → comparisons_within most kind text after ≤ few
+    → left most kind text o before after ≤ few
+left-few most kind text o before after few h h2 = grind arith
 
 pub comparisons-few : (most : ℕ) (kind : Kind) (text : List ℕ) (ks : List Key) (digits : ℕ) → length ks < 2 ^ digits
     → comparisons_within most kind text ks ≤ digits
@@ -51,11 +51,11 @@ comparisons-few (suc most) kind text (k ∷ ks) digits h =
 
 -- ---- there are many if no key is the searched one
 
-left-many : (most : ℕ) (kind : Kind) (text : List ℕ) (o : Ordering) (before behind : List Key) (many : ℕ) → is_eq o
+left-many : (most : ℕ) (kind : Kind) (text : List ℕ) (o : Ordering) (before after : List Key) (many : ℕ) → is_eq o
     ≡ false
-    → many ≤ comparisons_within most kind text before → many ≤ comparisons_within most kind text behind
-    → many ≤ left most kind text o before behind
-left-many most kind text o before behind many other h h2 = grind arith
+    → many ≤ comparisons_within most kind text before → many ≤ comparisons_within most kind text after
+    → many ≤ left most kind text o before after
+left-many most kind text o before after many other h h2 = grind arith
 
 pub comparisons-many : (most : ℕ) (kind : Kind) (text : List ℕ) (ks : List Key) (digits : ℕ) → length ks ≤ most
     → AllByRecursion (λ k. is_key kind text k ≡ false) ks
@@ -144,13 +144,13 @@ compared (suc most) kind text ks low high d o some within enough lies =
 
 -- how many comparisons come after that with the key in the middle
 abbrev pub left_of : ℕ → (Key → Bool) → Bool → List Key → List Key → ℕ
-left_of most passes true before behind = bisections_within most passes behind
-left_of most passes false before behind = bisections_within most passes before
+left_of most passes true before after = bisections_within most passes after
+left_of most passes false before after = bisections_within most passes before
 
-bisections-more : (most : ℕ) (passes : Key → Bool) (ks : List Key) (k : Key) (before behind : List Key) (b : Bool)
-    → drop (length ks / 2) ks ≡ k ∷ behind → take (length ks / 2) ks ≡ before → passes k ≡ b
-    → bisections_within (suc most) passes ks ≡ suc (left_of most passes b before behind)
-bisections-more most passes ks k before behind b h h2 h3 = grind (arith, bisections_within)
+bisections-more : (most : ℕ) (passes : Key → Bool) (ks : List Key) (k : Key) (before after : List Key) (b : Bool)
+    → drop (length ks / 2) ks ≡ k ∷ after → take (length ks / 2) ks ≡ before → passes k ≡ b
+    → bisections_within (suc most) passes ks ≡ suc (left_of most passes b before after)
+bisections-more most passes ks k before after b h h2 h3 = grind (arith, bisections_within)
 
 pub bisections-none : (most : ℕ) (passes : Key → Bool) → bisections_within most passes [] ≡ 0
 bisections-none zero passes = refl
@@ -189,15 +189,15 @@ pub lies_not : (o p : Ordering) → ordering_index p ≤ ordering_index o → na
     ≡ false
 lies_not o p h = grind (arith, nat_tests)
 
-left_of-few : (most : ℕ) (passes : Key → Bool) (b : Bool) (before behind : List Key) (few : ℕ)
-    → bisections_within most passes before ≤ few → bisections_within most passes behind ≤ few
-    → left_of most passes b before behind ≤ few
-left_of-few most passes b before behind few h h2 = grind arith
+left_of-few : (most : ℕ) (passes : Key → Bool) (b : Bool) (before after : List Key) (few : ℕ)
+    → bisections_within most passes before ≤ few → bisections_within most passes after ≤ few
+    → left_of most passes b before after ≤ few
+left_of-few most passes b before after few h h2 = grind arith
 
-left_of-many : (most : ℕ) (passes : Key → Bool) (b : Bool) (before behind : List Key) (many : ℕ)
-    → many ≤ bisections_within most passes before → many ≤ bisections_within most passes behind
-    → many ≤ left_of most passes b before behind
-left_of-many most passes b before behind many h h2 = grind arith
+left_of-many : (most : ℕ) (passes : Key → Bool) (b : Bool) (before after : List Key) (many : ℕ)
+    → many ≤ bisections_within most passes before → many ≤ bisections_within most passes after
+    → many ≤ left_of most passes b before after
+left_of-many most passes b before after many h h2 = grind arith
 
 pub bisections-few : (most : ℕ) (passes : Key → Bool) (ks : List Key) (digits : ℕ) → length ks < 2 ^ digits
     → bisections_within most passes ks ≤ digits

@@ -2,7 +2,7 @@
 use Rattle.mail_index.proofs.Words.{◌≡◌, ℕ, ◌+◌, ◌<◌, ◌≤◌, true, false, nat_eq, if◌then◌else◌, List, [], ◌++◌, length}
 use Rattle.mail_index.proofs.Words.{take, drop, Option, None, Some, refl, sym, ap, ◌∙◌, arith, unwrap_or}
 use Rattle.mail_index.proofs.Words.{take-append_seam, drop-append_seam, take-append-drop, length-take, version_number}
-use Rattle.mail_index.proofs.Words.{IsDigest, digest_length, read_digest, behind_digest}
+use Rattle.mail_index.proofs.Words.{IsDigest, digest_length, read_digest, after_digest}
 use Rattle.mail_index.specs.declared.version.Version.{Version}
 use Rattle.mail_index.specs.declared.version.Version.TheVariants.{Two}
 
@@ -11,16 +11,16 @@ digest_size version d h = h.1
 
 -- a digest is read back from its bytes, with whatever follows them
 pub digest_back : (version : ℕ) (d : Option (List ℕ)) (x : List ℕ) → IsDigest version d
-    → (read_digest version (unwrap_or d [] ++ x) ≡ d) × (behind_digest version (unwrap_or d [] ++ x) ≡ x)
+    → (read_digest version (unwrap_or d [] ++ x) ≡ d) × (after_digest version (unwrap_or d [] ++ x) ≡ x)
 digest_back version None x h = rw h (refl, refl)
 digest_back version (Some d) x h =
     let size : 32 ≡ length d = sym (digest_size version d h) in
     let front : take 32 (d ++ x) ≡ d = ap (λ (n : ℕ). take n (d ++ x)) size ∙ take-append_seam d x in
-    let behind : drop 32 (d ++ x) ≡ x = ap (λ (n : ℕ). drop n (d ++ x)) size ∙ drop-append_seam d x in
-    rw h.0 (ap Some front, behind)
+    let after : drop 32 (d ++ x) ≡ x = ap (λ (n : ℕ). drop n (d ++ x)) size ∙ drop-append_seam d x in
+    rw h.0 (ap Some front, after)
 
 -- the bytes of the digest that is read, and those after it, are all bytes
-pub digest_kept : (version : ℕ) (y : List ℕ) → unwrap_or (read_digest version y) [] ++ behind_digest version y ≡ y
+pub digest_kept : (version : ℕ) (y : List ℕ) → unwrap_or (read_digest version y) [] ++ after_digest version y ≡ y
 digest_kept version y = elim (nat_eq version 1) as
     (λ b. unwrap_or (if b then None else Some (take 32 y)) [] ++ drop (if b then 0 else 32) y ≡ y) [
       | true ↦ refl
@@ -44,7 +44,7 @@ cut_digest v y e l = rw e (λ h. absurd (omega (arith, digest_room 2 y h, l)))
 pub whole_digest : (v : Version) (y d x : List ℕ) → v ≡ Two → (d ≡ take 32 y) × (x ≡ drop 32 y)
     × (length x + 32 ≡ length y)
     → IsDigest (version_number v) (read_digest (version_number v) y) × (Some d ≡ read_digest (version_number v) y)
-    × (x ≡ behind_digest (version_number v) y)
+    × (x ≡ after_digest (version_number v) y)
 whole_digest v y d x e cut =
     let size : length (take 32 y) ≡ 32 = omega (arith, length-take 32 y, cut.2) in
     rw e ((refl, size), ap Some cut.0, cut.1)

@@ -13,7 +13,7 @@ use Rattle.mail_index.proofs.Words.{EntryBefore, key_cmp, is_entry, end_before, 
 use Rattle.mail_index.proofs.Words.{IsEntryAt, AreEntries}
 use Rattle.mail_index.proofs.Items.{empty_list}
 use Rattle.mail_index.proofs.FileLaws.Fronts.{before, concat_then}
-use Rattle.mail_index.proofs.FileLaws.Bytes.{AreBytes, bytes_behind, bytes_before, u32_back, u64_back, byte_back, both}
+use Rattle.mail_index.proofs.FileLaws.Bytes.{AreBytes, bytes_after, bytes_before, u32_back, u64_back, byte_back, both}
 use Rattle.mail_index.proofs.FileLaws.Bytes.{length_part}
 use Rattle.mail_index.proofs.ViewLaws.KindNumbers.{kind_of-number, kind_passes, kind_kept, few_kinds, first_less}
 
@@ -49,7 +49,7 @@ pub record ShowsEntries (version : ℕ) (texts postings : List ℕ) (tp pp numbe
 
 pub u32_small : (d : List ℕ) (i : ℕ) → AreBytes d → u32_at d i < 2 ^ 32
 u32_small d i h =
-    let t = bytes_before 4 (drop i d) (bytes_behind i d h) in
+    let t = bytes_before 4 (drop i d) (bytes_after i d h) in
     omega (arith, t.below 0, t.below 1, t.below 2, t.below 3)
 
 entry_kept : (version : ℕ) (d : List ℕ) (tp pp : ℕ) (e : DirectoryEntry) → AreBytes d → 24 ≤ length d
@@ -129,7 +129,7 @@ shows_entries version texts postings tp pp number text (suc n) d b l h =
     let front : entry_bytes tp pp e ++ drop 24 d ≡ d =
     entry_kept version d tp pp e b long x.spelled refl size_text (sym x.text_begins) (sym x.begins) in
     let more = shows_entries version texts postings (tp + size) end (byte_at d 0) (text_at texts d) n (drop 24 d)
-    (bytes_behind 24 d b) (omega (arith, l, length-drop 24 d)) h.1 in
+    (bytes_after 24 d b) (omega (arith, l, length-drop 24 d)) h.1 in
     let tp' : tp + size ≡ tp + length e.text = omega (arith, size_text) in
     let pp' : end ≡ pp + length e.postings = omega (arith, size_postings, x.some) in
     let its_text : take size (drop tp texts) ≡ e.text = ap (λ (k : ℕ). take size (drop k texts)) (sym x.text_begins) in

@@ -8,10 +8,10 @@ lists_first : (messages : ℕ) (postings : List ℕ) (n i : ℕ) (d : List ℕ) 
 lists_first messages postings n i d l h = let e : n - i ≡ suc (n - (i + 1)) = omega (arith, l)
     in subst (λ (k : ℕ). AreLists messages postings k d) e h
 
-pub lists_step : (P : Type 0) (messages : ℕ) (postings : List ℕ) (n i : ℕ) (d behind list : List ℕ) (b : Bool) → i < n
-    → (P ↔ AreLists messages postings (n - i) d) → behind ≡ drop 24 d → list ≡ list_at postings d
-    → ((b ≡ true) ↔ IsList messages list) → b ≡ true → P ↔ AreLists messages postings (n - (i + 1)) behind
-lists_step P messages postings n i d behind list b l h eb el s t =
+pub lists_step : (P : Type 0) (messages : ℕ) (postings : List ℕ) (n i : ℕ) (d after list : List ℕ) (b : Bool) → i < n
+    → (P ↔ AreLists messages postings (n - i) d) → after ≡ drop 24 d → list ≡ list_at postings d
+    → ((b ≡ true) ↔ IsList messages list) → b ≡ true → P ↔ AreLists messages postings (n - (i + 1)) after
+lists_step P messages postings n i d after list b l h eb el s t =
     let e : n - i ≡ suc (n - (i + 1)) = omega (arith, l) in (
       λ q. subst (AreLists messages postings (n - (i + 1))) (sym eb) (lists_first messages postings n i d l (h.0 q)).1,
       λ q. h.1 (subst (λ (k : ℕ). AreLists messages postings k d) (sym e)
@@ -23,6 +23,6 @@ pub lists_stop : (P : Type 0) (messages : ℕ) (postings : List ℕ) (n i : ℕ)
     → ((b ≡ true) ↔ IsList messages list) → b ≡ false → P → ⊥
 lists_stop P messages postings n i d list b l h el s f q = grind (arith, lists_first)
 
-pub list_is : (list postings d behind : List ℕ) (p e : ℕ) → list ≡ take (e - p) (drop p postings) → p ≡ u64_at d 16 → e
-    ≡ end_before behind (length postings) → behind ≡ drop 24 d → list ≡ list_at postings d
-list_is list postings d behind p e h q r b = grind (arith, end_before)
+pub list_is : (list postings d after : List ℕ) (p e : ℕ) → list ≡ take (e - p) (drop p postings) → p ≡ u64_at d 16 → e
+    ≡ end_before after (length postings) → after ≡ drop 24 d → list ≡ list_at postings d
+list_is list postings d after p e h q r b = grind (arith, end_before)

@@ -79,10 +79,10 @@ reversed : (o : Ordering) → o ≡ Greater → ordering_reverse o ≡ Less
 reversed o h = grind arith
 
 -- keys after a higher key are higher too
-pub behind-greater : (kind : Kind) (text : List ℕ) (ks : List Key) (d : Key) (m j : ℕ) → AreSorted ks
+pub after-greater : (kind : Kind) (text : List ℕ) (ks : List Key) (d : Key) (m j : ℕ) → AreSorted ks
     → lies_to kind text (get_or ks m d) ≡ Greater → m ≤ j → j < length ks
     → lies_to kind text (get_or ks j d) ≡ Greater
-behind-greater kind text ks d m j sorted greater le within = go (nat_eq j m) refl
+after-greater kind text ks d m j sorted greater le within = go (nat_eq j m) refl
   where
     go : (t : Bool) → nat_eq j m ≡ t → lies_to kind text (get_or ks j d) ≡ Greater
     go true e = let same : j ≡ m = grind (arith, nat_tests) in ap (λ i. lies_to kind text (get_or ks i d)) same
@@ -144,7 +144,7 @@ numbers_at-met kind text ks m d sorted within equal =
     ap₂ (slice_cmp nat_cmp) (sym (get_or-map key_bytes ks j d (key_bytes d) (omega (arith, lt, within))))
     (sym (get_or-map key_bytes ks m d (key_bytes d) within))
     ∙ Less-from_sorted (slice_cmp nat_cmp) (map key_bytes ks) j m (key_bytes d) sorted lt inside in
-    let behind : slice_cmp nat_cmp wanted (key_bytes (get_or ks j d)) ≡ Greater =
+    let after : slice_cmp nat_cmp wanted (key_bytes (get_or ks j d)) ≡ Greater =
     sym (nat_list_cmp_total.congr (key_bytes (get_or ks m d)) wanted (key_bytes (get_or ks j d)) equal)
     ∙ nat_list_cmp_total.antisymm (key_bytes (get_or ks m d)) (key_bytes (get_or ks j d)) ∙ ap ordering_reverse here in
-    nat_list_cmp_total.antisymm (key_bytes (get_or ks j d)) wanted ∙ ap ordering_reverse behind) equal
+    nat_list_cmp_total.antisymm (key_bytes (get_or ks j d)) wanted ∙ ap ordering_reverse after) equal

@@ -2,7 +2,7 @@
 use Rattle.mail_index.proofs.Words.{◌≡◌, ◌∙◌, ℕ, zero, suc, ◌+◌, ◌-◌, ◌*◌, ◌/◌, ◌%◌, ◌^◌, ◌<◌, ◌≤◌, Bool, true, false}
 use Rattle.mail_index.proofs.Words.{cond, nat_lt, List, [], ◌∷◌, ◌++◌, length, Option, Some, None, refl, sym, ap, ap₂}
 use Rattle.mail_index.proofs.Words.{subst, arith, length-append, AllByRecursion, is_some, false≢true, nat_tests}
-use Rattle.mail_index.proofs.Words.{add-mul, mul_assoc, RisesFrom, leb128, postings_from, IsShort, numbers_behind}
+use Rattle.mail_index.proofs.Words.{add-mul, mul_assoc, RisesFrom, leb128, postings_from, IsShort, numbers_after}
 use Rattle.mail_index.proofs.Words.{numbers_read, ArePostings, ArePosted}
 use Rattle.mail_index.proofs.FileLaws.RecordFronts.{leb_front, leb_some}
 
@@ -12,32 +12,32 @@ use Rattle.mail_index.proofs.FileLaws.RecordFronts.{leb_front, leb_some}
 weights : (k p w : ℕ) → (p + (128 + k % 128 - 128) * w) + (k / 128) * (128 * w) ≡ p + k * w
 weights k p w = grind (arith, mul_assoc, add-mul)
 
-behind-last : (low p w b : ℕ) (bs : List ℕ) → b < 128 → numbers_behind low p w (b ∷ bs)
-    ≡ (low + (p + b * w) - 1) ∷ numbers_behind (low + (p + b * w)) 0 1 bs
-behind-last low p w b bs h = let e : nat_lt b 128 ≡ true = grind (arith, nat_tests) in rw (e, numbers_behind) refl
+after-last : (low p w b : ℕ) (bs : List ℕ) → b < 128 → numbers_after low p w (b ∷ bs)
+    ≡ (low + (p + b * w) - 1) ∷ numbers_after (low + (p + b * w)) 0 1 bs
+after-last low p w b bs h = let e : nat_lt b 128 ≡ true = grind (arith, nat_tests) in rw (e, numbers_after) refl
 
-behind-more : (low p w b : ℕ) (bs : List ℕ) → 128 ≤ b → numbers_behind low p w (b ∷ bs)
-    ≡ numbers_behind low (p + (b - 128) * w) (128 * w) bs
-behind-more low p w b bs h = let e : nat_lt b 128 ≡ false = grind (arith, nat_tests) in rw (e, numbers_behind) refl
+after-more : (low p w b : ℕ) (bs : List ℕ) → 128 ≤ b → numbers_after low p w (b ∷ bs)
+    ≡ numbers_after low (p + (b - 128) * w) (128 * w) bs
+after-more low p w b bs h = let e : nat_lt b 128 ≡ false = grind (arith, nat_tests) in rw (e, numbers_after) refl
 
 -- the numbers after a difference k has been read to its end
 abbrev told : ℕ → ℕ → List ℕ → List ℕ
-told low difference bs = (low + difference - 1) ∷ numbers_behind (low + difference) 0 1 bs
+told low difference bs = (low + difference - 1) ∷ numbers_after (low + difference) 0 1 bs
 
-numbers_behind-leb128 : (groups low p w k : ℕ) (bs : List ℕ) → IsShort (suc groups) k
-    → numbers_behind low p w (leb128 (suc groups) k ++ bs) ≡ told low (p + k * w) bs
-numbers_behind-leb128 zero low p w k bs h = grind (arith, nat_tests, behind-last)
-numbers_behind-leb128 (suc groups) low p w k bs h =
-    go (nat_lt k 128) refl (numbers_behind-leb128 groups low (p + (128 + k % 128 - 128) * w) (128 * w) (k / 128) bs h)
+numbers_after-leb128 : (groups low p w k : ℕ) (bs : List ℕ) → IsShort (suc groups) k
+    → numbers_after low p w (leb128 (suc groups) k ++ bs) ≡ told low (p + k * w) bs
+numbers_after-leb128 zero low p w k bs h = grind (arith, nat_tests, after-last)
+numbers_after-leb128 (suc groups) low p w k bs h =
+    go (nat_lt k 128) refl (numbers_after-leb128 groups low (p + (128 + k % 128 - 128) * w) (128 * w) (k / 128) bs h)
   where
     go : (t : Bool) → nat_lt k 128 ≡ t
-        → numbers_behind low (p + (128 + k % 128 - 128) * w) (128 * w) (leb128 (suc groups) (k / 128) ++ bs)
+        → numbers_after low (p + (128 + k % 128 - 128) * w) (128 * w) (leb128 (suc groups) (k / 128) ++ bs)
         ≡ told low ((p + (128 + k % 128 - 128) * w) + (k / 128) * (128 * w)) bs
-        → numbers_behind low p w (cond t (k ∷ []) ((128 + k % 128) ∷ leb128 (suc groups) (k / 128)) ++ bs)
+        → numbers_after low p w (cond t (k ∷ []) ((128 + k % 128) ∷ leb128 (suc groups) (k / 128)) ++ bs)
         ≡ told low (p + k * w) bs
-    go true e later = let small : k < 128 = grind (arith, nat_tests, e) in behind-last low p w k bs small
+    go true e later = let small : k < 128 = grind (arith, nat_tests, e) in after-last low p w k bs small
     go false e later =
-        behind-more low p w (128 + k % 128) (leb128 (suc groups) (k / 128) ++ bs) (omega arith) ∙ later
+        after-more low p w (128 + k % 128) (leb128 (suc groups) (k / 128) ++ bs) (omega arith) ∙ later
         ∙ ap (λ d. told low d bs) (weights k p w)
 
 pub numbers_read-first : (low k : ℕ) (bs : List ℕ) → IsShort 5 k → numbers_read low (leb128 5 k ++ bs)
@@ -45,7 +45,7 @@ pub numbers_read-first : (low k : ℕ) (bs : List ℕ) → IsShort 5 k → numbe
 unfolding numbers_read
 numbers_read-first low k bs h =
     let same : 0 + k * 1 ≡ k = omega arith in
-    numbers_behind-leb128 4 low 0 1 k bs h ∙ ap (λ d. told low d bs) same
+    numbers_after-leb128 4 low 0 1 k bs h ∙ ap (λ d. told low d bs) same
 
 -- ---- all numbers
 
@@ -77,20 +77,20 @@ posted-none limit low bytes (n ∷ ns) r le only none h =
     grind (arith, postings_from, short-difference, false≢true, is_some)
 
 -- a number, and the numbers after it
-pub record Front (limit low difference : ℕ) (behind ns : List ℕ) : Type 0 where
+pub record Front (limit low difference : ℕ) (after ns : List ℕ) : Type 0 where
   pub some : 0 < difference
   pub below : low + difference ≤ limit
   pub later : List ℕ
   pub numbers : ns ≡ (low + difference - 1) ∷ later
-  pub posted : ArePostings limit (low + difference) behind later
+  pub posted : ArePostings limit (low + difference) after later
 
-pub posted-front : (limit low difference : ℕ) (bytes behind ns : List ℕ) → limit ≤ 2 ^ 32 → IsShort 5 difference → bytes
-    ≡ leb128 5 difference ++ behind
-    → ArePostings limit low bytes ns → Front limit low difference behind ns
-posted-front limit low d bytes behind [] le short split h = grind (arith, leb128, leb_some)
-posted-front limit low d bytes behind (n ∷ ns) le short split h =
+pub posted-front : (limit low difference : ℕ) (bytes after ns : List ℕ) → limit ≤ 2 ^ 32 → IsShort 5 difference → bytes
+    ≡ leb128 5 difference ++ after
+    → ArePostings limit low bytes ns → Front limit low difference after ns
+posted-front limit low d bytes after [] le short split h = grind (arith, leb128, leb_some)
+posted-front limit low d bytes after (n ∷ ns) le short split h =
     let small : n < 2 ^ 32 = omega (arith, le, h.below.0) in
-    let same = leb_front 5 d (suc n - low) behind (postings_from (suc n) ns) short (short-difference n low small)
+    let same = leb_front 5 d (suc n - low) after (postings_from (suc n) ns) short (short-difference n low small)
     (sym split ∙ h.spelled) in
     let next : suc n ≡ low + d = omega (arith, same.0, h.rises.0) in
     let here : n ≡ low + d - 1 = omega (arith, next) in
@@ -107,10 +107,10 @@ posted-front limit low d bytes behind (n ∷ ns) le short split h =
     }
 
 -- a number before others
-pub posted-back : (limit low difference : ℕ) (bytes behind : List ℕ) → 0 < difference → low + difference ≤ limit → bytes
-    ≡ leb128 5 difference ++ behind
-    → ArePosted limit (low + difference) behind → ArePosted limit low bytes
-posted-back limit low d bytes behind some below split h =
+pub posted-back : (limit low difference : ℕ) (bytes after : List ℕ) → 0 < difference → low + difference ≤ limit → bytes
+    ≡ leb128 5 difference ++ after
+    → ArePosted limit (low + difference) after → ArePosted limit low bytes
+posted-back limit low d bytes after some below split h =
     let n : ℕ = low + d - 1 in
     let next : low + d ≡ suc n = omega (arith, some) in
     let again : d ≡ suc n - low = omega (arith, some) in (
@@ -124,9 +124,9 @@ posted-back limit low d bytes behind some below split h =
     )
 
 -- a difference has at least one byte
-pub posted-shorter : (difference : ℕ) (bytes behind : List ℕ) → bytes ≡ leb128 5 difference ++ behind
-    → length behind < length bytes
-posted-shorter d bytes behind split = grind (arith, leb128, length-append)
+pub posted-shorter : (difference : ℕ) (bytes after : List ℕ) → bytes ≡ leb128 5 difference ++ after
+    → length after < length bytes
+posted-shorter d bytes after split = grind (arith, leb128, length-append)
 
 -- bytes that aren't empty and begin with no difference are no postings
 pub posted-refused : (limit low : ℕ) (bytes : List ℕ) (r : Option (ℕ × List ℕ)) → limit ≤ 2 ^ 32

@@ -8,7 +8,7 @@ use Rattle.mail_index.proofs.Words.{date_number}
 use Rattle.mail_index.proofs.Words.{record_bytes, has_bit, read_flags, read_date, read_record, is_record, of_z-to_z}
 use Rattle.mail_index.proofs.Words.{leb-true, nat_tests}
 use Rattle.mail_index.proofs.FileLaws.Fronts.{before, concat_then}
-use Rattle.mail_index.proofs.FileLaws.Bytes.{AreBytes, u32_back, u64_back, byte_back, both, bytes_behind, bytes_before}
+use Rattle.mail_index.proofs.FileLaws.Bytes.{AreBytes, u32_back, u64_back, byte_back, both, bytes_after, bytes_before}
 
 -- the numbers of a record fit their fields
 pub record HasSmallFields (m : Record) : Type 0 where
@@ -51,8 +51,8 @@ record_back m x h =
           flags i;
     }
 
-pub behind_record : (m : Record) (x : List ℕ) → drop 40 (record_bytes m ++ x) ≡ x
-behind_record m x = refl
+pub after_record : (m : Record) (x : List ℕ) → drop 40 (record_bytes m ++ x) ≡ x
+after_record m x = refl
 
 rebuilt : ℕ → ℕ
 rebuilt f = bit 1 (has_bit f 1) + bit 2 (has_bit f 2) + bit 4 (has_bit f 4) + bit 8 (has_bit f 8)
@@ -88,7 +88,7 @@ date_kept b n h h2 = grind (arith, of_z-to_z, w64, nat_tests)
 
 u64_small : (r : List ℕ) (i : ℕ) → AreBytes r → i + 8 ≤ length r → u64_at r i < 2 ^ 64
 u64_small r i h l =
-    let t = bytes_before 8 (drop i r) (bytes_behind i r h) in
+    let t = bytes_before 8 (drop i r) (bytes_after i r h) in
     omega (arith, t.below 0, t.below 1, t.below 2, t.below 3, t.below 4, t.below 5, t.below 6, t.below 7)
 
 -- the bytes of a record that was read are those that it was read from

@@ -3,39 +3,41 @@ use Rattle.mail_index.proofs.Words.{◌≡◌, ℕ, zero, suc, ◌+◌, ◌-◌,
 use Rattle.mail_index.proofs.Words.{◌++◌, length, drop, Some, None, refl, sym, ap, ◌∙◌, arith, length-drop, flat_map}
 use Rattle.mail_index.proofs.Words.{IfSome, FitsSigned, w64, cast_signed, AllByRecursion, nat_tests, Record, byte_at}
 use Rattle.mail_index.proofs.Words.{u64_at, record_bytes, Archive, IsArchive, IsMessage, Follows, AllNext}
-use Rattle.mail_index.proofs.Words.{archive_length, has_bit, is_behind, behind_archives, read_archives, IsNextRecord}
+use Rattle.mail_index.proofs.Words.{archive_length, has_bit, is_after, after_archives, read_archives, IsNextRecord}
 use Rattle.mail_index.proofs.Words.{AreRecords, read_record, read_records, is_record}
 use Rattle.mail_index.proofs.Items.{empty_list}
-use Rattle.mail_index.proofs.FileLaws.Bytes.{AreBytes, bytes_behind}
+use Rattle.mail_index.proofs.FileLaws.Bytes.{AreBytes, bytes_after}
 use Rattle.mail_index.proofs.FileLaws.OneTable.{small_archive}
-use Rattle.mail_index.proofs.ViewLaws.RecordReads.{HasSmallFields, record_back, behind_record, record_kept}
+use Rattle.mail_index.proofs.ViewLaws.RecordReads.{HasSmallFields, record_back, after_record, record_kept}
 use Rattle.mail_index.proofs.ViewLaws.RecordReads.{record_passes}
-use Rattle.mail_index.proofs.ViewLaws.ArchiveReads.{archives_behind, length_at, read_count}
+use Rattle.mail_index.proofs.ViewLaws.ArchiveReads.{archives_after, length_at, read_count}
 
 -- the first message comes after the place, and each other one after the end of the one before it
-abbrev pub AreBehind : ℕ → ℕ → List Record → Type 0
-AreBehind archive place [] = Unit {0}
-AreBehind archive place (m ∷ ms) = (is_behind archive place m ≡ true) × AreBehind m.archive (m.offset + m.length) ms
+abbrev pub AreRecordsAfter : ℕ → ℕ → List Record → Type 0
+AreRecordsAfter archive place [] = Unit {0}
+AreRecordsAfter archive place (m ∷ ms) = (is_after archive place m ≡ true)
+    × AreRecordsAfter m.archive (m.offset + m.length) ms
 
-pub in_order : (archive place : ℕ) (ms : List Record) → AreBehind archive place ms → AllNext Follows ms
+pub in_order : (archive place : ℕ) (ms : List Record) → AreRecordsAfter archive place ms → AllNext Follows ms
 in_order archive place [] h = tt
 in_order archive place (m ∷ []) h = tt
 in_order archive place (m ∷ n ∷ ms) h = grind
-    (arith, is_behind, nat_tests, in_order m.archive (m.offset + m.length) (n ∷ ms) h.1)
+    (arith, is_after, nat_tests, in_order m.archive (m.offset + m.length) (n ∷ ms) h.1)
 
-is_behind_of : (m n : Record) → Follows m n → is_behind m.archive (m.offset + m.length) n ≡ true
-is_behind_of m n h = grind (arith, nat_tests)
+is_after_of : (m n : Record) → Follows m n → is_after m.archive (m.offset + m.length) n ≡ true
+is_after_of m n h = grind (arith, nat_tests)
 
-behind_next : (m : Record) (ms : List Record) → AllNext Follows (m ∷ ms) → AreBehind m.archive (m.offset + m.length) ms
-behind_next m [] h = tt
-behind_next m (n ∷ ms) h = (is_behind_of m n h.0, behind_next n ms h.1)
+after_next : (m : Record) (ms : List Record) → AllNext Follows (m ∷ ms)
+    → AreRecordsAfter m.archive (m.offset + m.length) ms
+after_next m [] h = tt
+after_next m (n ∷ ms) h = (is_after_of m n h.0, after_next n ms h.1)
 
-from_start : (m : Record) → is_behind 0 0 m ≡ true
+from_start : (m : Record) → is_after 0 0 m ≡ true
 from_start m = grind (arith, nat_tests)
 
-pub are_behind : (ms : List Record) → AllNext Follows ms → AreBehind 0 0 ms
-are_behind [] h = tt
-are_behind (m ∷ ms) h = (from_start m, behind_next m ms h)
+pub are_records_after : (ms : List Record) → AllNext Follows ms → AreRecordsAfter 0 0 ms
+are_records_after [] h = tt
+are_records_after (m ∷ ms) h = (from_start m, after_next m ms h)
 
 date_fits : (b : Bool) (n : ℕ) → IfSome (cond b (Some (cast_signed w64 n)) None) (FitsSigned w64)
 date_fits b n = grind (arith, w64)
@@ -45,16 +47,16 @@ date_fits b n = grind (arith, w64)
 pub record ShowsRecords (archives : List Archive) (archive place n : ℕ) (r : List ℕ) : Type 0 where
   pub spelled : r ≡ flat_map record_bytes (read_records n r)
   pub each : AllByRecursion (IsMessage archives) (read_records n r)
-  pub behind : AreBehind archive place (read_records n r)
+  pub after : AreRecordsAfter archive place (read_records n r)
 
-behind_later : (version a b : ℕ) (s rest : List ℕ) → a ≤ b → rest ≡ behind_archives version a s
-    → behind_archives version (b - a) rest ≡ behind_archives version b s
-behind_later version a b s rest l e =
+after_later : (version a b : ℕ) (s rest : List ℕ) → a ≤ b → rest ≡ after_archives version a s
+    → after_archives version (b - a) rest ≡ after_archives version b s
+after_later version a b s rest l e =
     let f : a + (b - a) ≡ b = omega (arith, l) in
-    ap (behind_archives version (b - a)) e ∙ sym (archives_behind version a (b - a) s)
-    ∙ ap (λ (k : ℕ). behind_archives version k s) f
+    ap (after_archives version (b - a)) e ∙ sym (archives_after version a (b - a) s)
+    ∙ ap (λ (k : ℕ). after_archives version k s) f
 
-not_before : (archive place : ℕ) (m : Record) → is_behind archive place m ≡ true → archive ≤ m.archive
+not_before : (archive place : ℕ) (m : Record) → is_after archive place m ≡ true → archive ≤ m.archive
 not_before archive place m h = grind (arith, nat_tests)
 
 date_of_read : (r : List ℕ) → IfSome (read_record r).date (FitsSigned w64)
@@ -62,21 +64,21 @@ unfolding read_record
 date_of_read r = date_fits (has_bit (byte_at r 4) 8) (u64_at r 32)
 
 pub shows_records : (version count : ℕ) (s : List ℕ) (archive place : ℕ) (rest : List ℕ) (n : ℕ) (r : List ℕ) → rest
-    ≡ behind_archives version archive s → AreBytes r → length r ≡ 40 * n
+    ≡ after_archives version archive s → AreBytes r → length r ≡ 40 * n
     → AreRecords version count archive place rest n r → ShowsRecords (read_archives version count s) archive place n r
 shows_records version count s archive place rest zero r e b l h =
-    record { spelled = empty_list r (omega (arith, l)); each = tt; behind = tt }
+    record { spelled = empty_list r (omega (arith, l)); each = tt; after = tt }
 shows_records version count s archive place rest (suc n) r e b l h =
     let m = read_record r in
     let below : archive ≤ m.archive = not_before archive place m h.1.follows in
-    let later : behind_archives version (m.archive - archive) rest ≡ behind_archives version m.archive s =
-    behind_later version archive m.archive s rest below e in
+    let later : after_archives version (m.archive - archive) rest ≡ after_archives version m.archive s =
+    after_later version archive m.archive s rest below e in
     let most : archive_length (read_archives version count s) m.archive
-    ≡ u64_at (behind_archives version (m.archive - archive) rest) 0 = length_at version count m.archive s h.1.exists
+    ≡ u64_at (after_archives version (m.archive - archive) rest) 0 = length_at version count m.archive s h.1.exists
     ∙ ap (λ (x : List ℕ). u64_at x 0) (sym later) in
     let long : 40 ≤ length r = omega (arith, l) in
     let more = shows_records version count s m.archive (m.offset + m.length)
-    (behind_archives version (m.archive - archive) rest) n (drop 40 r) later (bytes_behind 40 r b)
+    (after_archives version (m.archive - archive) rest) n (drop 40 r) later (bytes_after 40 r b)
     (omega (arith, l, length-drop 40 r)) h.2 in
     let valid : IsMessage (read_archives version count s) m =
     record {
@@ -89,7 +91,7 @@ shows_records version count s archive place rest (suc n) r e b l h =
     record {
       spelled = sym (record_kept r b long h.0) ∙ ap (λ (x : List ℕ). record_bytes m ++ x) more.spelled;
       each = (valid, more.each);
-      behind = (h.1.follows, more.behind);
+      after = (h.1.follows, more.after);
     }
 
 -- ---- the walk accepts the records of a table
@@ -108,16 +110,16 @@ records_back version archives (m ∷ ms) l a h =
     let tail : read_records (length ms) (flat_map record_bytes ms) ≡ ms = records_back version archives ms l a h.1 in
     λ i. head i ∷ tail i
 
-one_more : (version count archive place : ℕ) (rest : List ℕ) (n : ℕ) (r behind : List ℕ) (m : Record) → read_record r
-    ≡ m → drop 40 r ≡ behind → is_record r ≡ true → IsNextRecord version count archive place rest m
-    → AreRecords version count m.archive (m.offset + m.length) (behind_archives version (m.archive - archive) rest) n
-    behind → AreRecords version count archive place rest (suc n) r
-one_more version count archive place rest n r behind m e d t x h = grind (arith, behind_archives)
+one_more : (version count archive place : ℕ) (rest : List ℕ) (n : ℕ) (r after : List ℕ) (m : Record) → read_record r
+    ≡ m → drop 40 r ≡ after → is_record r ≡ true → IsNextRecord version count archive place rest m
+    → AreRecords version count m.archive (m.offset + m.length) (after_archives version (m.archive - archive) rest) n
+    after → AreRecords version count archive place rest (suc n) r
+one_more version count archive place rest n r after m e d t x h = grind (arith, after_archives)
 
 pub are_records_of : (version count : ℕ) (s : List ℕ) (archive place : ℕ) (rest : List ℕ) (ms : List Record)
     → count < 2 ^ 32 → AllByRecursion (IsArchive version) (read_archives version count s) → rest
-    ≡ behind_archives version archive s
-    → AllByRecursion (IsMessage (read_archives version count s)) ms → AreBehind archive place ms
+    ≡ after_archives version archive s
+    → AllByRecursion (IsMessage (read_archives version count s)) ms → AreRecordsAfter archive place ms
     → AreRecords version count archive place rest (length ms) (flat_map record_bytes ms)
 are_records_of version count s archive place rest [] l a e h b = tt
 are_records_of version count s archive place rest (m ∷ ms) l a e h b =
@@ -126,14 +128,14 @@ are_records_of version count s archive place rest (m ∷ ms) l a e h b =
     let small = small_fields version (read_archives version count s) m few a h.0 in
     let exists : m.archive < count = omega (arith, h.0.exists, read_count version count s) in
     let below : archive ≤ m.archive = not_before archive place m b.0 in
-    let later : behind_archives version (m.archive - archive) rest ≡ behind_archives version m.archive s =
-    behind_later version archive m.archive s rest below e in
+    let later : after_archives version (m.archive - archive) rest ≡ after_archives version m.archive s =
+    after_later version archive m.archive s rest below e in
     let most : archive_length (read_archives version count s) m.archive
-    ≡ u64_at (behind_archives version (m.archive - archive) rest) 0 = length_at version count m.archive s exists
+    ≡ u64_at (after_archives version (m.archive - archive) rest) 0 = length_at version count m.archive s exists
     ∙ ap (λ (x : List ℕ). u64_at x 0) (sym later) in
     let next : IsNextRecord version count archive place rest m =
     record { exists = exists; follows = b.0; within = omega (arith, h.0.within, most); size = h.0.size } in
     one_more version count archive place rest (length ms) (record_bytes m ++ r) r m (record_back m r small)
-    (behind_record m r) (record_passes m r small) next
-    (are_records_of version count s m.archive (m.offset + m.length) (behind_archives version (m.archive - archive) rest)
+    (after_record m r) (record_passes m r small) next
+    (are_records_of version count s m.archive (m.offset + m.length) (after_archives version (m.archive - archive) rest)
     ms l a later h.1 b.1)

@@ -1,6 +1,6 @@
 -- Each step of the walk over records keeps the question the same: whether the rest are records from this place on.
 use Rattle.mail_index.proofs.Words.{transport, ◌≡◌, ◌↔◌, ℕ, suc, ◌+◌, ◌-◌, ◌<◌, true, false, List, drop, refl, sym}
-use Rattle.mail_index.proofs.Words.{subst, ◌∙◌, arith, Record, behind_archives, IsNextRecord, AreRecords, read_record}
+use Rattle.mail_index.proofs.Words.{subst, ◌∙◌, arith, Record, after_archives, IsNextRecord, AreRecords, read_record}
 use Rattle.mail_index.proofs.Words.{is_record}
 
 -- ---- the loop
@@ -12,18 +12,18 @@ first_of version count archive place rest n i r l h = let e : n - i ≡ suc (n -
     in subst (λ (k : ℕ). AreRecords version count archive place rest k r) e h
 
 pub records_step : (P : Type 0) (version count archive place : ℕ) (rest : List ℕ) (n i : ℕ) (r : List ℕ) (m : Record)
-    (a p : ℕ) (archives behind : List ℕ) → i < n
+    (a p : ℕ) (archives after : List ℕ) → i < n
     → (P ↔ AreRecords version count archive place rest (n - i) r) → is_record r ≡ true → m ≡ read_record r
     → IsNextRecord version count archive place rest m
-    → a ≡ m.archive → p ≡ m.offset + m.length → archives ≡ behind_archives version (m.archive - archive) rest → behind
+    → a ≡ m.archive → p ≡ m.offset + m.length → archives ≡ after_archives version (m.archive - archive) rest → after
     ≡ drop 40 r
-    → P ↔ AreRecords version count a p archives (n - (i + 1)) behind
-records_step P version count archive place rest n i r m a p archives behind l h t em x ea ep eb er =
+    → P ↔ AreRecords version count a p archives (n - (i + 1)) after
+records_step P version count archive place rest n i r m a p archives after l h t em x ea ep eb er =
     let e : n - i ≡ suc (n - (i + 1)) = omega (arith, l) in
     let m' = read_record r in
     let same : AreRecords version count m'.archive (m'.offset + m'.length)
-    (behind_archives version (m'.archive - archive) rest) (n - (i + 1)) (drop 40 r)
-    ≡ AreRecords version count a p archives (n - (i + 1)) behind =
+    (after_archives version (m'.archive - archive) rest) (n - (i + 1)) (drop 40 r)
+    ≡ AreRecords version count a p archives (n - (i + 1)) after =
     rw (ea, ep, eb, er, em) refl in (
       λ q. transport same (first_of version count archive place rest n i r l (h.0 q)).2,
       λ q. h.1 (subst (λ (k : ℕ). AreRecords version count archive place rest k r) (sym e)

@@ -78,39 +78,39 @@ beginning-more kind text k ks b e = go (is_of_kind kind k) (in_run kind text k �
 lies_before : (o : Ordering) → ordering_index o < ordering_index Equal → is_eq o ≡ false
 lies_before o h = grind arith
 
-lies_behind : (o : Ordering) → ordering_index Greater ≤ ordering_index o → is_eq o ≡ false
-lies_behind o h = grind arith
+lies_after : (o : Ordering) → ordering_index Greater ≤ ordering_index o → is_eq o ≡ false
+lies_after o h = grind arith
 
 lies_among : (o : Ordering) → ordering_index Equal ≤ ordering_index o → ordering_index o < ordering_index Greater
     → is_eq o ≡ true
 lies_among o h h2 = grind arith
 
 -- no key of the run comes before the run's first key
-beginning-behind : (kind : Kind) (text : List ℕ) (ks : List Key) (n : ℕ) (d : Key) → n ≤ length ks
+beginning-after : (kind : Kind) (text : List ℕ) (ks : List Key) (n : ℕ) (d : Key) → n ≤ length ks
     → ((j : ℕ) → j < n → is_eq (lies_to_run kind text (get_or ks j d)) ≡ false) → keys_beginning kind text ks
     ≡ keys_beginning kind text (drop n ks)
-beginning-behind kind text ks zero d within before = refl
-beginning-behind kind text [] (suc n) d within before = absurd (omega (arith, within))
-beginning-behind kind text (k ∷ ks) (suc n) d within before =
+beginning-after kind text ks zero d within before = refl
+beginning-after kind text [] (suc n) d within before = absurd (omega (arith, within))
+beginning-after kind text (k ∷ ks) (suc n) d within before =
     beginning-more kind text k ks false (before 0 (omega arith))
-    ∙ beginning-behind kind text ks n d (omega (arith, within)) (λ j lt. before (suc j) (omega (arith, lt)))
+    ∙ beginning-after kind text ks n d (omega (arith, within)) (λ j lt. before (suc j) (omega (arith, lt)))
 
 -- the first keys are the run
 beginning-first : (kind : Kind) (text : List ℕ) (ks : List Key) (n : ℕ) (d : Key)
     → ((j : ℕ) → j < n → j < length ks → is_eq (lies_to_run kind text (get_or ks j d)) ≡ true)
     → ((j : ℕ) → n ≤ j → j < length ks → is_eq (lies_to_run kind text (get_or ks j d)) ≡ false)
     → keys_beginning kind text ks ≡ take n ks
-beginning-first kind text [] zero d among behind = refl
-beginning-first kind text [] (suc n) d among behind = refl
-beginning-first kind text (k ∷ ks) zero d among behind =
-    beginning-more kind text k ks false (behind 0 (omega arith) (omega arith))
+beginning-first kind text [] zero d among after = refl
+beginning-first kind text [] (suc n) d among after = refl
+beginning-first kind text (k ∷ ks) zero d among after =
+    beginning-more kind text k ks false (after 0 (omega arith) (omega arith))
     ∙ beginning-first kind text ks zero d (λ j lt. absurd (omega (arith, lt)))
-    (λ j le lt. behind (suc j) (omega arith) (omega (arith, lt)))
-beginning-first kind text (k ∷ ks) (suc n) d among behind =
+    (λ j le lt. after (suc j) (omega arith) (omega (arith, lt)))
+beginning-first kind text (k ∷ ks) (suc n) d among after =
     beginning-more kind text k ks true (among 0 (omega arith) (omega arith))
     ∙ ap (λ (l : List Key). k ∷ l) (beginning-first kind text ks n d
     (λ j lt less. among (suc j) (omega (arith, lt)) (omega (arith, less)))
-    (λ j le lt. behind (suc j) (omega (arith, le)) (omega (arith, lt))))
+    (λ j le lt. after (suc j) (omega (arith, le)) (omega (arith, lt))))
 
 -- the run begins at the first key that isn't before it and ends at the first key after it
 pub keys_beginning-between : (kind : Kind) (text : List ℕ) (ks : List Key) (low high : ℕ) (d : Key) → low ≤ length ks
@@ -121,16 +121,16 @@ pub keys_beginning-between : (kind : Kind) (text : List ℕ) (ks : List Key) (lo
     → ((j : ℕ) → high ≤ j → j < length ks → ordering_index Greater ≤ ordering_index
     (lies_to_run kind text (get_or ks j d)))
     → keys_beginning kind text ks ≡ keys_between low high ks
-keys_beginning-between kind text ks low high d within before from until behind =
-    beginning-behind kind text ks low d within
+keys_beginning-between kind text ks low high d within before from until after =
+    beginning-after kind text ks low d within
     (λ j lt. lies_before (lies_to_run kind text (get_or ks j d)) (before j lt))
     ∙ beginning-first kind text (drop low ks) (high - low) d
     (λ j lt less. at j (λ k. is_eq (lies_to_run kind text k) ≡ true)
     (lies_among (lies_to_run kind text (get_or ks (low + j) d))
     (from (low + j) (omega arith) (omega (arith, less, length-drop low ks))) (until (low + j) (omega (arith, lt)))))
     (λ j le less. at j (λ k. is_eq (lies_to_run kind text k) ≡ false)
-    (lies_behind (lies_to_run kind text (get_or ks (low + j) d))
-    (behind (low + j) (omega (arith, le)) (omega (arith, less, length-drop low ks)))))
+    (lies_after (lies_to_run kind text (get_or ks (low + j) d))
+    (after (low + j) (omega (arith, le)) (omega (arith, less, length-drop low ks)))))
   where
     at : (j : ℕ) (P : Key → Type 0) → P (get_or ks (low + j) d) → P (get_or (drop low ks) j d)
     at j P p = subst P (sym (get_or-drop low ks j d)) p

@@ -57,7 +57,7 @@ fn bounds(
     ensures { AreBounds kind text.now (slot_keys entries.now slots.now) result.0 result.1 }
 {
     let (smaller, larger) = guessed_bounds(slots, front);
-    let low = bound_behind(slots, entries, front, kind, text, smaller);
+    let low = bound_after(slots, entries, front, kind, text, smaller);
     let high = bound_at(slots, entries, front, kind, text, larger);
     if low <= high {
         (low, high)
@@ -67,7 +67,7 @@ fn bounds(
 }
 
 /// The place after a slot, if the slot's key comes before this one; otherwise 0.
-fn bound_behind(
+fn bound_after(
     slots: &[Fronted],
     entries: &[KeyEntry],
     front: u64,

@@ -1,8 +1,8 @@
 //! Archives in an index file.
 ghost use Rattle.std.specs.Prelude.{◌≡◌, ◌↔◌, ◌-◌, ◌≤◌, ◌<◌, length, MatchOption, IsTrue};
-ghost use Rattle.mail_index.specs.Versions.{version_number, IsDigest, read_digest, behind_digest};
+ghost use Rattle.mail_index.specs.Versions.{version_number, IsDigest, read_digest, after_digest};
 ghost use Rattle.mail_index.specs.Layouts.{archive_of};
-ghost use Rattle.mail_index.specs.Records.{HasArchive, SpellsArchives, read_archive, behind_archive, behind_archives as behind_archives_of};
+ghost use Rattle.mail_index.specs.Records.{HasArchive, SpellsArchives, read_archive, after_archive, after_archives as after_archives_of};
 
 use crate::fields::{u32_at, u64_at};
 use crate::path::is_path;
@@ -31,13 +31,13 @@ fn split_digest(bytes: &[u8], version: Version) -> Option<(Option<[u8; DIGEST]>,
         (¬ IsDigest (version_number version) (read_digest (version_number version) bytes.now))
         (λ p. IsDigest (version_number version) (read_digest (version_number version) bytes.now)
         × (p.0 ≡ read_digest (version_number version) bytes.now)
-        × (p.1.now ≡ behind_digest (version_number version) bytes.now)) }
+        × (p.1.now ≡ after_digest (version_number version) bytes.now)) }
 {
     match version {
         Version::One => Some((None, bytes)),
         Version::Two => {
-            let (digest, behind) = bytes.split_first_chunk::<DIGEST>()?;
-            Some((Some(*digest), behind))
+            let (digest, after) = bytes.split_first_chunk::<DIGEST>()?;
+            Some((Some(*digest), after))
         }
     }
 }
@@ -48,7 +48,7 @@ pub(crate) fn split_archive(bytes: &[u8], version: Version) -> Option<(Archive<'
     ensures { MatchOption result (¬ HasArchive (version_number version) bytes.now)
         (λ p. HasArchive (version_number version) bytes.now
         × (archive_of p.0 ≡ read_archive (version_number version) bytes.now)
-        × (p.1.now ≡ behind_archive (version_number version) bytes.now)) }
+        × (p.1.now ≡ after_archive (version_number version) bytes.now)) }
 {
     if bytes.len() < ARCHIVE_FRONT {
         return None;
@@ -62,21 +62,21 @@ pub(crate) fn split_archive(bytes: &[u8], version: Version) -> Option<(Archive<'
     if tail.len() < size {
         return None;
     }
-    let (path, behind) = tail.split_at(size);
+    let (path, after) = tail.split_at(size);
     let Ok(path) = str::from_utf8(path) else {
         return None;
     };
     if !is_path(path) {
         return None;
     }
-    let (digest, behind) = split_digest(behind, version)?;
+    let (digest, after) = split_digest(after, version)?;
     Some((
         Archive {
             path,
             length,
             digest,
         },
-        behind,
+        after,
     ))
 }
 
@@ -87,7 +87,7 @@ pub(crate) fn are_archives(section: &[u8], count: u32, version: Version) -> bool
     let mut rest = section;
     for number in 0..count {
         match split_archive(rest, version) {
-            Some((_, behind)) => rest = behind,
+            Some((_, after)) => rest = after,
             None => return false,
         }
     }
@@ -95,29 +95,29 @@ pub(crate) fn are_archives(section: &[u8], count: u32, version: Version) -> bool
 }
 
 /// The bytes after the first `n` archives of a section that has `count` archives of this version.
-pub(crate) fn behind_archives(section: &[u8], count: u32, n: u32, version: Version) -> &[u8]
+pub(crate) fn after_archives(section: &[u8], count: u32, n: u32, version: Version) -> &[u8]
     requires spelled { SpellsArchives (version_number version) count section.now }
     requires bound { n ≤ count }
-    ensures value { result.now ≡ behind_archives_of (version_number version) n section.now }
+    ensures value { result.now ≡ after_archives_of (version_number version) n section.now }
     ensures spelled { SpellsArchives (version_number version) (count - n) result.now }
 {
     let mut rest = section;
     for number in 0..n {
-        rest = behind_first(rest, count - number, version);
+        rest = after_first_archive(rest, count - number, version);
     }
     rest
 }
 
 /// The bytes after the first archive of a section that has `count` archives. Doesn't read the path.
-pub(crate) fn behind_first(section: &[u8], count: u32, version: Version) -> &[u8]
+pub(crate) fn after_first_archive(section: &[u8], count: u32, version: Version) -> &[u8]
     requires some { 0 < count }
     requires spelled { SpellsArchives (version_number version) count section.now }
-    ensures value { result.now ≡ behind_archive (version_number version) section.now }
+    ensures value { result.now ≡ after_archive (version_number version) section.now }
     ensures spelled { SpellsArchives (version_number version) (count - 1) result.now }
 {
     let size = u32_at(section, PATH_LENGTH_AT) as usize;
-    let behind = section.split_at(ARCHIVE_FRONT).1.split_at(size).1;
-    behind.split_at(version.digest_length()).1
+    let after = section.split_at(ARCHIVE_FRONT).1.split_at(size).1;
+    after.split_at(version.digest_length()).1
 }
 
 /// The first archive of a section that has `count` archives.

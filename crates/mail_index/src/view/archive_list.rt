@@ -4,7 +4,7 @@ ghost use Rattle.mail_index.specs.Versions.{version_number};
 ghost use Rattle.mail_index.specs.Records.{SpellsArchives, read_archives};
 
 use crate::version::Version;
-use crate::view::archive::{Archive, behind_first, first_archive};
+use crate::view::archive::{Archive, after_first_archive, first_archive};
 use std::marker::Model;
 
 /// The archives of an index that still come, in order. It takes no memory.
@@ -52,7 +52,7 @@ impl<'a> ArchiveList<'a> {
             return None;
         }
         let archive = first_archive(self.section, self.count, self.version);
-        self.section = behind_first(self.section, self.count, self.version);
+        self.section = after_first_archive(self.section, self.count, self.version);
         self.count -= 1;
         Some(archive)
     }

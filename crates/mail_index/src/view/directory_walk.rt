@@ -3,7 +3,7 @@ ghost use Rattle.std.specs.Prelude.{◌≡◌, ◌↔◌, ◌+◌, ◌-◌, ◌*
 ghost use Rattle.mail_index.specs.Places.{entry_size};
 ghost use Rattle.mail_index.specs.Versions.{version_number};
 ghost use Rattle.mail_index.specs.Directory.{is_entry as is_entry_of, end_before as end_before_of, AreEntries};
-ghost use Rattle.mail_index.specs.Inside.Walks.{MayStandAt, IsBehindEntry};
+ghost use Rattle.mail_index.specs.Inside.Walks.{MayStandAt, IsAfterEntry};
 
 use crate::fields::{are_zeros_at, u32_at, u64_at};
 use crate::kind::compare_keys;
@@ -45,7 +45,7 @@ struct EntryPlace<'a> {
 
 /// The place after the first entry, or None if this entry may not follow the last one. There are `total` bytes of
 /// postings.
-fn behind_entry<'a>(
+fn after_entry<'a>(
     place: EntryPlace<'a>,
     entries: &[u8],
     texts: &'a [u8],
@@ -58,7 +58,7 @@ fn behind_entry<'a>(
     ensures { MatchOption result
         (¬ MayStandAt (version_number version) texts.entry.now total place.entry entries.now)
         (λ p. MayStandAt (version_number version) texts.entry.now total place.entry entries.now
-        × IsBehindEntry texts.entry.now total place.entry entries.now p) }
+        × IsAfterEntry texts.entry.now total place.entry entries.now p) }
 {
     let text_length = u32_at(entries, TEXT_LENGTH_AT) as usize;
     let end = end_before(entries.split_at(ENTRY).1, total);
@@ -108,8 +108,8 @@ pub(crate) fn are_entries(
         text: &[],
     };
     for number in 0..count {
-        place = match behind_entry(place, rest, texts, total, version) {
-            Some(behind) => behind,
+        place = match after_entry(place, rest, texts, total, version) {
+            Some(after) => after,
             None => return false,
         };
         rest = rest.split_at(ENTRY).1;

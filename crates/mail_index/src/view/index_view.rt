@@ -9,7 +9,7 @@ use crate::kind::Kind;
 use crate::places::{RECORD, VERSION_AT};
 use crate::record::Record;
 use crate::version::Version;
-use crate::view::archive::{Archive, are_archives, behind_archives, first_archive};
+use crate::view::archive::{Archive, after_archives, are_archives, first_archive};
 use crate::view::archive_list::ArchiveList;
 use crate::view::directory::compared_keys::ComparedKeys;
 use crate::view::directory::keys::Keys;
@@ -51,7 +51,8 @@ impl<'a> IndexView<'a> {
         ensures ok { IfOk result (λ table. IsFileOfTable bytes.entry.now table) }
         ensures fault { IfErr result (λ fault. IsFirstFaultOfFile bytes.entry.now fault) }
         ensures accepts { (t : Table) → IsFileOfTable bytes.entry.now t → IsOk result }
-        ensures same { (t : Table) → IsFileOfTable bytes.entry.now t → IfOk result (λ table. table ≡ t) }
+        ensures same { (t : Table) → IsFileOfTable bytes.entry.now t → IfOk result (λ table. table
+            ≡ t) }
     {
         let version = signed_version(bytes)?;
         let Some(layout) = Layout::of(bytes, version) else {
@@ -125,7 +126,7 @@ impl<'a> IndexView<'a> {
         ensures { slice_get self.now.archives n ≡ Some (archive_of result) }
     {
         let layout = self.layout;
-        let rest = behind_archives(layout.archives, layout.archive_count, n, layout.version);
+        let rest = after_archives(layout.archives, layout.archive_count, n, layout.version);
         first_archive(rest, layout.archive_count - n, layout.version)
     }
 

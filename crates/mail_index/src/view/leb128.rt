@@ -41,13 +41,13 @@ pub(crate) fn split_difference(bytes: &[u8]) -> Option<(u64, &[u8])>
         if *first < 128 {
             return Some((u64::from(*first), tail));
         }
-        if let Some((second, behind)) = tail.split_first() {
+        if let Some((second, after)) = tail.split_first() {
             if (1..128).contains(second) {
-                return Some((u64::from(*first - 128) + 128 * u64::from(*second), behind));
+                return Some((u64::from(*first - 128) + 128 * u64::from(*second), after));
             }
         }
     }
     // Taken apart and put together, so that only the result of this branch goes through memory.
-    let (long, behind) = split_leb128(5, bytes)?;
-    Some((long, behind))
+    let (long, after) = split_leb128(5, bytes)?;
+    Some((long, after))
 }

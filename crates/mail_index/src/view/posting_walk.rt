@@ -26,12 +26,12 @@ pub(crate) fn are_lists(directory: &[u8], count: u32, postings: &[u8], messages:
     let mut rest = directory;
     for number in 0..count {
         let place = u64_at(rest, POSTING_PLACE_AT);
-        let behind = rest.split_at(ENTRY).1;
-        let end = end_before(behind, postings.len() as u64);
+        let after = rest.split_at(ENTRY).1;
+        let end = end_before(after, postings.len() as u64);
         if !are_postings(part(postings, place, end), messages) {
             return false;
         }
-        rest = behind;
+        rest = after;
     }
     true
 }

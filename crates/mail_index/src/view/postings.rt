@@ -51,8 +51,8 @@ impl<'a> Postings<'a> {
         ensures { MatchOption result ((self.old ≡ []) × (self.new ≡ []) × (steps.new ≡ steps.old))
             (λ n. (self.old ≡ n ∷ self.new) × (steps.new ≡ add_steps steps.old 1)) }
     {
-        let (difference, behind) = split_difference(self.bytes)?;
-        self.bytes = behind;
+        let (difference, after) = split_difference(self.bytes)?;
+        self.bytes = after;
         self.low += difference;
         steps.tick();
         Some((self.low - 1) as u32)
@@ -82,13 +82,13 @@ pub(crate) fn are_postings(bytes: &[u8], count: u32) -> bool
     let mut rest = bytes;
     let mut low = 0;
     while !rest.is_empty() {
-        let Some((difference, behind)) = split_difference(rest) else {
+        let Some((difference, after)) = split_difference(rest) else {
             return false;
         };
         if difference == 0 || low + difference > u64::from(count) {
             return false;
         }
-        rest = behind;
+        rest = after;
         low += difference;
     }
     !bytes.is_empty()

@@ -3,13 +3,13 @@ ghost use Rattle.std.specs.Prelude.{◌≡◌, ◌↔◌, ◌-◌, ◌*◌, ◌�
 ghost use Rattle.mail_index.specs.Versions.{version_number};
 ghost use Rattle.mail_index.specs.Places.{record_size};
 ghost use Rattle.mail_index.specs.Records.{SpellsArchives, AreRecords};
-ghost use Rattle.mail_index.specs.Inside.Walks.{MayFollow, IsBehindMessage};
+ghost use Rattle.mail_index.specs.Inside.Walks.{MayFollow, IsAfterMessage};
 
 use crate::fields::u64_at;
 use crate::places::{ARCHIVE_LENGTH_AT, RECORD};
 use crate::record::{Record, is_record};
 use crate::version::Version;
-use crate::view::archive::behind_archives;
+use crate::view::archive::after_archives;
 
 /// The state of the walk: the archive of the last message, the place in it where that message ended, and the archives
 /// from this one on.
@@ -22,7 +22,7 @@ struct RecordPlace<'a> {
 
 /// The place after a message, or None if this message may not follow the last one or isn't within its archive. There
 /// are `count` archives.
-fn behind_message<'a>(
+fn after_message<'a>(
     place: RecordPlace<'a>,
     count: u32,
     message: Record,
@@ -34,14 +34,14 @@ fn behind_message<'a>(
     ensures next { MatchOption result
         (¬ MayFollow (version_number version) count place.entry message)
         (λ p. MayFollow (version_number version) count place.entry message
-        × IsBehindMessage (version_number version) count place.entry message p) }
+        × IsAfterMessage (version_number version) count place.entry message p) }
 {
-    let is_behind = place.archive < message.archive
+    let is_after = place.archive < message.archive
         || (place.archive == message.archive && place.offset <= message.offset);
-    if !is_behind || message.archive >= count {
+    if !is_after || message.archive >= count {
         return None;
     }
-    let archives = behind_archives(
+    let archives = after_archives(
         place.archives,
         count - place.archive,
         message.archive - place.archive,
@@ -82,8 +82,8 @@ pub(crate) fn are_records(
         if !is_record(rest) {
             return false;
         }
-        place = match behind_message(place, count, Record::read(rest), version) {
-            Some(behind) => behind,
+        place = match after_message(place, count, Record::read(rest), version) {
+            Some(after) => after,
             None => return false,
         };
         rest = rest.split_at(RECORD).1;

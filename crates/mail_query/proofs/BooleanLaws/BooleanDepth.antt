@@ -3,7 +3,7 @@ use Rattle.mail_query.proofs.Words.{◌≡◌, ℕ, suc, ◌+◌, ◌*◌, ◌-�
 use Rattle.mail_query.proofs.Words.{◌∷◌, map, Option, Result, Err, subst, arith, Fields, QueryFaultKind, Phrase, Query}
 use Rattle.mail_query.proofs.Words.{depth, all_of, either_of, Lexicon, Token, TermParts, parts_of, no_fields, is_phrase}
 use Rattle.mail_query.proofs.Words.{cut_query, Link, Beside, ByAnd, ByOr, Item, NotOf, Group, Leaf, Chain, Last, Then}
-use Rattle.mail_query.proofs.Words.{with_link, query_or_any, seen_behind, item_query, chain_queries, is_fine_item}
+use Rattle.mail_query.proofs.Words.{with_link, query_or_any, seen_after, item_query, chain_queries, is_fine_item}
 use Rattle.mail_query.proofs.Words.{is_fine_chain, Reads}
 use Rattle.mail_query.specs.BooleanTerms.{boolean_term_query}
 use Rattle.mail_query.proofs.BooleanLaws.BooleanComplete.{and_left, and_right}
@@ -79,7 +79,7 @@ module _ (lexicon : Lexicon) where
     chain_shallow (Then i l c) n seen few h =
         linked_shallow (61 - 2 * n) l (item_query lexicon i) (chain_queries lexicon c)
         (item_depth i n seen few (and_left (is_fine_item lexicon i n seen) _ h))
-        (chain_shallow c n (seen_behind i l seen) few (and_right (is_fine_item lexicon i n seen) _ h))
+        (chain_shallow c n (seen_after i l seen) few (and_right (is_fine_item lexicon i n seen) _ h))
 
   -- each query that the grammar gives has at most 63 levels
   pub reads_depth : (ts : List Token) (q : Query) → Reads lexicon ts q → depth q ≤ 63

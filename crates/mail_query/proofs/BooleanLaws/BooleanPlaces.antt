@@ -5,28 +5,28 @@ use Rattle.mail_query.proofs.Words.{arith, is_none, ◌>>=◌, fault_as, Field, 
 use Rattle.mail_query.proofs.Words.{NeedsOperator, MissingTerm, Lexicon, Query, Token, Open, Close, AndSign, OrSign}
 use Rattle.mail_query.proofs.Words.{NotSign, no_fields, with_field, parts_query, Link, Beside, ByAnd, ByOr, Item, NotOf}
 use Rattle.mail_query.proofs.Words.{Group, Leaf, Chain, Last, Then, link_tokens, item_tokens, chain_tokens}
-use Rattle.mail_query.proofs.Words.{plain_prefix, seen_behind, Reads, is_wanted, open_count, waiting_count, is_not}
+use Rattle.mail_query.proofs.Words.{plain_prefix, seen_after, Reads, is_wanted, open_count, waiting_count, is_not}
 use Rattle.mail_query.proofs.Words.{fields_before, needs_operator, err_of, deep_fault, operator_fault, close_fault}
 use Rattle.mail_query.proofs.Words.{end_fault, first_some, term_fault, token_fault, first_fault_from, first_fault}
 use Rattle.mail_query.proofs.Words.{Level, Waiting, State, is_negated, has_open, deeper, state_after_close}
 use Rattle.mail_query.proofs.Words.{query_at_end, cut_term_step}
 use Rattle.mail_query.proofs.Words.{term_step, step, run_from, tokens_query}
 use Rattle.mail_query.proofs.BooleanLaws.BooleanComplete.{reading_answered}
-use Rattle.mail_query.proofs.BooleanLaws.BooleanTrees.{Front, Nothing, Behind, Part, Wait, WaitNot, WaitClose}
+use Rattle.mail_query.proofs.BooleanLaws.BooleanTrees.{Front, Nothing, After, Part, Wait, WaitNot, WaitClose}
 use Rattle.mail_query.proofs.BooleanLaws.BooleanTrees.{nothing_read, front_tokens, last_tokens, part_tokens, spelled}
 use Rattle.mail_query.proofs.BooleanLaws.BooleanTrees.{seen_front, last_prefix, seen_of, wanted_of, waits_not}
-use Rattle.mail_query.proofs.BooleanLaws.BooleanTrees.{wanted_behind, front_wanted, is_closed, level_of, waiting_of}
+use Rattle.mail_query.proofs.BooleanLaws.BooleanTrees.{wanted_after, front_wanted, is_closed, level_of, waiting_of}
 use Rattle.mail_query.proofs.BooleanLaws.BooleanTrees.{state_of, length-waiting_of, negated-waiting_of, Fine, reach}
 use Rattle.mail_query.proofs.BooleanLaws.BooleanTrees.{answer_read}
 
 -- tokens after those before them, the nearest first
-abbrev behind : List Token → List Token → List Token
-behind [] back = back
-behind (t ∷ ts) back = behind ts (t ∷ back)
+abbrev back_after : List Token → List Token → List Token
+back_after [] back = back
+back_after (t ∷ ts) back = back_after ts (t ∷ back)
 
-behind-append : (xs ys back : List Token) → behind (xs ++ ys) back ≡ behind ys (behind xs back)
-behind-append [] ys back = refl
-behind-append (t ∷ xs) ys back = behind-append xs ys (t ∷ back)
+back_after-append : (xs ys back : List Token) → back_after (xs ++ ys) back ≡ back_after ys (back_after xs back)
+back_after-append [] ys back = refl
+back_after-append (t ∷ xs) ys back = back_after-append xs ys (t ∷ back)
 
 cond_same : {A : Type 0} (b : Bool) (x : A) → cond b x x ≡ x
 cond_same b x = grind arith
@@ -52,24 +52,25 @@ linked_back Beside back = back
 linked_back ByAnd back = AndSign ∷ back
 linked_back ByOr back = OrSign ∷ back
 
-link_behind : (l : Link) (back : List Token) → behind (link_tokens l) back ≡ linked_back l back
-link_behind l back = grind arith
+link_after : (l : Link) (back : List Token) → back_after (link_tokens l) back ≡ linked_back l back
+link_after l back = grind arith
 
 passes_on : (l : Link) (back middle after : List Token) → Passes back middle → Passes (linked_back l middle) after
     → Passes back after
 passes_on l back middle after h h2 = grind arith
 
-chain_behind : (i : Item) (l : Link) (c : Chain) (back : List Token) → behind (chain_tokens (Then i l c)) back
-    ≡ behind (chain_tokens c) (linked_back l (behind (item_tokens i) back))
-chain_behind i l c back = grind (arith, behind-append, link_behind)
+chain_after : (i : Item) (l : Link) (c : Chain) (back : List Token) → back_after (chain_tokens (Then i l c)) back
+    ≡ back_after (chain_tokens c) (linked_back l (back_after (item_tokens i) back))
+chain_after i l c back = grind (arith, back_after-append, link_after)
 
 mutual
-  item_leaves : (i : Item) (back : List Token) → Leaves i back (behind (item_tokens i) back)
+  item_leaves : (i : Item) (back : List Token) → Leaves i back (back_after (item_tokens i) back)
   item_leaves (NotOf i) back = grind (arith, not_passed, cond_same, item_leaves i (NotSign ∷ back))
   item_leaves (Group c) back =
       let r = chain_passes c (Open ∷ back) in
-      let e : behind (chain_tokens c ++ Close ∷ []) (Open ∷ back) ≡ Close ∷ behind (chain_tokens c) (Open ∷ back) =
-      behind-append (chain_tokens c) (Close ∷ []) (Open ∷ back) in
+      let e : back_after (chain_tokens c ++ Close ∷ []) (Open ∷ back)
+      ≡ Close ∷ back_after (chain_tokens c) (Open ∷ back) =
+      back_after-append (chain_tokens c) (Close ∷ []) (Open ∷ back) in
       subst (Leaves (Group c) back) (sym e) (record {
         passes = record {
           wanted = refl;
@@ -84,12 +85,12 @@ mutual
       })
   item_leaves (Leaf t) back = grind arith
 
-  chain_passes : (c : Chain) (back : List Token) → Passes back (behind (chain_tokens c) back)
+  chain_passes : (c : Chain) (back : List Token) → Passes back (back_after (chain_tokens c) back)
   chain_passes (Last i) back = (item_leaves i back).passes
   chain_passes (Then i l c) back =
-      subst (Passes back) (sym (chain_behind i l c back))
-      (passes_on l back (behind (item_tokens i) back) _ (item_leaves i back).passes
-      (chain_passes c (linked_back l (behind (item_tokens i) back))))
+      subst (Passes back) (sym (chain_after i l c back))
+      (passes_on l back (back_after (item_tokens i) back) _ (item_leaves i back).passes
+      (chain_passes c (linked_back l (back_after (item_tokens i) back))))
 
 -- ---- what is open after a part, at the front of all or after a `(`
 
@@ -116,7 +117,7 @@ plain_field : (b : Bool) (o : Option Field) → b ≡ false → cond b None o �
 plain_field b o e = ap (λ (x : Bool). cond x None o) e
 
 item_stands : (i : Item) (back before : List Token) (w : Bool) (seen : Fields) → Stands back before w seen
-    → Stands back (behind (item_tokens i) before) false (with_field (plain_prefix i) seen)
+    → Stands back (back_after (item_tokens i) before) false (with_field (plain_prefix i) seen)
 item_stands i back before w seen s =
     let l = item_leaves i before in
     record {
@@ -130,11 +131,11 @@ item_stands i back before w seen s =
 
 link_stands : (i : Item) (l : Link) (back before : List Token) (seen : Fields)
     → Stands back before false (with_field (plain_prefix i) seen)
-    → Stands back (linked_back l before) (wanted_behind l) (seen_behind i l seen)
+    → Stands back (linked_back l before) (wanted_after l) (seen_after i l seen)
 link_stands i l back before seen h = grind arith
 
 front_stands : (f : Front) (back : List Token) → Opens back
-    → Stands back (behind (front_tokens f) back) (front_wanted f) (seen_front f)
+    → Stands back (back_after (front_tokens f) back) (front_wanted f) (seen_front f)
 front_stands Nothing back o = record {
   is_so = o.wanted;
   plain = o.plain;
@@ -143,38 +144,38 @@ front_stands Nothing back o = record {
   waits =
       o.waits;
 }
-front_stands (Behind f i l) back o =
-    let e : behind (front_tokens f ++ (item_tokens i ++ link_tokens l)) back
-    ≡ linked_back l (behind (item_tokens i) (behind (front_tokens f) back)) =
-    behind-append (front_tokens f) (item_tokens i ++ link_tokens l) back
-    ∙ behind-append (item_tokens i) (link_tokens l) (behind (front_tokens f) back)
-    ∙ link_behind l (behind (item_tokens i) (behind (front_tokens f) back)) in
-    subst (λ (after : List Token). Stands back after (wanted_behind l) (seen_behind i l (seen_front f))) (sym e)
-    (link_stands i l back (behind (item_tokens i) (behind (front_tokens f) back)) (seen_front f)
-    (item_stands i back (behind (front_tokens f) back) (front_wanted f) (seen_front f) (front_stands f back o)))
+front_stands (After f i l) back o =
+    let e : back_after (front_tokens f ++ (item_tokens i ++ link_tokens l)) back
+    ≡ linked_back l (back_after (item_tokens i) (back_after (front_tokens f) back)) =
+    back_after-append (front_tokens f) (item_tokens i ++ link_tokens l) back
+    ∙ back_after-append (item_tokens i) (link_tokens l) (back_after (front_tokens f) back)
+    ∙ link_after l (back_after (item_tokens i) (back_after (front_tokens f) back)) in
+    subst (λ (after : List Token). Stands back after (wanted_after l) (seen_after i l (seen_front f))) (sym e)
+    (link_stands i l back (back_after (item_tokens i) (back_after (front_tokens f) back)) (seen_front f)
+    (item_stands i back (back_after (front_tokens f) back) (front_wanted f) (seen_front f) (front_stands f back o)))
 
 part_stands : (p : Part) (back : List Token) → is_closed p.front p.last ≡ true → Opens back
-    → Stands back (behind (part_tokens p) back) (is_none p.last) (seen_of p)
+    → Stands back (back_after (part_tokens p) back) (is_none p.last) (seen_of p)
 part_stands p back c o = go p.last c
   where
     go : (last : Option Item) → is_closed p.front last ≡ true
-        → Stands back (behind (front_tokens p.front ++ last_tokens last) back) (is_none last)
+        → Stands back (back_after (front_tokens p.front ++ last_tokens last) back) (is_none last)
         (with_field (last_prefix last) (seen_front p.front))
     go None c =
         let s = front_stands p.front back o in
-        subst (λ (ts : List Token). Stands back (behind ts back) true (seen_front p.front))
+        subst (λ (ts : List Token). Stands back (back_after ts back) true (seen_front p.front))
         (sym (append-nil (front_tokens p.front)))
         (record { is_so = s.is_so ∙ c; plain = s.plain; fields = s.fields; opens = s.opens; waits = s.waits })
     go (Some i) c =
         subst (λ (after : List Token). Stands back after false (with_field (plain_prefix i) (seen_front p.front)))
-        (sym (behind-append (front_tokens p.front) (item_tokens i) back))
-        (item_stands i back (behind (front_tokens p.front) back) (front_wanted p.front) (seen_front p.front)
+        (sym (back_after-append (front_tokens p.front) (item_tokens i) back))
+        (item_stands i back (back_after (front_tokens p.front) back) (front_wanted p.front) (seen_front p.front)
         (front_stands p.front back o))
 
 -- ---- what the tokens so far say
 
 abbrev back_of : List Wait → Part → List Token
-back_of ws p = behind (spelled ws p) []
+back_of ws p = back_after (spelled ws p) []
 
 abbrev open_of : List Wait → ℕ
 open_of [] = 0
@@ -205,12 +206,12 @@ module _ (lexicon : Lexicon) where
       record { wanted = s.is_so; plain = s.plain; fields = s.fields; opens = s.opens zero; waits = s.waits true zero }
   shows (WaitNot ∷ ws) p fine =
       let s = shows ws p fine.0 in
-      subst (Shows (WaitNot ∷ ws) p) (sym (behind-append (spelled ws p) (NotSign ∷ []) []))
+      subst (Shows (WaitNot ∷ ws) p) (sym (back_after-append (spelled ws p) (NotSign ∷ []) []))
       (record { wanted = refl; plain = refl; fields = s.fields; opens = s.opens; waits = ap suc s.waits })
   shows (WaitClose outer ∷ ws) p fine =
       let before = shows ws outer fine.0 in
       let s = part_stands p (Open ∷ back_of ws outer) fine.2.closed (opens_group (back_of ws outer)) in
-      subst (Shows (WaitClose outer ∷ ws) p) (sym (behind-append (spelled ws outer) (Open ∷ part_tokens p) []))
+      subst (Shows (WaitClose outer ∷ ws) p) (sym (back_after-append (spelled ws outer) (Open ∷ part_tokens p) []))
       (record {
         wanted = s.is_so;
         plain = s.plain;
@@ -295,7 +296,7 @@ module _ (lexicon : Lexicon) where
       go (Ok next) e h =
           let reached = reach lexicon ws p t next fine e in
           let back : back_of reached.waits reached.part ≡ t ∷ back_of ws p =
-          ap (λ (xs : List Token). behind xs []) reached.tokens ∙ behind-append (spelled ws p) (t ∷ []) [] in
+          ap (λ (xs : List Token). back_after xs []) reached.tokens ∙ back_after-append (spelled ws p) (t ∷ []) [] in
           ap (λ (b : List Token). first_fault_from lexicon (n + 1) b ts) (sym back)
           ∙ h reached.waits reached.part reached.fine
           ∙ ap (λ s. fault_of (run_from lexicon (n + 1) s ts)) (sym reached.shown)

@@ -9,7 +9,7 @@ use Rattle.mail_query.proofs.Words.{AndSign, OrSign, NotSign, Term, TermParts, p
 use Rattle.mail_query.proofs.Words.{with_field}
 use Rattle.mail_query.proofs.Words.{is_phrase, cut_query, Link, Beside, ByAnd, ByOr, Item, NotOf, Group, Leaf, Chain}
 use Rattle.mail_query.proofs.Words.{Last, Then, link_tokens, item_tokens, chain_tokens, term_prefix, plain_prefix}
-use Rattle.mail_query.proofs.Words.{seen_behind, item_query, chain_queries, tree_query, is_fine_item, is_fine_chain}
+use Rattle.mail_query.proofs.Words.{seen_after, item_query, chain_queries, tree_query, is_fine_item, is_fine_chain}
 use Rattle.mail_query.proofs.Words.{Reads, Level, Waiting, ForNot, ForClose, State, start, empty_level, with_member}
 use Rattle.mail_query.proofs.Words.{level_with_prefix, run_ended, each_ended, level_query, is_negated, has_open}
 use Rattle.mail_query.proofs.Words.{state_after_operand, deeper}
@@ -25,7 +25,7 @@ use Rattle.mail_query.proofs.BooleanLaws.BooleanComplete.{with_first-one, with_f
 -- the operands of a chain so far, each with what joins it to the next
 pub data Front : Type 0 where
   Nothing : Front
-  Behind : Front → Item → Link → Front
+  After : Front → Item → Link → Front
 
 -- a chain so far, and its last operand, for which it isn't known yet what follows
 pub record Part : Type 0 where
@@ -44,7 +44,7 @@ nothing_read = record { front = Nothing; last = None }
 
 abbrev pub front_tokens : Front → List Token
 front_tokens Nothing = []
-front_tokens (Behind f i l) = front_tokens f ++ (item_tokens i ++ link_tokens l)
+front_tokens (After f i l) = front_tokens f ++ (item_tokens i ++ link_tokens l)
 
 abbrev pub last_tokens : Option Item → List Token
 last_tokens None = []
@@ -61,11 +61,11 @@ spelled (WaitClose outer ∷ ws) p = spelled ws outer ++ (Open ∷ part_tokens p
 
 abbrev pub onto : Front → Chain → Chain
 onto Nothing c = c
-onto (Behind f i l) c = onto f (Then i l c)
+onto (After f i l) c = onto f (Then i l c)
 
 abbrev pub seen_front : Front → Fields
 seen_front Nothing = no_fields
-seen_front (Behind f i l) = seen_behind i l (seen_front f)
+seen_front (After f i l) = seen_after i l (seen_front f)
 
 abbrev pub last_prefix : Option Item → Option Field
 last_prefix None = None
@@ -85,7 +85,7 @@ wanted_of ws p = waits_not ws || is_none p.last
 -- one operand more
 abbrev pub beside : Front → Option Item → Front
 beside f None = f
-beside f (Some j) = Behind f j Beside
+beside f (Some j) = After f j Beside
 
 abbrev pub put : Part → Item → Part
 put p i = record { front = beside p.front p.last; last = Some i }
@@ -124,21 +124,21 @@ part_tokens-put p i = go p.last
     go last = grind (arith, append-nil)
 
 -- whether a term must follow
-abbrev pub wanted_behind : Link → Bool
-wanted_behind Beside = false
-wanted_behind ByAnd = true
-wanted_behind ByOr = true
+abbrev pub wanted_after : Link → Bool
+wanted_after Beside = false
+wanted_after ByAnd = true
+wanted_after ByOr = true
 
 abbrev pub front_wanted : Front → Bool
 front_wanted Nothing = true
-front_wanted (Behind f i l) = wanted_behind l
+front_wanted (After f i l) = wanted_after l
 
 -- if no operand comes last, there is none yet, or an operator comes last
 abbrev pub is_closed : Front → Option Item → Bool
 is_closed f None = front_wanted f
 is_closed f (Some i) = true
 
-operator_wanted : (l : Link) (t : Token) → link_tokens l ≡ t ∷ [] → wanted_behind l ≡ true
+operator_wanted : (l : Link) (t : Token) → link_tokens l ≡ t ∷ [] → wanted_after l ≡ true
 operator_wanted l t h = grind arith
 
 -- tokens after the innermost part are after the whole, if no `not` is directly before them
@@ -156,7 +156,7 @@ spelled-put (WaitClose outer ∷ ws) p i =
 
 chain_tokens-onto : (f : Front) (c : Chain) → chain_tokens (onto f c) ≡ front_tokens f ++ chain_tokens c
 chain_tokens-onto Nothing c = refl
-chain_tokens-onto (Behind f i l) c = grind (arith, append_assoc, chain_tokens-onto f (Then i l c))
+chain_tokens-onto (After f i l) c = grind (arith, append_assoc, chain_tokens-onto f (Then i l c))
 
 and_assoc : (a b c : Bool) → ((a && b) && c) ≡ (a && (b && c))
 and_assoc a b c = grind arith
@@ -166,15 +166,15 @@ module _ (lexicon : Lexicon) where
 
   abbrev pub members_front : Front → List Query
   members_front Nothing = []
-  members_front (Behind f i Beside) = members_front f ++ item_query lexicon i ∷ []
-  members_front (Behind f i ByAnd) = members_front f ++ item_query lexicon i ∷ []
-  members_front (Behind f i ByOr) = []
+  members_front (After f i Beside) = members_front f ++ item_query lexicon i ∷ []
+  members_front (After f i ByAnd) = members_front f ++ item_query lexicon i ∷ []
+  members_front (After f i ByOr) = []
 
   abbrev pub eaches_front : Front → List Query
   eaches_front Nothing = []
-  eaches_front (Behind f i Beside) = eaches_front f
-  eaches_front (Behind f i ByAnd) = eaches_front f
-  eaches_front (Behind f i ByOr) = eaches_front f ++ all_of (members_front f ++ item_query lexicon i ∷ []) ∷ []
+  eaches_front (After f i Beside) = eaches_front f
+  eaches_front (After f i ByAnd) = eaches_front f
+  eaches_front (After f i ByOr) = eaches_front f ++ all_of (members_front f ++ item_query lexicon i ∷ []) ∷ []
 
   abbrev pub last_query : Option Item → List Query
   last_query None = []
@@ -225,9 +225,9 @@ module _ (lexicon : Lexicon) where
   eaches-onto : (f : Front) (c : Chain) → map all_of (chain_queries lexicon (onto f c))
       ≡ eaches_front f ++ map all_of (with_first (members_front f) (chain_queries lexicon c))
   eaches-onto Nothing c = ap (map all_of) (sym (with_first-none lexicon c))
-  eaches-onto (Behind f i Beside) c = grind (arith, with_first-one, eaches-onto f (Then i Beside c))
-  eaches-onto (Behind f i ByAnd) c = grind (arith, with_first-one, eaches-onto f (Then i ByAnd c))
-  eaches-onto (Behind f i ByOr) c = grind (arith, append_assoc, with_first-none, eaches-onto f (Then i ByOr c))
+  eaches-onto (After f i Beside) c = grind (arith, with_first-one, eaches-onto f (Then i Beside c))
+  eaches-onto (After f i ByAnd) c = grind (arith, with_first-one, eaches-onto f (Then i ByAnd c))
+  eaches-onto (After f i ByOr) c = grind (arith, append_assoc, with_first-none, eaches-onto f (Then i ByOr c))
 
   -- the query of a group is that of its tree
   pub level_asks : (f : Front) (i : Item) → level_query (level_of (ended_by f i)) ≡ tree_query lexicon (onto f (Last i))
@@ -237,7 +237,7 @@ module _ (lexicon : Lexicon) where
 
   abbrev pub is_fine_front : Front → ℕ → Bool
   is_fine_front Nothing n = true
-  is_fine_front (Behind f i l) n = is_fine_front f n && is_fine_item lexicon i n (seen_front f)
+  is_fine_front (After f i l) n = is_fine_front f n && is_fine_item lexicon i n (seen_front f)
 
   abbrev pub is_fine_last : Front → Option Item → ℕ → Bool
   is_fine_last f None n = true
@@ -256,9 +256,9 @@ module _ (lexicon : Lexicon) where
   fine-onto : (f : Front) (c : Chain) (n : ℕ) → is_fine_chain lexicon (onto f c) n no_fields
       ≡ (is_fine_front f n && is_fine_chain lexicon c n (seen_front f))
   fine-onto Nothing c n = refl
-  fine-onto (Behind f i l) c n = fine-onto f (Then i l c) n
+  fine-onto (After f i l) c n = fine-onto f (Then i l c) n
       ∙ sym (and_assoc (is_fine_front f n) (is_fine_item lexicon i n (seen_front f))
-      (is_fine_chain lexicon c n (seen_behind i l (seen_front f))))
+      (is_fine_chain lexicon c n (seen_after i l (seen_front f))))
 
   fine_put : (p : Part) (i : Item) (n : ℕ) → FinePart p n → is_fine_item lexicon i n (seen_of p) ≡ true
       → FinePart (put p i) n
@@ -381,11 +381,11 @@ module _ (lexicon : Lexicon) where
   -- an operator comes after the last operand
   reach_operator : (ws : List Wait) (f : Front) (i : Item) (l : Link) (t : Token) (s : State) → waits_not ws ≡ false
       → Fine ws (ended_by f i) → link_tokens l ≡ t ∷ []
-      → s ≡ state (waiting_of ws) (level_of (record { front = Behind f i l; last = None })) true
+      → s ≡ state (waiting_of ws) (level_of (record { front = After f i l; last = None })) true
       → Reaches ws (ended_by f i) t s
   unfolding state
   reach_operator ws f i l t s no_not fine spelled_so shown =
-      let next : Part = record { front = Behind f i l; last = None } in
+      let next : Part = record { front = After f i l; last = None } in
       record {
         waits = ws;
         part = next;

@@ -10,20 +10,20 @@ use Rattle.mail_query.specs.declared.boolean.reader.Waiting.{Waiting as CodeWait
 use Rattle.mail_query.specs.declared.boolean.reader.Waiting.TheVariants as code_waiting
 use Rattle.mail_query.proofs.PieceLemmas.{last_of, before_last}
 
-nearest_first-push : (ws : List CodeWaiting) (w : CodeWaiting) (behind : List Waiting)
-    → nearest_first (ws ++ w ∷ []) behind ≡ shown_waiting w ∷ nearest_first ws behind
-nearest_first-push [] w behind = refl
-nearest_first-push (v ∷ ws) w behind = nearest_first-push ws w (shown_waiting v ∷ behind)
+nearest_first-push : (ws : List CodeWaiting) (w : CodeWaiting) (after : List Waiting)
+    → nearest_first (ws ++ w ∷ []) after ≡ shown_waiting w ∷ nearest_first ws after
+nearest_first-push [] w after = refl
+nearest_first-push (v ∷ ws) w after = nearest_first-push ws w (shown_waiting v ∷ after)
 
 -- the last of the list is the innermost
 pub shown_stack-push : (ws : List CodeWaiting) (w : CodeWaiting) → shown_stack (ws ++ w ∷ [])
     ≡ shown_waiting w ∷ shown_stack ws
 shown_stack-push ws w = nearest_first-push ws w []
 
-length-nearest_first : (ws : List CodeWaiting) (behind : List Waiting) → length (nearest_first ws behind)
-    ≡ length ws + length behind
-length-nearest_first [] behind = omega arith
-length-nearest_first (w ∷ ws) behind = omega (arith, length-nearest_first ws (shown_waiting w ∷ behind))
+length-nearest_first : (ws : List CodeWaiting) (after : List Waiting) → length (nearest_first ws after)
+    ≡ length ws + length after
+length-nearest_first [] after = omega arith
+length-nearest_first (w ∷ ws) after = omega (arith, length-nearest_first ws (shown_waiting w ∷ after))
 
 pub length-shown_stack : (ws : List CodeWaiting) → length (shown_stack ws) ≡ length ws
 length-shown_stack ws = omega (arith, length-nearest_first ws [])
@@ -51,12 +51,12 @@ has_open_code [] = false
 has_open_code (code_waiting.ForNot ∷ ws) = has_open_code ws
 has_open_code (code_waiting.ForClose level ∷ ws) = true
 
-has_open-nearest_first : (ws : List CodeWaiting) (behind : List Waiting) → has_open (nearest_first ws behind)
-    ≡ (has_open_code ws || has_open behind)
-has_open-nearest_first [] behind = refl
-has_open-nearest_first (code_waiting.ForNot ∷ ws) behind = has_open-nearest_first ws (ForNot ∷ behind)
-has_open-nearest_first (code_waiting.ForClose level ∷ ws) behind =
-    has_open-nearest_first ws (shown_waiting (code_waiting.ForClose level) ∷ behind)
+has_open-nearest_first : (ws : List CodeWaiting) (after : List Waiting) → has_open (nearest_first ws after)
+    ≡ (has_open_code ws || has_open after)
+has_open-nearest_first [] after = refl
+has_open-nearest_first (code_waiting.ForNot ∷ ws) after = has_open-nearest_first ws (ForNot ∷ after)
+has_open-nearest_first (code_waiting.ForClose level ∷ ws) after =
+    has_open-nearest_first ws (shown_waiting (code_waiting.ForClose level) ∷ after)
     ∙ or_right (has_open_code ws) true refl
 
 pub has_open-shown_stack : (ws : List CodeWaiting) → has_open (shown_stack ws) ≡ has_open_code ws

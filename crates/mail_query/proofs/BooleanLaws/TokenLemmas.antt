@@ -72,29 +72,29 @@ run_counted [] = refl
 run_counted (b ∷ bs) = grind (arith, run_counted bs)
 
 pub cut-run : (text : List ℕ) → cut_tokens text
-    ≡ record { run = take (run_length text) text; behind = query_tokens (drop (run_length text) text) }
+    ≡ record { run = take (run_length text) text; after = query_tokens (drop (run_length text) text) }
 unfolding query_tokens
 cut-run [] = refl
 cut-run (b ∷ bs) = go (is_blank_or_feed b) (eqb b 0x28) (eqb b 0x29) refl refl refl (cut-run bs)
   where
     cut_at : Bool → Bool → Bool → Cut → Cut
     cut_at t o c rest =
-        cond t (record { run = []; behind = all_tokens rest })
-        (cond o (record { run = []; behind = Open ∷ all_tokens rest })
-        (cond c (record { run = []; behind = Close ∷ all_tokens rest })
-        (record { run = b ∷ rest.run; behind = rest.behind })))
+        cond t (record { run = []; after = all_tokens rest })
+        (cond o (record { run = []; after = Open ∷ all_tokens rest })
+        (cond c (record { run = []; after = Close ∷ all_tokens rest })
+        (record { run = b ∷ rest.run; after = rest.after })))
 
     count : Bool → Bool → Bool → ℕ
     count t o c = cond (t || (o || c)) 0 (suc (run_length bs))
 
     go : (t o c : Bool) → is_blank_or_feed b ≡ t → eqb b 0x28 ≡ o → eqb b 0x29 ≡ c
-        → cut_tokens bs ≡ record { run = take (run_length bs) bs; behind = query_tokens (drop (run_length bs) bs) }
+        → cut_tokens bs ≡ record { run = take (run_length bs) bs; after = query_tokens (drop (run_length bs) bs) }
         → cut_at t o c (cut_tokens bs) ≡ record
-        { run = take (count t o c) (b ∷ bs); behind = query_tokens (drop (count t o c) (b ∷ bs)) }
+        { run = take (count t o c) (b ∷ bs); after = query_tokens (drop (count t o c) (b ∷ bs)) }
     go true o c e f g h = rw e refl
     go false true c e f g h = rw (e, f) refl
     go false false true e f g h = rw (e, f, g) refl
-    go false false false e f g h = ap (λ (rest : Cut). let r : Cut = record { run = b ∷ rest.run; behind = rest.behind }
+    go false false false e f g h = ap (λ (rest : Cut). let r : Cut = record { run = b ∷ rest.run; after = rest.after }
         in r) h
 
 pub tokens-run : (text : List ℕ) → 0 < run_length text → 0 < length text → query_tokens text

@@ -5,8 +5,8 @@ use Rattle.mail_query.proofs.Words.{or_left, or_right, is_nonempty, is_approxima
 
 -- What the test says of the whole text, given the rest. `marked`: only digits came since the last `=`. `counted`: at
 -- least one of them did.
-abbrev pub approximate_behind : Bool → Bool → List ℕ → Bool
-approximate_behind marked counted rest =
+abbrev pub approximate_after : Bool → Bool → List ℕ → Bool
+approximate_after marked counted rest =
     ((counted && list_all is_ascii_digit rest) || (marked && (is_nonempty rest && list_all is_ascii_digit rest))) ||
     is_approximate rest
 
@@ -21,8 +21,8 @@ filled bs h = grind arith
 nonempty_of : (bs : List ℕ) → 1 ≤ length bs → is_nonempty bs ≡ true
 nonempty_of bs h = grind (arith, nonempty)
 
-marked_behind : (b : ℕ) (bs : List ℕ) → IsApproximate bs → IsApproximate (b ∷ bs)
-marked_behind b bs (Digits front digits some only) = Digits (b ∷ front) digits some only
+marked_after : (b : ℕ) (bs : List ℕ) → IsApproximate bs → IsApproximate (b ∷ bs)
+marked_after b bs (Digits front digits some only) = Digits (b ∷ front) digits some only
 
 pub approximate_is : (text : List ℕ) → is_approximate text ≡ true → IsApproximate text
 approximate_is [] e = absurd cc
@@ -31,12 +31,12 @@ approximate_is (b ∷ bs) e = go (eqb b 0x3D && (is_nonempty bs && list_all is_a
     go : (t : Bool) → (eqb b 0x3D && (is_nonempty bs && list_all is_ascii_digit bs)) ≡ t → (t || is_approximate bs)
         ≡ true → (is_approximate bs ≡ true → IsApproximate bs)
         → IsApproximate (b ∷ bs)
-    go true h e behind =
+    go true h e after =
         let mark = and_parts (eqb b 0x3D) (is_nonempty bs && list_all is_ascii_digit bs) h in
         let rest = and_parts (is_nonempty bs) (list_all is_ascii_digit bs) mark.1 in
         subst (λ (c : ℕ). IsApproximate (c ∷ bs)) (sym (eqb-true b 0x3D mark.0))
         (Digits [] bs (filled bs rest.0) rest.1)
-    go false h e behind = marked_behind b bs (behind e)
+    go false h e after = marked_after b bs (after e)
 
 marked : (front digits : List ℕ) → 1 ≤ length digits → list_all is_ascii_digit digits ≡ true
     → is_approximate (front ++ 0x3D ∷ digits) ≡ true

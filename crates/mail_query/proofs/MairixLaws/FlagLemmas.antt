@@ -3,7 +3,7 @@ use Rattle.mail_query.proofs.Words.{◌≡◌, ℕ, ◌+◌, ◌<◌, Bool, true
 use Rattle.mail_query.proofs.Words.{Option, None, Some, Ok, Err, option_map, refl, sym, ap, ◌∙◌, append_assoc}
 use Rattle.mail_query.proofs.Words.{append-nil, arith, add-one, drop-cons, inl, inr, not, cond, subst, option_and_then}
 use Rattle.mail_query.proofs.Words.{◌⊎◌, drop_all, Flag, BadFlag, Query, HasFlag, all_of, flag_of, with_flag}
-use Rattle.mail_query.proofs.Words.{flags_behind, flags_of_text, some_of, flags_query, eqb-true, false_from_ne_true}
+use Rattle.mail_query.proofs.Words.{flags_after, flags_of_text, some_of, flags_query, eqb-true, false_from_ne_true}
 use Rattle.mail_query.proofs.Words.{none-some, option_and_then_some, AreFlags, NoFlag, IsFlags, EachFlag}
 use Rattle.mail_query.proofs.MairixLaws.SignLemmas.{map_some}
 use Rattle.mail_query.specs.FlagGrammar.{Wanted, Unwanted}
@@ -14,7 +14,7 @@ with_flags front rest = option_map (λ qs. front ++ qs) rest
 
 -- the flags so far, with those of the letters from place i on, are those of the whole text
 pub record HasRead (text : List ℕ) (qs : List Query) (wanted : Bool) (i : ℕ) : Type 0 where
-  pub whole : with_flags qs (flags_behind wanted (drop i text)) ≡ flags_behind true text
+  pub whole : with_flags qs (flags_after wanted (drop i text)) ≡ flags_after true text
 
 next : (text : List ℕ) (i : ℕ) → i < length text → drop i text ≡ get_or text i 0 ∷ drop (i + 1) text
 next text i h = drop-cons text i 0 h ∙ ap (λ k. get_or text i 0 ∷ drop k text) (sym (add-one i))
@@ -25,15 +25,15 @@ reads_none text qs e = grind arith
 -- a dash comes next
 at_dash : (text : List ℕ) (qs : List Query) (wanted w : Bool) (i : ℕ) → HasRead text qs wanted i → wanted ≡ w
     → i < length text → get_or text i 0 ≡ 0x2D
-    → with_flags qs (flags_behind w (0x2D ∷ drop (i + 1) text)) ≡ flags_behind true text
+    → with_flags qs (flags_after w (0x2D ∷ drop (i + 1) text)) ≡ flags_after true text
 at_dash text qs wanted w i h e below is = grind (arith, next)
 
 pub dash_read : (text : List ℕ) (qs : List Query) (wanted : Bool) (i : ℕ) → HasRead text qs wanted i → wanted ≡ true
     → i < length text → get_or text i 0 ≡ 0x2D → HasRead text qs false (i + 1)
 dash_read text qs wanted i h e below is = record { whole = at_dash text qs wanted true i h e below is }
 
-at_letter : (wanted : Bool) (b : ℕ) (bs : List ℕ) → eqb b 0x2D ≡ false → flags_behind wanted (b ∷ bs)
-    ≡ with_flag wanted b (flags_behind true bs)
+at_letter : (wanted : Bool) (b : ℕ) (bs : List ℕ) → eqb b 0x2D ≡ false → flags_after wanted (b ∷ bs)
+    ≡ with_flag wanted b (flags_after true bs)
 at_letter wanted b bs e = rw e refl
 
 pub reads_letter : (text : List ℕ) (qs : List Query) (wanted : Bool) (i : ℕ) (flag : Flag) → HasRead text qs wanted i
@@ -43,31 +43,31 @@ pub reads_letter : (text : List ℕ) (qs : List Query) (wanted : Bool) (i : ℕ)
 reads_letter text qs wanted i flag h below other is = grind (arith, option_map, at_letter, next, append_assoc)
 
 pub no_letter : (text : List ℕ) (qs : List Query) (wanted : Bool) (i : ℕ) → HasRead text qs wanted i → i < length text
-    → eqb (get_or text i 0) 0x2D ≡ false → flag_of (get_or text i 0) ≡ None → flags_behind true text ≡ None
+    → eqb (get_or text i 0) 0x2D ≡ false → flag_of (get_or text i 0) ≡ None → flags_after true text ≡ None
 no_letter text qs wanted i h below other is = grind (arith, next, at_letter, option_map)
 
 at_end : (text : List ℕ) (i : ℕ) → length text ≡ i → drop i text ≡ []
 at_end text i e = drop_all i text (omega (arith, e))
 
 pub reads_all : (text : List ℕ) (qs : List Query) (i : ℕ) → HasRead text qs true i → length text ≡ i
-    → flags_behind true text ≡ Some qs
+    → flags_after true text ≡ Some qs
 reads_all text qs i h e = grind (arith, at_end, append-nil)
 
 pub no_last_letter : (text : List ℕ) (qs : List Query) (i : ℕ) → HasRead text qs false i → length text ≡ i
-    → flags_behind true text ≡ None
+    → flags_after true text ≡ None
 no_last_letter text qs i h e = grind (arith, at_end)
 
 -- ---- the whole text
 
-pub refused : (text : List ℕ) → flags_behind true text ≡ None → flags_query text ≡ Err BadFlag
+pub refused : (text : List ℕ) → flags_after true text ≡ None → flags_query text ≡ Err BadFlag
 unfolding flags_of_text
 refused text e = rw e refl
 
-pub none_refused : (text : List ℕ) → flags_behind true text ≡ Some [] → flags_query text ≡ Err BadFlag
+pub none_refused : (text : List ℕ) → flags_after true text ≡ Some [] → flags_query text ≡ Err BadFlag
 unfolding flags_of_text
 none_refused text e = rw e refl
 
-pub asked : (text : List ℕ) (q : Query) (qs : List Query) → flags_behind true text ≡ Some (q ∷ qs) → flags_query text
+pub asked : (text : List ℕ) (q : Query) (qs : List Query) → flags_after true text ≡ Some (q ∷ qs) → flags_query text
     ≡ Ok (all_of (q ∷ qs))
 unfolding flags_of_text
 asked text q qs e = rw e refl
@@ -95,7 +95,7 @@ no_dash : (letter : ℕ) (flag : Flag) → flag_of letter ≡ Some flag → eqb 
 no_dash letter flag e = false_from_ne_true (eqb letter 0x2D)
     (λ h. none-some flag (ap flag_of (sym (eqb-true letter 0x2D h)) ∙ e))
 
-are_read : (text : List ℕ) (qs : List Query) → AreFlags text qs → flags_behind true text ≡ Some qs
+are_read : (text : List ℕ) (qs : List Query) → AreFlags text qs → flags_after true text ≡ Some qs
 are_read text qs NoFlag = refl
 are_read text qs (Wanted letter flag rest more e f) = rw (no_dash letter flag e, e, are_read rest more f) refl
 are_read text qs (Unwanted letter flag rest more e f) = rw (no_dash letter flag e, e, are_read rest more f) refl
@@ -105,7 +105,7 @@ unfolding flags_of_text
 flags_read text q (EachFlag t first qs f) = ap (option_and_then some_of) (are_read t (first ∷ qs) f)
 
 -- the letter after a dash, and what follows it
-record Behind (text : List ℕ) (qs : List Query) : Type 0 where
+record After (text : List ℕ) (qs : List Query) : Type 0 where
   letter : ℕ
   flag : Flag
   rest : List ℕ
@@ -119,7 +119,7 @@ record Named (wanted : Bool) (letter : ℕ) (rest : Option (List Query)) (qs : L
   flag : Flag
   more : List Query
   named : flag_of letter ≡ Some flag
-  behind : rest ≡ Some more
+  after : rest ≡ Some more
   queries : qs ≡ HasFlag flag wanted ∷ more
 
 with_flag_is : (wanted : Bool) (letter : ℕ) (rest : Option (List Query)) (qs : List Query)
@@ -127,8 +127,8 @@ with_flag_is : (wanted : Bool) (letter : ℕ) (rest : Option (List Query)) (qs :
 with_flag_is wanted letter rest qs e = grind (arith, option_and_then_some, option_map, map_some)
 
 record Read (text : List ℕ) : Type 0 where
-  wanted : (qs : List Query) → flags_behind true text ≡ Some qs → AreFlags text qs
-  unwanted : (qs : List Query) → flags_behind false text ≡ Some qs → Behind text qs
+  wanted : (qs : List Query) → flags_after true text ≡ Some qs → AreFlags text qs
+  unwanted : (qs : List Query) → flags_after false text ≡ Some qs → After text qs
 
 read_are : (text : List ℕ) → Read text
 read_are [] = record {
@@ -139,11 +139,11 @@ read_are [] = record {
 read_are (b ∷ bs) = record {
   wanted = λ qs e. first qs (eqb b 0x2D) refl e (read_are bs);
   unwanted =
-      λ qs e. behind qs (eqb b 0x2D) refl e (read_are bs);
+      λ qs e. after qs (eqb b 0x2D) refl e (read_are bs);
 }
   where
     first : (qs : List Query) (t : Bool) → eqb b 0x2D ≡ t
-        → cond t (flags_behind (not t) bs) (with_flag true b (flags_behind (not t) bs)) ≡ Some qs → Read bs
+        → cond t (flags_after (not t) bs) (with_flag true b (flags_after (not t) bs)) ≡ Some qs → Read bs
         → AreFlags (b ∷ bs) qs
     first qs true h e r =
         let d = r.unwanted qs e in
@@ -152,19 +152,19 @@ read_are (b ∷ bs) = record {
         (subst (AreFlags (0x2D ∷ d.letter ∷ d.rest)) (sym d.queries)
         (Unwanted d.letter d.flag d.rest d.more d.named d.flags))
     first qs false h e r =
-        let n = with_flag_is true b (flags_behind true bs) qs e in
-        subst (AreFlags (b ∷ bs)) (sym n.queries) (Wanted b n.flag bs n.more n.named (r.wanted n.more n.behind))
+        let n = with_flag_is true b (flags_after true bs) qs e in
+        subst (AreFlags (b ∷ bs)) (sym n.queries) (Wanted b n.flag bs n.more n.named (r.wanted n.more n.after))
 
-    behind : (qs : List Query) (t : Bool) → eqb b 0x2D ≡ t
-        → cond {A = Option (List Query)} t None (with_flag false b (flags_behind (not t) bs)) ≡ Some qs → Read bs
-        → Behind (b ∷ bs) qs
-    behind qs t h h2 h3 = grind arith
+    after : (qs : List Query) (t : Bool) → eqb b 0x2D ≡ t
+        → cond {A = Option (List Query)} t None (with_flag false b (flags_after (not t) bs)) ≡ Some qs → Read bs
+        → After (b ∷ bs) qs
+    after qs t h h2 h3 = grind arith
 
 pub read_flags : (text : List ℕ) (q : Query) → flags_of_text text ≡ Some q → IsFlags text q
 unfolding flags_of_text
-read_flags text q e = go (flags_behind true text) refl e
+read_flags text q e = go (flags_after true text) refl e
   where
-    go : (o : Option (List Query)) → flags_behind true text ≡ o → option_and_then some_of o ≡ Some q → IsFlags text q
+    go : (o : Option (List Query)) → flags_after true text ≡ o → option_and_then some_of o ≡ Some q → IsFlags text q
     go None h e = absurd cc
     go (Some []) h e = absurd cc
     go (Some (first ∷ qs)) h e =

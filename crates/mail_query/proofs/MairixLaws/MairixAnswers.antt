@@ -14,7 +14,7 @@ use Rattle.mail_query.proofs.Words.{term_query, all_query, rest_query, prefixed_
 use Rattle.mail_query.proofs.Words.{patterns_query, Separated, Alone, Before, IsAtom, WholeWord, PartOfWord}
 use Rattle.mail_query.proofs.Words.{FrontOfWord, IsTerm, Wanted, Unwanted, IsAll, EachTerm, IsRest, SomeAll, IsPattern}
 use Rattle.mail_query.proofs.Words.{Plain, InKinds, ArePatterns, Only, AndAlso, IsAsked, EachPattern, HasNoSigns}
-use Rattle.mail_query.proofs.Words.{IsFirstOf, Behind, IsAtomFault, AsksApproximately, HasNoForm, IsTermFault, InWanted}
+use Rattle.mail_query.proofs.Words.{IsFirstOf, After, IsAtomFault, AsksApproximately, HasNoForm, IsTermFault, InWanted}
 use Rattle.mail_query.proofs.Words.{InUnwanted, IsAllFault, InTerm, IsRestFault, InAll, IsPatternPrefix, OfKinds}
 use Rattle.mail_query.proofs.Words.{IsPatternFault, HasNoPrefix, InPlain, InWords, InId, HasNoDate, HasNoSize}
 use Rattle.mail_query.proofs.Words.{HasNoFlags, IsFirstFault, HasNone, InPattern}
@@ -30,7 +30,7 @@ use Rattle.mail_query.proofs.MairixLaws.KindLemmas.{letters_read, read_letters}
 use Rattle.mail_query.proofs.MairixLaws.FlagLemmas.{flags_read, read_flags}
 use Rattle.mail_query.proofs.MairixLaws.SizeLemmas.{sizes_read, read_sizes}
 use Rattle.mail_query.proofs.MairixLaws.SignLemmas.{map_some, last_is, first_is, cut_parts, uncut_free, utf8_before}
-use Rattle.mail_query.proofs.MairixLaws.SignLemmas.{utf8_behind}
+use Rattle.mail_query.proofs.MairixLaws.SignLemmas.{utf8_after}
 use Rattle.mail_query.proofs.MairixLaws.MairixComplete.{PlainForms, id_plain, word_plain, atom_read}
 
 -- ---- results of steps
@@ -71,11 +71,11 @@ record Refused (Asks : List ℕ → Query → Type 0) (Shows : List ℕ → Quer
 module _ (Asks : List ℕ → Query → Type 0) (Shows : List ℕ → QueryFaultKind → Type 0)
     (read : List ℕ → Result Query QueryFaultKind)
     (one : (text : List ℕ) → IsUtf8 text → MatchResult (read text) (Asks text) (Shows text)) where
-  first_behind : (text : List ℕ) (q : Query) (texts : List (List ℕ)) (n : ℕ) (kind : QueryFaultKind) → Asks text q
+  first_after : (text : List ℕ) (q : Query) (texts : List (List ℕ)) (n : ℕ) (kind : QueryFaultKind) → Asks text q
       → IsFirstOf Asks Shows texts n kind
       → IsFirstOf Asks Shows (text ∷ texts) (suc n) kind
-  first_behind text q texts n kind a (Behind before faulty more shown fine fault) =
-      Behind (text ∷ before) faulty more shown
+  first_after text q texts n kind a (After before faulty more shown fine fault) =
+      After (text ∷ before) faulty more shown
       (All-cons (λ (t : List ℕ). (x : Query) × Asks t x) text before (q, a) fine) fault
 
   each_answers : (E : Type 0) (fault : ℕ → QueryFaultKind → E) (n : ℕ) (texts : List (List ℕ)) → All IsUtf8 texts
@@ -96,7 +96,7 @@ module _ (Asks : List ℕ → Query → Type 0) (Shows : List ℕ → QueryFault
           record {
             before = suc b.before;
             kind = b.kind;
-            first = first_behind t q ts b.before b.kind a b.first;
+            first = first_after t q ts b.before b.kind a b.first;
             is =
                 ap (λ (m : ℕ). fault m b.kind) place ∙ b.is;
           }
@@ -105,7 +105,7 @@ module _ (Asks : List ℕ → Query → Type 0) (Shows : List ℕ → QueryFault
           record {
             before = 0;
             kind = kind;
-            first = Behind [] t ts kind (All-nil (λ (u : List ℕ). (q : Query) × Asks u q)) a;
+            first = After [] t ts kind (All-nil (λ (u : List ℕ). (q : Query) × Asks u q)) a;
             is = ap (λ (m : ℕ). fault m kind) place;
           }
 
@@ -140,7 +140,7 @@ parts_utf8 sign (t ∷ []) below utf8 = All-cons IsUtf8 t [] utf8 (All-nil IsUtf
 parts_utf8 sign (t ∷ u ∷ ts) below utf8 =
     let rest : List ℕ = join_with_byte sign (u ∷ ts) in
     All-cons IsUtf8 t (u ∷ ts) (utf8_before t rest sign below utf8)
-    (parts_utf8 sign (u ∷ ts) below (utf8_behind t rest sign below utf8))
+    (parts_utf8 sign (u ∷ ts) below (utf8_after t rest sign below utf8))
 
 pub split_utf8 : (sign : ℕ) (text : List ℕ) → sign < 128 → IsUtf8 text → All IsUtf8 (slice_split (is_byte sign) text)
 split_utf8 sign text below utf8 =
@@ -200,10 +200,10 @@ module _ (forms : Forms) where
             ∙ without_first-same 0x7E rest in cc) f)
         go (Some atom) h =
             let whole = first_is 0x7E text atom h in
-            let behind = utf8_behind [] atom 0x7E (omega arith) (subst IsUtf8 whole utf8) in
+            let after = utf8_after [] atom 0x7E (omega arith) (subst IsUtf8 whole utf8) in
             subst (λ (t : List ℕ). MatchResult (atom_query forms atom >>= (λ x. Ok (Not x))) (IsTerm forms t)
             (IsTermFault forms t)) (sym whole)
-            (then_answers (atom_query forms atom) Not _ _ (atom_answers atom behind) (λ q a. Unwanted atom q a)
+            (then_answers (atom_query forms atom) Not _ _ (atom_answers atom after) (λ q a. Unwanted atom q a)
             (λ kind f. InUnwanted atom kind f))
 
     all_answers : (text : List ℕ) → IsUtf8 text
@@ -305,9 +305,9 @@ module _ (lexicon : Lexicon) (plain : HasNoSigns lexicon) where
           (λ q r. Plain text q free r) (λ kind f. InPlain text kind free f)
       go (Some p) h =
           let parts = cut_parts 0x3A text p h in
-          let behind = utf8_behind p.0 p.1 0x3A (omega arith) (subst IsUtf8 parts.0 utf8) in
+          let after = utf8_after p.0 p.1 0x3A (omega arith) (subst IsUtf8 parts.0 utf8) in
           subst (λ (t : List ℕ). Answers t (prefixed_query lexicon p.0 p.1)) (sym parts.0)
-          (prefixed_answers p.0 p.1 parts.1 behind)
+          (prefixed_answers p.0 p.1 parts.1 after)
 
   are_patterns : (patterns : List (List ℕ)) (qs : List Query) → 0 < length patterns
       → Each (IsPattern lexicon) patterns qs → ArePatterns lexicon patterns qs

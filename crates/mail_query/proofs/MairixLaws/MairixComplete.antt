@@ -17,9 +17,9 @@ use Rattle.mail_query.proofs.MairixLaws.EachLemmas.{at_number}
 use Rattle.mail_query.proofs.MairixLaws.KindLemmas.{letters_read}
 use Rattle.mail_query.proofs.MairixLaws.FlagLemmas.{flags_read}
 use Rattle.mail_query.proofs.MairixLaws.SizeLemmas.{sizes_read}
-use Rattle.mail_query.proofs.MairixLaws.SignLemmas.{any-append, any-behind, free_of, not_approximate}
+use Rattle.mail_query.proofs.MairixLaws.SignLemmas.{any-append, any-after, free_of, not_approximate}
 use Rattle.mail_query.proofs.MairixLaws.SignLemmas.{not_approximate-marked, split_none, split_at, first_free}
-use Rattle.mail_query.proofs.MairixLaws.SignLemmas.{utf8_before, utf8_behind}
+use Rattle.mail_query.proofs.MairixLaws.SignLemmas.{utf8_before, utf8_after}
 
 -- ---- texts between signs
 
@@ -31,7 +31,7 @@ pub separated_read : (sign : ℕ) (Asks : List ℕ → Query → Type 0) (read :
 separated_read sign Asks read below one text qs (Alone t q a) utf8 = grind (arith, split_none)
 separated_read sign Asks read below one text qs (Before t rest q more a s) utf8 =
     let h = one t q a (utf8_before t rest sign below utf8) in
-    let k = separated_read sign Asks read below one rest more s (utf8_behind t rest sign below utf8) in
+    let k = separated_read sign Asks read below one rest more s (utf8_after t rest sign below utf8) in
     ap (each_read read) (split_at sign t rest h.1)
     ∙ ap (λ (r : Result Query QueryFaultKind). r >>=
     (λ x. with_front (x ∷ []) (each_read read (slice_split (is_byte sign) rest)))) h.0
@@ -44,7 +44,7 @@ separated_free sign c Asks below differs one text qs (Alone t q a) utf8 = one t 
 separated_free sign c Asks below differs one text qs (Before t rest q more a s) utf8 =
     any-append (is_byte c) t (sign ∷ rest) (one t q a (utf8_before t rest sign below utf8))
     (or_from (eqb sign c) (list_any (is_byte c) rest) differs
-    (separated_free sign c Asks below differs one rest more s (utf8_behind t rest sign below utf8)))
+    (separated_free sign c Asks below differs one rest more s (utf8_after t rest sign below utf8)))
 
 -- ---- atoms, terms and what is made of them
 
@@ -79,15 +79,15 @@ module _ (forms : Forms) (plain : PlainForms forms) where
       record {
         read = rw (
           not_approximate-marked sub h,
-          no_word (sub ++ 0x3D ∷ []) utf8 (any-behind is_sign sub [] 0x3D refl),
+          no_word (sub ++ 0x3D ∷ []) utf8 (any-after is_sign sub [] 0x3D refl),
           without_last-same 0x3D sub,
           e,
         ) refl;
         free = λ c sign front mark. marked_free sub h c sign mark;
       }
   atom_read text q (FrontOfWord sub sought e) utf8 =
-      let behind : IsUtf8 (sub ++ 0x3D ∷ []) = utf8_behind [] (sub ++ 0x3D ∷ []) 0x5E (omega arith) utf8 in
-      let h = plain.parts sub sought (utf8_before sub [] 0x3D (omega arith) behind) e in
+      let after : IsUtf8 (sub ++ 0x3D ∷ []) = utf8_after [] (sub ++ 0x3D ∷ []) 0x5E (omega arith) utf8 in
+      let h = plain.parts sub sought (utf8_before sub [] 0x3D (omega arith) after) e in
       record {
         read =
             rw (
@@ -110,7 +110,7 @@ module _ (forms : Forms) (plain : PlainForms forms) where
   pub term_read : (text : List ℕ) (q : Query) → IsTerm forms text q → IsUtf8 text → TermRead text q
   term_read text q (Wanted atom asked a) utf8 = grind (arith, atom_read, first_free)
   term_read text q (Unwanted atom asked a) utf8 =
-      let h = atom_read atom asked a (utf8_behind [] atom 0x7E (omega arith) utf8) in
+      let h = atom_read atom asked a (utf8_after [] atom 0x7E (omega arith) utf8) in
       record {
         read = ap (λ (r : Result Query QueryFaultKind). r >>= (λ x. Ok (Not x))) h.read;
         comma =
@@ -180,9 +180,9 @@ module _ (lexicon : Lexicon) (plain : HasNoSigns lexicon) where
       rw (cut_at 0x3A letters rest (letters_free letters named.letters), pattern_query)
       (prefixed_letters letters rest kinds (letters_read letters named)
       ∙ rest_read (word_forms lexicon kinds) (word_plain kinds) rest asked r
-      (utf8_behind letters rest 0x3A (omega arith) utf8))
+      (utf8_after letters rest 0x3A (omega arith) utf8))
   pattern_read text q (OfId rest asked r) utf8 =
-      rest_read id_forms id_plain rest asked r (utf8_behind (0x6D ∷ []) rest 0x3A (omega arith) utf8)
+      rest_read id_forms id_plain rest asked r (utf8_after (0x6D ∷ []) rest 0x3A (omega arith) utf8)
   pattern_read text q (OfDate dates range e) utf8 = rw e refl
   pattern_read text q (OfSize sizes asked s) utf8 =
       ap (λ (o : Option Query). ok_or o BadSize) (sizes_read sizes asked s)

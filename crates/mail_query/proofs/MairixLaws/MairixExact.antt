@@ -8,7 +8,7 @@ use Rattle.mail_query.proofs.Words.{Lexicon, Query, Date, Not, all_of, sizes_of,
 use Rattle.mail_query.proofs.Words.{mairix_query, Forms, kinds_of, is_approximate, id_forms, word_forms, each_read}
 use Rattle.mail_query.proofs.Words.{found_query, atom_query, term_query, all_query, rest_query, prefixed_query}
 use Rattle.mail_query.proofs.Words.{pattern_query, patterns_from, patterns_query, kinds_named, IsTerm, IsPattern}
-use Rattle.mail_query.proofs.Words.{IsAsked, AskNothing, HasNoSigns, IsFirstOf, Behind, IsAtomFault, AsksApproximately}
+use Rattle.mail_query.proofs.Words.{IsAsked, AskNothing, HasNoSigns, IsFirstOf, After, IsAtomFault, AsksApproximately}
 use Rattle.mail_query.proofs.Words.{HasNoForm, IsTermFault, InWanted, InUnwanted, IsAllFault, InTerm, IsRestFault}
 use Rattle.mail_query.proofs.Words.{InAll, IsPatternPrefix, OfKinds, IsPatternFault, HasNoPrefix, InPlain, InWords}
 use Rattle.mail_query.proofs.Words.{InId, HasNoDate, HasNoSize, HasNoFlags, IsFirstFault, HasNone, InPattern}
@@ -21,7 +21,7 @@ use Rattle.mail_query.proofs.MairixLaws.EachLemmas.{patterns_numbered}
 use Rattle.mail_query.proofs.MairixLaws.KindLemmas.{letters_read, read_letters}
 use Rattle.mail_query.proofs.MairixLaws.FlagLemmas.{read_flags}
 use Rattle.mail_query.proofs.MairixLaws.SizeLemmas.{read_sizes}
-use Rattle.mail_query.proofs.MairixLaws.SignLemmas.{utf8_behind}
+use Rattle.mail_query.proofs.MairixLaws.SignLemmas.{utf8_after}
 use Rattle.mail_query.proofs.MairixLaws.MairixAnswers.{split_utf8, found_asks, pattern_answers, patterns_answer}
 use Rattle.mail_query.proofs.MairixLaws.MairixComplete.{PlainForms, id_plain, word_plain, term_read, all_read}
 use Rattle.mail_query.proofs.MairixLaws.MairixComplete.{letters_free, prefixed_letters, pattern_read, patterns_read}
@@ -37,7 +37,7 @@ module _ (Asks : List ℕ → Query → Type 0) (Shows : List ℕ → QueryFault
   first_faulty : (E : Type 0) (fault : ℕ → QueryFaultKind → E) (n : ℕ) (texts : List (List ℕ)) (place : ℕ)
       (kind : QueryFaultKind) → IsFirstOf Asks Shows texts place kind
       → All IsUtf8 texts → numbered_read fault read n texts ≡ Err (fault (n + place) kind)
-  first_faulty E fault n texts place kind (Behind before text more shown fine f) utf8 = go n before fine utf8
+  first_faulty E fault n texts place kind (After before text more shown fine f) utf8 = go n before fine utf8
     where
       go : (m : ℕ) (front : List (List ℕ)) → All (λ (t : List ℕ). (q : Query) × Asks t q) front
           → All IsUtf8 (front ++ text ∷ more)
@@ -51,13 +51,13 @@ module _ (Asks : List ℕ → Query → Type 0) (Shows : List ℕ → QueryFault
       go m (t ∷ ts) fine utf8 =
           let rest : List (List ℕ) = ts ++ text ∷ more in
           let asks = All-head (λ (u : List ℕ). (q : Query) × Asks u q) t ts fine in
-          let behind = go (m + 1) ts (All-tail (λ (u : List ℕ). (q : Query) × Asks u q) t ts fine)
+          let after = go (m + 1) ts (All-tail (λ (u : List ℕ). (q : Query) × Asks u q) t ts fine)
           (All-tail IsUtf8 t rest utf8) in
           let here : m + 1 + length ts ≡ m + length (t ∷ ts) = omega arith in
           ap (λ (r : Result Query QueryFaultKind). fault_as (fault m) r >>=
           (λ q. with_front (q ∷ []) (numbered_read fault read (m + 1) rest)))
           (answered t asks.0 asks.1 (All-head IsUtf8 t rest utf8))
-          ∙ ap (with_front (asks.0 ∷ [])) behind ∙ ap (λ (k : ℕ). Err (fault k shown)) here
+          ∙ ap (with_front (asks.0 ∷ [])) after ∙ ap (λ (k : ℕ). Err (fault k shown)) here
 
   first_part_faulty : (texts : List (List ℕ)) (place : ℕ) (kind : QueryFaultKind)
       → IsFirstOf Asks Shows texts place kind → All IsUtf8 texts → each_read read texts ≡ Err kind
@@ -124,9 +124,9 @@ module _ (lexicon : Lexicon) (plain : HasNoSigns lexicon) where
       rw (cut_at 0x3A letters rest (letters_free lexicon plain letters are.letters), pattern_query)
       (prefixed_letters lexicon plain letters rest kinds (letters_read letters are)
       ∙ rest_faulty (word_forms lexicon kinds) (word_plain lexicon plain kinds) rest shown f
-      (utf8_behind letters rest 0x3A (omega arith) utf8))
+      (utf8_after letters rest 0x3A (omega arith) utf8))
   pattern_faulty text kind (InId rest shown f) utf8 =
-      rest_faulty id_forms id_plain rest shown f (utf8_behind (0x6D ∷ []) rest 0x3A (omega arith) utf8)
+      rest_faulty id_forms id_plain rest shown f (utf8_after (0x6D ∷ []) rest 0x3A (omega arith) utf8)
   pattern_faulty text kind (HasNoDate dates none) utf8 =
       ap (λ (o : Option Range). ok_or (option_map Date o) BadDate) none
   pattern_faulty text kind (HasNoSize sizes none) utf8 =
@@ -157,7 +157,7 @@ module _ (lexicon : Lexicon) (plain : HasNoSigns lexicon) where
       some : (ts : List (List ℕ)) (m : ℕ) (k : QueryFaultKind)
           → IsFirstOf (IsPattern lexicon) (IsPatternFault lexicon) ts m k → patterns_query lexicon ts
           ≡ patterns_from lexicon 1 ts >>= (λ qs. Ok (all_of qs))
-      some ts m k (Behind before text more shown fine fault) = some_first before text more
+      some ts m k (After before text more shown fine fault) = some_first before text more
 
   -- ---- both directions
 

@@ -16,9 +16,9 @@ any-append p (x ∷ xs) ys h k =
     let parts = or_parts (p x) (list_any p xs) h
     in or_from (p x) (list_any p (xs ++ ys)) parts.0 (any-append p xs ys parts.1 k)
 
-pub any-behind : (p : ℕ → Bool) (xs ys : List ℕ) (y : ℕ) → p y ≡ true → list_any p (xs ++ y ∷ ys) ≡ true
-any-behind p [] ys y h = or_left (p y) (list_any p ys) h
-any-behind p (x ∷ xs) ys y h = or_right (p x) (list_any p (xs ++ y ∷ ys)) (any-behind p xs ys y h)
+pub any-after : (p : ℕ → Bool) (xs ys : List ℕ) (y : ℕ) → p y ≡ true → list_any p (xs ++ y ∷ ys) ≡ true
+any-after p [] ys y h = or_left (p y) (list_any p ys) h
+any-after p (x ∷ xs) ys y h = or_right (p x) (list_any p (xs ++ y ∷ ys)) (any-after p xs ys y h)
 
 -- ---- signs
 
@@ -106,8 +106,8 @@ utf8_before text rest c below utf8 =
     (IsUtf8-take whole (length text) utf8 (IsCharBoundary-before_ascii whole (length text) inside
     (omega (arith, here, below))))
 
-pub utf8_behind : (text rest : List ℕ) (c : ℕ) → c < 128 → IsUtf8 (text ++ c ∷ rest) → IsUtf8 rest
-utf8_behind text rest c below utf8 =
+pub utf8_after : (text rest : List ℕ) (c : ℕ) → c < 128 → IsUtf8 (text ++ c ∷ rest) → IsUtf8 rest
+utf8_after text rest c below utf8 =
     let whole : List ℕ = text ++ c ∷ rest in
     let here : get_or whole (length text) 0 ≡ c = get_or-append_seam text c rest 0 in
     let inside : length text < length whole = omega (arith, length-append text (c ∷ rest)) in

@@ -51,8 +51,8 @@ shown_waiting (code_waiting.ForClose level) = ForClose (shown_level level)
 
 -- what is open, the innermost first, from a list that has the innermost last
 abbrev pub nearest_first : List CodeWaiting → List Waiting → List Waiting
-nearest_first [] behind = behind
-nearest_first (w ∷ ws) behind = nearest_first ws (shown_waiting w ∷ behind)
+nearest_first [] after = after
+nearest_first (w ∷ ws) after = nearest_first ws (shown_waiting w ∷ after)
 
 -- all that is open, the innermost first
 abbrev pub shown_stack : List CodeWaiting → List Waiting

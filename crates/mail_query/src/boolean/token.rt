@@ -23,7 +23,7 @@ pub(crate) fn next_token(text: &str) -> Option<(Token<'_>, &str)>
         (λ p. query_tokens text.now ≡ shown_token p.0 ∷ query_tokens p.1.now) }
     ensures shorter { IfSome result (λ p. length p.1.now < length text.now) }
 {
-    let text = behind_blanks(text);
+    let text = after_blanks(text);
     if let Some(rest) = without_first(text, '(') {
         return Some((Token::Open, rest));
     }
@@ -52,7 +52,7 @@ fn token_of(run: &str) -> Token<'_>
 }
 
 /// Returns the text without the blanks at its front.
-fn behind_blanks(text: &str) -> &str
+fn after_blanks(text: &str) -> &str
     ensures tokens { query_tokens result.now ≡ query_tokens text.now }
     ensures none { blank_count result.now ≡ 0 }
     ensures within { length result.now ≤ length text.now }

@@ -1,7 +1,7 @@
 -- What the iterator over words looks for at the front of the rest of a text.
 use Rattle.std.specs.Prelude.{ℕ, ◌+◌, ◌<◌, ◌≡◌, Bool, true, false, not, ◌&&◌, ◌||◌, List, [], ◌∷◌, ◌++◌, length}
 use Rattle.std.specs.Prelude.{slice_index, nat_le, nat_lt, codes, encode_utf8_all, if◌then◌else◌}
-use Rattle.mail_words.specs.Words.{is_word_character, is_joiner, word_limit, words_behind}
+use Rattle.mail_words.specs.Words.{is_word_character, is_joiner, word_limit, words_after}
 
 -- the characters at the front that pass
 abbrev pub front : (ℕ → Bool) → List ℕ → List ℕ
@@ -9,9 +9,9 @@ front p [] = []
 front p (c ∷ cs) = elim (p c) [ true ↦ c ∷ front p cs | false ↦ [] ]
 
 -- the characters after those at the front that pass
-abbrev pub behind : (ℕ → Bool) → List ℕ → List ℕ
-behind p [] = []
-behind p (c ∷ cs) = elim (p c) [ true ↦ behind p cs | false ↦ c ∷ cs ]
+abbrev pub after_front : (ℕ → Bool) → List ℕ → List ℕ
+after_front p [] = []
+after_front p (c ∷ cs) = elim (p c) [ true ↦ after_front p cs | false ↦ c ∷ cs ]
 
 -- whether a character isn't a word character
 abbrev pub is_other : ℕ → Bool
@@ -67,7 +67,7 @@ read_front false = []
 
 -- the words that begin in the rest
 unfoldable pub words_left : Bool → List ℕ → List (List ℕ)
-words_left in_run rest = words_behind is_word_character (read_front in_run) rest
+words_left in_run rest = words_after is_word_character (read_front in_run) rest
 
 -- the word of these characters, unless it has more than 128 bytes
 abbrev pub within : List ℕ → List (List ℕ)
@@ -81,4 +81,4 @@ joined_on plain (c ∷ cs) = within (plain ++ c ∷ cs)
 -- the long word that begins at the front of these characters, unless its run began earlier or it is too long
 abbrev pub long_at : Bool → List ℕ → List (List ℕ)
 long_at true cs = []
-long_at false cs = joined_on (front is_word_character cs) (joined_front (behind is_word_character cs))
+long_at false cs = joined_on (front is_word_character cs) (joined_front (after_front is_word_character cs))

@@ -20,5 +20,5 @@ Says settings said =
     × (said.format ≡ last_value_of format_in settings)
 
 -- what some settings say together with all lines of an rcfile after them
-abbrev pub rc_behind : List Setting → List ℕ → Result Rc RcFault
-rc_behind before rc = settings_from before 1 (lines_in rc) >>= rc_from
+abbrev pub rc_after : List Setting → List ℕ → Result Rc RcFault
+rc_after before rc = settings_from before 1 (lines_in rc) >>= rc_from

@@ -5,13 +5,13 @@ use Rattle.std.specs.Str.{bytes_eq}
 use Rattle.std.proofs.lemmas.List.{length-drop}
 
 -- the archives after an indexed one
-pub behind : (named : List Archive) (n : ℕ) (a : Archive) (rest : List Archive) → drop n named ≡ a ∷ rest
+pub after : (named : List Archive) (n : ℕ) (a : Archive) (rest : List Archive) → drop n named ≡ a ∷ rest
     → drop (n + 1) named ≡ rest
-behind [] zero a rest e = absurd cc
-behind [] (suc n) a rest e = absurd cc
-behind (b ∷ named) zero a rest e = cc
-behind (b ∷ named) (suc n) a rest e = let more : suc n + 1 ≡ suc (n + 1) = omega arith
-    in ap (λ (k : ℕ). drop k (b ∷ named)) more ∙ behind named n a rest e
+after [] zero a rest e = absurd cc
+after [] (suc n) a rest e = absurd cc
+after (b ∷ named) zero a rest e = cc
+after (b ∷ named) (suc n) a rest e = let more : suc n + 1 ≡ suc (n + 1) = omega arith
+    in ap (λ (k : ℕ). drop k (b ∷ named)) more ∙ after named n a rest e
 
 -- the result at an archive
 pub at-archive : (named : List Archive) (paths : List (List ℕ)) (n : ℕ) (a : Archive) (rest : List Archive)
@@ -19,7 +19,7 @@ pub at-archive : (named : List Archive) (paths : List (List ℕ)) (n : ℕ) (a :
     → first_renamed n (drop n named) (drop n paths)
     ≡ cond (bytes_eq a.path (get_or paths n [])) (first_renamed (n + 1) (drop (n + 1) named) (drop (n + 1) paths))
     (Some n)
-at-archive named paths n a rest here below = grind (arith, drop-cons, behind, add-one)
+at-archive named paths n a rest here below = grind (arith, drop-cons, after, add-one)
 
 pub still-named : (named : List Archive) (n : ℕ) → n < length named → drop n named ≡ [] → ⊥
 still-named named n below none = omega (arith, length-drop n named, ap length none)

@@ -4,8 +4,7 @@ use Rattle.mairix_tool.proofs.Words.{◌≡◌, ◌∙◌, ℕ, zero, suc, ◌<�
 use Rattle.mairix_tool.proofs.Words.{length, map, take, drop, unwrap_or, refl, sym, ap, subst, arith, append_assoc}
 use Rattle.mairix_tool.proofs.Words.{slice_index_or, option_map, map-append, length-map, length_push, get_or_at}
 use Rattle.mairix_tool.proofs.Words.{All-map, flat_map-map, Record, Message, spans_of, messages, span_length}
-use Rattle.mairix_tool.proofs.Words.{closed_text}
-use Rattle.mairix_tool.proofs.Words.{span}
+use Rattle.mairix_tool.proofs.Words.{closed_text, span}
 use Rattle.mairix_tool.proofs.Words.{answer_text, record_at, no_record, Mbox, messages_in, record_of, records_from}
 use Rattle.mairix_tool.proofs.Words.{table}
 use Rattle.std.specs.List.{All}
@@ -42,7 +41,7 @@ each-cut all n bytes before (m ∷ ms) is cuts =
       archive = bytes;
       before = map span_of before;
       here = span_of m;
-      behind = map span_of ms;
+      after = map span_of ms;
       is_cut = spans;
       is_text = refl;
     } in (

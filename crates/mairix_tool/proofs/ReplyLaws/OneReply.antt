@@ -95,7 +95,7 @@ never-later : (before more ys : List Mbox) (a b : Mbox) (f g : Fault) → ys ≡
     → IsRefusedAfter before a f → IsRefusedAfter ys b g → ⊥
 never-later before more ys a b f g whole h k =
     sound-not-refused ys f (sound-before ys b g k)
-    (refused-so ys before a f (record { behind = more; whole = whole }) h)
+    (refused-so ys before a f (record { after = more; whole = whole }) h)
 
 -- ---- an archive that isn't an mbox has no messages, so it doesn't have too many
 
@@ -177,7 +177,7 @@ alike : (archives : List Mbox) (f g : Fault) → RefusesArchives archives f → 
 alike archives f g h k = go (parted-so archives f h) (parted-so archives g k)
   where
     go : HasRefused archives f → HasRefused archives g → AreAlike archives f g
-    go (xs, a, p, r) (ys, b, q, s) = by-order (ordered xs ys p.behind q.behind a b (sym p.whole ∙ q.whole))
+    go (xs, a, p, r) (ys, b, q, s) = by-order (ordered xs ys p.after q.after a b (sym p.whole ∙ q.whole))
       where
         by-order : AreOrdered xs a ys b → AreAlike archives f g
         by-order (inl same) =

@@ -15,7 +15,8 @@ const SPACES: &str = "                                                          
 pub(crate) fn is_free_of_tags(open_before: bool, text: &str) -> bool
     ensures text { result ≡ true → encode_utf8_all (blanked_tags open_before (chars text.now))
         ≡ text.now }
-    ensures is_open { result ≡ true → is_tag_open_after_all open_before (chars text.now) ≡ open_before }
+    ensures is_open { result ≡ true → is_tag_open_after_all open_before (chars text.now)
+        ≡ open_before }
 {
     if open_before {
         return false;
@@ -76,18 +77,19 @@ pub(crate) fn blank_tags(
 ) -> Result<bool, AllocError>
     ensures text { OnOk result (string_bytes into.new
         ≡ string_bytes into.old ++ encode_utf8_all (blanked_tags open_before (chars text.now))) }
-    ensures is_open { IfOk result (λ behind. behind ≡ is_tag_open_after_all open_before (chars text.now)) }
+    ensures is_open { IfOk result (λ after. after ≡ is_tag_open_after_all open_before
+        (chars text.now)) }
     ensures size { OnOk result (length (string_bytes into.new)
         ≤ length (string_bytes into.old) + length text.now) }
 {
     let mut is_open = open_before;
     let mut rest = text;
-    while let Some((span, behind)) = rest.split_once(end_of_span(is_open)) {
+    while let Some((span, after)) = rest.split_once(end_of_span(is_open)) {
         push_span(is_open, span, into)?;
         // The character at which the text was cut is part of the tag too.
         into.push(' ')?;
         is_open = !is_open;
-        rest = behind;
+        rest = after;
     }
     push_span(is_open, rest, into)?;
     Ok(is_open)

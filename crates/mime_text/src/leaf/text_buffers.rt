@@ -42,7 +42,8 @@ fn write_blanked(open_before: bool, text: &str, into: &mut String) -> Result<boo
     requires { length text.now ≤ most_in_line_text }
     ensures text { OnOk result (string_bytes into.new
         ≡ encode_utf8_all (blanked_tags open_before (chars text.now))) }
-    ensures is_open { IfOk result (λ behind. behind ≡ is_tag_open_after_all open_before (chars text.now)) }
+    ensures is_open { IfOk result (λ after. after ≡ is_tag_open_after_all open_before
+        (chars text.now)) }
     ensures size { length (string_bytes into.new) ≤ most_in_line_text }
 {
     into.clear();
@@ -94,7 +95,7 @@ impl TextBuffers {
             × (text.now ≡ text_of charset line.now)) }
         ensures text { OnOk result (string_bytes self.new.blanked
             ≡ encode_utf8_all (blanked_tags open_before (chars (text_of charset line.now)))) }
-        ensures is_open { IfOk result (λ behind. behind
+        ensures is_open { IfOk result (λ after. after
             ≡ is_tag_open_after_all open_before (chars (text_of charset line.now))) }
     {
         if let Some(text) = own {
@@ -114,7 +115,8 @@ impl TextBuffers {
     ) -> Result<(), TextFault>
         requires { length line.now ≤ most_in_line }
         ensures shows { Shows S.takes S.refuses TextKind.Body (encode_utf8_all
-            (blanked_tags is_open.old (chars (text_of charset line.now)))) result sink.old sink.new }
+            (blanked_tags is_open.old (chars
+            (text_of charset line.now)))) result sink.old sink.new }
         ensures is_open { OnOk result (is_open.new
             ≡ is_tag_open_after_all is_open.old (chars (text_of charset line.now))) }
     {

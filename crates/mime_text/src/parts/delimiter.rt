@@ -4,7 +4,7 @@ ghost use Rattle.std.specs.List.{list_all};
 ghost use Rattle.contract_words.specs.Blanks.{is_blank as is_blank_of};
 ghost use Rattle.header_text.specs.EncodedWords.{after as after_of};
 ghost use Rattle.mime_text.specs.Parts.{are_blanks as are_blanks_of};
-ghost use Rattle.mime_text.specs.Frames.{dash_dash, dashes, delimiter_of, kind_behind};
+ghost use Rattle.mime_text.specs.Frames.{dash_dash, dashes, delimiter_of, kind_after};
 
 use header_text::after_blanks;
 use mbox_cutter::without_break;
@@ -53,7 +53,7 @@ fn has_last_of(boundary: &[u8], text: &[u8]) -> bool
 
 /// Returns what a line is to the multipart of a boundary, by what follows the line's two dashes.
 #[tactic(auto, using(crate::proofs::FrameLemmas::not_blank), unfolding(crate::specs::Frames::delimiter_of))]
-pub(crate) fn delimiter_behind(boundary: &[u8], text: &[u8]) -> Option<Delimiter>
+pub(crate) fn delimiter_after(boundary: &[u8], text: &[u8]) -> Option<Delimiter>
     ensures { result ≡ delimiter_of boundary.now text.now }
 {
     if !has_last_of(boundary, text) {

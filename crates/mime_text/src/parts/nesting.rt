@@ -6,7 +6,7 @@ ghost use Rattle.mime_text.specs.Stream.{place_after_hit};
 ghost use Rattle.mime_text.specs.Frames.{scan, place_after_delimiter, inside_out};
 
 use crate::parts::boundary::Boundary;
-use crate::parts::delimiter::{Delimiter, after_dashes, delimiter_behind};
+use crate::parts::delimiter::{Delimiter, after_dashes, delimiter_after};
 use crate::parts::frame::Frame;
 use crate::parts::shape::DefaultType;
 use std::alloc::{AllocError, Global};
@@ -45,7 +45,7 @@ pub(crate) enum Lead {
     /// The next piece of an open multipart begins; it has this type if it doesn't name its own.
     Piece(DefaultType),
     /// An open multipart ends.
-    Behind,
+    After,
 }
 
 /// Returns the outermost multipart that a line delimits, by what follows the line's two dashes, and what the line is to
@@ -58,7 +58,7 @@ fn outermost(frames: &[Frame], text: &[u8]) -> Option<(usize, Delimiter)>
         (inside_out (take r.0 frames.now) []))) }
 {
     for (at, frame) in frames.iter().enumerate() {
-        if let Some(kind) = delimiter_behind(frame.boundary.as_bytes(), text) {
+        if let Some(kind) = delimiter_after(frame.boundary.as_bytes(), text) {
             return Some((at, kind));
         }
     }
@@ -89,7 +89,8 @@ impl Nesting {
     /// Ends the multiparts inside the outermost open one that the line delimits, and that one too if the line closes
     /// it. Returns what the line delimits; if that is nothing, nothing changes.
     pub(crate) fn delimit(&mut self, line: &[u8]) -> Lead
-        ensures leads { lead_to {A = Pair} result self.new ≡ place_after_hit self.old.frames line.now }
+        ensures leads { lead_to {A = Pair} result self.new
+            ≡ place_after_hit self.old.frames line.now }
         ensures none { result ≡ Lead.Nowhere → self.new ≡ self.old }
     {
         let Some(text) = after_dashes(line) else {
@@ -99,7 +100,7 @@ impl Nesting {
             None => Lead::Nowhere,
             Some((at, Delimiter::Closing)) => {
                 self.frames.truncate(at);
-                Lead::Behind
+                Lead::After
             }
             Some((at, Delimiter::Next)) => {
                 let Frame { default, left, .. } = self.frames[at];

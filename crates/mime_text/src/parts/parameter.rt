@@ -3,7 +3,7 @@ ghost use Rattle.std.specs.Prelude.{◌≡◌, ◌<◌, ◌≤◌, ◌++◌, [],
 ghost use Rattle.std.specs.Option.{option_map_or};
 ghost use Rattle.header_text.specs.Blanks.{split_while};
 ghost use Rattle.header_text.specs.Names.{is_named as is_named_of};
-ghost use Rattle.mime_text.specs.Parameters.{quoted_and_rest, is_token_byte as is_token_byte_of, is_parameter_name_byte as is_parameter_name_byte_of, value_and_rest, piece_of, behind_semicolon as behind_semicolon_of, parameter as parameter_of};
+ghost use Rattle.mime_text.specs.Parameters.{quoted_and_rest, is_token_byte as is_token_byte_of, is_parameter_name_byte as is_parameter_name_byte_of, value_and_rest, piece_of, after_semicolon as after_semicolon_of, parameter as parameter_of};
 
 use header_text::{after_blanks, cut_at, is_named, trimmed};
 use std::alloc::AllocError;
@@ -39,7 +39,8 @@ fn after_name(bytes: &[u8]) -> &[u8]
 
 /// Adds what is in quotes, from after the first quote, and returns what follows the quotes.
 fn read_quoted<'a>(text: &'a [u8], into: &mut Vec<u8>) -> Result<&'a [u8], AllocError>
-    ensures value { IfOk result (λ rest. into.new.items ≡ into.old.items ++ (quoted_and_rest text.now).0) }
+    ensures value { IfOk result (λ rest. into.new.items ≡ into.old.items ++
+        (quoted_and_rest text.now).0) }
     ensures rest { IfOk result (λ rest. rest.now ≡ (quoted_and_rest text.now).1) }
 {
     let mut rest = text;
@@ -87,11 +88,11 @@ struct Piece<'a> {
 }
 
 /// Returns what follows the first semicolon; None if there is none.
-fn behind_semicolon(text: &[u8]) -> Option<&[u8]>
-    ensures { option_map (λ rest. rest.now) result ≡ behind_semicolon_of text.now }
+fn after_semicolon(text: &[u8]) -> Option<&[u8]>
+    ensures { option_map (λ rest. rest.now) result ≡ after_semicolon_of text.now }
 {
-    let (_, behind) = cut_at(b';', text)?;
-    Some(behind)
+    let (_, tail) = cut_at(b';', text)?;
+    Some(tail)
 }
 
 /// Reads the piece after a semicolon, and writes its value into the buffer, if it is a parameter.
@@ -104,14 +105,14 @@ fn read_piece<'a>(text: &'a [u8], into: &mut Vec<u8>) -> Result<Piece<'a>, Alloc
         ≡ (piece_of text.now).later) }
 {
     into.clear();
-    let behind = after_name(text);
-    let name = &text[..text.len() - behind.len()];
-    match behind.split_first() {
+    let tail = after_name(text);
+    let name = &text[..text.len() - tail.len()];
+    match tail.split_first() {
         Some((sign, rest)) if *sign == b'=' => {
             let after = read_value(after_blanks(rest), into)?;
             Ok(Piece {
                 name: Some(trimmed(name)),
-                later: behind_semicolon(after),
+                later: after_semicolon(after),
             })
         }
         Some((_, rest)) => Ok(Piece {
@@ -134,7 +135,7 @@ pub fn read_parameter(value: &[u8], name: &[u8], into: &mut Vec<u8>) -> Result<(
     ensures value { OnOk result (into.new.items ≡ unwrap_or (parameter_of name.now value.now) []) }
     ensures size { OnOk result (length into.new.items ≤ length value.now) }
 {
-    let mut rest = behind_semicolon(value);
+    let mut rest = after_semicolon(value);
     while let Some(text) = rest {
         let piece = read_piece(text, into)?;
         if let Some(found) = piece.name

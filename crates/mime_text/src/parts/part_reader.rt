@@ -74,7 +74,7 @@ fn end_entity<S: TextSink>(
 }
 
 impl PartReader {
-    ghost use Rattle.mime_text.specs.Feeding.{Comes, ComesBehindHeader, ComesEnding, KnowsFacts, given_after_delimiter, given_after_header};
+    ghost use Rattle.mime_text.specs.Feeding.{Comes, ComesAfterHeader, ComesEnding, KnowsFacts, given_after_delimiter, given_after_header};
 
     /// Returns a reader that is before the first line of a message. It takes no memory.
     pub(crate) fn new(alloc: Global) -> Self
@@ -138,7 +138,7 @@ impl PartReader {
                     default,
                 };
             }
-            Lead::Behind | Lead::Nowhere => self.state = State::Skipping,
+            Lead::After | Lead::Nowhere => self.state = State::Skipping,
         }
     }
 
@@ -169,7 +169,7 @@ impl PartReader {
         default: DefaultType,
         sink: &mut S,
     ) -> Result<(), TextFault>
-        ensures pairs { PassesPairs S.takes S.refuses (ComesBehindHeader self.old counted default)
+        ensures pairs { PassesPairs S.takes S.refuses (ComesAfterHeader self.old counted default)
             (Comes self.new) (λ c. c) result sink.old sink.new }
         ensures facts { OnOk result (NotesFacts self.old.facts self.new.facts self.old.header) }
     {
@@ -182,7 +182,8 @@ impl PartReader {
     fn begin_body(&mut self, default: DefaultType) -> Result<(), AllocError>
         ensures comes { OnOk result ((ls : List (List ℕ)) → HasLines self.old.header ls
             → Comes self.new
-            (given_after_header (shape_of default (fields_of ls)) self.old.nesting (fields_of ls))) }
+            (given_after_header (shape_of default (fields_of ls)) self.old.nesting
+            (fields_of ls))) }
         ensures facts { self.new.facts ≡ self.old.facts }
     {
         let entity = EntityType::of(self.alloc, default, &self.header)?;

@@ -12,9 +12,9 @@ pub returns-2 : goal.returns-2
 returns-2 c =
     let bytes = c.args.bytes.now in
     let at = c.in_ok-at.at in
-    let behind : take (length bytes - (at + 1)) (drop (at + 1) bytes) ≡ drop (suc at) bytes = take_rest bytes (at + 1)
+    let after : take (length bytes - (at + 1)) (drop (at + 1) bytes) ≡ drop (suc at) bytes = take_rest bytes (at + 1)
     ∙ rw add-one refl in
-    ap (λ (rest : List ℕ). Some (take at bytes, rest)) behind
+    ap (λ (rest : List ℕ). Some (take at bytes, rest)) after
     ∙ sym (cut_at-first c.args.byte bytes at c.in_ok-at.ensures.0.high c.in_ok-at.ensures.1
     (λ k lt. false_from_ne_true (slice_index bytes k == c.args.byte) (c.in_ok-at.ensures.0.before k (omega arith) lt)))
 

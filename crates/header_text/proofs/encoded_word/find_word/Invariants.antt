@@ -4,8 +4,8 @@ use Rattle.header_text.proofs.WordLaws.WordLemmas.{Seen}
 use Rattle.header_text.proofs.encoded_word.find_word.Given as goal
 
 -- no word has begun so far
-abbrev pub invariant-loop-behind : goal.invariant-loop-behind
-invariant-loop-behind l = Seen l.value l.rest
+abbrev pub invariant-loop-after : goal.invariant-loop-after
+invariant-loop-after l = Seen l.value l.rest
 
-abbrev pub decreases-loop-behind : goal.decreases-loop-behind
-decreases-loop-behind l = length l.rest
+abbrev pub decreases-loop-after : goal.decreases-loop-after
+decreases-loop-after l = length l.rest

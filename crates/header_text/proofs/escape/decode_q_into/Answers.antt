@@ -7,22 +7,22 @@ use Rattle.header_text.proofs.WordLaws.EscapeLemmas.{q_bytes-space, q_bytes-free
 use Rattle.header_text.proofs.escape.decode_q_into.Goals as goal
 use Rattle.header_text.proofs.escape.decode_q_into.Goals.{In_ok-push}
 
-cut : (c : In_ok-push) → IsCut 0x5F c.loop-stretch.rest.now c.in-Some.stretch.now c.in-Some.behind.now
-cut c = IsCut-from 0x5F c.loop-stretch.rest.now c.in-Some.stretch.now c.in-Some.behind.now (sym c.in-Some.ensures)
+cut : (c : In_ok-push) → IsCut 0x5F c.loop-stretch.rest.now c.in-Some.stretch.now c.in-Some.after.now
+cut c = IsCut-from 0x5F c.loop-stretch.rest.now c.in-Some.stretch.now c.in-Some.after.now (sym c.in-Some.ensures)
 
 pub loop-stretch-smaller : goal.loop-stretch-smaller
 loop-stretch-smaller c = let joined = (cut c).joined
-    in omega (arith, ap length joined, length-append c.in-Some.stretch.now (0x5F ∷ c.in-Some.behind.now))
+    in omega (arith, ap length joined, length-append c.in-Some.stretch.now (0x5F ∷ c.in-Some.after.now))
 
 pub loop-stretch-preserved : goal.loop-stretch-preserved
 loop-stretch-preserved c =
     let stretch = c.in-Some.stretch.now in
-    let behind = c.in-Some.behind.now in
+    let after = c.in-Some.after.now in
     let items : List ℕ = c.loop-stretch.into.items in
-    ap (λ (l : List ℕ). l ++ q_bytes behind)
+    ap (λ (l : List ℕ). l ++ q_bytes after)
     (c.in_ok-push.ensures.items ∙ ap (λ (l : List ℕ). l ++ 0x20 ∷ []) c.in_ok-unescape_into.ensures.bytes)
-    ∙ written items (unescaped_bytes stretch) (q_bytes behind) 0x20
-    ∙ ap (λ (l : List ℕ). items ++ l) (sym (ap q_bytes (cut c).joined ∙ q_bytes-space stretch behind (cut c).free))
+    ∙ written items (unescaped_bytes stretch) (q_bytes after) 0x20
+    ∙ ap (λ (l : List ℕ). items ++ l) (sym (ap q_bytes (cut c).joined ∙ q_bytes-space stretch after (cut c).free))
     ∙ c.loop-stretch.invariant
 
 pub returns-clause-bytes : goal.returns-clause-bytes

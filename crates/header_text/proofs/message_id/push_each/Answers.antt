@@ -11,25 +11,25 @@ use Rattle.header_text.proofs.message_id.push_each.Goals.{In_ok-push_id}
 pub loop-text-init : goal.loop-text-init
 loop-text-init c = grind (arith, front-refl)
 
-cut : (c : In_ok-push_id) → IsCut 0x3E c.loop-text.rest.now c.in-Some.text.now c.in-Some.behind.now
-cut c = IsCut-from 0x3E c.loop-text.rest.now c.in-Some.text.now c.in-Some.behind.now (sym c.in-Some.ensures)
+cut : (c : In_ok-push_id) → IsCut 0x3E c.loop-text.rest.now c.in-Some.text.now c.in-Some.after.now
+cut c = IsCut-from 0x3E c.loop-text.rest.now c.in-Some.text.now c.in-Some.after.now (sym c.in-Some.ensures)
 
 pub loop-text-smaller : goal.loop-text-smaller
 loop-text-smaller c = let joined = (cut c).joined
-    in omega (arith, ap length joined, length-append c.in-Some.text.now (0x3E ∷ c.in-Some.behind.now))
+    in omega (arith, ap length joined, length-append c.in-Some.text.now (0x3E ∷ c.in-Some.after.now))
 
 pub loop-text-preserved : goal.loop-text-preserved
 loop-text-preserved c =
     let text = c.in-Some.text.now in
-    let behind = c.in-Some.behind.now in
-    let texts : closed_texts c.loop-text.rest.now ≡ text ∷ closed_texts behind = ap closed_texts (cut c).joined
-    ∙ closed_texts-cut text behind (cut c).free in
+    let after = c.in-Some.after.now in
+    let texts : closed_texts c.loop-text.rest.now ≡ text ∷ closed_texts after = ap closed_texts (cut c).joined
+    ∙ closed_texts-cut text after (cut c).free in
     let old = map (λ id. id.items) c.loop-text.ids.items in
     record {
-      sofar = ap (λ (ids : List (List ℕ)). ids ++ ids_of_texts (closed_texts behind)) c.in_ok-push_id.ensures.ids
-          ∙ append_assoc old (ids_of_texts (text ∷ [])) (ids_of_texts (closed_texts behind))
+      sofar = ap (λ (ids : List (List ℕ)). ids ++ ids_of_texts (closed_texts after)) c.in_ok-push_id.ensures.ids
+          ∙ append_assoc old (ids_of_texts (text ∷ [])) (ids_of_texts (closed_texts after))
           ∙ ap (λ (ids : List (List ℕ)). old ++ ids)
-          (sym (ids_in-cons text (closed_texts behind)) ∙ ap ids_of_texts (sym texts)) ∙ c.loop-text.invariant.sofar;
+          (sym (ids_in-cons text (closed_texts after)) ∙ ap ids_of_texts (sym texts)) ∙ c.loop-text.invariant.sofar;
       kept = front-trans _ _ _ c.loop-text.invariant.kept c.push_id.ensures.kept;
     }
 

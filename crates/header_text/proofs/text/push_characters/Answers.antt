@@ -12,7 +12,7 @@ pub loop-at-preserved : goal.loop-at-preserved
 loop-at-preserved c =
     let rest = c.loop-at.rest.now in
     let at = c.in-Some.at in
-    let behind : take (length rest - (at + 1)) (drop (at + 1) rest) ≡ drop (at + 1) rest = take_rest rest (at + 1) in
+    let after : take (length rest - (at + 1)) (drop (at + 1) rest) ≡ drop (at + 1) rest = take_rest rest (at + 1) in
     let pushed : string_bytes c.push.new.self
     ≡ string_bytes c.push_lossy.new.into ++ encode_utf8 (character c.args.charset (slice_index rest at)) =
     c.in_ok-push.ensures.bytes ∙ ap (λ (n : ℕ). string_bytes c.push_lossy.new.into ++ encode_utf8 n)
@@ -28,8 +28,8 @@ loop-at-preserved c =
     ∙ length-append (string_bytes c.push_lossy.new.into) (encode_utf8 c.character.result) in
     let left = length-drop (at + 1) rest in
     record {
-      sofar = rw behind (step ∙ c.loop-at.invariant.sofar);
-      size = rw behind (omega (
+      sofar = rw after (step ∙ c.loop-at.invariant.sofar);
+      size = rw after (omega (
         arith,
         c.loop-at.invariant.size,
         c.in_ok-push_lossy.ensures.size,

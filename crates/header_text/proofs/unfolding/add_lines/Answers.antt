@@ -14,13 +14,13 @@ loop-line-init c = record {
       Extends-refl c.args.into.now.items;
 }
 
-cut : (c : In_ok-add_part) → IsCut 0x0A c.loop-line.rest.now c.in-Some.line.now c.in-Some.behind.now
-cut c = IsCut-from 0x0A c.loop-line.rest.now c.in-Some.line.now c.in-Some.behind.now (sym c.in-Some.ensures)
+cut : (c : In_ok-add_part) → IsCut 0x0A c.loop-line.rest.now c.in-Some.line.now c.in-Some.after.now
+cut c = IsCut-from 0x0A c.loop-line.rest.now c.in-Some.line.now c.in-Some.after.now (sym c.in-Some.ensures)
 
 pub loop-line-smaller : goal.loop-line-smaller
 loop-line-smaller c =
     let joined = (cut c).joined in
-    omega (arith, ap length joined, length-append c.in-Some.line.now (0x0A ∷ c.in-Some.behind.now))
+    omega (arith, ap length joined, length-append c.in-Some.line.now (0x0A ∷ c.in-Some.after.now))
 
 pub loop-line-preserved : goal.loop-line-preserved
 loop-line-preserved c =
@@ -33,7 +33,7 @@ loop-line-preserved c =
     (ap (λ (b : Bor (List ℕ)). b.now) c.unwrap_or.ensures
     ∙ without_final_cr-stripped c.in-Some.line c.strip_suffix.result c.strip_suffix.ensures.cases) in
     record {
-      sofar = unfolds-line c.args.into.now.items c.args.body.now items c.loop-line.rest.now line c.in-Some.behind.now
+      sofar = unfolds-line c.args.into.now.items c.args.body.now items c.loop-line.rest.now line c.in-Some.after.now
           c.add_part.new.into.items c.loop-line.invariant.sofar (cut c) added;
       kept = Extends-trans _ _ _ c.loop-line.invariant.kept c.add_part.ensures.kept;
     }

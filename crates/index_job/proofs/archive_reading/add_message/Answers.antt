@@ -2,7 +2,7 @@
 use Rattle.index_job.proofs.Words.{◌≡◌, ◌∙◌, ℕ, List, Option, Some, false, IfSome, sym, subst, arith, MatchOption}
 use Rattle.index_job.proofs.Words.{Draft, IsInArchive, Ended, IsInsideMessage, HasEnded, IsReading, HasReadAll}
 use Rattle.index_job.proofs.Words.{err_from_is_err_and, with_open_message}
-use Rattle.index_job.proofs.MessageSteps.{message-fault, opens, ready-behind, adds-message, own-fault}
+use Rattle.index_job.proofs.MessageSteps.{message-fault, opens, ready-after, adds-message, own-fault}
 use Rattle.index_job.proofs.SourceReads.{reads-join}
 use Rattle.index_job.proofs.ReadingLines.{still-reading}
 use Rattle.contract_words.proofs.StillKnown.{still-earlier}
@@ -42,7 +42,7 @@ returns-in-Some-clause-ready g c =
     let ends : HasEnded start ended place =
     subst (λ (o : Option Ended). MatchOption o (IsInsideMessage start place) (λ e. HasEnded start e place)) c.in-Some.is
     c.in_ok-length.ensures.place in
-    ready-behind (record { archive = c.args.archive; offset = start; length = ended.length; size = ended.size }) d
+    ready-after (record { archive = c.args.archive; offset = start; length = ended.length; size = ended.size }) d
     place.offset c.finish_message.result
     c.next_line.new.text c.next_line.new.builder c.finish_message.new.builder more.0 more.1 c.requires.ready.2
     ends.offset c.finish_message.ensures.ok

@@ -18,8 +18,8 @@ loop-length-preserved c =
     let rest = c.loop-length.rest.now in
     let n = get_or lengths i 0 in
     let word : List ℕ = c.split_at.result.0.now in
-    let behind : List ℕ = c.split_at.result.1.now in
-    let left : List (List ℕ) = parts_of_lengths (drop (i + 1) lengths) behind in
+    let after : List ℕ = c.split_at.result.1.now in
+    let left : List (List ℕ) = parts_of_lengths (drop (i + 1) lengths) after in
     let next : parts_of_lengths (drop i lengths) rest ≡ word ∷ left =
     next-cut lengths i rest c.loop-length-test.true
     ∙ ap₂ (λ (w b : List ℕ). w ∷ parts_of_lengths (drop (i + 1) lengths) b) (sym c.split_at.ensures.front)

@@ -6,7 +6,7 @@ use Rattle.index_run.proofs.Words.{IsPath, Mbox, AreSound, mboxes, fault_of_job,
 use Rattle.index_run.proofs.Words.{IsAddFault}
 use Rattle.std.proofs.Common.{rules}
 use Rattle.contract_words.proofs.StillKnown.{all-before, known-called, known-still}
-use Rattle.contract_words.proofs.DeviceLists.{same_at, same_behind, known_at, known_length, counted_at}
+use Rattle.contract_words.proofs.DeviceLists.{same_at, same_after, known_at, known_length, counted_at}
 use Rattle.index_run.proofs.ArchiveLists.{mboxes-length, next-taken, parted-here, taken-so-far, sound-more}
 use Rattle.index_run.proofs.ArchiveLists.{archive-fault, others-run, here-counts}
 use Rattle.index_run.proofs.KeptSources.{stay-self, none-read, next-stays, next-ends, stopped, all-read}
@@ -92,7 +92,7 @@ loop-number-preserved g c =
     let i = c.loop-number.number in
     let is : c.archive.result ≡ Ok c.in_default.field-0 = grind arith in
     record {
-      unread = same_behind c.loop-number.sources c.args.sources.now i c.archive.new.source
+      unread = same_after c.loop-number.sources c.args.sources.now i c.archive.new.source
           c.loop-number.invariant.unread;
       counts = map-set_same g.S.Source.failures c.loop-number.sources i c.archive.new.source
           c.index-sources-number.result (rw is at c.archive.ensures.count) ∙ c.loop-number.invariant.counts;

@@ -16,10 +16,10 @@ from_end text rest at h = let place : at ≡ length text - length rest = omega (
     in subst (λ n. FrontRead keeps_itself text n rest) place h
 
 -- the first byte of the rest isn't kept
-first_behind : (text bytes after : List ℕ) (n : ℕ) → bytes ≡ text → after ≡ drop n text
+first_after : (text bytes after : List ℕ) (n : ℕ) → bytes ≡ text → after ≡ drop n text
     → (n < length bytes → is_kept_byte (get_or bytes n 0) ≡ false) → 0 < length after → is_kept_byte (get_or after 0 0)
     ≡ false
-first_behind text bytes after n same is end some =
+first_after text bytes after n same is end some =
     let place : n + 0 ≡ n = omega arith in
     let byte : get_or after 0 0 ≡ get_or bytes n 0 = ap (λ l. get_or l 0 0) is ∙ get_or-drop n text 0 0
     ∙ ap (λ k. get_or text k 0) place ∙ ap (λ l. get_or l n 0) (sym same) in
@@ -38,7 +38,7 @@ returns-then-letters-eq0 c =
     let ascii = kept_ascii _ _ _ _ inv.read.utf8 c.as_bytes.ensures.value c.ascii_len.ensures.within
     c.ascii_len.ensures.passed c.split_at.ensures.back in
     let read = front_read-chain _ _ _ _ _ _ inv ascii in
-    let first = first_behind _ _ _ _ c.as_bytes.ensures.value c.split_at.ensures.back c.ascii_len.ensures.end in
+    let first = first_after _ _ _ _ c.as_bytes.ensures.value c.split_at.ensures.back c.ascii_len.ensures.end in
     let none = kept_none c.split_at.result.1.now ascii.read.utf8 first
     (omega (arith, c.if-letters-eq0.true, c.letters_len-letters.ensures)) in
     kept_end _ _ _ (from_end _ _ _ read) none

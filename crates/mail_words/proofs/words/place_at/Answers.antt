@@ -10,10 +10,10 @@ pub returns-clause-plain : goal.returns-clause-plain
 returns-clause-plain c = seam_front _ _ _ _ _ (front_seam is_word_character c.args.text.now c.utf8.text) c.requires
     c.split_at.ensures.front
 
-pub returns-clause-behind : goal.returns-clause-behind
-returns-clause-behind c = seam_back _ _ _ _ _ (front_seam is_word_character c.args.text.now c.utf8.text) c.requires
+pub returns-clause-after : goal.returns-clause-after
+returns-clause-after c = seam_back _ _ _ _ _ (front_seam is_word_character c.args.text.now c.utf8.text) c.requires
     c.split_at.ensures.back
 
-pub returns-clause-behind_chars : goal.returns-clause-behind_chars
-returns-clause-behind_chars c = chars_back _ _ _ _ _ (front_seam is_word_character c.args.text.now c.utf8.text)
+pub returns-clause-after_chars : goal.returns-clause-after_chars
+returns-clause-after_chars c = chars_back _ _ _ _ _ (front_seam is_word_character c.args.text.now c.utf8.text)
     c.requires c.split_at.ensures.back

@@ -3,7 +3,7 @@
 use Rattle.std.proofs.Common.{◌≡◌, ◌+◌, ◌≤◌}
 use Rattle.contract_words.specs.Knowledge.{still_known}
 use Rattle.mbox_cutter.specs.Places.{events_left}
-use Rattle.worked_parts.proofs.Tallies.{Tallied, IsBehind}
+use Rattle.worked_parts.proofs.Tallies.{Tallied, IsAfter}
 use Rattle.worked_parts.proofs.cut_archives.tally_of.Given as goal
 
 abbrev pub invariant-events : goal.invariant-events
@@ -13,7 +13,7 @@ invariant-events g l = record {
   tallied : Tallied (still_known l.initial.cutter.coming (g.S.Source.rest l.cutter.source.now)) l.count l.bytes
       l.cutter.coming;
   events : l.count + events_left l.cutter.place ≤ events_left l.initial.cutter.place;
-  behind : IsBehind l.bytes l.cutter.place.phase l.cutter.place.offset;
+  after : IsAfter l.bytes l.cutter.place.phase l.cutter.place.offset;
   most : l.cutter.place.most ≡ l.initial.cutter.place.most;
 }
 

@@ -1,5 +1,5 @@
 -- `Header::push_line` reads a line as the definition does, by the stage after it: open, full or ended.
-use Rattle.header_text.proofs.Words.{◌≡◌, refl, sym, arith, stage_behind, Open, Full, Ended}
+use Rattle.header_text.proofs.Words.{◌≡◌, refl, sym, arith, stage_after, Open, Full, Ended}
 use Rattle.header_text.proofs.HeaderLaws.HeaderLemmas.{fields_size-with}
 use Rattle.header_text.proofs.HeaderLaws.PushLemmas.{holds-counted, holds-skipped, holds-ended, has_empty-ended}
 use Rattle.header_text.proofs.HeaderLaws.PushLemmas.{never_ended, taken-next_ended, taken-next_more}
@@ -20,7 +20,7 @@ invariant_of-self-in-Open c = grind (arith, fields_size-with)
 
 pub returns-in_ok-self-in-Open : goal.returns-in_ok-self-in-Open
 returns-in_ok-self-in-Open c =
-    let opens : stage_behind c.args.self.now.stage c.args.self.now.size c.args.line.now ≡ Open = sym c.in-Open.ensures
+    let opens : stage_after c.args.self.now.stage c.args.self.now.size c.args.line.now ≡ Open = sym c.in-Open.ensures
     in
     record {
       lines = λ ls h. holds-counted _ _ _ _ ls c.args.line.now h _ _ opens c.in_ok-self-in-Open.ensures.fields
@@ -32,7 +32,7 @@ returns-in_ok-self-in-Open c =
 
 pub returns-in-Full : goal.returns-in-Full
 returns-in-Full c =
-    let fills : stage_behind c.args.self.now.stage c.args.self.now.size c.args.line.now ≡ Full = sym c.in-Full.ensures
+    let fills : stage_after c.args.self.now.stage c.args.self.now.size c.args.line.now ≡ Full = sym c.in-Full.ensures
     in
     record {
       lines = λ ls h. holds-skipped _ _ _ _ ls c.args.line.now h Full fills (λ e. absurd (cc));
@@ -41,10 +41,10 @@ returns-in-Full c =
       refused = tt;
     }
 
-pub returns-in-Ended-stage_behind : goal.returns-in-Ended-stage_behind
-returns-in-Ended-stage_behind c =
-    let ends : stage_behind c.args.self.now.stage c.args.self.now.size c.args.line.now ≡ Ended =
-    sym c.in-Ended-stage_behind.ensures in
+pub returns-in-Ended-stage_after : goal.returns-in-Ended-stage_after
+returns-in-Ended-stage_after c =
+    let ends : stage_after c.args.self.now.stage c.args.self.now.size c.args.line.now ≡ Ended =
+    sym c.in-Ended-stage_after.ensures in
     record {
       lines = λ ls h. holds-skipped _ _ _ _ ls c.args.line.now h Ended ends (λ e. absurd (cc));
       taken = λ ls h. taken-next_ended _ _ _ _ ls c.args.line.now h ends;

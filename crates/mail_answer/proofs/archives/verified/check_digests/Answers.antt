@@ -33,7 +33,7 @@ returns-then-ne-clause-found g c =
     let other : option_eq bytes_eq a.digest read.digest ≡ false = grind arith in
     record {
       here = a;
-      behind = c.next.new.self;
+      after = c.next.new.self;
       place = sym i.coming ∙ c.in-Some.ensures;
       before = c.loop-archive.archives;
       read = i.read;

@@ -1,6 +1,6 @@
 -- The messages of the list in the window are marked or still come.
 use Rattle.mail_answer.proofs.Words.{◌≡◌, IfNone, IsFirst, CountsSteps}
-use Rattle.mail_answer.proofs.CursorLaws.MarkedLists.{HasMarked, room_behind}
+use Rattle.mail_answer.proofs.CursorLaws.MarkedLists.{HasMarked, room_after}
 use Rattle.mail_answer.proofs.cursor.marked.mark.Given as goal
 
 abbrev pub invariant-loop-least : goal.invariant-loop-least
@@ -12,4 +12,4 @@ invariant-loop-least l = record {
 }
 
 abbrev pub decreases-loop-least : goal.decreases-loop-least
-decreases-loop-least l = room_behind l.least
+decreases-loop-least l = room_after l.least

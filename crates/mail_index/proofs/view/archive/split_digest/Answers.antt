@@ -8,4 +8,4 @@ returns-in_err-digest-in-Two c = rw c.from_residual.ensures
 
 pub returns-in_ok-digest-in-Two : goal.returns-in_ok-digest-in-Two
 returns-in_ok-digest-in-Two c = whole_digest c.args.version c.args.bytes.now c.in_ok-digest-in-Two.digest.now
-    c.in_ok-digest-in-Two.behind.now c.in-Two.is c.in_ok-digest-in-Two.ensures.cases
+    c.in_ok-digest-in-Two.after.now c.in-Two.is c.in_ok-digest-in-Two.ensures.cases

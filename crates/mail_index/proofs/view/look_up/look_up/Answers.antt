@@ -3,7 +3,7 @@ use Rattle.mail_index.proofs.Words.{◌∙◌, ◌+◌, ◌-◌, ◌/◌, ◌<�
 use Rattle.mail_index.proofs.Words.{add_steps, lies_to, comparisons, comparisons_within, key_at, no_key, Key}
 use Rattle.mail_index.specs.Inside.KeyRuns.{keys_between}
 use Rattle.mail_index.proofs.ViewLaws.StepLemmas.{add_steps-none, add_steps-more}
-use Rattle.mail_index.proofs.ViewLaws.LookUpLemmas.{before-less, behind-greater, numbers_at-met, numbers_at-none}
+use Rattle.mail_index.proofs.ViewLaws.LookUpLemmas.{before-less, after-greater, numbers_at-met, numbers_at-none}
 use Rattle.mail_index.proofs.ViewLaws.RunLemmas.{between-none}
 use Rattle.mail_index.proofs.ViewLaws.Comparisons.{compared, comparisons-few}
 use Rattle.mail_index.proofs.view.look_up.look_up.Goals as goal
@@ -45,7 +45,7 @@ loop-low-preserved c =
       order = omega (arith, c.loop-low-test.true);
       within = omega (arith, i.within, c.loop-low-test.true);
       below = i.below;
-      above = λ j le lt. behind-greater c.args.kind c.args.text.now keys no_key middle j i.sorted lies le lt;
+      above = λ j le lt. after-greater c.args.kind c.args.text.now keys no_key middle j i.sorted lies le lt;
       steps =
           let met = compared i.steps.0 c.args.kind c.args.text.now keys c.loop-low.low c.loop-low.high no_key Greater
           c.loop-low-test.true i.within i.steps.1 lies in

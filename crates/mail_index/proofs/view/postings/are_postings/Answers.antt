@@ -20,7 +20,7 @@ returns-then-difference-eq0 c = (
   λ t. absurd (false≢true t),
   λ h.
       let all = c.loop-rest.invariant.forward h.1 in
-      let f = posted-front c.args.count c.loop-rest.low c.in-Some.difference c.loop-rest.rest.now c.in-Some.behind.now
+      let f = posted-front c.args.count c.loop-rest.low c.in-Some.difference c.loop-rest.rest.now c.in-Some.after.now
       all.0 (omega (arith, c.ranges.count.fits)) c.in-Some.ensures.short c.in-Some.ensures.some all.1 in
       elim c.then-difference-eq0.branch [
         | then-difference-eq0-via-then-difference-eq0 w ↦ absurd (omega (arith, f.some, w.if-difference-eq0.true))
@@ -30,17 +30,17 @@ returns-then-difference-eq0 c = (
 )
 
 pub loop-rest-smaller : goal.loop-rest-smaller
-loop-rest-smaller c = posted-shorter c.in-Some.difference c.loop-rest.rest.now c.in-Some.behind.now
+loop-rest-smaller c = posted-shorter c.in-Some.difference c.loop-rest.rest.now c.in-Some.after.now
     c.in-Some.ensures.some
 
 pub loop-rest-preserved : goal.loop-rest-preserved
 loop-rest-preserved c = record {
   forward = λ h.
       let all = c.loop-rest.invariant.forward h in
-      let f = posted-front c.args.count c.loop-rest.low c.in-Some.difference c.loop-rest.rest.now c.in-Some.behind.now
+      let f = posted-front c.args.count c.loop-rest.low c.in-Some.difference c.loop-rest.rest.now c.in-Some.after.now
       all.0 (omega (arith, c.ranges.count.fits)) c.in-Some.ensures.short c.in-Some.ensures.some all.1 in
       (f.later, f.posted);
   back = λ h. c.loop-rest.invariant.back (posted-back c.args.count c.loop-rest.low c.in-Some.difference
-      c.loop-rest.rest.now c.in-Some.behind.now (omega arith) (omega arith) c.in-Some.ensures.some h);
+      c.loop-rest.rest.now c.in-Some.after.now (omega arith) (omega arith) c.in-Some.ensures.some h);
   within = omega arith;
 }

@@ -18,8 +18,8 @@ pub split_at-requires : goal.split_at-requires
 split_at-requires c = rw (
   c.run_length.ensures.value,
   c.as_bytes.ensures.value,
-  run_counted c.behind_blanks-text.result.now,
-) (run_end c.behind_blanks-text.result.now)
+  run_counted c.after_blanks-text.result.now,
+) (run_end c.after_blanks-text.result.now)
 
 pub returns-clause-token : goal.returns-clause-token
 returns-clause-token c = grind (arith, nat_tests, begins_run, tokens-run, run_counted)

@@ -1,7 +1,7 @@
 -- `give_counted` gives the texts of all fields in order, field by field, and stops at the first fault.
 use Rattle.mime_text.proofs.Words.{◌≡◌, ◌∙◌, ◌≤◌, ◌++◌, List, [], ◌∷◌, true, ap, arith, rules, HeaderField, fields_size}
 use Rattle.mime_text.proofs.Words.{most_in_header, texts_of_fields, ComingPairs}
-use Rattle.mime_text.proofs.GivingLemmas.{texts-cons, gave-front, gave-behind, broke-front}
+use Rattle.mime_text.proofs.GivingLemmas.{texts-cons, gave-front, gave-after, broke-front}
 use Rattle.mime_text.proofs.Handing.{fault-up, gave-more, broke-later}
 use Rattle.mime_text.proofs.header.giving.give_counted.Goals as goal
 
@@ -39,5 +39,5 @@ loop-field-preserved g c =
 pub returns : goal.returns
 returns g c =
     let is : c.args.counted ≡ true = search rules in
-    rw is (gave-behind g.S.TextSink.takes g.S.TextSink.refuses (texts c.args.fields) (texts c.loop-field.field-iterator)
+    rw is (gave-after g.S.TextSink.takes g.S.TextSink.refuses (texts c.args.fields) (texts c.loop-field.field-iterator)
     (λ _. []) _ _ (λ ms. ap texts_of_fields c.in-None.ensures.steps.0) c.loop-field.invariant.3)

@@ -6,9 +6,9 @@ use Rattle.mime_text.proofs.leaf.tags.blank_tags.Goals as goal
 use Rattle.mime_text.proofs.leaf.tags.blank_tags.Goals.{In_ok-push}
 
 cut : (c : In_ok-push) → IsCut (span_end c.loop-span.is_open) c.loop-span.rest.now c.in-Some.span.now
-    c.in-Some.behind.now
-cut c = IsCut-from (span_end c.loop-span.is_open) c.loop-span.rest.now c.in-Some.span.now c.in-Some.behind.now
-    (sym (cut_from_split c.loop-span.is_open _ c.loop-span.rest.now (Some (c.in-Some.span, c.in-Some.behind))
+    c.in-Some.after.now
+cut c = IsCut-from (span_end c.loop-span.is_open) c.loop-span.rest.now c.in-Some.span.now c.in-Some.after.now
+    (sym (cut_from_split c.loop-span.is_open _ c.loop-span.rest.now (Some (c.in-Some.span, c.in-Some.after))
     c.end_of_span.ensures c.in-Some.ensures.cases))
 
 pub loop-span-init : goal.loop-span-init
@@ -20,7 +20,7 @@ loop-span-smaller c = let joined = (cut c).joined
       arith,
       ap length joined,
       length-append c.in-Some.span.now
-          (span_end c.loop-span.is_open ∷ c.in-Some.behind.now),
+          (span_end c.loop-span.is_open ∷ c.in-Some.after.now),
     )
 
 pub loop-span-preserved : goal.loop-span-preserved
@@ -36,4 +36,4 @@ returns c =
     (Lacks-from (span_end c.loop-span.is_open) c.loop-span.rest.now
     (sym (cut_from_split c.loop-span.is_open _ c.loop-span.rest.now None c.end_of_span.ensures
     c.in_default.ensures.cases))) c.in_ok-push_span-2.ensures in
-    record { text = blanked.whole; is_open = blanked.behind; size = blanked.size }
+    record { text = blanked.whole; is_open = blanked.after; size = blanked.size }

@@ -1,7 +1,7 @@
 -- `read_parameter` writes the value of the first parameter with the name, because a piece with another name changes
 -- nothing.
 use Rattle.mime_text.proofs.Words.{false, option_map_or, ◌≡◌, ◌∙◌, List, ℕ, Option, Some, sym, ap, unwrap_or}
-use Rattle.mime_text.proofs.Words.{option_map, first_named, parameters_behind, parameter, [], rules}
+use Rattle.mime_text.proofs.Words.{option_map, first_named, parameters_after, parameter, [], rules}
 use Rattle.header_text.specs.Names.{is_named}
 use Rattle.mime_text.proofs.ParameterLemmas.{piece-other, piece-found, later-measure, parameter-size}
 use Rattle.mime_text.proofs.parts.parameter.read_parameter.Goals as goal
@@ -10,12 +10,12 @@ use Rattle.mime_text.proofs.parts.parameter.read_parameter.Goals.{in_default-via
 
 pub loop-rest-init : goal.loop-rest-init
 unfolding parameter
-loop-rest-init c = ap (λ (o : Option (List ℕ)). first_named c.args.name.now (parameters_behind o))
-    c.behind_semicolon-rest.ensures
+loop-rest-init c = ap (λ (o : Option (List ℕ)). first_named c.args.name.now (parameters_after o))
+    c.after_semicolon-rest.ensures
 
 found : (c : Then-is_named) → parameter c.args.name.now c.args.value.now ≡ Some c.read_piece.new.into.items
 found c =
-    let here : first_named c.args.name.now (parameters_behind (Some c.in-Some.text.now))
+    let here : first_named c.args.name.now (parameters_after (Some c.in-Some.text.now))
     ≡ parameter c.args.name.now c.args.value.now = rw c.in-Some.is at c.loop-rest.invariant in
     sym here
     ∙ piece-found c.in_ok-piece.piece.name (λ a. a.now) c.args.name.now c.read_piece.new.into.items c.in-Some.text.now
@@ -33,7 +33,7 @@ loop-rest-smaller c = later-measure c.loop-rest.rest (λ a. a.now) c.in-Some.tex
 
 pub loop-rest-preserved : goal.loop-rest-preserved
 loop-rest-preserved c =
-    let here : first_named c.args.name.now (parameters_behind (Some c.in-Some.text.now))
+    let here : first_named c.args.name.now (parameters_after (Some c.in-Some.text.now))
     ≡ parameter c.args.name.now c.args.value.now = rw c.in-Some.is at c.loop-rest.invariant in
     let other : option_map_or (λ text. is_named text.now c.args.name.now) c.in_ok-piece.piece.name false ≡ false =
     elim c.in_default.branch [
@@ -41,7 +41,7 @@ loop-rest-preserved c =
       | in_default-via-in-Some-name+else-is_named w ↦ rw w.in-Some-name.is
           (sym w.is_named.ensures ∙ w.if-is_named.false)
     ] in
-    ap (λ (o : Option (List ℕ)). first_named c.args.name.now (parameters_behind o)) c.in_ok-piece.ensures.later
+    ap (λ (o : Option (List ℕ)). first_named c.args.name.now (parameters_after o)) c.in_ok-piece.ensures.later
     ∙ sym (piece-other c.in_ok-piece.piece.name (λ a. a.now) c.args.name.now c.read_piece.new.into.items
     c.in-Some.text.now c.in_ok-piece.ensures.parameter other)
     ∙ here

@@ -6,7 +6,7 @@ use Rattle.mime_text.proofs.ParameterLemmas.{piece-parameter}
 use Rattle.mime_text.proofs.parts.parameter.read_piece.Goals as goal
 
 pub slice_bounds-name-count : goal.slice_bounds-name-count
-slice_bounds-name-count c = rw c.after_name-behind.ensures (length-split_while is_parameter_name_byte c.args.text.now)
+slice_bounds-name-count c = rw c.after_name-tail.ensures (length-split_while is_parameter_name_byte c.args.text.now)
 
 parameter_of : List ℕ → List ℕ → Parameter
 parameter_of name value = record { name = name; value = value }
@@ -18,12 +18,12 @@ returns-in_ok-after-in-Some-clause-parameter c =
     let rest : List ℕ = c.in-Some.rest.now in
     let name : c.trimmed.result.now ≡ without_outer_blanks (split_while is_parameter_name_byte text).0 =
     c.trimmed.ensures ∙ ap without_outer_blanks
-    (ap (λ (r : List ℕ). take (length text - length r) text) c.after_name-behind.ensures
+    (ap (λ (r : List ℕ). take (length text - length r) text) c.after_name-tail.ensures
     ∙ take-split_while is_parameter_name_byte text) in
     let value : c.read_value.new.into.items ≡ (value_and_rest (after_blanks rest)).0 =
     c.in_ok-after-in-Some.ensures.value ∙ ap (λ (l : List ℕ). l ++ (value_and_rest c.after_blanks.result.now).0)
     c.clear.ensures.items
     ∙ ap (λ (l : List ℕ). (value_and_rest l).0) c.after_blanks.ensures in
     ap₂ (λ (n v : List ℕ). Some (parameter_of n v)) name value
-    ∙ sym (piece-parameter text rest c.in-Some.sign.now (sym c.after_name-behind.ensures ∙ c.in-Some.ensures.cases.0)
+    ∙ sym (piece-parameter text rest c.in-Some.sign.now (sym c.after_name-tail.ensures ∙ c.in-Some.ensures.cases.0)
     (eq-eqb c.in-Some.sign.now 61 c.if-sign-eq61.true))

@@ -6,7 +6,7 @@ use Rattle.mail_answer.proofs.ThreadLaws.NumberLists.{numbers_next, few_numbers,
 use Rattle.mail_answer.proofs.OutputLaws.SheetLemmas.{joins_gathered, writes_next, writes_stop, writes_less, writes_err}
 use Rattle.mail_answer.proofs.OutputLaws.SheetLemmas.{tells-joined, joins_more, unsent_before, joined-nothing}
 use Rattle.mail_answer.proofs.OutputLaws.SheetLemmas.{joined-assoc}
-use Rattle.mail_answer.proofs.OutputLaws.ChosenBelow.{is_among_behind}
+use Rattle.mail_answer.proofs.OutputLaws.ChosenBelow.{is_among_after}
 use Rattle.mail_answer.proofs.OutputLaws.SpanWrites.{spans_more, spans_stop, spans_end}
 use Rattle.mail_answer.proofs.OutputLaws.SentLemmas.{still_ready}
 use Rattle.mail_answer.proofs.ArchiveLaws.CallLemmas.{keeps_self, keeps_join}
@@ -79,7 +79,7 @@ returns-in_err-push-clause-messages g c =
     }
 
 pub returns-in_err-push-clause-stale : goal.returns-in_err-push-clause-stale
-returns-in_err-push-clause-stale g c = grind (arith, err_from_is_err_and, is_among_behind)
+returns-in_err-push-clause-stale g c = grind (arith, err_from_is_err_and, is_among_after)
 
 pub overflow_add-count : goal.overflow_add-count
 overflow_add-count g c = grind (arith, few_numbers)

@@ -4,7 +4,7 @@ use Rattle.mail_answer.proofs.Words.{◌≡◌, ◌∙◌, ◌+◌, ◌-◌, ◌
 use Rattle.mail_answer.proofs.Words.{take, drop, drop-cons, add-one, append_assoc, ap, sym, arith, eqb-true}
 use Rattle.mail_answer.proofs.Words.{take-append-drop, take_rest, get_or-take, ending_of_bytes}
 use Rattle.std.proofs.lemmas.List.{length-take, length-drop}
-use Rattle.mail_answer.proofs.OutputLaws.Endings.{ending_behind}
+use Rattle.mail_answer.proofs.OutputLaws.Endings.{ending_after}
 use Rattle.mail_answer.proofs.output.ending.Ending.with_bytes.Goals as goal
 
 -- an LF at this place, and the bytes after it
@@ -19,12 +19,12 @@ returns-in-Some c =
     let at : ℕ = c.in-Some.at in
     let most : ℕ = c.saturating_sub-most.result in
     let low : at < length (take most more) = c.in-Some.ensures.0.high in
-    let behind : take (length more - (at + 1)) (drop (at + 1) more) ≡ drop (at + 1) more = take_rest more (at + 1) in
+    let after : take (length more - (at + 1)) (drop (at + 1) more) ≡ drop (at + 1) more = take_rest more (at + 1) in
     let before : at < most = omega (arith, low, length-take most more) in
     let split : more ≡ take at more ++ 10 ∷ drop (at + 1) more =
     split_at more at most before (omega arith) c.in-Some.ensures.1 in
-    c.with_each.ensures [] c.new.ensures ∙ ap ending_of_bytes behind
-    ∙ sym (ending_behind (bytes ++ take at more) (drop (at + 1) more)
+    c.with_each.ensures [] c.new.ensures ∙ ap ending_of_bytes after
+    ∙ sym (ending_after (bytes ++ take at more) (drop (at + 1) more)
     (omega (arith, before, length-drop (at + 1) more)))
     ∙ ap ending_of_bytes (append_assoc bytes (take at more) (10 ∷ drop (at + 1) more)
     ∙ ap (λ (l : List ℕ). bytes ++ l) (sym split))

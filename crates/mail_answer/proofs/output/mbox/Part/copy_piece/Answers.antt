@@ -1,11 +1,12 @@
 -- `Part::copy_piece` adds one piece of a span and keeps its ending, by the result of each call.
 use Rattle.mail_answer.proofs.Words.{◌≡◌, ◌∙◌, ℕ, List, [], ◌++◌, ◌+◌, ◌-◌, ◌≤◌, length-append, Option, Result, Ok, Err}
 use Rattle.mail_answer.proofs.Words.{refl, ap, sym, subst, arith, option_map, ending_of_bytes, Reading}
-use Rattle.mail_answer.proofs.Words.{bytes_not_passed, coming_count}
+use Rattle.mail_answer.proofs.Words.{bytes_not_passed}
+use Rattle.mail_answer.proofs.Words.{coming_count}
 use Rattle.mail_answer.proofs.Words.{IsInsideArchive, AddsBytes, JoinsFront, AnswerFaultKind}
 use Rattle.mail_answer.proofs.ArchiveLaws.KnowledgeLemmas.{inside_later}
-use Rattle.mail_answer.proofs.OutputLaws.CopiedPieces.{copies_err, piece_read, behind_gathered, tells_behind}
-use Rattle.mail_answer.proofs.OutputLaws.CopiedPieces.{some_coming, inside_behind}
+use Rattle.mail_answer.proofs.OutputLaws.CopiedPieces.{copies_err, piece_read, after_gathered, tells_after}
+use Rattle.mail_answer.proofs.OutputLaws.CopiedPieces.{some_coming, inside_after}
 use Rattle.mail_answer.proofs.OutputLaws.SheetLemmas.{nothing_went, gathered_went, front_more}
 use Rattle.mail_answer.proofs.output.mbox.Part.copy_piece.Goals as goal
 
@@ -30,11 +31,11 @@ returns-in_err-send_full-clause-copies g c =
     let taken' : Option (List ℕ) = g.O.Out.taken c.send_full.new.out in
     let reads = c.in_ok-n.ensures.bytes in
     let failed : Result ℕ AnswerFaultKind = Err c.in_err-send_full.field-0.0 in
-    let went = gathered_went taken taken' c.args.sheet.now _ c.send_full.new.self reads.bytes failed reads.behind refl
+    let went = gathered_went taken taken' c.args.sheet.now _ c.send_full.new.self reads.bytes failed reads.after refl
     c.in_err-send_full.ensures.writes in
-    let behind : Option (List ℕ) = bytes_not_passed held
+    let after : Option (List ℕ) = bytes_not_passed held
     (record { archive = s.archive; unread = []; next = s.next + c.in_ok-n.n; left = s.left - c.in_ok-n.n }) in
-    let is : bytes_not_passed held c.args.self.now ≡ option_map (λ bytes. reads.bytes ++ bytes) behind =
+    let is : bytes_not_passed held c.args.self.now ≡ option_map (λ bytes. reads.bytes ++ bytes) after =
     sym (ap (λ (r : Reading). bytes_not_passed held r) c.self.view_is)
     ∙ piece_read s.archive s.next s.left c.in_ok-n.n held c.args.sheet.now.text c.read.new.self reads
     (omega (arith, c.in_ok-n.ensures.bound)) in
@@ -43,15 +44,15 @@ returns-in_err-send_full-clause-copies g c =
     let was =
     inside_later (g.A.Archives.held c.args.archives.now) held number c.args.self.now c.in_ok-n.ensures.keeps.held
     c.requires.inside in
-    let inside = inside_behind number held s.archive s.next s.left c.in_ok-n.n few
+    let inside = inside_after number held s.archive s.next s.left c.in_ok-n.n few
     (subst (IsInsideArchive number held) (sym c.self.view_is) was) in
     let rest = some_coming held number _ inside in
     let whole : coming_count c.args.self.now ≡ s.left = omega (arith, ap coming_count c.self.view_is) in
-    copies_err taken taken' c.args.sheet.now c.send_full.new.self (bytes_not_passed held c.args.self.now) behind _ _
+    copies_err taken taken' c.args.sheet.now c.send_full.new.self (bytes_not_passed held c.args.self.now) after _ _
     c.args.before
     c.from_residual-in_err-send_full.result c.from_residual-in_err-send_full.ensures.0 (
       reads.bytes ++ rest.0,
-      rw is (tells_behind behind reads.bytes rest.0 rest.1),
+      rw is (tells_after after reads.bytes rest.0 rest.1),
       front_more rest.0 (subst (JoinsFront taken taken' c.args.sheet.now c.send_full.new.self) (sym went.1) went.2),
       omega (arith, length-append reads.bytes rest.0, reads.number, rest.2, few, whole),
     )
@@ -64,7 +65,7 @@ returns-clause-copies g c =
     let taken' : Option (List ℕ) = g.O.Out.taken c.send_full.new.out in
     let reads = c.in_ok-n.ensures.bytes in
     let done : Result ℕ AnswerFaultKind = Ok 0 in
-    let went = gathered_went taken taken' c.args.sheet.now _ c.send_full.new.self reads.bytes done reads.behind refl
+    let went = gathered_went taken taken' c.args.sheet.now _ c.send_full.new.self reads.bytes done reads.after refl
     c.in_ok-send_full.ensures.writes in (
       reads.bytes,
       sym (ap (λ (r : Reading). bytes_not_passed held r) c.self.view_is)
@@ -73,7 +74,7 @@ returns-clause-copies g c =
       subst (AddsBytes taken taken' c.args.sheet.now c.send_full.new.self) (sym went.1) went.2,
       λ text is. c.with_bytes-ending.ensures text is
           ∙ ap (λ (l : List ℕ). ending_of_bytes (text ++ l))
-          (behind_gathered c.args.sheet.now.text reads.bytes c.as_slice.result.now c.len-gathered.result
-          (c.as_slice.ensures ∙ reads.behind) (omega arith)),
+          (after_gathered c.args.sheet.now.text reads.bytes c.as_slice.result.now c.len-gathered.result
+          (c.as_slice.ensures ∙ reads.after) (omega arith)),
       omega (arith, reads.number, c.in_ok-n.ensures.bound, ap coming_count c.self.view_is),
     )

@@ -2,12 +2,12 @@
 use Rattle.mail_index.proofs.Words.{◌≡◌, ◌∙◌, ℕ, List, ◌+◌, ◌++◌, length, drop, ap, sym, arith, length-append, Key}
 use Rattle.mail_index.proofs.Words.{postings}
 use Rattle.mail_index.specs.Inside.KeyMaps.{key_bytes}
-use Rattle.mail_index.proofs.BuildLaws.EntryLemmas.{behind-short, behind-long}
+use Rattle.mail_index.proofs.BuildLaws.EntryLemmas.{after-short, after-long}
 use Rattle.mail_index.proofs.build.key_entry.KeyEntry.postings.Goals as goal
 use Rattle.mail_index.proofs.build.key_entry.KeyEntry.postings.Goals.{then-length-lt-SHORT, else-length-lt-SHORT}
 
 pub returns-clause-bytes : goal.returns-clause-bytes
-returns-clause-bytes c = grind (arith, then-length-lt-SHORT, behind-short, else-length-lt-SHORT, behind-long, postings)
+returns-clause-bytes c = grind (arith, then-length-lt-SHORT, after-short, else-length-lt-SHORT, after-long, postings)
 
 pub returns-clause-small : goal.returns-clause-small
 returns-clause-small c =

@@ -3,8 +3,8 @@ use Rattle.mail_index.proofs.Words.{slice_get, arith, version_number, read_archi
 use Rattle.mail_index.proofs.ViewLaws.ArchiveReads.{read_count, archive_at}
 use Rattle.mail_index.proofs.view.index_view.IndexView.archive.Goals as goal
 
-pub behind_archives-rest-requires-clause-bound : goal.behind_archives-rest-requires-clause-bound
-behind_archives-rest-requires-clause-bound c = grind (arith, read_count, version_number)
+pub after_archives-rest-requires-clause-bound : goal.after_archives-rest-requires-clause-bound
+after_archives-rest-requires-clause-bound c = grind (arith, read_count, version_number)
 
 pub overflow_sub-layout : goal.overflow_sub-layout
 overflow_sub-layout c = grind (arith, read_count, version_number)

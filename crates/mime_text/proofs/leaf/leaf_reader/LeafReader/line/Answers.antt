@@ -13,9 +13,9 @@ passed : (texts : LineTexts) (decoder : Decoder) (held line : List ℕ) (ls : Li
     → pairs_of_bytes texts (held ++ still_decoded decoder (line ∷ ls)) ≡ pairs_of_lines texts (line ∷ lines (concat ls))
 passed texts decoder held line ls e f whole = rw (e, f) (ap (pairs_of_lines texts) (lines-whole line (concat ls) whole))
 
-behind : (texts : LineTexts) (decoder : Decoder) (held : List ℕ) (ls : List (List ℕ)) → decoder ≡ Identity → held ≡ []
+after : (texts : LineTexts) (decoder : Decoder) (held : List ℕ) (ls : List (List ℕ)) → decoder ≡ Identity → held ≡ []
     → pairs_of_bytes texts (held ++ still_decoded decoder ls) ≡ pairs_of_lines texts (lines (concat ls))
-behind texts decoder held ls e f = rw (e, f) refl
+after texts decoder held ls e f = rw (e, f) refl
 
 pub returns-then-is_passed_on : goal.returns-then-is_passed_on
 returns-then-is_passed_on g c =
@@ -31,4 +31,4 @@ returns-then-is_passed_on g c =
     (λ ls. pairs_of_bytes c.give.new.self (reader.held ++ still_decoded reader.decoder ls))
     (λ ls. lines (concat ls)) c.give.result c.args.sink.now c.give.new.sink
     (λ ls. passed reader.texts reader.decoder reader.held line ls e f whole)
-    (λ ls. behind c.give.new.self reader.decoder reader.held ls e f) c.give.ensures
+    (λ ls. after c.give.new.self reader.decoder reader.held ls e f) c.give.ensures

@@ -1,7 +1,7 @@
 -- `PartReader::end_header` gives the texts of a header and goes on to its body, by the results of its three calls.
 use Rattle.mime_text.proofs.Words.{Comes}
 use Rattle.mime_text.proofs.Handing.{fault-up}
-use Rattle.mime_text.proofs.PassingLemmas.{header-passes, header-stopped, broke-memory_behind}
+use Rattle.mime_text.proofs.PassingLemmas.{header-passes, header-stopped, broke-memory_after}
 use Rattle.mime_text.proofs.parts.part_reader.PartReader.end_header.Goals as goal
 
 pub returns-in_err-give_header-clause-pairs : goal.returns-in_err-give_header-clause-pairs
@@ -18,7 +18,7 @@ returns-in_err-note-clause-pairs g c =
     )
     (header-stopped g.S.TextSink.takes g.S.TextSink.refuses c.args.self.now c.args.counted c.args.default
     c.fields.result _ _ _ c.fields.ensures.fields
-    (broke-memory_behind g.S.TextSink.takes g.S.TextSink.refuses _ _ _ c.in_ok-give_header.ensures))
+    (broke-memory_after g.S.TextSink.takes g.S.TextSink.refuses _ _ _ c.in_ok-give_header.ensures))
 
 pub returns-clause-pairs : goal.returns-clause-pairs
 returns-clause-pairs g c =

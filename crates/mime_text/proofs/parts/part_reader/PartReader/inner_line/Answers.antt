@@ -1,6 +1,6 @@
 -- `PartReader::inner_line` reads a line of a leaf or of a header, by the state; one that ends a header begins a body.
 use Rattle.mime_text.proofs.Words.{◌≡◌, ◌∙◌, ◌++◌, ◌∷◌, ℕ, List, [], refl, sym, arith, HasLines, taken_of, More, Ended}
-use Rattle.mime_text.proofs.Words.{PartReader, Comes, ComesBehindHeader}
+use Rattle.mime_text.proofs.Words.{PartReader, Comes, ComesAfterHeader}
 use Rattle.mime_text.proofs.PassingLemmas.{passes-from, leaf-passes, more-passed, ended-comes, facts-ended}
 use Rattle.mime_text.proofs.parts.part_reader.PartReader.inner_line.Goals as goal
 
@@ -26,7 +26,7 @@ returns-in-Ended-clause-pairs g c =
     ≡ taken_of (ls ++ c.args.line.now ∷ []) = λ ls h. sym c.in-Ended.is
     ∙ c.in_ok-push_line-in-InHeader.ensures.taken ls h in
     passes-from g.S.TextSink.takes g.S.TextSink.refuses (Comes c.args.self.now)
-    (ComesBehindHeader n c.in-InHeader.counted c.in-InHeader.default) (Comes c.end_header.new.self)
+    (ComesAfterHeader n c.in-InHeader.counted c.in-InHeader.default) (Comes c.end_header.new.self)
     (λ k ms. k (c.args.line.now ∷ ms))
     c.end_header.result _ _ (ended-comes g.S.TextSink.takes g.S.TextSink.refuses c.args.self.now n c.args.line.now
     c.in-InHeader.counted c.in-InHeader.default c.in-InHeader.is refl c.requires.inner

@@ -2,10 +2,10 @@
 -- node.
 use denote.Text.{Utf8}
 use denote.Shadow.{shadow}
-use Rattle.worked_parts.proofs.told.+behind_node.Given as goal
+use Rattle.worked_parts.proofs.told.+after_node.Given as goal
 
-abbrev pub decreases-behind_node : goal.decreases-behind_node
-decreases-behind_node l = goal.size-behind_node l
+abbrev pub decreases-after_node : goal.decreases-after_node
+decreases-after_node l = goal.size-after_node l
 
 -- the rest of the line and the separator are text
 abbrev pub invariant-loop-member : goal.invariant-loop-member

@@ -1,9 +1,9 @@
--- `bound_behind` gives a right bound, because it compares the key with the slot before it.
+-- `bound_after` gives a right bound, because it compares the key with the slot before it.
 use Rattle.mail_index.proofs.Words.{◌≡◌, ◌∙◌, ℕ, sym, ap, arith, key_at, lies_to}
 use Rattle.mail_index.specs.declared.build.key_front.Fronted.{Fronted}
 use Rattle.mail_index.specs.Inside.KeyMaps.{slot_keys}
 use Rattle.mail_index.proofs.BuildLaws.KeyMapLemmas.{slot-at}
-use Rattle.mail_index.proofs.build.key_search.bound_behind.Goals as goal
+use Rattle.mail_index.proofs.build.key_search.bound_after.Goals as goal
 
 pub returns-in-Less : goal.returns-in-Less
 returns-in-Less c = record {

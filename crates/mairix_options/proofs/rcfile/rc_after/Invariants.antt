@@ -2,7 +2,7 @@
 -- text.
 use Rattle.mairix_options.proofs.Words.{◌≡◌, ◌+◌, ◌^◌, ◌≤◌, List, length, lines_in, settings_from, Setting}
 use Rattle.mairix_options.specs.Inside.Said.{Says}
-use Rattle.mairix_options.proofs.rcfile.rc_behind.Given as goal
+use Rattle.mairix_options.proofs.rcfile.rc_after.Given as goal
 
 -- the settings so far, with those of the lines left after them, are those of all lines; and there are numbers for the
 -- lines left

@@ -1,7 +1,7 @@
--- `behind_blanks` keeps the tokens of a text, because blanks at the front belong to none. It cuts between characters.
+-- `after_blanks` keeps the tokens of a text, because blanks at the front belong to none. It cuts between characters.
 use Rattle.mail_query.proofs.Words.{arith}
 use Rattle.mail_query.proofs.BooleanLaws.TokenLemmas.{blanks_counted, blanks_end, tokens-blanks, no_blank_left}
-use Rattle.mail_query.proofs.boolean.token.behind_blanks.Goals as goal
+use Rattle.mail_query.proofs.boolean.token.after_blanks.Goals as goal
 
 pub split_at-requires : goal.split_at-requires
 split_at-requires c = rw (c.blank_count.ensures.value, c.as_bytes.ensures.value, blanks_counted c.args.text.now)

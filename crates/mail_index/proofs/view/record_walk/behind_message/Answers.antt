@@ -1,6 +1,0 @@
--- `behind_message` accepts a message exactly if it may come next, by its tests.
-use Rattle.mail_index.proofs.Words.{arith}
-use Rattle.mail_index.proofs.view.record_walk.behind_message.Goals as goal
-
-pub returns : goal.returns
-returns c = grind arith
