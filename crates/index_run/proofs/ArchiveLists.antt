@@ -3,7 +3,7 @@ use Rattle.index_run.proofs.Words.{◌≡◌, ◌∙◌, ◌+◌, ◌<◌, ◌�
 use Rattle.index_run.proofs.Words.{get_or, None, Some, false, inl, inr, refl, sym, ap, arith, drop-cons, take_more}
 use Rattle.index_run.proofs.Words.{take-append-drop, length-take-le, All-append, All-cons, All-nil, Draft}
 use Rattle.index_run.proofs.Words.{archive_refusal}
-use Rattle.index_run.proofs.Words.{Mbox, most_in_archive, AreSound, mboxes, Parted, IsArchivesFault, fault_of_job}
+use Rattle.index_run.proofs.Words.{Mbox, most_in_archive, AreSound, mboxes, Parted, IsArchivesFault, run_fault_of_job}
 use Rattle.index_run.proofs.Words.{IsAdded, IsAddFault, Err, ◌≢◌, eqb_tells, is_failed_source}
 use Rattle.mbox_cutter.specs.declared.event.CutFault.TheVariants as cut
 use Rattle.index_job.specs.declared.job_fault.JobFault.{JobFault}
@@ -71,7 +71,7 @@ sound-more before a n j sound added = record {
 -- a fault at one archive is a fault of all of them
 pub archive-fault : (archives before : List Mbox) (a : Mbox) (number : ℕ) (f : JobFault) → Parted archives before a
     → number ≡ length before → AreSound before → IsAddFault before a f
-    → IsArchivesFault archives (fault_of_job number f)
+    → IsArchivesFault archives (run_fault_of_job number f)
 archive-fault archives before a number (job.Cut cut.Device) parted same sound h = (before, a, parted, same, sound)
 archive-fault archives before a number (job.Cut cut.NotAnMbox) parted same sound h =
     (before, a, parted, same, record { sound = sound; few = h.0; refused = h.1 })
@@ -86,7 +86,7 @@ archive-fault archives before a number job.Failed parted same sound h = elim h [
 -- ---- which source has failed
 
 -- a fault at one archive isn't a failure of another archive's source
-pub others-run : (i : ℕ) (f : JobFault) (n : ℕ) → n ≢ i → is_failed_source n (Some (fault_of_job i f)) ≡ false
+pub others-run : (i : ℕ) (f : JobFault) (n : ℕ) → n ≢ i → is_failed_source n (Some (run_fault_of_job i f)) ≡ false
 others-run i (job.Cut cut.Device) n ne = elim (eqb_tells n i) [ inl p ↦ absurd (ne p.1) | inr p ↦ p.0 ]
 others-run i (job.Cut cut.NotAnMbox) n ne = refl
 others-run i (job.Cut cut.ArchiveTooLong) n ne = refl
@@ -97,7 +97,7 @@ others-run i job.Failed n ne = refl
 
 -- a fault at one archive is a failure of its source exactly if the job reports it
 pub here-counts : (i : ℕ) (f : JobFault) (old new : ℕ) → Counted (is_source_failure {T = ℕ} (Err f)) old new
-    → Counted (is_failed_source i (Some (fault_of_job i f))) old new
+    → Counted (is_failed_source i (Some (run_fault_of_job i f))) old new
 here-counts i (job.Cut cut.Device) old new h = elim (eqb_tells i i) [ inl p ↦ rw p.0 h | inr p ↦ absurd (p.1 refl) ]
 here-counts i (job.Cut cut.NotAnMbox) old new h = h
 here-counts i (job.Cut cut.ArchiveTooLong) old new h = h

@@ -3,7 +3,7 @@
 -- their ends, and those after it haven't been read.
 use Rattle.index_run.proofs.Words.{◌≡◌, ◌∙◌, ◌+◌, ◌<◌, ℕ, zero, suc, List, [], ◌∷◌, length, All, take, drop, get_or}
 use Rattle.index_run.proofs.Words.{None, Some}
-use Rattle.index_run.proofs.Words.{refl, sym, ap, subst, All-append, All-cons, All-nil, fault_of_job}
+use Rattle.index_run.proofs.Words.{refl, sym, ap, subst, All-append, All-cons, All-nil, run_fault_of_job}
 use Rattle.std.proofs.Math.ListN.{set}
 use Rattle.std.proofs.lemmas.List.{drop-drop, take-set, take_more_set}
 use Rattle.std.specs.List.{AllZip}
@@ -18,7 +18,7 @@ use Rattle.run_faults.specs.declared.fault.Fault.TheVariants.{Memory}
 use Rattle.index_run.specs.SourcesStay.{AreReadToEnd, SourcesStay}
 
 -- a fault at an archive says that those before it are read, if it says how many are
-are-read : (all i : ℕ) (f : JobFault) → AreReadToEnd (Some (fault_of_job i f)) all i
+are-read : (all i : ℕ) (f : JobFault) → AreReadToEnd (Some (run_fault_of_job i f)) all i
 are-read all i (job.Cut f) = refl
 are-read all i job.OutOfMemory = tt
 are-read all i job.TooMany = tt
@@ -55,7 +55,7 @@ module _ {S : Type 0} (g : Ghosts S) where
 
   -- an archive is at fault
   pub stopped : (xs ys : List S) (i : ℕ) (v d : S) (f : JobFault) → AllZip (Stays g) xs ys → Stays g (get_or ys i d) v
-      → All Ends (take i ys) → drop i ys ≡ drop i xs → SourcesStay g (Some (fault_of_job i f)) xs (set ys i v)
+      → All Ends (take i ys) → drop i ys ≡ drop i xs → SourcesStay g (Some (run_fault_of_job i f)) xs (set ys i v)
   stopped xs ys i v d f all h ends unread = record {
     each = next-stays xs ys i v d all h;
     read = i;

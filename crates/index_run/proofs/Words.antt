@@ -3,7 +3,7 @@ pub use Rattle.contract_words.specs.Knowledge.{AreStillKnown}
 pub use Rattle.index_job.specs.ArchiveRefusals.{AreSound, IsTooMuch, IsWithinLimit}
 pub use Rattle.index_job.specs.ArchiveTables.{Mbox, all_messages, entry_of_archive, messages_in, table, with_messages}
 pub use Rattle.index_job.specs.IndexJobs.{IsAddFault, IsAdded, IsIndexOf}
-pub use Rattle.index_run.specs.ArchivesIndexed.{IsArchivesFault, Parted, RefusesArchives, fault_of_job, mboxes}
+pub use Rattle.index_run.specs.ArchivesIndexed.{IsArchivesFault, Parted, RefusesArchives, run_fault_of_job, mboxes}
 pub use Rattle.mail_index.specs.Builders.{Draft}
 pub use Rattle.mail_index.specs.Limits.{most_in_archive, most_in_index}
 pub use Rattle.mail_index.specs.Tables.{IsPath, IsWellFormed}

@@ -44,8 +44,8 @@ IsArchivesFault archives _ = ⊥
 
 -- the fault of a run for a job's fault at the archive with this number; the last never comes, because the job isn't
 -- used after a fault
-abbrev pub fault_of_job : ℕ → JobFault → Fault
-fault_of_job number (job.Cut fault) = Archive number fault
-fault_of_job number job.OutOfMemory = Memory
-fault_of_job number job.TooMany = TooMany
-fault_of_job number job.Failed = Archive number Failed
+abbrev pub run_fault_of_job : ℕ → JobFault → Fault
+run_fault_of_job number (job.Cut fault) = Archive number fault
+run_fault_of_job number job.OutOfMemory = Memory
+run_fault_of_job number job.TooMany = TooMany
+run_fault_of_job number job.Failed = Archive number Failed

@@ -5,7 +5,7 @@ ghost use Rattle.std.specs.String.{string_bytes};
 ghost use Rattle.contract_words.specs.Knowledge.{AreStillKnown};
 ghost use Rattle.mail_index.specs.Tables.{IsPath};
 ghost use Rattle.index_job.specs.ArchiveRefusals.{AreSound};
-ghost use Rattle.index_run.specs.ArchivesIndexed.{mboxes, fault_of_job, IsArchivesFault};
+ghost use Rattle.index_run.specs.ArchivesIndexed.{mboxes, run_fault_of_job, IsArchivesFault};
 ghost use Rattle.index_job.specs.IndexJobs.{IsIndexOf};
 ghost use Rattle.index_run.specs.Counts.{CountsSources};
 ghost use Rattle.index_run.specs.SourcesStay.{SourcesStay};
@@ -18,8 +18,8 @@ use std::alloc::Global;
 
 /// Returns the fault of a run for a job's fault at the archive with this number. `Failed` never comes, because this job
 /// isn't used after a fault.
-fn fault_of_job(number: u64, fault: JobFault) -> Fault
-    ensures { result ≡ fault_of_job number fault }
+fn run_fault_of_job(number: u64, fault: JobFault) -> Fault
+    ensures { result ≡ run_fault_of_job number fault }
 {
     match fault {
         JobFault::Cut(fault) => Fault::Archive { number, fault },
@@ -58,7 +58,7 @@ pub(crate) fn job_of_archives<S: Source>(
     let mut job = IndexJob::new(alloc)?;
     for number in 0..sources.len() {
         if let Err(fault) = job.archive(paths[number].as_str(), &mut sources[number]) {
-            return Err(fault_of_job(number as u64, fault));
+            return Err(run_fault_of_job(number as u64, fault));
         }
     }
     Ok(job)

@@ -45,8 +45,8 @@ impl Moment {
         (self.second / 86_400) as i32
     }
 
-    /// Returns the second of the moment, which is below 2^38.
-    pub fn second(self) -> i64
+    /// Returns the seconds from the beginning of 1970 to the moment, which are below 2^38.
+    pub fn seconds(self) -> i64
         ensures value { result ≡ pos self }
         ensures bound { self < 2 ^ 38 }
     {

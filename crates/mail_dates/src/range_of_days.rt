@@ -90,7 +90,7 @@ fn range_between(now: Moment, start: &[u8], end: &[u8]) -> Result<Range, DateFau
     }
     let today = now.day();
     if end.is_empty() {
-        return range_from(now, today, start, now.second());
+        return range_from(now, today, start, now.seconds());
     }
     let days = named_days(today, today, end)?;
     range_from(now, days.last, start, end_of_day(days.last))

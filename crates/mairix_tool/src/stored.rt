@@ -6,7 +6,7 @@ ghost use Rattle.mail_answer.specs.Asked.{HoldsArchives};
 ghost use Rattle.mail_index.specs.Faults.{IsFileOfTable};
 ghost use Rattle.mail_index.specs.Tables.{Table};
 ghost use Rattle.mail_index.specs.Versions.{newest};
-ghost use Rattle.mairix_tool.specs.Asked.{asks, Wanted as Asked, shown_wanted as wanted_of};
+ghost use Rattle.mairix_tool.specs.Asked.{asks, Wanted as Asked, shown_wanted};
 ghost use Rattle.mairix_tool.specs.Inside.Answering.{AsksIndex};
 ghost use Rattle.run_faults.specs.Faults.{fault_in, is_failed_out, is_failed_archives, IsOfAnswer, IsSearchFault};
 ghost use Rattle.mairix_tool.specs.Replies.{CountsFault, KeepsRawBack};
@@ -15,7 +15,7 @@ ghost use Rattle.mairix_tool.specs.StoredRuns.{CountsVerified, FailsStored, Leav
 ghost use Rattle.mairix_tool.specs.Runs.{IsForNoOtherCause, IsIndexRefusal, IsProvedAndTold, IsStoredReply, RepliesBy, TellsProved, WereVerified, is_too_old, renamed_archive, reply_of, unproved_archive};
 
 use crate::reply::Reply;
-use crate::view_answer::{answer_view, fault_of_answer};
+use crate::view_answer::{answer_view, run_fault_of_answer};
 use crate::wanted::Wanted;
 use mail_answer::{Archives, verify};
 use mail_dates::Moment;
@@ -113,19 +113,19 @@ fn answer_stored<A: Archives, O: Out>(
     requires archives { A.failures archives.old < 2 ^ 64 - 1 }
     requires out { O.failures out.old < 2 ^ 64 - 1 }
     ensures told { (held : List (List ℕ)) → A.held archives.new ≡ Some held
-        → RepliesBy (IsStoredReply (Ok (wanted_of wanted.now)) index.now held) (reply_of result)
+        → RepliesBy (IsStoredReply (Ok (shown_wanted wanted.now)) index.now held) (reply_of result)
         (O.taken out.old) (O.taken out.new) }
     ensures counted { (t : Table) → IsFileOfTable index.now t
-        → CountsVerified t (wanted_of wanted.now) (A.held archives.new) (reply_of result)
+        → CountsVerified t (shown_wanted wanted.now) (A.held archives.new) (reply_of result)
         (O.taken out.old) (O.taken out.new) }
-    ensures refused { (fault : Fault) → IsIndexRefusal (wanted_of wanted.now) index.now fault
+    ensures refused { (fault : Fault) → IsIndexRefusal (shown_wanted wanted.now) index.now fault
         → (fault_in result ≡ Some fault) × (archives.new ≡ archives.old) × (out.new ≡ out.old) }
-    ensures raw { KeepsRawBack (wanted_of wanted.now).search (fault_in result) out.old out.new }
+    ensures raw { KeepsRawBack (shown_wanted wanted.now).search (fault_in result) out.old out.new }
     ensures searched { (t : Table) → IsFileOfTable index.now t
-        → SearchesStored A.Archives O.Out (wanted_of wanted.now) t
+        → SearchesStored A.Archives O.Out (shown_wanted wanted.now) t
         archives.old archives.new out.old out.new (reply_of result) }
     ensures no_other_cause { IfSome (reply_of result).fault
-        (IsForNoOtherCause (Ok (wanted_of wanted.now)) index.now) }
+        (IsForNoOtherCause (Ok (shown_wanted wanted.now)) index.now) }
     ensures own { IfErr result IsSearchFault }
     ensures counts { CountsFault A.Archives O.Out (fault_in result)
         archives.old archives.new out.old out.new }
@@ -147,13 +147,13 @@ fn answer_opened<A: Archives, O: Out>(
     requires archives { A.failures archives.old < 2 ^ 64 - 1 }
     requires out { O.failures out.old < 2 ^ 64 - 1 }
     ensures told { (held : List (List ℕ)) → A.held archives.new ≡ Some held
-        → RepliesBy (IsProvedAndTold (wanted_of wanted.now) view.now held)
+        → RepliesBy (IsProvedAndTold (shown_wanted wanted.now) view.now held)
         (reply_of result) (O.taken out.old) (O.taken out.new) }
-    ensures counted { CountsVerified view.now (wanted_of wanted.now) (A.held archives.new)
+    ensures counted { CountsVerified view.now (shown_wanted wanted.now) (A.held archives.new)
         (reply_of result) (O.taken out.old) (O.taken out.new) }
-    ensures searched { SearchesFor A.Archives O.Out (wanted_of wanted.now) view.now
+    ensures searched { SearchesFor A.Archives O.Out (shown_wanted wanted.now) view.now
         archives.old archives.new out.old out.new (reply_of result) }
-    ensures asks { AsksIndex A.Archives O.Out (wanted_of wanted.now).search
+    ensures asks { AsksIndex A.Archives O.Out (shown_wanted wanted.now).search
         archives.old archives.new out.old out.new result }
     ensures keeps { HoldsArchives A.Archives archives.old archives.new }
 {
@@ -184,18 +184,18 @@ fn prove_archives<A: Archives>(
     if !wanted.verify {
         return Ok(());
     }
-    verify(alloc, view, archives).map_err(fault_of_answer)
+    verify(alloc, view, archives).map_err(run_fault_of_answer)
 }
 
 /// Opens the index. Fails if its bytes aren't an index file, if it lacks what is wanted of it, or if its paths aren't
 /// the wanted ones. Takes no memory.
 fn open_for<'a>(index: &'a [u8], wanted: &Wanted) -> Result<IndexView<'a>, Fault>
     ensures table { IfOk result (λ view. IsFileOfTable index.entry.now view) }
-    ensures fresh { IfOk result (λ view. is_too_old view (wanted_of wanted.now) ≡ false) }
+    ensures fresh { IfOk result (λ view. is_too_old view (shown_wanted wanted.now) ≡ false) }
     ensures paths { IfOk result (λ view.
-        renamed_archive view.archives (wanted_of wanted.now).paths ≡ None) }
-    ensures refused { IfErr result (IsIndexRefusal (wanted_of wanted.now) index.entry.now) }
-    ensures each { (fault : Fault) → IsIndexRefusal (wanted_of wanted.now) index.entry.now fault
+        renamed_archive view.archives (shown_wanted wanted.now).paths ≡ None) }
+    ensures refused { IfErr result (IsIndexRefusal (shown_wanted wanted.now) index.entry.now) }
+    ensures each { (fault : Fault) → IsIndexRefusal (shown_wanted wanted.now) index.entry.now fault
         → fault_in result ≡ Some fault }
 {
     let view = IndexView::open(index).map_err(Fault::Index)?;
@@ -210,7 +210,7 @@ fn open_for<'a>(index: &'a [u8], wanted: &Wanted) -> Result<IndexView<'a>, Fault
 
 /// Whether digests of archives or names of attachments are wanted, and the index has neither. Takes no memory.
 fn is_too_old(index: &IndexView<'_>, wanted: &Wanted) -> bool
-    ensures { result ≡ is_too_old index.now (wanted_of wanted.now) }
+    ensures { result ≡ is_too_old index.now (shown_wanted wanted.now) }
 {
     index.version() == FIRST_VERSION && (wanted.verify || wanted.query.uses_names())
 }

@@ -1,7 +1,7 @@
 //! Answers from an index.
 ghost use Rattle.std.specs.Prelude.{◌≡◌, ◌<◌, ◌^◌, ◌-◌, ℕ, List, Some};
 ghost use Rattle.mail_answer.specs.Asked.{HoldsArchives};
-ghost use Rattle.mairix_tool.specs.Asked.{shown_wanted as wanted_of};
+ghost use Rattle.mairix_tool.specs.Asked.{shown_wanted};
 ghost use Rattle.mairix_tool.specs.Inside.Answering.{AsksIndex};
 ghost use Rattle.mairix_tool.specs.Searching.{Searches};
 ghost use Rattle.mairix_tool.specs.Runs.{IsTold, RepliesBy, reply_of, IsCountedWhere, fault_of_answer_kind};
@@ -25,14 +25,14 @@ pub(crate) fn answer_view<A: Archives, O: Out>(
     requires out { O.failures out.old < 2 ^ 64 - 1 }
     ensures keeps { HoldsArchives A.Archives archives.old archives.new }
     ensures told { (held : List (List ℕ)) → A.held archives.new ≡ Some held
-        → RepliesBy (IsTold index.now (wanted_of wanted.now).search held)
+        → RepliesBy (IsTold index.now (shown_wanted wanted.now).search held)
         (reply_of result) (O.taken out.old) (O.taken out.new) }
-    ensures counted { IsCountedWhere index.now (wanted_of wanted.now).search
+    ensures counted { IsCountedWhere index.now (shown_wanted wanted.now).search
         (A.held archives.new) (reply_of result).fault (reply_of result)
         (O.taken out.old) (O.taken out.new) }
-    ensures asks { AsksIndex A.Archives O.Out (wanted_of wanted.now).search
+    ensures asks { AsksIndex A.Archives O.Out (shown_wanted wanted.now).search
         archives.old archives.new out.old out.new result }
-    ensures searched { Searches A.Archives O.Out index.now (wanted_of wanted.now).search
+    ensures searched { Searches A.Archives O.Out index.now (shown_wanted wanted.now).search
         archives.old archives.new out.old out.new (reply_of result) }
 {
     let found = answer(
@@ -44,11 +44,11 @@ pub(crate) fn answer_view<A: Archives, O: Out>(
         archives,
         out,
     );
-    found.map_err(fault_of_answer)
+    found.map_err(run_fault_of_answer)
 }
 
 /// Returns the fault of a run for a fault of an answer.
-pub(crate) fn fault_of_answer(fault: AnswerFault) -> Fault
+pub(crate) fn run_fault_of_answer(fault: AnswerFault) -> Fault
     ensures { result ≡ fault_of_answer_kind fault.kind }
 {
     match fault.kind {

@@ -47,7 +47,7 @@ fn has_range() -> Option<bool> {
     let has_until = day.has(Some(1_053_302_399));
     let has_other = day.has(Some(1_053_302_400)) || day.has(None);
     let is_refused = matches!(range_of("12345d", now), Err(DateFault::BadNumber));
-    Some(now.second() == NOW && day == DAY_IN_MAY && has_until && !has_other && is_refused)
+    Some(now.seconds() == NOW && day == DAY_IN_MAY && has_until && !has_other && is_refused)
 }
 
 /// Returns the end of a range in a row, where `-` means no end. It is None if the text is neither.

@@ -2,7 +2,8 @@
 -- reads.
 use Rattle.index_run.proofs.Words.{arith, ◌≡◌, ◌∙◌, ◌<◌, ◌≤◌, ℕ, List, [], length, map, take, get_or, Some, Ok, sym, ap}
 use Rattle.index_run.proofs.Words.{subst, string_bytes, get_or-map, length-map, take_all, All-get_or, map-set_same}
-use Rattle.index_run.proofs.Words.{IsPath, Mbox, AreSound, mboxes, fault_of_job, is_failed_source, IsIndexOf, IsAdded}
+use Rattle.index_run.proofs.Words.{IsPath, Mbox, AreSound, mboxes, run_fault_of_job, is_failed_source, IsIndexOf}
+use Rattle.index_run.proofs.Words.{IsAdded}
 use Rattle.index_run.proofs.Words.{IsAddFault}
 use Rattle.std.proofs.Common.{rules}
 use Rattle.contract_words.proofs.StillKnown.{all-before, known-called, known-still}
@@ -67,7 +68,7 @@ returns-in-Err-clause-known g c = λ archives known.
     ((rw c.in-Err.is at c.archive.ensures.err) (take i (mboxes paths archives)) (get_or archives i []) found.0
     (known-still _ _ _ rest (known-called g.S.Source.rest c.archive.new.source c.index-sources-number.result
     c.loop-number.sources i (omega arith) known.1))) in
-    rw c.fault_of_job.ensures (archive-fault (mboxes paths archives) (take i (mboxes paths archives))
+    rw c.run_fault_of_job.ensures (archive-fault (mboxes paths archives) (take i (mboxes paths archives))
     (record { path = get_or paths i []; bytes = get_or archives i [] }) i fault
     (parted-here paths archives i many within) (sym (taken-so-far paths archives i many within)) found.1 fails)
 
@@ -75,7 +76,8 @@ pub returns-in-Err-clause-count : goal.returns-in-Err-clause-count
 returns-in-Err-clause-count g c =
     let i = c.loop-number.number in
     let fault = c.in-Err.fault in
-    rw c.fault_of_job.ensures (counted_at g.S.Source.failures (λ n. is_failed_source n (Some (fault_of_job i fault)))
+    rw c.run_fault_of_job.ensures (counted_at g.S.Source.failures
+    (λ n. is_failed_source n (Some (run_fault_of_job i fault)))
     c.loop-number.sources c.args.sources.now i c.archive.new.source c.index-sources-number.result (omega arith)
     c.loop-number.invariant.counts
     (others-run i fault) (here-counts i fault _ _ (rw c.in-Err.is at c.archive.ensures.count)))
@@ -83,7 +85,7 @@ returns-in-Err-clause-count g c =
 pub returns-in-Err-clause-stays : goal.returns-in-Err-clause-stays
 returns-in-Err-clause-stays g c =
     let so_far = c.loop-number.invariant in
-    rw c.fault_of_job.ensures (stopped g.S.Source c.args.sources.now c.loop-number.sources c.loop-number.number
+    rw c.run_fault_of_job.ensures (stopped g.S.Source c.args.sources.now c.loop-number.sources c.loop-number.number
     c.archive.new.source c.index-sources-number.result c.in-Err.fault
     so_far.stays c.archive.ensures.stays so_far.ends so_far.unread)
 
