@@ -1,11 +1,11 @@
 -- What reading an archive's messages, one after another, makes of a builder's draft.
-use Rattle.index_job.proofs.Words.{true, false, nat_lt, if◌then◌else◌, ◌≡◌, ◌∙◌, ◌+◌, ◌≤◌, ◌<◌, ◌++◌, ℕ, suc, List, []}
+use Rattle.index_job.proofs.Words.{◌≡◌, ◌∙◌, ◌+◌, ◌≤◌, ◌++◌, ℕ, suc, List, []}
 use Rattle.index_job.proofs.Words.{◌∷◌, length, Option, Some, option_map, unwrap_or, refl, sym, ap, subst, arith}
-use Rattle.index_job.proofs.Words.{append_assoc, append-nil, ⊎_elim, Ok, Err, length-map, map-append, ◌>>=◌, Draft}
-use Rattle.index_job.proofs.Words.{archive_count, draft_in_archive, draft_after, TooMany, nat_tests, Key, Message, text}
+use Rattle.index_job.proofs.Words.{append_assoc, append-nil, ⊎_elim, Ok, length-map, map-append, Draft}
+use Rattle.index_job.proofs.Words.{Key, Message, text}
 use Rattle.index_job.proofs.Words.{CutFault, ComingEvents, JobFault, coming_ahead, Heads, AddsMessages, HasDone}
 use Rattle.index_job.proofs.Words.{with_terms}
-use Rattle.index_job.proofs.Words.{with_messages, with_open_archive, draft_with_messages, HasTooMany, IsJobFault}
+use Rattle.index_job.proofs.Words.{with_messages, draft_with_messages, HasTooMany, IsJobFault}
 use Rattle.index_job.proofs.Words.{message_terms}
 use Rattle.std.proofs.lemmas.List.{length-append}
 use Rattle.index_job.specs.declared.archive_reading.Heading.TheVariants as heading
@@ -52,21 +52,21 @@ module _ (number : ℕ) (d : Draft) (all : ℕ) (ms : Option (List Message)) (re
   whole_draft = draft_with_messages number (unwrap_or ms []) d
 
   -- before the first message none is done
-  pub done-none : (builder : Option Draft) (coming : Option ComingEvents) → builder ≡ Some d → coming
-      ≡ Some (coming_ahead all ms refusal) → HasDone number d all ms refusal 0 builder coming
-  done-none builder coming is comes = record {
+  pub done-none : (coming : Option ComingEvents) → coming ≡ Some (coming_ahead all ms refusal)
+      → HasDone number d all ms refusal 0 d coming
+  done-none coming comes = record {
     done = [];
     rest = ms;
     whole = same ms;
     counted = refl;
-    added = is ∙ ap Some (sym (no-messages number d));
+    added = sym (no-messages number d);
     comes = comes;
   }
     where
       same : (o : Option (List Message)) → o ≡ option_map (λ later. [] ++ later) o
       same o = grind arith
 
-  module _ (count : ℕ) (builder : Option Draft) (coming : Option ComingEvents)
+  module _ (count : ℕ) (builder : Draft) (coming : Option ComingEvents)
       (h : HasDone number d all ms refusal count builder coming) where
     -- a fault between two messages is a fault of the archive
     pub between-fault : (f : JobFault) → IsJobFault refusal ⊥ f → IsJobFault refusal (HasTooMany whole_draft) f
@@ -91,8 +91,8 @@ module _ (number : ℕ) (d : Draft) (all : ℕ) (ms : Option (List Message)) (re
           f
 
       -- after one more message, that one is done too
-      pub done-more : (builder' : Option Draft) (coming' : Option ComingEvents) → builder'
-          ≡ Some (draft_with_messages number (m ∷ []) (draft_with_messages number h.done d))
+      pub done-more : (builder' : Draft) (coming' : Option ComingEvents) → builder'
+          ≡ draft_with_messages number (m ∷ []) (draft_with_messages number h.done d)
           → coming' ≡ Some (coming_ahead all (Some later) refusal)
           → HasDone number d all ms refusal (count + 1) builder' coming'
       done-more builder' coming' is comes = record {
@@ -100,7 +100,7 @@ module _ (number : ℕ) (d : Draft) (all : ℕ) (ms : Option (List Message)) (re
         rest = Some later;
         whole = ms-is;
         counted = omega (arith, h.counted, length-append h.done (m ∷ []));
-        added = is ∙ ap Some (sym (then-messages number h.done (m ∷ []) d));
+        added = is ∙ sym (then-messages number h.done (m ∷ []) d);
         comes = comes;
       }
 
@@ -108,20 +108,3 @@ module _ (number : ℕ) (d : Draft) (all : ℕ) (ms : Option (List Message)) (re
     pub archive-done : (bytes : ℕ) → Heads (heading.End bytes) all h.rest refusal coming
         → AddsMessages number d all ms refusal (Ok (record { messages = count; length = bytes })) builder
     archive-done bytes (none, same, sound) = grind (arith, unwrap_or, option_map, append-nil)
-
--- ---- an archive with its path
-
--- if an archive has begun, there was room for it
-pub begun-is : (path : List ℕ) (d : Draft) (new : Option Draft) → draft_after (draft_in_archive path) (Some d) ≡ Ok new
-    → (archive_count d < d.most) × (new ≡ Some (with_open_archive path d))
-begun-is path d new given =
-    (elim (nat_lt (length d.table.archives) d.most)
-    as (λ b. nat_lt (length d.table.archives) d.most ≡ b
-    → ((if b then Ok (with_open_archive path d) else Err TooMany) >>= λ e. Ok (Some e)) ≡ Ok new
-    → (archive_count d < d.most) × (new ≡ Some (with_open_archive path d))) [
-      | true ↦ λ few is. (
-        grind (arith, nat_tests, few),
-        (let same : Some (with_open_archive path d) ≡ new = cc in sym same),
-      )
-      | false ↦ λ few is. absurd cc
-    ]) refl given

@@ -1,12 +1,13 @@
 -- What reading a whole message makes of a builder's draft.
-use Rattle.index_job.proofs.Words.{◌≡◌, ◌∙◌, ◌+◌, ◌++◌, ℕ, nat_eq, if◌then◌else◌, List, [], ◌∷◌, Option, Some}
-use Rattle.index_job.proofs.Words.{option_map, refl, ap, arith, Result, Ok, Err, IfErr, OnOk, fields_of, Record, Draft}
+use Rattle.index_job.proofs.Words.{◌≡◌, ◌∙◌, ◌+◌, ◌++◌, false, ℕ, nat_eq, if◌then◌else◌, List, [], ◌∷◌}
+use Rattle.index_job.proofs.Words.{Option, refl, sym, subst, arith, Result, Ok, Err, IfErr, OnOk, fields_of, Record}
+use Rattle.index_job.proofs.Words.{Draft}
 use Rattle.index_job.proofs.Words.{end_of, IsInArchive, Message, text, size, span_length, ComingEvents, Facts}
 use Rattle.index_job.proofs.Words.{MessageText}
 use Rattle.index_job.proofs.Words.{facts_of, texts_of_message, JobFault, Span, Awaited, HasReadAll, IsMessageFault}
 use Rattle.index_job.proofs.Words.{AddsMessage, HasGathered, IsGatherFault, with_texts, draft_with_terms}
-use Rattle.index_job.proofs.Words.{draft_with_messages, with_open_message, HasTooMany, IsReadyForMessage, IsOpenAt}
-use Rattle.index_job.proofs.Words.{IsBuilderReady, IsJobFault, IsArchiveFault, ended_with, Term, text_terms}
+use Rattle.index_job.proofs.Words.{draft_with_messages, draft_in_message, HasTooMany, IsReadyForMessage, IsOpenAt}
+use Rattle.index_job.proofs.Words.{IsJobFault, IsArchiveFault, ended_with, Term, text_terms}
 use Rattle.index_job.proofs.Words.{message_terms}
 use Rattle.index_job.proofs.Terms.{with_terms-append}
 use Rattle.index_job.proofs.ReadingLines.{gather-own, gather-is-job}
@@ -22,16 +23,22 @@ end_of-last n (s ∷ t ∷ rs) r = end_of-last n (t ∷ rs) r
 -- ---- faults
 
 -- a fault of a message is that the draft would have too much
-pub message-fault : (archive : ℕ) (d : Draft) (w : Awaited) (f : JobFault)
-    → IsMessageFault (Some (with_open_message d)) w f
+pub message-fault : (archive : ℕ) (d : Draft) (w : Awaited) (f : JobFault) → d.failed ≡ false
+    → IsMessageFault (draft_in_message d) w f
     → IsJobFault w.refusal (HasTooMany (draft_with_messages archive (w.message ∷ []) d)) f
-message-fault archive d w f h = grind arith
+message-fault archive d w f kept h = grind arith
 
 -- ---- the open message
 
 pub opens : (archive place : ℕ) (d : Draft) → IsReadyForMessage archive place d
-    → IsOpenAt archive place (with_open_message d)
-opens archive place d h = record { phase = (h.phase.0, refl); most = h.most; archive = h.archive; after = h.after }
+    → IsOpenAt archive place (draft_in_message d)
+opens archive place d h = record {
+  kept = h.kept;
+  phase = λ kept. ((h.phase kept).0, refl);
+  most = h.most;
+  archive = h.archive;
+  after = h.after;
+}
 
 -- ---- its end
 
@@ -39,53 +46,50 @@ module _ (span : Span) (d : Draft) where
   -- the draft at the end of a message is ready for the next
   pub ended-ready : (facts : Facts) (ts : List Term) → IsReadyForMessage span.archive span.offset d
       → IsReadyForMessage span.archive (span.offset + span.length)
-      (ended_with facts span (draft_with_terms ts (with_open_message d)))
+      (ended_with facts span (draft_with_terms ts (draft_in_message d)))
   ended-ready facts ts h = grind (arith, end_of-last)
 
   pub ready-after : {T : Type 0} (place : ℕ) (r : Result T JobFault) (gathered : MessageText)
-      (builder new : Option Draft) (ls : List (List ℕ)) → HasGathered gathered builder (Some (with_open_message d)) ls
+      (builder new : Draft) (ls : List (List ℕ)) → HasGathered gathered builder (draft_in_message d) ls
       → IsReadyForMessage span.archive span.offset d → place ≡ span.offset + span.length
-      → OnOk r ((ls : List (List ℕ)) (d : Option Draft) → HasGathered gathered builder d ls → new
-      ≡ option_map (ended_with (facts_of (fields_of ls)) span) (with_texts (texts_of_message ls) d))
-      → OnOk r (IsBuilderReady span.archive place new)
+      → OnOk r ((ls : List (List ℕ)) (d : Draft) → HasGathered gathered builder d ls → new
+      ≡ ended_with (facts_of (fields_of ls)) span (with_texts (texts_of_message ls) d))
+      → OnOk r (IsReadyForMessage span.archive place new)
   ready-after place (Err f) gathered builder new ls g h at is = tt
-  ready-after place (Ok x) gathered builder new ls g h at is = (
-    ended_with (facts_of (fields_of ls)) span
-        (draft_with_terms (flat_map text_terms (texts_of_message ls)) (with_open_message d)),
-    is ls (Some (with_open_message d)) g,
-    rw at (ended-ready (facts_of (fields_of ls)) (flat_map text_terms (texts_of_message ls)) h),
-  )
+  ready-after place (Ok x) gathered builder new ls g h at is =
+      subst (IsReadyForMessage span.archive place) (sym (is ls (draft_in_message d) g))
+      (rw at (ended-ready (facts_of (fields_of ls)) (flat_map text_terms (texts_of_message ls)) h))
 
   -- if the message is known, the draft is the one with that message
-  ended-is : (m : Message) → IsInArchive d → m.offset ≡ span.offset → span.length ≡ span_length m → span.size ≡ size m
-      → ended_with (facts_of (fields_of (text m))) span
-      (draft_with_terms (flat_map text_terms (texts_of_message (text m))) (with_open_message d))
+  ended-is : (m : Message) → d.failed ≡ false → IsInArchive d → m.offset ≡ span.offset → span.length ≡ span_length m
+      → span.size ≡ size m → ended_with (facts_of (fields_of (text m))) span
+      (draft_with_terms (flat_map text_terms (texts_of_message (text m))) (draft_in_message d))
       ≡ draft_with_messages span.archive (m ∷ []) d
-  ended-is m phase offset length-is size-is = grind (arith, with_terms-append)
+  ended-is m kept phase offset length-is size-is = grind (arith, with_terms-append)
 
   pub adds-message : {T : Type 0} (w : Awaited) (coming : Option ComingEvents) (r : Result T JobFault)
-      (gathered : MessageText) (builder new : Option Draft) → IsInArchive d → w.message.offset ≡ span.offset
-      → HasReadAll (Some (with_open_message d)) w (record { length = span.length; size = span.size }) gathered builder
+      (gathered : MessageText) (builder new : Draft) → d.failed ≡ false → IsInArchive d → w.message.offset ≡ span.offset
+      → HasReadAll (draft_in_message d) w (record { length = span.length; size = span.size }) gathered builder
       coming
-      → OnOk r ((ls : List (List ℕ)) (d : Option Draft) → HasGathered gathered builder d ls → new
-      ≡ option_map (ended_with (facts_of (fields_of ls)) span) (with_texts (texts_of_message ls) d))
-      → IfErr r (λ f. (ls : List (List ℕ)) (d : Option Draft) → HasGathered gathered builder d ls
-      → IsGatherFault (option_map (draft_with_terms (message_terms ls)) d) f)
+      → OnOk r ((ls : List (List ℕ)) (d : Draft) → HasGathered gathered builder d ls → new
+      ≡ ended_with (facts_of (fields_of ls)) span (with_texts (texts_of_message ls) d))
+      → IfErr r (λ f. (ls : List (List ℕ)) (d : Draft) → HasGathered gathered builder d ls
+      → IsGatherFault (draft_with_terms (message_terms ls) d) f)
       → AddsMessage span.archive d w r new coming
-  adds-message w coming (Ok x) gathered builder new phase offset h is fails = (
-    is (text w.message) (Some (with_open_message d)) h.whole
-        ∙ ap Some (ended-is w.message phase offset h.length h.told_size),
+  adds-message w coming (Ok x) gathered builder new kept phase offset h is fails = (
+    is (text w.message) (draft_in_message d) h.whole
+        ∙ ended-is w.message kept phase offset h.length h.told_size,
     h.comes,
   )
-  adds-message w coming (Err f) gathered builder new phase offset h is fails =
-      message-fault span.archive d w f (gather-is-job
-      (option_map (draft_with_terms (message_terms (text w.message))) (Some (with_open_message d))) w.refusal f
-      (fails (text w.message) (Some (with_open_message d)) h.whole))
+  adds-message w coming (Err f) gathered builder new kept phase offset h is fails =
+      message-fault span.archive d w f kept (gather-is-job
+      (draft_with_terms (message_terms (text w.message)) (draft_in_message d)) w.refusal f
+      (fails (text w.message) (draft_in_message d) h.whole))
 
 -- a fault inside the message, whatever is to come
-pub own-fault : {T : Type 0} (r : Result T JobFault) (gathered : MessageText) (builder d : Option Draft)
-    (ls : List (List ℕ)) → HasGathered gathered builder d ls
-    → IfErr r (λ f. (ls : List (List ℕ)) (d : Option Draft) → HasGathered gathered builder d ls
-    → IsGatherFault (option_map (draft_with_terms (message_terms ls)) d) f) → IfErr r IsArchiveFault
+pub own-fault : {T : Type 0} (r : Result T JobFault) (gathered : MessageText) (builder d : Draft) (ls : List (List ℕ))
+    → HasGathered gathered builder d ls
+    → IfErr r (λ f. (ls : List (List ℕ)) (d : Draft) → HasGathered gathered builder d ls
+    → IsGatherFault (draft_with_terms (message_terms ls) d) f) → IfErr r IsArchiveFault
 own-fault (Ok x) gathered builder d ls g fails = tt
-own-fault (Err f) gathered builder d ls g fails = gather-own _ f (fails ls d g)
+own-fault (Err f) gathered builder d ls g fails = gather-own (draft_with_terms (message_terms ls) d) f (fails ls d g)

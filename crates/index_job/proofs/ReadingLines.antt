@@ -3,7 +3,8 @@ use Rattle.index_job.proofs.Words.{still_known, ◌≡◌, ◌∙◌, ◌++◌, 
 use Rattle.index_job.proofs.Words.{append_assoc, append-nil, arith, Draft, text, size, span_length, CutFault, Line, End}
 use Rattle.index_job.proofs.Words.{ComingEvents, TakesKnown, MessageText, texts_of_message, Ended, JobFault, Awaited}
 use Rattle.index_job.proofs.Words.{coming_inside, coming_between, IsReading, HasReadAll, IsMessageFault, HasGathered}
-use Rattle.index_job.proofs.Words.{IsGatherFault, with_texts, RefusesTerms, IsJobFault, IsArchiveFault}
+use Rattle.index_job.proofs.Words.{IsGatherFault, with_texts, draft_with_terms, RefusesTerms, IsJobFault}
+use Rattle.index_job.proofs.Words.{IsArchiveFault, message_terms}
 use Rattle.index_job.proofs.Gatherings.{texts-fail}
 use Rattle.contract_words.proofs.StillKnown.{still-other}
 
@@ -22,17 +23,17 @@ after-end w (l ∷ rest) span told_size now' (after, is, takes) = absurd cc
 after-end w [] span told_size now' (after, is, (events, refusal)) = grind arith
 
 -- a fault of gathering is a fault of the job
-pub gather-is-job : (whole : Option Draft) (refusal : Option CutFault) (f : JobFault) → IsGatherFault whole f
+pub gather-is-job : (whole : Draft) (refusal : Option CutFault) (f : JobFault) → IsGatherFault whole f
     → IsJobFault refusal (RefusesTerms whole) f
 gather-is-job whole refusal f h = grind arith
 
-pub gather-own : (whole : Option Draft) (f : JobFault) → IsGatherFault whole f → IsArchiveFault f
+pub gather-own : (whole : Draft) (f : JobFault) → IsGatherFault whole f → IsArchiveFault f
 gather-own whole f h = grind arith
 
-module _ (d : Option Draft) (w : Awaited) (ls rest : List (List ℕ)) (gathered : MessageText) (builder : Option Draft)
+module _ (d : Draft) (w : Awaited) (ls rest : List (List ℕ)) (gathered : MessageText) (builder : Draft)
     (now now' : Option ComingEvents) (l : List ℕ) where
   -- one more line is read
-  pub reads-line : (gathered' : MessageText) (builder' : Option Draft) → IsReading d w ls rest gathered builder now
+  pub reads-line : (gathered' : MessageText) (builder' : Draft) → IsReading d w ls rest gathered builder now
       → TakesKnown (Line l) now now'
       → HasGathered gathered' builder' d (ls ++ l ∷ []) → (more left : List (List ℕ))
       × IsReading d w more left gathered' builder' now'
@@ -53,12 +54,12 @@ module _ (d : Option Draft) (w : Awaited) (ls rest : List (List ℕ)) (gathered 
   line-is-fault f r takes fails =
       let b = after-line w rest l now' (subst (λ o. TakesKnown (Line l) o now') r.comes takes) in
       let whole : ls ++ l ∷ b.0 ≡ text w.message = ap (λ x. ls ++ x) (sym b.1) ∙ sym r.whole in
-      gather-is-job _ w.refusal f (texts-fail (text w.message) d f
+      gather-is-job (draft_with_terms (message_terms (text w.message)) d) w.refusal f (texts-fail (text w.message) d f
       (subst (λ t. IsGatherFault (with_texts (texts_of_message t) d) f) whole (fails b.0)))
 
 -- the end of the message is read
-pub reads-end : (d : Option Draft) (w : Awaited) (ls rest : List (List ℕ)) (gathered : MessageText)
-    (builder : Option Draft) (now now' : Option ComingEvents) (ended : Ended)
+pub reads-end : (d : Draft) (w : Awaited) (ls rest : List (List ℕ)) (gathered : MessageText)
+    (builder : Draft) (now now' : Option ComingEvents) (ended : Ended)
     → IsReading d w ls rest gathered builder now → TakesKnown (End ended.length ended.size) now now'
     → HasReadAll d w ended gathered builder now'
 reads-end d w ls rest gathered builder now now' ended r takes =
@@ -73,8 +74,8 @@ reads-end d w ls rest gathered builder now now' ended r takes =
     }
 
 -- what is read of a message's text, if it is still known what is to come
-pub still-reading : {T C : Type 0} (d : Option Draft) (w : Awaited) (ls rest : List (List ℕ)) (gathered : MessageText)
-    (builder : Option Draft) (first : Option T) (now : Option ComingEvents) (last : Option C) (x : T)
+pub still-reading : {T C : Type 0} (d : Draft) (w : Awaited) (ls rest : List (List ℕ)) (gathered : MessageText)
+    (builder : Draft) (first : Option T) (now : Option ComingEvents) (last : Option C) (x : T)
     → still_known first last ≡ Some x → IsReading d w ls rest gathered builder now
     → IsReading d w ls rest gathered builder (still_known now last)
 still-reading d w ls rest gathered builder first now last x known r =

@@ -1,17 +1,15 @@
 -- The table of archives with one more archive.
-use Rattle.index_job.proofs.Words.{◌≡◌, ◌∙◌, ◌+◌, ◌<◌, ◌++◌, ℕ, suc, List, [], ◌∷◌, length, map, Option, Some, refl}
-use Rattle.index_job.proofs.Words.{sym, ap, arith, append_assoc, append-nil, ⊎_elim, Result, Ok, Err, IfSome}
+use Rattle.index_job.proofs.Words.{◌≡◌, ◌∙◌, ◌+◌, ◌<◌, ◌++◌, ℕ, suc, List, [], ◌∷◌, length, map, refl}
+use Rattle.index_job.proofs.Words.{sym, ap, arith, append_assoc, append-nil, ⊎_elim, Result, Ok, Err, false}
 use Rattle.index_job.proofs.Words.{flat_map-append, length-map, map-append, sha256, Draft, IsWithinMost}
 use Rattle.index_job.proofs.Words.{draft_in_archive}
-use Rattle.index_job.proofs.Words.{draft_after_archive, draft_after, messages, coming_of, events, archive_refusal}
-use Rattle.index_job.proofs.Words.{ReadArchive}
+use Rattle.index_job.proofs.Words.{draft_after_archive, messages, coming_of, events, archive_refusal, ReadArchive}
 use Rattle.index_job.proofs.Words.{JobFault, coming_ahead, AddsMessages, most_in_archive, most_in_index, IsTooMuch}
 use Rattle.index_job.proofs.Words.{Mbox, messages_in, all_messages, record_of, records_from, with_messages, table}
-use Rattle.index_job.proofs.Words.{IsAdded, IsAddFault, draft_of_archives, draft_with_messages, draft_ended}
-use Rattle.index_job.proofs.Words.{with_open_archive}
+use Rattle.index_job.proofs.Words.{IsAdded, IsAddFault, draft_of_archives, draft_with_messages}
 use Rattle.index_job.proofs.Words.{HasTooMany, IsIdle}
 use Rattle.std.proofs.lemmas.List.{length-append}
-use Rattle.index_job.proofs.ArchiveSteps.{begun-is, with_messages-append}
+use Rattle.index_job.proofs.ArchiveSteps.{with_messages-append}
 
 -- what is to come of an archive's bytes
 pub comes-known : (bytes : List ℕ) → coming_of most_in_archive bytes
@@ -48,7 +46,7 @@ keys-more archives a = grind (arith, records-count, zero_more, with_messages-app
 module _ (archives : List Mbox) (a : Mbox) where
   abbrev pub read_draft : Draft
   read_draft = draft_with_messages (length archives) (messages_in a.bytes)
-      (with_open_archive a.path (draft_of_archives archives))
+      (draft_in_archive a.path (draft_of_archives archives))
 
   messages-are : read_draft.table.messages ≡ (table (archives ++ a ∷ [])).messages
   messages-are = ap (λ k. records_from 0 archives ++ map (record_of k) (messages_in a.bytes))
@@ -57,46 +55,29 @@ module _ (archives : List Mbox) (a : Mbox) where
   keys-are : read_draft.table.keys ≡ (table (archives ++ a ∷ [])).keys
   keys-are = keys-more archives a
 
-  table-more : draft_ended (length a.bytes) (sha256 a.bytes) read_draft ≡ draft_of_archives (archives ++ a ∷ [])
+  table-more : draft_after_archive (length a.bytes) (sha256 a.bytes) read_draft ≡ draft_of_archives (archives ++ a ∷ [])
   table-more = grind (arith, map-append, messages-are, keys-are)
 
   too-much : HasTooMany read_draft → IsTooMuch (table (archives ++ a ∷ []))
   too-much h = grind (arith, ⊎_elim, messages-are, keys-are)
 
-  module _ (number : ℕ) (begun : Option Draft) (same : number ≡ length archives)
-      (given : draft_after (draft_in_archive a.path) (Some (draft_of_archives archives)) ≡ Ok begun) where
-    abbrev Adds : Result ReadArchive JobFault → Option Draft → Type 0
-    Adds r builder = (d : Draft) → begun ≡ Some d
-        → AddsMessages number d (length a.bytes) (messages a.bytes) (archive_refusal most_in_archive a.bytes) r builder
-
-    room : length archives < most_in_index
-    room = grind (arith, length-map, begun-is)
+  module _ (number : ℕ) (same : number ≡ length archives) where
+    abbrev Adds : Result ReadArchive JobFault → Draft → Type 0
+    Adds r builder = AddsMessages number (draft_in_archive a.path (draft_of_archives archives)) (length a.bytes)
+        (messages a.bytes)
+        (archive_refusal most_in_archive a.bytes) r builder
 
     -- the archive has ended, with its length and its digest
-    pub one-added : (read : ReadArchive) (builder : Option Draft) (digest : List ℕ) (new : Option Draft)
-        → Adds (Ok read) builder
-        → digest ≡ sha256 a.bytes → draft_after (draft_after_archive read.length digest) builder ≡ Ok new
-        → IfSome new IsWithinMost → IsAdded archives a read.messages new
-    one-added read builder digest new adds digest-is gives within =
-        ended (adds (with_open_archive a.path (draft_of_archives archives))
-        (begun-is a.path (draft_of_archives archives) begun given).1)
-      where
-        ended : AddsMessages number (with_open_archive a.path (draft_of_archives archives)) (length a.bytes)
-            (messages a.bytes)
-            (archive_refusal most_in_archive a.bytes) (Ok read) builder → IsAdded archives a read.messages new
-        ended (sound, is, counted, long) = grind (arith, table-more)
+    pub one-added : (read : ReadArchive) (builder : Draft) (digest : List ℕ) (new : Draft) → Adds (Ok read) builder
+        → digest ≡ sha256 a.bytes → new ≡ draft_after_archive read.length digest builder → IsWithinMost new
+        → IsAdded archives a read.messages new
+    one-added read builder digest new (sound, is, counted, long) digest-is gives within = grind (arith, table-more)
 
-    pub add-fault : (builder : Option Draft) (f : JobFault) → Adds (Err f) builder → IsAddFault archives a f
-    add-fault builder f adds = refused (adds (with_open_archive a.path (draft_of_archives archives))
-        (begun-is a.path (draft_of_archives archives) begun given).1)
-      where
-        refused : AddsMessages number (with_open_archive a.path (draft_of_archives archives)) (length a.bytes)
-            (messages a.bytes)
-            (archive_refusal most_in_archive a.bytes) (Err f) builder → IsAddFault archives a f
-        refused h = grind (arith, room, too-much)
+    pub add-fault : (builder : Draft) (f : JobFault) → length archives < most_in_index → Adds (Err f) builder
+        → IsAddFault archives a f
+    add-fault builder f room h = grind (arith, too-much)
 
 -- the number of archives that have ended
-pub number-is : (number : ℕ) (archives : List Mbox) (builder : Option Draft) → builder
-    ≡ Some (draft_of_archives archives)
-    → IfSome builder (IsIdle number) → number ≡ length archives
+pub number-is : (number : ℕ) (archives : List Mbox) (builder : Draft) → builder ≡ draft_of_archives archives
+    → (builder.failed ≡ false → IsIdle number builder) → number ≡ length archives
 number-is number archives builder is idle = grind (arith, length-map)

@@ -1,15 +1,13 @@
 -- What adding terms makes of a builder's draft.
-use Rattle.index_job.proofs.Words.{◌≡◌, ◌<◌, ◌≤◌, ℕ, zero, Bor, List, [], ◌∷◌, ◌++◌, length, Option, IfSome, Ok, Err}
-use Rattle.index_job.proofs.Words.{option_map, refl, ap, ◌∙◌, subst, arith, suc, drop, take, map, append_assoc, get_or}
-use Rattle.index_job.proofs.Words.{◌+◌, Vec, BuildFault, Global, AllByRecursion, nat_tests, drop_more, map-append}
+use Rattle.index_job.proofs.Words.{◌≡◌, ◌<◌, ◌≤◌, ℕ, zero, Bor, List, [], ◌∷◌, ◌++◌, length}
+use Rattle.index_job.proofs.Words.{refl, ap, ◌∙◌, sym, subst, arith, suc, drop, take, map, append_assoc, get_or}
+use Rattle.index_job.proofs.Words.{◌+◌, Vec, BuildFault, Global, AllByRecursion, drop_more, map-append}
 use Rattle.index_job.proofs.Words.{length-map, length-take-le, LinkId, Text, TextKind, Key, Draft, with_pair}
 use Rattle.index_job.proofs.Words.{draft_with_key}
-use Rattle.index_job.proofs.Words.{build_refusal, draft_after, IsInMessage, with_terms, draft_with_terms}
-use Rattle.index_job.proofs.Words.{IsFaultOfAdding}
+use Rattle.index_job.proofs.Words.{IsRefusal, with_terms, draft_with_terms, IsFaultOfAdding}
 use Rattle.index_job.proofs.Words.{RefusesTerms, Term, link_terms, word_terms, HasTermLength}
 use Rattle.mail_index.specs.declared.kind.Kind.{Kind}
 use Rattle.mail_index.specs.Builders.{HasPair}
-use Rattle.mail_index.proofs.BuildLaws.BuilderSteps.{added-is}
 use Rattle.mail_index.proofs.BuildLaws.HadPairs.{with_pair-had}
 
 -- ---- keys only become more
@@ -30,23 +28,11 @@ with_terms-append n (t ∷ ts) us ks = with_terms-append n ts us (with_pair t.0 
 
 -- ---- one call
 
--- a term is added, and then the others
-pub added-terms : (kind : Kind) (text : List ℕ) (ts : List Term) (old new : Option Draft)
-    → draft_after (draft_with_key kind text) old ≡ Ok new
-    → option_map (draft_with_terms ((kind, text) ∷ ts)) old ≡ option_map (draft_with_terms ts) new
-added-terms kind text ts old new h = grind (arith, option_map, added-is)
-
 -- a term is refused
-pub add-fails : (kind : Kind) (text : List ℕ) (ts : List Term) (old new : Option Draft) (fault : BuildFault)
-    → IfSome (build_refusal fault) (λ f. draft_after (draft_with_key kind text) old ≡ Err f)
-    → IsFaultOfAdding (option_map (draft_with_terms ((kind, text) ∷ ts)) old) fault
-add-fails kind text ts old new fault h = grind (arith, nat_tests, with_terms-more)
-
--- a term that is added leaves the message open
-pub in-message-kept : (kind : Kind) (text : List ℕ) (old new : Option Draft)
-    → draft_after (draft_with_key kind text) old ≡ Ok new
-    → IfSome old IsInMessage → IfSome new IsInMessage
-in-message-kept kind text old new h h2 = grind (arith, added-is)
+pub add-fails : (kind : Kind) (text : List ℕ) (ts : List Term) (old : Draft) (fault : BuildFault)
+    → IsRefusal (length (draft_with_key kind text old).table.keys) old fault
+    → IsFaultOfAdding (draft_with_terms ((kind, text) ∷ ts) old) fault
+add-fails kind text ts old fault h = grind (arith, with_terms-more)
 
 -- the next of the ids that are left
 pub next-link : (ids : List (Vec ℕ Global)) (i : ℕ) (v : Vec ℕ Global) (id : List ℕ) → (i < length ids)
@@ -57,23 +43,23 @@ next-link ids i v id here same = grind (arith, drop_more)
 
 -- ---- terms, and then others
 
-pub joined : (ts us : List Term) (o : Option Draft) → option_map (draft_with_terms (ts ++ us)) o
-    ≡ option_map (draft_with_terms us) (option_map (draft_with_terms ts) o)
-joined ts us o = grind (arith, with_terms-append)
+pub joined : (ts us : List Term) (d : Draft) → draft_with_terms (ts ++ us) d
+    ≡ draft_with_terms us (draft_with_terms ts d)
+joined ts us d = grind (arith, with_terms-append)
 
 -- a draft with too many keys has too many with more terms, too
-still-fails : (us : List Term) (o : Option Draft) (fault : BuildFault) → IsFaultOfAdding o fault
-    → IsFaultOfAdding (option_map (draft_with_terms us) o) fault
-still-fails us o fault h = grind (arith, with_terms-more)
+still-fails : (us : List Term) (d : Draft) (fault : BuildFault) → IsFaultOfAdding d fault
+    → IsFaultOfAdding (draft_with_terms us d) fault
+still-fails us d fault h = grind (arith, with_terms-more)
 
-pub fails-first : (ts us : List Term) (old : Option Draft) (fault : BuildFault)
-    → IsFaultOfAdding (option_map (draft_with_terms ts) old) fault
-    → IsFaultOfAdding (option_map (draft_with_terms (ts ++ us)) old) fault
-fails-first ts us old fault h = grind (arith, joined, still-fails, option_map)
+pub fails-first : (ts us : List Term) (old : Draft) (fault : BuildFault)
+    → IsFaultOfAdding (draft_with_terms ts old) fault
+    → IsFaultOfAdding (draft_with_terms (ts ++ us) old) fault
+fails-first ts us old fault h = subst (λ d. IsFaultOfAdding d fault) (sym (joined ts us old))
+    (still-fails us (draft_with_terms ts old) fault h)
 
-pub still-refuses : (us : List Term) (o : Option Draft) → RefusesTerms o
-    → RefusesTerms (option_map (draft_with_terms us) o)
-still-refuses us o h = grind (arith, with_terms-more)
+pub still-refuses : (us : List Term) (d : Draft) → RefusesTerms d → RefusesTerms (draft_with_terms us d)
+still-refuses us d h = grind (arith, with_terms-more)
 
 -- ---- words of a batch
 
@@ -85,20 +71,17 @@ terms-had n (t ∷ ts) kind text ks had = terms-had n ts kind text (with_pair t.
     (with_pair-had n t.0 t.1 ks kind text had)
 
 -- a word that the message already has needn't join the batch
-pub word-had : (kind : TextKind) (old : List (List ℕ)) (word : List ℕ) (o : Option Draft)
-    → IfSome o (HasPair (Text kind) word)
-    → option_map (draft_with_terms (word_terms kind (old ++ word ∷ []))) o
-    ≡ option_map (draft_with_terms (word_terms kind old)) o
-word-had kind old word o had = grind (arith, map-append, option_map, terms-had)
+pub word-had : (kind : TextKind) (old : List (List ℕ)) (word : List ℕ) (d : Draft) → HasPair (Text kind) word d
+    → draft_with_terms (word_terms kind (old ++ word ∷ [])) d ≡ draft_with_terms (word_terms kind old) d
+word-had kind old word d had = grind (arith, map-append, terms-had)
 
 -- a word joins the batch, or the batch is added first: either way, the same terms are added in the end
 pub waits-next : (kind : TextKind) (old : List (List ℕ)) (word : List ℕ) (new : List (List ℕ)) (us : List Term)
-    (o n : Option Draft)
-    → option_map (draft_with_terms (word_terms kind (old ++ word ∷ []))) o
-    ≡ option_map (draft_with_terms (word_terms kind new)) n
-    → option_map (draft_with_terms (word_terms kind old ++ (Text kind, word) ∷ us)) o
-    ≡ option_map (draft_with_terms (word_terms kind new ++ us)) n
-waits-next kind old word new us o n h = grind (arith, map-append, append_assoc, option_map, joined)
+    (d e : Draft)
+    → draft_with_terms (word_terms kind (old ++ word ∷ [])) d ≡ draft_with_terms (word_terms kind new) e
+    → draft_with_terms (word_terms kind old ++ (Text kind, word) ∷ us) d
+    ≡ draft_with_terms (word_terms kind new ++ us) e
+waits-next kind old word new us d e h = grind (arith, map-append, append_assoc, joined)
 
 -- the bytes of a reference to a word
 abbrev shown : Bor (List ℕ) → List ℕ
@@ -140,8 +123,7 @@ waiting-length words n i nothing all below within =
     (all-at (map shown (take n words)) i (omega (arith, below, waiting-count words n within)) all)
 
 -- all words of the batch are added, and the batch has the next word
-pub added-first : (kind : TextKind) (old now : List (List ℕ)) (word : List ℕ) (new : List (List ℕ)) (o n : Option Draft)
-    → n ≡ option_map (draft_with_terms (word_terms kind old)) o → now ≡ [] → new ≡ now ++ word ∷ []
-    → option_map (draft_with_terms (word_terms kind (old ++ word ∷ []))) o
-    ≡ option_map (draft_with_terms (word_terms kind new)) n
-added-first kind old now word new o n added none is = grind (arith, option_map, map-append, joined)
+pub added-first : (kind : TextKind) (old now : List (List ℕ)) (word : List ℕ) (new : List (List ℕ)) (d e : Draft)
+    → e ≡ draft_with_terms (word_terms kind old) d → now ≡ [] → new ≡ now ++ word ∷ []
+    → draft_with_terms (word_terms kind (old ++ word ∷ [])) d ≡ draft_with_terms (word_terms kind new) e
+added-first kind old now word new d e added none is = grind (arith, map-append, joined)

@@ -1,5 +1,4 @@
 -- The names of std and of the definitions that proofs use, all from one place.
-pub use Rattle.contract_words.specs.Answers.{◌>>=◌}
 pub use Rattle.contract_words.specs.Knowledge.{still_known}
 pub use Rattle.header_text.specs.Headers.{HeaderField, continued_and_fields, field_of_line, header, lines_before_empty}
 pub use Rattle.header_text.specs.Headers.{lines_within, most_in_header, with_continuations}
@@ -8,10 +7,9 @@ pub use Rattle.index_job.specs.ArchiveRefusals.{AreSound, IsTooMuch}
 pub use Rattle.index_job.specs.ArchiveTables.{Mbox, all_messages, date_told, entry_of_archive, messages_in, record_of}
 pub use Rattle.index_job.specs.ArchiveTables.{records_from, table, with_messages, with_terms}
 pub use Rattle.index_job.specs.IndexJobs.{IsAddFault, IsAdded}
-pub use Rattle.index_job.specs.Indexing.{HasTooMany, IsArchiveFault, IsBuilderOpen, IsBuilderReady, IsIdle, IsJobFault}
-pub use Rattle.index_job.specs.Indexing.{IsOpenAt, IsReadyForMessage, IsFaultOfAdding, RefusesTerms, draft_ended}
-pub use Rattle.index_job.specs.Indexing.{draft_of_archives}
-pub use Rattle.index_job.specs.Indexing.{draft_with_messages, draft_with_terms, with_open_archive, with_open_message}
+pub use Rattle.index_job.specs.Indexing.{HasTooMany, IsArchiveFault, IsIdle, IsJobFault}
+pub use Rattle.index_job.specs.Indexing.{IsOpenAt, IsReadyForMessage, IsFaultOfAdding, RefusesTerms, draft_of_archives}
+pub use Rattle.index_job.specs.Indexing.{draft_with_messages, draft_with_terms}
 pub use Rattle.index_job.specs.Inside.ArchiveReading.{AddsMessage, AddsMessages, Awaited, HasDone, HasEnded, HasReadAll}
 pub use Rattle.index_job.specs.Inside.ArchiveReading.{Heads, IsHeading, IsInsideMessage, IsMessageFault, IsReading}
 pub use Rattle.index_job.specs.Inside.ArchiveReading.{IsReadingSome, ReadsSource, coming_ahead, coming_between}
@@ -26,15 +24,15 @@ pub use Rattle.index_job.specs.declared.archive_reading.Ended.{Ended}
 pub use Rattle.index_job.specs.declared.archive_reading.ReadArchive.{ReadArchive}
 pub use Rattle.index_job.specs.declared.job_fault.JobFault.{JobFault}
 pub use Rattle.index_job.specs.declared.message_end.Span.{Span}
-pub use Rattle.mail_index.specs.Builders.{Draft, IsInArchive, IsInMessage, IsWithinMost, draft_with_key, archive_count}
-pub use Rattle.mail_index.specs.Builders.{draft_in_archive, end_of, draft_after_archive, build_refusal, draft_after}
+pub use Rattle.mail_index.specs.Builders.{Draft, IsInArchive, IsInMessage, IsWithinMost, draft_with_key}
+pub use Rattle.mail_index.specs.Builders.{draft_in_archive, draft_in_message, end_of, draft_after_archive, IsRefusal}
 pub use Rattle.mail_index.specs.Builders.{with_pair}
 pub use Rattle.mail_index.specs.Limits.{most_in_archive, most_in_index}
 pub use Rattle.mail_index.specs.Tables.{AllNext, Archive, Follows, IsArchive, IsKey, IsMessage, IsPath, IsWellFormed}
 pub use Rattle.mail_index.specs.Tables.{Key, KeyBefore, archive_length}
 pub use Rattle.mail_index.specs.Versions.{newest}
 pub use Rattle.mail_index.specs.declared.build.build_fault.BuildFault.{BuildFault}
-pub use Rattle.mail_index.specs.declared.build.build_fault.BuildFault.TheVariants.{OutOfMemory, TooMany}
+pub use Rattle.mail_index.specs.declared.build.build_fault.BuildFault.TheVariants.{OutOfMemory}
 pub use Rattle.mail_index.specs.declared.kind.Kind.TheVariants.{LinkId, Text}
 pub use Rattle.mail_index.specs.declared.record.Record.{Record}
 pub use Rattle.mail_words.specs.Folding.{folding}

@@ -1,5 +1,5 @@
 -- What an indexing job has made so far, and the faults of adding an archive.
-use Rattle.std.specs.Prelude.{◌≡◌, ⊤, ℕ, ◌<◌, List, [], ◌∷◌, ◌++◌, length, Option, None, Some}
+use Rattle.std.specs.Prelude.{◌≡◌, ⊤, ℕ, ◌<◌, List, [], ◌∷◌, ◌++◌, length, None, Some}
 use Rattle.mail_index.specs.Builders.{Draft}
 use Rattle.mbox_cutter.specs.declared.event.CutFault.TheVariants.{Device, NotAnMbox, ArchiveTooLong, Failed}
 use Rattle.mbox_cutter.specs.Events.{archive_refusal}
@@ -11,11 +11,11 @@ use Rattle.index_job.specs.ArchiveRefusals.{IsTooMuch, IsWithinLimit}
 use Rattle.index_job.specs.Indexing.{draft_of_archives}
 
 -- the job has the table of these archives
-abbrev pub IsIndexOf : Option Draft → List Mbox → Type 0
-IsIndexOf job archives = job ≡ Some (draft_of_archives archives)
+abbrev pub IsIndexOf : Draft → List Mbox → Type 0
+IsIndexOf job archives = job ≡ draft_of_archives archives
 
 -- the job has the table of these archives and one more, which isn't refused and has this many messages
-pub record IsAdded (before : List Mbox) (a : Mbox) (count : ℕ) (job : Option Draft) : Type 0 where
+pub record IsAdded (before : List Mbox) (a : Mbox) (count : ℕ) (job : Draft) : Type 0 where
   pub sound : archive_refusal most_in_archive a.bytes ≡ None
   pub within : IsWithinLimit (table (before ++ a ∷ []))
   pub counted : count ≡ length (messages_in a.bytes)

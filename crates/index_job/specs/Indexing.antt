@@ -1,6 +1,6 @@
 -- The drafts of a builder while archives are indexed, and the faults of adding to them.
 use Rattle.std.specs.Prelude.{◌≡◌, ⊤, ℕ, ◌<◌, ◌≤◌, ◌⊎◌, true, false, List, ◌++◌, length, map, Option, None, Some}
-use Rattle.std.specs.Prelude.{IfSome, option_map, unwrap_or, [], ◌∷◌, Result}
+use Rattle.std.specs.Prelude.{Result}
 use Rattle.std.specs.Result.{MatchResult}
 use Rattle.mail_index.specs.declared.build.build_fault.BuildFault.{BuildFault}
 use Rattle.mail_index.specs.declared.build.build_fault.BuildFault.TheVariants as build
@@ -17,7 +17,13 @@ use Rattle.index_job.specs.MessageTerms.{Term}
 
 -- the draft of archives that have all ended
 abbrev pub draft_of_archives : List Mbox → Draft
-draft_of_archives archives = record { most = most_in_index; path = None; in_message = false; table = table archives }
+draft_of_archives archives = record {
+  most = most_in_index;
+  path = None;
+  in_message = false;
+  table = table archives;
+  failed = false;
+}
 
 -- the draft with these terms added to the open message
 abbrev pub draft_with_terms : List Term → Draft → Draft
@@ -41,6 +47,7 @@ HasTooMany d = (d.most < length d.table.messages) ⊎ (d.most < length d.table.k
 
 -- the archive with this number is open, no message is, and its messages so far end at this place or before it
 pub record IsReadyForMessage (number place : ℕ) (d : Draft) : Type 0 where
+  pub kept : d.failed ≡ false
   pub phase : IsInArchive d
   pub most : d.most ≡ most_in_index
   pub archive : archive_count d ≡ number
@@ -48,66 +55,36 @@ pub record IsReadyForMessage (number place : ℕ) (d : Draft) : Type 0 where
 
 -- a message of the archive with this number is open, and the messages before it end at this place or before it
 pub record IsOpenAt (number place : ℕ) (d : Draft) : Type 0 where
+  pub kept : d.failed ≡ false
   pub phase : IsInMessage d
   pub most : d.most ≡ most_in_index
   pub archive : archive_count d ≡ number
   pub after : end_of number d.table.messages ≤ place
 
--- the builder hasn't failed, and its draft is ready for the next message
-abbrev pub IsBuilderReady : ℕ → ℕ → Option Draft → Type 0
-IsBuilderReady number place builder = (d : Draft) × (builder ≡ Some d) × IsReadyForMessage number place d
-
--- the builder hasn't failed, and its draft has an open message
-abbrev pub IsBuilderOpen : ℕ → ℕ → Option Draft → Type 0
-IsBuilderOpen number place builder = (d : Draft) × (builder ≡ Some d) × IsOpenAt number place d
-
 -- this many archives have ended, none is open, and no count is above the limit
 pub record IsIdle (number : ℕ) (d : Draft) : Type 0 where
+  pub kept : d.failed ≡ false
   pub phase : IsBetweenArchives d
   pub most : d.most ≡ most_in_index
   pub archive : archive_count d ≡ number
   pub within : IsWithinMost d
 
--- the builder hasn't failed, and its draft is ready for the next archive
-abbrev pub IsBuilderIdle : ℕ → Option Draft → Type 0
-IsBuilderIdle number builder = (d : Draft) × (builder ≡ Some d) × IsIdle number d
-
--- the draft with an open archive that has this path
-abbrev pub with_open_archive : List ℕ → Draft → Draft
-with_open_archive path d = record d { path = Some path }
-
--- the draft with its open archive ended, which has this many bytes and this digest
-abbrev pub draft_ended : ℕ → List ℕ → Draft → Draft
-draft_ended bytes digest d = record d {
-  path = None;
-  table =
-      record d.table {
-        archives = d.table.archives ++ record
-            { path = unwrap_or d.path []; length = bytes; digest = Some digest } ∷ [];
-      };
-}
-
--- the draft with an open message
-abbrev pub with_open_message : Draft → Draft
-with_open_message d = record d { in_message = true }
-
 -- ---- terms
 
--- a fault of adding terms; `whole` is the draft with all of them, and None if an earlier call has failed
-abbrev pub IsFaultOfAdding : Option Draft → BuildFault → Type 0
-IsFaultOfAdding whole build.OutOfMemory = ⊤
-IsFaultOfAdding whole build.TooMany = IfSome whole (λ d. d.most < length d.table.keys)
-IsFaultOfAdding whole build.Failed = whole ≡ None
-
 -- the draft with all terms has too many keys, or an earlier call has failed
-abbrev pub RefusesTerms : Option Draft → Type 0
-RefusesTerms None = ⊤
-RefusesTerms (Some whole) = whole.most < length whole.table.keys
+abbrev pub RefusesTerms : Draft → Type 0
+RefusesTerms whole = whole.failed ≡ false → whole.most < length whole.table.keys
+
+-- a fault of adding terms; `whole` is the draft with all of them
+abbrev pub IsFaultOfAdding : Draft → BuildFault → Type 0
+IsFaultOfAdding whole build.OutOfMemory = ⊤
+IsFaultOfAdding whole build.TooMany = RefusesTerms whole
+IsFaultOfAdding whole build.Failed = whole.failed ≡ true
 
 -- these terms are added, or the fault is one of adding them
-abbrev pub AddsTerms : {T : Type 0} → List Term → Result T BuildFault → Option Draft → Option Draft → Type 0
-AddsTerms ts result old new = MatchResult result (λ _. new ≡ option_map (draft_with_terms ts) old)
-    (IsFaultOfAdding (option_map (draft_with_terms ts) old))
+abbrev pub AddsTerms : {T : Type 0} → List Term → Result T BuildFault → Draft → Draft → Type 0
+AddsTerms ts result old new = MatchResult result (λ _. new ≡ draft_with_terms ts old)
+    (IsFaultOfAdding (draft_with_terms ts old))
 
 -- ---- faults
 

@@ -1,5 +1,5 @@
 //! Reads one archive, and adds its messages to a builder.
-ghost use Rattle.std.specs.Prelude.{◌≡◌, ◌<◌, ◌+◌, ◌-◌, ◌^◌, ℕ, List, Option, Some, None, Err, IfOk, IfErr, IfSome, OnOk, length, IsSome};
+ghost use Rattle.std.specs.Prelude.{◌≡◌, ◌<◌, ◌+◌, ◌-◌, ◌^◌, true, false, ℕ, List, Option, Some, Err, IfOk, IfErr, OnOk, length, IsSome};
 ghost use Rattle.std.specs.Io.KnownBytes.{IsAtEnd};
 ghost use Rattle.std.specs.Option.{MatchOption};
 ghost use Rattle.contract_words.specs.Devices.{Counted};
@@ -16,7 +16,7 @@ ghost use Rattle.index_job.specs.Inside.ArchiveReading.{Awaited, AwaitsEnd, Adds
 ghost use Rattle.index_job.specs.Inside.Gathering.{HasGathered};
 ghost use Rattle.index_job.specs.ArchiveTables.{Mbox};
 ghost use Rattle.index_job.specs.IndexJobs.{IsIndexOf, IsAdded, IsAddFault};
-ghost use Rattle.index_job.specs.Indexing.{IsArchiveFault, IsBuilderIdle, IsIdle, IsJobFault, IsBuilderReady};
+ghost use Rattle.index_job.specs.Indexing.{IsArchiveFault, IsIdle, IsJobFault, IsReadyForMessage};
 ghost use Rattle.index_job.specs.JobFaults.{is_source_failure};
 
 use crate::folding_room::FoldingRoom;
@@ -89,27 +89,27 @@ fn next_line<'a, S: Source>(
     start: u64,
 ) -> Result<Option<Ended>, JobFault>
     requires inside { IsInsideMessage start cutter.old.place }
-    requires phase { IfSome builder.old IsInMessage }
+    requires phase { IsInMessage builder.old }
     requires count { S.failures cutter.old.source.now < 2 ^ 64 - 1 }
     ensures reads { ReadsSource S.Source (is_source_failure result) cutter.old.source
         cutter.new.source }
     ensures further { OnOk result (GoesFurther cutter.old.place cutter.new.place) }
     ensures place { IfOk result (λ end. MatchOption end (IsInsideMessage start cutter.new.place)
         (λ e. HasEnded start e cutter.new.place)) }
-    ensures gathers { OnOk result ((d : Option Draft) (ls : List (List ℕ))
+    ensures gathers { OnOk result ((d : Draft) (ls : List (List ℕ))
         → HasGathered text.old builder.old d ls
         → (ms : List (List ℕ)) × HasGathered text.new builder.new d ms) }
-    ensures known { IfOk result (λ end. (d : Option Draft) (w : Awaited) (ls rest : List (List ℕ))
+    ensures known { IfOk result (λ end. (d : Draft) (w : Awaited) (ls rest : List (List ℕ))
         → IsReading d w ls rest text.old builder.old
         (still_known cutter.old.coming (S.rest cutter.new.source.now))
         → MatchOption end ((more left : List (List ℕ))
         × IsReading d w more left text.new builder.new cutter.new.coming)
         (λ e. HasReadAll d w e text.new builder.new cutter.new.coming)) }
-    ensures fault { IfErr result (λ fault. (d : Option Draft) (w : Awaited)
+    ensures fault { IfErr result (λ fault. (d : Draft) (w : Awaited)
         (ls rest : List (List ℕ)) → IsReading d w ls rest text.old builder.old
         (still_known cutter.old.coming (S.rest cutter.new.source.now))
         → IsMessageFault d w fault) }
-    ensures own { IfErr result (λ fault. (d : Option Draft) (ls : List (List ℕ))
+    ensures own { IfErr result (λ fault. (d : Draft) (ls : List (List ℕ))
         → HasGathered text.old builder.old d ls → IsArchiveFault fault) }
 {
     match cutter.next_event()? {
@@ -136,16 +136,16 @@ fn add_message<'a, S: Source>(
     requires inside { IsInsideMessage offset cutter.old.place }
     requires most { cutter.old.place.most ≡ most_in_archive }
     requires count { S.failures cutter.old.source.now < 2 ^ 64 - 1 }
-    requires ready { IsBuilderReady archive offset builder.old }
+    requires ready { IsReadyForMessage archive offset builder.old }
     ensures reads { ReadsSource S.Source (is_source_failure result) cutter.old.source
         cutter.new.source }
     ensures further { OnOk result (GoesFurther cutter.old.place cutter.new.place) }
     ensures between { OnOk result (cutter.new.place.phase ≡ Phase.Between) }
-    ensures ready { OnOk result (IsBuilderReady archive cutter.new.place.offset builder.new) }
-    ensures known { (d : Draft) (w : Awaited) → builder.old ≡ Some d → w.message.offset ≡ offset
+    ensures ready { OnOk result (IsReadyForMessage archive cutter.new.place.offset builder.new) }
+    ensures known { (w : Awaited) → w.message.offset ≡ offset
         → still_known cutter.old.coming (S.rest cutter.new.source.now)
         ≡ Some (coming_inside w (text_of w.message))
-        → AddsMessage archive d w result builder.new cutter.new.coming }
+        → AddsMessage archive builder.old w result builder.new cutter.new.coming }
     ensures own { IfErr result IsArchiveFault }
 {
     builder.begin_message()?;
@@ -174,16 +174,15 @@ fn add_messages<'a, S: Source>(
     requires between { cutter.old.place.phase ≡ Phase.Between }
     requires most { cutter.old.place.most ≡ most_in_archive }
     requires count { S.failures cutter.old.source.now < 2 ^ 64 - 1 }
-    requires ready { IsBuilderReady archive cutter.old.place.offset builder.old }
+    requires ready { IsReadyForMessage archive cutter.old.place.offset builder.old }
     ensures reads { ReadsSource S.Source (is_source_failure result) cutter.old.source
         cutter.new.source }
     ensures ended { IfOk result (λ read. AwaitsEnd archive (S.rest cutter.new.source.now)
         read.length builder.new) }
-    ensures known { (d : Draft) (all : ℕ) (ms : Option (List Message)) (refusal : Option CutFault)
-        → builder.old ≡ Some d
+    ensures known { (all : ℕ) (ms : Option (List Message)) (refusal : Option CutFault)
         → still_known cutter.old.coming (S.rest cutter.new.source.now)
         ≡ Some (coming_ahead all ms refusal)
-        → AddsMessages archive d all ms refusal result builder.new }
+        → AddsMessages archive builder.old all ms refusal result builder.new }
     ensures own { IfErr result IsArchiveFault }
 {
     let mut messages: u64 = 0;
@@ -211,15 +210,15 @@ fn read_archive<S: Source>(
     archive: u32,
 ) -> Result<ReadArchive, JobFault>
     requires count { S.failures source.old < 2 ^ 64 - 1 }
-    requires ready { IsBuilderReady archive 0 builder.old }
+    requires ready { IsReadyForMessage archive 0 builder.old }
     ensures stays { Stays S.Source source.old source.new }
     ensures count { Counted (is_source_failure result) (S.failures source.old)
         (S.failures source.new) }
     ensures ended { IfOk result (λ read. AwaitsEnd archive (S.rest source.new) read.length
         builder.new) }
-    ensures known { (d : Draft) (bytes : List ℕ) → builder.old ≡ Some d
+    ensures known { (bytes : List ℕ)
         → still_known (S.rest source.old) (S.rest source.new) ≡ Some bytes
-        → AddsMessages archive d (length bytes) (messages_of bytes)
+        → AddsMessages archive builder.old (length bytes) (messages_of bytes)
         (archive_refusal most_in_archive bytes) result builder.new }
     ensures own { IfErr result IsArchiveFault }
 {
@@ -257,7 +256,7 @@ pub(crate) fn add_archive<S: Source>(
     archive: u32,
 ) -> Result<u64, JobFault>
     requires count { S.failures source.old < 2 ^ 64 - 1 }
-    requires idle { IfSome builder.old (IsIdle archive) }
+    requires idle { builder.old.failed ≡ false → IsIdle archive builder.old }
     requires path { IsPath path.now }
     ensures ok { IfOk result (λ n. (before : List Mbox) (bytes : List ℕ)
         → IsIndexOf builder.old before
@@ -267,13 +266,13 @@ pub(crate) fn add_archive<S: Source>(
         → IsIndexOf builder.old before
         → still_known (S.rest source.old) (S.rest source.new) ≡ Some bytes
         → IsAddFault before (record { path = path.now; bytes = bytes }) fault) }
-    ensures idle { OnOk result (IsBuilderIdle (archive + 1) builder.new) }
+    ensures idle { OnOk result (IsIdle (archive + 1) builder.new) }
     ensures end { OnOk result (IsAtEnd (S.rest source.new)) }
     ensures stays { Stays S.Source source.old source.new }
     ensures count { Counted (is_source_failure result) (S.failures source.old)
         (S.failures source.new) }
-    ensures own { IfErr result (λ fault. IfSome builder.old (λ _. IsArchiveFault fault)) }
-    ensures failed { builder.old ≡ None → (result ≡ Err JobFault.Failed)
+    ensures own { builder.old.failed ≡ false → IfErr result IsArchiveFault }
+    ensures failed { builder.old.failed ≡ true → (result ≡ Err JobFault.Failed)
         × (source.new ≡ source.old) }
 {
     builder.begin_archive(path)?;

@@ -1,5 +1,5 @@
 //! Folded words that are added to an index together.
-ghost use Rattle.std.specs.Prelude.{◌≡◌, ◌<◌, nat_le, [], ◌∷◌, ◌++◌, IfSome, IfErr, OnOk, length, option_map};
+ghost use Rattle.std.specs.Prelude.{◌≡◌, ◌<◌, nat_le, [], ◌∷◌, ◌++◌, IfErr, OnOk, length};
 ghost use Rattle.mail_index.specs.Builders.{IsInMessage};
 ghost use Rattle.index_job.specs.Indexing.{draft_with_terms, AddsTerms, IsFaultOfAdding};
 ghost use Rattle.index_job.specs.MessageTerms.{word_terms, HasTermLength};
@@ -49,9 +49,9 @@ impl<'a> Batch<'a> {
 
     /// Adds all words of the batch to the builder. The batch is empty then.
     pub(crate) fn add(&mut self, builder: &mut Builder, kind: TextKind) -> Result<(), BuildFault>
-        requires { IfSome builder.old IsInMessage }
+        requires { IsInMessage builder.old }
         ensures terms { AddsTerms (word_terms kind self.old) result builder.old builder.new }
-        ensures phase { IfSome builder.new IsInMessage }
+        ensures phase { IsInMessage builder.new }
         ensures none { OnOk result (self.new ≡ []) }
     {
         let count = self.count;
@@ -63,9 +63,9 @@ impl<'a> Batch<'a> {
 
     /// Adds each word to the builder, with the guess where its key is.
     fn add_prefetched(&self, builder: &mut Builder, kind: TextKind) -> Result<(), BuildFault>
-        requires { IfSome builder.old IsInMessage }
+        requires { IsInMessage builder.old }
         ensures terms { AddsTerms (word_terms kind self.now) result builder.old builder.new }
-        ensures phase { IfSome builder.new IsInMessage }
+        ensures phase { IsInMessage builder.new }
     {
         for index in 0..self.count {
             let word = self.words[index];
@@ -84,14 +84,14 @@ impl<'a> Batch<'a> {
         kind: TextKind,
         word: &'a [u8],
     ) -> Result<(), BuildFault>
-        requires phase { IfSome builder.old IsInMessage }
+        requires phase { IsInMessage builder.old }
         requires word { HasTermLength word.now }
-        ensures ok { OnOk result (option_map (draft_with_terms
-            (word_terms kind (self.old ++ word.now ∷ []))) builder.old
-            ≡ option_map (draft_with_terms (word_terms kind self.new)) builder.new) }
-        ensures err { IfErr result (IsFaultOfAdding (option_map
-            (draft_with_terms (word_terms kind self.old)) builder.old)) }
-        ensures phase { IfSome builder.new IsInMessage }
+        ensures ok { OnOk result
+            (draft_with_terms (word_terms kind (self.old ++ word.now ∷ [])) builder.old
+            ≡ draft_with_terms (word_terms kind self.new) builder.new) }
+        ensures err { IfErr result
+            (IsFaultOfAdding (draft_with_terms (word_terms kind self.old) builder.old)) }
+        ensures phase { IsInMessage builder.new }
     {
         let key = Kind::Text(kind);
         let place = Prefetched::of(key, word);

@@ -1,5 +1,5 @@
 //! The folded words of a text, in memory that is used again for the next text.
-ghost use Rattle.std.specs.Prelude.{◌≡◌, ◌≤◌, ℕ, List, [], ◌∷◌, ◌++◌, IfSome, OnOk, length, map, sum};
+ghost use Rattle.std.specs.Prelude.{◌≡◌, ◌≤◌, ℕ, List, [], ◌∷◌, ◌++◌, OnOk, length, map, sum};
 ghost use Rattle.std.specs.List.{AllByRecursion};
 ghost use Rattle.mail_index.specs.Builders.{IsInMessage};
 ghost use Rattle.mail_words.specs.Folding.{folding};
@@ -62,9 +62,9 @@ pub(crate) fn add_words_of(
     kind: TextKind,
     folded: &str,
 ) -> Result<(), BuildFault>
-    requires { IfSome builder.old IsInMessage }
+    requires { IsInMessage builder.old }
     ensures terms { AddsTerms (word_terms kind (words folded.now)) result builder.old builder.new }
-    ensures phase { IfSome builder.new IsInMessage }
+    ensures phase { IsInMessage builder.new }
 {
     let mut batch = Batch::new();
     for word in Words::of(folded) {
@@ -80,12 +80,12 @@ pub(crate) fn add_cut_words(
     bytes: &[u8],
     lengths: &[usize],
 ) -> Result<(), BuildFault>
-    requires phase { IfSome builder.old IsInMessage }
+    requires phase { IsInMessage builder.old }
     requires within { sum lengths.now ≤ length bytes.now }
     requires sizes { AllByRecursion HasTermLength (parts_of_lengths lengths.now bytes.now) }
     ensures terms { AddsTerms (word_terms kind (parts_of_lengths lengths.now bytes.now)) result
         builder.old builder.new }
-    ensures phase { IfSome builder.new IsInMessage }
+    ensures phase { IsInMessage builder.new }
 {
     let mut batch = Batch::new();
     let mut rest = bytes;

@@ -1,5 +1,5 @@
 //! Gathers the terms of a message, line by line.
-ghost use Rattle.std.specs.Prelude.{◌≡◌, ℕ, List, ◌∷◌, ◌++◌, [], Option, IfOk, IfErr, IfSome, OnOk};
+ghost use Rattle.std.specs.Prelude.{◌≡◌, ℕ, List, ◌∷◌, ◌++◌, [], IfOk, IfErr, OnOk};
 ghost use Rattle.header_text.specs.Headers.{fields_of};
 ghost use Rattle.mail_index.specs.Builders.{Draft, IsInMessage};
 ghost use Rattle.mbox_cutter.specs.Lines.{IsLine};
@@ -21,11 +21,11 @@ pub(crate) fn feed_line(
     builder: &mut Builder,
 ) -> Result<(), TextFault>
     requires line { IsLine line.now }
-    requires phase { IfSome builder.old IsInMessage }
-    ensures ok { OnOk result ((ls : List (List ℕ)) (d : Option Draft)
+    requires phase { IsInMessage builder.old }
+    ensures ok { OnOk result ((ls : List (List ℕ)) (d : Draft)
         → HasGathered text.old builder.old d ls
         → HasGathered text.new builder.new d (ls ++ line.now ∷ [])) }
-    ensures err { IfErr result (λ fault. (ls ms : List (List ℕ)) (d : Option Draft)
+    ensures err { IfErr result (λ fault. (ls ms : List (List ℕ)) (d : Draft)
         → HasGathered text.old builder.old d ls
         → IsGatherFault (with_texts (texts_of_message (ls ++ line.now ∷ ms)) d) (of_text fault)) }
 {
@@ -39,15 +39,15 @@ pub(crate) fn end_text(
     room: &mut FoldingRoom,
     builder: &mut Builder,
 ) -> Result<Facts, TextFault>
-    requires { IfSome builder.old IsInMessage }
+    requires { IsInMessage builder.old }
     ensures sizes { IfOk result HasSizedIds }
-    ensures facts { IfOk result (λ facts. (ls : List (List ℕ)) (d : Option Draft)
+    ensures facts { IfOk result (λ facts. (ls : List (List ℕ)) (d : Draft)
         → HasGathered text.old builder.old d ls
         → facts ≡ facts_of (fields_of ls)) }
-    ensures ok { OnOk result ((ls : List (List ℕ)) (d : Option Draft)
+    ensures ok { OnOk result ((ls : List (List ℕ)) (d : Draft)
         → HasGathered text.old builder.old d ls
         → builder.new ≡ with_texts (texts_of_message ls) d) }
-    ensures err { IfErr result (λ fault. (ls : List (List ℕ)) (d : Option Draft)
+    ensures err { IfErr result (λ fault. (ls : List (List ℕ)) (d : Draft)
         → HasGathered text.old builder.old d ls
         → IsGatherFault (with_texts (texts_of_message ls) d) (of_text fault)) }
 {

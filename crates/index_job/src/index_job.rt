@@ -1,10 +1,10 @@
 //! A job that indexes archives one after another.
-ghost use Rattle.std.specs.Prelude.{◌≡◌, ◌<◌, ◌^◌, ◌-◌, ℕ, List, [], Some, None, Err, IfOk, IfErr, IfSome, OnOk, OnErr, IsSome, length};
+ghost use Rattle.std.specs.Prelude.{◌≡◌, ◌<◌, ◌^◌, ◌-◌, ℕ, List, [], true, false, Some, Err, IfOk, IfErr, OnOk, OnErr, length};
 ghost use Rattle.std.specs.Io.KnownBytes.{Appends, IsAtEnd};
 ghost use Rattle.contract_words.specs.Devices.{Counted, Sends};
 ghost use Rattle.contract_words.specs.Knowledge.{still_known};
 ghost use Rattle.mbox_cutter.specs.Sources.{Stays};
-ghost use Rattle.mail_index.specs.Builders.{is_output_failure};
+ghost use Rattle.mail_index.specs.Builders.{is_output_failure, IsLost};
 ghost use Rattle.mail_index.specs.Files.{index_file, HasSmallSections};
 ghost use Rattle.mail_index.specs.Tables.{IsPath, IsWellFormed};
 ghost use Rattle.index_job.specs.ArchiveTables.{Mbox};
@@ -39,15 +39,15 @@ pub struct IndexJob {
 }
 
 impl Model for IndexJob {
-    ghost use Rattle.std.specs.Prelude.{Option, IfSome};
+    ghost use Rattle.std.specs.Prelude.{◌≡◌, false};
     ghost use Rattle.mail_index.specs.Builders.{Draft};
     ghost use Rattle.index_job.specs.Indexing.{IsIdle};
 
-    ghost Value = { Option Draft };
+    ghost Value = { Draft };
 
     ghost view = { λ s. s.builder };
 
-    ghost invariant = { λ s. IfSome s.builder (IsIdle s.archives) };
+    ghost invariant = { λ s. s.builder.failed ≡ false → IsIdle s.archives s.builder };
 }
 
 impl IndexJob {
@@ -88,10 +88,10 @@ impl IndexJob {
         ensures stays { Stays S.Source source.old source.new }
         ensures count { Counted (is_source_failure result) (S.failures source.old)
             (S.failures source.new) }
-        ensures own { IfErr result (λ fault. (IfSome self.old (λ _. IsArchiveFault fault))) }
-        ensures lost { OnErr result (self.new ≡ None) }
-        ensures kept { OnOk result (IsSome self.new) }
-        ensures failed { self.old ≡ None → (result ≡ Err JobFault.Failed)
+        ensures own { self.old.failed ≡ false → IfErr result IsArchiveFault }
+        ensures lost { OnErr result (IsLost self.new) }
+        ensures kept { OnOk result (self.new.failed ≡ false) }
+        ensures failed { self.old.failed ≡ true → (result ≡ Err JobFault.Failed)
             × (source.new ≡ source.old) }
     {
         let added = add_archive(
@@ -118,14 +118,15 @@ impl IndexJob {
     /// `Out` if the output fails: then only a beginning of the file was sent. `Failed` if an earlier call has failed.
     pub fn finish<O: Out>(self, out: &mut O) -> Result<u64, WriteFault>
         requires { O.failures out.old < 2 ^ 64 - 1 }
-        ensures formed { IfSome self (λ d. IsWellFormed d.table × HasSmallSections d.table) }
-        ensures ok { IfSome self (λ d. IfOk result (λ n. (n ≡ length (index_file d.table))
-            × Appends (O.taken out.old) (O.taken out.new) (index_file d.table))) }
-        ensures err { IfSome self (λ d. IfErr result (λ fault. (fault ≡ WriteFault.Out)
-            × Sends (O.taken out.old) (O.taken out.new) (index_file d.table))) }
+        ensures formed { IsWellFormed self.table × HasSmallSections self.table }
+        ensures ok { IfOk result (λ n. (n ≡ length (index_file self.table))
+            × Appends (O.taken out.old) (O.taken out.new) (index_file self.table)) }
+        ensures err { self.failed ≡ false → IfErr result (λ fault. (fault ≡ WriteFault.Out)
+            × Sends (O.taken out.old) (O.taken out.new) (index_file self.table)) }
         ensures count { Counted (is_output_failure result) (O.failures out.old)
             (O.failures out.new) }
-        ensures failed { self ≡ None → (result ≡ Err WriteFault.Failed) × (out.new ≡ out.old) }
+        ensures failed { self.failed ≡ true
+            → (result ≡ Err WriteFault.Failed) × (out.new ≡ out.old) }
     {
         self.builder.write(out)
     }

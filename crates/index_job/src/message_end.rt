@@ -1,5 +1,5 @@
 //! Ends a message whose terms are gathered.
-ghost use Rattle.std.specs.Prelude.{◌≡◌, ◌<◌, ◌≤◌, ◌+◌, false, ℕ, List, Option, IfErr, OnOk, option_map};
+ghost use Rattle.std.specs.Prelude.{◌≡◌, ◌<◌, ◌≤◌, ◌+◌, false, ℕ, List, IfErr, OnOk};
 ghost use Rattle.header_text.specs.Headers.{fields_of};
 ghost use Rattle.mail_index.specs.Builders.{Draft};
 ghost use Rattle.mime_text.specs.MessageFacts.{HasSizedIds, facts_of};
@@ -7,7 +7,7 @@ ghost use Rattle.mime_text.specs.Texts.{texts_of_message};
 ghost use Rattle.mail_index.specs.Limits.{most_in_archive};
 ghost use Rattle.index_job.specs.ArchiveTables.{date_told};
 ghost use Rattle.index_job.specs.Inside.Gathering.{HasGathered, IsGatheringMessage, IsGatherFault, with_texts};
-ghost use Rattle.index_job.specs.Indexing.{draft_with_terms, IsBuilderOpen};
+ghost use Rattle.index_job.specs.Indexing.{draft_with_terms, IsOpenAt};
 ghost use Rattle.index_job.specs.JobFaults.{is_source_failure};
 ghost use Rattle.index_job.specs.Inside.MessageEnds.{ended_with};
 ghost use Rattle.index_job.specs.MessageTerms.{id_terms, message_terms};
@@ -43,13 +43,13 @@ pub(crate) struct Span {
 /// Adds the message's ids, and ends the message. All its other terms must have been gathered.
 fn end_message(builder: &mut Builder, facts: &Facts, span: Span) -> Result<(), JobFault>
     requires sizes { HasSizedIds facts.now }
-    requires opened { IsBuilderOpen span.archive span.offset builder.old }
+    requires opened { IsOpenAt span.archive span.offset builder.old }
     requires size { span.size < span.length }
     requires within { span.offset + span.length ≤ most_in_archive }
     ensures source { is_source_failure result ≡ false }
-    ensures ok { OnOk result (builder.new ≡ option_map (ended_with facts.now span) builder.old) }
+    ensures ok { OnOk result (builder.new ≡ ended_with facts.now span builder.old) }
     ensures err { IfErr result
-        (IsGatherFault (option_map (draft_with_terms (id_terms facts.now)) builder.old)) }
+        (IsGatherFault (draft_with_terms (id_terms facts.now) builder.old)) }
 {
     add_ids(builder, facts)?;
     builder.end_message(Record {
@@ -74,13 +74,13 @@ pub(crate) fn finish_message(
     requires size { span.size < span.length }
     requires within { span.offset + span.length ≤ most_in_archive }
     ensures source { is_source_failure result ≡ false }
-    ensures ok { OnOk result ((ls : List (List ℕ)) (d : Option Draft)
+    ensures ok { OnOk result ((ls : List (List ℕ)) (d : Draft)
         → HasGathered text.old builder.old d ls
-        → builder.new ≡ option_map (ended_with (facts_of (fields_of ls)) span)
+        → builder.new ≡ ended_with (facts_of (fields_of ls)) span
         (with_texts (texts_of_message ls) d)) }
-    ensures err { IfErr result (λ fault. (ls : List (List ℕ)) (d : Option Draft)
+    ensures err { IfErr result (λ fault. (ls : List (List ℕ)) (d : Draft)
         → HasGathered text.old builder.old d ls
-        → IsGatherFault (option_map (draft_with_terms (message_terms ls)) d) fault) }
+        → IsGatherFault (draft_with_terms (message_terms ls) d) fault) }
 {
     let facts = end_text(text, room, builder)?;
     end_message(builder, &facts, span)

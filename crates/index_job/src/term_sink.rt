@@ -1,6 +1,5 @@
 //! Gives an index the terms of a message.
-ghost use Rattle.std.specs.Prelude.{◌≡◌, ◌<◌, ◌≤◌, Some, None, IfSome, IsTrue, length, map, string_bytes, All, IfErr, IfOk, OnErr};
-ghost use Rattle.std.specs.Option.{ForSome};
+ghost use Rattle.std.specs.Prelude.{◌≡◌, ◌<◌, ◌≤◌, IsTrue, length, map, string_bytes, All, IfErr, IfOk, OnErr};
 ghost use Rattle.mail_index.specs.Builders.{IsInMessage};
 ghost use Rattle.mail_words.specs.Folding.{folding};
 ghost use Rattle.mail_words.specs.Words.{words};
@@ -19,20 +18,20 @@ use std::alloc::AllocError;
 pub(crate) struct TermSink<'a> {
     pub(crate) builder: &'a mut Builder,
     pub(crate) room: &'a mut FoldingRoom,
-    ghost phase: { ForSome builder.now IsInMessage },
+    ghost phase: { IsInMessage builder.now },
 }
 
 impl<'a> TextSink for TermSink<'a> {
-    ghost use Rattle.std.specs.Prelude.{◌≡◌, ◌⊎◌, option_map};
+    ghost use Rattle.std.specs.Prelude.{◌≡◌, ◌⊎◌};
     ghost use Rattle.mime_text.specs.declared.fault.SinkFault.TheVariants.{OutOfMemory, Refused};
     ghost use Rattle.index_job.specs.Indexing.{draft_with_terms, RefusesTerms};
     ghost use Rattle.index_job.specs.MessageTerms.{text_terms};
 
     ghost takes = { λ old kind text new. (new.builder.ghost_name ≡ old.builder.ghost_name)
-        × (new.builder.now ≡ option_map (draft_with_terms (text_terms (kind, text))) old.builder.now) };
+        × (new.builder.now ≡ draft_with_terms (text_terms (kind, text)) old.builder.now) };
 
     ghost refuses = { λ old kind text fault new. (fault ≡ OutOfMemory)
-        ⊎ ((fault ≡ Refused) × RefusesTerms (option_map (draft_with_terms (text_terms (kind, text))) old.builder.now)) };
+        ⊎ ((fault ≡ Refused) × RefusesTerms (draft_with_terms (text_terms (kind, text)) old.builder.now)) };
 
     fn text(&mut self, kind: TextKind, text: &str) -> Result<(), SinkFault> {
         match add_words(self.builder, self.room, kind, text) {
@@ -63,9 +62,9 @@ fn add_words(
     kind: TextKind,
     text: &str,
 ) -> Result<(), BuildFault>
-    requires { IfSome builder.old IsInMessage }
+    requires { IsInMessage builder.old }
     ensures terms { AddsTerms (text_terms (kind, text.now)) result builder.old builder.new }
-    ensures phase { IfSome builder.new IsInMessage }
+    ensures phase { IsInMessage builder.new }
 {
     let is_whole = fold_whole(text, &mut room.folded)?;
     if is_whole {
@@ -83,10 +82,10 @@ fn add_words(
 
 /// Adds the ids of the message's own header: its own id, and the ids that link it to others.
 pub(crate) fn add_ids(builder: &mut Builder, facts: &Facts) -> Result<(), BuildFault>
-    requires phase { IfSome builder.old IsInMessage }
+    requires phase { IsInMessage builder.old }
     requires sizes { HasSizedIds facts.now }
     ensures terms { AddsTerms (id_terms facts.now) result builder.old builder.new }
-    ensures phase { IfSome builder.new IsInMessage }
+    ensures phase { IsInMessage builder.new }
 {
     if let Some(id) = &facts.own_id {
         builder.add(Kind::OwnId, id.as_bytes())?;
@@ -96,10 +95,10 @@ pub(crate) fn add_ids(builder: &mut Builder, facts: &Facts) -> Result<(), BuildF
 
 /// Adds the ids that link the message to others.
 fn add_links(builder: &mut Builder, ids: &MessageIds) -> Result<(), BuildFault>
-    requires phase { IfSome builder.old IsInMessage }
+    requires phase { IsInMessage builder.old }
     requires sizes { All IsSizedId ids.now }
     ensures terms { AddsTerms (link_terms ids.now) result builder.old builder.new }
-    ensures phase { IfSome builder.new IsInMessage }
+    ensures phase { IsInMessage builder.new }
 {
     for id in ids.as_slice() {
         builder.add(Kind::LinkId, id)?;

@@ -8,7 +8,6 @@ use Rattle.index_run.proofs.Words.{IsAdded, IsAddFault, Err, ◌≢◌, eqb_tell
 use Rattle.mbox_cutter.specs.declared.event.CutFault.TheVariants as cut
 use Rattle.index_job.specs.declared.job_fault.JobFault.{JobFault}
 use Rattle.index_job.specs.declared.job_fault.JobFault.TheVariants as job
-use Rattle.std.specs.Prelude.{Option}
 use Rattle.contract_words.specs.Devices.{Counted}
 use Rattle.index_job.specs.JobFaults.{is_source_failure}
 
@@ -59,7 +58,7 @@ module _ (paths bytes : List (List ℕ)) (i : ℕ) (same : length paths ≡ leng
       in length-take-le i (mboxes paths bytes) within
 
 -- sound archives, with one more that isn't refused, are sound
-pub sound-more : (before : List Mbox) (a : Mbox) (n : ℕ) (j : Option Draft) → AreSound before → IsAdded before a n j
+pub sound-more : (before : List Mbox) (a : Mbox) (n : ℕ) (j : Draft) → AreSound before → IsAdded before a n j
     → AreSound (before ++ a ∷ [])
 sound-more before a n j sound added = record {
   each = All-append (λ (b : Mbox). archive_refusal most_in_archive b.bytes ≡ None) before (a ∷ []) sound.each

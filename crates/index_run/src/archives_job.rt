@@ -1,5 +1,5 @@
 //! Indexes the archives of a run one after another.
-ghost use Rattle.std.specs.Prelude.{◌≡◌, ◌<◌, ◌^◌, ◌-◌, ℕ, List, Some, IsSome, false, map, length, All, IfOk, IfErr};
+ghost use Rattle.std.specs.Prelude.{◌≡◌, ◌<◌, ◌^◌, ◌-◌, ℕ, List, Some, false, map, length, All, IfOk, IfErr};
 ghost use Rattle.std.specs.Result.{MatchResult};
 ghost use Rattle.std.specs.String.{string_bytes};
 ghost use Rattle.contract_words.specs.Knowledge.{AreStillKnown};
@@ -42,7 +42,7 @@ pub(crate) fn job_of_archives<S: Source>(
     requires many { length paths.now ≡ length sources.old }
     requires paths { All IsPath (map string_bytes paths.now) }
     requires count { All (λ s. S.failures s < 2 ^ 64 - 1) sources.old }
-    ensures some { IfOk result IsSome }
+    ensures kept { IfOk result (λ job. job.failed ≡ false) }
     ensures known { (archives : List (List ℕ))
         → AreStillKnown (map S.rest sources.old) (map S.rest sources.new) archives
         → MatchResult result (λ job. AreSound (mboxes (map string_bytes paths.now) archives)

@@ -1,5 +1,4 @@
 -- The laws of an index that is built, in one file for each part of a builder.
-pub mod BuilderSteps
 pub mod DraftLemmas
 pub mod EntryLemmas
 pub mod FrontLemmas

@@ -1,8 +1,7 @@
 -- The table that an index builder has so far, and what its calls change in it.
-use Rattle.std.specs.Prelude.{◌≡◌, ℕ, ◌+◌, ◌<◌, ◌≤◌, Bool, true, false, nat_eq, nat_lt, nat_le, if◌then◌else◌, List, []}
-use Rattle.std.specs.Prelude.{◌∷◌, ◌++◌, length, Option, Some, None, IsSome, unwrap_or, Result, Ok, Err}
+use Rattle.std.specs.Prelude.{◌≡◌, ℕ, ◌+◌, ◌<◌, ◌≤◌, Bool, true, false, nat_eq, if◌then◌else◌, List, [], ◌∷◌, ◌++◌}
+use Rattle.std.specs.Prelude.{length, Option, Some, None, IsSome, unwrap_or, Result, Ok, Err}
 use Rattle.std.specs.Ordering.{match_ordering}
-use Rattle.contract_words.specs.Answers.{◌>>=◌}
 use Rattle.mail_index.specs.declared.build.build_fault.BuildFault.{BuildFault}
 use Rattle.mail_index.specs.declared.build.build_fault.BuildFault.TheVariants.{OutOfMemory, TooMany, Failed}
 use Rattle.mail_index.specs.declared.build.build_fault.WriteFault.{WriteFault}
@@ -24,12 +23,14 @@ with_pair kind text n (k ∷ ks) = match_ordering (key_cmp (kind_number kind) te
     (record { kind = k.kind; text = k.text; numbers = with_number k.numbers n } ∷ ks)
     (k ∷ with_pair kind text n ks)
 
--- what a builder was given so far: a table, the path of the open archive if there is one, and whether a message is open
+-- what a builder was given so far: a table, the path of the open archive if there is one, and whether a message is
+-- open; and whether a call has failed
 pub record Draft : Type 0 where
   pub most : ℕ
   pub path : Option (List ℕ)
   pub in_message : Bool
   pub table : Table
+  pub failed : Bool
 
 -- a draft without archives, messages and keys
 abbrev pub empty_draft : ℕ → Draft
@@ -39,63 +40,68 @@ empty_draft most = record {
   in_message = false;
   table =
       record { version = newest; archives = []; messages = []; keys = [] };
+  failed = false;
 }
 
--- the draft with an open archive that has this path, if there is room for one more archive
-abbrev pub draft_in_archive : List ℕ → Draft → Result Draft BuildFault
-draft_in_archive path d = if nat_lt (length d.table.archives) d.most then Ok (record d { path = Some path })
-    else Err TooMany
+-- a call has failed, and nothing is left
+abbrev pub IsLost : Draft → Type 0
+IsLost d = d ≡ record (empty_draft d.most) { failed = true }
 
--- the draft with an open message, if there is room for one more message
-abbrev pub draft_in_message : Draft → Result Draft BuildFault
-draft_in_message d = if nat_lt (length d.table.messages) d.most then Ok (record d { in_message = true })
-    else Err TooMany
+-- the draft with an open archive that has this path
+abbrev pub draft_in_archive : List ℕ → Draft → Draft
+draft_in_archive path d = record d { path = Some path }
 
--- the draft with this key added to the open message, whose number counts the messages of all archives; if there is room
--- for the key
-abbrev pub draft_with_key : Kind → List ℕ → Draft → Result Draft BuildFault
-draft_with_key kind text d =
-    let keys = with_pair kind text (length d.table.messages) d.table.keys in
-    if nat_le (length keys) d.most then Ok (record d { table = record d.table { keys = keys } }) else Err TooMany
+-- the draft with an open message
+abbrev pub draft_in_message : Draft → Draft
+draft_in_message d = record d { in_message = true }
+
+-- the draft with this key added to the open message, whose number counts the messages of all archives
+abbrev pub draft_with_key : Kind → List ℕ → Draft → Draft
+draft_with_key kind text d = record d {
+  table =
+      record d.table { keys = with_pair kind text (length d.table.messages) d.table.keys };
+}
 
 -- the open message has this key already: adding it changes nothing
 abbrev pub HasPair : Kind → List ℕ → Draft → Type 0
 HasPair kind text d = with_pair kind text (length d.table.messages) d.table.keys ≡ d.table.keys
 
 -- the draft with its open message ended, which has this record
-abbrev pub draft_after_message : Record → Draft → Result Draft BuildFault
-draft_after_message r d = Ok (record d {
+abbrev pub draft_after_message : Record → Draft → Draft
+draft_after_message r d = record d {
   in_message = false;
   table =
       record d.table { messages = d.table.messages ++ r ∷ [] };
-})
+}
 
 -- the draft with its open archive ended, which has this length and this digest
-abbrev pub draft_after_archive : ℕ → List ℕ → Draft → Result Draft BuildFault
-draft_after_archive n digest d = Ok (record d {
+abbrev pub draft_after_archive : ℕ → List ℕ → Draft → Draft
+draft_after_archive n digest d = record d {
   path = None;
   table =
       record d.table {
         archives = d.table.archives ++ record
             { path = unwrap_or d.path []; length = n; digest = Some digest } ∷ [];
       };
-})
+}
 
--- the fault that the definition gives; None for lack of memory, of which the definition says nothing
-abbrev pub build_refusal : BuildFault → Option BuildFault
-build_refusal OutOfMemory = None
-build_refusal TooMany = Some TooMany
-build_refusal Failed = Some Failed
+-- the fault of a call that would make this count: there is no memory, the count is above the limit, or an earlier call
+-- has failed
+abbrev pub IsRefusal : ℕ → Draft → BuildFault → Type 0
+IsRefusal count d OutOfMemory = d.failed ≡ false
+IsRefusal count d TooMany = (d.failed ≡ false) × (d.most < count)
+IsRefusal count d Failed = d.failed ≡ true
+
+-- A call has made a draft of the one before, and this count, which is within the limit. After a fault nothing is left,
+-- and every later call fails.
+abbrev pub Makes : {T : Type 0} → Draft → ℕ → Result T BuildFault → Draft → Draft → Type 0
+Makes made count (Ok _) old new = (old.failed ≡ false) × (count ≤ old.most) × (new ≡ made)
+Makes made count (Err fault) old new = IsRefusal count old fault × IsLost new
 
 -- whether the call failed because the output did
 abbrev pub is_output_failure : Result ℕ WriteFault → Bool
 is_output_failure (Err Out) = true
 is_output_failure _ = false
-
--- a step of a builder: once a step has been refused nothing is left, and every later one fails
-abbrev pub draft_after : (Draft → Result Draft BuildFault) → Option Draft → Result (Option Draft) BuildFault
-draft_after step None = Err Failed
-draft_after step (Some d) = step d >>= λ e. Ok (Some e)
 
 -- ---- what the caller must meet
 
@@ -116,17 +122,17 @@ pub record IsNextMessage (d : Draft) (r : Record) : Type 0 where
   pub within : r.offset + r.length ≤ most_in_archive
   pub size : r.size < r.length
 
--- no archive is open, and no message
+-- no archive is open, and no message; unless a call has failed
 abbrev pub IsBetweenArchives : Draft → Type 0
-IsBetweenArchives d = (d.path ≡ None) × (d.in_message ≡ false)
+IsBetweenArchives d = d.failed ≡ false → (d.path ≡ None) × (d.in_message ≡ false)
 
--- an archive is open, and no message
+-- an archive is open, and no message; unless a call has failed
 abbrev pub IsInArchive : Draft → Type 0
-IsInArchive d = IsSome d.path × (d.in_message ≡ false)
+IsInArchive d = d.failed ≡ false → IsSome d.path × (d.in_message ≡ false)
 
--- an archive is open, and a message
+-- an archive is open, and a message; unless a call has failed
 abbrev pub IsInMessage : Draft → Type 0
-IsInMessage d = IsSome d.path × (d.in_message ≡ true)
+IsInMessage d = d.failed ≡ false → IsSome d.path × (d.in_message ≡ true)
 
 -- no count is above the limit
 pub record IsWithinMost (d : Draft) : Type 0 where

@@ -2,7 +2,6 @@
 
 pub mod build_fault;
 pub mod builder;
-pub mod draft;
 pub mod file_out;
 pub mod key_entry;
 pub mod key_front;

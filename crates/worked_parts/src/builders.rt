@@ -1,5 +1,5 @@
 //! The files that builders write, and a builder's limits, with enough memory.
-ghost use Rattle.std.specs.Prelude.{◌≡◌, ◌<◌, ◌≤◌, Some, None, length, IfOk, IfSome, OnErr};
+ghost use Rattle.std.specs.Prelude.{◌≡◌, ◌<◌, ◌≤◌, true, length, IfOk, OnErr};
 ghost use Rattle.mail_index.specs.Builders.{empty_draft, IsBetweenArchives};
 ghost use Rattle.mail_index.specs.Tables.{IsPath};
 
@@ -19,12 +19,12 @@ pub const PATH: &str = "m.mbox";
 ///
 /// The first fault of the builder.
 pub fn build(builder: &mut Builder, path: &str, kind: Kind, key: &[u8]) -> Result<(), BuildFault>
-    requires empty { builder.old ≡ Some (empty_draft 2) }
+    requires empty { builder.old ≡ empty_draft 2 }
     requires path { IsPath path.now }
     requires some { 0 < length key.now }
     requires short { length key.now ≤ 262144 }
-    ensures lost { OnErr result (builder.new ≡ None) }
-    ensures phase { IfSome builder.new IsBetweenArchives }
+    ensures lost { OnErr result (builder.new.failed ≡ true) }
+    ensures phase { IsBetweenArchives builder.new }
 {
     builder.begin_archive(path)?;
     builder.begin_message()?;
@@ -38,7 +38,7 @@ pub fn build(builder: &mut Builder, path: &str, kind: Kind, key: &[u8]) -> Resul
 /// Returns the file that a builder writes, if the length that it reports is right. It is None if memory runs out, and
 /// so are the results below.
 fn file_of(alloc: Global, builder: &Builder) -> Option<MemoryOut>
-    requires phase { IfSome builder.now IsBetweenArchives }
+    requires phase { IsBetweenArchives builder.now }
 {
     let mut out = MemoryOut::new(alloc, None);
     let count = builder.write(&mut out);
@@ -78,7 +78,7 @@ fn is_same(one: BuildFault, other: BuildFault) -> bool {
 /// Whether a call was refused with this fault, and the builder has lost all that it was given: each later call returns
 /// `Failed`.
 pub fn is_lost(builder: &mut Builder, answer: Result<(), BuildFault>, fault: BuildFault) -> bool
-    requires { OnErr answer (builder.old ≡ None) }
+    requires { OnErr answer (builder.old.failed ≡ true) }
 {
     if answer.is_ok() {
         return false;
@@ -116,9 +116,9 @@ fn answer_to_second(
     path: &str,
     second: Part,
 ) -> Result<Result<(), BuildFault>, BuildFault>
-    requires empty { builder.old ≡ Some (empty_draft 1) }
+    requires empty { builder.old ≡ empty_draft 1 }
     requires path { IsPath path.now }
-    ensures lost { IfOk result (λ answer. OnErr answer (builder.new ≡ None)) }
+    ensures lost { IfOk result (λ answer. OnErr answer (builder.new.failed ≡ true)) }
 {
     builder.begin_archive(path)?;
     builder.begin_message()?;
@@ -156,7 +156,7 @@ fn one_more_is_too_many(rt: HostRuntime) {
 /// Whether a builder reports that the open message has a key once it has it, and doesn't report that for another key,
 /// or in the next message.
 fn tells_key(builder: &mut Builder, path: &str) -> Result<bool, BuildFault>
-    requires empty { builder.old ≡ Some (empty_draft 2) }
+    requires empty { builder.old ≡ empty_draft 2 }
     requires path { IsPath path.now }
 {
     let place = Prefetched::of(Kind::OwnId, b"1@x");

@@ -1,7 +1,6 @@
 //! A builder of which each allocation is refused in turn: the gate runs these tests with a library that refuses the
 //! first allocation, then the second, and so on. A call that is refused reports lack of memory, and each later call
 //! returns `Failed`.
-ghost use Rattle.std.specs.Prelude.{IfSome};
 ghost use Rattle.mail_index.specs.Builders.{IsBetweenArchives};
 
 use crate::builders::{PATH, build, is_lost};
@@ -18,7 +17,7 @@ const SIZE: u64 = 80 + 50 + 40 + 2 * 24 + 38 + 2;
 
 /// Whether a builder writes this many bytes.
 fn has_size(builder: &Builder) -> bool
-    requires phase { IfSome builder.now IsBetweenArchives }
+    requires phase { IsBetweenArchives builder.now }
 {
     let mut out = Counted { bytes: 0 };
     matches!(builder.write(&mut out), Ok(SIZE)) && out.bytes == SIZE

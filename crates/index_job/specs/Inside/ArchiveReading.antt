@@ -22,7 +22,7 @@ use Rattle.index_job.specs.declared.archive_reading.ReadArchive.{ReadArchive}
 use Rattle.index_job.specs.declared.job_fault.JobFault.{JobFault}
 use Rattle.mail_index.specs.Limits.{most_in_archive}
 use Rattle.index_job.specs.Inside.Gathering.{HasGathered}
-use Rattle.index_job.specs.Indexing.{draft_with_terms, draft_with_messages, HasTooMany, RefusesTerms, IsBuilderReady}
+use Rattle.index_job.specs.Indexing.{draft_with_terms, draft_with_messages, HasTooMany, RefusesTerms, IsReadyForMessage}
 use Rattle.index_job.specs.Indexing.{IsJobFault}
 use Rattle.index_job.specs.MessageTerms.{message_terms}
 
@@ -99,61 +99,60 @@ Heads (End length) all ms refusal new = (ms ≡ Some []) × (length ≡ all) × 
 -- ---- what was gathered
 
 -- of the message's text, these lines were gathered, and the rest is to come
-pub record IsReading (draft : Option Draft) (w : Awaited) (lines rest : List (List ℕ)) (gathered : MessageText)
-    (builder : Option Draft) (coming : Option ComingEvents) : Type 0 where
+pub record IsReading (draft : Draft) (w : Awaited) (lines rest : List (List ℕ)) (gathered : MessageText)
+    (builder : Draft) (coming : Option ComingEvents) : Type 0 where
   pub so_far : HasGathered gathered builder draft lines
   pub whole : text w.message ≡ lines ++ rest
   pub comes : coming ≡ Some (coming_inside w rest)
 
 -- the whole text was gathered, and what is to come is what follows the message
-pub record HasReadAll (draft : Option Draft) (w : Awaited) (ended : Ended) (gathered : MessageText)
-    (builder : Option Draft) (coming : Option ComingEvents) : Type 0 where
+pub record HasReadAll (draft : Draft) (w : Awaited) (ended : Ended) (gathered : MessageText)
+    (builder : Draft) (coming : Option ComingEvents) : Type 0 where
   pub whole : HasGathered gathered builder draft (text w.message)
   pub length : ended.length ≡ span_length w.message
   pub told_size : ended.size ≡ size w.message
   pub comes : coming ≡ Some (coming_between w.all w.later w.refusal)
 
 -- the message that was to come is being read: its first lines were gathered, and the rest is to come
-abbrev pub IsReadingSome : Option Draft → Awaited → MessageText → Option Draft → Option ComingEvents → Type 0
+abbrev pub IsReadingSome : Draft → Awaited → MessageText → Draft → Option ComingEvents → Type 0
 IsReadingSome draft w gathered builder coming = (lines rest : List (List ℕ))
     × IsReading draft w lines rest gathered builder coming
 
 -- the message is added to the draft, or the fault is one of the message or of its archive
-abbrev pub AddsMessage : {T : Type 0} → ℕ → Draft → Awaited → Result T JobFault → Option Draft → Option ComingEvents
-    → Type 0
-AddsMessage archive d w (Ok _) builder coming = (builder ≡ Some (draft_with_messages archive (w.message ∷ []) d))
+abbrev pub AddsMessage : {T : Type 0} → ℕ → Draft → Awaited → Result T JobFault → Draft → Option ComingEvents → Type 0
+AddsMessage archive d w (Ok _) builder coming = (builder ≡ draft_with_messages archive (w.message ∷ []) d)
     × (coming ≡ Some (coming_between w.all w.later w.refusal))
 AddsMessage archive d w (Err fault) builder coming =
     IsJobFault w.refusal (HasTooMany (draft_with_messages archive (w.message ∷ []) d)) fault
 
 -- the archive with this number was read to its end, and only this end is still to be added: after all its messages, and
 -- within the limit
-pub record AwaitsEnd (number : ℕ) (rest : Option (List ℕ)) (bytes : ℕ) (builder : Option Draft) : Type 0 where
+pub record AwaitsEnd (number : ℕ) (rest : Option (List ℕ)) (bytes : ℕ) (builder : Draft) : Type 0 where
   pub end : IsAtEnd rest
-  pub ready : IsBuilderReady number bytes builder
+  pub ready : IsReadyForMessage number bytes builder
   pub within : bytes ≤ most_in_archive
 
 -- these messages of an archive with this many bytes are added to the draft, or the fault is one of theirs
 abbrev pub AddsMessages : ℕ → Draft → ℕ → Option (List archives.Message) → Option CutFault → Result ReadArchive JobFault
-    → Option Draft → Type 0
+    → Draft → Type 0
 AddsMessages number d bytes ms refusal (Ok read) builder =
-    (refusal ≡ None) × (builder ≡ Some (draft_with_messages number (unwrap_or ms []) d))
+    (refusal ≡ None) × (builder ≡ draft_with_messages number (unwrap_or ms []) d)
     × (read.messages ≡ length (unwrap_or ms [])) × (read.length ≡ bytes)
 AddsMessages number d bytes ms refusal (Err fault) builder =
     IsJobFault refusal (HasTooMany (draft_with_messages number (unwrap_or ms []) d)) fault
 
 -- a fault inside the message: the draft has no room for its terms, the archive is refused, or the source or memory
 -- failed
-abbrev pub IsMessageFault : Option Draft → Awaited → JobFault → Type 0
+abbrev pub IsMessageFault : Draft → Awaited → JobFault → Type 0
 IsMessageFault draft w fault = IsJobFault w.refusal
-    (RefusesTerms (option_map (draft_with_terms (message_terms (text w.message))) draft)) fault
+    (RefusesTerms (draft_with_terms (message_terms (text w.message)) draft)) fault
 
 -- of an archive's messages, this many are done and added to the draft, and the others are to come
 pub record HasDone (number : ℕ) (d : Draft) (all : ℕ) (ms : Option (List archives.Message)) (refusal : Option CutFault)
-    (count : ℕ) (builder : Option Draft) (coming : Option ComingEvents) : Type 0 where
+    (count : ℕ) (builder : Draft) (coming : Option ComingEvents) : Type 0 where
   pub done : List archives.Message
   pub rest : Option (List archives.Message)
   pub whole : ms ≡ option_map (λ later. done ++ later) rest
   pub counted : count ≡ length done
-  pub added : builder ≡ Some (draft_with_messages number done d)
+  pub added : builder ≡ draft_with_messages number done d
   pub comes : coming ≡ Some (coming_ahead all rest refusal)

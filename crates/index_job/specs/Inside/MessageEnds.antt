@@ -1,7 +1,6 @@
 -- What the end of a message changes in a draft.
-use Rattle.std.specs.Prelude.{◌++◌, ◌∷◌, [], false}
 use Rattle.mail_index.specs.declared.record.Record.{Record}
-use Rattle.mail_index.specs.Builders.{Draft}
+use Rattle.mail_index.specs.Builders.{Draft, draft_after_message}
 use Rattle.mime_text.specs.declared.header.facts.Facts.{Facts}
 use Rattle.index_job.specs.declared.message_end.Span.{Span}
 use Rattle.index_job.specs.ArchiveTables.{date_told}
@@ -19,10 +18,6 @@ ended_record span facts = record {
   flags = facts.flags;
 }
 
--- the draft with its open message ended, which has this record
-abbrev pub closed_with : Record → Draft → Draft
-closed_with r d = record d { in_message = false; table = record d.table { messages = d.table.messages ++ r ∷ [] } }
-
 -- the draft with the ids of its open message added, and the message ended
 abbrev pub ended_with : Facts → Span → Draft → Draft
-ended_with facts span d = closed_with (ended_record span facts) (draft_with_terms (id_terms facts) d)
+ended_with facts span d = draft_after_message (ended_record span facts) (draft_with_terms (id_terms facts) d)

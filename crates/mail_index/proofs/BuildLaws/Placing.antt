@@ -72,9 +72,9 @@ archives-low archives a ms all = grind (arith, length-append, all-weaker)
 
 -- ---- each call keeps a draft valid
 
-pub archive-opened : (d : Draft) (p : List ℕ) → IsDraft d → d.path ≡ None → length d.table.archives < d.most → IsPath p
-    → IsDraft (record d { path = Some p })
-archive-opened d p is closed room named = record {
+pub archive-opened : (d : Draft) (p : List ℕ) → IsDraft d → d.failed ≡ false → d.path ≡ None
+    → length d.table.archives < d.most → IsPath p → IsDraft (record d { path = Some p })
+archive-opened d p is kept closed room named = record {
   version = is.version;
   limit = is.limit;
   archives = is.archives;
@@ -91,6 +91,7 @@ archive-opened d p is closed room named = record {
   in_order = is.in_order;
   listed = is.listed;
   sorted = is.sorted;
+  freed = λ failed. absurd cc;
 }
 
 -- a message of the open archive
@@ -105,7 +106,7 @@ archives-low_open : (archives : List Archive) (path : Option (List ℕ)) (ms : L
     → AllByRecursion (IsMessage (with_open archives path)) ms → AllByRecursion (λ m. m.archive ≤ length archives) ms
 archives-low_open archives path ms h = grind (arith, all-weaker, archives-low)
 
-pub message-ended_draft : (d : Draft) (r : Record) → IsDraft d → IsInMessage d → IsNextMessage d r
+pub message-ended_draft : (d : Draft) (r : Record) → IsDraft d → d.failed ≡ false → IsInMessage d → IsNextMessage d r
     → IfSome r.date (FitsSigned w64)
     → IsDraft (record {
       most = d.most;
@@ -119,8 +120,10 @@ pub message-ended_draft : (d : Draft) (r : Record) → IsDraft d → IsInMessage
             keys =
                 d.table.keys;
           };
+      failed = d.failed;
     })
-message-ended_draft d r is inside next date =
+message-ended_draft d r is kept opened next date =
+    let inside = opened kept in
     let low : AllByRecursion (λ m. m.archive ≤ r.archive) d.table.messages =
     subst (λ (n : ℕ). AllByRecursion (λ (m : Record). m.archive ≤ n) d.table.messages) (sym next.archive)
     (archives-low_open d.table.archives d.path d.table.messages is.placed) in
@@ -147,10 +150,11 @@ message-ended_draft d r is inside next date =
       listed = listed-weaker (suc (length d.table.messages)) (length (d.table.messages ++ r ∷ [])) count d.table.keys
           listed;
       sorted = is.sorted;
+      freed = λ failed. absurd cc;
     }
 
-pub archive-ended_draft : (d : Draft) (p : List ℕ) (n : ℕ) (h : List ℕ) → IsDraft d → d.path ≡ Some p → n ≤ 2 ^ 40
-    → length h ≡ 32 → end_of (length d.table.archives) d.table.messages ≤ n
+pub archive-ended_draft : (d : Draft) (p : List ℕ) (n : ℕ) (h : List ℕ) → IsDraft d → d.failed ≡ false → d.path ≡ Some p
+    → n ≤ 2 ^ 40 → length h ≡ 32 → end_of (length d.table.archives) d.table.messages ≤ n
     → IsDraft (record {
       most = d.most;
       path = None;
@@ -164,8 +168,9 @@ pub archive-ended_draft : (d : Draft) (p : List ℕ) (n : ℕ) (h : List ℕ) �
             keys =
                 d.table.keys;
           };
+      failed = d.failed;
     })
-archive-ended_draft d p n h is open_now small size last = grind (arith, length-append, all-snoc, newest, all-ended)
+archive-ended_draft d p n h is kept open_now small size last = grind (arith, length-append, all-snoc, newest, all-ended)
 
 -- if nothing is open, the table of a draft is well-formed
 pub well_formed : (d : Draft) → IsDraft d → IsBetweenArchives d → IsWellFormed d.table

@@ -4,11 +4,11 @@ use Rattle.std.specs.Prelude.{Option, None, Some, IfSome, String, string_bytes}
 use Rattle.std.specs.Global.{Global}
 use Rattle.std.specs.Option.{option_map}
 use Rattle.std.specs.List.{AllByRecursion}
-use Rattle.mail_index.specs.declared.build.draft.NamedArchive.{NamedArchive}
+use Rattle.mail_index.specs.declared.build.builder.NamedArchive.{NamedArchive}
 use Rattle.mail_index.specs.declared.record.Record.{Record}
 use Rattle.mail_index.specs.Versions.{newest}
 use Rattle.mail_index.specs.Tables.{Archive, Key, IsPath, IsArchive, IsMessage, Follows, AllNext, KeyBefore, IsKey}
-use Rattle.mail_index.specs.Builders.{Draft}
+use Rattle.mail_index.specs.Builders.{Draft, IsLost}
 use Rattle.mail_index.specs.Limits.{most_in_archive, most_in_index}
 
 -- an archive that has ended, as the table has it
@@ -16,12 +16,14 @@ abbrev pub kept_archive : NamedArchive → Archive
 kept_archive a = record { path = string_bytes a.path; length = a.length; digest = Some a.digest }
 
 -- the draft of these fields
-abbrev pub draft_of_fields : ℕ → Option (String Global) → Bool → List NamedArchive → List Record → List Key → Draft
-draft_of_fields most path in_message archives records keys = record {
+abbrev pub draft_of_fields : ℕ → Option (String Global) → Bool → List NamedArchive → List Record → List Key → Bool
+    → Draft
+draft_of_fields most path in_message archives records keys failed = record {
   most = most;
   path = option_map string_bytes path;
   in_message = in_message;
   table = record { version = newest; archives = map kept_archive archives; messages = records; keys = keys };
+  failed = failed;
 }
 
 -- the number of messages, with the open one
@@ -33,7 +35,8 @@ abbrev pub with_open : List Archive → Option (List ℕ) → List Archive
 with_open archives None = archives
 with_open archives (Some path) = archives ++ record { path = path; length = most_in_archive; digest = None } ∷ []
 
--- no count is above the limit, with what is open counted too, and all so far is as in a well-formed table
+-- no count is above the limit, with what is open counted too, and all so far is as in a well-formed table; nothing is
+-- left after a fault
 pub record IsDraft (d : Draft) : Type 0 where
   pub version : d.table.version ≡ newest
   pub limit : d.most ≤ most_in_index
@@ -47,3 +50,4 @@ pub record IsDraft (d : Draft) : Type 0 where
   pub in_order : AllNext Follows d.table.messages
   pub listed : AllByRecursion (IsKey newest (message_count d)) d.table.keys
   pub sorted : AllNext KeyBefore d.table.keys
+  pub freed : d.failed ≡ true → IsLost d

@@ -7,7 +7,7 @@ ghost use Rattle.mail_index.specs.Inside.Drafts.{kept_archive};
 ghost use Rattle.mail_index.specs.Inside.SectionCounts.{count_fields};
 ghost use Rattle.mail_index.specs.Inside.Signing.{WritesSigned};
 
-use crate::build::draft::NamedArchive;
+use crate::build::builder::NamedArchive;
 use crate::build::file_out::{Signer, send_parts};
 use crate::build::key_sections::KeyPart;
 use crate::places::{ARCHIVE_FRONT, DATED, FLAGGED, MAGIC, REPLIED, SEEN};

@@ -1,6 +1,6 @@
 -- `add_messages` adds message by message, and stops at the end of the archive or at the first fault.
 use Rattle.index_job.proofs.Words.{◌∙◌, Err, false, ap, subst, arith, err_from_is_err_and, Heads, IsHeading, Awaited}
-use Rattle.index_job.proofs.Words.{draft_with_messages, is_source_failure}
+use Rattle.index_job.proofs.Words.{is_source_failure}
 use Rattle.index_job.specs.declared.archive_reading.Heading.{Heading}
 use Rattle.index_job.specs.declared.archive_reading.Heading.TheVariants.{Message, End}
 use Rattle.index_job.proofs.ArchiveSteps.{done-none, between-fault, inside-fault, done-more, archive-done}
@@ -14,11 +14,11 @@ messages-init g c = grind (arith, reads-none, done-none)
 pub returns-in_err-offset-clause-known : goal.returns-in_err-offset-clause-known
 returns-in_err-offset-clause-known g c =
     let p = err_from_is_err_and c.from_residual.result c.from_residual.ensures.1 in
-    λ d all ms refusal is comes.
+    λ all ms refusal comes.
     let earlier = still-earlier _ _ _ _ c.in_err-offset.ensures.reads.stays.known comes in
-    let h = c.messages.invariant.done d all ms refusal is earlier in
+    let h = c.messages.invariant.done all ms refusal earlier in
     let fails = c.in_err-offset.ensures.fault all h.rest refusal (still-other _ _ _ _ comes ∙ h.comes) in
-    rw (p.1, p.2) (between-fault c.args.archive d all ms refusal c.messages.messages c.messages.builder
+    rw (p.1, p.2) (between-fault c.args.archive c.args.builder.now all ms refusal c.messages.messages c.messages.builder
     c.messages.cutter.coming h c.in_err-offset.field-0.0 fails)
 
 pub returns-in_err-add_message-in-Message-clause-known :
@@ -27,17 +27,17 @@ returns-in_err-add_message-in-Message-clause-known g c =
     let p = err_from_is_err_and c.from_residual-in_err-add_message-in-Message.result
     c.from_residual-in_err-add_message-in-Message.ensures.1 in
     let start = c.in-Message.offset in
-    λ d all ms refusal is comes.
+    λ all ms refusal comes.
     let mid = still-earlier _ _ _ _ c.in_err-add_message-in-Message.ensures.reads.stays.known comes in
-    let h = c.messages.invariant.done d all ms refusal is
+    let h = c.messages.invariant.done all ms refusal
     (still-earlier _ _ _ _ c.in_ok-offset.ensures.reads.stays.known mid) in
     let heads : Heads (Message start) all h.rest refusal c.next_heading.new.cutter.coming =
     subst (λ (x : Heading). Heads x all h.rest refusal c.next_heading.new.cutter.coming) c.in-Message.is
     (c.in_ok-offset.ensures.known all h.rest refusal (still-other _ _ _ _ mid ∙ h.comes)) in
     let w : Awaited = record { all = all; message = heads.0; later = heads.1; refusal = refusal } in
-    let fails = c.in_err-add_message-in-Message.ensures.known (draft_with_messages c.args.archive h.done d) w h.added
-    heads.3 (still-other _ _ _ _ comes ∙ heads.4) in
-    rw (p.1, p.2) (inside-fault c.args.archive d all ms refusal c.messages.messages c.messages.builder
+    let fails = rw h.added at (c.in_err-add_message-in-Message.ensures.known w heads.3
+    (still-other _ _ _ _ comes ∙ heads.4)) in
+    rw (p.1, p.2) (inside-fault c.args.archive c.args.builder.now all ms refusal c.messages.messages c.messages.builder
     c.messages.cutter.coming h start c.next_heading.new.cutter.coming heads.0 heads.1 heads.2
     c.in_err-add_message-in-Message.field-0.0 fails)
 
@@ -58,29 +58,30 @@ messages-preserved g c =
       most = e.further.most ∙ c.in_ok-offset.ensures.most ∙ i.most;
       ready = e.ready;
       few = omega (arith, i.few, placed.1, placed.2, e.further.later);
-      done = λ d all ms refusal is comes.
+      done = λ all ms refusal comes.
           let earlier = still-earlier _ _ _ _ e.reads.stays.known comes in
-          let h = i.done d all ms refusal is (still-earlier _ _ _ _ c.in_ok-offset.ensures.reads.stays.known earlier) in
+          let h = i.done all ms refusal (still-earlier _ _ _ _ c.in_ok-offset.ensures.reads.stays.known earlier) in
           let heads : Heads (Message start) all h.rest refusal mid.coming =
           subst (λ (x : Heading). Heads x all h.rest refusal mid.coming) c.in-Message.is
           (c.in_ok-offset.ensures.known all h.rest refusal (still-other _ _ _ _ earlier ∙ h.comes)) in
           let w : Awaited = record { all = all; message = heads.0; later = heads.1; refusal = refusal } in
-          let adds = e.known (draft_with_messages c.args.archive h.done d) w h.added heads.3
-          (still-other _ _ _ _ comes ∙ heads.4) in
-          done-more c.args.archive d all ms refusal c.messages.messages c.messages.builder old.coming h start mid.coming
+          let adds = rw h.added at (e.known w heads.3 (still-other _ _ _ _ comes ∙ heads.4)) in
+          done-more c.args.archive c.args.builder.now all ms refusal c.messages.messages c.messages.builder old.coming h
+          start mid.coming
           heads.0 heads.1 heads.2
           c.add_message.new.builder c.add_message.new.cutter.coming adds.0 adds.1;
     }
 
 pub returns-in-End-clause-known : goal.returns-in-End-clause-known
-returns-in-End-clause-known g c = λ d all ms refusal is comes.
+returns-in-End-clause-known g c = λ all ms refusal comes.
     let bytes = c.in-End.length in
-    let h = c.messages.invariant.done d all ms refusal is
+    let h = c.messages.invariant.done all ms refusal
     (still-earlier _ _ _ _ c.in_ok-offset.ensures.reads.stays.known comes) in
     let heads : Heads (End bytes) all h.rest refusal c.next_heading.new.cutter.coming =
     subst (λ (x : Heading). Heads x all h.rest refusal c.next_heading.new.cutter.coming) c.in-End.is
     (c.in_ok-offset.ensures.known all h.rest refusal (still-other _ _ _ _ comes ∙ h.comes)) in
-    archive-done c.args.archive d all ms refusal c.messages.messages c.messages.builder c.messages.cutter.coming h bytes
+    archive-done c.args.archive c.args.builder.now all ms refusal c.messages.messages c.messages.builder
+    c.messages.cutter.coming h bytes
     heads
 
 pub returns-in_err-offset-clause-reads : goal.returns-in_err-offset-clause-reads

@@ -1,7 +1,6 @@
 -- The messages so far are added, and none is open. The loop ends because each message leaves fewer events to come.
-use Rattle.index_job.proofs.Words.{still_known, false, ◌≡◌, ◌≤◌, ℕ, List, Option, Some, Draft, Message, CutFault}
-use Rattle.index_job.proofs.Words.{events_left}
-use Rattle.index_job.proofs.Words.{coming_ahead, HasDone, ReadsSource, IsBuilderReady}
+use Rattle.index_job.proofs.Words.{still_known, false, ◌≡◌, ◌≤◌, ℕ, List, Option, Some, Message, CutFault, events_left}
+use Rattle.index_job.proofs.Words.{coming_ahead, HasDone, ReadsSource, IsReadyForMessage}
 use Rattle.mbox_cutter.specs.declared.scan.Phase.TheVariants.{Between}
 use Rattle.index_job.proofs.archive_reading.add_messages.Given as goal
 
@@ -11,11 +10,11 @@ invariant-messages g l = record {
   reads : ReadsSource g.S.Source false l.initial.cutter.source l.cutter.source;
   between : l.cutter.place.phase ≡ Between;
   most : l.cutter.place.most ≡ l.initial.cutter.place.most;
-  ready : IsBuilderReady l.archive l.cutter.place.offset l.builder;
+  ready : IsReadyForMessage l.archive l.cutter.place.offset l.builder;
   few : l.messages ≤ l.cutter.place.offset;
-  done : (d : Draft) (all : ℕ) (ms : Option (List Message)) (refusal : Option CutFault) → l.fn.builder ≡ Some d
+  done : (all : ℕ) (ms : Option (List Message)) (refusal : Option CutFault)
       → still_known l.initial.cutter.coming (g.S.Source.rest l.cutter.source.now) ≡ Some (coming_ahead all ms refusal)
-      → HasDone l.archive d all ms refusal l.messages l.builder l.cutter.coming;
+      → HasDone l.archive l.fn.builder all ms refusal l.messages l.builder l.cutter.coming;
 }
 
 abbrev pub decreases-messages : goal.decreases-messages

@@ -1,6 +1,8 @@
 -- `next_line` gathers a line or ends the message, because no other event comes inside a message.
-use Rattle.index_job.proofs.Words.{still_known, ◌∙◌, [], ap, subst, Result, Ok, Err, err_from_is_err_and, Event}
-use Rattle.index_job.proofs.Words.{CutFault, AnswersAsComing, TakesKnown, shown_result, Line, End}
+use Rattle.index_job.proofs.Words.{still_known, ◌∙◌, [], ◌∷◌, ◌++◌, ap, subst, Result, Ok, Err, err_from_is_err_and}
+use Rattle.index_job.proofs.Words.{Event}
+use Rattle.index_job.proofs.Words.{CutFault, AnswersAsComing, TakesKnown, shown_result, Line, End, texts_of_message}
+use Rattle.index_job.proofs.Words.{with_texts}
 use Rattle.index_job.proofs.ReadingLines.{reads-line, reads-end, line-is-fault, gather-own}
 use Rattle.index_job.proofs.SourceReads.{event-reads, reads-before, text-fault}
 use Rattle.index_job.proofs.archive_reading.next_line.Goals as goal
@@ -27,7 +29,8 @@ pub returns-in_err-feed_line-in-Line-clause-own : goal.returns-in_err-feed_line-
 returns-in_err-feed_line-in-Line-clause-own g c =
     let p = err_from_is_err_and c.from_residual-in_err-feed_line-in-Line.result
     c.from_residual-in_err-feed_line-in-Line.ensures.1 in
-    rw (p.1, p.2) (λ d ls h. gather-own _ _ (c.in_err-feed_line-in-Line.ensures.err ls [] d h))
+    rw (p.1, p.2) (λ d ls h. gather-own (with_texts (texts_of_message (ls ++ c.in-Line.line.now ∷ [])) d) _
+    (c.in_err-feed_line-in-Line.ensures.err ls [] d h))
 
 pub returns-in_ok-feed_line-in-Line-clause-gathers :
     goal.returns-in_ok-feed_line-in-Line-clause-gathers

@@ -1,5 +1,5 @@
 -- `add_cut_words` adds the words that the lengths cut off the bytes, because each turn cuts off the next one.
-use Rattle.index_job.proofs.Words.{◌≡◌, ◌∙◌, ◌∷◌, ◌++◌, ◌+◌, ℕ, List, arith, drop, get_or, option_map, sym, ap, ap₂}
+use Rattle.index_job.proofs.Words.{◌≡◌, ◌∙◌, ◌∷◌, ◌++◌, ◌+◌, ℕ, List, arith, drop, get_or, sym, ap, ap₂}
 use Rattle.index_job.proofs.Words.{subst, AllByRecursion, err_from_is_err_and, draft_with_terms, parts_of_lengths}
 use Rattle.index_job.proofs.Words.{HasTermLength}
 use Rattle.index_job.proofs.Words.{word_terms}
@@ -34,8 +34,8 @@ loop-length-preserved c =
       );
       sizes = (subst (AllByRecursion HasTermLength) next c.loop-length.invariant.sizes).1;
       whole = c.loop-length.invariant.whole
-          ∙ ap (λ (l : List (List ℕ)). option_map
-          (draft_with_terms (word_terms kind c.loop-length.batch ++ word_terms kind l)) c.loop-length.builder) next
+          ∙ ap (λ (l : List (List ℕ)).
+          draft_with_terms (word_terms kind c.loop-length.batch ++ word_terms kind l) c.loop-length.builder) next
           ∙ waits-next kind c.loop-length.batch word c.push.new.self (word_terms kind left) c.loop-length.builder
           c.push.new.builder c.in_ok-push.ensures.ok;
     }

@@ -1,5 +1,5 @@
 -- `add_words_of` adds all words of a folded text, because each turn puts the next one into the batch.
-use Rattle.index_job.proofs.Words.{◌≡◌, ◌∙◌, ◌∷◌, ◌++◌, [], ℕ, List, All, option_map, ap, subst, arith, All-tail}
+use Rattle.index_job.proofs.Words.{◌≡◌, ◌∙◌, ◌∷◌, ◌++◌, [], ℕ, List, All, ap, subst, arith, All-tail}
 use Rattle.index_job.proofs.Words.{err_from_is_err_and, HasWordLength, draft_with_terms, word_terms}
 use Rattle.index_job.proofs.Terms.{fails-first, waits-next}
 use Rattle.index_job.proofs.folding_room.add_words_of.Goals as goal
@@ -10,17 +10,17 @@ loop-word-preserved c =
     let word = c.in-Some.word.now in
     let rest = c.next.new.self in
     let steps : c.loop-word.word-iterator ≡ word ∷ rest = c.in-Some.ensures.steps in
-    let pushed : option_map (draft_with_terms (word_terms kind (c.loop-word.batch ++ word ∷ []))) c.loop-word.builder
-    ≡ option_map (draft_with_terms (word_terms kind c.push.new.self)) c.push.new.builder =
-    subst (λ (w : List ℕ). option_map (draft_with_terms (word_terms kind (c.loop-word.batch ++ w ∷ [])))
-    c.loop-word.builder ≡ option_map (draft_with_terms (word_terms kind c.push.new.self)) c.push.new.builder)
+    let pushed : draft_with_terms (word_terms kind (c.loop-word.batch ++ word ∷ [])) c.loop-word.builder
+    ≡ draft_with_terms (word_terms kind c.push.new.self) c.push.new.builder =
+    subst (λ (w : List ℕ). draft_with_terms (word_terms kind (c.loop-word.batch ++ w ∷ []))
+    c.loop-word.builder ≡ draft_with_terms (word_terms kind c.push.new.self) c.push.new.builder)
     c.as_bytes.ensures.value c.in_ok-push.ensures.ok in
     let i = c.loop-word.invariant in (
       i.0,
       i.1,
       All-tail HasWordLength word rest (subst (λ l. All HasWordLength l) steps i.2),
       c.push.ensures.phase,
-      i.4 ∙ ap (λ l. option_map (draft_with_terms (word_terms kind c.loop-word.batch ++ word_terms kind l))
+      i.4 ∙ ap (λ l. draft_with_terms (word_terms kind c.loop-word.batch ++ word_terms kind l)
           c.loop-word.builder) steps
           ∙ waits-next kind c.loop-word.batch word c.push.new.self (word_terms kind rest) c.loop-word.builder
           c.push.new.builder pushed,

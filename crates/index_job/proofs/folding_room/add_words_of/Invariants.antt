@@ -1,5 +1,5 @@
 -- Each turn puts one word into the batch. With its words and those that are left, the draft becomes the wanted one.
-use Rattle.index_job.proofs.Words.{◌≡◌, ◌++◌, IfSome, All, option_map, HasWordLength, words, IsInMessage}
+use Rattle.index_job.proofs.Words.{◌≡◌, ◌++◌, All, HasWordLength, words, IsInMessage}
 use Rattle.index_job.proofs.Words.{draft_with_terms, word_terms}
 use Rattle.index_job.proofs.folding_room.add_words_of.Given as goal
 
@@ -9,6 +9,6 @@ invariant-loop-word l =
     (goal.iterator-loop-word).can_next l.word-iterator ×
     (goal.iterator-loop-word).is_finite l.word-iterator ×
     All HasWordLength l.word-iterator ×
-    IfSome l.builder IsInMessage ×
-    (option_map (draft_with_terms (word_terms l.kind (words l.folded))) l.fn.builder
-    ≡ option_map (draft_with_terms (word_terms l.kind l.batch ++ word_terms l.kind l.word-iterator)) l.builder)
+    IsInMessage l.builder ×
+    (draft_with_terms (word_terms l.kind (words l.folded)) l.fn.builder
+    ≡ draft_with_terms (word_terms l.kind l.batch ++ word_terms l.kind l.word-iterator) l.builder)

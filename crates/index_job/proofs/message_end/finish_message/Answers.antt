@@ -1,5 +1,5 @@
 -- `finish_message` ends the text and then the message. A fault of either means that not all of its terms can be added.
-use Rattle.index_job.proofs.Words.{Some, err_from_is_err_and}
+use Rattle.index_job.proofs.Words.{err_from_is_err_and}
 use Rattle.index_job.proofs.Gatherings.{texts-fail, ids-fail, open-after}
 use Rattle.index_job.proofs.message_end.finish_message.Goals as goal
 
@@ -12,7 +12,7 @@ pub end_message-requires-clause-opened : goal.end_message-requires-clause-opened
 end_message-requires-clause-opened c =
     let o = c.requires.opened in
     open-after c.args.span.archive c.args.span.offset o.1 o.0 c.end_text.new.builder
-    (c.in_ok-facts.ensures.ok o.1 (Some o.0) o.2) o.3
+    (c.in_ok-facts.ensures.ok o.1 o.0 o.2) o.3
 
 pub returns-clause-err : goal.returns-clause-err
 returns-clause-err c =

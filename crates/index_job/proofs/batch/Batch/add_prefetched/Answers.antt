@@ -1,8 +1,9 @@
 -- `Batch::add_prefetched` adds word by word, so a word that can't be added means that not all can be added.
-use Rattle.index_job.proofs.Words.{◌≡◌, ◌∙◌, [], ◌∷◌, ◌+◌, ℕ, List, Bor, Option, arith, drop, get_or, option_map, sym}
-use Rattle.index_job.proofs.Words.{ap, subst, err_from_is_err_and, Text, Draft, draft_with_terms, IsFaultOfAdding}
+use Rattle.index_job.proofs.Words.{◌≡◌, ◌∙◌, [], ◌∷◌, ◌+◌, ℕ, List, Bor, arith, drop, get_or, sym}
+use Rattle.index_job.proofs.Words.{ap, subst, err_from_is_err_and, Text, Draft, draft_with_terms, IsInMessage}
+use Rattle.index_job.proofs.Words.{IsFaultOfAdding}
 use Rattle.index_job.proofs.Words.{word_terms}
-use Rattle.index_job.proofs.Terms.{added-terms, add-fails, in-message-kept, next-waiting, waiting-length}
+use Rattle.index_job.proofs.Terms.{add-fails, next-waiting, waiting-length}
 use Rattle.index_job.proofs.batch.Batch.add_prefetched.Goals as goal
 
 abbrev nothing : Bor (List ℕ)
@@ -19,33 +20,32 @@ returns-in_err-add_prefetched-clause-terms c =
     let kind = c.args.kind in
     let i = c.loop-index.index in
     let word : List ℕ = (get_or c.self.inside.words i nothing).now in
-    let now : Option Draft = c.loop-index.builder in
+    let now : Draft = c.loop-index.builder in
     let fault = c.in_err-add_prefetched.field-0.0 in
     let rest = word_terms kind (drop (i + 1) c.args.self.now) in
     let p = err_from_is_err_and c.from_residual.result c.from_residual.ensures.1 in
-    let whole : option_map (draft_with_terms (word_terms kind c.args.self.now)) c.args.builder.now
-    ≡ option_map (draft_with_terms ((Text kind, word) ∷ rest)) now =
-    c.loop-index.invariant.whole ∙ ap (λ l. option_map (draft_with_terms l) now)
+    let whole : draft_with_terms (word_terms kind c.args.self.now) c.args.builder.now
+    ≡ draft_with_terms ((Text kind, word) ∷ rest) now =
+    c.loop-index.invariant.whole ∙ ap (λ l. draft_with_terms l now)
     (next-waiting kind c.self.inside.words c.self.inside.count i nothing c.args.self.now c.self.view_is
     c.loop-index-test.true (omega arith)) in
-    rw (p.1, p.2) (subst (λ (o : Option Draft). IsFaultOfAdding o fault) (sym whole)
-    (add-fails (Text kind) word rest now c.add_prefetched.new.self fault c.in_err-add_prefetched.ensures.gives))
+    rw (p.1, p.2) (subst (λ (d : Draft). IsFaultOfAdding d fault) (sym whole)
+    (add-fails (Text kind) word rest now fault c.in_err-add_prefetched.ensures.gives.0))
 
 pub loop-index-preserved : goal.loop-index-preserved
 loop-index-preserved c =
     let kind = c.args.kind in
     let i = c.loop-index.index in
     let word : List ℕ = (get_or c.self.inside.words i nothing).now in
-    let now : Option Draft = c.loop-index.builder in
+    let now : Draft = c.loop-index.builder in
     let rest = word_terms kind (drop (i + 1) c.args.self.now) in
     record {
-      phase = in-message-kept (Text kind) word now c.add_prefetched.new.self c.in_ok-add_prefetched.ensures.gives
-          c.loop-index.invariant.phase;
+      phase = subst IsInMessage (sym c.in_ok-add_prefetched.ensures.gives.2) c.loop-index.invariant.phase;
       whole = c.loop-index.invariant.whole
-          ∙ ap (λ l. option_map (draft_with_terms l) now)
+          ∙ ap (λ l. draft_with_terms l now)
           (next-waiting kind c.self.inside.words c.self.inside.count i nothing c.args.self.now c.self.view_is
           c.loop-index-test.true (omega arith))
-          ∙ added-terms (Text kind) word rest now c.add_prefetched.new.self c.in_ok-add_prefetched.ensures.gives;
+          ∙ ap (draft_with_terms rest) (sym c.in_ok-add_prefetched.ensures.gives.2);
     }
 
 pub loop-index-init : goal.loop-index-init

@@ -1,4 +1,4 @@
--- `Draft::write` sends the file of the table: its body, and then the digest of the body.
+-- `Builder::write_table` sends the file of the table: its body, and then the digest of the body.
 use Rattle.mail_index.proofs.Words.{◌≡◌, ℕ, List, [], ◌++◌, ap, sym, subst, ◌∙◌, append-nil, Appends, body, index_file}
 use Rattle.sha2.specs.Sha256.{sha256}
 use Rattle.contract_words.specs.Devices.{Sends}
@@ -6,7 +6,7 @@ use Rattle.contract_words.proofs.Sending.{appends_join, sends_more}
 use Rattle.mail_index.proofs.BuildLaws.SigningLemmas.{on-failure, sends-longer}
 use Rattle.mail_index.proofs.BuildLaws.Placing.{well_formed}
 use Rattle.mail_index.proofs.BuildLaws.Sizes.{index_file-is, counted_length-is, small-sections}
-use Rattle.mail_index.proofs.build.draft.Draft.write.Goals as goal
+use Rattle.mail_index.proofs.build.builder.Builder.write_table.Goals as goal
 
 pub returns-in_err-digest-clause-err : goal.returns-in_err-digest-clause-err
 returns-in_err-digest-clause-err g c =

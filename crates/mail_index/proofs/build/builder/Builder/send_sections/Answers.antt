@@ -1,9 +1,9 @@
--- `Draft::send_sections` writes its sections as one text, section by section.
+-- `Builder::send_sections` writes its sections as one text, section by section.
 use Rattle.std.proofs.Common.{get_or, ◌∙◌}
 use Rattle.mail_index.specs.declared.build.sections.FileSection.TheVariants.{Counts}
 use Rattle.mail_index.specs.Inside.SectionCounts.{section_of}
 use Rattle.mail_index.proofs.BuildLaws.SigningLemmas.{signing-next, signing-stop, bytes-from}
-use Rattle.mail_index.proofs.build.draft.Draft.send_sections.Goals as goal
+use Rattle.mail_index.proofs.build.builder.Builder.send_sections.Goals as goal
 
 pub returns-in_err-send_section-clause-written : goal.returns-in_err-send_section-clause-written
 returns-in_err-send_section-clause-written g c =

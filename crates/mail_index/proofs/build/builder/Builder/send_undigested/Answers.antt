@@ -1,10 +1,10 @@
--- `Draft::send_undigested` sends all bytes before the digest, because it sends the last gathered bytes at the end.
+-- `Builder::send_undigested` sends all bytes before the digest, because it sends the last gathered bytes at the end.
 use Rattle.mail_index.proofs.Words.{◌≡◌, ℕ, List, ◌++◌, Ok, Err, IfOk, OnOk, OnErr, Appends, body}
 use Rattle.sha2.specs.Hashers.{Holds256}
 use Rattle.sha2.specs.Sha256.{sha256}
 use Rattle.contract_words.specs.Devices.{Sends}
 use Rattle.mail_index.proofs.BuildLaws.SigningLemmas.{on-failure, appends-all, sends-all, digests-all}
-use Rattle.mail_index.proofs.build.draft.Draft.send_undigested.Goals as goal
+use Rattle.mail_index.proofs.build.builder.Builder.send_undigested.Goals as goal
 
 pub returns-in_err-send_sections-clause-err : goal.returns-in_err-send_sections-clause-err
 returns-in_err-send_sections-clause-err g c =

@@ -2,7 +2,7 @@
 use Rattle.std.proofs.Common.{◌≡◌, drop, flat_map}
 use Rattle.mail_index.specs.Inside.SectionCounts.{section_of}
 use Rattle.mail_index.specs.Inside.Signing.{IsSigning}
-use Rattle.mail_index.proofs.build.draft.Draft.send_sections.Given as goal
+use Rattle.mail_index.proofs.build.builder.Builder.send_sections.Given as goal
 
 abbrev pub invariant-loop-section : goal.invariant-loop-section
 invariant-loop-section g l =

@@ -1,9 +1,9 @@
--- `Draft::counts` never overflows, because the limits keep each section small.
+-- `Builder::counts` never overflows, because the limits keep each section small.
 use Rattle.mail_index.proofs.Words.{◌≡◌, length, map, refl, rules, arith, common_steps, Draft}
 use Rattle.mail_index.specs.Inside.Drafts.{draft_of_fields, kept_archive, message_count}
 use Rattle.mail_index.proofs.BuildLaws.DraftLemmas.{message_count-within}
 use Rattle.mail_index.proofs.BuildLaws.Sizes.{length-archives, length-texts, length-all_postings, counted_length-small}
-use Rattle.mail_index.proofs.build.draft.Draft.counts.Goals as goal
+use Rattle.mail_index.proofs.build.builder.Builder.counts.Goals as goal
 
 pub archives_length-requires : goal.archives_length-requires
 archives_length-requires c = rw c.as_slice.ensures.value
@@ -30,7 +30,7 @@ pub returns-clause-small : goal.returns-clause-small
 returns-clause-small c =
     let d : Draft = draft_of_fields c.self.inside.most c.self.inside.path c.self.inside.in_message
     c.self.inside.archives.items
-    c.self.inside.records.items c.self.inside.keys in
+    c.self.inside.records.items c.self.inside.keys c.self.inside.failed in
     let archive_count : c.len.result ≡ length (map kept_archive c.self.inside.archives.items) =
     first_of (search rules, grind (arith, common_steps)) in
     let message_count_is : c.len-2.result ≡ length c.self.inside.records.items =
