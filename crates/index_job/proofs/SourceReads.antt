@@ -1,17 +1,17 @@
 -- Reads of a cutter's source, one after another, up to the archive's end.
 use Rattle.index_job.proofs.Words.{◌≡◌, ◌∙◌, Bool, true, false, refl, sym, ap, subst, arith, Result, Ok, Err, CutFault}
-use Rattle.index_job.proofs.Words.{Event, Progress, Advances, shown_result, JobFault, ReadsSource, is_source_failure}
-use Rattle.index_job.proofs.Words.{of_text}
+use Rattle.index_job.proofs.Words.{Event, Progress, Advances, ComingEvents, Line, TakesKnown, told_event, still_known}
+use Rattle.index_job.proofs.Words.{JobFault, ReadsSource, is_source_failure, Option}
 use Rattle.std.specs.Borrow.{MutBor}
 use Rattle.mbox_cutter.specs.declared.device.Source.{Ghosts}
 use Rattle.mbox_cutter.specs.declared.event.CutFault.TheVariants as cut
+use Rattle.mbox_cutter.specs.declared.event.Event.TheVariants as event
 use Rattle.mbox_cutter.proofs.Sources.{Stays-self, Stays-join}
 use Rattle.mbox_cutter.specs.Digests.{inner, AreWholeBelow}
 use Rattle.mbox_cutter.specs.Sources.{Stays}
 use Rattle.mbox_cutter.specs.declared.digested.Digested.{Digested}
 use Rattle.std.specs.Prelude.{ℕ, zero, suc, List, ◌∷◌, IsSome}
 use Rattle.index_job.specs.declared.job_fault.JobFault.TheVariants as job
-use Rattle.mime_text.specs.declared.fault.TextFault.{TextFault}
 
 -- ---- whether the source failed
 
@@ -25,11 +25,6 @@ err-says T f = grind arith
 failure-is : {T : Type 0} (r : Result T JobFault) (f : JobFault) → r ≡ Err f → is_source_failure r ≡ says_failure f
 failure-is {T = T} r f is = ap (λ (x : Result T JobFault). is_source_failure x) is ∙ err-says T f
 
--- reading a text never fails because of the source
-pub text-fault : {U : Type 0} (q : Result U JobFault) (f : TextFault) → q ≡ Err (of_text f) → is_source_failure q
-    ≡ false
-text-fault q f is = grind arith
-
 -- ---- reads
 
 module _ {S : Type 0} (g : Ghosts S) where
@@ -40,23 +35,23 @@ module _ {S : Type 0} (g : Ghosts S) where
       → ReadsSource g failed a c
   reads-join failed a b c h h2 = grind (arith, Stays-join)
 
-  -- what comes after the reads doesn't read
-  pub reads-before : (failed : Bool) (a b : MutBor S) → failed ≡ false → ReadsSource g false a b
-      → ReadsSource g failed a b
-  reads-before failed a b none h = subst (λ x. ReadsSource g x a b) (sym none) h
-
   module _ {U : Type 0} (q : Result U JobFault) where
     -- a fault is passed on
     pub reads-passed : {T : Type 0} (r : Result T JobFault) (f : JobFault) (a b : MutBor S) → r ≡ Err f → q ≡ Err f
         → ReadsSource g (is_source_failure r) a b → ReadsSource g (is_source_failure q) a b
     reads-passed r f a b was is h = subst (λ x. ReadsSource g x a b) (failure-is r f was ∙ sym (failure-is q f is)) h
 
-  -- the cutter reports an event
-  pub event-reads : (old new : Progress S) (r : Result Event CutFault) (e : Event) → r ≡ Ok e
-      → Advances g old (shown_result r) new → ReadsSource g false old.source new.source
-  event-reads old new r e is h = grind arith
+  -- an event that the cutter reports is the first that was to come, if that is known
+  pub event-takes : (old new : Progress S) (r : Result Event CutFault) (e : Event) → r ≡ Ok e → Advances g old r new
+      → (comes : Option ComingEvents) → still_known old.coming (g.rest new.source.now) ≡ comes
+      → TakesKnown (told_event new.line e) comes new.coming
+  event-takes old new r e is h comes known = grind arith
 
--- ---- the archive's end
+  -- a line that it reports is that line
+  pub line-takes : (old new : Progress S) (r : Result Event CutFault) → r ≡ Ok event.Line → Advances g old r new
+      → (line : List ℕ) → line ≡ new.line
+      → TakesKnown (Line line) (still_known old.coming (g.rest new.source.now)) new.coming
+  line-takes old new r is h line same = grind (arith, event-takes)
 
 -- ---- a source with a digest
 

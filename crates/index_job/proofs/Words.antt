@@ -43,11 +43,11 @@ pub use Rattle.mbox_cutter.specs.Archives.{Message, grouped_lines, is_refused, m
 pub use Rattle.mbox_cutter.specs.Archives.{span_length, text}
 pub use Rattle.mbox_cutter.specs.Archives.{total, without_closing}
 unfoldable pub use Rattle.mbox_cutter.specs.Archives.{messages}
-pub use Rattle.mbox_cutter.specs.Coming.{AnswersAsComing, TakesKnown}
+pub use Rattle.mbox_cutter.specs.Coming.{TakesKnown}
 pub use Rattle.mbox_cutter.specs.Events.{ComingEvents, Done, End, Line, Start, coming_of}
 unfoldable pub use Rattle.mbox_cutter.specs.Events.{events, archive_refusal}
 pub use Rattle.mbox_cutter.specs.Places.{events_left}
-pub use Rattle.mbox_cutter.specs.Progress.{Advances, Progress, shown_result}
+pub use Rattle.mbox_cutter.specs.Progress.{Advances, Progress, told_event}
 pub use Rattle.mbox_cutter.specs.declared.event.CutFault.{CutFault}
 pub use Rattle.mbox_cutter.specs.declared.event.Event.{Event}
 pub use Rattle.mime_text.specs.MessageFacts.{first_of}

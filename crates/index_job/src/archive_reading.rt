@@ -72,10 +72,10 @@ fn next_heading<'a, S: Source>(cutter: &mut Cutter<'a, S>) -> Result<Heading, Jo
     ensures own { IfErr result IsArchiveFault }
 {
     match cutter.next_event()? {
-        Event::Start { offset, .. } => Ok(Heading::Message(offset)),
+        Event::Start { offset } => Ok(Heading::Message(offset)),
         Event::Done { length } => Ok(Heading::End(length)),
         // Neither comes between two messages.
-        Event::Line(_) => unreachable!(),
+        Event::Line => unreachable!(),
         Event::End { .. } => unreachable!(),
     }
 }
@@ -113,8 +113,8 @@ fn next_line<'a, S: Source>(
         → HasGathered text.old builder.old d ls → IsArchiveFault fault) }
 {
     match cutter.next_event()? {
-        Event::Line(line) => {
-            feed_line(text, line, room, builder)?;
+        Event::Line => {
+            feed_line(text, cutter.line(), room, builder)?;
             Ok(None)
         }
         Event::End { length, size } => Ok(Some(Ended { length, size })),

@@ -12,10 +12,11 @@ use Rattle.mbox_cutter.specs.Events.{ArchiveEvent, Start, Line, End, Done, Comin
 use Rattle.mbox_cutter.specs.Events.{archive_refusal}
 use Rattle.mbox_cutter.specs.Lines.{is_empty, lines}
 use Rattle.mbox_cutter.specs.Places.{CutterPlace}
-use Rattle.mbox_cutter.specs.Progress.{shown_result}
+use Rattle.mbox_cutter.specs.Progress.{told_result}
 use Rattle.mbox_cutter.specs.Separators.{is_separator}
 use Rattle.mbox_cutter.specs.declared.event.CutFault.{CutFault}
 use Rattle.mbox_cutter.specs.declared.event.Event.{Event}
+use Rattle.mbox_cutter.specs.declared.event.Event.TheVariants as event
 use Rattle.mbox_cutter.specs.declared.scan.Phase.TheVariants as phase
 use Rattle.mbox_cutter.specs.declared.event.CutFault.TheVariants.{Device, NotAnMbox, ArchiveTooLong, Failed}
 use Rattle.mairix_run.specs.FileFronts.{GivesFront}
@@ -78,25 +79,25 @@ module _ (bytes : List ℕ) where
   never_too_long few is = grind arith
 
   -- the first answer of a cutter
-  pub first_answer : (answer : Result ArchiveEvent CutFault) (next : Option ComingEvents) → length bytes ≤ 131072
-      → AnswersAsComing (Some (coming_of 131072 bytes)) answer next → is_device_fault answer ≡ false
+  pub first_answer : (line : List ℕ) (answer : Result Event CutFault) (next : Option ComingEvents)
+      → length bytes ≤ 131072
+      → AnswersAsComing (Some (coming_of 131072 bytes)) (told_result line answer) next → is_device_fault answer ≡ false
       → (answer ≡ Err Failed → ⊥) → is_start answer ≡ begins_as_mbox bytes
-  first_answer (Ok (Start at line)) next few h device failed = sym (starts at line h.0.events h.2.0)
-  first_answer (Ok (Line line)) next few h device failed = absurd (never_a_line line h.0.events h.2.0)
-  first_answer (Ok (End span size)) next few h device failed = absurd (never_an_end span size h.0.events h.2.0)
-  first_answer (Ok (Done all)) next few h device failed = sym (ends_at_once all [] h.2.0)
-  first_answer (Err NotAnMbox) next few h device failed = sym (no_mbox h)
-  first_answer (Err ArchiveTooLong) next few h device failed = absurd (never_too_long few h)
-  first_answer (Err Device) next few h device failed = absurd cc
-  first_answer (Err Failed) next few h device failed = absurd (failed refl)
+  first_answer line (Ok (event.Start at)) next few h device failed = sym (starts at line h.0.events h.2.0)
+  first_answer line (Ok event.Line) next few h device failed = absurd (never_a_line line h.0.events h.2.0)
+  first_answer line (Ok (event.End span size)) next few h device failed =
+      absurd (never_an_end span size h.0.events h.2.0)
+  first_answer line (Ok (event.Done all)) next few h device failed = sym (ends_at_once all [] h.2.0)
+  first_answer line (Err NotAnMbox) next few h device failed = sym (no_mbox h)
+  first_answer line (Err ArchiveTooLong) next few h device failed = absurd (never_too_long few h)
+  first_answer line (Err Device) next few h device failed = absurd cc
+  first_answer line (Err Failed) next few h device failed = absurd (failed refl)
 
 -- a cutter that hasn't failed before doesn't say so
 pub never_failed : (old : CutterPlace) (most : ℕ) (result : Result Event CutFault)
     → old ≡ record { phase = phase.Between; offset = 0; most = most } → (result ≡ Err Failed → old.phase ≡ phase.Failed)
-    → shown_result result ≡ Err Failed → ⊥
-never_failed old most (Ok event) new once is = absurd cc
-never_failed old most (Err fault) new once is =
-    let failed = sym (ap (λ p. p.phase) new) ∙ once cc in absurd cc
+    → result ≡ Err Failed → ⊥
+never_failed old most result new once is = let failed = sym (ap (λ p. p.phase) new) ∙ once is in absurd cc
 
 -- nothing was counted
 pub none_counted : (failed : Bool) → Counted failed 0 0 → failed ≡ false

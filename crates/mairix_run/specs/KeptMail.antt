@@ -3,10 +3,11 @@ use Rattle.std.specs.Prelude.{◌≡◌, ℕ, Bool, true, false, not, List, take
 use Rattle.std.specs.List.{find}
 use Rattle.std.specs.Option.{option_map_or}
 use Rattle.std.specs.String.{string_bytes}
-use Rattle.mbox_cutter.specs.Events.{ArchiveEvent, Start, Line, End, Done}
 use Rattle.mbox_cutter.specs.Lines.{is_empty, lines}
 use Rattle.mbox_cutter.specs.Separators.{is_separator}
 use Rattle.mbox_cutter.specs.declared.event.CutFault.{CutFault}
+use Rattle.mbox_cutter.specs.declared.event.Event.{Event}
+use Rattle.mbox_cutter.specs.declared.event.Event.TheVariants.{Start, Line, End, Done}
 use Rattle.named_files.specs.Entries.{Entry, Nothing, File, Folder, Other}
 use Rattle.run_faults.specs.declared.fault.Fault.TheVariants.{Memory}
 use Rattle.mairix_run.specs.declared.stopped.Stopped.{Stopped}
@@ -29,9 +30,9 @@ IsShownAsMbox before after is =
     IsSome after → (all : List ℕ) × (before ≡ Some all) × (is ≡ begins_as_mbox (take 131072 all))
 
 -- whether an event is the start of a message
-abbrev pub is_start : Result ArchiveEvent CutFault → Bool
-is_start (Ok (Start at line)) = true
-is_start (Ok (Line line)) = false
+abbrev pub is_start : Result Event CutFault → Bool
+is_start (Ok (Start at)) = true
+is_start (Ok Line) = false
 is_start (Ok (End span size)) = false
 is_start (Ok (Done all)) = false
 is_start (Err fault) = false

@@ -4,7 +4,6 @@
 ghost use Rattle.std.specs.Prelude.{◌≡◌, ◌⊎◌, ◌<◌, ◌≤◌, ◌-◌, ◌^◌, true, false, None, Some, length, IfOk, IfErr, OnOk};
 ghost use Rattle.named_files.specs.Entries.{bytes_of};
 ghost use Rattle.named_files.specs.Refusals.{HasCause};
-ghost use Rattle.mbox_cutter.specs.Progress.{shown_result};
 ghost use Rattle.mairix_run.specs.KeptMail.{begins_as_mail, begins_as_mbox, is_start, IsNotReplaced, IsShownAsMbox};
 
 use crate::file_front::{PIECE, read_front};
@@ -103,8 +102,8 @@ fn is_mbox(alloc: Global, bytes: &[u8]) -> Result<bool, AllocError>
 }
 
 /// Whether an event is the start of a message.
-fn is_start(event: Result<Event<'_>, CutFault>) -> bool
-    ensures { result ≡ is_start (shown_result event.entry) }
+fn is_start(event: Result<Event, CutFault>) -> bool
+    ensures { result ≡ is_start event }
 {
     match event {
         Ok(Event::Start { .. }) => true,

@@ -5,12 +5,12 @@ use Rattle.mbox_cutter.proofs.Words.{sym, ◌∙◌, subst, arith, IsAtEnd, leng
 use Rattle.mbox_cutter.proofs.Words.{NotAnMbox, ArchiveTooLong, Phase, Between, Inside, Ended, first_length, is_empty}
 use Rattle.mbox_cutter.proofs.Words.{IsLine, is_separator, Line, IsRefusalToCome, TakesEvent, is_device, CutterPlace}
 use Rattle.mbox_cutter.proofs.Words.{Moves, HasLine}
-use Rattle.mbox_cutter.proofs.Words.{known_bytes, ReadsOn, resume, closes_at, coming_events, place_of, told_at, IsPlace}
-use Rattle.mbox_cutter.proofs.Words.{IsWithin}
+use Rattle.mbox_cutter.proofs.Words.{known_bytes, ReadsOn, resume, closes_at, coming_events, place_of, told_event}
+use Rattle.mbox_cutter.proofs.Words.{IsPlace, IsWithin}
 use Rattle.mbox_cutter.proofs.Words.{IsScan, IsFresh, FindsLine, Passes, Steps}
+use Rattle.mbox_cutter.specs.declared.event.Event.{Event}
+use Rattle.mbox_cutter.specs.declared.event.Event.TheVariants as event
 use Rattle.mbox_cutter.specs.declared.scan.Scan.{Scan}
-use Rattle.mbox_cutter.specs.declared.scan.Step.{Step}
-use Rattle.mbox_cutter.specs.declared.scan.Step.TheVariants as step
 use Rattle.mbox_cutter.specs.Progress.{Progress, Advances}
 use Rattle.mbox_cutter.proofs.KnownSteps.{each_some, at_same, both, still-on, IsFirst, known-step, known-fault}
 use Rattle.mbox_cutter.proofs.Sources.{Serves, Serves-none, Serves-join, served}
@@ -112,33 +112,33 @@ itself o last = grind arith
 -- ---- steps that report an event
 
 -- a step that reports an event in a phase leaves the scan at this place
-told-steps : {S : Type 0} (g : Ghosts S) (old new : Scan S) (was : Phase) (p : CutterPlace) (s : Step) (line : List ℕ)
+told-steps : {S : Type 0} (g : Ghosts S) (old new : Scan S) (was : Phase) (p : CutterPlace) (s : Event) (line : List ℕ)
     (P : List ℕ → Type 0) (left : List ℕ → List ℕ) →
     Serves g false old.window.source new.window.source → place_of new ≡ p → new.window.line ≡ line → old.phase ≡ was
     → p.most ≡ old.most → IsPlace p →
     (p.phase ≡ Ended → IsAtEnd (g.rest new.window.source.now)) →
     IfSome (known_until g.rest old.window new.window) P
     → IfSome (known_until g.rest old.window new.window) (λ b. known_bytes g.rest new.window ≡ Some (left b)) →
-    ((b : List ℕ) → P b → TakesEvent (told_at s line) (resume was old.offset old.most b)
+    ((b : List ℕ) → P b → TakesEvent (told_event line s) (resume was old.offset old.most b)
     (resume p.phase p.offset p.most (left b))) →
-    Moves (told_at s line) (place_of old) p → HasLine (told_at s line) → Steps g old (Ok s) new
+    Moves (told_event line s) (place_of old) p → HasLine (told_event line s) → Steps g old (Ok s) new
 told-steps g old new was p s line P left reads at is before most place end h leaves takes moves lends =
     grind (arith, known-step)
 
 -- steps that take a line
 module _ {S : Type 0} (g : Ghosts S) (old new : Scan S) (n : ℕ) (line : List ℕ) where
-  taken-steps : (was phase : Phase) (s : Step) (P : List ℕ → Type 0) → old.phase ≡ was → Taken g old new n phase line
+  taken-steps : (was phase : Phase) (s : Event) (P : List ℕ → Type 0) → old.phase ≡ was → Taken g old new n phase line
       → IsWithin phase (old.offset + n) → (phase ≡ Ended → ⊥) →
       IfSome (known_until g.rest old.window new.window) P
-      → ((b : List ℕ) → P b → TakesEvent (told_at s line) (resume was old.offset old.most b)
+      → ((b : List ℕ) → P b → TakesEvent (told_event line s) (resume was old.offset old.most b)
       (resume phase (old.offset + n) old.most (drop n b))) →
-      Moves (told_at s line) (place_of old) (further phase n (place_of old)) → HasLine (told_at s line)
+      Moves (told_event line s) (place_of old) (further phase n (place_of old)) → HasLine (told_event line s)
       → Steps g old (Ok s) new
   taken-steps was phase s P before t within not_ended h takes moves lends = grind (arith, told-steps)
 
   -- a message starts
   pub start-steps : (at : ℕ) → old.phase ≡ Between → at ≡ old.offset → is_separator line ≡ true
-      → Taken g old new n (Inside at 0) line → Steps g old (Ok (step.Start at)) new
+      → Taken g old new n (Inside at 0) line → Steps g old (Ok (event.Start at)) new
   start-steps at between is starts t = grind (arith, taken-steps, step-start)
 
   module _ (start size : ℕ) (inside : old.phase ≡ Inside start size) (was : IsScan g.rest old) where
@@ -150,50 +150,51 @@ module _ {S : Type 0} (g : Ghosts S) (old new : Scan S) (n : ℕ) (line : List �
         → IfSome (known_until g.rest old.window new.window) P →
         ((b : List ℕ) → P b → TakesEvent (Line line) (resume (Inside start size) old.offset old.most b)
         (resume (Inside start (size + n)) (old.offset + n) old.most (drop n b))) →
-        Steps g old (Ok step.Line) new
+        Steps g old (Ok event.Line) new
     text-steps P t h takes = grind (arith, taken-steps, begun)
 
     pub line-steps : is_empty line ≡ false → Taken g old new n (Inside start (size + n)) line
-        → Steps g old (Ok step.Line) new
+        → Steps g old (Ok event.Line) new
     line-steps full t = text-steps (IsFirst n line) t t.first
         (λ b f. rw f.1 (step-line old.offset old.most n b f.0 t.some start size (sym (ap is_empty f.1) ∙ full)))
 
     -- an empty line that doesn't end the message
     pub open-steps : is_empty line ≡ true → IfSome (known_until g.rest old.window new.window)
         (λ b. false ≡ closes_at n b) →
-        Taken g old new n (Inside start (size + n)) line → Steps g old (Ok step.Line) new
+        Taken g old new n (Inside start (size + n)) line → Steps g old (Ok event.Line) new
     open-steps empty opens t = grind (arith, text-steps, both, step-open)
 
     -- the empty line that ends the message
     pub closed-steps : is_empty line ≡ true
         → IfSome (known_until g.rest old.window new.window) (λ b. true ≡ closes_at n b) →
-        Taken g old new n Between line → Steps g old (Ok (step.End (new.offset - start) size)) new
+        Taken g old new n Between line → Steps g old (Ok (event.End (new.offset - start) size)) new
     closed-steps empty closes t = grind (arith, begun, taken-steps, both, step-closed)
 
 -- steps at the end of the archive
 module _ {S : Type 0} (g : Ghosts S) (old mid : Scan S) (n : ℕ) (found_none : FindsLine g old (Ok n) mid) (none : n ≡ 0)
     (was : IsScan g.rest old) where
-  none-steps : (before phase : Phase) (s : Step) → old.phase ≡ before → IsWithin phase old.offset →
-      ((b : List ℕ) → 0 ≡ first_length b → TakesEvent (told_at s mid.window.line) (resume before old.offset old.most b)
+  none-steps : (before phase : Phase) (s : Event) → old.phase ≡ before → IsWithin phase old.offset →
+      ((b : List ℕ) → 0 ≡ first_length b → TakesEvent (told_event mid.window.line s)
+      (resume before old.offset old.most b)
       (resume phase old.offset old.most b)) →
-      Moves (told_at s mid.window.line) (place_of old) (record { phase = phase; offset = old.offset; most = old.most })
-      → HasLine (told_at s mid.window.line) →
+      Moves (told_event mid.window.line s) (place_of old)
+      (record { phase = phase; offset = old.offset; most = old.most }) → HasLine (told_event mid.window.line s) →
       Steps g old (Ok s) (record mid { phase = phase })
   none-steps before phase s is within takes moves lends = grind (arith, told-steps, served)
 
   same_offset : mid.offset ≡ old.offset
   same_offset = ap (λ (p : CutterPlace). p.offset) found_none.place
 
-  pub done-steps : old.phase ≡ Between → Steps g old (Ok (step.Done mid.offset)) (record mid { phase = Ended })
+  pub done-steps : old.phase ≡ Between → Steps g old (Ok (event.Done mid.offset)) (record mid { phase = Ended })
   done-steps between = grind (arith, same_offset, none-steps, step-done)
 
   pub end-steps : (start size : ℕ) → old.phase ≡ Inside start size
-      → Steps g old (Ok (step.End (mid.offset - start) size)) (record mid { phase = Between })
+      → Steps g old (Ok (event.End (mid.offset - start) size)) (record mid { phase = Between })
   end-steps start size inside = grind (arith, same_offset, none-steps, step-end)
 
 -- the end is reported again
 pub ended-steps : {S : Type 0} (g : Ghosts S) (old : Scan S) → old.phase ≡ Ended → IsScan g.rest old
-    → Steps g old (Ok (step.Done old.offset)) old
+    → Steps g old (Ok (event.Done old.offset)) old
 ended-steps g old ended was = grind (arith, told-steps, Serves-none, itself, ended-stays)
 
 -- ---- steps that fail
@@ -259,12 +260,12 @@ pub skipped-one : {S : Type 0} (g : Ghosts S) (old now new : Scan S) (n : ℕ) (
     is_separator line ≡ false → is_empty line ≡ true → Skipped g old new
 skipped-one g old now new n line k t other empty = grind (arith, Serves-join, at_same, both, step-empty)
 
-moves-skipped : (result : Result Step CutFault) (line : List ℕ) (old now new : CutterPlace) → old.phase ≡ Between
+moves-skipped : (result : Result Event CutFault) (line : List ℕ) (old now new : CutterPlace) → old.phase ≡ Between
     → now.phase ≡ Between → old.offset ≤ now.offset →
-    IfOk result (λ s. Moves (told_at s line) now new) → IfOk result (λ s. Moves (told_at s line) old new)
+    IfOk result (λ s. Moves (told_event line s) now new) → IfOk result (λ s. Moves (told_event line s) old new)
 moves-skipped result line old now new h h2 h3 h4 = grind arith
 
-pub skipped-steps : {S : Type 0} (g : Ghosts S) (old now new : Scan S) (result : Result Step CutFault)
+pub skipped-steps : {S : Type 0} (g : Ghosts S) (old now new : Scan S) (result : Result Event CutFault)
     → Skipped g old now → Steps g now result new → Steps g old result new
 skipped-steps g old now new result k s = grind (arith, Serves-join, moves-skipped)
 
@@ -281,6 +282,6 @@ shown_as g s = record {
 }
 
 -- a step that reports an event advances the cutter
-pub steps-advance : {S : Type 0} (g : Ghosts S) (old new : Scan S) (s : Step) → Steps g old (Ok s) new
-    → Advances g (shown_as g old) (Ok (told_at s new.window.line)) (shown_as g new)
+pub steps-advance : {S : Type 0} (g : Ghosts S) (old new : Scan S) (s : Event) → Steps g old (Ok s) new
+    → Advances g (shown_as g old) (Ok s) (shown_as g new)
 steps-advance g old new s h = grind arith

@@ -13,10 +13,11 @@ pub use Rattle.mbox_cutter.specs.Inside.Ahead.{BytesAhead, Extends, ReadsAfter, 
 pub use Rattle.mbox_cutter.specs.Inside.Resume.{coming_at, refusal_between, told_between, told_inside, too_long}
 unfoldable pub use Rattle.mbox_cutter.specs.Inside.Resume.{resume}
 pub use Rattle.mbox_cutter.specs.Inside.Scan.{FailsFirst, FindsLine, IsFresh, IsPlace, IsScan, IsWithin, Passes, Steps}
-pub use Rattle.mbox_cutter.specs.Inside.Scan.{closes_at, coming_events, place_of, told_at}
+pub use Rattle.mbox_cutter.specs.Inside.Scan.{closes_at, coming_events, place_of}
 pub use Rattle.mbox_cutter.specs.Lines.{AreCut, AreLines, IsLine, first_lines, length_before_feed}
 unfoldable pub use Rattle.mbox_cutter.specs.Lines.{first_length, is_empty, line_end_of, lines}
 pub use Rattle.mbox_cutter.specs.Places.{CutterPlace, HasLine, Moves}
+pub use Rattle.mbox_cutter.specs.Progress.{told_event}
 pub use Rattle.mbox_cutter.specs.Separators.{has_time_then_year, is_time, is_year, stands_for, separator_tokens}
 unfoldable pub use Rattle.mbox_cutter.specs.Separators.{has_form, is_separator, without_break}
 pub use Rattle.mbox_cutter.specs.declared.device.Source.{Ghosts}

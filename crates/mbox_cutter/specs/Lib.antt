@@ -7,7 +7,6 @@ pub mod FaultTexts
 pub mod Inside
 pub mod Lines
 pub mod Memory
-pub mod NextEvent
 pub mod Places
 pub mod Progress
 pub mod Separators

@@ -10,7 +10,7 @@ use Rattle.mbox_cutter.specs.declared.event.Event.TheVariants as event
 use Rattle.mbox_cutter.specs.declared.scan.Phase.TheVariants.{Failed}
 use Rattle.mbox_cutter.specs.Events.{ArchiveEvent, Start, Line, End, Done, ComingEvents}
 use Rattle.mbox_cutter.specs.Coming.{AnswersAsComing, is_device_fault}
-use Rattle.mbox_cutter.specs.Places.{CutterPlace, HasLine, Moves, Nears, ReadsAll}
+use Rattle.mbox_cutter.specs.Places.{CutterPlace, Moves, Nears, ReadsAll}
 use Rattle.contract_words.specs.Knowledge.{still_known}
 use Rattle.mbox_cutter.specs.Sources.{Stays}
 
@@ -22,42 +22,39 @@ pub record Progress (S : Type 0) : Type 0 where
   pub line : List ℕ
   pub source : MutBor S
 
--- an event, without where its line is in memory
-abbrev pub shown_event : Event → ArchiveEvent
-shown_event (event.Start at line) = Start at line.now
-shown_event (event.Line line) = Line line.now
-shown_event (event.End span size) = End span size
-shown_event (event.Done all) = Done all
+-- an event, with the line that was taken last
+abbrev pub told_event : List ℕ → Event → ArchiveEvent
+told_event line (event.Start at) = Start at line
+told_event line event.Line = Line line
+told_event line (event.End span size) = End span size
+told_event line (event.Done all) = Done all
 
--- the result of a call, without where its line is in memory
-abbrev pub shown_result : Result Event CutFault → Result ArchiveEvent CutFault
-shown_result (Ok e) = Ok (shown_event e)
-shown_result (Err fault) = Err fault
+-- the result of a call, with the line that was taken last
+abbrev pub told_result : List ℕ → Result Event CutFault → Result ArchiveEvent CutFault
+told_result line (Ok e) = Ok (told_event line e)
+told_result line (Err fault) = Err fault
 
 -- how a call with this result changes a cutter
-pub record Advances {S : Type 0} (g : Ghosts S) (old : Progress S) (answer : Result ArchiveEvent CutFault)
+pub record Advances {S : Type 0} (g : Ghosts S) (old : Progress S) (result : Result Event CutFault)
     (new : Progress S) : Type 0 where
   -- the source is the same
   pub source : new.source.ghost_name ≡ old.source.ghost_name
   -- its count of failures rises by one if it failed, and stays if it didn't
-  pub count : Counted (is_device_fault answer) (g.failures old.source.now) (g.failures new.source.now)
+  pub count : Counted (is_device_fault result) (g.failures old.source.now) (g.failures new.source.now)
   -- what no read changes stays as it was
   pub stays : Stays g old.source.now new.source.now
   -- if it is known what comes, an event is the first that comes, and a refusal is the archive's
-  pub answers : AnswersAsComing (still_known old.coming (g.rest new.source.now)) answer new.coming
+  pub answers : AnswersAsComing (still_known old.coming (g.rest new.source.now)) (told_result new.line result)
+      new.coming
   -- events come in order, and their offsets, lengths and sizes fit what was taken, whether bytes are known or not
-  pub moves : IfOk answer (λ e. Moves e old.place new.place)
+  pub moves : IfOk result (λ e. Moves (told_event new.line e) old.place new.place)
   -- fewer events are left, so they end
-  pub nears : IfOk answer (λ e. Nears e old.place new.place)
+  pub nears : IfOk result (λ e. Nears (told_event new.line e) old.place new.place)
   -- after a fault each call fails
-  pub fails : OnErr answer (new.place.phase ≡ Failed)
+  pub fails : OnErr result (new.place.phase ≡ Failed)
   -- the limit stays
   pub most : new.place.most ≡ old.place.most
   -- no more was taken than is allowed
   pub within : new.place.offset ≤ new.place.most
   -- at the archive's end all bytes have been read
-  pub ends : IfOk answer (λ e. ReadsAll e (g.rest new.source.now))
-
--- the line of an event, if it has one, is a line
-abbrev pub LendsLine : Event → Type 0
-LendsLine e = HasLine (shown_event e)
+  pub ends : IfOk result (λ e. ReadsAll (told_event new.line e) (g.rest new.source.now))

@@ -1,12 +1,11 @@
 //! Cuts an mbox archive into messages, and reports them as events.
 ghost use Rattle.std.specs.Prelude.{◌≡◌, [], IsSome, Ok, Err, false, ◌-◌, ◌^◌, ◌<◌, IfOk};
 ghost use Rattle.std.specs.Option.{option_map};
-ghost use Rattle.std.specs.Borrow.{sem};
 
 use crate::buffer::Buffer;
 use crate::device::Source;
 use crate::event::{CutFault, Event};
-use crate::scan::{Phase, Scan, Step};
+use crate::scan::{Phase, Scan};
 use crate::window::Window;
 use std::alloc::{AllocError, Global};
 use std::marker::Model;
@@ -35,10 +34,8 @@ impl<'a, S: Source> Model for Cutter<'a, S> {
 
 impl<'a, S: Source> Cutter<'a, S> {
     ghost use Rattle.mbox_cutter.specs.Events.{coming_of};
-    ghost use Rattle.mbox_cutter.specs.NextEvent.{OnceLetGo};
     ghost use Rattle.mbox_cutter.specs.Places.{is_failed, HasLine};
-    ghost use Rattle.mbox_cutter.specs.Progress.{Advances, LendsLine, shown_event, shown_result};
-    ghost use Rattle.mbox_cutter.specs.Inside.Scan.{told_at, told_result};
+    ghost use Rattle.mbox_cutter.specs.Progress.{Advances, told_event};
 
     /// Makes a cutter of the bytes that the source still gives. At most `most` bytes are allowed. It takes all the
     /// memory that the cutter needs, 128 KiB, and fails only if there isn't as much.
@@ -85,44 +82,28 @@ impl<'a, S: Source> Cutter<'a, S> {
     /// Returns the next event. It takes no memory.
     ///
     /// For each message the events are `Start`, the lines of its text as `Line`, and `End`. After the last message each
-    /// call returns `Done`. When the caller has dropped the event, the cutter is after it, as `Advances` says.
+    /// call returns `Done`.
     ///
     /// # Errors
     ///
     /// `Device` if the source failed in this call. `NotAnMbox` if the first line that isn't empty is no separator, and
     /// it ends within `most` bytes. `ArchiveTooLong` if the archive has more than `most` bytes. After a fault each call
     /// returns `Failed`.
-    pub fn next_event(&mut self) -> Result<Event<'_>, CutFault>
+    pub fn next_event(&mut self) -> Result<Event, CutFault>
         requires count { is_failed self.old.place.phase ≡ false →
             S.failures self.old.source.now < 2 ^ 64 - 1 }
         ensures again { self.old.place.phase ≡ Phase.Failed → result ≡ Err CutFault.Failed }
         ensures once { result ≡ Err CutFault.Failed → self.old.place.phase ≡ Phase.Failed }
         ensures done { self.old.place.phase ≡ Phase.Ended →
             result ≡ Ok (Event.Done self.old.place.offset) }
-        ensures line { IfOk result LendsLine }
-        ensures* after { sem 𝓛 (OnceLetGo S.row S.Source self.entry (λ after.
-            Advances S.Source self.old (shown_result result) after)) }
-    {
-        let step = self.step()?;
-        Ok(self.event(step))
-    }
-
-    /// Takes the next step. After a fault each call fails.
-    fn step(&mut self) -> Result<Step, CutFault>
-        requires count { is_failed self.old.place.phase ≡ false →
-            S.failures self.old.source.now < 2 ^ 64 - 1 }
-        ensures again { self.old.place.phase ≡ Phase.Failed → result ≡ Err CutFault.Failed }
-        ensures once { result ≡ Err CutFault.Failed → self.old.place.phase ≡ Phase.Failed }
-        ensures done { self.old.place.phase ≡ Phase.Ended →
-            result ≡ Ok (Step.Done self.old.place.offset) }
-        ensures line { IfOk result (λ step. HasLine (told_at step self.new.line)) }
-        ensures advances { Advances S.Source self.old (told_result self.new.line result) self.new }
+        ensures line { IfOk result (λ event. HasLine (told_event self.new.line event)) }
+        ensures advances { Advances S.Source self.old result self.new }
     {
         if let Phase::Failed = self.scan.phase {
             return Err(CutFault::Failed);
         }
         match self.scan.advance() {
-            Ok(step) => Ok(step),
+            Ok(event) => Ok(event),
             Err(fault) => {
                 self.scan.phase = Phase::Failed;
                 Err(fault)
@@ -130,16 +111,10 @@ impl<'a, S: Source> Cutter<'a, S> {
         }
     }
 
-    /// Makes the event of a step, with the line that was taken last.
-    fn event(&self, step: Step) -> Event<'_>
-        ensures { shown_event result ≡ told_at step self.now.line }
+    /// Returns the line of the last event, a `Start` or a `Line`. It has its LF, if there is one.
+    pub fn line(&self) -> &[u8]
+        ensures { result.now ≡ self.now.line }
     {
-        let line = self.scan.window.taken_line();
-        match step {
-            Step::Start { offset } => Event::Start { offset, line },
-            Step::Line => Event::Line(line),
-            Step::End { length, size } => Event::End { length, size },
-            Step::Done { length } => Event::Done { length },
-        }
+        self.scan.window.taken_line()
     }
 }

@@ -33,14 +33,14 @@ impl fmt::Display for CutFault {
 
 impl Error for CutFault {}
 
-/// A step through an archive. Lines are borrowed from the cutter, and each has its LF, if there is one. Offsets,
-/// lengths and sizes are in bytes.
+/// A step through an archive. `Cutter::line` has the line of a start and of a line. Offsets, lengths and sizes are in
+/// bytes.
 #[derive(Clone, Copy)]
-pub enum Event<'e> {
-    /// A message starts at this offset in the archive, with this line as its separator.
-    Start { offset: u64, line: &'e [u8] },
+pub enum Event {
+    /// A message starts at this offset in the archive. The line is its separator.
+    Start { offset: u64 },
     /// The next line of the message's text.
-    Line(&'e [u8]),
+    Line,
     /// The message ends; its span has this length, and its text this size.
     End { length: u64, size: u64 },
     /// The archive ends; it has this length.

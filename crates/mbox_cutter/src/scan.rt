@@ -2,7 +2,7 @@
 ghost use Rattle.std.specs.Prelude.{◌≡◌, Ok, false, ◌+◌, ◌-◌, ◌^◌, ◌<◌, ◌≤◌, length, IfOk, IfErr, IfSome};
 
 use crate::device::{DeviceFault, Source};
-use crate::event::CutFault;
+use crate::event::{CutFault, Event};
 use crate::line::is_empty_line;
 use crate::separator::is_separator;
 use crate::window::Window;
@@ -15,15 +15,6 @@ pub(crate) enum Phase {
     Inside { start: u64, size: u64 },
     Ended,
     Failed,
-}
-
-/// What comes next. For a start and a line, the line itself is the one that the window took last.
-#[derive(Clone, Copy)]
-pub(crate) enum Step {
-    Start { offset: u64 },
-    Line,
-    End { length: u64, size: u64 },
-    Done { length: u64 },
 }
 
 impl From<DeviceFault> for CutFault {
@@ -66,7 +57,7 @@ impl<'a, S: Source> Scan<'a, S> {
     }
 
     /// Takes a step from between two messages, or from before the first.
-    fn start(&mut self) -> Result<Step, CutFault>
+    fn start(&mut self) -> Result<Event, CutFault>
         requires phase { self.old.phase ≡ Phase.Between }
         requires scan { IsScan S.rest self.old }
         requires count { S.failures self.old.window.source.now < 2 ^ 64 - 1 }
@@ -76,7 +67,7 @@ impl<'a, S: Source> Scan<'a, S> {
             let n = self.line_length()?;
             if n == 0 {
                 self.phase = Phase::Ended;
-                return Ok(Step::Done {
+                return Ok(Event::Done {
                     length: self.offset,
                 });
             }
@@ -88,7 +79,7 @@ impl<'a, S: Source> Scan<'a, S> {
                     size: 0,
                 };
                 self.pass(n, phase);
-                return Ok(Step::Start { offset });
+                return Ok(Event::Start { offset });
             }
             if !is_empty_line(line) {
                 return Err(CutFault::NotAnMbox);
@@ -98,7 +89,7 @@ impl<'a, S: Source> Scan<'a, S> {
     }
 
     /// Takes a step from inside the message that started at `start`, after `size` bytes of its text.
-    fn go_on(&mut self, start: u64, size: u64) -> Result<Step, CutFault>
+    fn go_on(&mut self, start: u64, size: u64) -> Result<Event, CutFault>
         requires phase { self.old.phase ≡ Phase.Inside start size }
         requires scan { IsScan S.rest self.old }
         requires count { S.failures self.old.window.source.now < 2 ^ 64 - 1 }
@@ -108,7 +99,7 @@ impl<'a, S: Source> Scan<'a, S> {
         if n == 0 {
             self.phase = Phase::Between;
             let length = self.offset - start;
-            return Ok(Step::End { length, size });
+            return Ok(Event::End { length, size });
         }
         let line = self.window.part(0, n);
         let inside = Phase::Inside {
@@ -117,15 +108,15 @@ impl<'a, S: Source> Scan<'a, S> {
         };
         if !is_empty_line(line) {
             self.pass(n, inside);
-            return Ok(Step::Line);
+            return Ok(Event::Line);
         }
         if self.closes(n)? {
             self.pass(n, Phase::Between);
             let length = self.offset - start;
-            Ok(Step::End { length, size })
+            Ok(Event::End { length, size })
         } else {
             self.pass(n, inside);
-            Ok(Step::Line)
+            Ok(Event::Line)
         }
     }
 
@@ -160,17 +151,17 @@ impl<'a, S: Source> Scan<'a, S> {
     }
 
     /// Takes the next step, from any place.
-    pub(crate) fn advance(&mut self) -> Result<Step, CutFault>
+    pub(crate) fn advance(&mut self) -> Result<Event, CutFault>
         requires live { is_failed self.old.phase ≡ false }
         requires scan { IsScan S.rest self.old }
         requires count { S.failures self.old.window.source.now < 2 ^ 64 - 1 }
         ensures steps { Steps S.Source self.old result self.new }
-        ensures done { self.old.phase ≡ Phase.Ended → result ≡ Ok (Step.Done self.old.offset) }
+        ensures done { self.old.phase ≡ Phase.Ended → result ≡ Ok (Event.Done self.old.offset) }
     {
         match self.phase {
             Phase::Between => self.start(),
             Phase::Inside { start, size } => self.go_on(start, size),
-            Phase::Ended => Ok(Step::Done {
+            Phase::Ended => Ok(Event::Done {
                 length: self.offset,
             }),
             Phase::Failed => Err(CutFault::Failed),

@@ -38,7 +38,7 @@ fn tally_of<S: Source>(buffer: Buffer, source: &mut S, most: u64) -> Result<Tall
     'events: loop {
         match cutter.next_event() {
             Ok(Event::Start { .. }) => count += 1,
-            Ok(Event::Line(_)) => {}
+            Ok(Event::Line) => {}
             Ok(Event::End { size, .. }) => bytes += size,
             Ok(Event::Done { .. }) => {
                 let _source = source_of(cutter);
@@ -66,13 +66,14 @@ struct Told {
 }
 
 impl Told {
-    fn event(&mut self, event: Event<'_>) -> Result<(), AllocError> {
+    /// Adds an event, with the line that was taken last.
+    fn event(&mut self, event: Event, line: &[u8]) -> Result<(), AllocError> {
         match event {
-            Event::Start { offset, line } => {
+            Event::Start { offset } => {
                 self.lent.extend_from_slice(line)?;
                 write!(self.text, "start {offset} {}, ", line.len())
             }
-            Event::Line(line) => {
+            Event::Line => {
                 self.lent.extend_from_slice(line)?;
                 write!(self.text, "line {}, ", line.len())
             }
@@ -88,8 +89,8 @@ fn tell<S: Source>(cutter: &mut Cutter<'_, S>, told: &mut Told) -> Result<(), Al
 {
     'events: loop {
         match cutter.next_event() {
-            Ok(Event::Done { length }) => return told.event(Event::Done { length }),
-            Ok(event) => told.event(event)?,
+            Ok(Event::Done { length }) => return told.event(Event::Done { length }, b""),
+            Ok(event) => told.event(event, cutter.line())?,
             Err(fault) => return write!(told.text, "{fault}"),
         }
     }

@@ -184,8 +184,8 @@ fn give_lines<S: Source>(
 {
     'events: loop {
         match cutter.next_event() {
-            Ok(Event::Line(line)) => {
-                let answer = reader.line(line, sink);
+            Ok(Event::Line) => {
+                let answer = reader.line(cutter.line(), sink);
                 sink.note(answer);
             }
             Ok(Event::Done { .. }) => return sink.told.push_str("end, ").ok(),

@@ -1,21 +1,21 @@
 -- The state of a scan, which finds the steps of a cutter, and how a step changes it.
-use Rattle.std.specs.Prelude.{◌≡◌, ℕ, ◌+◌, ◌<◌, ◌≤◌, Bool, ◌||◌, nat_eq, take, drop, List, Option, Result, Ok, Err}
+use Rattle.std.specs.Prelude.{◌≡◌, ℕ, ◌+◌, ◌<◌, ◌≤◌, Bool, ◌||◌, nat_eq, take, drop, List, Option, Result}
 use Rattle.std.specs.Prelude.{IfOk, IfErr, IfSome}
 use Rattle.std.specs.Io.KnownBytes.{IsAtEnd}
 use Rattle.contract_words.specs.Devices.{Counted}
 use Rattle.mbox_cutter.specs.declared.event.CutFault.{CutFault}
 use Rattle.mbox_cutter.specs.declared.event.CutFault.TheVariants.{Device, NotAnMbox, ArchiveTooLong, Failed}
+use Rattle.mbox_cutter.specs.declared.event.Event.{Event}
 use Rattle.mbox_cutter.specs.declared.device.Source.{Ghosts}
 use Rattle.mbox_cutter.specs.declared.scan.Phase.{Phase}
 use Rattle.mbox_cutter.specs.declared.scan.Phase.TheVariants as phase
-use Rattle.mbox_cutter.specs.declared.scan.Step.{Step}
-use Rattle.mbox_cutter.specs.declared.scan.Step.TheVariants as step
 use Rattle.mbox_cutter.specs.declared.scan.Scan.{Scan}
 use Rattle.mbox_cutter.specs.Lines.{first_length}
 use Rattle.mbox_cutter.specs.Separators.{is_separator}
-use Rattle.mbox_cutter.specs.Events.{ArchiveEvent, Start, Line, End, Done, ComingEvents}
+use Rattle.mbox_cutter.specs.Events.{ComingEvents}
 use Rattle.mbox_cutter.specs.Coming.{AnswersAsComing, is_device_fault}
 use Rattle.mbox_cutter.specs.Places.{CutterPlace, HasLine, Moves}
+use Rattle.mbox_cutter.specs.Progress.{told_event, told_result}
 use Rattle.contract_words.specs.Knowledge.{still_known}
 use Rattle.mbox_cutter.specs.Sources.{Stays}
 use Rattle.mbox_cutter.specs.Inside.Ahead.{known_bytes, known_until, IsLineLength, ReadsOn, TakesLine}
@@ -53,18 +53,6 @@ IsFresh Failed = ⊥
 abbrev pub closes_at : ℕ → List ℕ → Bool
 closes_at n b = let m = first_length (drop n b) in nat_eq m 0 || is_separator (take m (drop n b))
 
--- the event of a step, with the line that was taken last
-abbrev pub told_at : Step → List ℕ → ArchiveEvent
-told_at (step.Start at) line = Start at line
-told_at step.Line line = Line line
-told_at (step.End span size) line = End span size
-told_at (step.Done all) line = Done all
-
--- the result of a step as an event, with the line that was taken last
-abbrev pub told_result : List ℕ → Result Step CutFault → Result ArchiveEvent CutFault
-told_result line (Ok e) = Ok (told_at e line)
-told_result line (Err fault) = Err fault
-
 module _ {S : Type 0} where
   -- the place of a scan
   abbrev pub place_of : Scan S → CutterPlace
@@ -96,7 +84,7 @@ module _ {S : Type 0} (g : Ghosts S) where
     pub fails : IfErr result (λ fault. FailsFirst old.offset old.most (known_until g.rest old.window new.window) fault)
 
   -- how a step with this result changes a scan
-  pub record Steps (old : Scan S) (result : Result Step CutFault) (new : Scan S) : Type 0 where
+  pub record Steps (old : Scan S) (result : Result Event CutFault) (new : Scan S) : Type 0 where
     -- the source is the same
     pub source : new.window.source.ghost_name ≡ old.window.source.ghost_name
     -- its count of failures rises by one if it failed, and stays if it didn't
@@ -111,9 +99,9 @@ module _ {S : Type 0} (g : Ghosts S) where
     pub answers : AnswersAsComing (still_known (coming_events g.rest old) (g.rest new.window.source.now))
         (told_result new.window.line result) (coming_events g.rest new)
     -- the place moves as the event says
-    pub moves : IfOk result (λ step. Moves (told_at step new.window.line) (place_of old) (place_of new))
+    pub moves : IfOk result (λ e. Moves (told_event new.window.line e) (place_of old) (place_of new))
     -- the line of an event, if it has one, is a line
-    pub line : IfOk result (λ step. HasLine (told_at step new.window.line))
+    pub line : IfOk result (λ e. HasLine (told_event new.window.line e))
     -- a fault is that of this step, not of an earlier one
     pub fresh : IfErr result IsFresh
 

@@ -2,20 +2,22 @@
 use Rattle.std.proofs.Common.{rules, ◌≡◌, ◌∙◌, subst, Some, Option}
 use Rattle.mbox_cutter.specs.Coming.{AnswersAsComing}
 use Rattle.mbox_cutter.specs.Events.{ComingEvents, coming_of}
-use Rattle.mbox_cutter.specs.Progress.{shown_result}
+use Rattle.mbox_cutter.specs.Progress.{told_result}
 use Rattle.mbox_cutter.specs.declared.scan.Phase.TheVariants.{Between}
 use Rattle.mairix_run.proofs.KeptMail.{first_answer, never_failed, none_counted}
 use Rattle.mairix_run.proofs.kept_mail.is_mbox.Goals as goal
 
 pub returns : goal.returns
 returns c =
-    let after = c.next_event.follows.lender-at-none in
-    let holds = c.next_event.follows.holds-at-none in
-    let answer = shown_result c.next_event.result in
+    let after = c.next_event.new.self in
+    let holds = c.next_event.ensures.advances in
+    let answer = c.next_event.result in
     let comes : c.in_ok-cutter.cutter.coming ≡ Some (coming_of 131072 c.args.bytes.now) = search rules in
     let place : c.in_ok-cutter.cutter.place ≡ record { phase = Between; offset = 0; most = 131072 } = search rules in
-    let answers : AnswersAsComing (Some (coming_of 131072 c.args.bytes.now)) answer after.coming =
-    subst (λ (o : Option ComingEvents). AnswersAsComing o answer after.coming) comes holds.answers in
+    let answers : AnswersAsComing (Some (coming_of 131072 c.args.bytes.now)) (told_result after.line answer)
+    after.coming =
+    subst (λ (o : Option ComingEvents). AnswersAsComing o (told_result after.line answer) after.coming) comes
+    holds.answers in
     c.is_start.ensures
-    ∙ first_answer c.args.bytes.now answer after.coming c.requires answers (none_counted _ holds.count)
-    (never_failed c.in_ok-cutter.cutter.place 131072 c.next_event.result place c.next_event.ensures.once)
+    ∙ first_answer c.args.bytes.now after.line answer after.coming c.requires answers (none_counted _ holds.count)
+    (never_failed c.in_ok-cutter.cutter.place 131072 answer place c.next_event.ensures.once)
