@@ -1,7 +1,11 @@
 #!/usr/bin/env python3
-"""Lines of definitions and proofs above 120 columns. None is right, unless one text or name makes it so long.
+"""Lines of definitions and proofs above 120 columns, and lines of contracts in the code above 100. None is right, unless
+one text or name makes it so long.
 
     long_lines.py [--write]
+
+A contract's lines are those of a `requires`, of an `ensures`, and of what begins with `ghost`, up to the closing brace;
+`ghost use` is an import, and none of them.
 
 --write breaks them at spaces, each at the last place before the limit where the fewest brackets are open, and indents
 what follows by four columns more. A text of antt's means the same with such breaks, as long as what follows a
@@ -15,7 +19,9 @@ from pathlib import Path
 
 TOP = Path(__file__).resolve().parent.parent
 MOST = 120
+MOST_IN_CONTRACT = 100
 STEP = 4
+CONTRACT = re.compile(r"\s*(?:requires|ensures|(?:pub )?ghost (?!use ))\b")
 IMPORT = re.compile(r"((?:pub )?use [^{}]*\.\{)([^{}]*)\}")
 TEXT = re.compile(r'"(?:[^"\\]|\\.)*"')
 OPEN, CLOSE = "([{", ")]}"
@@ -25,15 +31,34 @@ AFTER = ("=", ",", ";")
 
 
 def files():
-    return sorted(it for part in ("specs", "proofs") for it in TOP.glob(f"crates/*/{part}/**/*.antt"))
+    """The files, each with the most columns of its lines, and what says whether the limit is for a line."""
+    for part in ("specs", "proofs"):
+        for file in TOP.glob(f"crates/*/{part}/**/*.antt"):
+            yield file, MOST, each_line
+    for file in TOP.glob("crates/*/src/**/*.rt"):
+        yield file, MOST_IN_CONTRACT, contract_lines
 
 
-def is_long(line):
+def each_line(lines):
+    return [True] * len(lines)
+
+
+def contract_lines(lines):
+    """Whether each line is one of a contract."""
+    marks, depth = [], 0
+    for line in lines:
+        is_in = depth > 0 or bool(CONTRACT.match(line))
+        depth += is_in * (blanked(line).count("{") - blanked(line).count("}"))
+        marks.append(is_in)
+    return marks
+
+
+def is_long(line, most):
     """Whether a line is too long, and not only for one text or name that it has."""
     imported = IMPORT.fullmatch(line)
     if imported and ", " not in imported[2]:
         return False
-    return len(line) > MOST and any(at <= MOST for at, _ in places(line, len(line) - len(line.lstrip(" "))))
+    return len(line) > most and any(at <= most for at, _ in places(line, len(line) - len(line.lstrip(" "))))
 
 
 def blanked(line):
@@ -71,44 +96,47 @@ def imports(head, names):
     return [*lines, line + "}"]
 
 
-def broken(line, first_indent=None):
+def broken(line, most, first_indent=None):
     """The lines that a long line becomes."""
     indent = len(line) - len(line.lstrip(" "))
     follows = (indent if first_indent is None else first_indent) + STEP
-    if len(line) <= MOST:
+    if len(line) <= most:
         return [line]
     imported = IMPORT.fullmatch(line)
     if imported:
         return imports(*imported.groups())
     if line.lstrip().startswith("--"):
-        at = line.rfind(" ", indent + 4, MOST + 1)
+        at = line.rfind(" ", indent + 4, most + 1)
         if at < 0:
             return [line]
-        return [line[:at].rstrip(), *broken(" " * indent + "-- " + line[at + 1 :])]
+        return [line[:at].rstrip(), *broken(" " * indent + "-- " + line[at + 1 :], most)]
     comment = blanked(line).find(" -- ")
     if comment >= 0:
         remark = " " * indent + line[comment + 1 :].strip()
-        return [*broken(remark), *broken(line[:comment].rstrip(), first_indent)]
+        return [*broken(remark, most), *broken(line[:comment].rstrip(), most, first_indent)]
     # Not so early that what follows is hardly shorter.
-    least = indent + (MOST - indent) // 3
-    within = [(at, depth) for at, depth in places(line, indent) if at <= MOST]
+    least = indent + (most - indent) // 3
+    within = [(at, depth) for at, depth in places(line, indent) if at <= most]
     late = [it for it in within if it[0] >= least]
     if not within:
         return [line]
     at = min(late or within, key=lambda it: cost(line, *it))[0]
-    return [line[:at].rstrip(), *broken(" " * follows + line[at + 1 :].lstrip(), follows - STEP)]
+    return [line[:at].rstrip(), *broken(" " * follows + line[at + 1 :].lstrip(), most, follows - STEP)]
 
 
 def main(is_written):
     passed = failed = 0
-    for file in files():
+    for file, most, limited in sorted(files()):
         lines = file.read_text("utf-8").split("\n")
-        long = sum(is_long(it) for it in lines)
-        if long and is_written:
-            file.write_text("\n".join(part for it in lines for part in broken(it)), "utf-8")
-        elif long:
-            print(f"{file.relative_to(TOP)}: {long} lines above {MOST} columns, the longest {max(map(len, lines))}")
-        passed, failed = passed + (not long), failed + bool(long)
+        long = [is_in and is_long(line, most) for line, is_in in zip(lines, limited(lines))]
+        if any(long) and is_written:
+            parts = [broken(line, most) if is_bad else [line] for line, is_bad in zip(lines, long)]
+            file.write_text("\n".join(part for each in parts for part in each), "utf-8")
+        elif any(long):
+            for number, line in enumerate(lines, 1):
+                if long[number - 1]:
+                    print(f"{file.relative_to(TOP)}:{number}: {len(line)} columns, and at most {most} are right")
+        passed, failed = passed + (not any(long)), failed + any(long)
     print(f"{passed} passed, {failed} failed")
     return 1 if failed and not is_written else 0
 

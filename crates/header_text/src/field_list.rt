@@ -167,7 +167,8 @@ impl<'a> Fields<'a> {
 impl<'a> Iterator for Fields<'a> {
     type Item = Field<'a>;
 
-    ghost next_gives = { YieldsFirstBy (λ f. record { name = f.name.now; body = f.body.now }) (λ it. it) };
+    ghost next_gives = { YieldsFirstBy (λ f. record { name = f.name.now; body = f.body.now })
+        (λ it. it) };
 
     ghost remaining = { item_count (λ it. it) };
 

@@ -32,7 +32,8 @@ impl<'a> Model for Batch<'a> {
 
     ghost view = { λ s. map (λ w. w.now) (take s.count s.words) };
 
-    ghost invariant = { λ s. (s.count ≤ MOST_WAITING) × AllByRecursion HasTermLength (map (λ w. w.now) (take s.count s.words)) };
+    ghost invariant = { λ s. (s.count ≤ MOST_WAITING)
+        × AllByRecursion HasTermLength (map (λ w. w.now) (take s.count s.words)) };
 }
 
 impl<'a> Batch<'a> {

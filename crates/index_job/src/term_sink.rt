@@ -31,7 +31,8 @@ impl<'a> TextSink for TermSink<'a> {
         × (new.builder.now ≡ draft_with_terms (text_terms (kind, text)) old.builder.now) };
 
     ghost refuses = { λ old kind text fault new. (fault ≡ OutOfMemory)
-        ⊎ ((fault ≡ Refused) × RefusesTerms (draft_with_terms (text_terms (kind, text)) old.builder.now)) };
+        ⊎ ((fault ≡ Refused) × RefusesTerms
+        (draft_with_terms (text_terms (kind, text)) old.builder.now)) };
 
     fn text(&mut self, kind: TextKind, text: &str) -> Result<(), SinkFault> {
         match add_words(self.builder, self.room, kind, text) {

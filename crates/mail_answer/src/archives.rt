@@ -54,7 +54,8 @@ pub trait Archives {
         ensures measured { measures self.old n result self.new }
         ensures count { Counts result (failures self.old) (failures self.new) }
         ensures held { WasKnown (held self.old) (held self.new) }
-        ensures whole { (archives : List (List ℕ)) → whole self.old archives → whole self.new archives }
+        ensures whole { (archives : List (List ℕ))
+            → whole self.old archives → whole self.new archives }
         ensures number { number self.new ≡ number self.old };
 
     /// Reads the archive with this number from an offset on, and returns the number of bytes read. Into a slice that
@@ -70,6 +71,7 @@ pub trait Archives {
         ensures asked { lengths_asked self.new ≡ lengths_asked self.old }
         ensures count { Counts result (failures self.old) (failures self.new) }
         ensures held { WasKnown (held self.old) (held self.new) }
-        ensures whole { (archives : List (List ℕ)) → whole self.old archives → whole self.new archives }
+        ensures whole { (archives : List (List ℕ))
+            → whole self.old archives → whole self.new archives }
         ensures number { number self.new ≡ number self.old };
 }

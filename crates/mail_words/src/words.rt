@@ -38,7 +38,8 @@ impl<'a> Model for Words<'a> {
 
     ghost use Rattle.mail_words.specs.Inside.Runs.{words_left};
 
-    ghost view = { λ s. option_to_list (option_copied s.long) ++ words_left s.in_run (chars s.rest.now) };
+    ghost view = { λ s. option_to_list (option_copied s.long)
+        ++ words_left s.in_run (chars s.rest.now) };
 }
 
 impl<'a> Words<'a> {

@@ -12,8 +12,10 @@ use std::marker::{Model, PhantomData};
 #[derive(Drop)]
 pub struct SupposedNames {
     marker: PhantomData<u8>,
-    pub ghost entries: { List (List ℕ × Entry) } by { coded_list (coded× (coded_list coded_ℕ) entry_code) },
-    pub ghost links: { List (List ℕ × List ℕ) } by { coded_list (coded× (coded_list coded_ℕ) (coded_list coded_ℕ)) },
+    pub ghost entries: { List (List ℕ × Entry) } by { coded_list
+        (coded× (coded_list coded_ℕ) entry_code) },
+    pub ghost links: { List (List ℕ × List ℕ) } by { coded_list
+        (coded× (coded_list coded_ℕ) (coded_list coded_ℕ)) },
 }
 
 impl Model for SupposedNames {

@@ -76,7 +76,8 @@ pub fn answer_names<F: Folder, O: Out>(
         → (bytes : List (List ℕ))
         → files_of (F.holds folder.now) search.now.paths.now ≡ map Some bytes
         → F.agree reports.new ≡ true
-        → AnswersBy (IsReply (asks search.now.words.now search.now.text.now search.now.moment) bytes)
+        → AnswersBy
+        (IsReply (asks search.now.words.now search.now.text.now search.now.moment) bytes)
         result (O.taken out.old) (O.taken out.new) }
     ensures stored { IfSome search.now.index (λ index. length search.now.paths.now < 2 ^ 32
         → (bytes : List (List ℕ))
@@ -152,7 +153,8 @@ fn answer_archives<F: Folder, A: Archives, O: Out>(
     ensures once { search.now.index ≡ None → (bytes : List (List ℕ))
         → files_of (F.holds folder.now) search.now.paths.now ≡ map Some bytes
         → F.agree reports.new ≡ true → A.held archives.new ≡ Some bytes
-        → AnswersBy (IsReply (asks search.now.words.now search.now.text.now search.now.moment) bytes)
+        → AnswersBy
+        (IsReply (asks search.now.words.now search.now.text.now search.now.moment) bytes)
         result (O.taken out.old) (O.taken out.new) }
     ensures stored { IfSome search.now.index (λ index. (bytes : List (List ℕ))
         → A.held archives.new ≡ Some bytes
@@ -214,7 +216,8 @@ fn answer_once<F: Folder, A: Archives, O: Out>(
     ensures once { (bytes : List (List ℕ))
         → files_of (F.holds folder.now) search.now.paths.now ≡ map Some bytes
         → F.agree reports.new ≡ true → A.held archives.new ≡ Some bytes
-        → AnswersBy (IsReply (asks search.now.words.now search.now.text.now search.now.moment) bytes)
+        → AnswersBy
+        (IsReply (asks search.now.words.now search.now.text.now search.now.moment) bytes)
         result (O.taken out.old) (O.taken out.new) }
     ensures refused { (fault : Fault)
         → asks search.now.words.now search.now.text.now search.now.moment ≡ Err fault
@@ -295,7 +298,8 @@ fn answer_stored<F: Folder, A: Archives, O: Out>(
         → AnswersBy (IsStaleOr (altered_archive before w.paths bytes) (IsReply (Ok w) bytes))
         result (O.taken out.old) (O.taken out.new) }
     ensures refused { (fault : Fault)
-        → IsRefusedAs (asks search.now.words.now search.now.text.now search.now.moment) index.now fault
+        → IsRefusedAs (asks search.now.words.now search.now.text.now search.now.moment)
+        index.now fault
         → IsThisOrMemory fault (fault_in result) × (out.new ≡ out.old) }
     ensures held { HoldsArchives A.Archives archives.old archives.new }
     ensures status { IfOk result (λ status. status ≤ 1) }

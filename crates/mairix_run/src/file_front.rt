@@ -19,8 +19,8 @@ pub(crate) fn read_front<S: Source>(
 ) -> Result<(), Refusal>
     requires room { 0 < length piece.old }
     requires count { S.failures source.old < 2 ^ 64 - 1 }
-    ensures front { OnOk result (GivesFront most (S.rest source.old) (S.rest source.new) bytes.old.items
-        bytes.new.items) }
+    ensures front { OnOk result (GivesFront most (S.rest source.old) (S.rest source.new)
+        bytes.old.items bytes.new.items) }
     ensures few { OnOk result (length bytes.new.items ≤ length bytes.old.items + most) }
     ensures stays { OnOk result (S.failures source.new ≡ S.failures source.old) }
     ensures failed { IfErr result (λ why. HasCause why (0 < S.failures source.new)) }

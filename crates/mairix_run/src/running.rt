@@ -183,7 +183,8 @@ fn run_asked<F: Folder, O: Stream>(
     requires out { O.failures out.old < 2 ^ 64 - 1 }
     ensures ran { F.agree reports.new ≡ true → Ran F.Folder O.Out O.handed_on
         (names_asked asked.entry.now.plan.now asked.entry.now.rc.now)
-        (task_of_rc (F.holds folder.old) (asks asked.entry.now.words.now asked.entry.now.text.now asked.entry.now.now)
+        (task_of_rc (F.holds folder.old)
+        (asks asked.entry.now.words.now asked.entry.now.text.now asked.entry.now.now)
         asked.entry.now.plan.now asked.entry.now.rc.now)
         folder.old folder.new out.old out.new (ending_of_result result) }
     ensures none { F.making folder.new ≡ None }
@@ -266,7 +267,8 @@ fn search_stored<F: Folder, O: Stream>(
         → F.agree reports.new ≡ true → Ran F.Folder O.Out O.handed_on
         (asked.entry.now.rc.now.database ∷ both_names
         (answer_file asked.entry.now.plan.now asked.entry.now.rc.now))
-        (search_stored_task (F.holds folder.old) (asks asked.entry.now.words.now asked.entry.now.text.now asked.entry.now.now)
+        (search_stored_task (F.holds folder.old)
+        (asks asked.entry.now.words.now asked.entry.now.text.now asked.entry.now.now)
         asked.entry.now.plan.now asked.entry.now.rc.now bytes)
         folder.old folder.new out.old out.new (ending_of_result result) }
     ensures none { F.making folder.new ≡ None }

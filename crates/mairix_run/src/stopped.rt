@@ -76,7 +76,8 @@ impl<E> From<OrMemory<E>> for Stopped
 where
     Fault: From<E>,
 {
-    ghost from_gives = { λ given stopped. IsStoppedBy ⟦<Fault as From<E>>⟧.from_gives given stopped };
+    ghost from_gives = { λ given stopped.
+        IsStoppedBy ⟦<Fault as From<E>>⟧.from_gives given stopped };
 
     fn from(fault: OrMemory<E>) -> Self {
         Stopped::Fault(fault.into())

@@ -55,7 +55,8 @@ pub fn tell_stopped<T: Texts, O: Stream, E: Out>(
     requires out { O.failures out.old < 2 ^ 64 - 1 }
     requires err { E.failures err.old < 2 ^ 64 - 1 }
     ensures reported { ReportsEnding O.Out O.handed_on E.Out
-        (T.is_usage_text texts.now (map string_bytes words.now)) T.memory_can_run_out (ending_of_stopped stopped)
+        (T.is_usage_text texts.now (map string_bytes words.now)) T.memory_can_run_out
+        (ending_of_stopped stopped)
         result out.old out.new err.old err.new }
 {
     match stopped {

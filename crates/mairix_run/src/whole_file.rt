@@ -122,8 +122,8 @@ fn next_count(bytes: &Vec<u8>) -> usize
 /// were appended; if these are fewer, the source is at its end.
 fn read_piece<S: Source>(source: &mut S, most: usize, bytes: &mut Vec<u8>) -> Result<usize, Refusal>
     requires count { S.failures source.old < 2 ^ 64 - 1 }
-    ensures front { OnOk result (GivesFront most (S.rest source.old) (S.rest source.new) bytes.old.items
-        bytes.new.items) }
+    ensures front { OnOk result (GivesFront most (S.rest source.old) (S.rest source.new)
+        bytes.old.items bytes.new.items) }
     ensures number { IfOk result (λ n. length bytes.new.items ≡ length bytes.old.items + n) }
     ensures stays { OnOk result (S.failures source.new ≡ S.failures source.old) }
     ensures failed { IfErr result (λ why. HasCause why (0 < S.failures source.new)) }
@@ -147,8 +147,8 @@ fn read_piece<S: Source>(source: &mut S, most: usize, bytes: &mut Vec<u8>) -> Re
 fn fill<S: Source>(source: &mut S, into: &mut [u8]) -> Result<usize, DeviceFault>
     requires count { S.failures source.old < 2 ^ 64 - 1 }
     ensures bound { IfOk result (λ n. n ≤ length into.new) }
-    ensures front { IfOk result (λ n. GivesFront (length into.new) (S.rest source.old) (S.rest source.new) []
-        (take n into.new)) }
+    ensures front { IfOk result (λ n. GivesFront (length into.new)
+        (S.rest source.old) (S.rest source.new) [] (take n into.new)) }
     ensures stays { OnOk result (S.failures source.new ≡ S.failures source.old) }
     ensures failed { OnErr result (0 < S.failures source.new) }
 {

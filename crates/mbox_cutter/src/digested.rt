@@ -68,7 +68,8 @@ impl<'a, S: Source> Source for Digested<'a, S> {
         ensures bound { IfOk result (λ n. n ≤ length into.new) }
         ensures bytes { ReadConsumes (still_known (S.rest (inner self.old).now)
             (S.rest (inner self.new).now)) (S.rest (inner self.new).now) result into.new }
-        ensures known { IsSome (S.rest (inner self.new).now) → IsSome (S.rest (inner self.old).now) }
+        ensures known { IsSome (S.rest (inner self.new).now)
+            → IsSome (S.rest (inner self.old).now) }
         ensures count { Counts result
             (S.failures (inner self.old).now) (S.failures (inner self.new).now) }
         ensures whole { (bytes : List ℕ) →

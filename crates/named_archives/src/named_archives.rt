@@ -40,8 +40,8 @@ pub struct NamedArchives<'p, F: Folder> {
     ghost each: { length states.now ≡ length names.now },
     ghost right: { F.reports_are_right → F.agree closed ≡ true },
     ghost counted: { ForSome current (λ a. F.File.failures a.file ≤ failures) },
-    ghost opened: { ForSome current (λ a. IsFileAt (files_of (F.holds folder.now) names.now) states.now
-        number (F.File.bytes a.file) a.state) },
+    ghost opened: { ForSome current (λ a. IsFileAt (files_of (F.holds folder.now) names.now)
+        states.now number (F.File.bytes a.file) a.state) },
     // No call fails without a cause.
     ghost failed: { 0 < failures → FailsFor refused
         (All IsSome (files_of (F.holds folder.now) names.now)) F.can_refuse F.reads_can_fail },

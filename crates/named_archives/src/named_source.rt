@@ -257,7 +257,8 @@ fn is_lost<F: KeptFile>(file: &mut F, state: Option<F::State>) -> bool
     ensures rest { F.rest file.new ≡ F.rest file.old }
     ensures bytes { F.bytes file.new ≡ F.bytes file.old }
     ensures count { Counted result (F.failures file.old) (F.failures file.new) }
-    ensures in_state { result ≡ false → ForSome state (λ asked. F.state_found file.new ≡ Some asked) }
+    ensures in_state { result ≡ false
+        → ForSome state (λ asked. F.state_found file.new ≡ Some asked) }
 {
     match state {
         Some(state) => file.check_state(state).is_err(),

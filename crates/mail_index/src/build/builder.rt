@@ -63,7 +63,8 @@ impl Model for Builder {
         draft_of_fields s.most s.path s.in_message s.archives.items s.records.items s.keys s.failed };
 
     ghost invariant = { λ s. IsDraft
-        (draft_of_fields s.most s.path s.in_message s.archives.items s.records.items s.keys s.failed) };
+        (draft_of_fields s.most s.path s.in_message s.archives.items s.records.items s.keys
+        s.failed) };
 }
 
 impl Builder {
@@ -232,7 +233,8 @@ impl Builder {
         requires within { self.old.failed ≡ false → length ≤ most_in_archive }
         requires last { self.old.failed ≡ false
             → end_of (archive_count self.old) self.old.table.messages ≤ length }
-        ensures gives { Makes (draft_after_archive length digest self.old) 0 result self.old self.new }
+        ensures gives { Makes (draft_after_archive length digest self.old) 0 result self.old
+            self.new }
         ensures within { IsWithinMost self.new }
     {
         let Some(path) = self.path.take() else {
@@ -372,7 +374,8 @@ impl Builder {
         requires failures { O.failures out.old < 2 ^ 64 - 1 }
         requires counts { IsCountOf self.now.table counts.now }
         requires small { counted_length counts.now < 2 ^ 64 }
-        ensures written { WritesSigned result (O.taken out.old) (O.taken out.new) signer.old signer.new
+        ensures written { WritesSigned result (O.taken out.old) (O.taken out.new) signer.old
+            signer.new
             (flat_map (section_of self.now.table) sections.now) }
         ensures count { CountsFailures result (O.failures out.old) (O.failures out.new) }
     {
@@ -393,7 +396,8 @@ impl Builder {
         requires failures { O.failures out.old < 2 ^ 64 - 1 }
         requires counts { IsCountOf self.now.table counts.now }
         requires small { counted_length counts.now < 2 ^ 64 }
-        ensures written { WritesSigned result (O.taken out.old) (O.taken out.new) signer.old signer.new
+        ensures written { WritesSigned result (O.taken out.old) (O.taken out.new) signer.old
+            signer.new
             (section_of self.now.table section) }
         ensures count { CountsFailures result (O.failures out.old) (O.failures out.new) }
     {

@@ -98,7 +98,8 @@ impl Model for MessageIds {
 
     ghost view = { λ ids. map (λ id. id.items) ids.ids.items };
 
-    ghost invariant = { λ ids. All (λ id. IsSizedId id.items) ids.ids.items × (ids_size (map (λ id. id.items) ids.ids.items) ≤ most_in_header) };
+    ghost invariant = { λ ids. All (λ id. IsSizedId id.items) ids.ids.items
+        × (ids_size (map (λ id. id.items) ids.ids.items) ≤ most_in_header) };
 }
 
 impl MessageIds {
