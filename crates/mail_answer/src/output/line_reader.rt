@@ -1,4 +1,4 @@
-//! Reads a part of an archive line by line. A cutter has another reader of lines (decision 119 in docs/DECISIONS.md).
+//! Reads a part of an archive line by line. A cutter has another reader of lines (decision 120 in docs/DECISIONS.md).
 ghost use Rattle.std.specs.Prelude.{◌≡◌, ◌<◌, ◌≤◌, ◌+◌, ◌-◌, ◌^◌, [], false, length, drop, IfOk, IfErr, OnOk, IfSome};
 ghost use Rattle.mbox_cutter.specs.Lines.{first_length};
 ghost use Rattle.mail_answer.specs.Faults.{has_fault, is_of_output, IfStale};

@@ -59,12 +59,11 @@ impl Model for Builder {
 
     ghost Value = { Draft };
 
-    ghost view = { λ s.
-        draft_of_fields s.most s.path s.in_message s.archives.items s.records.items s.keys s.failed };
+    ghost view = { λ s. draft_of_fields s.most s.path s.in_message s.archives.items
+        s.records.items s.keys s.failed };
 
-    ghost invariant = { λ s. IsDraft
-        (draft_of_fields s.most s.path s.in_message s.archives.items s.records.items s.keys
-        s.failed) };
+    ghost invariant = { λ s. IsDraft (draft_of_fields s.most s.path s.in_message s.archives.items
+        s.records.items s.keys s.failed) };
 }
 
 impl Builder {
