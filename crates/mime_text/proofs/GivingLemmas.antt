@@ -2,7 +2,8 @@
 use Rattle.mime_text.proofs.Words.{◌≡◌, ◌∙◌, ◌++◌, ℕ, List, [], ◌∷◌, Option, Some, refl, ap, append_assoc, arith}
 use Rattle.mime_text.proofs.Words.{Result, Ok, Err, option_map, cons_option, HeaderField, TextKind, SinkFault}
 use Rattle.mime_text.proofs.Words.{TextFault, Failed, OutOfMemory, Sink, Pair, ComingPairs, Gave, Broke, Hands}
-use Rattle.mime_text.proofs.Words.{kind_of_field, text_of_body, texts_of_fields}
+use Rattle.mime_text.proofs.Words.{Bool, true, false, kind_of_field, text_of_body, texts_of_fields, header_texts}
+use Rattle.mime_text.proofs.Words.{before_blanks, unfolded_body, piece_of, parameter}
 use Rattle.std.proofs.lemmas.List.{append-nil}
 use Rattle.mime_text.specs.Inside.Showing.{Shows}
 
@@ -16,6 +17,12 @@ texts-some f k e = ap (λ (o : Option TextKind). cons_option (option_map (with_t
 pub texts-cons : (f : HeaderField) (fs : List HeaderField) → texts_of_fields (f ∷ fs)
     ≡ texts_of_fields (f ∷ []) ++ texts_of_fields fs
 texts-cons f fs = grind arith
+
+-- a header without fields has no texts
+header-none : (counted : Bool) → header_texts counted [] ≡ []
+unfolding before_blanks unfolded_body piece_of parameter
+header-none true = refl
+header-none false = refl
 
 module _ {S : Type 0} (takes : S → TextKind → List ℕ → S → Type 0)
     (refuses : S → TextKind → List ℕ → SinkFault → S → Type 0) where
@@ -54,3 +61,8 @@ module _ {S : Type 0} (takes : S → TextKind → List ℕ → S → Type 0)
     rest = λ ms. h.rest ms
         ∙ ap (λ (ps : List Pair). h.pairs ++ ps) (e ms);
   }
+
+  -- a header without fields gives nothing
+  pub gave-header_none : (counted : Bool) (fields : List HeaderField) (s : S) → fields ≡ []
+      → Gave takes refuses (λ _. header_texts counted fields) (λ _. []) s s
+  gave-header_none counted fields s e = record { pairs = []; taken = refl; rest = λ ms. rw e (header-none counted) }

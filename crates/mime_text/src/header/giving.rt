@@ -1,5 +1,5 @@
 //! Giving the texts of headers to a sink.
-ghost use Rattle.std.specs.Prelude.{◌≡◌, ◌≤◌, [], ◌∷◌, length};
+ghost use Rattle.std.specs.Prelude.{◌≡◌, ◌≤◌, false, [], ◌∷◌, length};
 ghost use Rattle.header_text.specs.Headers.{fields_size, most_in_header};
 ghost use Rattle.mime_text.specs.FieldTexts.{texts_of_fields};
 ghost use Rattle.mime_text.specs.Names.{name_texts};
@@ -67,8 +67,8 @@ fn give_name<S: TextSink>(
     }
 }
 
-/// Gives the texts of a header to the sink, if it counts, and then the name of its entity.
-pub(crate) fn give_header<S: TextSink>(
+/// Gives the texts of a header's fields to the sink, if it counts, and then the name of its entity.
+fn give_fields<S: TextSink>(
     counted: bool,
     fields: Fields<'_>,
     reader: &mut FieldReader,
@@ -80,4 +80,30 @@ pub(crate) fn give_header<S: TextSink>(
 {
     give_counted(counted, fields.again(), reader, sink)?;
     give_name(fields, reader, sink)
+}
+
+/// Whether there are fields.
+pub(crate) fn has_fields(fields: Fields<'_>) -> bool
+    ensures { result ≡ false → fields.entry ≡ [] }
+{
+    let mut left = fields;
+    left.next().is_some()
+}
+
+/// Gives the texts of a header to the sink, if it counts, and then the name of its entity.
+pub(crate) fn give_header<S: TextSink>(
+    counted: bool,
+    fields: Fields<'_>,
+    reader: &mut FieldReader,
+    sink: &mut S,
+) -> Result<(), TextFault>
+    requires { fields_size fields ≤ most_in_header }
+    ensures { Hands S.takes S.refuses (λ _. header_texts counted fields.entry) (λ _. []) result
+        sink.old sink.new }
+{
+    // To look for texts in no fields would only cost time.
+    if !has_fields(fields.again()) {
+        return Ok(());
+    }
+    give_fields(counted, fields, reader, sink)
 }

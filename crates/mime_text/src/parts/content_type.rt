@@ -1,10 +1,11 @@
 //! What an entity is, by its header.
-ghost use Rattle.std.specs.Prelude.{◌≡◌, ◌≤◌, ℕ, List, [], length, unwrap_or, IfOk, OnOk};
+ghost use Rattle.std.specs.Prelude.{◌≡◌, ◌≤◌, ℕ, true, false, List, [], length, unwrap_or, IfOk, OnOk};
 ghost use Rattle.mime_text.specs.Parameters.{parameter};
 ghost use Rattle.header_text.specs.Headers.{fields_of, fields_size};
 ghost use Rattle.header_text.specs.HeldLines.{HasLines};
 ghost use Rattle.mime_text.specs.Types.{first_value, type_text as type_text_of, has_slash as has_slash_of, media_type as media_type_of, default_type, default_in as default_in_of, is_multipart as is_multipart_of, shape_of_single as shape_of_single_of, shape_of_value, shape_of, charset_of_value, charset_in, transfer_in};
 
+use crate::header::giving::has_fields;
 use crate::leaf::transfer::TransferEncoding;
 use crate::parts::boundary::Boundary;
 use crate::parts::parameter::read_parameter;
@@ -121,6 +122,21 @@ fn read_shape(default: DefaultType, value: &[u8], buffer: &mut Vec<u8>) -> Resul
         None => Shape::Text { is_html: false },
     };
     Ok(shape)
+}
+
+/// Whether an entity is plain text because that is its default and its header has no fields.
+pub(crate) fn is_bare_text(default: DefaultType, header: &Header) -> bool
+    ensures shape { result ≡ true → (ls : List (List ℕ)) → HasLines header.now ls
+        → shape_of default (fields_of ls) ≡ Shape.Text false }
+    ensures charset { result ≡ true → (ls : List (List ℕ)) → HasLines header.now ls
+        → charset_in (fields_of ls) ≡ Charset.Utf8 }
+    ensures transfer { result ≡ true → (ls : List (List ℕ)) → HasLines header.now ls
+        → transfer_in (fields_of ls) ≡ TransferEncoding.Identity }
+{
+    match default {
+        DefaultType::TextPlain => !has_fields(header.fields()),
+        DefaultType::MessageRfc822 => false,
+    }
 }
 
 impl EntityType {

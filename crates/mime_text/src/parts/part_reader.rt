@@ -5,6 +5,8 @@ ghost use Rattle.header_text.specs.Headers.{HeaderField, fields_of, fields_size,
 ghost use Rattle.header_text.specs.HeldLines.{HasLines};
 ghost use Rattle.mime_text.specs.MessageFacts.{HasSizedIds, facts_of};
 ghost use Rattle.mime_text.specs.Sinks.{Pair, Hands};
+ghost use Rattle.mime_text.specs.LeafTexts.{leaf_texts};
+ghost use Rattle.mime_text.specs.LeafReading.{body_pairs, pairs_to_come};
 ghost use Rattle.mime_text.specs.Types.{shape_of};
 ghost use Rattle.mime_text.specs.Stream.{place_after_hit};
 ghost use Rattle.mime_text.specs.Feeding.{ending, NotesFacts};
@@ -17,11 +19,12 @@ use crate::header::facts::{Facts, KeptFacts};
 use crate::header::field_text::FieldReader;
 use crate::header::giving::give_header;
 use crate::leaf::leaf_reader::LeafReader;
-use crate::parts::content_type::EntityType;
+use crate::leaf::transfer::TransferEncoding;
+use crate::parts::content_type::{EntityType, is_bare_text};
 use crate::parts::nesting::{Lead, Nesting};
 use crate::parts::shape::{DefaultType, Shape};
 use crate::sink::TextSink;
-use header_text::{Fields, Header, Taken};
+use header_text::{Charset, Fields, Header, Taken};
 use std::alloc::{AllocError, Global};
 
 /// What the next line of a message belongs to.
@@ -178,6 +181,18 @@ impl PartReader {
         self.begin_body(default).or(Err(TextFault::OutOfMemory))
     }
 
+    /// Begins the body of a text.
+    fn begin_leaf(&mut self, transfer: TransferEncoding, charset: Charset, is_html: bool)
+        ensures state { self.new.state ≡ State.InLeaf }
+        ensures nesting { self.new.nesting ≡ self.old.nesting }
+        ensures comes { (ls : List (List ℕ)) → pairs_to_come self.new.leaf ls
+            ≡ body_pairs (leaf_texts transfer charset is_html ls) }
+        ensures facts { self.new.facts ≡ self.old.facts }
+    {
+        self.leaf.begin(transfer, charset, is_html);
+        self.state = State::InLeaf;
+    }
+
     /// Begins the body of the entity whose header has ended.
     fn begin_body(&mut self, default: DefaultType) -> Result<(), AllocError>
         ensures comes { OnOk result ((ls : List (List ℕ)) → HasLines self.old.header ls
@@ -186,6 +201,11 @@ impl PartReader {
             (fields_of ls))) }
         ensures facts { self.new.facts ≡ self.old.facts }
     {
+        // Most of the time for such an entity would go into reading its type.
+        if is_bare_text(default, &self.header) {
+            self.begin_leaf(TransferEncoding::Identity, Charset::Utf8, false);
+            return Ok(());
+        }
         let entity = EntityType::of(self.alloc, default, &self.header)?;
         self.state = State::Skipping;
         match entity.shape {
@@ -198,8 +218,7 @@ impl PartReader {
                 Ok(())
             }
             Shape::Text { is_html } => {
-                self.leaf.begin(entity.transfer, entity.charset, is_html);
-                self.state = State::InLeaf;
+                self.begin_leaf(entity.transfer, entity.charset, is_html);
                 Ok(())
             }
             Shape::Other => Ok(()),
