@@ -26,16 +26,24 @@ pub struct LeafReader {
     texts: LineTexts,
 }
 
-/// Whether a line of the body is given as it is: it isn't encoded, no bytes are held before it, and it ends in LF.
+/// Whether all lines so far were given as they are: the body isn't encoded, and no bytes are held.
+fn has_given_all(decoder: &Decoder, held: &HeldLine) -> bool
+    ensures decoder { result ≡ true → decoder.now ≡ decoder_of.Identity }
+    ensures held { result ≡ true → held.now ≡ [] }
+{
+    match decoder {
+        Decoder::Identity => held.is_empty(),
+        _ => false,
+    }
+}
+
+/// Whether a line of the body is given as it is: so were all lines before it, and it ends in LF.
 fn is_passed_on(decoder: &Decoder, held: &HeldLine, line: &[u8]) -> bool
     ensures decoder { result ≡ true → decoder.now ≡ decoder_of.Identity }
     ensures held { result ≡ true → held.now ≡ [] }
     ensures feed { result ≡ true → ends_in 0x0A line.now ≡ true }
 {
-    match decoder {
-        Decoder::Identity => held.is_empty() && line.strip_suffix(b"\n").is_some(),
-        _ => false,
-    }
+    has_given_all(decoder, held) && line.strip_suffix(b"\n").is_some()
 }
 
 impl LeafReader {
@@ -90,6 +98,9 @@ impl LeafReader {
         ensures { Hands S.takes S.refuses (λ _. pairs_to_come self.old []) (λ _. []) result
             sink.old sink.new }
     {
+        if has_given_all(&self.decoder, &self.held) {
+            return Ok(());
+        }
         self.held.finish(self.decoder, &mut self.texts, sink)
     }
 }
