@@ -11,6 +11,8 @@ use Rattle.mime_text.proofs.Words.{is_tag_open_after_all, blanked_tags, span_end
 use denote.Ref.{Bor}
 use Rattle.std.proofs.lemmas.Str.Ascii.{IsAscii-nil, IsAscii-cons}
 use Rattle.std.proofs.lemmas.Str.Pattern.{IsSplitOnceResult, split_parts}
+use Rattle.header_text.proofs.OwnTexts.{text_of-ascii}
+use Rattle.mime_text.proofs.Words.{Charset, text_of}
 use Rattle.mime_text.proofs.TagLemmas.{lacks-text, blanked-free, is_open-free}
 
 -- ---- characters one after another
@@ -53,6 +55,19 @@ written_tag text = sym (encodes-spaces (length (chars text)))
 
 pub written_outside : (text : List ℕ) → IsUtf8 text → text ≡ encode_utf8_all (shown_span false (chars text))
 written_outside text utf8 = sym (encodes-chars text utf8)
+
+-- a line of ASCII that is in a tag, and doesn't end it
+pub blank-line : (charset : Charset) (line spaces : List ℕ) → IsAscii line → Lacks 0x3E line → spaces
+    ≡ replicate (length line) 0x20
+    → (spaces ≡ encode_utf8_all (blanked_tags true (chars (text_of charset line))))
+    × (is_tag_open_after_all true (chars (text_of charset line)) ≡ true)
+blank-line charset line spaces ascii lacks e =
+    let is : chars (text_of charset line) ≡ line = ap chars (text_of-ascii charset line ascii)
+    ∙ chars-IsAscii line ascii in
+    rw is (
+      e ∙ sym (ap encode_utf8_all (blanked-tag line lacks) ∙ encodes-spaces (length line)),
+      is_open-tag line lacks,
+    )
 
 length-span : (o : Bool) (text : List ℕ) → IsUtf8 text
     → length (encode_utf8_all (shown_span o (chars text))) ≤ length text

@@ -1,7 +1,9 @@
 //! The tags of HTML.
-ghost use Rattle.std.specs.Prelude.{◌≡◌, ◌≤◌, ◌+◌, ◌++◌, true, false, length, replicate, option_map, IfOk, OnOk, string_bytes, encode_utf8_all};
+ghost use Rattle.std.specs.Prelude.{◌≡◌, ◌≤◌, ◌+◌, ◌++◌, true, false, length, replicate, option_map, IfOk, IfSome, OnOk, string_bytes, encode_utf8_all};
 ghost use Rattle.std.specs.Str.{chars};
 ghost use Rattle.header_text.specs.Cuts.{cut_at as cut_at_of};
+ghost use Rattle.header_text.specs.Charsets.{text_of};
+ghost use Rattle.header_text.specs.declared.charset.Charset.{Charset};
 ghost use Rattle.mime_text.specs.OpenTags.{blanked_tags, is_tag_open_after_all};
 ghost use Rattle.mime_text.specs.Inside.TagSpans.{span_end, shown_span};
 
@@ -22,6 +24,20 @@ pub(crate) fn is_free_of_tags(open_before: bool, text: &str) -> bool
         return false;
     }
     cut_at(b'<', text.as_bytes()).is_none()
+}
+
+/// Returns the text of a line before which a tag is open, if a quick look finds that it is spaces alone: the line is
+/// ASCII, has no `>`, and is no longer than `SPACES`.
+pub(crate) fn spaces_in_tag(line: &[u8]) -> Option<&'static str>
+    ensures text { IfSome result (λ spaces. (charset : Charset)
+        → (spaces.now ≡ encode_utf8_all (blanked_tags true (chars (text_of charset line.now))))
+        × (is_tag_open_after_all true (chars (text_of charset line.now)) ≡ true)) }
+    ensures size { IfSome result (λ spaces. length spaces.now ≤ 64) }
+{
+    if line.len() > SPACES.len() || !line.is_ascii() || cut_at(b'>', line).is_some() {
+        return None;
+    }
+    Some(&SPACES[..line.len()])
 }
 
 /// Returns the number of characters of a text.

@@ -8,7 +8,7 @@ ghost use Rattle.mime_text.specs.Limits.{most_in_line, most_in_line_text};
 
 use crate::fault::TextFault;
 use crate::leaf::own_text::own_text;
-use crate::leaf::tags::{blank_tags, is_free_of_tags};
+use crate::leaf::tags::{blank_tags, is_free_of_tags, spaces_in_tag};
 use crate::sink::{TextSink, give_text};
 use header_text::{Charset, decode_into};
 use mail_words::TextKind;
@@ -120,6 +120,9 @@ impl TextBuffers {
         ensures is_open { OnOk result (is_open.new
             ≡ is_tag_open_after_all is_open.old (chars (text_of charset line.now))) }
     {
+        if *is_open && let Some(spaces) = spaces_in_tag(line) {
+            return give_text(TextKind::Body, spaces, sink);
+        }
         let own = own_text(charset, line);
         if let Some(text) = own
             && is_free_of_tags(*is_open, text)
