@@ -6,9 +6,10 @@ use Rattle.mime_text.proofs.Words.{without_break, after_blanks, DefaultType, Fra
 use Rattle.mime_text.proofs.Words.{is_closing, StreamPlace, Skip, InHeader, or_else, own_hit, place_after_hit}
 use Rattle.mime_text.proofs.Words.{dash_dash, dashes}
 use Rattle.mime_text.proofs.Words.{kind_after, delimiter_of, place_after_delimiter, scan, inside_out, with_frame}
-use Rattle.mime_text.proofs.Words.{AreNested}
+use Rattle.mime_text.proofs.Words.{AreNested, take_at}
 use Rattle.std.proofs.lemmas.Option.{slice_get-get_or}
 use Rattle.header_text.specs.EncodedWords.{after}
+use Rattle.mime_text.specs.Frames.{goes_on_apart, is_apart_from}
 use Rattle.mime_text.specs.declared.parts.delimiter.Delimiter.TheVariants.{Next, Closing}
 
 -- ---- the beginning of some bytes
@@ -194,3 +195,48 @@ pub next-leads : {A : Type 0} (l text : List ℕ) (frames fs seen kept : List Fr
     ≡ Some g → kept ≡ take (n + 1) fs
     → Some (inside_out kept [], InHeader false g.left g.default []) ≡ place_after_hit {A = A} frames l
 next-leads {A} l text frames fs seen kept n k g v q e is found got t = grind (arith, add-one, scanned, inside_out-at)
+
+-- ---- boundaries that are apart
+
+-- what follows each of two boundaries in a text, if both begin it: one of them goes on with what follows the other one
+apart-fronts : (one other text : List ℕ) (j k : Delimiter) → goes_on_apart (after one other) ≡ true
+    → goes_on_apart (after other one) ≡ true → kind_after (after one text) ≡ Some j
+    → kind_after (after other text) ≡ Some k → ⊥
+apart-fronts [] [] text j k h h2 e f = absurd (cc h)
+apart-fronts [] (c ∷ other) text j k h h2 e f = grind arith
+apart-fronts (c ∷ one) [] text j k h h2 e f = grind arith
+apart-fronts (c ∷ one) (d ∷ other) [] j k h h2 e f = absurd (cc e)
+apart-fronts (c ∷ one) (d ∷ other) (b ∷ text) j k h h2 e f = grind (arith, eqb-true, apart-fronts one other text j k)
+
+-- a line that delimits the multipart f passes over those from which its boundary is apart
+scan-apart : {A : Type 0} (text : List ℕ) (fs outer : List Frame) (f : Frame) (k : Delimiter)
+    → is_apart_from f.boundary fs ≡ true → delimiter_of f.boundary text ≡ Some k
+    → scan {A = A} outer (fs ++ f ∷ []) text ≡ place_after_delimiter (Some k) f (inside_out fs outer)
+unfolding delimiter_of
+scan-apart text [] outer f k h e = grind arith
+scan-apart {A} text (g ∷ gs) outer f k h e =
+    ap (λ (o : Option Delimiter). or_else (place_after_delimiter {A = A} o g outer)
+    (scan (g ∷ outer) (gs ++ f ∷ []) text))
+    (go (delimiter_of g.boundary text) refl)
+    ∙ scan-apart text gs (g ∷ outer) f k (grind arith) e
+  where
+    go : (o : Option Delimiter) → delimiter_of g.boundary text ≡ o → o ≡ None
+    go None q = refl
+    go (Some j) q = absurd (apart-fronts f.boundary g.boundary text k j (grind arith) (grind arith) e q)
+
+slice_get-last : (fs : List Frame) (f : Frame) → slice_get (fs ++ f ∷ []) (length fs) ≡ Some f
+slice_get-last [] f = refl
+slice_get-last (g ∷ gs) f = slice_get-last gs f
+
+-- the innermost multipart is the outermost one that a line delimits, if its boundary is apart from the others
+pub found-innermost : {A : Type 0} (frames outer : List Frame) (f : Frame) (text : List ℕ) (k : Delimiter)
+    → frames ≡ outer ++ f ∷ [] → is_apart_from f.boundary outer ≡ true → delimiter_of f.boundary text ≡ Some k
+    → Found A frames text (length outer) k
+found-innermost {A} frames outer f text k e h d =
+    rw e (
+      f,
+      slice_get-last outer f,
+      scan-apart {A = A} text outer [] f k h d
+          ∙ ap (λ (fs : List Frame). place_after_delimiter {A = A} (Some k) f (inside_out fs []))
+          (sym (take_at outer (f ∷ []) (length outer) refl)),
+    )

@@ -1,7 +1,9 @@
 -- Delimiter lines and the open multiparts, as the code keeps them: the outermost first. Parts defines which lines
 -- delimit and what a message's parts are; this file serves proofs that the code does the same.
-use Rattle.std.specs.Prelude.{◌≡◌, ℕ, zero, suc, Bool, true, false, ◌+◌, ◌≤◌, List, [], ◌∷◌, Option, Some, None}
-use Rattle.std.specs.Prelude.{if◌then◌else◌}
+use Rattle.std.specs.Prelude.{ℕ, zero, suc, Bool, true, false, ◌+◌, ◌≤◌, List, [], ◌∷◌, Option, Some, None}
+use Rattle.std.specs.Prelude.{if◌then◌else◌, not, ◌&&◌, ◌||◌, ◌==◌, ◌≡◌, ◌++◌}
+use Rattle.std.specs.List.{list_all}
+use Rattle.contract_words.specs.Blanks.{is_blank}
 use Rattle.mbox_cutter.specs.Separators.{without_break}
 use Rattle.header_text.specs.EncodedWords.{after}
 use Rattle.mime_text.specs.declared.parts.shape.DefaultType.{DefaultType}
@@ -31,6 +33,25 @@ kind_after (Some rest) = if are_blanks (after dash_dash rest) then Some Closing 
 -- what a line is to the multipart of a boundary, if this text follows the line's two dashes
 unfoldable pub delimiter_of : List ℕ → List ℕ → Option Delimiter
 delimiter_of boundary text = kind_after (after boundary text)
+
+-- By what follows one boundary in another: whether it begins with a byte that can't follow the first boundary in a
+-- delimiter line. True if the second one doesn't begin with the first.
+abbrev pub goes_on_apart : Option (List ℕ) → Bool
+goes_on_apart None = true
+goes_on_apart (Some []) = false
+goes_on_apart (Some (b ∷ bs)) = not (is_blank b || (b == 0x2D))
+
+-- whether a look at two boundaries finds that no line delimits the multiparts of both
+abbrev pub are_apart : List ℕ → List ℕ → Bool
+are_apart one other = goes_on_apart (after one other) && goes_on_apart (after other one)
+
+-- whether the first boundary is apart from those of these multiparts
+abbrev pub is_apart_from : List ℕ → List Frame → Bool
+is_apart_from boundary fs = list_all (λ f. are_apart boundary f.boundary) fs
+
+-- the boundary of the innermost of these multiparts, which is the last, is apart from those of the others
+abbrev pub IsInnermostApart : List Frame → Type 0
+IsInnermostApart fs = (outer : List Frame) (f : Frame) → fs ≡ outer ++ f ∷ [] → is_apart_from f.boundary outer ≡ true
 
 -- the place after a delimiter of the multipart f, which is in the multiparts `outer`; None if the line is no delimiter
 abbrev pub place_after_delimiter : {A : Type 0} → Option Delimiter → Frame → List Frame

@@ -4,7 +4,7 @@ ghost use Rattle.std.specs.List.{list_all};
 ghost use Rattle.contract_words.specs.Blanks.{is_blank as is_blank_of};
 ghost use Rattle.header_text.specs.EncodedWords.{after as after_of};
 ghost use Rattle.mime_text.specs.Parts.{are_blanks as are_blanks_of};
-ghost use Rattle.mime_text.specs.Frames.{dash_dash, dashes, delimiter_of, kind_after};
+ghost use Rattle.mime_text.specs.Frames.{dash_dash, dashes, delimiter_of, kind_after, goes_on_apart as goes_on_apart_of, are_apart as are_apart_of};
 
 use header_text::after_blanks;
 use mbox_cutter::without_break;
@@ -64,4 +64,23 @@ pub(crate) fn delimiter_after(boundary: &[u8], text: &[u8]) -> Option<Delimiter>
         Some(end) => are_blanks(end).then_some(Delimiter::Closing),
         None => are_blanks(rest).then_some(Delimiter::Next),
     }
+}
+
+/// Whether what follows `front` in a boundary begins with a byte that can't follow `front` in a delimiter line; true if
+/// the boundary doesn't begin with it.
+fn goes_on_apart(front: &[u8], boundary: &[u8]) -> bool
+    ensures { result ≡ goes_on_apart_of (after_of front.now boundary.now) }
+{
+    match after(front, boundary) {
+        Some([first, ..]) => !matches!(*first, b' ' | b'\t' | b'-'),
+        Some([]) => false,
+        None => true,
+    }
+}
+
+/// Whether no line delimits the multiparts of both boundaries, by a look at the boundaries alone.
+pub(crate) fn are_apart(one: &[u8], other: &[u8]) -> bool
+    ensures { result ≡ are_apart_of one.now other.now }
+{
+    goes_on_apart(one, other) && goes_on_apart(other, one)
 }

@@ -16,16 +16,17 @@ pub returns-in-None-clause-leads : goal.returns-in-None-clause-leads
 returns-in-None-clause-leads c = grind (arith, scanned)
 
 pub invariant_of-self : goal.invariant_of-self
-invariant_of-self c = grind (arith, AreNested-take)
+invariant_of-self c = grind (arith, length-take, AreNested-take)
 
 pub returns-in-Some-default-Closing-clause-leads : goal.returns-in-Some-default-Closing-clause-leads
 returns-in-Some-default-Closing-clause-leads c =
     let e : dashes c.args.line.now ≡ Some c.in-Some.text.now = sym c.after_dashes.ensures ∙ ap bytes_of c.in-Some.is in
     closing-leads c.args.line.now c.in-Some.text.now c.args.self.now.frames c.self.inside.frames.items
-    c.as_slice.result.now c.truncate.new.self.items
+    c.as_slice.result.now c.keep_outermost-self-inside.new.frames.items
     c.in-Some-default-Closing.at c.in-Some-default-Closing.field-0-1 (ap (λ (n : Nest). n.frames) (sym c.self.view_is))
     c.as_slice.ensures.value e
-    c.in-Some-default-Closing.field-0-1-is c.in-Some-default-Closing.ensures.some c.truncate.ensures.items
+    c.in-Some-default-Closing.field-0-1-is c.in-Some-default-Closing.ensures.some
+    c.keep_outermost-self-inside.ensures.frames
 
 pub invariant_of-self-in-Some-default-Next : goal.invariant_of-self-in-Some-default-Next
 invariant_of-self-in-Some-default-Next c = grind (arith, length-take, AreNested-take, AreNested-at, got-at)
@@ -38,8 +39,8 @@ returns-in-Some-default-Next-clause-leads c =
     got-at c.self.inside.frames.items c.in-Some-default-Next.at c.index.result.now
     (omega (arith, h, ap length c.as_slice.ensures.value)) c.index.ensures) in
     next-leads c.args.line.now c.in-Some.text.now c.args.self.now.frames c.self.inside.frames.items
-    c.as_slice.result.now c.truncate-in-Some-default-Next.new.self.items
+    c.as_slice.result.now c.keep_outermost-self-inside-in-Some-default-Next.new.frames.items
     c.in-Some-default-Next.at c.in-Some-default-Next.field-0-1 c.index.result.now
     (ap (λ (n : Nest). n.frames) (sym c.self.view_is)) c.as_slice.ensures.value e
     c.in-Some-default-Next.field-0-1-is c.in-Some-default-Next.ensures.some got
-    c.truncate-in-Some-default-Next.ensures.items
+    c.keep_outermost-self-inside-in-Some-default-Next.ensures.frames
