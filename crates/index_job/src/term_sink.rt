@@ -5,6 +5,7 @@ ghost use Rattle.mail_words.specs.Folding.{folding};
 ghost use Rattle.mail_words.specs.Words.{words};
 ghost use Rattle.mime_text.specs.MessageFacts.{HasSizedIds, IsSizedId};
 ghost use Rattle.index_job.specs.Indexing.{AddsTerms};
+ghost use Rattle.index_job.specs.Inside.BlankTexts.{is_blank as is_blank_of};
 ghost use Rattle.index_job.specs.MessageTerms.{text_terms, own_id_terms, link_terms, id_terms};
 
 use crate::folding_room::{FoldingRoom, add_cut_words, add_words_of};
@@ -56,6 +57,20 @@ fn fold_whole(text: &str, into: &mut String) -> Result<bool, AllocError>
     fold_evenly(text, into)
 }
 
+/// Whether a text has only spaces and control characters, so that it has no words.
+fn is_blank(text: &str) -> bool
+    ensures { result ≡ is_blank_of text.now }
+{
+    let mut rest = text.as_bytes();
+    while let Some((first, others)) = rest.split_first() {
+        if *first > b' ' {
+            return false;
+        }
+        rest = others;
+    }
+    true
+}
+
 /// Adds the words of a text to the builder, each folded.
 fn add_words(
     builder: &mut Builder,
@@ -67,6 +82,10 @@ fn add_words(
     ensures terms { AddsTerms (text_terms (kind, text.now)) result builder.old builder.new }
     ensures phase { IsInMessage builder.new }
 {
+    // Many lines of mail are empty.
+    if is_blank(text) {
+        return Ok(());
+    }
     let is_whole = fold_whole(text, &mut room.folded)?;
     if is_whole {
         // One folding serves all words.

@@ -1,8 +1,13 @@
 -- `add_words` adds the folded words of a text, because in ASCII these are the words of its folding; others are folded
--- one by one.
-use Rattle.index_job.proofs.Words.{arith}
+-- one by one. A blank text has none.
+use Rattle.index_job.proofs.Words.{◌∙◌, sym, arith}
+use Rattle.index_job.proofs.BlankTexts.{blank-terms}
 use Rattle.index_job.proofs.FoldedWords.{held-within, held-sizes, terms-of-whole, terms-of-held}
 use Rattle.index_job.proofs.term_sink.add_words.Goals as goal
+
+pub returns-then-is_blank-clause-terms : goal.returns-then-is_blank-clause-terms
+returns-then-is_blank-clause-terms c = blank-terms c.args.kind c.args.text.now c.args.builder.now
+    (sym c.is_blank.ensures ∙ c.if-is_blank.true)
 
 pub returns-then-is_whole-clause-terms : goal.returns-then-is_whole-clause-terms
 returns-then-is_whole-clause-terms c = grind (arith, terms-of-whole)
