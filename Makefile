@@ -1,7 +1,7 @@
-# `make try` searches small archives before anything is proved; `make run` proves and builds the program, and searches them with it; `make check
-# CRATE=name` proves one crate and what stands on it; `make test` is the whole gate; `make install` puts the program, its pages and
-# completions below PREFIX, and `make uninstall` takes them away; `make package` packs them for people without the kit; `make dist` makes a
-# release of the last commit.
+# `make try` searches small archives before anything is proved; `make run` proves and builds the program, and searches them
+# with it; `make check CRATE=name` proves one crate and what stands on it; `make lint` looks at texts, in seconds; `make test`
+# is the whole gate; `make install` puts the program, its pages and completions below PREFIX, and `make uninstall` takes them
+# away; `make package` packs them for people without the kit; `make dist` makes a release of the last commit.
 RT ?= rt
 PREFIX ?= /usr/local
 JOBS ?= $(shell python3 tools/machine.py)
@@ -16,7 +16,7 @@ PAGES = man/mairix.1:man/man1/mairix.1 man/mairixrc.5:man/man5/mairixrc.5 man/ma
 # The files of demo/, as `rt try` takes them.
 DEMO = $(foreach file,mairixrc m.mbox lists.mbox work.mbox,--data $(file)=../../demo/$(file))
 
-.PHONY: try build run check test install uninstall package dist
+.PHONY: try build run check lint test install uninstall package dist
 
 # The kit's interpreter runs the program's text as it stands: nothing is proved by it.
 try:
@@ -34,6 +34,10 @@ run: build
 # One crate while one works on it: its proofs, its edits and, without ALONE=1, the crates that stand on it. What was proved is kept.
 check:
 	RT=$(RT) tools/check_crate.py --jobs $(JOBS) $(if $(ALONE),--alone) $(CRATE)
+
+# What the gate looks at in seconds: texts, tables, names, lines. Run it before a commit.
+lint:
+	tools/gate --quick
 
 # Every proof and test from nothing, every edit that the prover must refuse, each refused allocation in turn, and the built
 # program on real files. It works on a copy, and leaves nothing here.

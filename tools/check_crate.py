@@ -53,11 +53,10 @@ class Check:
 
     def try_edits(self, name):
         if self.is_proved and (self.crates.folder(name) / "must-fail").is_dir():
-            _, lines = Commands.run([str(TOP / "tools/must_fail.py"), "--jobs", str(self.jobs), name], TOP)
+            words = [str(TOP / "tools/must_fail.py"), "--jobs", str(self.jobs), name]
+            _, lines = Commands.run(words, TOP, lambda line: print(line, flush=True))
             counts = re.fullmatch(r"(\d+) passed, (\d+) failed", lines[-1])
             passed, failed = map(int, counts.groups() if counts else (0, 1))
-            if failed:
-                print(*lines[-40:], sep="\n")
             print(f"edits of {name}: {lines[-1]}", flush=True)
             self.passed, self.failed = self.passed + passed, self.failed + failed
 

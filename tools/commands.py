@@ -10,18 +10,23 @@ class Commands:
     stopped = False
 
     @classmethod
-    def run(cls, words, folder):
-        """Runs a command in a folder, and returns its status and its lines."""
+    def run(cls, words, folder, hears=len):
+        """Runs a command in a folder, and returns its status and its lines. Each line is heard as it comes."""
         if cls.stopped:
             raise SystemExit(143)
         how = {"stdin": subprocess.DEVNULL, "stdout": subprocess.PIPE, "stderr": subprocess.STDOUT, "errors": "replace"}
+        lines = []
         with subprocess.Popen(words, cwd=folder, **how) as command:
             cls.running.add(command)
             try:
-                said = command.communicate()[0]
+                for line in command.stdout:
+                    lines.append(line.rstrip("\n"))
+                    hears(lines[-1])
             finally:
                 cls.running.discard(command)
-        return command.returncode, said.rstrip("\n").split("\n")
+        while lines and not lines[-1]:
+            lines.pop()
+        return command.returncode, lines or [""]
 
     @classmethod
     def stop(cls, *_):

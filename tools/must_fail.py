@@ -23,7 +23,7 @@ Without --proved, what isn't built yet is proved and built first, by tools/build
 kept. With it, FOLDER is a copy of the repository whose crates `rt ci` has just proved and left built: its texts are edited, and each check
 has one job.
 
-Each edit has a line, each crate one with its seconds. The last line is `N passed, M failed`.
+Each edit has a line, as soon as it is tried, and each crate one with its seconds. The last line is `N passed, M failed`.
 """
 import argparse
 import os
@@ -279,8 +279,15 @@ def try_alone(room, edit):
 
 
 def try_edits(room, edits):
-    """Whether each edit is refused, and what to say of it."""
-    said = {edit: (False, f"NOT refused: BAD EDIT: {edit.wrong}") for edit in edits if edit.wrong}
+    """Whether each edit is refused. What there is to say of it is printed as soon as it is known."""
+    said = {}
+
+    def say(found):
+        for edit, (is_refused, text) in found.items():
+            said[edit] = is_refused
+            print(f"must-fail {edit.name}: {text[:300]}", flush=True)
+
+    say({edit: (False, f"NOT refused: BAD EDIT: {edit.wrong}") for edit in edits if edit.wrong})
     left = [it for it in edits if it.functions and not it.wrong and room.crate.stands_beside(it)]
     if len(rounds_of(left, room.crate)) + len([it for it in edits if it not in left]) > 1:
         room.keep()
@@ -290,26 +297,29 @@ def try_edits(room, edits):
         found = {}
         for together in rounds_of(left, room.crate):
             if len(together) > 1:
-                found.update(try_together(room, together))
-        said.update(found)
+                told = try_together(room, together)
+                say(told)
+                found.update(told)
         left = [it for it in left if it not in found]
     for edit in edits:
         if edit not in said:
-            said[edit] = try_alone(room, edit)
-    return [(said[edit][0], f"must-fail {edit.name}: {said[edit][1][:300]}") for edit in edits]
+            say({edit: try_alone(room, edit)})
+    return [*said.values()]
 
 
 def try_crate(proved, name, files, writes):
-    """Whether each edit of a crate is refused, and the lines to print."""
+    """Whether each edit of a crate is refused."""
     started = time.monotonic()
     if name in proved.unmade:
-        return [(False, f"must-fail {name}/{it.name}: NOT tried: the crate isn't proved without it") for it in files], ""
+        print(*(f"must-fail {name}/{it.name}: NOT tried: the crate isn't proved without it" for it in files), sep="\n", flush=True)
+        return [False] * len(files)
     crate = Crate(name, proved.crates.folder(name), proved.crates.size(name), proved.checking(proved.crates, name))
     edits = [read_edit(it, crate) for it in files]
     with tempfile.TemporaryDirectory(prefix="must-fail-") as folder:
         room = Room(crate, folder, kept_of(proved.crates, name), writes, not proved.is_by_ci)
         tried = try_edits(room, edits)
-    return tried, f"must-fail {crate.name}: {len(files)} edits, {room.checks} checks, {time.monotonic() - started:.0f} s"
+    print(f"must-fail {crate.name}: {len(files)} edits, {room.checks} checks, {time.monotonic() - started:.0f} s", flush=True)
+    return tried
 
 
 def find_edits():
@@ -365,11 +375,8 @@ def main():
     with ThreadPoolExecutor(jobs) as pool:
         largest_first = sorted(edits, key=lambda it: -proved.crates.size(it))
         running = [pool.submit(try_crate, proved, it, edits[it], words.write) for it in largest_first]
-        for tried, summary in (it.result() for it in running):
-            for is_refused, text in tried:
-                print(text)
-                passed, failed = passed + is_refused, failed + (not is_refused)
-            print(summary, flush=True)
+        for tried in (it.result() for it in running):
+            passed, failed = passed + sum(tried), failed + len(tried) - sum(tried)
     print(f"{passed} passed, {failed} failed")
     return 1 if failed or not passed else 0
 

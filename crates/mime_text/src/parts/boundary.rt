@@ -5,7 +5,7 @@ ghost use Rattle.mime_text.specs.Types.{usable};
 
 use std::marker::Model;
 
-/// The most bytes of a boundary (RFC 2046, 5.1.1).
+/// The most bytes of a boundary (RFC 2046, 5.1.1; decision 29 in docs/DECISIONS.md).
 const MOST_IN_BOUNDARY: usize = 70;
 
 /// A boundary, of 1 to 70 bytes.
