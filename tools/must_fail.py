@@ -17,7 +17,8 @@ what stands of functions before their contracts. If its functions tell no reason
 proofs. Alone it fails where the crate is still proved, where its functions get no reason of their own, and where it doesn't reach the prover.
 
 Its line `# refused by: CLAUSE` names the clause that refuses it, and that clause has to be one of those that the prover couldn't
-show. --write writes that line where it is missing or wrong. --list tries nothing: it prints the edits by the modules that they change.
+show. Some goals are the whole contract, which the prover doesn't part; where a twin's contract is that clause alone, such a goal is the
+clause's. --write writes that line where it is missing or wrong. --list tries nothing: it prints the edits by the modules that they change.
 
 Without --proved, what isn't built yet is proved and built first, by tools/build.py, and the copies go on from what checks of the crate have
 kept. With it, FOLDER is a copy of the repository whose crates `rt ci` has just proved and left built: its texts are edited, and each check
@@ -253,6 +254,10 @@ def why_alone(room, edit, functions=()):
 def refused_by(room, edit, verdict, said, is_alone=False):
     """Whether an edit that is refused names a clause that refuses it, and what to say of it."""
     clauses = verdict.clauses_of(edit, is_alone)
+    kept = [it.kept for it in edit.changes if isinstance(it, Twin)]
+    if kept and all(it == {edit.clause} for it in kept):
+        # The contract of the twin is that clause alone.
+        clauses = [edit.clause if it == "returns" else it for it in clauses]
     if room.writes and clauses and edit.clause not in clauses:
         edit.write_clause(clauses[0])
     if edit.clause in clauses:

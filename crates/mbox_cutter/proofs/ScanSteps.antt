@@ -11,7 +11,6 @@ use Rattle.mbox_cutter.proofs.Words.{IsScan, IsFresh, FindsLine, Passes, Steps}
 use Rattle.mbox_cutter.specs.declared.event.Event.{Event}
 use Rattle.mbox_cutter.specs.declared.event.Event.TheVariants as event
 use Rattle.mbox_cutter.specs.declared.scan.Scan.{Scan}
-use Rattle.mbox_cutter.specs.Progress.{Progress, Advances}
 use Rattle.mbox_cutter.proofs.KnownSteps.{each_some, at_same, both, still-on, IsFirst, known-step, known-fault}
 use Rattle.mbox_cutter.proofs.Sources.{Serves, Serves-none, Serves-join, served}
 use Rattle.mbox_cutter.proofs.Steps.{step-done, step-start, step-empty, step-refused, step-long, step-end, step-line}
@@ -268,20 +267,3 @@ moves-skipped result line old now new h h2 h3 h4 = grind arith
 pub skipped-steps : {S : Type 0} (g : Ghosts S) (old now new : Scan S) (result : Result Event CutFault)
     → Skipped g old now → Steps g now result new → Steps g old result new
 skipped-steps g old now new result k s = grind (arith, Serves-join, moves-skipped)
-
--- ---- a step, as callers see it
-
--- the state of a cutter over this scan, as callers see it
-abbrev pub shown_as : {S : Type 0} → Ghosts S → Scan S → Progress S
-shown_as g s = record {
-  coming = coming_events g.rest s;
-  place = place_of s;
-  line = s.window.line;
-  source =
-      s.window.source;
-}
-
--- a step that reports an event advances the cutter
-pub steps-advance : {S : Type 0} (g : Ghosts S) (old new : Scan S) (s : Event) → Steps g old (Ok s) new
-    → Advances g (shown_as g old) (Ok s) (shown_as g new)
-steps-advance g old new s h = grind arith

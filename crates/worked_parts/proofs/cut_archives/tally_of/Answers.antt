@@ -6,8 +6,8 @@ use Rattle.worked_parts.proofs.cut_archives.tally_of.Goals as goal
 
 pub returns-in-Ok-Done : goal.returns-in-Ok-Done
 returns-in-Ok-Done g c =
-    let after = c.next_event.follows.lender-at-none in
-    let a = c.next_event.follows.holds-at-none in
+    let after = c.next_event.new.self in
+    let a = c.next_event.ensures.advances in
     let last = g.S.Source.rest after.source.now in
     let begun = c.over-cutter.result.coming in
     let tallied = tallied_on begun c.events.cutter.coming (g.S.Source.rest c.events.cutter.source.now) last
