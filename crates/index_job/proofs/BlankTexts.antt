@@ -1,6 +1,6 @@
 -- A text of spaces and control characters has no words, because none of these is a word character.
-use Rattle.index_job.proofs.Words.{◌≡◌, ◌≤◌, ◌∙◌, ℕ, List, [], ◌∷◌, Option, refl, sym, ap, arith, IsAscii, nat_tests}
-use Rattle.index_job.proofs.Words.{option_map, words, Draft, TextKind, text_terms, draft_with_terms}
+use Rattle.index_job.proofs.Words.{◌≡◌, ◌≤◌, ◌∙◌, ℕ, List, [], ◌∷◌, refl, sym, ap, arith, IsAscii, nat_tests}
+use Rattle.index_job.proofs.Words.{words, Draft, TextKind, text_terms, draft_with_terms}
 use Rattle.std.proofs.Common.{true, false}
 use Rattle.std.proofs.lemmas.Str.{chars-IsAscii}
 use Rattle.std.proofs.lemmas.Str.Ascii.{IsAscii-nil, IsAscii-cons}
@@ -8,25 +8,25 @@ use Rattle.mail_words.proofs.Characters.{is_word_character-ascii}
 use Rattle.mail_words.proofs.Lengths.{words_left-whole}
 use Rattle.mail_words.proofs.Reading.{words_left-end, words_left-gaps}
 use Rattle.mail_words.specs.Inside.Runs.{after, is_other, words_left}
-use Rattle.index_job.specs.Inside.BlankTexts.{is_blank}
+use Rattle.index_job.specs.Inside.BlankTexts.{is_blank_text}
 
-blank-ascii : (bs : List ℕ) → is_blank bs ≡ true → IsAscii bs
+blank-ascii : (bs : List ℕ) → is_blank_text bs ≡ true → IsAscii bs
 blank-ascii [] h = IsAscii-nil
 blank-ascii (b ∷ bs) h = IsAscii-cons b bs (grind (arith, nat_tests)) (blank-ascii bs (grind arith))
 
 blank-other : (b : ℕ) → b ≤ 0x20 → is_other b ≡ true
 blank-other b small = grind (arith, nat_tests, is_word_character-ascii)
 
-blank-passed : (bs : List ℕ) → is_blank bs ≡ true → after is_other bs ≡ []
+blank-passed : (bs : List ℕ) → is_blank_text bs ≡ true → after is_other bs ≡ []
 blank-passed [] h = refl
 blank-passed (b ∷ bs) h = grind (arith, nat_tests, blank-other, blank-passed bs)
 
-blank-words : (text : List ℕ) → is_blank text ≡ true → words text ≡ []
+blank-words : (text : List ℕ) → is_blank_text text ≡ true → words text ≡ []
 blank-words text h =
     sym (words_left-whole text) ∙ ap (words_left false) (chars-IsAscii text (blank-ascii text h))
     ∙ words_left-gaps false text ∙ ap (words_left false) (blank-passed text h) ∙ words_left-end false
 
 -- so it has no terms
-pub blank-terms : (kind : TextKind) (text : List ℕ) (o : Option Draft) → is_blank text ≡ true
-    → o ≡ option_map (draft_with_terms (text_terms (kind, text))) o
-blank-terms kind text o h = rw (blank-words text h) (grind arith)
+pub blank-terms : (kind : TextKind) (text : List ℕ) (d : Draft) → is_blank_text text ≡ true
+    → d ≡ draft_with_terms (text_terms (kind, text)) d
+blank-terms kind text d h = rw (blank-words text h) refl

@@ -4,7 +4,7 @@ use Rattle.index_job.proofs.Words.{refl, ap, ◌∙◌, sym, subst, arith, suc, 
 use Rattle.index_job.proofs.Words.{◌+◌, Vec, BuildFault, Global, AllByRecursion, drop_more, map-append}
 use Rattle.index_job.proofs.Words.{length-map, length-take-le, LinkId, Text, TextKind, Key, Draft, with_pair}
 use Rattle.index_job.proofs.Words.{draft_with_key}
-use Rattle.index_job.proofs.Words.{IsRefusal, with_terms, draft_with_terms, IsFaultOfAdding}
+use Rattle.index_job.proofs.Words.{IsBuildRefusal, with_terms, draft_with_terms, IsFaultOfAdding}
 use Rattle.index_job.proofs.Words.{RefusesTerms, Term, link_terms, word_terms, HasTermLength}
 use Rattle.mail_index.specs.declared.kind.Kind.{Kind}
 use Rattle.mail_index.specs.Builders.{HasPair}
@@ -30,7 +30,7 @@ with_terms-append n (t ∷ ts) us ks = with_terms-append n ts us (with_pair t.0 
 
 -- a term is refused
 pub add-fails : (kind : Kind) (text : List ℕ) (ts : List Term) (old : Draft) (fault : BuildFault)
-    → IsRefusal (length (draft_with_key kind text old).table.keys) old fault
+    → IsBuildRefusal (length (draft_with_key kind text old).table.keys) old fault
     → IsFaultOfAdding (draft_with_terms ((kind, text) ∷ ts) old) fault
 add-fails kind text ts old fault h = grind (arith, with_terms-more)
 

@@ -5,7 +5,7 @@ ghost use Rattle.mail_words.specs.Folding.{folding};
 ghost use Rattle.mail_words.specs.Words.{words};
 ghost use Rattle.mime_text.specs.MessageFacts.{HasSizedIds, IsSizedId};
 ghost use Rattle.index_job.specs.Indexing.{AddsTerms};
-ghost use Rattle.index_job.specs.Inside.BlankTexts.{is_blank as is_blank_of};
+ghost use Rattle.index_job.specs.Inside.BlankTexts.{is_blank_text};
 ghost use Rattle.index_job.specs.MessageTerms.{text_terms, own_id_terms, link_terms, id_terms};
 
 use crate::folding_room::{FoldingRoom, add_cut_words, add_words_of};
@@ -59,7 +59,7 @@ fn fold_whole(text: &str, into: &mut String) -> Result<bool, AllocError>
 
 /// Whether a text has only spaces and control characters, so that it has no words.
 fn is_blank(text: &str) -> bool
-    ensures { result ≡ is_blank_of text.now }
+    ensures { result ≡ is_blank_text text.now }
 {
     let mut rest = text.as_bytes();
     while let Some((first, others)) = rest.split_first() {

@@ -39,7 +39,7 @@ pub use Rattle.std.specs.Ordering.{ordering_then}
 pub use Rattle.std.specs.Prelude.{bytes_eq, is_some, slice_range, unwrap_or, ◌⊎◌}
 pub use Rattle.std.specs.declared.cmp.Ordering.{Ordering}
 pub use Rattle.std.specs.declared.cmp.Ordering.TheVariants.{Equal, Greater, Less}
-pub use Rattle.mail_index.specs.Builders.{Draft, IsBetweenArchives, IsInMessage, IsNextMessage, draft_with_key}
+pub use Rattle.mail_index.specs.Builders.{Draft, IsBetweenArchives, IsInMessage, IsNextMessage}
 pub use Rattle.mail_index.specs.Builders.{archive_count}
 pub use Rattle.mail_index.specs.Builders.{end_of, with_pair}
 pub use Rattle.mail_index.specs.Directory.{AreEntries, IsEntryAt, end_before, list_at, read_entries, text_at}

@@ -87,16 +87,16 @@ draft_after_archive n digest d = record d {
 
 -- the fault of a call that would make this count: there is no memory, the count is above the limit, or an earlier call
 -- has failed
-abbrev pub IsRefusal : ℕ → Draft → BuildFault → Type 0
-IsRefusal count d OutOfMemory = d.failed ≡ false
-IsRefusal count d TooMany = (d.failed ≡ false) × (d.most < count)
-IsRefusal count d Failed = d.failed ≡ true
+abbrev pub IsBuildRefusal : ℕ → Draft → BuildFault → Type 0
+IsBuildRefusal count d OutOfMemory = d.failed ≡ false
+IsBuildRefusal count d TooMany = (d.failed ≡ false) × (d.most < count)
+IsBuildRefusal count d Failed = d.failed ≡ true
 
 -- A call has made a draft of the one before, and this count, which is within the limit. After a fault nothing is left,
 -- and every later call fails.
 abbrev pub Makes : {T : Type 0} → Draft → ℕ → Result T BuildFault → Draft → Draft → Type 0
 Makes made count (Ok _) old new = (old.failed ≡ false) × (count ≤ old.most) × (new ≡ made)
-Makes made count (Err fault) old new = IsRefusal count old fault × IsLost new
+Makes made count (Err fault) old new = IsBuildRefusal count old fault × IsLost new
 
 -- whether the call failed because the output did
 abbrev pub is_output_failure : Result ℕ WriteFault → Bool

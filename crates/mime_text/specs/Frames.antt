@@ -42,12 +42,12 @@ goes_on_apart (Some []) = false
 goes_on_apart (Some (b ∷ bs)) = not (is_blank b || (b == 0x2D))
 
 -- whether a look at two boundaries finds that no line delimits the multiparts of both
-abbrev pub are_apart : List ℕ → List ℕ → Bool
-are_apart one other = goes_on_apart (after one other) && goes_on_apart (after other one)
+abbrev pub are_boundaries_apart : List ℕ → List ℕ → Bool
+are_boundaries_apart one other = goes_on_apart (after one other) && goes_on_apart (after other one)
 
 -- whether the first boundary is apart from those of these multiparts
 abbrev pub is_apart_from : List ℕ → List Frame → Bool
-is_apart_from boundary fs = list_all (λ f. are_apart boundary f.boundary) fs
+is_apart_from boundary fs = list_all (λ f. are_boundaries_apart boundary f.boundary) fs
 
 -- the boundary of the innermost of these multiparts, which is the last, is apart from those of the others
 abbrev pub IsInnermostApart : List Frame → Type 0

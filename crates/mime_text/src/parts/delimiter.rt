@@ -4,7 +4,7 @@ ghost use Rattle.std.specs.List.{list_all};
 ghost use Rattle.contract_words.specs.Blanks.{is_blank as is_blank_of};
 ghost use Rattle.header_text.specs.EncodedWords.{after as after_of};
 ghost use Rattle.mime_text.specs.Parts.{are_blanks as are_blanks_of};
-ghost use Rattle.mime_text.specs.Frames.{dash_dash, dashes, delimiter_of, kind_after, goes_on_apart as goes_on_apart_of, are_apart as are_apart_of};
+ghost use Rattle.mime_text.specs.Frames.{dash_dash, dashes, delimiter_of, kind_after, goes_on_apart as goes_on_apart_of, are_boundaries_apart};
 
 use header_text::after_blanks;
 use mbox_cutter::without_break;
@@ -80,7 +80,7 @@ fn goes_on_apart(front: &[u8], boundary: &[u8]) -> bool
 
 /// Whether no line delimits the multiparts of both boundaries, by a look at the boundaries alone.
 pub(crate) fn are_apart(one: &[u8], other: &[u8]) -> bool
-    ensures { result ≡ are_apart_of one.now other.now }
+    ensures { result ≡ are_boundaries_apart one.now other.now }
 {
     goes_on_apart(one, other) && goes_on_apart(other, one)
 }
