@@ -7,7 +7,7 @@ use Rattle.std.proofs.lemmas.Str.Ascii.{IsAscii-nil, IsAscii-cons}
 use Rattle.mail_words.proofs.Characters.{is_word_character-ascii}
 use Rattle.mail_words.proofs.Lengths.{words_left-whole}
 use Rattle.mail_words.proofs.Reading.{words_left-end, words_left-gaps}
-use Rattle.mail_words.specs.Inside.Runs.{after, is_other, words_left}
+use Rattle.mail_words.specs.Inside.Runs.{after_front, is_other, words_left}
 use Rattle.index_job.specs.Inside.BlankTexts.{is_blank_text}
 
 blank-ascii : (bs : List ℕ) → is_blank_text bs ≡ true → IsAscii bs
@@ -17,7 +17,7 @@ blank-ascii (b ∷ bs) h = IsAscii-cons b bs (grind (arith, nat_tests)) (blank-a
 blank-other : (b : ℕ) → b ≤ 0x20 → is_other b ≡ true
 blank-other b small = grind (arith, nat_tests, is_word_character-ascii)
 
-blank-passed : (bs : List ℕ) → is_blank_text bs ≡ true → after is_other bs ≡ []
+blank-passed : (bs : List ℕ) → is_blank_text bs ≡ true → after_front is_other bs ≡ []
 blank-passed [] h = refl
 blank-passed (b ∷ bs) h = grind (arith, nat_tests, blank-other, blank-passed bs)
 

@@ -1,5 +1,6 @@
 -- `next_line` gathers a line or ends the message, because no other event comes inside a message.
-use Rattle.index_job.proofs.Words.{◌∙◌, [], ap, refl, Ok, err_from_is_err_and}
+use Rattle.index_job.proofs.Words.{◌∙◌, [], ◌∷◌, ◌++◌, ap, refl, Ok, err_from_is_err_and, texts_of_message}
+use Rattle.index_job.proofs.Words.{with_texts}
 use Rattle.index_job.proofs.ReadingLines.{reads-line, reads-end, line-is-fault, gather-own}
 use Rattle.index_job.proofs.SourceReads.{event-takes, line-takes}
 use Rattle.index_job.proofs.archive_reading.next_line.Goals as goal
@@ -20,7 +21,7 @@ pub returns-in_err-feed_line-in-Line-clause-own : goal.returns-in_err-feed_line-
 returns-in_err-feed_line-in-Line-clause-own g c =
     let p = err_from_is_err_and c.from_residual-in_err-feed_line-in-Line.result
     c.from_residual-in_err-feed_line-in-Line.ensures.1 in
-    rw (p.1, p.2) (λ d ls h. gather-own (with_texts (texts_of_message (ls ++ c.in-Line.line.now ∷ [])) d) _
+    rw (p.1, p.2) (λ d ls h. gather-own (with_texts (texts_of_message (ls ++ c.line.result.now ∷ [])) d) _
     (c.in_err-feed_line-in-Line.ensures.err ls [] d h))
 
 pub returns-in_ok-feed_line-in-Line-clause-gathers :
