@@ -25,7 +25,8 @@ pub use Rattle.index_job.specs.declared.archive_reading.ReadArchive.{ReadArchive
 pub use Rattle.index_job.specs.declared.job_fault.JobFault.{JobFault}
 pub use Rattle.index_job.specs.declared.message_end.Span.{Span}
 pub use Rattle.mail_index.specs.Builders.{Draft, IsInArchive, IsInMessage, IsWithinMost, draft_with_key}
-pub use Rattle.mail_index.specs.Builders.{draft_in_archive, draft_in_message, end_of, draft_after_archive, IsBuildRefusal}
+pub use Rattle.mail_index.specs.Builders.{draft_in_archive, draft_in_message, end_of, draft_after_archive}
+pub use Rattle.mail_index.specs.Builders.{IsBuildRefusal}
 pub use Rattle.mail_index.specs.Builders.{with_pair}
 pub use Rattle.mail_index.specs.Limits.{most_in_archive, most_in_index}
 pub use Rattle.mail_index.specs.Tables.{AllNext, Archive, Follows, IsArchive, IsKey, IsMessage, IsPath, IsWellFormed}
