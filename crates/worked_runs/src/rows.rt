@@ -89,7 +89,11 @@ fn wrong_row(alloc: Global, table: &'static str, count: u32) -> Option<&'static 
         }
         rows = rows.saturating_add(1);
     }
-    if rows == count { None } else { Some("another number of rows") }
+    if rows == count {
+        None
+    } else {
+        Some("another number of rows")
+    }
 }
 
 #[test]

@@ -1,5 +1,5 @@
 //! Archives that are compared with the digests in their index.
-ghost use Rattle.std.specs.Prelude.{◌≡◌, Some, IfSome};
+ghost use Rattle.std.specs.Prelude.{◌≡◌};
 ghost use Rattle.mail_index.specs.Builders.{empty_draft, IsBetweenArchives};
 ghost use Rattle.mail_index.specs.Tables.{IsPath};
 
@@ -36,9 +36,9 @@ enum Change {
 
 /// Gives a builder these archives, without messages.
 fn build(builder: &mut Builder, path: &str) -> Result<(), BuildFault>
-    requires empty { builder.old ≡ Some (empty_draft 3) }
+    requires empty { builder.old ≡ empty_draft 3 }
     requires path { IsPath path.now }
-    ensures phase { IfSome builder.new IsBetweenArchives }
+    ensures phase { IsBetweenArchives builder.new }
 {
     builder.begin_archive(path)?;
     builder.end_archive(3, ABC)?;
