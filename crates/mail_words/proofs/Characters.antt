@@ -15,8 +15,6 @@ is_word_character-ascii c below =
     same_from_beq (is_word_character c) (is_ascii_alphanumeric c)
     (all_below-at (λ n. beq (is_word_character n) (is_ascii_alphanumeric n)) 128 c refl below)
 
-pub ruleset ascii_word_characters = is_word_character-ascii
-
 pub joiner_below : (c : ℕ) → is_joiner c ≡ true → c < 128
 unfolding is_joiner
 joiner_below c joins = grind (arith, nat_tests)

@@ -1,13 +1,11 @@
 -- Loops that count the bytes of the front that folding leaves as it is: ASCII and letters beyond it, by turns.
-use Rattle.mail_words.proofs.Imports.{◌≡◌, ℕ, ◌+◌, ◌<◌, ◌≤◌, Bool, true, false, not, ◌&&◌, nat_lt, List, [], ◌∷◌, ◌++◌}
+use Rattle.mail_words.proofs.Imports.{◌≡◌, ℕ, ◌+◌, ◌<◌, ◌≤◌, Bool, true, false, not, nat_lt, List, [], ◌∷◌, ◌++◌}
 use Rattle.mail_words.proofs.Imports.{length, drop, get_or, encode_utf8_all, IsUtf8, inl, inr, refl, sym, ap, subst}
-use Rattle.mail_words.proofs.Imports.{◌∙◌, arith, and_parts, cases_lt, ltb-true, nat_tests, length-append}
+use Rattle.mail_words.proofs.Imports.{◌∙◌, arith, and_parts, cases_lt, nat_tests, length-append}
 use Rattle.mail_words.proofs.Imports.{encodes-append, encodes-chars, encode_ascii, IsCharBoundary, front}
 use Rattle.std.proofs.Common.{chars}
 use Rattle.std.proofs.lemmas.Str.{IsUtf8-drop}
-use Rattle.std.specs.Char.{is_ascii_uppercase}
 use Rattle.mail_words.specs.Inside.Folds.{keeps_itself, is_kept_byte, is_kept_letter}
-use Rattle.mail_words.proofs.ByteReads.{front_bytes-passed}
 use Rattle.mail_words.proofs.FoldingLemmas.{kept_byte}
 use Rattle.mail_words.proofs.FrontReads.{FrontRead}
 use Rattle.mail_words.proofs.RunLemmas.{front-pass, front-fail, front-after}
@@ -20,21 +18,6 @@ front_read-chain p text rest after at n h h2 =
       read = record { utf8 = h2.read.utf8; lengths = omega (arith, h.read.lengths, h2.read.lengths) };
       whole = omega (arith, h.whole, h2.whole);
     }
-
--- ---- ASCII
-
-kept_ascii_byte : (b : ℕ) → is_kept_byte b ≡ true → (nat_lt b 128 && keeps_itself b) ≡ true
-kept_ascii_byte b h =
-    let parts = and_parts (nat_lt b 128) (not (is_ascii_uppercase b)) h in
-    (λ k. parts.0 k && (kept_byte b (ltb-true b 128 parts.0) ∙ parts.1) k)
-
-pub kept_ascii : (text bytes after : List ℕ) (n : ℕ) → IsUtf8 text → bytes ≡ text → n ≤ length bytes
-    → ((k : ℕ) → k < n → is_kept_byte (get_or bytes k 0) ≡ true) → after ≡ drop n text
-    → FrontRead keeps_itself text n after
-kept_ascii text bytes after n utf8 same within passed is =
-    subst (FrontRead keeps_itself text n) (sym is)
-    (front_bytes-passed keeps_itself text bytes n utf8 same within
-    (λ k below. kept_ascii_byte (get_or bytes k 0) (passed k below)))
 
 -- ---- letters beyond ASCII
 

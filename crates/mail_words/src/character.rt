@@ -2,15 +2,16 @@
 ghost use Rattle.std.specs.Prelude.{◌≡◌};
 ghost use Rattle.mail_words.specs.Words.{is_word_character, is_joiner};
 
+use crate::bit_tables::is_word_below;
 use unicode::properties::{GeneralCategory, is_alphabetic};
 
 /// Returns whether a character is a word character: Alphabetic, or of category Mn, Mc or Nd.
-#[tactic(auto, using(crate::proofs::Characters::ascii_word_characters), unfolding(crate::specs::Words::is_word_character))]
+#[tactic(auto, unfolding(crate::specs::Words::is_word_character))]
 pub(crate) fn is_word_character(c: char) -> bool
     ensures { result ≡ is_word_character c }
 {
-    if c.is_ascii() {
-        return c.is_ascii_alphanumeric();
+    if c < '\u{800}' {
+        return is_word_below(c as u32);
     }
     is_alphabetic(c)
         || matches!(

@@ -1,6 +1,6 @@
 //! The characters at the front of a text that folding leaves as they are.
 ghost use Rattle.std.specs.Prelude.{◌≡◌, ◌<◌, ◌≤◌, ℕ, true, false, length, slice_index, chars, encode_utf8_all};
-ghost use Rattle.mail_words.specs.Inside.Folds.{is_kept_byte, is_kept_letter, keeps_itself};
+ghost use Rattle.mail_words.specs.Inside.Folds.{is_capital_or_first, is_kept_letter, is_stop_at, keeps_itself};
 ghost use Rattle.mail_words.specs.Inside.Runs.{front};
 
 use crate::folding::keeps_itself;
@@ -12,7 +12,7 @@ pub(crate) fn kept_len(text: &str) -> usize
 {
     let mut rest = text;
     'runs: loop {
-        let after = rest.split_at(ascii_len(rest.as_bytes())).1;
+        let after = rest.split_at(quick_len(rest.as_bytes())).1;
         let letters = letters_len(after);
         if letters == 0 {
             return text.len() - after.len();
@@ -21,25 +21,26 @@ pub(crate) fn kept_len(text: &str) -> usize
     }
 }
 
-/// Returns how many bytes at the front are ASCII, but no capital letters.
-fn ascii_len(bytes: &[u8]) -> usize
+/// Returns how many bytes the characters at the front have that folding keeps, found by loads. It may be fewer, but no ASCII
+/// that folding keeps comes next.
+fn quick_len(bytes: &[u8]) -> usize
     ensures within { result ≤ length bytes.now }
-    ensures passed { (k : ℕ) → k < result → is_kept_byte (slice_index bytes.now k) ≡ true }
+    ensures passed { (k : ℕ) → k < result → is_stop_at bytes.now k ≡ false }
     ensures end { result < length bytes.now
-        → is_kept_byte (slice_index bytes.now result) ≡ false }
+        → is_capital_or_first (slice_index bytes.now result) ≡ true }
 {
     let mut len = kept_by_lanes(bytes);
-    while len < bytes.len() && is_kept_byte(bytes[len]) {
+    while len < bytes.len() && !is_capital_or_first(bytes[len]) {
         len += 1;
     }
     len
 }
 
-/// Returns whether the byte is ASCII, but no capital letter.
-fn is_kept_byte(byte: u8) -> bool
-    ensures { result ≡ is_kept_byte byte }
+/// Returns whether the byte is a capital letter of ASCII, or the first byte of a character beyond ASCII.
+fn is_capital_or_first(byte: u8) -> bool
+    ensures { result ≡ is_capital_or_first byte }
 {
-    byte.is_ascii() && !byte.is_ascii_uppercase()
+    byte.is_ascii_uppercase() || byte >= 0xC0
 }
 
 /// Returns how many bytes the characters beyond ASCII at the front have that folding leaves as they are.

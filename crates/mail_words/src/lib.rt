@@ -2,6 +2,7 @@
 #![tactic(auto)]
 
 mod ascii;
+mod bit_tables;
 mod character;
 mod even_text;
 mod flags;

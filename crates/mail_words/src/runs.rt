@@ -1,8 +1,8 @@
 //! Runs of word characters and joiners at the front of a text.
-ghost use Rattle.std.specs.Prelude.{◌≡◌, ◌<◌, ◌≤◌, ◌-◌, ◌&&◌, ◌||◌, ℕ, Bool, true, false, nat_lt, length, slice_index, chars, encode_utf8_all};
+ghost use Rattle.std.specs.Prelude.{◌≡◌, ◌<◌, ◌≤◌, ◌-◌, ◌&&◌, ◌||◌, ℕ, Bool, true, false, nat_lt, length, slice_index, chars, encode_utf8_all, IfSome};
 ghost use Rattle.std.specs.List.{list_all};
 ghost use Rattle.mail_words.specs.Words.{is_word_character, is_joiner};
-ghost use Rattle.mail_words.specs.Inside.Runs.{front, is_other, is_piece, joined_front};
+ghost use Rattle.mail_words.specs.Inside.Runs.{front, is_other, is_piece, joined_front, pair_code, IsPairAt};
 
 use crate::ascii::{is_ascii_joiner, is_ascii_word_character};
 use crate::character::{is_joiner, is_word_character};
@@ -104,10 +104,49 @@ fn front_len<C: CharacterClass>(text: &str) -> usize
     text.len()
 }
 
-/// Returns the same as `front_len`, character by character. It is a function of its own, so that it isn't copied into
-/// each loop over words.
+/// Returns the same as `front_len`, character by character: first those of two bytes, which are read without `chars`. It
+/// is a function of its own, so that it isn't copied into each loop over words.
 #[inline(never)]
 fn front_len_by_characters<C: CharacterClass>(text: &str) -> usize
+    ensures { result ≡ length (encode_utf8_all (front C.holds (chars text.now))) }
+{
+    let bytes = text.as_bytes();
+    let mut len = 0;
+    while let Some(c) = pair_at(bytes, len) {
+        if !C::has(c) {
+            return len;
+        }
+        len += 2;
+    }
+    len + front_len_of_any::<C>(text.split_at(len).1)
+}
+
+/// Returns the character of two bytes at a place, or None if another one is there.
+#[inline(always)]
+fn pair_at(bytes: &[u8], at: usize) -> Option<char>
+    requires { at ≤ length bytes.now }
+    ensures { IfSome result (IsPairAt bytes.now at) }
+{
+    if bytes.len() - at < 2 {
+        return None;
+    }
+    let first = bytes[at];
+    if first < 0xC0 || first >= 0xE0 {
+        return None;
+    }
+    char::from_u32(pair_code(first, bytes[at + 1]))
+}
+
+/// Returns the number of the character that has these two bytes.
+#[inline(always)]
+fn pair_code(first: u8, second: u8) -> u32
+    ensures { result ≡ pair_code first second }
+{
+    (first % 32) as u32 * 64 + (second % 64) as u32
+}
+
+/// Returns the same as `front_len`, character by character, however many bytes each has.
+fn front_len_of_any<C: CharacterClass>(text: &str) -> usize
     ensures { result ≡ length (encode_utf8_all (front C.holds (chars text.now))) }
 {
     for (len, c) in text.char_indices() {

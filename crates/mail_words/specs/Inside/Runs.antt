@@ -1,5 +1,6 @@
 -- What the iterator over words looks for at the front of the rest of a text.
-use Rattle.std.specs.Prelude.{ℕ, ◌+◌, ◌<◌, ◌≡◌, Bool, true, false, not, ◌&&◌, ◌||◌, List, [], ◌∷◌, ◌++◌, length}
+use Rattle.std.specs.Prelude.{ℕ, ◌+◌, ◌*◌, ◌%◌, ◌<◌, ◌≤◌, ◌≡◌, Bool, true, false, not, ◌&&◌, ◌||◌, List, [], ◌∷◌, ◌++◌}
+use Rattle.std.specs.Prelude.{length}
 use Rattle.std.specs.Prelude.{slice_index, nat_le, nat_lt, codes, encode_utf8_all, if◌then◌else◌}
 use Rattle.mail_words.specs.Words.{is_word_character, is_joiner, word_limit, words_after}
 
@@ -82,3 +83,16 @@ joined_on plain (c ∷ cs) = within (plain ++ c ∷ cs)
 abbrev pub long_at : Bool → List ℕ → List (List ℕ)
 long_at true cs = []
 long_at false cs = joined_on (front is_word_character cs) (joined_front (after_front is_word_character cs))
+
+-- ---- characters of two bytes
+
+-- the number of the character that has these two bytes
+abbrev pub pair_code : ℕ → ℕ → ℕ
+pair_code first second = first % 32 * 64 + second % 64
+
+-- at this place is the first byte of two of a character
+pub record IsPairAt (bytes : List ℕ) (at c : ℕ) : Type 0 where
+  pub within : at + 1 < length bytes
+  pub from : 0xC0 ≤ slice_index bytes at
+  pub below : slice_index bytes at < 0xE0
+  pub code : c ≡ pair_code (slice_index bytes at) (slice_index bytes (at + 1))

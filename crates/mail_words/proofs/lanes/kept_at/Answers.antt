@@ -1,14 +1,17 @@
--- `kept_at` finds the first byte of a load that isn't kept, by the lowest bit of the load's mask.
-use lib.Count.{count_trailing_zeros}
-use lib.Lanes.{chunk}
-use Rattle.mail_words.proofs.Imports.{cond, eqb, ◌∙◌, ap, arith, length-chunk, first_set_mask_l}
-use Rattle.mail_words.specs.Inside.Folds.{is_kept_byte, is_no_kept_byte}
-use Rattle.mail_words.proofs.LaneRuns.{run_of_not}
+-- `kept_at` finds the first byte at which the loads stop, by the lowest bit of their mask.
+use Rattle.mail_words.proofs.PairLanes.{stops_at, length-stops_at, first_bit, run_within, run_passed}
 use Rattle.mail_words.proofs.lanes.kept_at.Goals as goal
 
-pub returns : goal.returns
-returns c =
-    let load = chunk c.args.at 16 c.args.bytes.now in
-    c.first_set.ensures ∙ ap (λ m. cond (eqb m 0) 16 (count_trailing_zeros 64 m)) c.unkept_in.ensures
-    ∙ first_set_mask_l is_no_kept_byte load 16 (length-chunk c.args.at 16 c.args.bytes.now c.requires) (omega arith)
-    ∙ run_of_not is_kept_byte load
+pub returns-clause-within : goal.returns-clause-within
+returns-clause-within c =
+    let bytes = c.args.bytes.now in
+    let at = c.args.at in
+    run_within bytes at c.requires _ (first_bit (stops_at bytes at c.requires) _ _ (length-stops_at bytes at c.requires)
+    c.stops_in.ensures c.first_set.ensures)
+
+pub returns-clause-passed : goal.returns-clause-passed
+returns-clause-passed c =
+    let bytes = c.args.bytes.now in
+    let at = c.args.at in
+    run_passed bytes at c.requires _ (first_bit (stops_at bytes at c.requires) _ _ (length-stops_at bytes at c.requires)
+    c.stops_in.ensures c.first_set.ensures)

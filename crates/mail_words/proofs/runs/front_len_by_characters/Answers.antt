@@ -1,21 +1,21 @@
--- `front_len_by_characters` adds up the bytes of each character, up to the first that isn't in the class.
-use Rattle.mail_words.proofs.Imports.{sym, arith, ◌∙◌, length-encode}
-use Rattle.mail_words.proofs.FrontReads.{front_read-pass, front_read-stop, front_read-end}
+-- `front_len_by_characters` passes characters of two bytes, and leaves the others to `front_len_of_any`.
+use Rattle.mail_words.proofs.Imports.{sym, ◌∙◌, arith}
+use Rattle.mail_words.proofs.ByteReads.{front_bytes-boundary, front_bytes-more, length-front}
+use Rattle.mail_words.proofs.CharBytes.{pair_pass, pair_stop}
 use Rattle.mail_words.proofs.runs.front_len_by_characters.Goals as goal
+
+pub split_at-requires : goal.split_at-requires
+split_at-requires g c = front_bytes-boundary _ _ _ c.loop-c.invariant
+
+pub overflow_add-result : goal.overflow_add-result
+overflow_add-result g c = grind (arith, front_bytes-more, length-front)
 
 pub returns-then-not-has : goal.returns-then-not-has
 returns-then-not-has g c =
-    let steps = c.in-Some.ensures.steps in
-    steps.0 ∙ front_read-stop _ _ _ _ _ _ c.loop-len.invariant steps.1 (sym c.has.ensures ∙ c.if-not-has.true)
+    pair_stop _ _ _ _ _ c.loop-c.invariant c.as_bytes-bytes.ensures.value c.in-Some.ensures
+    (sym c.has.ensures ∙ c.if-not-has.true)
 
-pub loop-len-preserved : goal.loop-len-preserved
-loop-len-preserved g c =
-    let steps = c.in-Some.ensures.steps in
-    rw (steps.2, length-encode c.in-Some.c)
-    (front_read-pass _ _ _ _ _ _ c.loop-len.invariant steps.1 (sym c.has.ensures ∙ c.if-not-has.false))
-
-pub returns : goal.returns
-returns g c =
-    let inv = c.loop-len.invariant in
-    let all = front_read-end _ _ _ _ inv c.in-None.ensures.steps.0 in
-    omega (arith, inv.read.lengths, all, c.in-None.ensures.steps.0)
+pub loop-c-preserved : goal.loop-c-preserved
+loop-c-preserved g c =
+    pair_pass _ _ _ _ _ c.loop-c.invariant c.as_bytes-bytes.ensures.value c.in-Some.ensures
+    (sym c.has.ensures ∙ c.if-not-has.false)
