@@ -1,6 +1,7 @@
 #!/usr/bin/env python3
-"""Tries tools/must_fail.py itself, on a small crate of its own: it has to tell the edits that the prover refuses from those that are
-harmless, don't compile, aren't there, or only take away a name that a proof has. The last line is `N passed, M failed`."""
+"""Tries tools/must_fail.py itself, on a small crate of its own: it has to tell the edits that the prover refuses from
+those that are harmless, don't compile, aren't there, or only take away a name that a proof has. The last line is `N
+passed, M failed`."""
 import re
 import subprocess
 import sys
@@ -166,7 +167,8 @@ logic=not-proved"""
 
 # What a check says of a function that is proved together with those that it calls, where another function isn't proved.
 IN_A_CYCLE = """\
-fn counters::even: no proof: in `counters::odd`, of this cycle of calls: it calls `counters::larger`, which is not proved
+fn counters::even: no proof: in `counters::odd`, of this cycle of calls: it calls `counters::larger`, \
+which is not proved
 fn counters::odd: no proof: in `counters::odd`, of this cycle of calls: expected answers in ./proofs/+even/Answers.antt
 fn counters::left: no proof: expected answers in ./proofs/+left/Answers.antt; `search` did not prove `right-returns`
 fn counters::right: no proof: expected answers in ./proofs/+left/Answers.antt; `search` did not prove `right-returns`
@@ -179,15 +181,31 @@ HARMLESS = "NOT refused: the crate is still proved"
 # Each edit: its pairs of an old text and a new one, the clause that it names, and how its line begins.
 EDITS = {
     "a_counter_begins_at_one": ([("Counter { count: 0 }", "Counter { count: 1 }")], "returns", TOGETHER),
-    "a_lost_name": ([("let mut sum = n;", "let mut total = n;"), ("sum += 1;", "total += 1;"), ("= sum;", "= total;")], "returns", "NOT refused but by names"),
+    "a_lost_name": (
+        [("let mut sum = n;", "let mut total = n;"), ("sum += 1;", "total += 1;"), ("= sum;", "= total;")],
+        "returns",
+        "NOT refused but by names",
+    ),
     "a_lost_text": ([("n > 1", "n > 2")], "returns", "NOT refused: BAD EDIT: an 'old:' text is in src/lib.rt 0 times"),
-    "a_private_function_gives_less": ([("pub fn at_least", "pub(crate) fn at_least"), ("larger(n, LEAST)", "larger(n, 0)")], "returns", TOGETHER),
+    "a_private_function_gives_less": (
+        [("pub fn at_least", "pub(crate) fn at_least"), ("larger(n, LEAST)", "larger(n, 0)")],
+        "returns",
+        "NOT refused: BAD EDIT: an 'old:' text of src/lib.rt is in no body",
+    ),
     "a_step_is_none": ([("self.count += 1;", "self.count += 0;")], "returns", TOGETHER),
     "a_step_is_two": ([("self.count += 1;", "self.count += 2;")], "returns", TOGETHER),
     "larger_gives_the_first": ([("if b < a { a } else { b }", "if b < a { a } else { a }")], "second", TOGETHER),
-    "larger_gives_the_smaller": ([("if b < a { a } else { b }", "if b < a { b } else { a }")], "either", "NOT refused by either, but by first, second"),
+    "larger_gives_the_smaller": (
+        [("if b < a { a } else { b }", "if b < a { b } else { a }")],
+        "either",
+        "NOT refused by either, but by first, second",
+    ),
     "doubled_in_fewer_steps": ([("in 0..n {", "in 1..n {")], "loop-i-init", TOGETHER),
-    "harmless_changes": ([("larger(larger(a, b), c)", "larger(a, larger(b, c))"), ("rest_of(n - 2)", "rest_of(n - 1)")], "third", HARMLESS),
+    "harmless_changes": (
+        [("larger(larger(a, b), c)", "larger(a, larger(b, c))"), ("rest_of(n - 2)", "rest_of(n - 1)")],
+        "third",
+        HARMLESS,
+    ),
     "largest_of_the_first_two": ([("larger(larger(a, b), c)", "larger(larger(a, b), b)")], "third", TOGETHER),
     "less_than_the_least": ([("LEAST: u32 = 1", "LEAST: u32 = 0")], "returns", TOGETHER),
     "more_than_the_most": ([("MOST: u32 = 100", "MOST: u32 = 101")], "returns", TOGETHER),
@@ -195,8 +213,16 @@ EDITS = {
     "given_none": ([("smaller(self.count, 100)", "smaller(self.count, 0)")], "count", TOGETHER),
     "rest_is_two": ([("if n < 2 { n }", "if n < 3 { n }")], "less", TOGETHER),
     "rest_is_whole": ([("rest_after(n) }", "rest_after(n) + n }")], "less", TOGETHER),
-    "unknown_name": ([("if a < b { a } else { b }", "if a < c { a } else { b }")], "either", "NOT refused: it didn't reach the prover"),
-    "without_a_clause": ([("let whole = sum;", "let whole = n;")], "", "NOT refused by a clause that it names, but by returns"),
+    "unknown_name": (
+        [("if a < b { a } else { b }", "if a < c { a } else { b }")],
+        "either",
+        "NOT refused: it didn't reach the prover",
+    ),
+    "without_a_clause": (
+        [("let whole = sum;", "let whole = n;")],
+        "",
+        "NOT refused by a clause that it names, but by returns",
+    ),
 }
 
 
@@ -219,7 +245,9 @@ def write_repository(root):
 def main():
     with tempfile.TemporaryDirectory(prefix="check-must-fail-") as folder:
         write_repository(Path(folder))
-        ran = subprocess.run([sys.executable, TOOL, "--jobs", "1"], cwd=folder, capture_output=True, text=True, errors="replace")
+        ran = subprocess.run(
+            [sys.executable, TOOL, "--jobs", "1"], cwd=folder, capture_output=True, text=True, errors="replace"
+        )
     said = dict(re.findall(r"^must-fail counters/(\w+)\.edit: (.*)", ran.stdout, re.M))
     passed = failed = 0
     for name, (_, _, wanted) in EDITS.items():
@@ -230,14 +258,23 @@ def main():
     counts = f"{refused} passed, {len(EDITS) - refused} failed"
     is_well = ran.returncode == 1 and ran.stdout.rstrip("\n").endswith(counts)
     passed, failed = passed + is_well, failed + (not is_well)
-    print(f"the tool's last line: {'well' if is_well else 'WRONG'}: {ran.stdout.rstrip().rpartition(chr(10))[2]}{ran.stderr[-600:]}")
+    last = ran.stdout.rstrip().rpartition("\n")[2]
+    print(f"the tool's last line: {'well' if is_well else 'WRONG'}: {last}{ran.stderr[-600:]}")
     verdict = Verdict(1, LONG_NAMES.splitlines())
-    is_well = not verdict.trouble and not verdict.reasons["counters::counter::step"] and "counters::counter::step" in verdict.by_names
+    is_well = (
+        not verdict.trouble
+        and not verdict.reasons["counters::counter::step"]
+        and "counters::counter::step" in verdict.by_names
+    )
     passed, failed = passed + is_well, failed + (not is_well)
     print(f"the tool on a lost name that is told on two lines: {'well' if is_well else 'WRONG'}")
     reasons = Verdict(1, IN_A_CYCLE.splitlines()).reasons
-    is_well = not reasons["counters::even"] and reasons["counters::odd"].endswith("expected answers in ./proofs/+even/Answers.antt")
-    is_well = is_well and not reasons["counters::left"] and bool(reasons["counters::right"] and reasons["counters::itself"])
+    is_well = not reasons["counters::even"] and reasons["counters::odd"].endswith(
+        "expected answers in ./proofs/+even/Answers.antt"
+    )
+    is_well = (
+        is_well and not reasons["counters::left"] and bool(reasons["counters::right"] and reasons["counters::itself"])
+    )
     passed, failed = passed + is_well, failed + (not is_well)
     print(f"the tool on functions that call one another: {'well' if is_well else 'WRONG'}")
     print(f"{passed} passed, {failed} failed")

@@ -319,7 +319,7 @@ def read(name):
 
 
 def wrong_with(edit):
-    return edit.wrong or ("" if edit.is_of_bodies() else "it changes more than bodies")
+    return edit.wrong or ("it changes a constant" if edit.is_of_constant else "")
 
 
 def main(wanted):

@@ -6,12 +6,21 @@ from dataclasses import dataclass, field, replace
 from functools import cached_property
 from pathlib import Path
 
-from function_bodies import blanked, bodies_of_file, block_end, impl_name, inherent, item_of, module_of as module_of_file
+from function_bodies import (
+    blanked,
+    bodies_of_file,
+    block_end,
+    impl_name,
+    inherent,
+    item_of,
+    module_of as module_of_file,
+)
 from lemmas import lemmas_of
 
 # The line of an edit that names the clause which refuses it.
 CLAUSE = re.compile(r"^# refused by: (\S+)\n", re.M)
-# The line of an edit of a constant that names a function which doesn't name the constant, and in which the edit shows all the same.
+# The line of an edit of a constant that names a function which doesn't name the constant, and in which the edit shows
+# all the same.
 SHOWS_IN = re.compile(r"^# shows in: (\S+)$", re.M)
 # What stands above a function that is proved together with others, with a name for all of them.
 IN_A_CYCLE = re.compile(r"^ *#\[cycle\((\w+)\)\]\n(?= *(?:pub(?:\([^)]*\))? )?fn )", re.M)
@@ -25,10 +34,6 @@ GOAL_OF_CLAUSE = re.compile(r"returns\b.*-clause-(\w+)")
 GOAL_OF_CYCLE = re.compile(r"(invariant-|decreases-|)([^-]+)-?(.*)")
 # What a loop of a function has by name only where the function calls itself, directly or in a cycle.
 ONLY_IN_A_CYCLE = re.compile(r"\bgoal\.(?:unvisited|no_deeper|left|size)-")
-# An import, or what stands of a function before its contract.
-IMPORT_OR_HEAD = re.compile(
-    r"^ *(?:pub(?:\([^)]*\))? )?(?:use [^;]*;|(?:const |unsafe )*fn \w+.*?(?=\{|\b(?:requires|ensures|ghost)\b))", re.M | re.S
-)
 # A constant of a module, to its end.
 CONSTANT = re.compile(r"^(?:pub(?:\([^)]*\))? )?(?:const|static) (\w+).*?;$", re.M | re.S)
 
@@ -45,8 +50,8 @@ class Change:
 
 @dataclass(frozen=True)
 class Stub(Change):
-    """An empty loop for the body of a function that a check doesn't look at, so that the check doesn't look at those that it calls either, and the
-    name of its cycle of calls, which ends there."""
+    """An empty loop for the body of a function that a check doesn't look at, so that the check doesn't look at those
+    that it calls either, and the name of its cycle of calls, which ends there."""
 
     function: str
     cycle: str
@@ -66,9 +71,9 @@ class Stub(Change):
 
 @dataclass(frozen=True)
 class Twin(Change):
-    """An edited function under a second name, behind the one that it is made of, so that a check tries more than one edit of it, the clauses that its
-    contract keeps, None where that is all of them, and the name of the other's cycle of calls. It calls the functions of that cycle, and none of
-    them calls it."""
+    """An edited function under a second name, behind the one that it is made of, so that a check tries more than one
+    edit of it, the clauses that its contract keeps, None where that is all of them, and the name of the other's cycle
+    of calls. It calls the functions of that cycle, and none of them calls it."""
 
     function: str
     name: str
@@ -84,17 +89,22 @@ class Twin(Change):
 
 
 def written_proofs(crate, function, cycle, name):
-    """The files of a function's written proofs in this folder of its crate, with their texts under another name of the function. Of one that is proved
-    together with others these are its own proofs, as it has them where no other calls it."""
+    """The files of a function's written proofs in this folder of its crate, with their texts under another name of the
+    function. Of one that is proved together with others these are its own proofs, as it has them where no other calls
+    it."""
     folder = next((crate / "proofs").rglob(f"+{cycle}")) if cycle else proofs_of(crate, function)
     module = f"Rattle.{function.partition('::')[0]}.{'.'.join(folder.relative_to(crate).parts)}"
-    texts = {it.relative_to(folder): it.read_text("utf-8").replace(f"{module}.", f"{module_of(name)}.") for it in folder.rglob("*.antt")}
+    texts = {
+        it.relative_to(folder): it.read_text("utf-8").replace(f"{module}.", f"{module_of(name)}.")
+        for it in folder.rglob("*.antt")
+    }
     return {path: with_own_goals(text, function) if cycle else text for path, text in texts.items()}
 
 
 def with_own_goals(text, function):
-    """Of the proofs of a cycle of calls those to this function's goals, as they stand where the function is in no cycle: the goals have other names, the
-    answers one parameter less, and its calls don't have to be of something smaller."""
+    """Of the proofs of a cycle of calls those to this function's goals, as they stand where the function is in no
+    cycle: the goals have other names, the answers one parameter less, and its calls don't have to be of something
+    smaller."""
     lines, own = text.split("\n"), ""
     for proof in reversed(lemmas_of(lines)):
         kind, owner, goal = GOAL_OF_CYCLE.fullmatch(proof.name).groups()
@@ -102,7 +112,11 @@ def with_own_goals(text, function):
             own = owner
         elif kind or goal:
             del lines[proof.start : proof.end]
-    named = re.sub(rf"(?<![\w.-])((?:goal\.)?(?:\w+-)?){re.escape(own)}-", r"\1", "\n".join(lines)) if own else "\n".join(lines)
+    named = (
+        re.sub(rf"(?<![\w.-])((?:goal\.)?(?:\w+-)?){re.escape(own)}-", r"\1", "\n".join(lines))
+        if own
+        else "\n".join(lines)
+    )
     return re.sub(r"^((?!invariant-|decreases-)[\w:-]+) t (?=c =)", r"\1 ", named, flags=re.M)
 
 
@@ -139,21 +153,16 @@ def module_of(function):
 
 @dataclass(eq=False)
 class Edit:
-    """An edit: its file, its changes, the texts that it makes by their files, its functions, whether it changes a constant, or more than bodies and
-    constants, and the clause that it says refuses it; or what is wrong with it."""
+    """An edit: its file, its changes, its functions, whether it changes a constant, and the clause that it says refuses
+    it; or what is wrong with it."""
 
     file: Path
     name: str
     clause: str = ""
     changes: list = field(default_factory=list)
-    texts: dict = field(default_factory=dict)
     functions: set = field(default_factory=set)
     is_of_constant: bool = False
-    is_spread: bool = False
     wrong: str = ""
-
-    def is_of_bodies(self):
-        return not self.is_of_constant and not self.is_spread
 
     def fits(self, other, crate):
         """Whether one check tries both: where they change the same function, each has a twin of it."""
@@ -179,7 +188,8 @@ def pairs_of(text):
 
 
 def place_in_own(place, length, changes):
-    """Where a text stands in the crate's own file that stands at `place` behind these changes of the file; -1 where they made a part of it."""
+    """Where a text stands in the crate's own file that stands at `place` behind these changes of the file; -1 where
+    they made a part of it."""
     for start, old, new in reversed(changes):
         if start + new <= place:
             place += old - new
@@ -192,25 +202,27 @@ def read_edit(file, crate):
     """Reads an edit of this crate."""
     text = file.read_text("utf-8")
     edit = Edit(file, f"{crate.name}/{file.name}", *CLAUSE.findall(text)[:1])
-    before = {}
+    texts, before = {}, {}
     for path, old, new in pairs_of(text):
         if not path or not old or os.path.normpath(path) != path or not path.startswith(("src/", "specs/", "proofs/")):
             edit.wrong = "a 'new:' line stands behind no 'old:' line, or the 'file:' line names no file of the crate"
             return edit
-        now = edit.texts.get(path, crate.text(path))
+        now = texts.get(path, crate.text(path))
         if now.count(old) != 1:
             edit.wrong = f"an 'old:' text is in {path} {now.count(old)} times, and not once"
             return edit
         start = place_in_own(now.find(old), len(old), before.setdefault(path, []))
         end = start + len(old)
         before[path].append((now.find(old), len(old), len(new)))
-        edit.texts[path] = now.replace(old, new)
+        texts[path] = now.replace(old, new)
         inside = [name for begins, ends, name in crate.bodies(path) if begins < start and end < ends]
         edit.changes.append(Change(path, start, end, new))
         changed = {*inside[-1:]} or crate.functions_naming(edit.changes[-1])
+        if not changed:
+            edit.wrong = f"an 'old:' text of {path} is in no body, and in no constant that one names"
+            return edit
         edit.functions.update(changed)
         edit.is_of_constant = edit.is_of_constant or not inside
-        edit.is_spread = edit.is_spread or not changed
     edit.functions.update(f"{crate.name}::{it}" for it in SHOWS_IN.findall(text))
     if not edit.changes:
         edit.wrong = "it has no 'old:' and 'new:' pair"
@@ -219,21 +231,17 @@ def read_edit(file, crate):
 
 @dataclass
 class Crate:
-    """A crate whose text is edited: its name, its folder, how many bytes of text it has, the command of a check in a copy of it, but for its jobs
-    and the folder of kept work, and the texts that stand in place of those of its files."""
+    """A crate whose text is edited: its name, its folder, how many bytes of text it has, and the command of a check in
+    a copy of it, but for its jobs and the folder of kept work."""
 
     name: str
     folder: Path
     size: int
     command: list
-    texts: dict = field(default_factory=dict)
 
     def text(self, path):
         file = self.folder / path
-        return self.texts[path] if path in self.texts else file.read_text("utf-8") if file.is_file() else ""
-
-    def with_texts(self, texts):
-        return replace(self, texts=texts)
+        return file.read_text("utf-8") if file.is_file() else ""
 
     def bodies(self, path):
         return bodies_of_file(self.name, path, self.text(path))
@@ -248,14 +256,17 @@ class Crate:
 
     def changed(self, changes):
         """The texts of the files that have changes, with them."""
-        paths = self.texts.keys() | {it.path for it in changes}
+        paths = {it.path for it in changes}
         return {path: changed(self.text(path), [it for it in changes if it.path == path]) for path in paths}
 
     @cached_property
     def cycles(self):
         """The functions that are proved together with others, each with the file and the place of what says so."""
         marks = ((path, mark) for path in self.sources() for mark in IN_A_CYCLE.finditer(self.text(path)))
-        return {next(name for start, _, name in self.bodies(path) if start > mark.start()): (path, mark) for path, mark in marks}
+        return {
+            next(name for start, _, name in self.bodies(path) if start > mark.start()): (path, mark)
+            for path, mark in marks
+        }
 
     def cycle_of(self, function):
         """The name of the cycle of calls that a function is in, or an empty text."""
@@ -274,12 +285,13 @@ class Crate:
     def can_have_twin(self, edit):
         """Whether the edit is of bodies alone, or of one constant, and each of its functions can have a twin."""
         constant = self.constant_at(edit.changes[0]) if edit.is_of_constant and len(edit.changes) == 1 else None
-        is_of_one = constant and not edit.is_spread and self.functions_naming_alone(*constant) == edit.functions
-        return bool(is_of_one or edit.is_of_bodies()) and all(self.is_doubled(it, edit) for it in edit.functions)
+        is_of_one = constant and self.functions_naming_alone(*constant) == edit.functions
+        return bool(is_of_one or not edit.is_of_constant) and all(self.is_doubled(it, edit) for it in edit.functions)
 
     def is_doubled(self, function, edit):
-        """Whether a function can have a twin for an edit: one that calls itself can't, nor one whose contract stands at its trait. In a cycle of
-        calls more is required of those that it calls, and its proofs may name what stands only there."""
+        """Whether a function can have a twin for an edit: one that calls itself can't, nor one whose contract stands at
+        its trait. In a cycle of calls more is required of those that it calls, and its proofs may name what stands only
+        there."""
         path, start, end = self.every_body[function]
         text, name = self.text(path), function.rpartition("::")[2]
         if function in self.cycles:
@@ -289,36 +301,37 @@ class Crate:
         calls_itself = re.search(rf"(?<![.:\w]){name}\(|\b(self\.|Self::){name}\(", text[start:end])
         return not calls_itself and not (impl and "ensures" not in text[item:start])
 
-    def stands_beside(self, edit):
-        """Whether an edit can be tried in its place beside others: besides bodies and constants it changes at most imports and what stands of functions
-        before their contracts, so what it doesn't edit means the same with it."""
-        heads = {path: [*IMPORT_OR_HEAD.finditer(blanked(self.text(path)))] for path in edit.texts}
-        outside = (it for it in edit.changes if not self.is_in_body(it) and not self.functions_naming(it))
-        return all(any(head.start() <= it.start and it.end <= head.end() for head in heads[it.path]) for it in outside)
-
-    def is_in_body(self, change):
-        return any(start < change.start and change.end < end for start, end, _ in self.bodies(change.path))
-
     def twin_of(self, edit, number):
-        """The edit with twins of its functions in place of these; one of a constant has a second constant, which they name."""
+        """The edit with twins of its functions in place of these; one of a constant has a second constant, which they
+        name."""
         twins = [self.twin(it, edit, number) for it in sorted(edit.functions)]
         for change in edit.changes if edit.is_of_constant else []:
             start, end, name = self.constant_at(change)
             inside = replace(change, start=change.start - start, end=change.end - start)
-            second = re.sub(rf"\b{name}\b", f"{name}_{number}", changed(self.text(change.path)[start:end], [inside]), count=1)
+            second = re.sub(
+                rf"\b{name}\b", f"{name}_{number}", changed(self.text(change.path)[start:end], [inside]), count=1
+            )
             twins.append(Change(change.path, end, end, f"\n{second}"))
         return replace(edit, changes=twins, functions={it.name for it in twins if isinstance(it, Twin)})
 
     def twin(self, function, edit, number):
-        """An edited function under another name. Of the clauses that have names its contract keeps the one that refuses the edit, where it is said to be
-        one of them, and those that this one's proof names."""
+        """An edited function under another name. Of the clauses that have names its contract keeps the one that refuses
+        the edit, where it is said to be one of them, and those that this one's proof names."""
         path, body, end = self.every_body[function]
         text = self.text(path)
         start, impl = item_of(text, body)
         clauses = clauses_of(text[start:body])
-        kept = self.kept_beside(function, edit.clause) & clauses.keys() if clauses and edit.clause not in ("", "returns") else None
+        kept = (
+            self.kept_beside(function, edit.clause) & clauses.keys()
+            if clauses and edit.clause not in ("", "returns")
+            else None
+        )
         others = [clauses[it] for it in clauses if kept is not None and it not in kept]
-        inside = [replace(it, start=it.start - start, end=it.end - start) for it in edit.changes if it.path == path and start <= it.start < end]
+        inside = [
+            replace(it, start=it.start - start, end=it.end - start)
+            for it in edit.changes
+            if it.path == path and start <= it.start < end
+        ]
         inside += [Change("", *it, TRIVIAL if it == others[0] else "") for it in others]
         item, name = IN_A_CYCLE.sub("", changed(text[start:end], inside)), function.rpartition("::")[2]
         item = re.sub(rf"\bfn {name}\b", f"fn {name}_{number}", item, count=1)
@@ -335,19 +348,30 @@ class Crate:
 
     def kept_beside(self, function, clause):
         """The clause, and those whose answers stand in the answers that are kept with it."""
-        lines = written_proofs(self.folder, function, self.cycle_of(function), function).get(Path("Answers.antt"), "").split("\n")
+        lines = (
+            written_proofs(self.folder, function, self.cycle_of(function), function)
+            .get(Path("Answers.antt"), "")
+            .split("\n")
+        )
         answers = {it.name: "\n".join(lines[it.start : it.end]) for it in lemmas_of(lines)}
         of_clause = {name: found[1] for name in answers for found in [GOAL_OF_CLAUSE.fullmatch(name)] if found}
         kept, before = frozenset([clause]), None
         while kept != before:
             before = kept
             texts = [text for name, text in answers.items() if of_clause.get(name, clause) in kept]
-            kept |= {it for name, it in of_clause.items() if any(re.search(rf"(?<![\w.-]){re.escape(name)}(?![\w-])", text) for text in texts)}
+            kept |= {
+                it
+                for name, it in of_clause.items()
+                if any(re.search(rf"(?<![\w.-]){re.escape(name)}(?![\w-])", text) for text in texts)
+            }
         return kept
 
     def side_by_side(self, edits):
         """The edits of a round as one check tries them: in twins of their functions, where these can have some."""
-        return {edit: self.twin_of(edit, number) if self.can_have_twin(edit) else edit for number, edit in enumerate(edits, 1)}
+        return {
+            edit: self.twin_of(edit, number) if self.can_have_twin(edit) else edit
+            for number, edit in enumerate(edits, 1)
+        }
 
     def constant_at(self, change):
         """Where the constant starts and ends in which a change stands, and its name; None where it stands in none."""
@@ -358,13 +382,20 @@ class Crate:
         """The functions that name the constant in which a change stands; none where it stands in no constant."""
         constant = self.constant_at(change)
         named = re.compile(rf"\b{constant[2]}\b" if constant else r"(?!)")
-        return {name for name, (path, start, end) in self.every_body.items() if named.search(self.text(path), start, end)}
+        return {
+            name for name, (path, start, end) in self.every_body.items() if named.search(self.text(path), start, end)
+        }
 
     def functions_naming_alone(self, start, end, name):
         """The functions that name a constant, if nothing else names it but imports; none otherwise."""
         named = re.compile(rf"\b{name}\b")
-        texts = [re.sub(r"(?m)^ *(?:pub(?:\([^)]*\))? )?use .*?;", "", blanked(self.text(it)), flags=re.S) for it in self.sources()]
-        bodies = {it: len(named.findall(self.text(path), start, end)) for it, (path, start, end) in self.every_body.items()}
+        texts = [
+            re.sub(r"(?m)^ *(?:pub(?:\([^)]*\))? )?use .*?;", "", blanked(self.text(it)), flags=re.S)
+            for it in self.sources()
+        ]
+        bodies = {
+            it: len(named.findall(self.text(path), start, end)) for it, (path, start, end) in self.every_body.items()
+        }
         is_alone = sum(len(named.findall(it)) for it in texts) == 1 + sum(bodies.values())
         return {it for it, count in bodies.items() if count} if is_alone else set()
 

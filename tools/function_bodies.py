@@ -91,8 +91,8 @@ def bodies_of_file(crate, path, text):
 
 
 def item_of(text, body):
-    """Where the item of a function starts whose body begins at `body`, with its comments and attributes, and the start and the end of the trait's impl
-    that it stands in, or None."""
+    """Where the item of a function starts whose body begins at `body`, with its comments and attributes, and the start
+    and the end of the trait's impl that it stands in, or None."""
     blank = blanked(text)
     heads = [it for it in ITEM.finditer(blank) if it.end() <= body]
     start = next(it.start() for it in reversed(heads) if it[3])

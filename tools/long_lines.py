@@ -1,15 +1,15 @@
 #!/usr/bin/env python3
-"""Lines of definitions and proofs above 120 columns, and lines of contracts in the code above 100. None is right, unless
-one text or name makes it so long.
+"""Lines of definitions, of proofs and of the tools that try edits above 120 columns, and lines of contracts in the code
+above 100. None is right, unless one text or name makes it so long.
 
     long_lines.py [--write]
 
 A contract's lines are those of a `requires`, of an `ensures`, and of what begins with `ghost`, up to the closing brace;
 `ghost use` is an import, and none of them.
 
---write breaks them at spaces, each at the last place before the limit where the fewest brackets are open, and indents
-what follows by four columns more. A text of antt's means the same with such breaks, as long as what follows a
-declaration's first line is indented more than that line.
+--write breaks those of definitions, proofs and contracts at spaces, each at the last place before the limit where the
+fewest brackets are open, and indents what follows by four columns more. A text of antt's means the same with such
+breaks, as long as what follows a declaration's first line is indented more than that line.
 
 The last line is `N passed, M failed`: files with and without such lines.
 """
@@ -21,6 +21,8 @@ TOP = Path(__file__).resolve().parent.parent
 MOST = 120
 MOST_IN_CONTRACT = 100
 STEP = 4
+# What the gate runs to try edits.
+TOOLS_OF_EDITS = ("check_must_fail", "edits", "function_bodies", "must_fail")
 CONTRACT = re.compile(r"\s*(?:requires|ensures|(?:pub )?ghost (?!use ))\b")
 IMPORT = re.compile(r"((?:pub )?use [^{}]*\.\{)([^{}]*)\}")
 TEXT = re.compile(r'"(?:[^"\\]|\\.)*"')
@@ -37,6 +39,8 @@ def files():
             yield file, MOST, each_line
     for file in TOP.glob("crates/*/src/**/*.rt"):
         yield file, MOST_IN_CONTRACT, contract_lines
+    for name in TOOLS_OF_EDITS:
+        yield TOP / f"tools/{name}.py", MOST, each_line
 
 
 def each_line(lines):
@@ -129,7 +133,7 @@ def main(is_written):
     for file, most, limited in sorted(files()):
         lines = file.read_text("utf-8").split("\n")
         long = [is_in and is_long(line, most) for line, is_in in zip(lines, limited(lines))]
-        if any(long) and is_written:
+        if any(long) and is_written and file.suffix != ".py":
             parts = [broken(line, most) if is_bad else [line] for line, is_bad in zip(lines, long)]
             file.write_text("\n".join(part for each in parts for part in each), "utf-8")
         elif any(long):

@@ -4,27 +4,30 @@
     tools/must_fail.py [--jobs N] [--proved FOLDER] [--write] [CRATE or CRATE/NAME ..]
     tools/must_fail.py --list [CRATE or CRATE/NAME ..]
 
-An edit, crates/CRATE/must-fail/NAME.edit, turns the meaning of a function, and its crate must then not be proved. A function is proved against
-the contracts of those that it calls, never their bodies. So one check tries up to 150 edits, in a copy of the crate. An edited function
-stands there as a twin of its own for each edit. Of the clauses with names, the twin's contract keeps the one that the edit says refuses it, since
-that one has to do so by itself. All other functions have an empty loop for a body and a hole for a proof: their contracts are taken as they
-stand, and nothing is proved that is proved already. Each edited function must be refused for a reason of its own. That it calls
-another that isn't proved is none, nor is a proof that only lacks a name that the edit took away. An edit of a constant is looked for in the
-functions that name the constant, and in those that its lines `# shows in: FUNCTION` name.
+An edit, crates/CRATE/must-fail/NAME.edit, turns the meaning of a function, and its crate must then not be proved. A
+function is proved against the contracts of those that it calls, never their bodies. So one check tries up to 60 edits,
+in a copy of the crate. An edited function stands there as a twin of its own for each edit. Of the clauses with names,
+the twin's contract keeps the one that the edit says refuses it, since that one has to do so by itself. All other
+functions have an empty loop for a body and a hole for a proof: their contracts are taken as they stand, and nothing is
+proved that is proved already. Each edited function must be refused for a reason of its own. That it calls another that
+isn't proved is none, nor is a proof that only lacks a name that the edit took away. An edit of a constant is looked for
+in the functions that name the constant, and in those that its lines `# shows in: FUNCTION` name.
 
-An edit of which such a check tells no reason is tried alone, and so is one that changes more than bodies, constants that these name, imports and
-what stands of functions before their contracts. If its functions tell no reason then either, a check of the whole crate decides, with all bodies and
-proofs. Alone it fails where the crate is still proved, where its functions get no reason of their own, and where it doesn't reach the prover.
+An edit of which such a check gives no reason is tried alone. If its functions get no reason then either, a check of the
+whole crate decides, with all bodies and proofs. Alone it fails where the crate is still proved, where its functions get
+no reason of their own, and where it doesn't reach the prover. What changes more than bodies, and constants that these
+name, is no edit.
 
-Its line `# refused by: CLAUSE` names the clause that refuses it, and that clause has to be one of those that the prover couldn't
-show. Some goals are the whole contract, which the prover doesn't part; where a twin's contract is that clause alone, such a goal is the
-clause's. --write writes that line where it is missing or wrong. --list tries nothing: it prints the edits by the modules that they change.
+Its line `# refused by: CLAUSE` names the clause that refuses it, and that clause has to be one of those that the prover
+couldn't show. Some goals are the whole contract, which the prover doesn't part; where a twin's contract is that clause
+alone, such a goal is the clause's. --write writes that line where it is missing or wrong. --list tries nothing: it
+prints the edits by the modules that they change.
 
-Without --proved, what isn't built yet is proved and built first, by tools/build.py, and the copies go on from what checks of the crate have
-kept. With it, FOLDER is a copy of the repository whose crates `rt ci` has just proved and left built: its texts are edited, and each check
-has one job.
+Without --proved, what isn't built yet is proved and built first, by tools/build.py, and the copies go on from what
+checks of the crate have kept. With it, FOLDER is a copy of the repository whose crates `rt ci` has just proved and left
+built: its texts are edited, and each check has one job.
 
-Each edit has a line, as soon as it is tried, and each crate one with its seconds. The last line is `N passed, M failed`.
+Each edit has a line as soon as it is tried, and each crate one with its seconds. The last line is `N passed, M failed`.
 """
 import argparse
 import os
@@ -47,10 +50,13 @@ from machine import checks_side_by_side, processors
 MOST_IN_A_ROUND = 60
 ERROR = re.compile(r"(?:\./)?(\S+?):(\d+):\d+: error\b")
 # What is said of a proof that names what an edit took away, and of what rests on such a proof.
-LOST_NAME = re.compile(r"has no field|is not in scope|has no `|was not admitted|: module `[^`]*`$|: record `[^`]*` \(nearest: ")
+LOST_NAME = re.compile(
+    r"has no field|is not in scope|has no `|was not admitted|: module `[^`]*`$|: record `[^`]*` \(nearest: "
+)
 # What a check says of a function; the last two where it is proved as far as the contracts of others are met.
 TOLD = re.compile(r"fn (\S+): (proved|no proof|not proved|could not tell|no holes|depends on a hole in)(?:: )?(.*)")
-# What is said of a function that is refused only since another isn't proved, also where it is proved together with those it calls.
+# What is said of a function that is refused only since another isn't proved, also where it is proved together with
+# those it calls.
 ONLY_CALLS = re.compile(r"(?:in `[^`]*`, of this cycle of calls: )?it calls ")
 # The folder for the answers of a cycle of calls.
 CYCLE = re.compile(r"expected answers in (\S*/\+[^/\s]+)/")
@@ -60,12 +66,14 @@ GOAL_OF_ERROR = re.compile(r": error: `([\w+:.-]+)`:")
 
 
 def idle_processors():
-    """How many jobs a check may have: one, and one more for each processor that idles besides, as far as memory goes."""
+    """How many jobs a check may have: one, and one more for each processor that idles besides, as far as memory
+    goes."""
     return max(1, min(processors() - round(os.getloadavg()[0]), checks_side_by_side()))
 
 
 def joined(lines):
-    """The lines of a check, each error in one: a long one says on its next line, indented, that a record lacks a field."""
+    """The lines of a check, each error in one: a long one says on its next line, indented, that a record lacks a
+    field."""
     whole = []
     for line in lines:
         if whole and ERROR.match(whole[-1]) and line.startswith("  has no field"):
@@ -76,16 +84,16 @@ def joined(lines):
 
 
 def clause_of(function, goal):
-    """The clause that a function's goal is about, or else the goal, in a cycle of calls without the function's name: `returns` is a whole contract,
-    whatever the way to the function's end."""
+    """The clause that a function's goal is about, or else the goal, in a cycle of calls without the function's name:
+    `returns` is a whole contract, whatever the way to the function's end."""
     clause = re.search(r"clause-(\w+)", goal)
     own = goal.partition("-")[2] if is_goal_of(function, goal) else goal
     return clause[1] if clause else "returns" if own.startswith("returns") else own
 
 
 class Verdict:
-    """What a check said: of each function that it names the reason of its own for which it is refused, or an empty text, and the clauses that
-    weren't shown."""
+    """What a check said: of each function that it names the reason of its own for which it is refused, or an empty
+    text, and the clauses that weren't shown."""
 
     def __init__(self, status, lines):
         self.is_proved = status == 0
@@ -94,7 +102,9 @@ class Verdict:
         self.by_names = {}
         # Functions that call one another are proved together, so such a reason tells of none of them by itself.
         self.in_cycles = {}
-        self.places = [(found[1], int(found[2]), line) for line in joined(lines) for found in [ERROR.match(line)] if found]
+        self.places = [
+            (found[1], int(found[2]), line) for line in joined(lines) for found in [ERROR.match(line)] if found
+        ]
         errors = [(path, line) for path, _, line in self.places]
         unread = [line for path, line in errors if path.startswith(("src/", "specs/")) and LOST_NAME.search(line)]
         refused = status == 1 and any(line.startswith(("logic=not-proved", "only=")) for line in lines)
@@ -106,8 +116,8 @@ class Verdict:
             self.take(it[1], it[2], it[3], errors)
 
     def is_shared(self, why):
-        """Whether more functions than one are told these goals: then they call one another, and each goal begins with its function's name. The goals of
-        one that calls itself alone don't."""
+        """Whether more functions than one are told these goals: then they call one another, and each goal begins with
+        its function's name. The goals of one that calls itself alone don't."""
         found = CYCLE.search(why)
         return bool(found) and self.cycles.count(found[1]) > 1
 
@@ -123,19 +133,27 @@ class Verdict:
             own = "proofs/" + function.partition("::")[2].replace("::", "/") + "/"
             said = [line for path, line in errors if path.startswith(own)]
             of_values = [line for line in said if not LOST_NAME.search(line)]
-            cycles = [line for path, line in errors if "/+" in path and own.startswith(path.partition("/+")[0] + "/") and not LOST_NAME.search(line)]
-            of_values += [line for line in cycles if any(is_goal_of(function, it) for it in GOAL_OF_ERROR.findall(line))]
+            cycles = [
+                line
+                for path, line in errors
+                if "/+" in path and own.startswith(path.partition("/+")[0] + "/") and not LOST_NAME.search(line)
+            ]
+            of_values += [
+                line for line in cycles if any(is_goal_of(function, it) for it in GOAL_OF_ERROR.findall(line))
+            ]
             self.reasons[function] = next(iter(of_values), "")
-            self.clauses[function] = [clause_of(function, it) for line in of_values or cycles for it in GOAL_OF_ERROR.findall(line)]
+            self.clauses[function] = [
+                clause_of(function, it) for line in of_values or cycles for it in GOAL_OF_ERROR.findall(line)
+            ]
             if cycles and not of_values:
                 self.in_cycles[function] = cycles[0]
             if said and not of_values:
                 self.by_names[function] = said[0]
 
     def functions_of(self, edit, is_alone):
-        """The functions of an edit that the check names; all of them where it names none of those. What is no body may show in any
-        function, which tells of an edit that is tried alone."""
-        own = edit.functions & self.reasons.keys() if edit.is_of_bodies() or not is_alone else set()
+        """The functions of an edit that the check names; all of them where it names none of those. A constant may show
+        in any function, which says something of an edit that is tried alone."""
+        own = edit.functions & self.reasons.keys() if not (edit.is_of_constant and is_alone) else set()
         return [name for name in self.reasons if not own or is_within(name, own)]
 
     def of(self, edit, reasons, is_alone):
@@ -159,8 +177,10 @@ def is_within(name, functions):
 
 
 class Room:
-    """Where the edits of a crate are tried, each check in a copy of the crate, over what the checks before kept. It may write the clauses that refuse
-    them, and a check may have more jobs than one where that saves time: together these take up to a third more of the processors."""
+    """Where the edits of a crate are tried, each check in a copy of the crate, over what the checks before kept. It may
+    write the clauses that refuse them, and a check may have more jobs than one where that saves time: together these
+    take up to a third more of the processors.
+    """
 
     def __init__(self, crate, folder, kept, writes, hurries):
         self.crate, self.folder, self.kept = crate, Path(folder), Path(folder) / "kept"
@@ -187,22 +207,26 @@ class Room:
         return copy
 
     def check(self, edits, functions=()):
-        """What a check says of the crate with these edits: of these functions over the contracts of the others, or of all where none is named."""
-        if len(edits) == 1 and edits[0].is_spread:
-            # It may have functions of its own, which are no changes of bodies.
-            crate, changes = self.crate.with_texts(edits[0].texts), []
-        else:
-            crate, changes = self.crate, [it for edit in edits for it in edit.changes]
-        stubs = crate.stubs_beside(functions) if functions else []
+        """What a check says of the crate with these edits: of these functions over the contracts of the others, or of
+        all where none is named."""
+        changes = [it for edit in edits for it in edit.changes]
+        stubs = self.crate.stubs_beside(functions) if functions else []
         words = [word for it in sorted(functions) for word in ("--only", it.partition("::")[2])]
-        words += ["--jobs", str(idle_processors() if self.hurries else 1), *(["--incremental", str(self.kept)] if self.kept.is_dir() else [])]
+        words += ["--jobs", str(idle_processors() if self.hurries else 1)]
+        words += ["--incremental", str(self.kept)] if self.kept.is_dir() else []
         words += ["--allow-holes"] if stubs else []
         self.checks += 1
-        return Verdict(*Commands.run([*self.crate.command, *words], self.copy(crate.changed([*changes, *stubs]), [*changes, *stubs])))
+        changes += stubs
+        return Verdict(*Commands.run([*self.crate.command, *words], self.copy(self.crate.changed(changes), changes)))
 
     def errors_in(self, edit, verdict):
         """The errors that the last check told in the new texts of an edit."""
-        return [error for path, line, error in verdict.places for it in edit.changes if it.path == path and self.has_line(it, line)]
+        return [
+            error
+            for path, line, error in verdict.places
+            for it in edit.changes
+            if it.path == path and self.has_line(it, line)
+        ]
 
     def has_line(self, change, line):
         """Whether a line of the last check's copy stands in the new text of a change."""
@@ -225,8 +249,8 @@ def rounds_of(edits, crate):
 
 
 def try_together(room, edits):
-    """The edits of a round that are refused or don't compile, each with what to say of it. Where some don't compile, the others are tried without
-    them; where a check fails and tells no place, as for want of memory, by halves."""
+    """The edits of a round that are refused or don't compile, each with what to say of it. Where some don't compile,
+    the others are tried without them; where a check fails and tells no place, as for want of memory, by halves."""
     made = room.crate.side_by_side(edits)
     verdict = room.check([*made.values()], {it for edit in made.values() for it in edit.functions})
     if verdict.trouble:
@@ -236,7 +260,11 @@ def try_together(room, edits):
         return broken | {edit: said for part in parts if part for edit, said in try_together(room, part).items()}
     if verdict.is_proved or verdict.refuses_others(made.values()):
         return {}
-    reasons = {edit: verdict.of(it, verdict.reasons, False) for edit, it in made.items() if it.functions & verdict.reasons.keys()}
+    reasons = {
+        edit: verdict.of(it, verdict.reasons, False)
+        for edit, it in made.items()
+        if it.functions & verdict.reasons.keys()
+    }
     return {edit: refused_by(room, made[edit], verdict, f"refused: {why}") for edit, why in reasons.items() if why}
 
 
@@ -245,7 +273,8 @@ def unreached(error):
 
 
 def why_alone(room, edit, functions=()):
-    """What a check of these functions, or of all, says of an edit, and for which reason it refuses it, if for one of its own."""
+    """What a check of these functions, or of all, says of an edit, and for which reason it refuses it, if for one of
+    its own."""
     verdict = room.check([edit], functions)
     reached = not verdict.is_proved and not verdict.trouble
     return verdict, reached and (verdict.of(edit, verdict.reasons, True) or verdict.of(edit, verdict.in_cycles, True))
@@ -268,7 +297,7 @@ def refused_by(room, edit, verdict, said, is_alone=False):
 
 def try_alone(room, edit):
     """Whether an edit is refused, and what to say of it."""
-    verdict, why = why_alone(room, edit, edit.functions) if edit.functions else (None, "")
+    verdict, why = why_alone(room, edit, edit.functions)
     if not why:
         verdict, why = why_alone(room, edit)
     if why:
@@ -293,8 +322,8 @@ def try_edits(room, edits):
             print(f"must-fail {edit.name}: {text[:300]}", flush=True)
 
     say({edit: (False, f"NOT refused: BAD EDIT: {edit.wrong}") for edit in edits if edit.wrong})
-    left = [it for it in edits if it.functions and not it.wrong and room.crate.stands_beside(it)]
-    if len(rounds_of(left, room.crate)) + len([it for it in edits if it not in left]) > 1:
+    left = [it for it in edits if not it.wrong]
+    if len(rounds_of(left, room.crate)) > 1:
         room.keep()
     found = True
     while found:
@@ -316,14 +345,21 @@ def try_crate(proved, name, files, writes):
     """Whether each edit of a crate is refused."""
     started = time.monotonic()
     if name in proved.unmade:
-        print(*(f"must-fail {name}/{it.name}: NOT tried: the crate isn't proved without it" for it in files), sep="\n", flush=True)
+        print(
+            *(f"must-fail {name}/{it.name}: NOT tried: the crate isn't proved without it" for it in files),
+            sep="\n",
+            flush=True,
+        )
         return [False] * len(files)
     crate = Crate(name, proved.crates.folder(name), proved.crates.size(name), proved.checking(proved.crates, name))
     edits = [read_edit(it, crate) for it in files]
     with tempfile.TemporaryDirectory(prefix="must-fail-") as folder:
         room = Room(crate, folder, kept_of(proved.crates, name), writes, not proved.is_by_ci)
         tried = try_edits(room, edits)
-    print(f"must-fail {crate.name}: {len(files)} edits, {room.checks} checks, {time.monotonic() - started:.0f} s", flush=True)
+    print(
+        f"must-fail {crate.name}: {len(files)} edits, {room.checks} checks, {time.monotonic() - started:.0f} s",
+        flush=True,
+    )
     return tried
 
 
@@ -347,7 +383,8 @@ def wanted_of(edits, wanted):
 
 
 def list_edits(edits):
-    """Prints the edits of each crate by the modules that they change, each with its functions and the clause that refuses it."""
+    """Prints the edits of each crate by the modules that they change, each with its functions and the clause that
+    refuses it."""
     crates = Crates(".")
     for name, files in edits.items():
         crate = Crate(name, crates.folder(name), 0, [])
@@ -361,12 +398,16 @@ def list_edits(edits):
 
 def main():
     Commands.stop_with_this()
-    asked = argparse.ArgumentParser(description="Tries the edits that the prover must refuse, many of a crate in one check.")
+    asked = argparse.ArgumentParser(
+        description="Tries the edits that the prover must refuse, many of a crate in one check."
+    )
     asked.add_argument("--jobs", type=int, help="how many crates at a time")
     asked.add_argument("--proved", metavar="FOLDER", help="a copy of the repository that rt ci has just proved")
     asked.add_argument("--write", action="store_true", help="write the clauses that refuse the edits into them")
     asked.add_argument("--list", action="store_true", help="print the edits by modules, and try none")
-    asked.add_argument("wanted", nargs="*", metavar="CRATE or CRATE/NAME", help="the edits of a crate, or one of them; none: all")
+    asked.add_argument(
+        "wanted", nargs="*", metavar="CRATE or CRATE/NAME", help="the edits of a crate, or one of them; none: all"
+    )
     words = asked.parse_args()
     edits, strays = find_edits()
     edits = wanted_of(edits, words.wanted) if words.wanted else edits
@@ -376,7 +417,7 @@ def main():
     proved = Proved(Path(words.proved or ".").resolve(), list(edits), jobs, bool(words.proved))
     passed, failed = 0, len(strays)
     for file in strays:
-        print(f"{file}: NOT an edit: an edit stands right in must-fail/, and its name ends in .edit (or in .md, if it is only to be read)")
+        print(f"{file}: NOT an edit: those end in .edit, in must-fail/ itself; what is only to be read ends in .md")
     with ThreadPoolExecutor(jobs) as pool:
         largest_first = sorted(edits, key=lambda it: -proved.crates.size(it))
         running = [pool.submit(try_crate, proved, it, edits[it], words.write) for it in largest_first]
