@@ -16,7 +16,7 @@ use Rattle.header_text.specs.declared.header.Header.{Header}
 use Rattle.mime_text.specs.declared.header.facts.Facts.{Facts}
 use Rattle.mime_text.specs.declared.parts.part_reader.State.TheVariants as state
 use Rattle.mime_text.specs.declared.parts.nesting.Lead.{Lead}
-use Rattle.mime_text.specs.declared.parts.nesting.Lead.TheVariants.{Nowhere, Piece, After}
+use Rattle.mime_text.specs.declared.parts.nesting.Lead.TheVariants.{Nowhere, Piece, Epilogue}
 use Rattle.mime_text.proofs.StepLemmas.{value-header, given-hit, given-leaf_line, given-more, given-ended, given-leaf}
 use Rattle.mime_text.proofs.StepLemmas.{empty_ends, fields-on, given-message}
 
@@ -100,7 +100,7 @@ facts-delimited r n nest lead l e away same ls k = let P : Option Facts → Type
     outside : (x : Lead) → lead_to {A = Pair} x nest ≡ None → (x ≡ Nowhere → ⊥) → ⊥
     outside Nowhere q away = away refl
     outside (Piece d) q away = absurd (cc)
-    outside After q away = absurd (cc)
+    outside Epilogue q away = absurd (cc)
 
     go : (o : Option Facts) → KnowsAt o r ls → KnowsAt o n (ls ++ l ∷ [])
     go None k = absurd (outside lead (e ∙ ap (λ (fs : List Frame). place_after_hit {A = Pair} fs l) k.outside) away)

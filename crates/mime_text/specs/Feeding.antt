@@ -15,7 +15,7 @@ use Rattle.mime_text.specs.declared.parts.part_reader.State.{State}
 use Rattle.mime_text.specs.declared.parts.part_reader.State.TheVariants as state
 use Rattle.mime_text.specs.declared.parts.part_reader.PartReader.{PartReader}
 use Rattle.mime_text.specs.declared.parts.nesting.Lead.{Lead}
-use Rattle.mime_text.specs.declared.parts.nesting.Lead.TheVariants.{Nowhere, Piece, After}
+use Rattle.mime_text.specs.declared.parts.nesting.Lead.TheVariants.{Nowhere, Piece, Epilogue}
 use Rattle.mime_text.specs.Sinks.{Pair, ComingPairs}
 use Rattle.mime_text.specs.FieldTexts.{texts_of_fields}
 use Rattle.mime_text.specs.Names.{name_texts}
@@ -54,7 +54,7 @@ given_after_header shape nest fields ms =
 abbrev pub given_after_delimiter : Lead → Nest → ComingPairs
 given_after_delimiter Nowhere nest ms = given_from nest.frames Skip ms
 given_after_delimiter (Piece d) nest ms = given_from nest.frames (InHeader false nest.left d []) ms
-given_after_delimiter After nest ms = given_from nest.frames Skip ms
+given_after_delimiter Epilogue nest ms = given_from nest.frames Skip ms
 
 -- these pairs come, if the reader is in this state
 abbrev pub ComesAt : State → PartReader → ComingPairs → Type 0

@@ -11,7 +11,7 @@ use Rattle.mime_text.specs.declared.parts.frame.Frame.{Frame}
 use Rattle.mime_text.specs.declared.parts.delimiter.Delimiter.{Delimiter}
 use Rattle.mime_text.specs.declared.parts.delimiter.Delimiter.TheVariants.{Next, Closing}
 use Rattle.mime_text.specs.declared.parts.nesting.Lead.{Lead}
-use Rattle.mime_text.specs.declared.parts.nesting.Lead.TheVariants.{Nowhere, Piece, After}
+use Rattle.mime_text.specs.declared.parts.nesting.Lead.TheVariants.{Nowhere, Piece, Epilogue}
 use Rattle.mime_text.specs.Parts.{are_blanks}
 use Rattle.mime_text.specs.Stream.{StreamPlace, Skip, InHeader, or_else}
 
@@ -87,7 +87,7 @@ pub record Nest : Type 0 where
 abbrev pub lead_to : {A : Type 0} → Lead → Nest → Option (List Frame × StreamPlace A)
 lead_to Nowhere nest = None
 lead_to (Piece d) nest = Some (nest.frames, InHeader false nest.left d [])
-lead_to After nest = Some (nest.frames, Skip)
+lead_to Epilogue nest = Some (nest.frames, Skip)
 
 -- the open multiparts with one more, if a depth is left for its pieces
 abbrev pub with_frame : ℕ → List ℕ → DefaultType → List Frame → List Frame

@@ -48,8 +48,8 @@ pub(crate) enum Lead {
     Nowhere,
     /// The next piece of an open multipart begins; it has this type if it doesn't name its own.
     Piece(DefaultType),
-    /// An open multipart ends.
-    After,
+    /// The epilogue of an open multipart begins.
+    Epilogue,
 }
 
 /// Returns the outermost multipart that a line delimits, by what follows the line's two dashes, and what the line is to
@@ -163,7 +163,7 @@ impl Nesting {
             None => Lead::Nowhere,
             Some((at, Delimiter::Closing)) => {
                 self.is_apart = keep_outermost(&mut self.frames, self.is_apart, at);
-                Lead::After
+                Lead::Epilogue
             }
             Some((at, Delimiter::Next)) => {
                 let Frame { default, left, .. } = self.frames[at];

@@ -141,7 +141,7 @@ impl PartReader {
                     default,
                 };
             }
-            Lead::After | Lead::Nowhere => self.state = State::Skipping,
+            Lead::Epilogue | Lead::Nowhere => self.state = State::Skipping,
         }
     }
 
