@@ -4,8 +4,8 @@ promises that belong together are one relation, a record whose parts have names 
 
     tools/few_promises.py
 
-Some calls are excepted, most of them calls of files by their names; each has to have more than eight. So are functions
-whose promises are rows that are worked by hand. The last line is `N passed, M failed`: files of code.
+Only functions whose promises are rows that are worked by hand may have more. The last line is `N passed, M failed`:
+files of code.
 """
 import re
 import sys
@@ -16,11 +16,6 @@ from function_bodies import blanked, block_end, body_of
 
 TOP = Path(__file__).resolve().parent.parent
 MOST = 8
-EXCEPTED = {
-    "index_job": {"IndexJob::archive"},
-    "mairix_run": {"answer_names", "create_file", "index_names", "settle_file"},
-    "named_files": {"Folder::create", "Folder::remove_leftover", "Folder::rename", "clear_leftover", "replace_file"},
-}
 ROWS = re.compile(r"_as_worked_by_hand$")
 FUNCTION = re.compile(r"^ *(pub )?fn (\w+)", re.M)
 OWNER = re.compile(r"^(?:pub(?:\([^)]*\))? )?(trait|impl)\b([^{;]*)\{", re.M)
@@ -54,14 +49,9 @@ def calls_in(text):
 
 def main():
     wrong, files = [], sorted(TOP.glob("crates/*/src/**/*.rt"))
-    missing = {(crate, name) for crate, names in EXCEPTED.items() for name in names}
     for file in files:
-        crate = file.relative_to(TOP).parts[1]
-        many = {name: n for name, n in calls_in(file.read_text("utf-8")) if n > MOST and not ROWS.search(name)}
-        told = [f"{name} has {n}" for name, n in many.items() if name not in EXCEPTED.get(crate, ())]
-        wrong += [f"{file.relative_to(TOP)}: {', '.join(told)}"] if told else []
-        missing -= {(crate, name) for name in many}
-    wrong += [f"{crate}: {name} has few promises, or isn't there" for crate, name in sorted(missing)]
+        many = [f"{name} has {n}" for name, n in calls_in(file.read_text("utf-8")) if n > MOST and not ROWS.search(name)]
+        wrong += [f"{file.relative_to(TOP)}: {', '.join(many)}"] if many else []
     print(*wrong, sep="\n", end="\n" if wrong else "")
     print(f"{len(files) - len(wrong)} passed, {len(wrong)} failed")
     return 1 if wrong else 0

@@ -6,7 +6,7 @@ use Rattle.call_record.specs.declared.record.Record.{Record}
 use Rattle.contract_words.specs.Archives.{archive_at}
 use Rattle.std.specs.Io.KnownBytes.{ReadConsumes}
 use Rattle.contract_words.specs.Knowledge.{still_known}
-use Rattle.call_record.specs.Noted.{Notes, held_by, left_of, read_told, read_at_told, length_told}
+use Rattle.call_record.specs.Noted.{Notes, held_by, left_of, call_of_read, call_of_read_at, call_of_length}
 use Rattle.call_record.proofs.Reading.{noted-read}
 use Rattle.named_files.specs.Entries.{IsReadFromFile}
 use Rattle.mairix_files.specs.KitFiles.{bytes_held, rest_held, if_supposed}
@@ -20,12 +20,12 @@ of_only (bytes ∷ others) None P h = tt
 of_only (bytes ∷ others) (Some archives) P h = h
 
 pub only_read : (old new : Record) (offset n : ℕ) (into : List ℕ)
-    → Notes (read_at_told {E = Unit {0}} 0 offset (Ok n) into) old new
+    → Notes (call_of_read_at {E = Unit {0}} 0 offset (Ok n) into) old new
     → IsReadFromFile offset (take n into) (bytes_held new)
 only_read old new offset n into notes =
     of_only new.supposed (held_by new) _ (is-read {E = Unit {0}} old new 0 offset (Ok n) into notes)
 
-pub only_length : (old new : Record) (n : ℕ) → Notes (length_told {E = Unit {0}} 0 (Ok n)) old new
+pub only_length : (old new : Record) (n : ℕ) → Notes (call_of_length {E = Unit {0}} 0 (Ok n)) old new
     → IfSome (bytes_held new) (λ all. n ≡ length all)
 only_length old new n notes =
     of_only new.supposed (held_by new) _ (is-length {E = Unit {0}} old new 0 (Ok n) notes)
@@ -40,7 +40,7 @@ consumes_if [] before after (Err e) into h = search rules
 consumes_if (bytes ∷ others) before after told into h = h
 
 pub only_read_next : (old new : Record) (n : ℕ) (into : List ℕ) → n ≤ length into
-    → Notes (read_told {E = Unit {0}} (Ok n) into) old new
+    → Notes (call_of_read {E = Unit {0}} (Ok n) into) old new
     → ReadConsumes {E = Unit {0}} (still_known (rest_held old) (rest_held new)) (rest_held new) (Ok n) into
 only_read_next old new n into bound notes =
     subst (λ supposed. ReadConsumes {E = Unit {0}} (still_known (rest_held old) (if_supposed supposed (left_of 0 new)))

@@ -1,11 +1,7 @@
 -- Names that lead to two places differ.
-use Rattle.std.proofs.Common.{◌≡◌, ap, refl, ℕ, Bool, true, false, not, ◌&&◌, List, Option}
-use Rattle.std.proofs.Common.{None, Some, IfSome, arith}
-use Rattle.std.proofs.lemmas.Bool.Decides.{nat_tests}
+use Rattle.std.proofs.Common.{◌≡◌, ap, refl, ℕ, Bool, true, false, not, List}
 use Rattle.std.proofs.lemmas.Slice.Eq.{bytes_eq-Decides}
 use Rattle.std.specs.Str.{bytes_eq}
-use Rattle.named_files.specs.Crashes.{LeavesNoMoreWhere}
-use Rattle.named_files.specs.Entries.{Entry}
 use Rattle.mairix_files.specs.NameCalls.{are_apart, place_by_links}
 
 -- ---- names that lead to two places
@@ -33,16 +29,3 @@ pub same_place : (links : List (List ℕ × List ℕ)) (a b : List ℕ) → are_
 same_place links a b h =
     (bytes_eq-Decides (place_by_links links a) (place_by_links links b)).0
     (is_denied (bytes_eq (place_by_links links a) (place_by_links links b)) h)
-
-both_of : (a b c d : Bool) → (a ≡ true → c ≡ true) → (b ≡ true → d ≡ true) → (a && b) ≡ true → (c && d) ≡ true
-both_of a b c d first second h = grind (arith, nat_tests)
-
--- what a crash leaves no more under other names, it leaves no more under names that lead to other places
-pub less_apart : (links : List (List ℕ × List ℕ)) (passing : Option (List ℕ)) (name : List ℕ)
-    (old new : List ℕ → Entry → Type 0)
-    → IfSome passing (λ p. LeavesNoMoreWhere (λ n. not (bytes_eq n p) && not (bytes_eq n name)) old new)
-    → IfSome passing (λ p. LeavesNoMoreWhere (λ n. are_apart links n p && are_apart links n name) old new)
-less_apart links None name old new h = tt
-less_apart links (Some p) name old new h =
-    λ n c both left. h n c (both_of (are_apart links n p) (are_apart links n name) (not (bytes_eq n p))
-    (not (bytes_eq n name)) (differ links n p) (differ links n name) both) left

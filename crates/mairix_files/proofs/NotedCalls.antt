@@ -9,7 +9,7 @@ use Rattle.std.proofs.lemmas.Grind.{common_steps}
 use Rattle.contract_words.specs.Archives.{IsLength, IsReadFromArchive, archive_at}
 use Rattle.call_record.specs.declared.record.Record.{Record}
 use Rattle.call_record.specs.Calls.{Call, read_at, measured, is_front, agrees_with, held_after}
-use Rattle.call_record.specs.Noted.{Notes, held_by, read_at_told, length_told}
+use Rattle.call_record.specs.Noted.{Notes, held_by, call_of_read_at, call_of_length}
 
 -- ---- what a call says of archives that agree with it
 
@@ -47,7 +47,7 @@ measured-agrees n bytes archives h = grind (arith, nat_tests)
 
 -- the bytes of a noted read are in its archive
 pub is-read : {E : Type 0} (old new : Record) (n offset : ℕ) (told : Result ℕ E) (into : List ℕ)
-    → Notes (read_at_told n offset told into) old new
+    → Notes (call_of_read_at n offset told into) old new
     → IfOk told (λ count. IsReadFromArchive n offset (take count into) (held_by new))
 is-read old new n offset (Ok count) into notes =
     rw (notes.0, notes.1) (says old.supposed (read_at n offset (Some (take count into))) old.calls _
@@ -55,7 +55,7 @@ is-read old new n offset (Ok count) into notes =
 is-read old new n offset (Err e) into notes = tt
 
 -- a noted length is its archive's
-pub is-length : {E : Type 0} (old new : Record) (n : ℕ) (told : Result ℕ E) → Notes (length_told n told) old new
+pub is-length : {E : Type 0} (old new : Record) (n : ℕ) (told : Result ℕ E) → Notes (call_of_length n told) old new
     → IfOk told (λ bytes. IsLength n bytes (held_by new))
 is-length old new n (Ok bytes) notes =
     rw (notes.0, notes.1)

@@ -4,7 +4,7 @@ ghost use Rattle.std.specs.Io.KnownBytes.{ReadConsumes};
 ghost use Rattle.contract_words.specs.Archives.{archive_at};
 ghost use Rattle.contract_words.specs.Devices.{Counts};
 ghost use Rattle.contract_words.specs.Knowledge.{WasKnown, still_known};
-ghost use Rattle.call_record.specs.Noted.{length_told, read_at_told, read_told};
+ghost use Rattle.call_record.specs.Noted.{call_of_length, call_of_read_at, call_of_read};
 ghost use Rattle.named_files.specs.Entries.{IsReadFromFile};
 ghost use Rattle.mairix_files.specs.KitFiles.{GivesOn, NotesIf, bytes_held, file_supposed, held_is_supposed, rest_held};
 
@@ -105,7 +105,7 @@ impl<F: Read + OpenFile + FileExt + Drop> Source for KitFile<F> {
         ensures whole { (bytes : List ℕ) → archive_at self.old.record.supposed 0 ≡ bytes
             → archive_at self.new.record.supposed 0 ≡ bytes }
         // The result is noted, and nothing else. A closed file isn't read.
-        ensures noted { NotesIf (is_some self.old.opened) (read_told result into.new)
+        ensures noted { NotesIf (is_some self.old.opened) (call_of_read result into.new)
             self.old.record self.new.record }
         // If the file's own bytes are known, they are given, and none is left out.
         ensures file { GivesOn (λ opened. F.remaining opened.file.reader) self.old.opened
@@ -142,7 +142,7 @@ impl<F: Read + OpenFile + FileExt + Drop> KeptFile for KitFile<F> {
         ensures bytes { IfOk result (λ n. IsReadFromFile offset (take n into.new)
             (bytes_held self.new.record)) }
         ensures count { Counts result self.old.failures self.new.failures }
-        ensures noted { NotesIf (is_some self.old.opened) (read_at_told 0 offset result into.new)
+        ensures noted { NotesIf (is_some self.old.opened) (call_of_read_at 0 offset result into.new)
             self.old.record self.new.record }
         // What is read next in order doesn't change.
         ensures file { self.new.opened ≡ self.old.opened }
@@ -166,7 +166,7 @@ impl<F: Read + OpenFile + FileExt + Drop> KeptFile for KitFile<F> {
         ensures length { IfOk result (λ n. IfSome (bytes_held self.new.record)
             (λ all. n ≡ length all)) }
         ensures count { Counts result self.old.failures self.new.failures }
-        ensures noted { NotesIf (is_some self.old.opened) (length_told 0 result)
+        ensures noted { NotesIf (is_some self.old.opened) (call_of_length 0 result)
             self.old.record self.new.record }
         ensures file { self.new.opened ≡ self.old.opened }
     {

@@ -2,7 +2,7 @@
 ghost use Rattle.std.specs.Prelude.{◌≡◌, ◌≤◌, ◌<◌, ◌+◌, ◌++◌, [], true, false, Some, IfOk, IsTrue, OnOk, length, take, drop, vec_len, vec_capacity};
 ghost use Rattle.std.specs.Io.KnownBytes.{WriteAppends};
 ghost use Rattle.call_record.specs.Calls.{taken_after};
-ghost use Rattle.call_record.specs.Noted.{Notes, write_told};
+ghost use Rattle.call_record.specs.Noted.{Notes, call_of_write};
 ghost use Rattle.mairix_files.specs.KitNews.{bytes_put};
 
 use crate::retried::Retried;
@@ -144,7 +144,7 @@ fn write_front(file: &File, noted: &mut Record, bytes: &[u8]) -> (usize, io::Res
 fn write_once(file: &File, noted: &mut Record, bytes: &[u8]) -> io::Result<usize>
     requires { 0 < length bytes.now }
     ensures bound { IfOk result (λ n. (0 < n) × (n ≤ length bytes.now)) }
-    ensures noted { Notes (write_told result bytes.now) noted.old noted.new }
+    ensures noted { Notes (call_of_write result bytes.now) noted.old noted.new }
 {
     let mut writer = Retried::new(file);
     write_noted(&mut writer, noted, bytes)

@@ -12,7 +12,7 @@ use Rattle.mbox_cutter.specs.Events.{ArchiveEvent, Start, Line, End, Done, Comin
 use Rattle.mbox_cutter.specs.Events.{archive_refusal}
 use Rattle.mbox_cutter.specs.Lines.{is_empty, lines}
 use Rattle.mbox_cutter.specs.Places.{CutterPlace}
-use Rattle.mbox_cutter.specs.Progress.{told_result}
+use Rattle.mbox_cutter.specs.Progress.{result_with_line}
 use Rattle.mbox_cutter.specs.Separators.{is_separator}
 use Rattle.mbox_cutter.specs.declared.event.CutFault.{CutFault}
 use Rattle.mbox_cutter.specs.declared.event.Event.{Event}
@@ -81,7 +81,8 @@ module _ (bytes : List ℕ) where
   -- the first answer of a cutter
   pub first_answer : (line : List ℕ) (answer : Result Event CutFault) (next : Option ComingEvents)
       → length bytes ≤ 131072
-      → AnswersAsComing (Some (coming_of 131072 bytes)) (told_result line answer) next → is_device_fault answer ≡ false
+      → AnswersAsComing (Some (coming_of 131072 bytes)) (result_with_line line answer) next → is_device_fault answer
+      ≡ false
       → (answer ≡ Err Failed → ⊥) → is_start answer ≡ begins_as_mbox bytes
   first_answer line (Ok (event.Start at)) next few h device failed = sym (starts at line h.0.events h.2.0)
   first_answer line (Ok event.Line) next few h device failed = absurd (never_a_line line h.0.events h.2.0)

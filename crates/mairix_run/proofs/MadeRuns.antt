@@ -1,13 +1,14 @@
 -- What becomes of a folder while a run makes a file: it isn't made, or it is made, filled and settled.
-use Rattle.std.proofs.Common.{◌≡◌, ◌∙◌, ◌⊎◌, inl, inr, ⊎_elim, refl, sym, ap, subst, ℕ, Bool, true, false, ◌&&◌, List}
+use Rattle.std.proofs.Common.{◌≡◌, ◌∙◌, ◌⊎◌, inl, inr, ⊎_elim, refl, sym, ap, subst, ℕ, Bool, true, ◌&&◌, List}
 use Rattle.std.proofs.Common.{[], All}
 use Rattle.std.proofs.Common.{Option, None, Some, Result, Ok, Err, OnErr, IfSome, ◌∷◌, ◌++◌, map, String, Global}
 use Rattle.std.proofs.Common.{string_bytes, slice_index_or, arith}
 use Rattle.std.proofs.lemmas.List.Elements.{All-head, All-tail}
 use Rattle.named_archives.specs.Names.{files_of}
 use Rattle.std.proofs.lemmas.Bool.Decides.{nat_tests}
-use Rattle.named_files.specs.Crashes.{LeavesNoMoreWhere, LeavesOnly}
-use Rattle.named_files.specs.Entries.{Entry, IsFileOf, Leads, SameWhere, bytes_of}
+use Rattle.named_files.specs.Crashes.{LeavesOnly}
+use Rattle.named_files.specs.Entries.{Entry, IsFileOf, SameWhere, bytes_of}
+use Rattle.named_files.specs.OtherNames.{LeavesAloneThroughout}
 use Rattle.named_files.specs.TakingNames.{Replaces}
 use Rattle.named_files.specs.declared.folder.Folder.{Ghosts as FolderGhosts}
 use Rattle.run_faults.specs.declared.fault.Fault.{Fault}
@@ -15,7 +16,7 @@ use Rattle.run_faults.specs.declared.fault.Fault.TheVariants.{Out, Memory}
 use Rattle.mairix_run.proofs.MadeFiles.{apart_of_fit}
 use Rattle.mairix_run.proofs.MakingRuns.{fit-apart, kept-all, leads-text, taken-text}
 use Rattle.mairix_run.proofs.RunParts.{follows, keeps-same, leaves-weaker, starts}
-use Rattle.mairix_run.specs.MadeFiles.{IsSettled, MakesFile, SettlesFile, unfit_name}
+use Rattle.mairix_run.specs.MadeFiles.{IsSettled, LeadToOldOrNew, unfit_name}
 use Rattle.mairix_run.specs.Stops.{Ending, ending_by}
 use Rattle.mairix_run.specs.Stops.Ending.{Because}
 use Rattle.mairix_run.specs.Tasks.{Work, IsDone}
@@ -48,13 +49,16 @@ module _ {D F S N L R : Type 0} (f : FolderGhosts D F S N L R) (old : D) (read :
 
   -- ---- no file is made
 
+  -- each name that is apart from the passing name is left alone
+  abbrev LeavesOthers : List ℕ → D → D → Type 0
+  LeavesOthers passing before after =
+      LeavesAloneThroughout f.apart f.holds f.may_leave f.moment f.left_since (λ n. f.apart before n passing) before
+      after
+
   -- what a call says that made none
   pub record NoneMade (new : D) (passing : List ℕ) : Type 0 where
     pub untouched : (unfit_name (f.apart old) read passing name ≡ None) ⊎ (new ≡ old)
-    pub others : SameWhere (λ n. f.apart old n passing) (f.holds old) (f.holds new)
-    pub any_moment : LeavesOnly f.moment f.left_since old new (λ n c. f.apart old n passing ≡ true
-        → f.may_leave old n c)
-    pub calls : MakesFile f.removes f.creates passing false old new
+    pub others : LeavesOthers passing old new
 
   -- a crash at any moment since leaves the old file or the whole text
   abbrev pub Leaves : Work → D → Type 0
@@ -69,7 +73,7 @@ module _ {D F S N L R : Type 0} (f : FolderGhosts D F S N L R) (old : D) (read :
 
   none-read : (new : D) → NoneMade new (passing_of name) → All (λ n. f.holds new n ≡ f.holds old n) read
   none-read new none = ⊎_elim
-      (λ fit. fit-same new (passing_of name) fit none.others)
+      (λ fit. fit-same new (passing_of name) fit none.others.others)
       (λ same. same-all new same) none.untouched
 
   left-before : (work : Work) (n : List ℕ) (c : Entry) → f.may_leave old n c
@@ -87,13 +91,13 @@ module _ {D F S N L R : Type 0} (f : FolderGhosts D F S N L R) (old : D) (read :
 
   none-old : (new : D) → NoneMade new (passing_of name) → f.holds new name ≡ f.holds old name
   none-old new none = ⊎_elim
-      (λ fit. none.others name (apart_of_fit (f.apart old) read (passing_of name) name fit))
+      (λ fit. none.others.others name (apart_of_fit (f.apart old) read (passing_of name) name fit))
       (λ same. ap (λ d. f.holds d name) same) none.untouched
 
   none-leaves : (work : Work) (new : D) → OnlyNow → NoneMade new (passing_of name) → Leaves work new
   none-leaves work new only_now none = ⊎_elim
       (λ fit. leaves-weaker f.moment f.left_since old new _ _
-      (left-apart work (apart_of_fit (f.apart old) read (passing_of name) name fit)) none.any_moment)
+      (left-apart work (apart_of_fit (f.apart old) read (passing_of name) name fit)) none.others.any_moment)
       (λ same. subst (λ d. Leaves work d) (sym same) (starts f.moment f.left_since old _
       (λ n c left. left-before work n c (only_now n c left)))) none.untouched
 
@@ -115,33 +119,24 @@ module _ {D F S N L R : Type 0} (f : FolderGhosts D F S N L R) (old : D) (read :
   -- ---- a file is made, filled and settled
 
   -- what the calls say that made it, and that settled it
-  pub record MadeAndSettled (mid new : D) (taken : Option (List ℕ)) (written result : Result ℕ Fault) (passing : List
-      ℕ) :
-      Type 0 where
+  pub record MadeAndSettled (mid new : D) (taken : Option (List ℕ)) (written result : Result ℕ Fault)
+      (passing : List ℕ) : Type 0 where
     pub fit : unfit_name (f.apart old) read passing name ≡ None
-    pub others : SameWhere (λ n. f.apart old n passing) (f.holds old) (f.holds mid)
-    pub crash : LeavesNoMoreWhere (λ n. f.apart old n passing) (f.may_leave old) (f.may_leave mid)
-    pub apart : (a b : List ℕ) → f.apart mid a b ≡ f.apart old a b
-    pub making : LeavesOnly f.moment f.left_since old mid (λ n c. f.apart old n passing ≡ true → f.may_leave old n c)
-    pub calls : MakesFile f.removes f.creates passing true old mid
-    pub others_then : SameWhere (λ n. f.apart mid n passing && f.apart mid n name) (f.holds mid) (f.holds new)
+    pub others : LeavesOthers passing old mid
+    pub settled : IsSettled written result
+    pub given_up : OnErr written (LeavesOthers passing mid new)
+    pub names : LeadToOldOrNew (f.apart mid) passing name taken (f.holds mid) (f.holds new)
     pub settling : LeavesOnly f.moment f.left_since mid new (Replaces (f.apart mid) (f.may_leave mid) passing name
         taken)
-    pub discarding : OnErr written (LeavesOnly f.moment f.left_since mid new
-        (λ n c. f.apart mid n passing ≡ true → f.may_leave mid n c))
-    pub not_named : OnErr written (f.apart mid name passing ≡ true → f.holds new name ≡ f.holds mid name)
-    pub old_or_new : f.apart mid name passing ≡ true
-        → (f.holds new name ≡ f.holds mid name) ⊎ Leads (f.holds new name) taken
-    pub settled : IsSettled written result
-    pub calls_then : SettlesFile f.renames f.syncs f.discards name written result mid new
 
   module _ (mid new : D) (taken : Option (List ℕ)) (written result : Result ℕ Fault) where
     abbrev Made : Type 0
     Made = MadeAndSettled mid new taken written result (passing_of name)
 
     made-alone : Made → SameWhere (is_left_alone (f.apart old) (Some name)) (f.holds old) (f.holds new)
-    made-alone m = λ n both. m.others_then n ((λ i. m.apart n (passing_of name) i && m.apart n name i) ∙ both)
-        ∙ m.others n (both-first (f.apart old n (passing_of name)) (f.apart old n name) both)
+    made-alone m = λ n both.
+        m.names.others n ((λ i. m.others.still_apart n (passing_of name) i && m.others.still_apart n name i) ∙ both)
+        ∙ m.others.others n (both-first (f.apart old n (passing_of name)) (f.apart old n name) both)
 
     made-read : Made → All (λ n. f.holds new n ≡ f.holds old n) read
     made-read m = kept-all read (λ n. f.apart old n (passing_of name) && f.apart old n name) (f.holds old) (f.holds new)
@@ -152,24 +147,24 @@ module _ {D F S N L R : Type 0} (f : FolderGhosts D F S N L R) (old : D) (read :
       is-apart = apart_of_fit (f.apart old) read (passing_of name) name m.fit
 
       first : Leaves work mid
-      first = leaves-weaker f.moment f.left_since old mid _ _ (left-apart work is-apart) m.making
+      first = leaves-weaker f.moment f.left_since old mid _ _ (left-apart work is-apart) m.others.any_moment
 
       -- what may be left after the file was made, may be left of the run
       later : (n : List ℕ) (c : Entry) → (f.apart mid n (passing_of name) ≡ true → f.may_leave mid n c)
           → LeavesInMaking (f.apart old) (f.may_leave old) work name n c
       later n c left = left-apart work is-apart n c
-          (λ a. m.crash n c a (left (m.apart n (passing_of name) ∙ a)))
+          (λ a. m.others.crash n c a (left (m.others.still_apart n (passing_of name) ∙ a)))
 
       -- so may the whole text
       whole : (text : List ℕ) → IsTextOf work text → taken ≡ Some text → (n : List ℕ) (c : Entry)
           → Replaces (f.apart mid) (f.may_leave mid) (passing_of name) name taken n c
           → LeavesInMaking (f.apart old) (f.may_leave old) work name n c
       whole text is took n c left = (
-        λ both. m.crash n c (both-first (f.apart old n (passing_of name)) (f.apart old n name) both)
-            (left.0 ((λ i. m.apart n (passing_of name) i && m.apart n name i) ∙ both)),
-        λ e. ⊎_elim (λ before. inl (m.crash name c is-apart before))
+        λ both. m.others.crash n c (both-first (f.apart old n (passing_of name)) (f.apart old n name) both)
+            (left.0 ((λ i. m.others.still_apart n (passing_of name) i && m.others.still_apart n name i) ∙ both)),
+        λ e. ⊎_elim (λ before. inl (m.others.crash name c is-apart before))
             (λ h. inr (h.0, subst (λ t. IsTextOf work t) (sym (text-of h.0 h.1)) is, h.2))
-            (left.1 e (m.apart name (passing_of name) ∙ is-apart)),
+            (left.1 e (m.others.still_apart name (passing_of name) ∙ is-apart)),
       ) where
         text-of : (bytes : List ℕ) → IfSome taken (λ all. bytes ≡ all) → bytes ≡ text
         text-of bytes all = subst (λ t. IfSome t (λ all. bytes ≡ all)) took all
@@ -178,24 +173,26 @@ module _ {D F S N L R : Type 0} (f : FolderGhosts D F S N L R) (old : D) (read :
           → Leaves work new
       made-leaves (Ok status) same (text, done, sent) = follows f.moment f.left_since old mid new _ _ first m.settling
           (whole text (status, done) (taken-text taken text sent))
-      made-leaves (Err fault) same is = follows f.moment f.left_since old mid new _ _ first
-          (subst (λ (w : Result ℕ Fault). OnErr w (LeavesOnly f.moment f.left_since mid new
-          (λ n c. f.apart mid n (passing_of name) ≡ true → f.may_leave mid n c))) (sym same) m.discarding) later
+      made-leaves (Err fault) same is =
+          let alone : LeavesOthers (passing_of name) mid new =
+          subst (λ (w : Result ℕ Fault). OnErr w (LeavesOthers (passing_of name) mid new)) (sym same) m.given_up in
+          follows f.moment f.left_since old mid new _ _ first alone.any_moment later
 
     module _ (work : Work) (OutFails ReadFails : Type 0) (m : Made) where
       -- it led to what it led to before while the file was made
       mid-old : f.holds mid name ≡ f.holds old name
-      mid-old = m.others name (apart_of_fit (f.apart old) read (passing_of name) name m.fit)
+      mid-old = m.others.others name (apart_of_fit (f.apart old) read (passing_of name) name m.fit)
 
       mid-apart : f.apart mid name (passing_of name) ≡ true
-      mid-apart = m.apart name (passing_of name) ∙ apart_of_fit (f.apart old) read (passing_of name) name m.fit
+      mid-apart =
+          m.others.still_apart name (passing_of name) ∙ apart_of_fit (f.apart old) read (passing_of name) name m.fit
 
       -- the file has its name, or not
       named-or-not : (status : ℕ) (text : List ℕ) → IsDone work status text → taken ≡ Some text
           → (f.holds new name ≡ f.holds old name) ⊎ IsFileOf (IsTextOf work) (f.holds new name)
       named-or-not status text done took = ⊎_elim (λ same. inl (same ∙ mid-old))
           (λ leads. inr (text, (status, done), leads-text (f.holds new name) taken text took leads))
-          (m.old_or_new mid-apart)
+          (m.names.old_or_new mid-apart)
 
       made-keeps : (w r : Result ℕ Fault) → w ≡ written → IsWritten OutFails ReadFails work (Some []) taken w
           → IsSettled w r
@@ -211,9 +208,9 @@ module _ {D F S N L R : Type 0} (f : FolderGhosts D F S N L R) (old : D) (read :
           subst (λ x. KeepsOld work (f.holds old name) (f.holds new name) (Because x)) (sym one)
           (named-or-not status text done (taken-text taken text sent))
       made-keeps (Err other) (Err fault) wrote is settled =
-          keeps-same work (f.holds old name) (f.holds new name) (Because fault)
-          (subst (λ (x : Result ℕ Fault). OnErr x (f.apart mid name (passing_of name) ≡ true
-          → f.holds new name ≡ f.holds mid name)) (sym wrote) m.not_named mid-apart ∙ mid-old)
+          let alone : LeavesOthers (passing_of name) mid new =
+          subst (λ (x : Result ℕ Fault). OnErr x (LeavesOthers (passing_of name) mid new)) (sym wrote) m.given_up in
+          keeps-same work (f.holds old name) (f.holds new name) (Because fault) (alone.others name mid-apart ∙ mid-old)
 
     pub made-settled-read : (passing : List ℕ) → passing_of name ≡ passing
         → MadeAndSettled mid new taken written result passing → All (λ n. f.holds new n ≡ f.holds old n) read

@@ -12,8 +12,8 @@ use Rattle.named_files.specs.Entries.{Entry, File, Leads, SameWhere}
 use Rattle.run_faults.specs.declared.fault.Fault.{Fault}
 use Rattle.run_faults.specs.declared.fault.Fault.TheVariants.{Out, Memory}
 use Rattle.mairix_run.specs.KeptMail.{IsNotReplaced}
-use Rattle.mairix_run.specs.MadeFiles.{IsRefusal, IsSettled, has_last_part, is_open_to, is_special, taken_name}
-use Rattle.mairix_run.specs.MadeFiles.{unfit_name}
+use Rattle.mairix_run.specs.MadeFiles.{IsRefusal, IsSettled, LeadsForGood, has_last_part, is_open_to, is_special}
+use Rattle.mairix_run.specs.MadeFiles.{taken_name, unfit_name}
 use Rattle.mairix_run.specs.ReadFiles.{are_all_apart}
 use Rattle.mairix_run.specs.Stops.{Ending, ending_by, ending_of_stopped}
 use Rattle.mairix_run.specs.Stops.Ending.{CannotOpen}
@@ -160,17 +160,20 @@ fails-with OutFails ReadFails status fault (inr (inr failed)) cause =
 
 -- the work was written, and then the file took its name or was removed
 pub puts-settled : (OutFails ReadFails : Type 0) (work : Work) (taken : Option (List ℕ))
-    (written result : Result ℕ Fault)
-    (now : Entry) → IsWritten OutFails ReadFails work (Some []) taken written → IsSettled written result
-    → OnOk written (IfErr result (λ fault. fault ≡ Out → OutFails)) → OnOk result (Leads now taken)
+    (written result : Result ℕ Fault) (now : Entry) (may_leave : Entry → Type 0)
+    → IsWritten OutFails ReadFails work (Some []) taken written → IsSettled written result
+    → OnOk written (IfErr result (λ fault. fault ≡ Out → OutFails)) → OnOk result (LeadsForGood now may_leave taken)
     → Puts OutFails ReadFails work now (ending_by result)
-puts-settled OutFails ReadFails work taken (Ok status) (Ok other) now (text, done, sent) settled cause leads =
-    (text, done-with work text status other settled done, leads-text now taken text (taken-text taken text sent) leads)
-puts-settled OutFails ReadFails work taken (Ok status) (Err fault) now is settled cause leads =
+puts-settled OutFails ReadFails work taken (Ok status) (Ok other) now may (text, done, sent) settled cause leads = (
+  text,
+  done-with work text status other settled done,
+  leads-text now taken text (taken-text taken text sent) leads.named,
+)
+puts-settled OutFails ReadFails work taken (Ok status) (Err fault) now may is settled cause leads =
     inr (fails-with OutFails ReadFails status fault settled cause)
-puts-settled OutFails ReadFails work taken (Err fault) result now (inl refused) settled cause leads =
+puts-settled OutFails ReadFails work taken (Err fault) result now may (inl refused) settled cause leads =
     subst (λ (r : Result ℕ Fault). Puts OutFails ReadFails work now (ending_by r)) (sym settled) (inl refused.0)
-puts-settled OutFails ReadFails work taken (Err fault) result now (inr failed) settled cause leads =
+puts-settled OutFails ReadFails work taken (Err fault) result now may (inr failed) settled cause leads =
     subst (λ (r : Result ℕ Fault). Puts OutFails ReadFails work now (ending_by r)) (sym settled) (inr failed.0)
 
 -- a search replaces any file

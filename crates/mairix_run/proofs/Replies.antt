@@ -1,9 +1,10 @@
 -- A run's reply as a result. An answer with a fault is the refusal with that fault, so nothing was sent.
 use Rattle.std.proofs.Common.{◌≡◌, ◌∙◌, ◌||◌, ℕ, Bool, true, false, List, [], Option, None, Some, Result, Ok, Err, Bor}
-use Rattle.std.proofs.Common.{◌≤◌, nat_eq, if◌then◌else◌, IfErr, IfOk, arith}
+use Rattle.std.proofs.Common.{◌≤◌, nat_eq, if◌then◌else◌, arith}
 use Rattle.std.proofs.Common.{is_err, refl, sym, ap, subst, inl, inr, append-nil, slice_index}
 use Rattle.std.specs.Bool.{MatchBool, OnTrue}
 use Rattle.std.specs.Io.KnownBytes.{Appends}
+use Rattle.std.specs.Result.{MatchResult}
 use Rattle.contract_words.specs.Devices.{Counted, Sends}
 use Rattle.mail_answer.specs.Mail.{Search}
 use Rattle.mail_answer.specs.Stale.{stale_archive}
@@ -17,8 +18,9 @@ use Rattle.run_faults.specs.declared.fault.Fault.TheVariants.{Usage, Rc, Query, 
 use Rattle.run_faults.specs.declared.fault.Fault.TheVariants.{Memory, TooMany}
 use Rattle.mairix_tool.specs.Asked.{Wanted}
 use Rattle.mairix_tool.specs.Replies.{Answer, IsConsistent, RefusesAsked, answer_of_fault}
-use Rattle.mairix_tool.specs.Runs.{IsAnswerFrom, IsOldOr, IsProvedAndTold, IsReply, IsStaleOr, IsStoredReply}
-use Rattle.mairix_tool.specs.Runs.{IsThisOrMemory, IsTold, IsToldOf, RepliesBy, answer_of_text, is_too_old}
+use Rattle.mairix_tool.specs.Runs.{IsAnswerFrom, IsOldOr, IsVerifiedAnswer, IsReply, IsStaleOr, IsStoredReply}
+use Rattle.mairix_tool.specs.Runs.{IsThisOrMemory, IsAnswerOrStale, IsStoredAnswer, RepliesBy, answer_of_text}
+use Rattle.mairix_tool.specs.Runs.{is_too_old}
 use Rattle.mairix_tool.specs.Runs.{renamed_archive}
 use Rattle.mairix_tool.specs.Runs.{unproved_archive}
 use Rattle.mairix_tool.specs.declared.reply.Reply.{Reply}
@@ -53,22 +55,23 @@ plain-stale None IsFound plain a is = plain a is
 plain-found : (t : Table) (s : Search) (held : List (List ℕ)) (a : Answer) → IsAnswerFrom t s held a → IsPlain a
 plain-found t s held a (numbers, chosen, is) = plain-answered a _ _ is
 
-plain-told : (t : Table) (s : Search) (held : List (List ℕ)) (a : Answer) → IsTold t s held a → IsPlain a
+plain-told : (t : Table) (s : Search) (held : List (List ℕ)) (a : Answer) → IsAnswerOrStale t s held a → IsPlain a
 plain-told t s held = plain-stale (stale_archive t.archives held) (IsAnswerFrom t s held) (plain-found t s held)
 
-plain-proved : (w : Wanted) (t : Table) (held : List (List ℕ)) (a : Answer) → IsProvedAndTold w t held a → IsPlain a
+plain-proved : (w : Wanted) (t : Table) (held : List (List ℕ)) (a : Answer) → IsVerifiedAnswer w t held a → IsPlain a
 plain-proved w t held =
-    plain-stale (unproved_archive w.verify t.archives held) (IsTold t w.search held) (plain-told t w.search held)
+    plain-stale (unproved_archive w.verify t.archives held) (IsAnswerOrStale t w.search held)
+    (plain-told t w.search held)
 
 plain-old : (old : Bool) (IsFound : Answer → Type 0) → ((a : Answer) → IsFound a → IsPlain a) → (a : Answer)
     → IsOldOr old IsFound a → IsPlain a
 plain-old true IsFound plain a is = plain-refused a OldIndex is
 plain-old false IsFound plain a is = plain a is
 
-plain-of : (w : Wanted) (t : Table) (held : List (List ℕ)) (a : Answer) → IsToldOf w t held a → IsPlain a
+plain-of : (w : Wanted) (t : Table) (held : List (List ℕ)) (a : Answer) → IsStoredAnswer w t held a → IsPlain a
 plain-of w t held =
-    plain-old (is_too_old t w) (IsStaleOr (renamed_archive t.archives w.paths) (IsProvedAndTold w t held))
-    (plain-stale (renamed_archive t.archives w.paths) (IsProvedAndTold w t held) (plain-proved w t held))
+    plain-old (is_too_old t w) (IsStaleOr (renamed_archive t.archives w.paths) (IsVerifiedAnswer w t held))
+    (plain-stale (renamed_archive t.archives w.paths) (IsVerifiedAnswer w t held) (plain-proved w t held))
 
 pub plain-stored : (asked : Result Wanted Fault) (index : List ℕ) (held : List (List ℕ)) (a : Answer)
     → IsStoredReply asked index held a → IsPlain a
@@ -165,18 +168,13 @@ refused-once asked (Some index) fault none is = absurd cc
 
 -- ---- without a stored index, by the fault of the reply
 
-pub once-status : (reply : Reply) (fault : Option Fault) → IsConsistent IsOnceFault reply fault
-    → IfOk (result_by reply.status fault) (λ status. status ≤ 1)
-once-status reply None is = subst (λ (n : ℕ). n ≤ 1) (sym is) (at-most (nat_eq reply.messages 0)) where
+pub once-ended : (reply : Reply) (fault : Option Fault) → IsConsistent IsOnceFault reply fault
+    → MatchResult (result_by reply.status fault) (λ status. status ≤ 1) IsOnceFault
+once-ended reply None is = subst (λ (n : ℕ). n ≤ 1) (sym is) (at-most (nat_eq reply.messages 0)) where
   at-most : (none : Bool) → (if none then 1 else 0) ≤ 1
   at-most true = omega arith
   at-most false = omega arith
-once-status reply (Some fault) is = tt
-
-pub once-kinds : (reply : Reply) (fault : Option Fault) → IsConsistent IsOnceFault reply fault
-    → IfErr (result_by reply.status fault) IsOnceFault
-once-kinds reply None is = tt
-once-kinds reply (Some fault) is = is.0
+once-ended reply (Some fault) is = is.0
 
 -- what is refused before the search sends nothing
 pub once-silent : (P Q R : Type 0) (reply : Reply) (refused : Bool) (fault : Option Fault)

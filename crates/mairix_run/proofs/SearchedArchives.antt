@@ -1,13 +1,14 @@
 -- If each path leads to a file, archives of which something is still known have the bytes of these files. The first
 -- states are all states by their numbers.
 use Rattle.std.proofs.Common.{◌≡◌, ◌∙◌, ◌&&◌, ℕ, zero, suc, Bool, true, false, List, [], ◌∷◌, length, map, All}
-use Rattle.std.proofs.Common.{Option, None, Some, IfSome, IsSome, Result, Ok, Err, IfErr, IfOk}
+use Rattle.std.proofs.Common.{Option, None, Some, IfSome, IsSome, Result, Ok, Err, IfOk}
 use Rattle.std.proofs.Common.{refl, ap, subst, sym, slice_get, get_or}
 use Rattle.std.proofs.lemmas.List.{length-map}
 use Rattle.std.proofs.lemmas.List.FromFn.{fill_by_all}
 use Rattle.std.proofs.lemmas.List.Elements.{All-cons, All-nil}
 use Rattle.std.specs.List.{range_with_len}
 use Rattle.std.specs.Option.{option_map}
+use Rattle.std.specs.Result.{MatchResult}
 use Rattle.named_archives.specs.Names.{all_known, held_while}
 
 all-known : (bytes : List (List ℕ)) → all_known (map Some bytes) ≡ Some bytes
@@ -59,10 +60,11 @@ pub if-ok : {A E : Type 0} (result : Result A E) (P Q : A → Type 0) → ((x : 
 if-ok (Ok x) P Q f h = f x h
 if-ok (Err e) P Q f h = tt
 
-pub if-err : {A E : Type 0} (result : Result A E) (P Q : E → Type 0) → ((e : E) → P e → Q e) → IfErr result P
-    → IfErr result Q
-if-err (Ok x) P Q f h = tt
-if-err (Err e) P Q f h = f e h
+-- a fault that is so under a premise
+pub ended-if : {A E : Type 0} (Few : Type 0) (result : Result A E) (P : A → Type 0) (Q : E → Type 0)
+    → MatchResult result P Q → MatchResult result P (λ e. Few → Q e)
+ended-if Few (Ok x) P Q h = h
+ended-if Few (Err e) P Q h = λ few. h
 
 pub if-some : {A : Type 0} (o : Option A) (P Q : A → Type 0) → ((x : A) → P x → Q x) → IfSome o P → IfSome o Q
 if-some None P Q f h = tt

@@ -15,9 +15,11 @@ use Rattle.run_faults.specs.declared.fault.Fault.{Fault}
 use Rattle.run_faults.specs.declared.fault.Fault.TheVariants.{Usage, Rc, Query, Archive, Index, OldIndex, Stale}
 use Rattle.run_faults.specs.declared.fault.Fault.TheVariants.{Device, Out}
 use Rattle.run_faults.specs.declared.fault.Fault.TheVariants.{Memory, TooMany}
+use Rattle.mairix_tool.specs.Asked.{Wanted}
 use Rattle.mairix_tool.specs.Replies.{Answer, IsConsistent}
 use Rattle.mairix_tool.specs.declared.reply.Reply.{Reply}
-use Rattle.mairix_run.specs.Answered.{AnswersBy, IsSearchFaultBy, is_unread, by_memory}
+use Rattle.mairix_run.proofs.SearchedArchives.{if-ok}
+use Rattle.mairix_run.specs.Answered.{AnswersBy, IsSearchFaultBy, LeavesUnsent, is_unread, by_memory}
 
 -- the faults of an archive that couldn't be read
 unread-cases : (P : Fault → Type 0) → ((n : ℕ) → P (Archive n Unread)) → P Device → (fault : Fault)
@@ -57,6 +59,14 @@ module _ (P : Result ℕ Fault → Type 0) (source : (n : ℕ) → P (Err (Archi
 pub answers-memory : (Is : Answer → Type 0) (old new : Option (List ℕ)) (lacks : Bool) (r result : Result ℕ Fault)
     → result ≡ by_memory lacks r → AnswersBy Is r old new → AnswersBy Is result old new
 answers-memory Is old new = with-memory (λ r. AnswersBy Is r old new) (λ n h. h) (λ h. h)
+
+-- what it left unsent
+pub unsent-memory : {O : Type 0} (asked : Result Wanted Fault) (old new : O) (lacks : Bool) (r result : Result ℕ Fault)
+    → result ≡ by_memory lacks r → LeavesUnsent asked (fault_in r) old new
+    → LeavesUnsent asked (fault_in result) old new
+unsent-memory asked old new = with-memory (λ r. LeavesUnsent asked (fault_in r) old new)
+    (λ n h. record { silent = tt; raw = if-ok asked _ _ (λ w raw is. tt) h.raw })
+    (λ h. record { silent = tt; raw = if-ok asked _ _ (λ w raw is. tt) h.raw })
 
 -- lack of memory is a fault of any search
 pub memory-searched : (index : Option (Bor (List ℕ))) → IsSearchFaultBy index Memory

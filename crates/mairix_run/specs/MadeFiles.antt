@@ -1,10 +1,10 @@
 -- For which names a run makes a file, by which calls, and what becomes of it.
 use Rattle.std.specs.Prelude.{◌≡◌, ◌⊎◌, ℕ, nat_eq, nat_lt, Bool, true, false, not, ◌&&◌, ◌||◌, if◌then◌else◌}
-use Rattle.std.specs.Prelude.{List, length, Option, None, Some, Result, Ok, Err, is_ok, codes}
+use Rattle.std.specs.Prelude.{List, length, Option, None, Some, IfSome, Result, Ok, Err, is_ok, codes}
 use Rattle.std.specs.List.{ends_with}
 use Rattle.std.specs.Option.{option_or}
 use Rattle.std.specs.String.{string_bytes}
-use Rattle.named_files.specs.Entries.{Entry, Nothing, File, Folder, Other}
+use Rattle.named_files.specs.Entries.{Entry, Nothing, File, Folder, Other, Leads, SameWhere}
 use Rattle.named_files.specs.Reported.{is_free}
 use Rattle.named_files.specs.TakingNames.{TakesName}
 use Rattle.named_files.specs.declared.name_fault.NameFault.{NameFault}
@@ -44,12 +44,30 @@ abbrev pub taken_name : (List ℕ → Entry) → (List ℕ → Bool) → List �
 taken_name holds is_leftover passing name = if is_special (holds name) then Some name
     else (if is_open_to holds is_leftover passing then None else Some passing)
 
+-- A file may be made: neither name is refused.
+pub record MayBeMade (holds : List ℕ → Entry) (apart : List ℕ → List ℕ → Bool) (is_leftover : List ℕ → Bool)
+    (read : List (List ℕ)) (passing name : List ℕ) : Type 0 where
+  -- neither is refused whatever it leads to
+  pub fit : unfit_name apart read passing name ≡ None
+  -- another file under the passing name doesn't change what the name leads to
+  pub names_apart : apart name passing ≡ true
+  -- nor for what it leads to
+  pub plain : is_special (holds name) ≡ false
+  pub free : is_open_to holds is_leftover passing ≡ true
+
 -- The run is stopped for the first name that is refused, or for one of both because the system refused a call, or for
 -- lack of memory.
 abbrev pub IsRefusal : Option (List ℕ) → Option (List ℕ) → List ℕ → List ℕ → Type 0 → Stopped → Type 0
 IsRefusal unfit taken passing name CanRefuse (by.CannotOpen path) = (option_or unfit taken ≡ Some (string_bytes path))
     ⊎ ((unfit ≡ None) × ((string_bytes path ≡ passing) ⊎ (string_bytes path ≡ name)) × CanRefuse)
 IsRefusal unfit taken passing name CanRefuse (by.Fault fault) = fault ≡ Memory
+
+-- The run is stopped because no file is made.
+pub record IsNotMade {D : Type 0} (unfit taken : Option (List ℕ)) (passing name : List ℕ) (CanRefuse : Type 0)
+    (old new : D) (stopped : Stopped) : Type 0 where
+  pub refusal : IsRefusal unfit taken passing name CanRefuse stopped
+  -- if a name is refused, whatever it leads to, nothing is touched
+  pub untouched : (unfit ≡ None) ⊎ (new ≡ old)
 
 -- what a killed run left under the passing name is removed, or nothing is
 abbrev pub IsCleared : {D : Type 0} → (D → List ℕ → Bool → D → Type 0) → List ℕ → D → D → Type 0
@@ -82,3 +100,16 @@ abbrev pub SettlesFile : {D : Type 0} → (D → List ℕ → Bool → Bool → 
 SettlesFile renames syncs discards name (Err fault) result old new = discards old new
 SettlesFile renames syncs discards name (Ok status) result old new = (named : Result (Unit {0}) NameFault)
     × (is_ok named ≡ is_ok result) × TakesName renames syncs discards name named old new
+
+-- The name leads to all that a file took, also after a crash.
+pub record LeadsForGood (now : Entry) (may_leave : Entry → Type 0) (taken : Option (List ℕ)) : Type 0 where
+  pub named : Leads now taken
+  pub kept : IfSome taken (λ bytes. (c : Entry) → may_leave c → c ≡ File bytes)
+
+-- What names lead to after a file took its name, or was removed.
+pub record LeadToOldOrNew (apart : List ℕ → List ℕ → Bool) (passing name : List ℕ) (taken : Option (List ℕ))
+    (old new : List ℕ → Entry) : Type 0 where
+  -- each that is apart from both names: what it led to before
+  pub others : SameWhere (λ n. apart n passing && apart n name) old new
+  -- the name itself, if it is apart from the passing name: that, or all that the file took
+  pub old_or_new : apart name passing ≡ true → (new name ≡ old name) ⊎ Leads (new name) taken

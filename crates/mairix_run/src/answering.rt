@@ -1,25 +1,18 @@
 //! The answer of a search of the archives to which some names lead.
-ghost use Rattle.std.specs.Prelude.{◌≡◌, ◌⊎◌, ◌<◌, ◌≤◌, ◌^◌, ◌-◌, ◌++◌, ℕ, List, true, None, Some, Ok, Err, All, length, map, vec_len, IfOk, IfErr, IfSome};
+ghost use Rattle.std.specs.Prelude.{◌≡◌, ◌⊎◌, ◌<◌, ◌≤◌, ◌^◌, ◌-◌, ℕ, List, true, None, Some, Ok, Err, All, length, map, vec_len, IfOk, IfSome};
 ghost use Rattle.std.specs.Bool.{OnTrue};
+ghost use Rattle.std.specs.Result.{MatchResult};
 ghost use Rattle.std.specs.String.{string_bytes};
 ghost use Rattle.contract_words.specs.Devices.{Counted};
-ghost use Rattle.index_job.specs.ArchiveRefusals.{AreSound};
-ghost use Rattle.index_job.specs.ArchiveTables.{Mbox, table};
-ghost use Rattle.index_run.specs.ArchivesIndexed.{mboxes};
 ghost use Rattle.mail_answer.specs.Asked.{HoldsArchives};
-ghost use Rattle.mail_index.specs.Files.{index_file};
-ghost use Rattle.mail_index.specs.Tables.{IsPath};
 ghost use Rattle.mairix_options.specs.declared.rcfile.Rc.{Rc};
-ghost use Rattle.mairix_run.specs.Answered.{AnswersBy, IsRefusedFirst, IsSearchFaultBy, comes_before, is_unread, result_of_reply};
-ghost use Rattle.mairix_tool.specs.Altered.{AreToldApart, altered_archive};
-ghost use Rattle.mairix_tool.specs.Asked.{asked_rc, asks, Wanted};
-ghost use Rattle.mairix_tool.specs.OldTables.{ServesFor};
-ghost use Rattle.mairix_tool.specs.Replies.{KeepsRawBack};
-ghost use Rattle.mairix_tool.specs.Runs.{IsRefusedAs, IsReply, IsStaleOr, IsStoredReply, IsThisOrMemory};
+ghost use Rattle.mairix_run.specs.Answered.{AnswersBy, AnswersByMessages, FailsWithCauses, IsRefusedFirst, IsSearchFaultBy, LeavesUnsent, RefusesBeforeReading, is_unread, result_of_reply};
+ghost use Rattle.mairix_tool.specs.Asked.{asked_rc, asks};
+ghost use Rattle.mairix_tool.specs.Runs.{IsRefusedAs, IsReply, IsStoredReply, IsThisOrMemory};
 ghost use Rattle.named_archives.specs.Names.{files_of};
 ghost use Rattle.named_archives.specs.Progress.{CannotRead};
+ghost use Rattle.named_files.specs.Reported.{AddsReports};
 ghost use Rattle.run_faults.specs.Faults.{fault_in, is_failed_out, IsSearchFault};
-ghost use Rattle.run_faults.specs.declared.fault.Fault.TheVariants.{TooMany};
 
 use crate::unread::by_memory;
 use mail_answer::Archives;
@@ -86,48 +79,27 @@ pub fn answer_names<F: Folder, O: Out>(
         → AnswersBy (IsStoredReply
         (asks search.now.words.now search.now.text.now search.now.moment) index.now bytes)
         result (O.taken out.old) (O.taken out.new)) }
-    // If these archives are sound, and the index is theirs, or says the same of them: the answer is that of their own
-    // messages.
-    ensures indexed { IfSome search.now.index (λ index. length search.now.paths.now < 2 ^ 32
-        → (w : Wanted) (bytes : List (List ℕ))
-        → asks search.now.words.now search.now.text.now search.now.moment ≡ Ok w
-        → length w.paths ≡ length bytes → AreSound (mboxes w.paths bytes)
-        → ServesFor w (table (mboxes w.paths bytes)) index.now
+    // If these archives are sound, and the index serves for them, the answer is that of their own messages.
+    ensures by_messages { IfSome search.now.index (λ index. length search.now.paths.now < 2 ^ 32
+        → (bytes : List (List ℕ))
         → files_of (F.holds folder.now) search.now.paths.now ≡ map Some bytes
         → F.agree reports.new ≡ true
-        → AnswersBy (IsReply (Ok w) bytes) result (O.taken out.old) (O.taken out.new)) }
-    // With `--verify`, if the index is that of any sound archives, and SHA-256 distinguishes these from those that
-    // there are now: the answer is by the archives' own messages, unless one of them is reported as altered.
-    ensures verified { IfSome search.now.index (λ index. length search.now.paths.now < 2 ^ 32
-        → (w : Wanted) (before : List Mbox) (bytes : List (List ℕ))
-        → asks search.now.words.now search.now.text.now search.now.moment ≡ Ok w → w.verify ≡ true
-        → All (λ a. IsPath a.path) before → AreSound before
-        → index.now ≡ index_file (table before)
-        → files_of (F.holds folder.now) search.now.paths.now ≡ map Some bytes
-        → F.agree reports.new ≡ true → AreToldApart (map (λ a. a.bytes) before ++ bytes)
-        → AnswersBy (IsStaleOr (altered_archive before w.paths bytes) (IsReply (Ok w) bytes))
-        result (O.taken out.old) (O.taken out.new)) }
+        → AnswersByMessages (asks search.now.words.now search.now.text.now search.now.moment)
+        index.now bytes result (O.taken out.old) (O.taken out.new)) }
     // Whatever is reported: what is refused before any archive is read is the fault, unless memory runs out.
-    ensures refused { (fault : Fault) → length search.now.paths.now < 2 ^ 32
-        → IsRefusedFirst (asks search.now.words.now search.now.text.now search.now.moment)
-        search.now.index fault
-        → IsThisOrMemory fault (fault_in result) × (out.new ≡ out.old) }
-    ensures few { 2 ^ 32 ≤ length search.now.paths.now
-        → (result ≡ Err TooMany) × (out.new ≡ out.old) × (reports.new ≡ reports.old) }
-    ensures status { IfOk result (λ status. status ≤ 1) }
-    ensures kinds { IfErr result (λ fault. length search.now.paths.now < 2 ^ 32
+    ensures refused { RefusesBeforeReading
+        (asks search.now.words.now search.now.text.now search.now.moment) search.now.index
+        (length search.now.paths.now) result out.old out.new reports.old reports.new }
+    ensures ending { MatchResult result (λ status. status ≤ 1)
+        (λ fault. length search.now.paths.now < 2 ^ 32
         → IsSearchFaultBy search.now.index fault) }
-    ensures silent { OnTrue (comes_before (fault_in result)) (out.new ≡ out.old) }
-    ensures raw { IfOk (asks search.now.words.now search.now.text.now search.now.moment)
-        (λ w. KeepsRawBack w.search (fault_in result) out.old out.new) }
-    // A failed read of an archive that is there has a cause.
-    ensures unread { (bytes : List (List ℕ))
-        → files_of (F.holds folder.now) search.now.paths.now ≡ map Some bytes
-        → OnTrue (is_unread (fault_in result)) (CannotRead F.can_refuse F.reads_can_fail) }
-    ensures out_failed { Counted (is_failed_out (fault_in result)) (O.failures out.old)
-        (O.failures out.new) }
-    ensures earlier { F.agree reports.new ≡ true → F.agree reports.old ≡ true }
-    ensures right { F.reports_are_right → F.agree reports.new ≡ F.agree reports.old }
+    ensures unsent { LeavesUnsent (asks search.now.words.now search.now.text.now search.now.moment)
+        (fault_in result) out.old out.new }
+    // A failed read of an archive that is there has a cause. The output's failure is reported, and no other is.
+    ensures causes { FailsWithCauses (files_of (F.holds folder.now) search.now.paths.now)
+        (CannotRead F.can_refuse F.reads_can_fail) (fault_in result)
+        (O.failures out.old) (O.failures out.new) }
+    ensures reports { AddsReports F.reports_are_right (F.agree reports.old) (F.agree reports.new) }
 {
     let Some(mut archives) = NamedArchives::new(folder, alloc, search.paths, search.states) else {
         return Err(Fault::TooMany);
@@ -161,39 +133,25 @@ fn answer_archives<F: Folder, A: Archives, O: Out>(
         → AnswersBy (IsStoredReply
         (asks search.now.words.now search.now.text.now search.now.moment) index.now bytes)
         result (O.taken out.old) (O.taken out.new)) }
-    ensures indexed { IfSome search.now.index (λ index. (w : Wanted) (bytes : List (List ℕ))
-        → asks search.now.words.now search.now.text.now search.now.moment ≡ Ok w
-        → length w.paths ≡ length bytes → AreSound (mboxes w.paths bytes)
-        → ServesFor w (table (mboxes w.paths bytes)) index.now
+    ensures by_messages { IfSome search.now.index (λ index. (bytes : List (List ℕ))
         → A.held archives.new ≡ Some bytes
-        → AnswersBy (IsReply (Ok w) bytes) result (O.taken out.old) (O.taken out.new)) }
-    ensures verified { IfSome search.now.index (λ index. (w : Wanted) (before : List Mbox)
-        (bytes : List (List ℕ))
-        → asks search.now.words.now search.now.text.now search.now.moment ≡ Ok w → w.verify ≡ true
-        → All (λ a. IsPath a.path) before → AreSound before
-        → index.now ≡ index_file (table before) → A.held archives.new ≡ Some bytes
-        → AreToldApart (map (λ a. a.bytes) before ++ bytes)
-        → AnswersBy (IsStaleOr (altered_archive before w.paths bytes) (IsReply (Ok w) bytes))
-        result (O.taken out.old) (O.taken out.new)) }
+        → AnswersByMessages (asks search.now.words.now search.now.text.now search.now.moment)
+        index.now bytes result (O.taken out.old) (O.taken out.new)) }
     ensures refused { (fault : Fault)
         → IsRefusedFirst (asks search.now.words.now search.now.text.now search.now.moment)
         search.now.index fault
         → IsThisOrMemory fault (fault_in result) × (out.new ≡ out.old) }
     ensures held { HoldsArchives A.Archives archives.old archives.new }
-    ensures status { IfOk result (λ status. status ≤ 1) }
-    ensures kinds { IfErr result (IsSearchFaultBy search.now.index) }
-    ensures silent { OnTrue (comes_before (fault_in result)) (out.new ≡ out.old) }
-    ensures raw { IfOk (asks search.now.words.now search.now.text.now search.now.moment)
-        (λ w. KeepsRawBack w.search (fault_in result) out.old out.new) }
+    ensures ending { MatchResult result (λ status. status ≤ 1)
+        (IsSearchFaultBy search.now.index) }
+    ensures unsent { LeavesUnsent (asks search.now.words.now search.now.text.now search.now.moment)
+        (fault_in result) out.old out.new }
     // After a failed read, a call of the archives has failed; or there is a cause, if each file is there.
-    ensures unread { (bytes : List (List ℕ))
-        → files_of (F.holds folder.now) search.now.paths.now ≡ map Some bytes
-        → OnTrue (is_unread (fault_in result)) ((A.failures archives.old < A.failures archives.new)
-        ⊎ CannotRead F.can_refuse F.reads_can_fail) }
-    ensures out_failed { Counted (is_failed_out (fault_in result)) (O.failures out.old)
-        (O.failures out.new) }
-    ensures earlier { F.agree reports.new ≡ true → F.agree reports.old ≡ true }
-    ensures right { F.reports_are_right → F.agree reports.new ≡ F.agree reports.old }
+    ensures causes { FailsWithCauses (files_of (F.holds folder.now) search.now.paths.now)
+        ((A.failures archives.old < A.failures archives.new)
+        ⊎ CannotRead F.can_refuse F.reads_can_fail) (fault_in result)
+        (O.failures out.old) (O.failures out.new) }
+    ensures reports { AddsReports F.reports_are_right (F.agree reports.old) (F.agree reports.new) }
 {
     match search.index {
         Some(index) => answer_stored(alloc, search, index, archives, out),
@@ -223,19 +181,14 @@ fn answer_once<F: Folder, A: Archives, O: Out>(
         → asks search.now.words.now search.now.text.now search.now.moment ≡ Err fault
         → IsThisOrMemory fault (fault_in result) × (out.new ≡ out.old) }
     ensures held { HoldsArchives A.Archives archives.old archives.new }
-    ensures status { IfOk result (λ status. status ≤ 1) }
-    ensures kinds { IfErr result (IsSearchFaultBy None) }
-    ensures silent { OnTrue (comes_before (fault_in result)) (out.new ≡ out.old) }
-    ensures raw { IfOk (asks search.now.words.now search.now.text.now search.now.moment)
-        (λ w. KeepsRawBack w.search (fault_in result) out.old out.new) }
-    ensures unread { (bytes : List (List ℕ))
-        → files_of (F.holds folder.now) search.now.paths.now ≡ map Some bytes
-        → OnTrue (is_unread (fault_in result)) ((A.failures archives.old < A.failures archives.new)
-        ⊎ CannotRead F.can_refuse F.reads_can_fail) }
-    ensures out_failed { Counted (is_failed_out (fault_in result)) (O.failures out.old)
-        (O.failures out.new) }
-    ensures earlier { F.agree reports.new ≡ true → F.agree reports.old ≡ true }
-    ensures right { F.reports_are_right → F.agree reports.new ≡ F.agree reports.old }
+    ensures ending { MatchResult result (λ status. status ≤ 1) (IsSearchFaultBy None) }
+    ensures unsent { LeavesUnsent (asks search.now.words.now search.now.text.now search.now.moment)
+        (fault_in result) out.old out.new }
+    ensures causes { FailsWithCauses (files_of (F.holds folder.now) search.now.paths.now)
+        ((A.failures archives.old < A.failures archives.new)
+        ⊎ CannotRead F.can_refuse F.reads_can_fail) (fault_in result)
+        (O.failures out.old) (O.failures out.new) }
+    ensures reports { AddsReports F.reports_are_right (F.agree reports.old) (F.agree reports.new) }
 {
     let Search {
         words,
@@ -284,29 +237,17 @@ fn answer_stored<F: Folder, A: Archives, O: Out>(
         → AnswersBy (IsStoredReply
         (asks search.now.words.now search.now.text.now search.now.moment) index.now bytes)
         result (O.taken out.old) (O.taken out.new) }
-    ensures indexed { (w : Wanted) (bytes : List (List ℕ))
-        → asks search.now.words.now search.now.text.now search.now.moment ≡ Ok w
-        → length w.paths ≡ length bytes → AreSound (mboxes w.paths bytes)
-        → ServesFor w (table (mboxes w.paths bytes)) index.now
-        → A.held archives.new ≡ Some bytes
-        → AnswersBy (IsReply (Ok w) bytes) result (O.taken out.old) (O.taken out.new) }
-    ensures verified { (w : Wanted) (before : List Mbox) (bytes : List (List ℕ))
-        → asks search.now.words.now search.now.text.now search.now.moment ≡ Ok w → w.verify ≡ true
-        → All (λ a. IsPath a.path) before → AreSound before
-        → index.now ≡ index_file (table before) → A.held archives.new ≡ Some bytes
-        → AreToldApart (map (λ a. a.bytes) before ++ bytes)
-        → AnswersBy (IsStaleOr (altered_archive before w.paths bytes) (IsReply (Ok w) bytes))
-        result (O.taken out.old) (O.taken out.new) }
+    ensures by_messages { (bytes : List (List ℕ)) → A.held archives.new ≡ Some bytes
+        → AnswersByMessages (asks search.now.words.now search.now.text.now search.now.moment)
+        index.now bytes result (O.taken out.old) (O.taken out.new) }
     ensures refused { (fault : Fault)
         → IsRefusedAs (asks search.now.words.now search.now.text.now search.now.moment)
         index.now fault
         → IsThisOrMemory fault (fault_in result) × (out.new ≡ out.old) }
     ensures held { HoldsArchives A.Archives archives.old archives.new }
-    ensures status { IfOk result (λ status. status ≤ 1) }
-    ensures kinds { IfErr result IsSearchFault }
-    ensures silent { OnTrue (comes_before (fault_in result)) (out.new ≡ out.old) }
-    ensures raw { IfOk (asks search.now.words.now search.now.text.now search.now.moment)
-        (λ w. KeepsRawBack w.search (fault_in result) out.old out.new) }
+    ensures ending { MatchResult result (λ status. status ≤ 1) IsSearchFault }
+    ensures unsent { LeavesUnsent (asks search.now.words.now search.now.text.now search.now.moment)
+        (fault_in result) out.old out.new }
     ensures unread { OnTrue (is_unread (fault_in result))
         (A.failures archives.old < A.failures archives.new) }
     ensures out_failed { Counted (is_failed_out (fault_in result)) (O.failures out.old)

@@ -11,6 +11,7 @@ ghost use Rattle.mairix_run.specs.Answered.{is_unread};
 ghost use Rattle.mairix_run.specs.Indexed.{IsIndexRunResult};
 ghost use Rattle.named_archives.specs.Names.{files_of};
 ghost use Rattle.named_archives.specs.Progress.{CannotRead};
+ghost use Rattle.named_files.specs.Reported.{AddsReports};
 ghost use Rattle.run_faults.specs.Faults.{fault_in, is_failed_out, IsOfIndexing};
 
 use crate::unread::by_memory;
@@ -45,8 +46,6 @@ pub fn index_names<F: Folder, O: Out>(
         → IsIndexRunResult (mboxes (map string_bytes names.now) bytes) (O.taken out.old)
         (O.taken out.new)
         result }
-    ensures earlier { F.agree reports.new ≡ true → F.agree reports.old ≡ true }
-    ensures right { F.reports_are_right → F.agree reports.new ≡ F.agree reports.old }
     // Whatever bytes the files have, what is sent is an index file, or a front of one.
     ensures formed { OnOk result ((t : Table) × IsWellFormed t
         × Appends (O.taken out.old) (O.taken out.new) (index_file t)) }
@@ -62,6 +61,7 @@ pub fn index_names<F: Folder, O: Out>(
         → OnTrue (is_unread (fault_in result)) (CannotRead F.can_refuse F.reads_can_fail) }
     ensures out_failed { Counted (is_failed_out (fault_in result)) (O.failures out.old)
         (O.failures out.new) }
+    ensures reports { AddsReports F.reports_are_right (F.agree reports.old) (F.agree reports.new) }
 {
     let Ok(mut sources) = sources_of(folder, alloc, names, &[]) else {
         return Err(Fault::Memory);

@@ -4,6 +4,7 @@
 ghost use Rattle.std.specs.Prelude.{◌≡◌, ◌⊎◌, ◌<◌, ◌≤◌, ◌-◌, ◌^◌, true, false, None, Some, length, IfOk, IfErr, OnOk};
 ghost use Rattle.named_files.specs.Entries.{bytes_of};
 ghost use Rattle.named_files.specs.Refusals.{HasCause};
+ghost use Rattle.named_files.specs.Reported.{AddsReports};
 ghost use Rattle.mairix_run.specs.KeptMail.{begins_as_mail, begins_as_mbox, is_start, IsNotReplaced, IsShownAsMbox};
 
 use crate::file_front::{PIECE, read_front};
@@ -34,8 +35,7 @@ pub fn check_no_mail<F: Folder>(
     ensures stopped { IfErr result (λ stopped. F.agree reports.new ≡ true → IsNotReplaced name.now
         ((begins_as_mail (F.holds folder.now name.now) ≡ true) ⊎ (F.can_refuse ⊎ F.reads_can_fail))
         stopped) }
-    ensures earlier { F.agree reports.new ≡ true → F.agree reports.old ≡ true }
-    ensures right { F.reports_are_right → F.agree reports.new ≡ F.agree reports.old }
+    ensures reports { AddsReports F.reports_are_right (F.agree reports.old) (F.agree reports.new) }
 {
     match folder.look(alloc, reports, name) {
         Ok(Look::File(_)) => {}
@@ -62,8 +62,7 @@ fn is_mail<F: Folder>(
         → is ≡ begins_as_mail (F.holds folder.now name.now)) }
     ensures refused { IfErr result (λ why. HasCause why
         ((bytes_of (F.holds folder.now name.now) ≡ None) ⊎ (F.can_refuse ⊎ F.reads_can_fail))) }
-    ensures earlier { F.agree reports.new ≡ true → F.agree reports.old ≡ true }
-    ensures right { F.reports_are_right → F.agree reports.new ≡ F.agree reports.old }
+    ensures reports { AddsReports F.reports_are_right (F.agree reports.old) (F.agree reports.new) }
 {
     let mut file = match folder.open(alloc, name) {
         Ok(file) => file,

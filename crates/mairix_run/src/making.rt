@@ -1,11 +1,13 @@
 //! The file that a run makes.
-ghost use Rattle.std.specs.Prelude.{◌≡◌, ◌≢◌, ◌⊎◌, ◌<◌, ◌-◌, ◌^◌, ◌++◌, ◌&&◌, if◌then◌else◌, ℕ, true, false, List, [], None, Some, codes, is_ok, string_bytes, IfOk, IfErr, OnOk, OnErr, IfSome};
-ghost use Rattle.named_files.specs.Crashes.{LeavesNoMoreWhere, LeavesOnly};
-ghost use Rattle.named_files.specs.Entries.{Entry, File, Leads, SameWhere};
+ghost use Rattle.std.specs.Prelude.{◌≡◌, ◌≢◌, ◌⊎◌, ◌<◌, ◌-◌, ◌^◌, ◌++◌, ◌&&◌, if◌then◌else◌, ℕ, true, false, List, [], None, Some, codes, is_ok, string_bytes, IfOk, IfErr, OnOk, OnErr};
+ghost use Rattle.std.specs.Result.{MatchResult};
+ghost use Rattle.named_files.specs.Crashes.{LeavesOnly};
+ghost use Rattle.named_files.specs.OtherNames.{LeavesAloneThroughout};
 ghost use Rattle.named_files.specs.Refusals.{HasCause, refusal_of_name};
+ghost use Rattle.named_files.specs.Reported.{AddsReports};
 ghost use Rattle.named_files.specs.TakingNames.{Replaces};
 ghost use Rattle.mairix_run.specs.KeptMail.{IsNotReplaced};
-ghost use Rattle.mairix_run.specs.MadeFiles.{IsRefusal, IsSettled, MakesFile, fault_of_refusal, SettlesFile, has_last_part, is_open_to, is_special, taken_name, unfit_name};
+ghost use Rattle.mairix_run.specs.MadeFiles.{IsNotMade, IsRefusal, IsSettled, LeadToOldOrNew, LeadsForGood, MakesFile, MayBeMade, fault_of_refusal, SettlesFile, has_last_part, is_open_to, is_special, taken_name, unfit_name};
 ghost use Rattle.mairix_run.specs.ReadFiles.{are_all_apart, names_read};
 ghost use Rattle.run_faults.specs.declared.fault.Fault.TheVariants.{Out};
 
@@ -41,44 +43,26 @@ pub fn create_file<F: Folder>(
     read: &ReadNames<'_>,
 ) -> Result<F::New, Stopped>
     requires { F.making folder.old ≡ None }
-    // A file is made only if neither name is refused, whatever they lead to.
-    ensures fit { OnOk result (F.agree reports.new ≡ true
-        → unfit_name (F.apart folder.old) (names_read read.now) passing.now name.now ≡ None) }
-    // Then another file under the passing name doesn't change what the name leads to.
-    ensures names_apart { OnOk result (F.agree reports.new ≡ true
-        → F.apart folder.old name.now passing.now ≡ true) }
-    ensures plain { OnOk result (F.agree reports.new ≡ true
-        → is_special (F.holds folder.old name.now) ≡ false) }
-    ensures free { OnOk result (F.agree reports.new ≡ true
-        → is_open_to (F.holds folder.old) (F.is_leftover folder.old) passing.now ≡ true) }
+    // A file is made only if neither name is refused.
+    ensures serves { OnOk result (F.agree reports.new ≡ true
+        → MayBeMade (F.holds folder.old) (F.apart folder.old) (F.is_leftover folder.old)
+        (names_read read.now) passing.now name.now) }
     // It doesn't give up by itself, and names the path that is refused.
-    ensures refused { IfErr result (λ stopped. F.agree reports.new ≡ true → IsRefusal
+    ensures refused { IfErr result (λ stopped. F.agree reports.new ≡ true → IsNotMade
         (unfit_name (F.apart folder.old) (names_read read.now) passing.now name.now)
         (taken_name (F.holds folder.old) (F.is_leftover folder.old) passing.now name.now)
-        passing.now name.now F.can_refuse stopped) }
-    // If a name is refused, whatever it leads to, nothing is touched.
-    ensures untouched { OnErr result (F.agree reports.new ≡ true
-        → (unfit_name (F.apart folder.old) (names_read read.now) passing.now name.now ≡ None)
-        ⊎ (folder.new ≡ folder.old)) }
-    ensures empty { IfOk result (λ new. F.New.taken new ≡ Some []) }
-    ensures fresh { IfOk result (λ new. F.New.failures new ≡ 0) }
-    ensures making { OnOk result (F.making folder.new ≡ Some passing.now) }
-    ensures none { OnErr result (F.making folder.new ≡ None) }
-    // Each other name leads to what it led to before; without a file all do, but for what a killed run left.
-    ensures others { SameWhere (λ n. F.apart folder.old n passing.now) (F.holds folder.old)
-        (F.holds folder.new) }
+        passing.now name.now F.can_refuse folder.old folder.new stopped) }
+    ensures empty { IfOk result (λ new. (F.New.taken new ≡ Some []) × (F.New.failures new ≡ 0)) }
+    ensures making { MatchResult result (λ _. F.making folder.new ≡ Some passing.now)
+        (λ _. F.making folder.new ≡ None) }
+    // Each other name is left alone at any moment of the call.
+    ensures others { LeavesAloneThroughout F.apart F.holds F.may_leave F.moment F.left_since
+        (λ n. F.apart folder.old n passing.now) folder.old folder.new }
+    // Without a file each name leads to what it led to before, but for what a killed run left.
     ensures stays { OnErr result (F.is_leftover folder.old passing.now ≡ false
         → (n : List ℕ) → F.holds folder.new n ≡ F.holds folder.old n) }
-    ensures crash { LeavesNoMoreWhere (λ n. F.apart folder.old n passing.now)
-        (F.may_leave folder.old) (F.may_leave folder.new) }
-    ensures apart { (a b : List ℕ) → F.apart folder.new a b ≡ F.apart folder.old a b }
-    // A crash at any moment of the call leaves under each other name what it might have left before.
-    ensures any_moment { LeavesOnly F.moment F.left_since folder.old folder.new
-        (λ n c. F.apart folder.old n passing.now ≡ true → F.may_leave folder.old n c) }
     ensures calls { MakesFile F.removes F.creates passing.now (is_ok result) folder.old folder.new }
-    // What is reported agrees only if what was reported before does.
-    ensures earlier { F.agree reports.new ≡ true → F.agree reports.old ≡ true }
-    ensures right { F.reports_are_right → F.agree reports.new ≡ F.agree reports.old }
+    ensures reports { AddsReports F.reports_are_right (F.agree reports.old) (F.agree reports.new) }
 {
     if let Err(stopped) = check_names(folder, alloc, reports, passing, name, read) {
         return Err(stopped);
@@ -108,8 +92,7 @@ fn check_names<F: Folder>(
     ensures err { IfErr result (λ stopped. F.agree reports.new ≡ true → IsRefusal
         (unfit_name (F.apart folder.now) (names_read read.now) passing.now name.now)
         None passing.now name.now ⊥ stopped) }
-    ensures earlier { F.agree reports.new ≡ true → F.agree reports.old ≡ true }
-    ensures right { F.reports_are_right → F.agree reports.new ≡ F.agree reports.old }
+    ensures reports { AddsReports F.reports_are_right (F.agree reports.old) (F.agree reports.new) }
 {
     if !has_last_part(name) {
         return Err(Stopped::at(alloc, name));
@@ -137,8 +120,7 @@ fn is_passing_apart<F: Folder>(
     ensures exact { IfOk result (λ is. F.agree reports.new ≡ true
         → is ≡ (are_all_apart (F.apart folder.now) (names_read read.now) passing.now
         && F.apart folder.now name.now passing.now)) }
-    ensures earlier { F.agree reports.new ≡ true → F.agree reports.old ≡ true }
-    ensures right { F.reports_are_right → F.agree reports.new ≡ F.agree reports.old }
+    ensures reports { AddsReports F.reports_are_right (F.agree reports.old) (F.agree reports.new) }
 {
     let are_apart = read.are_apart_from(folder, alloc, reports, passing)?;
     if !are_apart {
@@ -167,8 +149,7 @@ fn check_not_special<F: Folder>(
         → is_special (F.holds folder.now name.now) ≡ false) }
     ensures err { IfErr result (λ stopped. F.agree reports.new ≡ true → IsNotReplaced name.now
         ((is_special (F.holds folder.now name.now) ≡ true) ⊎ F.can_refuse) stopped) }
-    ensures earlier { F.agree reports.new ≡ true → F.agree reports.old ≡ true }
-    ensures right { F.reports_are_right → F.agree reports.new ≡ F.agree reports.old }
+    ensures reports { AddsReports F.reports_are_right (F.agree reports.old) (F.agree reports.new) }
 {
     match folder.look(alloc, reports, name) {
         Ok(Look::Other) => Err(Stopped::at(alloc, name)),
@@ -192,22 +173,15 @@ fn make_file<F: Folder>(
     ensures refused { IfErr result (λ why. F.agree reports.new ≡ true → HasCause why
         ((is_open_to (F.holds folder.old) (F.is_leftover folder.old) name.now ≡ false)
         ⊎ F.can_refuse)) }
-    ensures empty { IfOk result (λ new. F.New.taken new ≡ Some []) }
-    ensures fresh { IfOk result (λ new. F.New.failures new ≡ 0) }
-    ensures making { OnOk result (F.making folder.new ≡ Some name.now) }
-    ensures none { OnErr result (F.making folder.new ≡ None) }
-    ensures others { SameWhere (λ n. F.apart folder.old n name.now) (F.holds folder.old)
-        (F.holds folder.new) }
+    ensures empty { IfOk result (λ new. (F.New.taken new ≡ Some []) × (F.New.failures new ≡ 0)) }
+    ensures making { MatchResult result (λ _. F.making folder.new ≡ Some name.now)
+        (λ _. F.making folder.new ≡ None) }
+    ensures others { LeavesAloneThroughout F.apart F.holds F.may_leave F.moment F.left_since
+        (λ n. F.apart folder.old n name.now) folder.old folder.new }
     ensures stays { OnErr result (F.is_leftover folder.old name.now ≡ false
         → (n : List ℕ) → F.holds folder.new n ≡ F.holds folder.old n) }
-    ensures crash { LeavesNoMoreWhere (λ n. F.apart folder.old n name.now) (F.may_leave folder.old)
-        (F.may_leave folder.new) }
-    ensures apart { (a b : List ℕ) → F.apart folder.new a b ≡ F.apart folder.old a b }
-    ensures any_moment { LeavesOnly F.moment F.left_since folder.old folder.new
-        (λ n c. F.apart folder.old n name.now ≡ true → F.may_leave folder.old n c) }
     ensures calls { MakesFile F.removes F.creates name.now (is_ok result) folder.old folder.new }
-    ensures earlier { F.agree reports.new ≡ true → F.agree reports.old ≡ true }
-    ensures right { F.reports_are_right → F.agree reports.new ≡ F.agree reports.old }
+    ensures reports { AddsReports F.reports_are_right (F.agree reports.old) (F.agree reports.new) }
 {
     if let Err(why) = clear_leftover(folder, alloc, reports, name) {
         return Err(why);
@@ -232,27 +206,20 @@ pub fn settle_file<F: Folder>(
     // The output fails only with a cause.
     ensures refused { OnOk written (IfErr result (λ fault. fault ≡ Out
         → F.can_refuse ⊎ F.writes_can_fail)) }
-    // With a status, the name leads to all that was written.
-    ensures named { OnOk result (Leads (F.holds folder.new name.now) (F.New.taken new)) }
-    // After a fault of the run, a name that is apart from the passing name leads to what it led to before; if only the
-    // output failed, to one of both.
-    ensures not_named { OnErr written (F.apart folder.old name.now passing.now ≡ true
-        → F.holds folder.new name.now ≡ F.holds folder.old name.now) }
-    ensures old_or_new { F.apart folder.old name.now passing.now ≡ true
-        → (F.holds folder.new name.now ≡ F.holds folder.old name.now)
-        ⊎ Leads (F.holds folder.new name.now) (F.New.taken new) }
-    ensures others { SameWhere (λ n. F.apart folder.old n passing.now
-        && F.apart folder.old n name.now) (F.holds folder.old) (F.holds folder.new) }
-    // A crash at any moment of the call leaves under such a name what it might have left before, or the whole new file.
+    // With a status, the name leads to all that was written, also after a crash.
+    ensures named { OnOk result (LeadsForGood (F.holds folder.new name.now)
+        (F.may_leave folder.new name.now) (F.New.taken new)) }
+    // After a fault of the run, each name that is apart from the passing name is left alone, also the name itself.
+    ensures not_named { OnErr written (LeavesAloneThroughout F.apart F.holds F.may_leave F.moment
+        F.left_since (λ n. F.apart folder.old n passing.now) folder.old folder.new) }
+    // If only the output failed, the name leads to what it led to before, or to all that was written. Each other name
+    // leads to what it led to before.
+    ensures others { LeadToOldOrNew (F.apart folder.old) passing.now name.now (F.New.taken new)
+        (F.holds folder.old) (F.holds folder.new) }
+    // A crash at any moment of the call leaves under the name what it might have left before, or the whole new file.
     ensures any_moment { LeavesOnly F.moment F.left_since folder.old folder.new
         (Replaces (F.apart folder.old) (F.may_leave folder.old) passing.now name.now
         (F.New.taken new)) }
-    // After a fault of the run, only what it might have left before.
-    ensures discarded { OnErr written (LeavesOnly F.moment F.left_since folder.old folder.new
-        (λ n c. F.apart folder.old n passing.now ≡ true → F.may_leave folder.old n c)) }
-    // With a status, a crash after the call leaves the whole new file.
-    ensures kept { OnOk result (IfSome (F.New.taken new) (λ bytes. (c : Entry)
-        → F.may_leave folder.new name.now c → c ≡ File bytes)) }
     ensures none { F.making folder.new ≡ None }
     ensures calls { SettlesFile F.renames F.syncs F.discards name.now written result folder.old
         folder.new }

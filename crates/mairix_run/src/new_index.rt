@@ -10,6 +10,7 @@ ghost use Rattle.named_archives.specs.Names.{files_of};
 ghost use Rattle.named_archives.specs.Progress.{CannotRead};
 ghost use Rattle.named_files.specs.Crashes.{LeavesOnly};
 ghost use Rattle.named_files.specs.Entries.{SameWhere};
+ghost use Rattle.named_files.specs.Reported.{AddsReports};
 
 use crate::indexing::index_names;
 use crate::kept_mail::check_no_mail;
@@ -70,8 +71,7 @@ pub(crate) fn replace_index<F: Folder>(
     ensures calls { CallsFor F.Folder (Some name.now)
         (ending_of_result result) folder.old folder.new }
     ensures none { F.making folder.new ≡ None }
-    ensures earlier { F.agree reports.new ≡ true → F.agree reports.old ≡ true }
-    ensures right { F.reports_are_right → F.agree reports.new ≡ F.agree reports.old }
+    ensures reports { AddsReports F.reports_are_right (F.agree reports.old) (F.agree reports.new) }
 {
     if let Err(stopped) = check_no_mail(folder, alloc, reports, name) {
         return Err(stopped);

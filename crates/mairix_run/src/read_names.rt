@@ -2,6 +2,7 @@
 ghost use Rattle.std.specs.Prelude.{◌≡◌, true, IfOk, string_bytes};
 ghost use Rattle.std.specs.List.{list_all};
 ghost use Rattle.std.specs.Option.{option_map_or};
+ghost use Rattle.named_files.specs.Reported.{AddsReports};
 ghost use Rattle.mairix_run.specs.ReadFiles.{are_all_apart, names_read};
 
 use named_files::Folder;
@@ -34,9 +35,8 @@ impl<'a> ReadNames<'a> {
     ) -> Result<bool, AllocError>
         ensures exact { IfOk result (λ are. F.agree reports.new ≡ true
             → are ≡ are_all_apart (F.apart folder.now) (names_read self.now) name.now) }
-        // What is reported agrees only if what was reported before does.
-        ensures earlier { F.agree reports.new ≡ true → F.agree reports.old ≡ true }
-        ensures right { F.reports_are_right → F.agree reports.new ≡ F.agree reports.old }
+        ensures reports { AddsReports F.reports_are_right (F.agree reports.old)
+            (F.agree reports.new) }
     {
         let is_apart = folder.is_apart(alloc, reports, self.rcfile, name)?;
         if !is_apart {
@@ -60,8 +60,7 @@ fn is_one_apart<F: Folder>(
 ) -> Result<bool, AllocError>
     ensures exact { IfOk result (λ is. F.agree reports.new ≡ true
         → is ≡ option_map_or (λ path. F.apart folder.now path.now name.now) path.entry true) }
-    ensures earlier { F.agree reports.new ≡ true → F.agree reports.old ≡ true }
-    ensures right { F.reports_are_right → F.agree reports.new ≡ F.agree reports.old }
+    ensures reports { AddsReports F.reports_are_right (F.agree reports.old) (F.agree reports.new) }
 {
     match path {
         Some(path) => folder.is_apart(alloc, reports, path, name),
@@ -79,8 +78,7 @@ fn are_apart<F: Folder>(
 ) -> Result<bool, AllocError>
     ensures exact { IfOk result (λ are. F.agree reports.new ≡ true
         → are ≡ list_all (λ path. F.apart folder.now (string_bytes path) name.now) paths.now) }
-    ensures earlier { F.agree reports.new ≡ true → F.agree reports.old ≡ true }
-    ensures right { F.reports_are_right → F.agree reports.new ≡ F.agree reports.old }
+    ensures reports { AddsReports F.reports_are_right (F.agree reports.old) (F.agree reports.new) }
 {
     for path in paths {
         let is_apart = folder.is_apart(alloc, reports, path.as_str(), name)?;

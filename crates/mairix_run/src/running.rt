@@ -15,6 +15,7 @@ ghost use Rattle.named_archives.specs.Names.{files_of};
 ghost use Rattle.named_archives.specs.States.{AreStatesOf};
 ghost use Rattle.named_files.specs.Crashes.{LeavesOnly};
 ghost use Rattle.named_files.specs.Entries.{SameWhere, bytes_of};
+ghost use Rattle.named_files.specs.Reported.{AddsReports};
 
 use crate::asked::Asked;
 use crate::index_file::read_index;
@@ -94,8 +95,7 @@ pub fn run_program<F: Folder, T: Texts, O: Stream, E: Out>(
         (T.is_usage_text texts.now (map string_bytes words.now)) T.memory_can_run_out ended
         result printed out.new err.old err.new }
     ensures none { F.making folder.new ≡ None }
-    ensures earlier { F.agree reports.new ≡ true → F.agree reports.old ≡ true }
-    ensures right { F.reports_are_right → F.agree reports.new ≡ F.agree reports.old }
+    ensures reports { AddsReports F.reports_are_right (F.agree reports.old) (F.agree reports.new) }
 {
     let ended = run_words(folder, alloc, reports, words, now, out);
     tell_ending(alloc, texts, words, ended, out, err)
@@ -118,8 +118,7 @@ fn run_words<F: Folder, O: Stream>(
         folder.old folder.new out.old out.new (ending_of_result result) }
     ensures none { F.making folder.new ≡ None }
     ensures count { O.failures out.new ≤ O.failures out.old + 1 }
-    ensures earlier { F.agree reports.new ≡ true → F.agree reports.old ≡ true }
-    ensures right { F.reports_are_right → F.agree reports.new ≡ F.agree reports.old }
+    ensures reports { AddsReports F.reports_are_right (F.agree reports.old) (F.agree reports.new) }
 {
     let plan = match plan_of(alloc, words) {
         Ok(plan) => plan,
@@ -147,8 +146,7 @@ fn run_plan<F: Folder, O: Stream>(
         folder.old folder.new out.old out.new (ending_of_result result) }
     ensures none { F.making folder.new ≡ None }
     ensures count { O.failures out.new ≤ O.failures out.old + 1 }
-    ensures earlier { F.agree reports.new ≡ true → F.agree reports.old ≡ true }
-    ensures right { F.reports_are_right → F.agree reports.new ≡ F.agree reports.old }
+    ensures reports { AddsReports F.reports_are_right (F.agree reports.old) (F.agree reports.new) }
 {
     let rcfile = plan.rcfile.as_str();
     let text = read_whole(folder, alloc, reports, rcfile);
@@ -189,8 +187,7 @@ fn run_asked<F: Folder, O: Stream>(
         folder.old folder.new out.old out.new (ending_of_result result) }
     ensures none { F.making folder.new ≡ None }
     ensures count { O.failures out.new ≤ O.failures out.old + 1 }
-    ensures earlier { F.agree reports.new ≡ true → F.agree reports.old ≡ true }
-    ensures right { F.reports_are_right → F.agree reports.new ≡ F.agree reports.old }
+    ensures reports { AddsReports F.reports_are_right (F.agree reports.old) (F.agree reports.new) }
 {
     let Asked { plan, rc, .. } = *asked;
     let states = match states_of(folder, alloc, reports, rc.paths.as_slice()) {
@@ -236,8 +233,7 @@ fn states_of<F: Folder>(
         ≡ Err (ending_of_stopped stopped))
         ⊎ IsTrouble (map string_bytes paths.now) F.can_refuse F.reads_can_fail
         (ending_of_stopped stopped)) }
-    ensures earlier { F.agree reports.new ≡ true → F.agree reports.old ≡ true }
-    ensures right { F.reports_are_right → F.agree reports.new ≡ F.agree reports.old }
+    ensures reports { AddsReports F.reports_are_right (F.agree reports.old) (F.agree reports.new) }
 {
     match first_states(folder, alloc, reports, paths) {
         Ok(states) => Ok(states),
@@ -273,8 +269,7 @@ fn search_stored<F: Folder, O: Stream>(
         folder.old folder.new out.old out.new (ending_of_result result) }
     ensures none { F.making folder.new ≡ None }
     ensures count { O.failures out.new ≤ O.failures out.old + 1 }
-    ensures earlier { F.agree reports.new ≡ true → F.agree reports.old ≡ true }
-    ensures right { F.reports_are_right → F.agree reports.new ≡ F.agree reports.old }
+    ensures reports { AddsReports F.reports_are_right (F.agree reports.old) (F.agree reports.new) }
 {
     let database = asked.rc.database.as_str();
     let index = read_index(folder, alloc, reports, database);

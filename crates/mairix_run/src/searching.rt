@@ -15,6 +15,7 @@ ghost use Rattle.named_archives.specs.Progress.{CannotRead};
 ghost use Rattle.named_archives.specs.States.{AreStatesOf};
 ghost use Rattle.named_files.specs.Crashes.{LeavesOnly};
 ghost use Rattle.named_files.specs.Entries.{SameWhere, bytes_of};
+ghost use Rattle.named_files.specs.Reported.{AddsReports};
 
 use crate::answering::{Search, answer_names};
 use crate::asked::Asked;
@@ -61,8 +62,7 @@ pub(crate) fn run_search<F: Folder, O: Stream>(
         folder.old folder.new out.old out.new (ending_of_result result) }
     ensures none { F.making folder.new ≡ None }
     ensures count { O.failures out.new ≤ O.failures out.old + 1 }
-    ensures earlier { F.agree reports.new ≡ true → F.agree reports.old ≡ true }
-    ensures right { F.reports_are_right → F.agree reports.new ≡ F.agree reports.old }
+    ensures reports { AddsReports F.reports_are_right (F.agree reports.old) (F.agree reports.new) }
 {
     let Asked {
         words,
@@ -114,8 +114,7 @@ fn print_answer<F: Folder, O: Stream>(
         (option_map (λ index. index.now) search.now.index) bytes) out.old out.new
         (ending_of_result result) }
     ensures count { O.failures out.new ≤ O.failures out.old + 1 }
-    ensures earlier { F.agree reports.new ≡ true → F.agree reports.old ≡ true }
-    ensures right { F.reports_are_right → F.agree reports.new ≡ F.agree reports.old }
+    ensures reports { AddsReports F.reports_are_right (F.agree reports.old) (F.agree reports.new) }
 {
     let written = answer_names(folder, alloc, reports, search, out);
     status_or_stopped(flushed(written, out))
@@ -167,8 +166,7 @@ fn make_answer_file<F: Folder>(
     ensures calls { CallsFor F.Folder (Some name.now)
         (ending_of_result result) folder.old folder.new }
     ensures none { F.making folder.new ≡ None }
-    ensures earlier { F.agree reports.new ≡ true → F.agree reports.old ≡ true }
-    ensures right { F.reports_are_right → F.agree reports.new ≡ F.agree reports.old }
+    ensures reports { AddsReports F.reports_are_right (F.agree reports.old) (F.agree reports.new) }
 {
     let passing = passing_name(alloc, name)?;
     let passing = passing.as_str();

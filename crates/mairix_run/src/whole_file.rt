@@ -2,6 +2,7 @@
 ghost use Rattle.std.specs.Prelude.{◌≡◌, ◌⊎◌, ◌<◌, ◌≤◌, ◌-◌, ◌+◌, ◌^◌, ◌++◌, ℕ, true, List, [], None, Some, length, take, vec_len, vec_capacity, IfOk, IfErr, OnOk, OnErr, IsSome};
 ghost use Rattle.named_files.specs.Entries.{File, bytes_of};
 ghost use Rattle.named_files.specs.Refusals.{HasCause};
+ghost use Rattle.named_files.specs.Reported.{AddsReports};
 ghost use Rattle.mairix_run.specs.FileFronts.{GivesFront};
 ghost use Rattle.mairix_run.specs.WholeFiles.{GivesRest};
 
@@ -30,9 +31,7 @@ pub fn read_whole<F: Folder>(
     // It doesn't give up by itself.
     ensures refused { IfErr result (λ why. HasCause why
         ((bytes_of (F.holds folder.now name.now) ≡ None) ⊎ (F.can_refuse ⊎ F.reads_can_fail))) }
-    // What is reported agrees only if what was reported before does.
-    ensures earlier { F.agree reports.new ≡ true → F.agree reports.old ≡ true }
-    ensures right { F.reports_are_right → F.agree reports.new ≡ F.agree reports.old }
+    ensures reports { AddsReports F.reports_are_right (F.agree reports.old) (F.agree reports.new) }
 {
     let mut file = match folder.open(alloc, name) {
         Ok(file) => file,

@@ -3,7 +3,7 @@ ghost use Rattle.std.specs.Prelude.{◌≡◌, ◌<◌, ◌≤◌, ◌-◌, ◌^
 ghost use Rattle.std.specs.Io.KnownBytes.{Keeps, WriteAppends};
 ghost use Rattle.contract_words.specs.Devices.{Counts};
 ghost use Rattle.call_record.specs.Calls.{taken_after};
-ghost use Rattle.call_record.specs.Noted.{Notes, write_told};
+ghost use Rattle.call_record.specs.Noted.{Notes, call_of_write};
 ghost use Rattle.mairix_run.specs.WriterStreams.{flushed_bytes, front_flushed, handed_on_of};
 
 use crate::std_writer::Flush;
@@ -64,7 +64,7 @@ impl<W: Flush + Drop> Out for WriterStream<W> {
             (Some (taken_after self.new.noted.calls)) result bytes.now }
         ensures count { Counts result self.old.failures self.new.failures }
         // What the writer took is what is noted, and nothing else.
-        ensures noted { Notes (write_told result bytes.now) self.old.noted self.new.noted }
+        ensures noted { Notes (call_of_write result bytes.now) self.old.noted self.new.noted }
         ensures contents { WriteAppends (W.contents self.old.writer) (W.contents self.new.writer)
             result bytes.now }
         // Nothing is handed on.

@@ -3,6 +3,7 @@ ghost use Rattle.std.specs.Prelude.{◌≡◌, ◌⊎◌, ◌<◌, ◌+◌, ◌&
 ghost use Rattle.std.specs.List.{list_all};
 ghost use Rattle.named_files.specs.Entries.{bytes_of};
 ghost use Rattle.named_files.specs.Refusals.{HasCause};
+ghost use Rattle.named_files.specs.Reported.{AddsReports};
 ghost use Rattle.named_archives.specs.Names.{files_of};
 ghost use Rattle.named_archives.specs.States.{AreStatesOf, IsStateOf};
 
@@ -36,8 +37,7 @@ pub fn first_states<F: Folder>(
     // If all reports agree, each name leads to a file.
     ensures noted { OnOk result (F.agree reports.new ≡ (F.agree reports.old
         && list_all (λ file. is_some file) (files_of (F.holds folder.now) names.now))) }
-    ensures earlier { F.agree reports.new ≡ true → F.agree reports.old ≡ true }
-    ensures right { F.reports_are_right → F.agree reports.new ≡ F.agree reports.old }
+    ensures reports { AddsReports F.reports_are_right (F.agree reports.old) (F.agree reports.new) }
     ensures refused { IfErr result (λ e. (e.number < length names.now) × HasCause e.why
         ((slice_get (files_of (F.holds folder.now) names.now) e.number ≡ Some None)
         ⊎ F.can_refuse ⊎ F.reads_can_fail)) }

@@ -5,6 +5,7 @@ ghost use Rattle.contract_words.specs.Archives.{IsLength, IsReadFromArchive};
 ghost use Rattle.contract_words.specs.Devices.{Counts};
 ghost use Rattle.contract_words.specs.Knowledge.{WasKnown};
 ghost use Rattle.named_files.specs.Entries.{IsReadFromFile};
+ghost use Rattle.named_files.specs.Reported.{AddsReport};
 ghost use Rattle.named_archives.specs.Names.{files_of, held_while, IsFileAt, IsInState, IsStillOpen};
 ghost use Rattle.named_archives.specs.Progress.{has_agreed, is_for_memory, FailsFor};
 
@@ -93,10 +94,10 @@ impl<'p, F: Folder> NamedArchives<'p, F> {
 
     /// Closes the file that is open, and adds all that was reported of the files.
     pub fn report(mut self, reports: &mut F::Reports)
-        ensures noted { F.agree reports.new ≡ (F.agree reports.old
-            && (F.agree self.entry.closed && has_agreed (λ a. F.File.rest a.file)
-            (λ a. F.File.bytes a.file) self.entry.current)) }
-        ensures right { F.reports_are_right → F.agree reports.new ≡ F.agree reports.old }
+        ensures noted { AddsReport F.reports_are_right
+            (F.agree self.entry.closed && has_agreed (λ a. F.File.rest a.file)
+            (λ a. F.File.bytes a.file) self.entry.current)
+            (F.agree reports.old) (F.agree reports.new) }
         // If all reports agree, the bytes of all archives stayed known.
         ensures known { F.agree reports.new ≡ true
             → All IsSome (files_of (F.holds self.entry.folder.now) self.entry.names.now)

@@ -9,6 +9,7 @@ ghost use Rattle.std.specs.Io.KnownBytes.{ReadConsumes};
 ghost use Rattle.contract_words.specs.Devices.{Counted, Counts};
 ghost use Rattle.contract_words.specs.Knowledge.{still_known};
 ghost use Rattle.named_files.specs.Entries.{bytes_of};
+ghost use Rattle.named_files.specs.Reported.{AddsReport};
 ghost use Rattle.named_archives.specs.Progress.{bytes_left_in, has_agreed, is_for_memory, FailsFor, HasFailed, HasReached, IsFoundInState, IsReadIn, IsRefusedFor};
 
 use mbox_cutter::{DeviceFault, Source};
@@ -92,9 +93,9 @@ impl<'p, F: Folder> NamedSource<'p, F> {
 
     /// Gives the file back, if it was opened, with what was reported of its bytes.
     pub fn report(self, reports: &mut F::Reports)
-        ensures noted { F.agree reports.new ≡ (F.agree reports.old
-            && has_agreed F.File.rest F.File.bytes self.entry.file) }
-        ensures right { F.reports_are_right → F.agree reports.new ≡ F.agree reports.old }
+        ensures noted { AddsReport F.reports_are_right
+            (has_agreed F.File.rest F.File.bytes self.entry.file)
+            (F.agree reports.old) (F.agree reports.new) }
         // If all reports agree, the source's bytes stayed known.
         ensures known { F.agree reports.new ≡ true → self.entry.failures ≡ 0
             → IsSome self.entry.file → IsSome (⟦<NamedSource<'p, F> as Source>⟧.rest self.entry) }
@@ -308,9 +309,9 @@ pub fn lack_memory<F: Folder>(sources: &[NamedSource<'_, F>]) -> bool
 
 /// Gives the files of all sources back that were opened, with what was reported of their bytes.
 pub fn report_all<F: Folder>(sources: Vec<NamedSource<F>>, reports: &mut F::Reports)
-    ensures noted { F.agree reports.new ≡ (F.agree reports.old && list_all
-        (λ s. has_agreed F.File.rest F.File.bytes s.file) sources.entry.items) }
-    ensures right { F.reports_are_right → F.agree reports.new ≡ F.agree reports.old }
+    ensures noted { AddsReport F.reports_are_right
+        (list_all (λ s. has_agreed F.File.rest F.File.bytes s.file) sources.entry.items)
+        (F.agree reports.old) (F.agree reports.new) }
     // If all reports agree, the bytes of each source stayed known.
     ensures known { F.agree reports.new ≡ true → All (λ s. s.failures ≡ 0 → IsSome s.file
         → IsSome (bytes_left_in F.File.rest (bytes_of (F.holds s.folder.now s.name.now)) s.file

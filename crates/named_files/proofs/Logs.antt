@@ -9,15 +9,20 @@ use Rattle.std.specs.Bool.{MatchBool}
 use Rattle.std.specs.Option.{unwrap_or}
 use Rattle.std.specs.Str.{bytes_eq}
 use Rattle.named_files.specs.Crashes.{Elapses, LeavesNoMoreWhere}
-use Rattle.named_files.specs.Entries.{Entry, File, IsFileOf}
+use Rattle.named_files.specs.Entries.{Entry, File, IsFileOf, SameWhere}
 use Rattle.named_files.specs.Logs.{Held, Change, Named, Synced, held_after_changes, MayBe, MayLeave, MayHaveLeft}
 
 -- a file
 abbrev pub file_of : List ℕ → Bool → Bool → Held
 file_of bytes kept left = record { entry = File bytes; is_on_disk = kept; is_left = left }
 
-second : (a b : Bool) → (a && b) ≡ true → b ≡ true
+pub second : (a b : Bool) → (a && b) ≡ true → b ≡ true
 second a b h = grind (arith, nat_tests)
+
+-- what holds of any value holds of this one, if there is one
+pub if_any : {X : Type 0} (o : Option X) {P : X → Type 0} → ((x : X) → P x) → IfSome o P
+if_any None h = tt
+if_any (Some x) h = h x
 
 tail_same : (x y : Change) (xs ys : List Change) → x ∷ xs ≡ y ∷ ys → xs ≡ ys
 tail_same x y xs ys is = cc
@@ -102,17 +107,17 @@ module _ (first : List ℕ → Held) (old new : List Change) where
   pub is_named : (name : List ℕ) (held : Held) → new ≡ Named name held ∷ old → held_after_changes first new name ≡ held
   is_named name held is = ap (λ l. held_after_changes first l name) is ∙ held_named first old name name held refl
 
+  pub same_others : (name : List ℕ) (held : Held) → new ≡ Named name held ∷ old
+      → SameWhere (λ n. not (bytes_eq n name)) (λ n. (held_after_changes first old n).entry)
+      (λ n. (held_after_changes first new n).entry)
+  same_others name held is n is_apart =
+      ap (λ l. (held_after_changes first l n).entry) is
+      ∙ ap (λ (h : Held). h.entry) (held_others first old name n held is_apart)
+
   pub no_more_others : (name : List ℕ) (held : Held) → new ≡ Named name held ∷ old
       → LeavesNoMoreWhere (λ n. not (bytes_eq n name)) (MayLeave first old) (MayLeave first new)
   no_more_others name held is n c is_apart left =
       less_others first old name n held c is_apart (subst (λ l. MayLeave first l n c) is left)
-
-  pub no_more_others_than : (name : List ℕ) (held : Held) → new ≡ Named name held ∷ old → (passing : Option (List ℕ))
-      → IfSome passing (λ passing. LeavesNoMoreWhere (λ n. not (bytes_eq n passing) && not (bytes_eq n name))
-      (MayLeave first old) (MayLeave first new))
-  no_more_others_than name held is None = tt
-  no_more_others_than name held is (Some passing) = λ n c both left.
-      no_more_others name held is n c (second (not (bytes_eq n passing)) (not (bytes_eq n name)) both) left
 
   -- time goes on to a folder of these changes
   abbrev pub GoesOnTo : List Change → Type 0

@@ -3,6 +3,7 @@ pub mod Crashes
 pub mod Entries
 pub mod Logs
 pub mod MemoryFolders
+pub mod OtherNames
 pub mod Refusals
 pub mod Reported
 pub mod TakingNames

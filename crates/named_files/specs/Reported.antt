@@ -1,5 +1,5 @@
 -- Whether what was reported of a name agrees with what it leads to.
-use Rattle.std.specs.Prelude.{◌==◌, Bool, true, false, length, Option, None, Some, Result, Ok, Err, not}
+use Rattle.std.specs.Prelude.{◌≡◌, ◌==◌, ◌&&◌, Bool, true, false, length, Option, None, Some, Result, Ok, Err, not}
 use Rattle.named_files.specs.declared.look.Look.{Look}
 use Rattle.named_files.specs.declared.look.Look.TheVariants as shows
 use Rattle.named_files.specs.Entries.{Entry, Nothing, File, Folder, Other}
@@ -20,23 +20,35 @@ is_shown shows.Other Other = true
 is_shown _ _ = false
 
 -- a look that was refused reports nothing
-abbrev pub told_look : {E : Type 0} → Result Look E → Entry → Bool
-told_look (Ok look) entry = is_shown look entry
-told_look (Err why) entry = true
+abbrev pub look_agrees : {E : Type 0} → Result Look E → Entry → Bool
+look_agrees (Ok look) entry = is_shown look entry
+look_agrees (Err why) entry = true
 
 -- whether two names are reported as apart exactly if they are
-abbrev pub told_apart : {E : Type 0} → Result Bool E → Bool → Bool
-told_apart (Ok true) is_so = is_so
-told_apart (Ok false) is_so = not is_so
-told_apart (Err why) is_so = true
+abbrev pub apart_agrees : {E : Type 0} → Result Bool E → Bool → Bool
+apart_agrees (Ok true) is_so = is_so
+apart_agrees (Ok false) is_so = not is_so
+apart_agrees (Err why) is_so = true
 
 -- no leftover is reported only if nothing has the name
-abbrev pub told_left : {L E : Type 0} → Result (Option L) E → Entry → Bool
-told_left (Ok None) entry = is_free entry
-told_left (Ok (Some left)) entry = not (is_free entry)
-told_left (Err why) entry = true
+abbrev pub leftover_agrees : {L E : Type 0} → Result (Option L) E → Entry → Bool
+leftover_agrees (Ok None) entry = is_free entry
+leftover_agrees (Ok (Some left)) entry = not (is_free entry)
+leftover_agrees (Err why) entry = true
 
 -- a file is made only if nothing has the name
-abbrev pub told_free : Bool → Entry → Bool
-told_free true entry = is_free entry
-told_free false entry = true
+abbrev pub creation_agrees : Bool → Entry → Bool
+creation_agrees true entry = is_free entry
+creation_agrees false entry = true
+
+-- ---- what a call adds to the reports
+
+-- A report is added. It agrees if all reports are right.
+pub record AddsReport (are_right : Type 0) (agrees before after : Bool) : Type 0 where
+  pub noted : after ≡ (before && agrees)
+  pub right : are_right → after ≡ before
+
+-- Reports are added. All agree only if those before do, and as they do if all reports are right.
+pub record AddsReports (are_right : Type 0) (before after : Bool) : Type 0 where
+  pub earlier : after ≡ true → before ≡ true
+  pub right : are_right → after ≡ before

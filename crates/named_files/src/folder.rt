@@ -1,8 +1,9 @@
 //! Files by their names.
 ghost use Rattle.std.specs.Prelude.{◌≡◌, ◌≢◌, ◌⊎◌, ◌<◌, ◌≤◌, ◌&&◌, ℕ, Bool, true, false, List, [], Option, None, Some, is_some, is_ok, IfOk, IfErr, IfSome, IsSome, OnOk, OnErr};
-ghost use Rattle.named_files.specs.Crashes.{LeavesNoMoreWhere, Elapses};
-ghost use Rattle.named_files.specs.Entries.{Entry, Nothing, IsFileOf, bytes_of, Leads, SameWhere};
-ghost use Rattle.named_files.specs.Reported.{told_look, told_apart, told_left, told_free};
+ghost use Rattle.std.specs.Result.{MatchResult};
+ghost use Rattle.named_files.specs.Entries.{Entry, Nothing, IsFileOf, bytes_of, Leads};
+ghost use Rattle.named_files.specs.OtherNames.{LeavesAlone};
+ghost use Rattle.named_files.specs.Reported.{AddsReport, look_agrees, apart_agrees, leftover_agrees, creation_agrees};
 ghost use Rattle.named_files.specs.Refusals.{HasCause};
 
 use crate::kept_file::KeptFile;
@@ -138,9 +139,8 @@ pub trait Folder {
 
     /// Looks at what a name leads to: its kind, and the length of a plain file.
     fn look(&self, alloc: Global, reports: &mut Self::Reports, name: &str) -> Result<Look, Refusal>
-        ensures noted { agree reports.new ≡ (agree reports.old
-            && told_look result (holds self.now name.now)) }
-        ensures right { reports_are_right → agree reports.new ≡ agree reports.old }
+        ensures noted { AddsReport reports_are_right (look_agrees result (holds self.now name.now))
+            (agree reports.old) (agree reports.new) }
         ensures refused { IfErr result (λ why. HasCause why can_refuse) };
 
     /// Whether the file of the first name is the same after another one takes the second name, or after what has the
@@ -152,9 +152,9 @@ pub trait Folder {
         name: &str,
         other: &str,
     ) -> Result<bool, AllocError>
-        ensures noted { agree reports.new ≡ (agree reports.old
-            && told_apart result (apart self.now name.now other.now)) }
-        ensures right { reports_are_right → agree reports.new ≡ agree reports.old };
+        ensures noted { AddsReport reports_are_right
+            (apart_agrees result (apart self.now name.now other.now))
+            (agree reports.old) (agree reports.new) };
 
     /// Finds what a killed run left under a name, and locks it. Returns None if nothing has the name, and is refused if
     /// something else has it.
@@ -166,9 +166,9 @@ pub trait Folder {
     ) -> Result<Option<Self::Left>, Refusal>
         ensures left { IfOk result (λ found. IfSome found (λ left.
             (name_left left ≡ name.now) × (is_leftover self.now name.now ≡ true))) }
-        ensures noted { agree reports.new ≡ (agree reports.old
-            && told_left result (holds self.now name.now)) }
-        ensures right { reports_are_right → agree reports.new ≡ agree reports.old }
+        ensures noted { AddsReport reports_are_right
+            (leftover_agrees result (holds self.now name.now))
+            (agree reports.old) (agree reports.new) }
         ensures refused { IfErr result (λ why. HasCause why
             (((holds self.now name.now ≢ Nothing) × (is_leftover self.now name.now ≡ false))
             ⊎ can_refuse)) };
@@ -177,15 +177,10 @@ pub trait Folder {
     fn remove_leftover(&mut self, alloc: Global, left: Self::Left) -> Result<(), Refusal>
         requires { is_leftover self.old (name_left left) ≡ true }
         ensures gone { OnOk result (holds self.new (name_left left) ≡ Nothing) }
-        ensures others { SameWhere (λ n. apart self.old n (name_left left)) (holds self.old)
-            (holds self.new) }
+        ensures others { LeavesAlone apart holds may_leave moment left_since
+            (λ n. apart self.old n (name_left left)) self.old self.new }
         ensures stays { OnErr result ((n : List ℕ) → holds self.new n ≡ holds self.old n) }
         ensures making { making self.new ≡ making self.old }
-        ensures crash { LeavesNoMoreWhere (λ n. apart self.old n (name_left left))
-            (may_leave self.old) (may_leave self.new) }
-        ensures apart { (a b : List ℕ) → apart self.new a b ≡ apart self.old a b }
-        ensures time { Elapses (moment self.old) (moment self.new) (left_since self.old)
-            (left_since self.new) (may_leave self.new) }
         ensures refused { IfErr result (λ why. HasCause why can_refuse) }
         ensures call { removes self.old (name_left left) (is_ok result) self.new };
 
@@ -198,21 +193,16 @@ pub trait Folder {
         name: &str,
     ) -> Result<Self::New, Refusal>
         requires { making self.old ≡ None }
-        ensures noted { agree reports.new ≡ (agree reports.old
-            && told_free (is_ok result) (holds self.old name.now)) }
-        ensures right { reports_are_right → agree reports.new ≡ agree reports.old }
-        ensures empty { IfOk result (λ new. Self.New.taken new ≡ Some []) }
-        ensures fresh { IfOk result (λ new. Self.New.failures new ≡ 0) }
-        ensures making { OnOk result (making self.new ≡ Some name.now) }
-        ensures none { OnErr result (making self.new ≡ None) }
-        ensures others { SameWhere (λ n. apart self.old n name.now) (holds self.old)
-            (holds self.new) }
+        ensures noted { AddsReport reports_are_right
+            (creation_agrees (is_ok result) (holds self.old name.now))
+            (agree reports.old) (agree reports.new) }
+        ensures empty { IfOk result (λ new. (Self.New.taken new ≡ Some [])
+            × (Self.New.failures new ≡ 0)) }
+        ensures making { MatchResult result (λ _. making self.new ≡ Some name.now)
+            (λ _. making self.new ≡ None) }
+        ensures others { LeavesAlone apart holds may_leave moment left_since
+            (λ n. apart self.old n name.now) self.old self.new }
         ensures stays { OnErr result ((n : List ℕ) → holds self.new n ≡ holds self.old n) }
-        ensures crash { LeavesNoMoreWhere (λ n. apart self.old n name.now) (may_leave self.old)
-            (may_leave self.new) }
-        ensures apart { (a b : List ℕ) → apart self.new a b ≡ apart self.old a b }
-        ensures time { Elapses (moment self.old) (moment self.new) (left_since self.old)
-            (left_since self.new) (may_leave self.new) }
         ensures refused { IfErr result (λ why. HasCause why
             ((holds self.old name.now ≢ Nothing) ⊎ can_refuse)) }
         ensures call { creates self.old name.now (is_ok result) self.new };
@@ -226,25 +216,18 @@ pub trait Folder {
         name: &str,
     ) -> Result<(), (Refusal, Self::New)>
         requires { IsSome (making self.old) }
-        ensures named { OnOk result (Leads (holds self.new name.now) (Self.New.taken new)) }
-        ensures on_disk { OnOk result (Self.New.is_kept new ≡ true
-            → is_on_disk self.new name.now ≡ true) }
+        ensures named { OnOk result (Leads (holds self.new name.now) (Self.New.taken new)
+            × (Self.New.is_kept new ≡ true → is_on_disk self.new name.now ≡ true)) }
         ensures none { OnOk result (making self.new ≡ None) }
         ensures others { IfSome (making self.old) (λ passing.
-            SameWhere (λ n. apart self.old n passing && apart self.old n name.now)
-            (holds self.old) (holds self.new)) }
-        ensures stays { OnErr result ((n : List ℕ) → holds self.new n ≡ holds self.old n) }
-        ensures still { OnErr result (making self.new ≡ making self.old) }
+            LeavesAlone apart holds may_leave moment left_since
+            (λ n. apart self.old n passing && apart self.old n name.now) self.old self.new) }
+        ensures stays { OnErr result (((n : List ℕ) → holds self.new n ≡ holds self.old n)
+            × (making self.new ≡ making self.old)) }
         ensures back { IfErr result (λ e. e.1 ≡ new) }
-        ensures crash { IfSome (making self.old) (λ passing.
-            LeavesNoMoreWhere (λ n. apart self.old n passing && apart self.old n name.now)
-            (may_leave self.old) (may_leave self.new)) }
         ensures crash_named { (c : Entry) → may_leave self.new name.now c
             → may_leave self.old name.now c
             ⊎ IsFileOf (Self.New.may_hold new) c }
-        ensures apart { (a b : List ℕ) → apart self.new a b ≡ apart self.old a b }
-        ensures time { Elapses (moment self.old) (moment self.new) (left_since self.old)
-            (left_since self.new) (may_leave self.new) }
         ensures refused { IfErr result (λ e. HasCause e.0 can_refuse) }
         ensures call { renames self.old name.now (Self.New.is_kept new) (is_ok result) self.new };
 
@@ -253,12 +236,10 @@ pub trait Folder {
     fn sync_folder(&mut self, alloc: Global, name: &str) -> Result<(), Refusal>
         ensures kept { OnOk result (is_on_disk self.old name.now ≡ true
             → (c : Entry) → may_leave self.new name.now c → c ≡ holds self.old name.now) }
+        ensures others { LeavesAlone apart holds may_leave moment left_since (λ _. true) self.old
+            self.new }
         ensures stays { (n : List ℕ) → holds self.new n ≡ holds self.old n }
         ensures making { making self.new ≡ making self.old }
-        ensures crash { (n : List ℕ) (c : Entry) → may_leave self.new n c → may_leave self.old n c }
-        ensures apart { (a b : List ℕ) → apart self.new a b ≡ apart self.old a b }
-        ensures time { Elapses (moment self.old) (moment self.new) (left_since self.old)
-            (left_since self.new) (may_leave self.new) }
         ensures refused { IfErr result (λ why. HasCause why (can_refuse ⊎ writes_can_fail)) }
         ensures call { syncs self.old name.now (is_ok result) self.new };
 
@@ -267,13 +248,8 @@ pub trait Folder {
         requires { IsSome (making self.old) }
         ensures none { making self.new ≡ None }
         ensures others { IfSome (making self.old) (λ passing.
-            SameWhere (λ n. apart self.old n passing) (holds self.old) (holds self.new)) }
-        ensures crash { IfSome (making self.old) (λ passing.
-            LeavesNoMoreWhere (λ n. apart self.old n passing) (may_leave self.old)
-            (may_leave self.new)) }
-        ensures apart { (a b : List ℕ) → apart self.new a b ≡ apart self.old a b }
-        ensures time { Elapses (moment self.old) (moment self.new) (left_since self.old)
-            (left_since self.new) (may_leave self.new) }
+            LeavesAlone apart holds may_leave moment left_since (λ n. apart self.old n passing)
+            self.old self.new) }
         ensures call { discards self.old self.new };
 
     /// This moment is one of those since an earlier one.

@@ -1,8 +1,9 @@
 //! What a killed run left under the name of a new file.
 ghost use Rattle.std.specs.Prelude.{◌≡◌, ◌≢◌, ◌⊎◌, ℕ, true, false, List, is_ok, IfErr, OnOk, OnErr};
-ghost use Rattle.named_files.specs.Crashes.{LeavesNoMoreWhere, LeavesOnly};
-ghost use Rattle.named_files.specs.Entries.{Nothing, SameWhere};
+ghost use Rattle.named_files.specs.Entries.{Nothing};
+ghost use Rattle.named_files.specs.OtherNames.{LeavesAloneThroughout};
 ghost use Rattle.named_files.specs.Refusals.{HasCause};
+ghost use Rattle.named_files.specs.Reported.{AddsReports};
 
 use crate::folder::Folder;
 use crate::refusal::Refusal;
@@ -22,21 +23,14 @@ pub fn clear_leftover<F: Folder>(
 ) -> Result<(), Refusal>
     ensures free { OnOk result (F.agree reports.new ≡ true
         → F.holds folder.new name.now ≡ Nothing) }
-    // What is reported agrees only if what was reported before does.
-    ensures earlier { F.agree reports.new ≡ true → F.agree reports.old ≡ true }
-    ensures right { F.reports_are_right → F.agree reports.new ≡ F.agree reports.old }
+    ensures reports { AddsReports F.reports_are_right (F.agree reports.old) (F.agree reports.new) }
     // What is removed was left by a killed run.
     ensures only_leftover { F.is_leftover folder.old name.now ≡ false → folder.new ≡ folder.old }
-    ensures others { SameWhere (λ n. F.apart folder.old n name.now) (F.holds folder.old)
-        (F.holds folder.new) }
+    // A crash at any moment of the call leaves under each other name what it might have left before.
+    ensures others { LeavesAloneThroughout F.apart F.holds F.may_leave F.moment F.left_since
+        (λ n. F.apart folder.old n name.now) folder.old folder.new }
     ensures stays { OnErr result ((n : List ℕ) → F.holds folder.new n ≡ F.holds folder.old n) }
     ensures making { F.making folder.new ≡ F.making folder.old }
-    ensures crash { LeavesNoMoreWhere (λ n. F.apart folder.old n name.now) (F.may_leave folder.old)
-        (F.may_leave folder.new) }
-    ensures apart { (a b : List ℕ) → F.apart folder.new a b ≡ F.apart folder.old a b }
-    // A crash at any moment of the call leaves under each other name what it might have left before.
-    ensures any_moment { LeavesOnly F.moment F.left_since folder.old folder.new
-        (λ n c. F.apart folder.old n name.now ≡ true → F.may_leave folder.old n c) }
     // One call removes it, and no other call changes anything.
     ensures calls { (folder.new ≡ folder.old)
         ⊎ F.removes folder.old name.now (is_ok result) folder.new }

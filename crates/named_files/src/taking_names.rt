@@ -3,6 +3,7 @@ ghost use Rattle.std.specs.Prelude.{◌≡◌, ◌≢◌, ◌⊎◌, ◌<◌, �
 ghost use Rattle.named_files.specs.Crashes.{LeavesOnly};
 ghost use Rattle.named_files.specs.Entries.{Entry, File, Nothing, Leads, SameWhere};
 ghost use Rattle.named_files.specs.Refusals.{HasCause, has_name, refusal_of_name};
+ghost use Rattle.named_files.specs.Reported.{AddsReports};
 ghost use Rattle.named_files.specs.TakingNames.{Replaces, TakesName};
 
 use crate::folder::Folder;
@@ -82,9 +83,7 @@ pub fn replace_file<F: Folder>(
     bytes: &[u8],
 ) -> Result<(), NameFault>
     requires making { F.making folder.old ≡ None }
-    // What is reported agrees only if what was reported before does.
-    ensures earlier { F.agree reports.new ≡ true → F.agree reports.old ≡ true }
-    ensures right { F.reports_are_right → F.agree reports.new ≡ F.agree reports.old }
+    ensures reports { AddsReports F.reports_are_right (F.agree reports.old) (F.agree reports.new) }
     // The name leads to exactly these bytes; or, without the name, to what it led to before, if it is apart from the
     // passing name.
     ensures named { has_name result ≡ true → F.holds folder.new name.now ≡ File bytes.now }

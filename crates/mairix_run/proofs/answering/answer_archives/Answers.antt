@@ -15,6 +15,8 @@ returns-in-None-clause-refused g c = λ fault is.
     (refused-once (asks search.words.now search.text.now search.moment) search.index fault none is)
 
 -- with one, only the archives are read
-pub returns-in-Some-clause-unread : goal.returns-in-Some-clause-unread
-returns-in-Some-clause-unread g c = λ bytes files.
-    or-other (is_unread (fault_in c.answer_stored.result)) _ _ c.answer_stored.ensures.unread
+pub returns-in-Some-clause-causes : goal.returns-in-Some-clause-causes
+returns-in-Some-clause-causes g c = record {
+  unread = λ bytes files. or-other (is_unread (fault_in c.answer_stored.result)) _ _ c.answer_stored.ensures.unread;
+  out_failed = c.answer_stored.ensures.out_failed;
+}

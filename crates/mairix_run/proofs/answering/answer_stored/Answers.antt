@@ -18,18 +18,19 @@ returns-clause-stored g c = λ bytes held.
     answers-by (IsStoredReply asked index bytes) (plain-stored asked index bytes) _ _ c.search_run.result
     c.result_of.result c.result_of.ensures (c.search_run.ensures.reply bytes held)
 
-pub returns-clause-indexed : goal.returns-clause-indexed
-returns-clause-indexed g c = λ w bytes is many sound serves held.
-    answers-by (IsReply (Ok w) bytes) (plain-reply (Ok w) bytes) _ _ c.search_run.result c.result_of.result
-    c.result_of.ensures ((c.search_run.ensures.by_messages bytes held).indexed w is many sound serves)
-
-pub returns-clause-verified : goal.returns-clause-verified
-returns-clause-verified g c = λ w before bytes is verify paths sound file held apart.
-    let altered = altered_archive before w.paths bytes in
-    answers-by (IsStaleOr altered (IsReply (Ok w) bytes))
-    (plain-stale altered (IsReply (Ok w) bytes) (plain-reply (Ok w) bytes)) _ _ c.search_run.result c.result_of.result
-    c.result_of.ensures
-    ((c.search_run.ensures.by_messages bytes held).verified w before is verify paths sound file apart)
+pub returns-clause-by_messages : goal.returns-clause-by_messages
+returns-clause-by_messages g c = λ bytes held.
+    let by = c.search_run.ensures.by_messages bytes held in
+    record {
+      indexed = λ w is many sound serves.
+          answers-by (IsReply (Ok w) bytes) (plain-reply (Ok w) bytes) _ _ c.search_run.result c.result_of.result
+          c.result_of.ensures (by.indexed w is many sound serves);
+      verified = λ w before is verify paths sound file apart.
+          let altered = altered_archive before w.paths bytes in
+          answers-by (IsStaleOr altered (IsReply (Ok w) bytes))
+          (plain-stale altered (IsReply (Ok w) bytes) (plain-reply (Ok w) bytes)) _ _ c.search_run.result
+          c.result_of.result c.result_of.ensures (by.verified w before is verify paths sound file apart);
+    }
 
 pub returns-clause-unread : goal.returns-clause-unread
 returns-clause-unread g c =

@@ -2,7 +2,7 @@
 use Rattle.std.proofs.Common.{rules, ◌≡◌, ◌∙◌, subst, Some, Option}
 use Rattle.mbox_cutter.specs.Coming.{AnswersAsComing}
 use Rattle.mbox_cutter.specs.Events.{ComingEvents, coming_of}
-use Rattle.mbox_cutter.specs.Progress.{told_result}
+use Rattle.mbox_cutter.specs.Progress.{result_with_line}
 use Rattle.mbox_cutter.specs.declared.scan.Phase.TheVariants.{Between}
 use Rattle.mairix_run.proofs.KeptMail.{first_answer, never_failed, none_counted}
 use Rattle.mairix_run.proofs.kept_mail.is_mbox.Goals as goal
@@ -14,9 +14,9 @@ returns c =
     let answer = c.next_event.result in
     let comes : c.in_ok-cutter.cutter.coming ≡ Some (coming_of 131072 c.args.bytes.now) = search rules in
     let place : c.in_ok-cutter.cutter.place ≡ record { phase = Between; offset = 0; most = 131072 } = search rules in
-    let answers : AnswersAsComing (Some (coming_of 131072 c.args.bytes.now)) (told_result after.line answer)
+    let answers : AnswersAsComing (Some (coming_of 131072 c.args.bytes.now)) (result_with_line after.line answer)
     after.coming =
-    subst (λ (o : Option ComingEvents). AnswersAsComing o (told_result after.line answer) after.coming) comes
+    subst (λ (o : Option ComingEvents). AnswersAsComing o (result_with_line after.line answer) after.coming) comes
     holds.answers in
     c.is_start.ensures
     ∙ first_answer c.args.bytes.now after.line answer after.coming c.requires answers (none_counted _ holds.count)

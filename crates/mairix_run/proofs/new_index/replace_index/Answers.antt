@@ -1,5 +1,5 @@
 -- An index is put into a file: the file isn't made, or it is made, filled and settled.
-use Rattle.std.proofs.Common.{◌≡◌, ◌∙◌, ◌⊎◌, inr, sym, subst, true, [], ◌∷◌, map}
+use Rattle.std.proofs.Common.{◌≡◌, ◌∙◌, ◌⊎◌, inl, inr, sym, subst, true, false, [], ◌∷◌, map}
 use Rattle.std.proofs.Common.{None, Some, string_bytes}
 use Rattle.std.specs.Option.{option_map_or}
 use Rattle.index_run.specs.ArchivesIndexed.{mboxes}
@@ -12,7 +12,7 @@ use Rattle.mairix_run.proofs.MadeRuns.{none-made-keeps, none-made-leaves, none-m
 use Rattle.mairix_run.proofs.MakingRuns.{mail-found, none-refused, puts-settled, refused-stops}
 use Rattle.mairix_run.proofs.NamesUsed.{contains-first, contains-more}
 use Rattle.mairix_run.proofs.Written.{counted-failure, indexed-written, silent-of}
-use Rattle.mairix_run.specs.MadeFiles.{IsRefusal, is_open_to, taken_name, unfit_name}
+use Rattle.mairix_run.specs.MadeFiles.{IsRefusal, MakesFile, is_open_to, taken_name, unfit_name}
 use Rattle.mairix_run.specs.ReadFiles.{names_read}
 use Rattle.mairix_run.specs.Stops.{ending_of_stopped}
 use Rattle.mairix_run.specs.Tasks.Work.{Index}
@@ -47,10 +47,10 @@ returns-in-Err-create_file-clause-run g c = λ bytes files agree.
     (CannotRead F.can_refuse F.reads_can_fail) work (F.holds c.create_file.new.folder name))
     (contains-first name (passing_of name ∷ []))
     (contains-more name (passing_of name) (passing_of name ∷ []) (contains-first (passing_of name) []))
-    (c.in_default.ensures.no_mail (c.in-Err-create_file.ensures.earlier agree)) c.in-Err-create_file.stopped
+    (c.in_default.ensures.no_mail (c.in-Err-create_file.ensures.reports.earlier agree)) c.in-Err-create_file.stopped
     (subst (λ p. IsRefusal (unfit_name (F.apart old) read p name) (taken_name (F.holds old) (F.is_leftover old) p
     name) p name
-    F.can_refuse c.in-Err-create_file.stopped) (sym same) (c.in-Err-create_file.ensures.refused agree))
+    F.can_refuse c.in-Err-create_file.stopped) (sym same) ((c.in-Err-create_file.ensures.refused agree).refusal))
 
 pub returns-in-Err-create_file-clause-read : goal.returns-in-Err-create_file-clause-read
 returns-in-Err-create_file-clause-read g c = λ agree.
@@ -59,10 +59,8 @@ returns-in-Err-create_file-clause-read g c = λ agree.
     sym (c.as_str-passing.ensures.value ∙ c.in_ok-passing.ensures) in
     none-made-read F c.args.folder.now (names_read c.args.read.now) c.args.name.now c.create_file.new.folder
     c.as_str-passing.result.now same (record {
-      untouched = c.in-Err-create_file.ensures.untouched agree;
+      untouched = (c.in-Err-create_file.ensures.refused agree).untouched;
       others = c.in-Err-create_file.ensures.others;
-      any_moment = c.in-Err-create_file.ensures.any_moment;
-      calls = c.in-Err-create_file.ensures.calls;
     })
 
 pub returns-in-Err-create_file-clause-any_moment : goal.returns-in-Err-create_file-clause-any_moment
@@ -73,10 +71,8 @@ returns-in-Err-create_file-clause-any_moment g c = λ bytes files agree.
     none-made-leaves F c.args.folder.now (names_read c.args.read.now) c.args.name.now (Index (mboxes (map string_bytes
     c.args.read.now.archives.now) bytes))
     c.create_file.new.folder c.as_str-passing.result.now same (g.met.F.Folder.only_now c.args.folder.now) (record {
-      untouched = c.in-Err-create_file.ensures.untouched agree;
+      untouched = (c.in-Err-create_file.ensures.refused agree).untouched;
       others = c.in-Err-create_file.ensures.others;
-      any_moment = c.in-Err-create_file.ensures.any_moment;
-      calls = c.in-Err-create_file.ensures.calls;
     })
 
 pub returns-in-Err-create_file-clause-old : goal.returns-in-Err-create_file-clause-old
@@ -87,11 +83,17 @@ returns-in-Err-create_file-clause-old g c = λ bytes files agree.
     none-made-keeps F c.args.folder.now (names_read c.args.read.now) c.args.name.now (Index (mboxes (map string_bytes
     c.args.read.now.archives.now) bytes))
     c.create_file.new.folder c.as_str-passing.result.now (ending_of_stopped c.in-Err-create_file.stopped) same (record {
-      untouched = c.in-Err-create_file.ensures.untouched agree;
+      untouched = (c.in-Err-create_file.ensures.refused agree).untouched;
       others = c.in-Err-create_file.ensures.others;
-      any_moment = c.in-Err-create_file.ensures.any_moment;
-      calls = c.in-Err-create_file.ensures.calls;
     })
+
+pub returns-in-Err-create_file-clause-calls : goal.returns-in-Err-create_file-clause-calls
+returns-in-Err-create_file-clause-calls g c =
+    let F = g.F.Folder in
+    let same : passing_of c.args.name.now ≡ c.as_str-passing.result.now =
+    sym (c.as_str-passing.ensures.value ∙ c.in_ok-passing.ensures) in
+    inr (inl (subst (λ p. MakesFile F.removes F.creates p false c.args.folder.now c.create_file.new.folder) (sym same)
+    c.in-Err-create_file.ensures.calls))
 
 -- ---- it is made
 
@@ -110,8 +112,9 @@ returns-clause-run g c = λ bytes files agree.
     let filled = c.index_names-indexed.new.out in
     let indexed = c.index_names-indexed.result in
     let mid = c.create_file.new.folder in
-    let kept = fit-same F old read name mid passing (c.in-Ok.ensures.fit (c.index_names-indexed.ensures.earlier agree))
-    c.in-Ok.ensures.others in
+    let kept = fit-same F old read name mid passing
+    (c.in-Ok.ensures.serves (c.index_names-indexed.ensures.reports.earlier agree)).fit
+    c.in-Ok.ensures.others.others in
     let still : files_of (F.holds mid) archives ≡ map Some bytes = files-same (F.holds old) (F.holds mid) archives
     (all-after (λ n. F.holds mid n ≡ F.holds old n)
     (c.args.read.now.rcfile.now ∷ option_map_or (λ database. database.now ∷ []) c.args.read.now.database [])
@@ -120,7 +123,7 @@ returns-clause-run g c = λ bytes files agree.
     let ReadFails = CannotRead F.can_refuse F.reads_can_fail in
     let fails : is_failed_out (fault_in indexed) ≡ true → OutFails = λ is. inr (g.met.F.Folder.writes_fail filled
     (counted-failure (is_failed_out (fault_in indexed)) (N.failures first) (N.failures filled)
-    c.index_names-indexed.ensures.out_failed c.in-Ok.ensures.fresh is)) in
+    c.index_names-indexed.ensures.out_failed c.in-Ok.ensures.empty.1 is)) in
     let by-some : IsWritten OutFails ReadFails work (N.taken first) (N.taken filled) indexed =
     indexed-written (mboxes (map string_bytes archives) bytes) OutFails ReadFails (N.taken first) (N.taken filled)
     indexed fails
@@ -128,19 +131,20 @@ returns-clause-run g c = λ bytes files agree.
     (silent-of N.taken first filled indexed c.index_names-indexed.ensures.silent)
     (c.index_names-indexed.ensures.indexed bytes still agree) in
     let written : IsWritten OutFails ReadFails work (Some []) (N.taken filled) indexed =
-    subst (λ t. IsWritten OutFails ReadFails work t (N.taken filled) indexed) c.in-Ok.ensures.empty by-some in
-    let made = c.index_names-indexed.ensures.earlier agree in
-    let fit = subst (λ p. unfit_name (F.apart old) read p name ≡ None) (sym same) (c.in-Ok.ensures.fit made) in
-    let free = subst (λ p. is_open_to (F.holds old) (F.is_leftover old) p ≡ true) (sym same) (c.in-Ok.ensures.free
-    made) in
+    subst (λ t. IsWritten OutFails ReadFails work t (N.taken filled) indexed) c.in-Ok.ensures.empty.0 by-some in
+    let made = c.index_names-indexed.ensures.reports.earlier agree in
+    let fit = subst (λ p. unfit_name (F.apart old) read p name ≡ None) (sym same) (c.in-Ok.ensures.serves made).fit in
+    let free = subst (λ p. is_open_to (F.holds old) (F.is_leftover old) p ≡ true) (sym same)
+    (c.in-Ok.ensures.serves made).free in
     let puts = puts-settled OutFails ReadFails work (N.taken filled) indexed c.settle_file.result
-    (F.holds c.settle_file.new.folder name) written c.settle_file.ensures.status c.settle_file.ensures.refused
+    (F.holds c.settle_file.new.folder name) (F.may_leave c.settle_file.new.folder name) written
+    c.settle_file.ensures.status c.settle_file.ensures.refused
     c.settle_file.ensures.named in
     inr (inr (
       none-refused (F.holds old) (F.apart old) (F.is_leftover old) work read name (name ∷ passing_of name ∷ [])
           F.can_refuse F.reads_can_fail (Puts OutFails ReadFails work (F.holds c.settle_file.new.folder name))
-          (c.in_default.ensures.no_mail (c.in-Ok.ensures.earlier made)) fit
-          (c.in-Ok.ensures.plain made) free,
+          (c.in_default.ensures.no_mail (c.in-Ok.ensures.reports.earlier made)) fit
+          (c.in-Ok.ensures.serves made).plain free,
       subst (λ ended. Puts OutFails ReadFails work (F.holds c.settle_file.new.folder name) ended) (sym
           c.status_or_stopped.ensures) puts,
     ))
@@ -157,19 +161,12 @@ returns-clause-read g c = λ agree.
     made-settled-read F old read name c.create_file.new.folder c.settle_file.new.folder
     (N.taken c.index_names-indexed.new.out) c.index_names-indexed.result c.settle_file.result passing same
     (record {
-      fit = c.in-Ok.ensures.fit (c.index_names-indexed.ensures.earlier agree);
+      fit = (c.in-Ok.ensures.serves (c.index_names-indexed.ensures.reports.earlier agree)).fit;
       others = c.in-Ok.ensures.others;
-      crash = c.in-Ok.ensures.crash;
-      apart = c.in-Ok.ensures.apart;
-      making = c.in-Ok.ensures.any_moment;
-      calls = c.in-Ok.ensures.calls;
-      others_then = c.settle_file.ensures.others;
-      settling = c.settle_file.ensures.any_moment;
-      discarding = c.settle_file.ensures.discarded;
-      not_named = c.settle_file.ensures.not_named;
-      old_or_new = c.settle_file.ensures.old_or_new;
       settled = c.settle_file.ensures.status;
-      calls_then = c.settle_file.ensures.calls;
+      given_up = c.settle_file.ensures.not_named;
+      names = c.settle_file.ensures.others;
+      settling = c.settle_file.ensures.any_moment;
     })
 
 pub returns-clause-any_moment : goal.returns-clause-any_moment
@@ -187,8 +184,9 @@ returns-clause-any_moment g c = λ bytes files agree.
     let filled = c.index_names-indexed.new.out in
     let indexed = c.index_names-indexed.result in
     let mid = c.create_file.new.folder in
-    let kept = fit-same F old read name mid passing (c.in-Ok.ensures.fit (c.index_names-indexed.ensures.earlier agree))
-    c.in-Ok.ensures.others in
+    let kept = fit-same F old read name mid passing
+    (c.in-Ok.ensures.serves (c.index_names-indexed.ensures.reports.earlier agree)).fit
+    c.in-Ok.ensures.others.others in
     let still : files_of (F.holds mid) archives ≡ map Some bytes = files-same (F.holds old) (F.holds mid) archives
     (all-after (λ n. F.holds mid n ≡ F.holds old n)
     (c.args.read.now.rcfile.now ∷ option_map_or (λ database. database.now ∷ []) c.args.read.now.database [])
@@ -197,7 +195,7 @@ returns-clause-any_moment g c = λ bytes files agree.
     let ReadFails = CannotRead F.can_refuse F.reads_can_fail in
     let fails : is_failed_out (fault_in indexed) ≡ true → OutFails = λ is. inr (g.met.F.Folder.writes_fail filled
     (counted-failure (is_failed_out (fault_in indexed)) (N.failures first) (N.failures filled)
-    c.index_names-indexed.ensures.out_failed c.in-Ok.ensures.fresh is)) in
+    c.index_names-indexed.ensures.out_failed c.in-Ok.ensures.empty.1 is)) in
     let by-some : IsWritten OutFails ReadFails work (N.taken first) (N.taken filled) indexed =
     indexed-written (mboxes (map string_bytes archives) bytes) OutFails ReadFails (N.taken first) (N.taken filled)
     indexed fails
@@ -205,23 +203,16 @@ returns-clause-any_moment g c = λ bytes files agree.
     (silent-of N.taken first filled indexed c.index_names-indexed.ensures.silent)
     (c.index_names-indexed.ensures.indexed bytes still agree) in
     let written : IsWritten OutFails ReadFails work (Some []) (N.taken filled) indexed =
-    subst (λ t. IsWritten OutFails ReadFails work t (N.taken filled) indexed) c.in-Ok.ensures.empty by-some in
+    subst (λ t. IsWritten OutFails ReadFails work t (N.taken filled) indexed) c.in-Ok.ensures.empty.0 by-some in
     made-settled-leaves F old read name c.create_file.new.folder c.settle_file.new.folder
     (N.taken filled) indexed c.settle_file.result work OutFails ReadFails passing same
     (record {
-      fit = c.in-Ok.ensures.fit (c.index_names-indexed.ensures.earlier agree);
+      fit = (c.in-Ok.ensures.serves (c.index_names-indexed.ensures.reports.earlier agree)).fit;
       others = c.in-Ok.ensures.others;
-      crash = c.in-Ok.ensures.crash;
-      apart = c.in-Ok.ensures.apart;
-      making = c.in-Ok.ensures.any_moment;
-      calls = c.in-Ok.ensures.calls;
-      others_then = c.settle_file.ensures.others;
-      settling = c.settle_file.ensures.any_moment;
-      discarding = c.settle_file.ensures.discarded;
-      not_named = c.settle_file.ensures.not_named;
-      old_or_new = c.settle_file.ensures.old_or_new;
       settled = c.settle_file.ensures.status;
-      calls_then = c.settle_file.ensures.calls;
+      given_up = c.settle_file.ensures.not_named;
+      names = c.settle_file.ensures.others;
+      settling = c.settle_file.ensures.any_moment;
     }) written
 
 pub returns-clause-old : goal.returns-clause-old
@@ -239,8 +230,9 @@ returns-clause-old g c = λ bytes files agree.
     let filled = c.index_names-indexed.new.out in
     let indexed = c.index_names-indexed.result in
     let mid = c.create_file.new.folder in
-    let kept = fit-same F old read name mid passing (c.in-Ok.ensures.fit (c.index_names-indexed.ensures.earlier agree))
-    c.in-Ok.ensures.others in
+    let kept = fit-same F old read name mid passing
+    (c.in-Ok.ensures.serves (c.index_names-indexed.ensures.reports.earlier agree)).fit
+    c.in-Ok.ensures.others.others in
     let still : files_of (F.holds mid) archives ≡ map Some bytes = files-same (F.holds old) (F.holds mid) archives
     (all-after (λ n. F.holds mid n ≡ F.holds old n)
     (c.args.read.now.rcfile.now ∷ option_map_or (λ database. database.now ∷ []) c.args.read.now.database [])
@@ -249,7 +241,7 @@ returns-clause-old g c = λ bytes files agree.
     let ReadFails = CannotRead F.can_refuse F.reads_can_fail in
     let fails : is_failed_out (fault_in indexed) ≡ true → OutFails = λ is. inr (g.met.F.Folder.writes_fail filled
     (counted-failure (is_failed_out (fault_in indexed)) (N.failures first) (N.failures filled)
-    c.index_names-indexed.ensures.out_failed c.in-Ok.ensures.fresh is)) in
+    c.index_names-indexed.ensures.out_failed c.in-Ok.ensures.empty.1 is)) in
     let by-some : IsWritten OutFails ReadFails work (N.taken first) (N.taken filled) indexed =
     indexed-written (mboxes (map string_bytes archives) bytes) OutFails ReadFails (N.taken first) (N.taken filled)
     indexed fails
@@ -257,23 +249,16 @@ returns-clause-old g c = λ bytes files agree.
     (silent-of N.taken first filled indexed c.index_names-indexed.ensures.silent)
     (c.index_names-indexed.ensures.indexed bytes still agree) in
     let written : IsWritten OutFails ReadFails work (Some []) (N.taken filled) indexed =
-    subst (λ t. IsWritten OutFails ReadFails work t (N.taken filled) indexed) c.in-Ok.ensures.empty by-some in
+    subst (λ t. IsWritten OutFails ReadFails work t (N.taken filled) indexed) c.in-Ok.ensures.empty.0 by-some in
     subst (λ ended. KeepsOld work (F.holds old name) (F.holds c.settle_file.new.folder name) ended)
     (sym c.status_or_stopped.ensures) (made-settled-keeps F old read name c.create_file.new.folder
     c.settle_file.new.folder
     (N.taken filled) indexed c.settle_file.result work OutFails ReadFails passing same
     (record {
-      fit = c.in-Ok.ensures.fit (c.index_names-indexed.ensures.earlier agree);
+      fit = (c.in-Ok.ensures.serves (c.index_names-indexed.ensures.reports.earlier agree)).fit;
       others = c.in-Ok.ensures.others;
-      crash = c.in-Ok.ensures.crash;
-      apart = c.in-Ok.ensures.apart;
-      making = c.in-Ok.ensures.any_moment;
-      calls = c.in-Ok.ensures.calls;
-      others_then = c.settle_file.ensures.others;
-      settling = c.settle_file.ensures.any_moment;
-      discarding = c.settle_file.ensures.discarded;
-      not_named = c.settle_file.ensures.not_named;
-      old_or_new = c.settle_file.ensures.old_or_new;
       settled = c.settle_file.ensures.status;
-      calls_then = c.settle_file.ensures.calls;
+      given_up = c.settle_file.ensures.not_named;
+      names = c.settle_file.ensures.others;
+      settling = c.settle_file.ensures.any_moment;
     }) written)

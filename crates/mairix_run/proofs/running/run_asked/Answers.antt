@@ -34,7 +34,7 @@ returns-then-is_index_run-clause-ran g c = λ agree.
     let new = c.replace_index.new.folder in
     let name = c.as_str-then-is_index_run.result.now in
     let archives = c.as_slice-then-is_index_run.result.now in
-    let found = c.in-Ok.ensures.ok (c.replace_index.ensures.earlier agree) in
+    let found = c.in-Ok.ensures.ok (c.replace_index.ensures.reports.earlier agree) in
     let bytes = found.0 in
     let files : files_at (F.holds old) rc.paths ≡ Ok bytes = ap (files_at (F.holds old)) (sym c.as_slice.ensures) ∙
     found.1 in
@@ -85,7 +85,7 @@ returns-then-plan-clause-ran g c = λ agree.
     let p = asked.plan.now in
     let rc = asked.rc.now in
     let old = c.args.folder.now in
-    let found = c.in-Ok.ensures.ok (c.run_search.ensures.earlier agree) in
+    let found = c.in-Ok.ensures.ok (c.run_search.ensures.reports.earlier agree) in
     let files : files_at (F.holds old) rc.paths ≡ Ok found.0 =
     ap (files_at (F.holds old)) (sym c.as_slice.ensures) ∙ found.1 in
     let task = search_task p rc (SearchNew (asks asked.words.now asked.text.now asked.now) found.0) in
@@ -155,7 +155,7 @@ returns-clause-ran g c = λ agree.
     let old = c.args.folder.now in
     let wanted = asks asked.words.now asked.text.now asked.now in
     let run = c.search_stored in
-    let found = c.in-Ok.ensures.ok (run.ensures.earlier agree) in
+    let found = c.in-Ok.ensures.ok (run.ensures.reports.earlier agree) in
     let files : files_at (F.holds old) rc.paths ≡ Ok found.0 =
     ap (files_at (F.holds old)) (sym c.as_slice.ensures) ∙ found.1 in
     let new-index = sym c.is_index_run.ensures ∙ c.if-is_index_run.false in

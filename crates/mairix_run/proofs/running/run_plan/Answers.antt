@@ -89,7 +89,7 @@ returns-clause-ran g c = λ agree.
     let given = given-ok path c.read_whole-text.result c.in-Ok.text c.in-Ok.ensures.given in
     let read : F.holds old path ≡ File bytes = subst (λ r. IfOk r (λ b.
     F.agree c.read_whole-text.new.reports ≡ true → F.holds old path ≡ File b.items)) given
-    c.read_whole-text.ensures.bytes (c.run_asked.ensures.earlier agree) in
+    c.read_whole-text.ensures.bytes (c.run_asked.ensures.reports.earlier agree) in
     let here : F.holds old p.rcfile ≡ File bytes =
     subst (λ n. F.holds old n ≡ File bytes) c.as_str-rcfile.ensures read in
     let said : rc_of bytes ≡ Ok rc = subst (λ t. rc_of t ≡ Ok rc) c.as_slice.ensures.value

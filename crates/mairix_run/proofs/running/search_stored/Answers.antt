@@ -33,7 +33,7 @@ returns-clause-ran g c = λ bytes files agree.
     let read : IsFileOf (λ all. IsIndexRead all c.in-Ok.index.items) (F.holds old path) =
     subst (λ r. IfOk r (λ b. F.agree c.read_index-index.new.reports ≡ true
     → IsFileOf (λ all. IsIndexRead all b.items) (F.holds old path))) given c.read_index-index.ensures.bytes
-    (c.run_search.ensures.earlier agree) in
+    (c.run_search.ensures.reports.earlier agree) in
     let all = read.0 in
     let is : IsIndexRead all c.as_slice.result.now =
     subst (λ b. IsIndexRead all b) (sym c.as_slice.ensures.value) read.1 in

@@ -41,7 +41,7 @@ returns-in-Err-clause-run g c = λ bytes files agree.
     (search-not-kept wanted index bytes (F.holds old name)) c.in-Err.stopped
     (subst (λ p. IsRefusal (unfit_name (F.apart old) read p name) (taken_name (F.holds old) (F.is_leftover old) p
     name) p name
-    F.can_refuse c.in-Err.stopped) (sym same) (c.in-Err.ensures.refused agree))
+    F.can_refuse c.in-Err.stopped) (sym same) ((c.in-Err.ensures.refused agree).refusal))
 
 pub returns-in-Err-clause-read : goal.returns-in-Err-clause-read
 returns-in-Err-clause-read g c = λ agree.
@@ -50,10 +50,8 @@ returns-in-Err-clause-read g c = λ agree.
     sym (c.as_str-passing.ensures.value ∙ c.in_ok-passing.ensures) in
     none-made-read F c.args.folder.now (names_read c.args.read.now) c.args.name.now c.create_file.new.folder
     c.as_str-passing.result.now same (record {
-      untouched = c.in-Err.ensures.untouched agree;
+      untouched = (c.in-Err.ensures.refused agree).untouched;
       others = c.in-Err.ensures.others;
-      any_moment = c.in-Err.ensures.any_moment;
-      calls = c.in-Err.ensures.calls;
     })
 
 pub returns-in-Err-clause-any_moment : goal.returns-in-Err-clause-any_moment
@@ -65,10 +63,8 @@ returns-in-Err-clause-any_moment g c = λ bytes files agree.
     sym (c.as_str-passing.ensures.value ∙ c.in_ok-passing.ensures) in
     none-made-leaves F c.args.folder.now (names_read c.args.read.now) c.args.name.now (search_work wanted index bytes)
     c.create_file.new.folder c.as_str-passing.result.now same (g.met.F.Folder.only_now c.args.folder.now) (record {
-      untouched = c.in-Err.ensures.untouched agree;
+      untouched = (c.in-Err.ensures.refused agree).untouched;
       others = c.in-Err.ensures.others;
-      any_moment = c.in-Err.ensures.any_moment;
-      calls = c.in-Err.ensures.calls;
     })
 
 pub returns-in-Err-clause-old : goal.returns-in-Err-clause-old
@@ -80,10 +76,8 @@ returns-in-Err-clause-old g c = λ bytes files agree.
     sym (c.as_str-passing.ensures.value ∙ c.in_ok-passing.ensures) in
     none-made-keeps F c.args.folder.now (names_read c.args.read.now) c.args.name.now (search_work wanted index bytes)
     c.create_file.new.folder c.as_str-passing.result.now (ending_of_stopped c.in-Err.stopped) same (record {
-      untouched = c.in-Err.ensures.untouched agree;
+      untouched = (c.in-Err.ensures.refused agree).untouched;
       others = c.in-Err.ensures.others;
-      any_moment = c.in-Err.ensures.any_moment;
-      calls = c.in-Err.ensures.calls;
     })
 
 -- ---- it is made
@@ -104,9 +98,9 @@ returns-clause-run g c = λ bytes files agree.
     let answered = c.answer_names-answered.result in
     let paths = c.args.search.now.paths.now in
     let mid = c.create_file.new.folder in
-    let kept = fit-same F old read name mid passing (c.in-Ok.ensures.fit (c.answer_names-answered.ensures.earlier
-    agree))
-    c.in-Ok.ensures.others in
+    let kept = fit-same F old read name mid passing
+    ((c.in-Ok.ensures.serves (c.answer_names-answered.ensures.reports.earlier agree)).fit)
+    c.in-Ok.ensures.others.others in
     let still : files_of (F.holds mid) paths ≡ map Some bytes = files-same (F.holds old) (F.holds mid) paths
     (subst (λ names. All (λ n. F.holds mid n ≡ F.holds old n) (map string_bytes names)) (sym c.requires.paths)
     (all-after (λ n. F.holds mid n ≡ F.holds old n)
@@ -116,32 +110,33 @@ returns-clause-run g c = λ bytes files agree.
     let ReadFails = CannotRead F.can_refuse F.reads_can_fail in
     let fails : is_failed_out (fault_in answered) ≡ true → OutFails = λ is. inr (g.met.F.Folder.writes_fail filled
     (counted-failure (is_failed_out (fault_in answered)) (N.failures first) (N.failures filled)
-    c.answer_names-answered.ensures.out_failed c.in-Ok.ensures.fresh is)) in
+    c.answer_names-answered.ensures.causes.out_failed c.in-Ok.ensures.empty.1 is)) in
     let by-some : IsWritten OutFails ReadFails work (N.taken first) (N.taken filled) answered = ⊎_elim
     (λ few. searched-written wanted c.args.search.now.index bytes (length paths < 2 ^ 32) (F.agree _ ≡ true)
     (λ b. files_of (F.holds mid) paths ≡ map Some b) OutFails ReadFails (N.taken first) (N.taken filled) answered few
     still agree
-    fails (c.answer_names-answered.ensures.unread bytes still) c.answer_names-answered.ensures.once
+    fails (c.answer_names-answered.ensures.causes.unread bytes still) c.answer_names-answered.ensures.once
     c.answer_names-answered.ensures.stored)
-    (λ many. let none = c.answer_names-answered.ensures.few many in
+    (λ many. let none = c.answer_names-answered.ensures.refused.too_many many in
     subst (λ d. IsWritten OutFails ReadFails work (N.taken first) (N.taken d) answered) (sym none.1)
     (too-many-searched wanted c.args.search.now.index bytes OutFails ReadFails (N.taken first) answered
     (subst (λ n. 2 ^ 32 ≤ n) (same-length _ Some paths bytes files) many) none.0))
     (few-or-many (length paths) (2 ^ 32)) in
     let written : IsWritten OutFails ReadFails work (Some []) (N.taken filled) answered =
-    subst (λ t. IsWritten OutFails ReadFails work t (N.taken filled) answered) c.in-Ok.ensures.empty by-some in
-    let made = c.answer_names-answered.ensures.earlier agree in
-    let fit = subst (λ p. unfit_name (F.apart old) read p name ≡ None) (sym same) (c.in-Ok.ensures.fit made) in
-    let free = subst (λ p. is_open_to (F.holds old) (F.is_leftover old) p ≡ true) (sym same) (c.in-Ok.ensures.free
-    made) in
+    subst (λ t. IsWritten OutFails ReadFails work t (N.taken filled) answered) c.in-Ok.ensures.empty.0 by-some in
+    let made = c.answer_names-answered.ensures.reports.earlier agree in
+    let fit = subst (λ p. unfit_name (F.apart old) read p name ≡ None) (sym same) (c.in-Ok.ensures.serves made).fit in
+    let free = subst (λ p. is_open_to (F.holds old) (F.is_leftover old) p ≡ true) (sym same)
+    (c.in-Ok.ensures.serves made).free in
     let puts = puts-settled OutFails ReadFails work (N.taken filled) answered c.settle_file.result
-    (F.holds c.settle_file.new.folder name) written c.settle_file.ensures.status c.settle_file.ensures.refused
+    (F.holds c.settle_file.new.folder name) (F.may_leave c.settle_file.new.folder name) written
+    c.settle_file.ensures.status c.settle_file.ensures.refused
     c.settle_file.ensures.named in
     inr (inr (
       none-refused (F.holds old) (F.apart old) (F.is_leftover old) work read name (name ∷ passing_of name ∷ [])
           F.can_refuse F.reads_can_fail (Puts OutFails ReadFails work (F.holds c.settle_file.new.folder name))
           (search-not-kept wanted (option_map (λ i. i.now) c.args.search.now.index) bytes (F.holds old name)) fit
-          (c.in-Ok.ensures.plain made) free,
+          (c.in-Ok.ensures.serves made).plain free,
       subst (λ ended. Puts OutFails ReadFails work (F.holds c.settle_file.new.folder name) ended) (sym
           c.status_or_stopped.ensures) puts,
     ))
@@ -158,19 +153,12 @@ returns-clause-read g c = λ agree.
     made-settled-read F old read name c.create_file.new.folder c.settle_file.new.folder
     (N.taken c.answer_names-answered.new.out) c.answer_names-answered.result c.settle_file.result passing same
     (record {
-      fit = c.in-Ok.ensures.fit (c.answer_names-answered.ensures.earlier agree);
+      fit = (c.in-Ok.ensures.serves (c.answer_names-answered.ensures.reports.earlier agree)).fit;
       others = c.in-Ok.ensures.others;
-      crash = c.in-Ok.ensures.crash;
-      apart = c.in-Ok.ensures.apart;
-      making = c.in-Ok.ensures.any_moment;
-      calls = c.in-Ok.ensures.calls;
-      others_then = c.settle_file.ensures.others;
-      settling = c.settle_file.ensures.any_moment;
-      discarding = c.settle_file.ensures.discarded;
-      not_named = c.settle_file.ensures.not_named;
-      old_or_new = c.settle_file.ensures.old_or_new;
       settled = c.settle_file.ensures.status;
-      calls_then = c.settle_file.ensures.calls;
+      given_up = c.settle_file.ensures.not_named;
+      names = c.settle_file.ensures.others;
+      settling = c.settle_file.ensures.any_moment;
     })
 
 pub returns-clause-any_moment : goal.returns-clause-any_moment
@@ -189,9 +177,9 @@ returns-clause-any_moment g c = λ bytes files agree.
     let answered = c.answer_names-answered.result in
     let paths = c.args.search.now.paths.now in
     let mid = c.create_file.new.folder in
-    let kept = fit-same F old read name mid passing (c.in-Ok.ensures.fit (c.answer_names-answered.ensures.earlier
-    agree))
-    c.in-Ok.ensures.others in
+    let kept = fit-same F old read name mid passing
+    ((c.in-Ok.ensures.serves (c.answer_names-answered.ensures.reports.earlier agree)).fit)
+    c.in-Ok.ensures.others.others in
     let still : files_of (F.holds mid) paths ≡ map Some bytes = files-same (F.holds old) (F.holds mid) paths
     (subst (λ names. All (λ n. F.holds mid n ≡ F.holds old n) (map string_bytes names)) (sym c.requires.paths)
     (all-after (λ n. F.holds mid n ≡ F.holds old n)
@@ -201,36 +189,29 @@ returns-clause-any_moment g c = λ bytes files agree.
     let ReadFails = CannotRead F.can_refuse F.reads_can_fail in
     let fails : is_failed_out (fault_in answered) ≡ true → OutFails = λ is. inr (g.met.F.Folder.writes_fail filled
     (counted-failure (is_failed_out (fault_in answered)) (N.failures first) (N.failures filled)
-    c.answer_names-answered.ensures.out_failed c.in-Ok.ensures.fresh is)) in
+    c.answer_names-answered.ensures.causes.out_failed c.in-Ok.ensures.empty.1 is)) in
     let by-some : IsWritten OutFails ReadFails work (N.taken first) (N.taken filled) answered = ⊎_elim
     (λ few. searched-written wanted c.args.search.now.index bytes (length paths < 2 ^ 32) (F.agree _ ≡ true)
     (λ b. files_of (F.holds mid) paths ≡ map Some b) OutFails ReadFails (N.taken first) (N.taken filled) answered few
     still agree
-    fails (c.answer_names-answered.ensures.unread bytes still) c.answer_names-answered.ensures.once
+    fails (c.answer_names-answered.ensures.causes.unread bytes still) c.answer_names-answered.ensures.once
     c.answer_names-answered.ensures.stored)
-    (λ many. let none = c.answer_names-answered.ensures.few many in
+    (λ many. let none = c.answer_names-answered.ensures.refused.too_many many in
     subst (λ d. IsWritten OutFails ReadFails work (N.taken first) (N.taken d) answered) (sym none.1)
     (too-many-searched wanted c.args.search.now.index bytes OutFails ReadFails (N.taken first) answered
     (subst (λ n. 2 ^ 32 ≤ n) (same-length _ Some paths bytes files) many) none.0))
     (few-or-many (length paths) (2 ^ 32)) in
     let written : IsWritten OutFails ReadFails work (Some []) (N.taken filled) answered =
-    subst (λ t. IsWritten OutFails ReadFails work t (N.taken filled) answered) c.in-Ok.ensures.empty by-some in
+    subst (λ t. IsWritten OutFails ReadFails work t (N.taken filled) answered) c.in-Ok.ensures.empty.0 by-some in
     made-settled-leaves F old read name c.create_file.new.folder c.settle_file.new.folder
     (N.taken filled) answered c.settle_file.result work OutFails ReadFails passing same
     (record {
-      fit = c.in-Ok.ensures.fit (c.answer_names-answered.ensures.earlier agree);
+      fit = (c.in-Ok.ensures.serves (c.answer_names-answered.ensures.reports.earlier agree)).fit;
       others = c.in-Ok.ensures.others;
-      crash = c.in-Ok.ensures.crash;
-      apart = c.in-Ok.ensures.apart;
-      making = c.in-Ok.ensures.any_moment;
-      calls = c.in-Ok.ensures.calls;
-      others_then = c.settle_file.ensures.others;
-      settling = c.settle_file.ensures.any_moment;
-      discarding = c.settle_file.ensures.discarded;
-      not_named = c.settle_file.ensures.not_named;
-      old_or_new = c.settle_file.ensures.old_or_new;
       settled = c.settle_file.ensures.status;
-      calls_then = c.settle_file.ensures.calls;
+      given_up = c.settle_file.ensures.not_named;
+      names = c.settle_file.ensures.others;
+      settling = c.settle_file.ensures.any_moment;
     }) written
 
 pub returns-clause-old : goal.returns-clause-old
@@ -249,9 +230,9 @@ returns-clause-old g c = λ bytes files agree.
     let answered = c.answer_names-answered.result in
     let paths = c.args.search.now.paths.now in
     let mid = c.create_file.new.folder in
-    let kept = fit-same F old read name mid passing (c.in-Ok.ensures.fit (c.answer_names-answered.ensures.earlier
-    agree))
-    c.in-Ok.ensures.others in
+    let kept = fit-same F old read name mid passing
+    ((c.in-Ok.ensures.serves (c.answer_names-answered.ensures.reports.earlier agree)).fit)
+    c.in-Ok.ensures.others.others in
     let still : files_of (F.holds mid) paths ≡ map Some bytes = files-same (F.holds old) (F.holds mid) paths
     (subst (λ names. All (λ n. F.holds mid n ≡ F.holds old n) (map string_bytes names)) (sym c.requires.paths)
     (all-after (λ n. F.holds mid n ≡ F.holds old n)
@@ -261,36 +242,29 @@ returns-clause-old g c = λ bytes files agree.
     let ReadFails = CannotRead F.can_refuse F.reads_can_fail in
     let fails : is_failed_out (fault_in answered) ≡ true → OutFails = λ is. inr (g.met.F.Folder.writes_fail filled
     (counted-failure (is_failed_out (fault_in answered)) (N.failures first) (N.failures filled)
-    c.answer_names-answered.ensures.out_failed c.in-Ok.ensures.fresh is)) in
+    c.answer_names-answered.ensures.causes.out_failed c.in-Ok.ensures.empty.1 is)) in
     let by-some : IsWritten OutFails ReadFails work (N.taken first) (N.taken filled) answered = ⊎_elim
     (λ few. searched-written wanted c.args.search.now.index bytes (length paths < 2 ^ 32) (F.agree _ ≡ true)
     (λ b. files_of (F.holds mid) paths ≡ map Some b) OutFails ReadFails (N.taken first) (N.taken filled) answered few
     still agree
-    fails (c.answer_names-answered.ensures.unread bytes still) c.answer_names-answered.ensures.once
+    fails (c.answer_names-answered.ensures.causes.unread bytes still) c.answer_names-answered.ensures.once
     c.answer_names-answered.ensures.stored)
-    (λ many. let none = c.answer_names-answered.ensures.few many in
+    (λ many. let none = c.answer_names-answered.ensures.refused.too_many many in
     subst (λ d. IsWritten OutFails ReadFails work (N.taken first) (N.taken d) answered) (sym none.1)
     (too-many-searched wanted c.args.search.now.index bytes OutFails ReadFails (N.taken first) answered
     (subst (λ n. 2 ^ 32 ≤ n) (same-length _ Some paths bytes files) many) none.0))
     (few-or-many (length paths) (2 ^ 32)) in
     let written : IsWritten OutFails ReadFails work (Some []) (N.taken filled) answered =
-    subst (λ t. IsWritten OutFails ReadFails work t (N.taken filled) answered) c.in-Ok.ensures.empty by-some in
+    subst (λ t. IsWritten OutFails ReadFails work t (N.taken filled) answered) c.in-Ok.ensures.empty.0 by-some in
     subst (λ ended. KeepsOld work (F.holds old name) (F.holds c.settle_file.new.folder name) ended)
     (sym c.status_or_stopped.ensures) (made-settled-keeps F old read name c.create_file.new.folder
     c.settle_file.new.folder
     (N.taken filled) answered c.settle_file.result work OutFails ReadFails passing same
     (record {
-      fit = c.in-Ok.ensures.fit (c.answer_names-answered.ensures.earlier agree);
+      fit = (c.in-Ok.ensures.serves (c.answer_names-answered.ensures.reports.earlier agree)).fit;
       others = c.in-Ok.ensures.others;
-      crash = c.in-Ok.ensures.crash;
-      apart = c.in-Ok.ensures.apart;
-      making = c.in-Ok.ensures.any_moment;
-      calls = c.in-Ok.ensures.calls;
-      others_then = c.settle_file.ensures.others;
-      settling = c.settle_file.ensures.any_moment;
-      discarding = c.settle_file.ensures.discarded;
-      not_named = c.settle_file.ensures.not_named;
-      old_or_new = c.settle_file.ensures.old_or_new;
       settled = c.settle_file.ensures.status;
-      calls_then = c.settle_file.ensures.calls;
+      given_up = c.settle_file.ensures.not_named;
+      names = c.settle_file.ensures.others;
+      settling = c.settle_file.ensures.any_moment;
     }) written)

@@ -21,7 +21,7 @@ returns-clause-run g c = λ bytes files agree.
     let mid = c.answer_names-written.new.out in
     let answered = c.answer_names-written.result in
     let paths = c.args.search.now.paths.now in
-    let count = c.answer_names-written.ensures.out_failed in
+    let count = c.answer_names-written.ensures.causes.out_failed in
     let Fails = O.failures mid ≡ O.failures out + 1 in
     let ReadFails = CannotRead F.can_refuse F.reads_can_fail in
     let written : IsWritten Fails ReadFails work (O.taken out) (O.taken mid) answered = ⊎_elim
@@ -29,9 +29,9 @@ returns-clause-run g c = λ bytes files agree.
     (λ b. files_of (F.holds c.args.folder.now) paths ≡ map Some b) Fails ReadFails (O.taken out) (O.taken mid) answered
     few files
     agree (counted-once (is_failed_out (fault_in answered)) (O.failures out) (O.failures mid) count)
-    (c.answer_names-written.ensures.unread bytes files)
+    (c.answer_names-written.ensures.causes.unread bytes files)
     c.answer_names-written.ensures.once c.answer_names-written.ensures.stored)
-    (λ many. let none = c.answer_names-written.ensures.few many in
+    (λ many. let none = c.answer_names-written.ensures.refused.too_many many in
     subst (λ d. IsWritten Fails ReadFails work (O.taken out) (O.taken d) answered) (sym none.1)
     (too-many-searched wanted c.args.search.now.index bytes Fails ReadFails (O.taken out) answered
     (subst (λ n. 2 ^ 32 ≤ n) (same-length _ Some paths bytes files) many) none.0))

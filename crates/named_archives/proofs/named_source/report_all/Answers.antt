@@ -16,11 +16,12 @@ loop-source-preserved g c =
     record {
       noted = agree-more (λ s. has_agreed g.F.File.Source.rest g.F.File.KeptFile.bytes s.file) c.loop-source.yielded
           source (g.F.Folder.agree c.args.reports.now) (g.F.Folder.agree c.loop-source.reports)
-          (g.F.Folder.agree c.report.new.reports) i.noted told.noted;
-      right = λ right. told.right right ∙ i.right right;
+          (g.F.Folder.agree c.report.new.reports) i.noted told.noted.noted;
+      right = λ right. told.noted.right right ∙ i.right right;
       known = λ agrees. All-push (λ s. s.failures ≡ 0 → IsSome s.file
           → IsSome (bytes_left_in g.F.File.Source.rest (bytes_of (g.F.Folder.holds s.folder.now s.name.now)) s.file
-          s.progress)) c.loop-source.yielded source (i.known (first-true _ _ _ told.noted agrees)) (told.known agrees);
+          s.progress)) c.loop-source.yielded source (i.known (first-true _ _ _ told.noted.noted agrees))
+          (told.known agrees);
     }
 
 pub returns-clause-noted : goal.returns-clause-noted
@@ -31,7 +32,7 @@ returns-clause-noted g c =
     (gives.1 ∙ c.args.sources.ok.0)) c.loop-source.yielded c.loop-source.source-iterator
     c.loop-source.yielded_by c.next.result c.next.new.self c.in-None.is c.next.ensures.steps in
     let these : c.loop-source.yielded ≡ c.args.sources.items = sym (map-id _) ∙ all.0 in
-    rw these at c.loop-source.invariant.noted
+    record { noted = rw these at c.loop-source.invariant.noted; right = c.loop-source.invariant.right }
 
 pub returns-clause-known : goal.returns-clause-known
 returns-clause-known g c =

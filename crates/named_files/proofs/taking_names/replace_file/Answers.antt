@@ -1,6 +1,7 @@
 -- `replace_file` leaves the old file or the whole new one: its moments are those of `create`, and then of `take_name`.
 use Rattle.std.proofs.Common.{Some, refl}
-use Rattle.named_files.specs.Crashes.{LeavesNoMoreWhere, LeavesOnly}
+use Rattle.named_files.specs.Crashes.{LeavesOnly}
+use Rattle.named_files.specs.OtherNames.{LeavesAlone}
 use Rattle.named_files.specs.TakingNames.{Replaces}
 use Rattle.named_files.proofs.Steps.{at_first, after_call, after_taking, left_under_passing, sent_whole}
 use Rattle.named_files.proofs.taking_names.replace_file.Goals as goal
@@ -18,15 +19,15 @@ returns-in-Err-send-clause-any_moment g c =
     let first = at_first F.moment F.left_since F.may_leave F.apart old passing name taken
     (g.met.F.Folder.only_now old) in
     let created = after_call F.moment F.left_since F.may_leave F.apart old passing name taken
-    old mid first c.create.ensures.time
+    old mid first c.create.ensures.others.time
     (left_under_passing F.moment F.left_since F.may_leave F.apart old passing name taken
-    old mid first (λ a b. refl) c.create.ensures.crash) in
-    let gone : LeavesNoMoreWhere (λ n. F.apart mid n passing) (F.may_leave mid) (F.may_leave new) =
-    rw c.in-Ok.ensures.making at c.discard.ensures.crash in
+    old mid first (λ a b. refl) c.create.ensures.others.crash) in
+    let gone : LeavesAlone F.apart F.holds F.may_leave F.moment F.left_since (λ n. F.apart mid n passing) mid new =
+    rw c.in-Ok.ensures.making at c.discard.ensures.others in
     (after_call F.moment F.left_since F.may_leave F.apart old passing name taken
-    mid new created c.discard.ensures.time
+    mid new created gone.time
     (left_under_passing F.moment F.left_since F.may_leave F.apart old passing name taken
-    mid new created c.create.ensures.apart gone)).run
+    mid new created c.create.ensures.others.still_apart gone.crash)).run
 
 -- the file is written, and then it takes its name
 pub returns-clause-any_moment : goal.returns-clause-any_moment
@@ -39,14 +40,14 @@ returns-clause-any_moment g c =
     let name = c.args.name.now in
     let taken = Some c.args.bytes.now in
     let sent = sent_whole (g.F.New.Out.taken c.in-Ok.new) (g.F.New.Out.taken c.send.new.out) c.args.bytes.now
-    c.in-Ok.ensures.empty c.in_default.ensures.ok in
+    c.in-Ok.ensures.empty.0 c.in_default.ensures.ok in
     let first = at_first F.moment F.left_since F.may_leave F.apart old passing name taken
     (g.met.F.Folder.only_now old) in
     let created = after_call F.moment F.left_since F.may_leave F.apart old passing name taken
-    old mid first c.create.ensures.time
+    old mid first c.create.ensures.others.time
     (left_under_passing F.moment F.left_since F.may_leave F.apart old passing name taken
-    old mid first (λ a b. refl) c.create.ensures.crash) in
+    old mid first (λ a b. refl) c.create.ensures.others.crash) in
     let later : LeavesOnly F.moment F.left_since mid new (Replaces (F.apart mid) (F.may_leave mid) passing name taken) =
     rw sent at c.take_name.ensures.any_moment in
     after_taking F.moment F.left_since F.may_leave F.apart old passing name taken
-    mid new created c.create.ensures.apart c.create.ensures.crash later
+    mid new created c.create.ensures.others.still_apart c.create.ensures.others.crash later

@@ -1,6 +1,6 @@
 -- `take_name` leaves the old file or the whole new one: its moments are those of the calls that it makes.
-use Rattle.std.proofs.Common.{rules, ◌∙◌, ℕ, ◌≡◌, List, subst, IfSome, ◌&&◌}
-use Rattle.named_files.specs.Crashes.{LeavesNoMoreWhere}
+use Rattle.std.proofs.Common.{rules, refl, ◌≡◌, ◌∙◌, ℕ, List, subst, IfSome, ◌&&◌}
+use Rattle.named_files.specs.OtherNames.{LeavesAlone}
 use Rattle.named_files.proofs.Steps.{after_call, after_rename, left_under_passing}
 use Rattle.named_files.proofs.taking_names.take_name.Goals as goal
 
@@ -17,16 +17,17 @@ returns-in-Err-rename-clause-any_moment g c =
     let hold = g.F.New.NewFile.may_hold c.sync.new.self in
     let whole = λ (bytes : List ℕ) (h : hold bytes). subst (λ t. IfSome t (λ w. bytes ≡ w)) c.sync.ensures.taken
     (g.met.F.New.NewFile.kept_whole c.sync.new.self bytes (search rules) h) in
-    let less : LeavesNoMoreWhere (λ n. F.apart old n passing && F.apart old n name) (F.may_leave old)
-    (F.may_leave mid) = rw c.requires.making at c.rename.ensures.crash in
+    let alone : LeavesAlone F.apart F.holds F.may_leave F.moment F.left_since
+    (λ n. F.apart old n passing && F.apart old n name) old mid = rw c.requires.making at c.rename.ensures.others in
     let renamed = after_rename F.moment F.left_since F.may_leave F.apart old passing name taken
-    (g.met.F.Folder.only_now old) mid c.rename.ensures.time less hold c.rename.ensures.crash_named whole in
-    let gone : LeavesNoMoreWhere (λ n. F.apart mid n passing) (F.may_leave mid) (F.may_leave new) =
-    rw (c.in-Err-rename.ensures.still ∙ c.requires.making) at c.discard-in-Err-rename.ensures.crash in
+    (g.met.F.Folder.only_now old) mid alone.time alone.crash hold c.rename.ensures.crash_named whole in
+    let still : F.making mid ≡ F.making old = c.in-Err-rename.ensures.stays.1 in
+    let gone : LeavesAlone F.apart F.holds F.may_leave F.moment F.left_since (λ n. F.apart mid n passing) mid new =
+    rw (still ∙ c.requires.making) at c.discard-in-Err-rename.ensures.others in
     (after_call F.moment F.left_since F.may_leave F.apart old passing name taken
-    mid new renamed c.discard-in-Err-rename.ensures.time
+    mid new renamed gone.time
     (left_under_passing F.moment F.left_since F.may_leave F.apart old passing name taken
-    mid new renamed c.rename.ensures.apart gone)).run
+    mid new renamed alone.still_apart gone.crash)).run
 
 -- it is renamed, and then its name is brought to the disk
 pub returns-clause-any_moment : goal.returns-clause-any_moment
@@ -40,10 +41,10 @@ returns-clause-any_moment g c =
     let hold = g.F.New.NewFile.may_hold c.sync.new.self in
     let whole = λ (bytes : List ℕ) (h : hold bytes). subst (λ t. IfSome t (λ w. bytes ≡ w)) c.sync.ensures.taken
     (g.met.F.New.NewFile.kept_whole c.sync.new.self bytes (search rules) h) in
-    let less : LeavesNoMoreWhere (λ n. F.apart old n passing && F.apart old n name) (F.may_leave old)
-    (F.may_leave mid) = rw c.requires.making at c.rename.ensures.crash in
+    let alone : LeavesAlone F.apart F.holds F.may_leave F.moment F.left_since
+    (λ n. F.apart old n passing && F.apart old n name) old mid = rw c.requires.making at c.rename.ensures.others in
     let renamed = after_rename F.moment F.left_since F.may_leave F.apart old passing name taken
-    (g.met.F.Folder.only_now old) mid c.rename.ensures.time less hold c.rename.ensures.crash_named whole in
+    (g.met.F.Folder.only_now old) mid alone.time alone.crash hold c.rename.ensures.crash_named whole in
     (after_call F.moment F.left_since F.may_leave F.apart old passing name taken
-    mid c.sync_folder.new.self renamed c.sync_folder.ensures.time
-    (λ n e left. renamed.here n e (c.sync_folder.ensures.crash n e left))).run
+    mid c.sync_folder.new.self renamed c.sync_folder.ensures.others.time
+    (λ n e left. renamed.here n e (c.sync_folder.ensures.others.crash n e refl left))).run

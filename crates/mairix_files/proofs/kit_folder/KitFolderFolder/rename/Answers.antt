@@ -1,13 +1,13 @@
 -- `rename` makes one change: the name leads to what the new file has taken, and its passing name isn't noted.
-use Rattle.std.proofs.Common.{◌≡◌, ◌∙◌, ◌∷◌, ap, false}
+use Rattle.std.proofs.Common.{◌≡◌, ◌∙◌, ◌∷◌, ap, false, refl}
 use Rattle.std.specs.Option.{option_map}
 use Rattle.std.specs.String.{string_bytes}
 use Rattle.named_files.specs.Logs.{Held, Named}
-use Rattle.named_files.proofs.Logs.{file_of, no_more_others_than, left_of_new, time_goes_on}
+use Rattle.named_files.proofs.Logs.{file_of, if_any, left_of_new, no_more_others, same_others, second, time_goes_on}
 use Rattle.call_record.specs.Calls.{taken_after}
 use Rattle.mairix_files.specs.KitNews.{bytes_put}
-use Rattle.mairix_files.specs.NameCalls.{changes_by, supposed_first}
-use Rattle.mairix_files.proofs.NameSteps.{less_apart}
+use Rattle.mairix_files.specs.NameCalls.{are_apart, changes_by, supposed_first}
+use Rattle.mairix_files.proofs.NameSteps.{differ}
 use Rattle.mairix_files.proofs.kit_folder.KitFolderFolder.rename.Given as given
 use Rattle.mairix_files.proofs.kit_folder.KitFolderFolder.rename.Goals as goal
 
@@ -26,20 +26,24 @@ module _ (g : given.Over) (c : goal.Joined-self-2 g) where
       ∙ ap (λ kept. Named c.args.name.now (file_of (bytes_put c.args.new.noted c.args.new.gathered.items) kept false)
       ∷ changes_by c.args.self.now.calls.done) c.into_written-written.ensures.kept
 
-pub returns-clause-crash : goal.returns-clause-crash
-returns-clause-crash g c =
-    less_apart c.args.self.now.supposed.links (option_map string_bytes c.args.self.now.passing) c.args.name.now _ _
-    (no_more_others_than (supposed_first c.args.self.now.supposed) (changes_by c.args.self.now.calls.done)
-    (changes_by c.note_renamed.new.calls.done) c.args.name.now (taken g c) (newest g c)
-    (option_map string_bytes c.args.self.now.passing))
+pub returns-clause-others : goal.returns-clause-others
+returns-clause-others g c =
+    let first = supposed_first c.args.self.now.supposed in
+    let links = c.args.self.now.supposed.links in
+    let old = changes_by c.args.self.now.calls.done in
+    let new = changes_by c.note_renamed.new.calls.done in
+    let name = c.args.name.now in
+    if_any (option_map string_bytes c.args.self.now.passing) (λ passing. record {
+      others = λ n both. same_others first old new name (taken g c) (newest g c) n
+          (differ links n name (second (are_apart links n passing) (are_apart links n name) both));
+      crash = λ n e both. no_more_others first old new name (taken g c) (newest g c) n e
+          (differ links n name (second (are_apart links n passing) (are_apart links n name) both));
+      still_apart = λ a b. refl;
+      time = time_goes_on first old new (Named name (taken g c)) (newest g c);
+    })
 
 pub returns-clause-crash_named : goal.returns-clause-crash_named
 returns-clause-crash_named g c =
     left_of_new (supposed_first c.args.self.now.supposed) (changes_by c.args.self.now.calls.done)
     (changes_by c.note_renamed.new.calls.done) c.args.name.now (bytes_put c.args.new.noted c.args.new.gathered.items)
     c.args.new.is_kept false (newest g c)
-
-pub returns-clause-time : goal.returns-clause-time
-returns-clause-time g c =
-    time_goes_on (supposed_first c.args.self.now.supposed) (changes_by c.args.self.now.calls.done)
-    (changes_by c.note_renamed.new.calls.done) (Named c.args.name.now (taken g c)) (newest g c)

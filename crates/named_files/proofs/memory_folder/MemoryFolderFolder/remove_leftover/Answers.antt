@@ -1,14 +1,16 @@
 -- `remove_leftover` adds one change, so other names and earlier moments stay as they were.
+use Rattle.std.proofs.Common.{refl}
 use Rattle.named_files.specs.MemoryFolders.{changes_of, nothing_first}
-use Rattle.named_files.proofs.Logs.{no_more_others, time_goes_on}
+use Rattle.named_files.proofs.Logs.{no_more_others, same_others, time_goes_on}
 use Rattle.named_files.proofs.memory_folder.MemoryFolderFolder.remove_leftover.Goals as goal
 
-pub returns-in-Ok-clause-crash : goal.returns-in-Ok-clause-crash
-returns-in-Ok-clause-crash c =
-    no_more_others nothing_first (changes_of c.args.self.now.steps.items)
-    (changes_of c.add.new.self.steps.items) _ _ c.in-Ok.ensures.ok
-
-pub returns-in-Ok-clause-time : goal.returns-in-Ok-clause-time
-returns-in-Ok-clause-time c =
-    time_goes_on nothing_first (changes_of c.args.self.now.steps.items)
-    (changes_of c.add.new.self.steps.items) _ c.in-Ok.ensures.ok
+pub returns-in-Ok-clause-others : goal.returns-in-Ok-clause-others
+returns-in-Ok-clause-others c =
+    let old = changes_of c.args.self.now.steps.items in
+    let new = changes_of c.add.new.self.steps.items in
+    record {
+      others = same_others nothing_first old new _ _ c.in-Ok.ensures.ok;
+      crash = no_more_others nothing_first old new _ _ c.in-Ok.ensures.ok;
+      still_apart = λ a b. refl;
+      time = time_goes_on nothing_first old new _ c.in-Ok.ensures.ok;
+    }
