@@ -13,7 +13,7 @@ use Rattle.contract_words.specs.Archives.{archive_at}
 use Rattle.contract_words.specs.Knowledge.{still_known}
 use Rattle.call_record.specs.declared.record.Record.{Record}
 use Rattle.call_record.specs.Calls.{read_next, left_by, is_front}
-use Rattle.call_record.specs.Noted.{Notes, left_of, read_told}
+use Rattle.call_record.specs.Noted.{Notes, left_of, call_of_read}
 use Rattle.call_record.proofs.Agreeing.{honest}
 
 -- the bytes of a read are the first of these, and none only if none are left
@@ -47,7 +47,7 @@ failed (Some bytes) = refl
 
 -- what a noted read says of the bytes that it gave, and of those that are left
 pub noted-read : {E : Type 0} (archive : ℕ) (old new : Record) (result : Result ℕ E) (into : List ℕ)
-    → IfOk result (λ n. n ≤ length into) → Notes (read_told result into) old new
+    → IfOk result (λ n. n ≤ length into) → Notes (call_of_read result into) old new
     → ReadConsumes (still_known (left_of archive old) (left_of archive new)) (left_of archive new) result into
     × (IsSome (left_of archive new) → IsSome (left_of archive old))
 noted-read archive old new (Ok n) into bound notes =
@@ -72,7 +72,7 @@ gives-front old new archive bytes got left known is some notes =
 pub honest-read : {E : Type 0} (archive : ℕ) (old new : Record) (was now : Option (List ℕ)) (bytes : List ℕ)
     (result : Result ℕ E) (into : List ℕ) → 0 < length into → IfOk result (λ n. n ≤ length into)
     → was ≡ Some bytes → left_of archive old ≡ Some bytes → ReadConsumes was now result into
-    → Notes (read_told result into) old new → left_of archive new ≡ now
+    → Notes (call_of_read result into) old new → left_of archive new ≡ now
 honest-read archive old new was None bytes (Ok n) into room bound e known reads notes = grind (arith, e, reads)
 honest-read archive old new was (Some left) bytes (Ok n) into room bound e known reads notes =
     grind (arith, gives-front, length-take-le)

@@ -17,21 +17,21 @@ abbrev pub Notes : Call → Record → Record → Type 0
 Notes call old new = (new.supposed ≡ old.supposed) × (new.calls ≡ call ∷ old.calls)
 
 -- the call that a read notes, if the slice has these bytes afterwards
-abbrev pub read_told : {E : Type 0} → Result ℕ E → List ℕ → Call
-read_told (Ok n) into = read_next (Some (take n into))
-read_told (Err e) into = read_next None
+abbrev pub call_of_read : {E : Type 0} → Result ℕ E → List ℕ → Call
+call_of_read (Ok n) into = read_next (Some (take n into))
+call_of_read (Err e) into = read_next None
 
 -- the call that a read of an archive at an offset notes, if the slice has these bytes afterwards
-abbrev pub read_at_told : {E : Type 0} → ℕ → ℕ → Result ℕ E → List ℕ → Call
-read_at_told archive offset (Ok n) into = read_at archive offset (Some (take n into))
-read_at_told archive offset (Err e) into = read_at archive offset None
+abbrev pub call_of_read_at : {E : Type 0} → ℕ → ℕ → Result ℕ E → List ℕ → Call
+call_of_read_at archive offset (Ok n) into = read_at archive offset (Some (take n into))
+call_of_read_at archive offset (Err e) into = read_at archive offset None
 
 -- the call that a look at the length of an archive notes
-abbrev pub length_told : {E : Type 0} → ℕ → Result ℕ E → Call
-length_told archive (Ok length) = measured archive (Some length)
-length_told archive (Err e) = measured archive None
+abbrev pub call_of_length : {E : Type 0} → ℕ → Result ℕ E → Call
+call_of_length archive (Ok length) = measured archive (Some length)
+call_of_length archive (Err e) = measured archive None
 
 -- the call that a write of these bytes notes
-abbrev pub write_told : {E : Type 0} → Result ℕ E → List ℕ → Call
-write_told (Ok n) bytes = written (Some (take n bytes))
-write_told (Err e) bytes = written None
+abbrev pub call_of_write : {E : Type 0} → Result ℕ E → List ℕ → Call
+call_of_write (Ok n) bytes = written (Some (take n bytes))
+call_of_write (Err e) bytes = written None

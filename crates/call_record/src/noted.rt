@@ -1,7 +1,7 @@
 //! Calls that are noted with their results. Each is made once, and nothing else is noted.
 ghost use Rattle.std.specs.Prelude.{◌≡◌, ◌<◌, ◌≤◌, length, IfOk};
 ghost use Rattle.std.specs.Io.KnownBytes.{ReadConsumes, WriteAppends};
-ghost use Rattle.call_record.specs.Noted.{Notes, length_told, read_at_told, read_told, write_told};
+ghost use Rattle.call_record.specs.Noted.{Notes, call_of_length, call_of_read_at, call_of_read, call_of_write};
 
 use crate::numbered_files::NumberedFiles;
 use crate::record::Record;
@@ -32,7 +32,7 @@ pub fn read_noted<R: Read>(
     ensures bound { IfOk result (λ n. n ≤ length into.new) }
     ensures bytes { ReadConsumes (R.remaining reader.old) (R.remaining reader.new) result
         into.new }
-    ensures noted { Notes (read_told result into.new) record.old record.new }
+    ensures noted { Notes (call_of_read result into.new) record.old record.new }
 {
     let read = reader.read(into);
     note_read(record, &read, into);
@@ -42,7 +42,7 @@ pub fn read_noted<R: Read>(
 /// Notes what a read returned, if the slice has these bytes afterwards.
 fn note_read(record: &mut Record, read: &io::Result<usize>, into: &[u8])
     requires { IfOk read.now (λ n. n ≤ length into.now) }
-    ensures noted { Notes (read_told read.now into.now) record.old record.new }
+    ensures noted { Notes (call_of_read read.now into.now) record.old record.new }
 {
     match read {
         Ok(n) => record.note(&[READ, 0, 0, DONE], &into[..*n]),
@@ -54,8 +54,8 @@ fn note_read(record: &mut Record, read: &io::Result<usize>, into: &[u8])
 pub fn length_noted<F: NumberedFiles>(files: &mut F, record: &mut Record, n: u32) -> io::Result<u64>
     requires { n < F.number files.old }
     ensures number { F.number files.new ≡ F.number files.old }
-    ensures made { F.answers files.old (length_told n result) files.new }
-    ensures noted { Notes (length_told n result) record.old record.new }
+    ensures made { F.answers files.old (call_of_length n result) files.new }
+    ensures noted { Notes (call_of_length n result) record.old record.new }
 {
     let length = files.length(n);
     match length {
@@ -77,8 +77,8 @@ pub fn read_at_noted<F: NumberedFiles>(
     requires room { 0 < length into.old }
     ensures number { F.number files.new ≡ F.number files.old }
     ensures bound { IfOk result (λ count. count ≤ length into.new) }
-    ensures made { F.answers files.old (read_at_told n offset result into.new) files.new }
-    ensures noted { Notes (read_at_told n offset result into.new) record.old record.new }
+    ensures made { F.answers files.old (call_of_read_at n offset result into.new) files.new }
+    ensures noted { Notes (call_of_read_at n offset result into.new) record.old record.new }
 {
     let read = files.read_at(n, offset, into);
     match read {
@@ -95,7 +95,7 @@ pub fn write_noted<W: Write>(writer: &mut W, record: &mut Record, bytes: &[u8]) 
     ensures bound { IfOk result (λ n. (0 < n) × (n ≤ length bytes.now)) }
     ensures contents { WriteAppends (W.contents writer.old) (W.contents writer.new) result
         bytes.now }
-    ensures noted { Notes (write_told result bytes.now) record.old record.new }
+    ensures noted { Notes (call_of_write result bytes.now) record.old record.new }
 {
     let written = match writer.write(bytes) {
         Ok(0) => Err(ErrorKind::WriteZero.into()),

@@ -1,7 +1,7 @@
 //! Files by their numbers, which are read at any offset.
 ghost use Rattle.std.specs.Prelude.{◌≡◌, ◌≤◌, ◌<◌, ℕ, length, IfOk};
 ghost use Rattle.call_record.specs.Calls.{Call};
-ghost use Rattle.call_record.specs.Noted.{length_told, read_at_told};
+ghost use Rattle.call_record.specs.Noted.{call_of_length, call_of_read_at};
 
 use std::io;
 
@@ -20,7 +20,7 @@ pub trait NumberedFiles {
     fn length(&mut self, n: u32) -> io::Result<u64>
         requires below { n < number self.old }
         ensures number { number self.new ≡ number self.old }
-        ensures answers { answers self.old (length_told n result) self.new };
+        ensures answers { answers self.old (call_of_length n result) self.new };
 
     /// Reads the file with this number from an offset on, and returns the number of bytes read. Into a slice that isn't
     /// empty it reads at least one byte; none only at the file's end or after it.
@@ -29,5 +29,5 @@ pub trait NumberedFiles {
         requires room { 0 < length into.old }
         ensures number { number self.new ≡ number self.old }
         ensures bound { IfOk result (λ count. count ≤ length into.new) }
-        ensures answers { answers self.old (read_at_told n offset result into.new) self.new };
+        ensures answers { answers self.old (call_of_read_at n offset result into.new) self.new };
 }

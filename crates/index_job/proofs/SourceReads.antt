@@ -1,6 +1,7 @@
 -- Reads of a cutter's source, one after another, up to the archive's end.
 use Rattle.index_job.proofs.Words.{◌≡◌, ◌∙◌, Bool, true, false, refl, sym, ap, subst, arith, Result, Ok, Err, CutFault}
-use Rattle.index_job.proofs.Words.{Event, Progress, Advances, ComingEvents, Line, TakesKnown, told_event, still_known}
+use Rattle.index_job.proofs.Words.{Event, Progress, Advances, ComingEvents, Line, TakesKnown, event_with_line}
+use Rattle.index_job.proofs.Words.{still_known}
 use Rattle.index_job.proofs.Words.{JobFault, ReadsSource, is_source_failure, Option}
 use Rattle.std.specs.Borrow.{MutBor}
 use Rattle.mbox_cutter.specs.declared.device.Source.{Ghosts}
@@ -44,7 +45,7 @@ module _ {S : Type 0} (g : Ghosts S) where
   -- an event that the cutter reports is the first that was to come, if that is known
   pub event-takes : (old new : Progress S) (r : Result Event CutFault) (e : Event) → r ≡ Ok e → Advances g old r new
       → (comes : Option ComingEvents) → still_known old.coming (g.rest new.source.now) ≡ comes
-      → TakesKnown (told_event new.line e) comes new.coming
+      → TakesKnown (event_with_line new.line e) comes new.coming
   event-takes old new r e is h comes known = grind arith
 
   -- a line that it reports is that line

@@ -4,7 +4,8 @@ pub use Rattle.header_text.specs.Headers.{HeaderField, continued_and_fields, fie
 pub use Rattle.header_text.specs.Headers.{lines_within, most_in_header, with_continuations}
 unfoldable pub use Rattle.header_text.specs.Headers.{fields_of}
 pub use Rattle.index_job.specs.ArchiveRefusals.{AreSound, IsTooMuch}
-pub use Rattle.index_job.specs.ArchiveTables.{Mbox, all_messages, date_told, entry_of_archive, messages_in, record_of}
+pub use Rattle.index_job.specs.ArchiveTables.{Mbox, all_messages, date_in_field, entry_of_archive, messages_in}
+pub use Rattle.index_job.specs.ArchiveTables.{record_of}
 pub use Rattle.index_job.specs.ArchiveTables.{records_from, table, with_messages, with_terms}
 pub use Rattle.index_job.specs.IndexJobs.{IsAddFault, IsAdded}
 pub use Rattle.index_job.specs.Indexing.{HasTooMany, IsArchiveFault, IsIdle, IsJobFault}
@@ -48,7 +49,7 @@ pub use Rattle.mbox_cutter.specs.Coming.{TakesKnown}
 pub use Rattle.mbox_cutter.specs.Events.{ComingEvents, Done, End, Line, Start, coming_of}
 unfoldable pub use Rattle.mbox_cutter.specs.Events.{events, archive_refusal}
 pub use Rattle.mbox_cutter.specs.Places.{events_left}
-pub use Rattle.mbox_cutter.specs.Progress.{Advances, Progress, told_event}
+pub use Rattle.mbox_cutter.specs.Progress.{Advances, Progress, event_with_line}
 pub use Rattle.mbox_cutter.specs.declared.event.CutFault.{CutFault}
 pub use Rattle.mbox_cutter.specs.declared.event.Event.{Event}
 pub use Rattle.mime_text.specs.MessageFacts.{first_of}

@@ -28,9 +28,9 @@ all_messages archives = flat_map (λ a. messages_in a.bytes) archives
 -- ---- records
 
 -- the second that a Date field names; None if there is no such field, or if it can't be read
-abbrev pub date_told : Option (List ℕ) → Option ℤ
-date_told None = None
-date_told (Some value) = date_of value
+abbrev pub date_in_field : Option (List ℕ) → Option ℤ
+date_in_field None = None
+date_in_field (Some value) = date_of value
 
 -- the record of a message in the archive with this number, given what its own header says
 abbrev pub record_by : ℕ → Message → Facts → Record
@@ -39,7 +39,7 @@ record_by archive m facts = record {
   offset = m.offset;
   length = span_length m;
   size = size m;
-  date = date_told facts.date_text;
+  date = date_in_field facts.date_text;
   flags = facts.flags;
 }
 

@@ -1,5 +1,6 @@
 //! A job that indexes archives one after another.
-ghost use Rattle.std.specs.Prelude.{◌≡◌, ◌<◌, ◌^◌, ◌-◌, ℕ, List, [], true, false, Some, Err, IfOk, IfErr, OnOk, OnErr, length};
+ghost use Rattle.std.specs.Prelude.{◌≡◌, ◌<◌, ◌^◌, ◌-◌, ℕ, List, [], true, false, Some, Err, IfOk, IfErr, OnOk, length};
+ghost use Rattle.std.specs.Result.{MatchResult};
 ghost use Rattle.std.specs.Io.KnownBytes.{Appends, IsAtEnd};
 ghost use Rattle.contract_words.specs.Devices.{Counted, Sends};
 ghost use Rattle.contract_words.specs.Knowledge.{still_known};
@@ -89,8 +90,8 @@ impl IndexJob {
         ensures count { Counted (is_source_failure result) (S.failures source.old)
             (S.failures source.new) }
         ensures own { self.old.failed ≡ false → IfErr result IsArchiveFault }
-        ensures lost { OnErr result (IsLost self.new) }
-        ensures kept { OnOk result (self.new.failed ≡ false) }
+        ensures lost { MatchResult result (λ _. self.new.failed ≡ false)
+            (λ _. IsLost self.new) }
         ensures failed { self.old.failed ≡ true → (result ≡ Err JobFault.Failed)
             × (source.new ≡ source.old) }
     {

@@ -5,7 +5,7 @@ ghost use Rattle.mail_index.specs.Builders.{Draft};
 ghost use Rattle.mime_text.specs.MessageFacts.{HasSizedIds, facts_of};
 ghost use Rattle.mime_text.specs.Texts.{texts_of_message};
 ghost use Rattle.mail_index.specs.Limits.{most_in_archive};
-ghost use Rattle.index_job.specs.ArchiveTables.{date_told};
+ghost use Rattle.index_job.specs.ArchiveTables.{date_in_field};
 ghost use Rattle.index_job.specs.Inside.Gathering.{HasGathered, IsGatheringMessage, IsGatherFault, with_texts};
 ghost use Rattle.index_job.specs.Indexing.{draft_with_terms, IsOpenAt};
 ghost use Rattle.index_job.specs.JobFaults.{is_source_failure};
@@ -22,7 +22,7 @@ use mime_text::{Facts, MessageText};
 
 /// Returns the second that the Date field names. None if there is no such field, or if it can't be read.
 fn date_of(facts: &Facts) -> Option<i64>
-    ensures { result ≡ date_told facts.now.date_text }
+    ensures { result ≡ date_in_field facts.now.date_text }
 {
     match &facts.date_text {
         Some(text) => read_date(text.as_str()),

@@ -29,7 +29,7 @@ pub use Rattle.mail_answer.specs.Inside.CursorTexts.{numbers_passing, run_compar
 pub use Rattle.mail_answer.specs.Inside.Digests.{AbsorbsPart, ReadsDigest, front_digest}
 pub use Rattle.mail_answer.specs.Inside.Endings.{ending_of_bytes, ending_of_line, feeds_of, line_of, with_byte}
 pub use Rattle.mail_answer.specs.Inside.Forests.{AreBothAmong, AreInOneTree, LabelsTrees, LeadsBack, ShareKey, Shortens}
-pub use Rattle.mail_answer.specs.Inside.Forests.{StaysInThreads, TellsThreads, Unites}
+pub use Rattle.mail_answer.specs.Inside.Forests.{StaysInThreads, AreThreadRoots, Unites}
 pub use Rattle.mail_answer.specs.Inside.HeaderReads.{HasFields, HasFieldsAfter, WillHaveFields}
 pub use Rattle.mail_answer.specs.Inside.PassedArchives.{ArePassed}
 pub use Rattle.mail_answer.specs.Inside.Readings.{IsInsideArchive, Reading, AppendsRead, ReadsTail, bytes_not_passed}
@@ -44,15 +44,15 @@ pub use Rattle.mail_answer.specs.Shapes.{AreSpansOf, answer_text, is_closed, kno
 pub use Rattle.mail_answer.specs.Shapes.{message_text, path_at, raw_line, span}
 unfoldable pub use Rattle.mail_answer.specs.Shapes.{closed_text}
 pub use Rattle.mail_answer.specs.Sheets.{AddsBytes, JoinsFront, IsIfKnown, WritesText, count_after, joined_texts}
-pub use Rattle.mail_answer.specs.Stale.{TellsStale, first_changed, length_in_table, stale_archive}
+pub use Rattle.mail_answer.specs.Stale.{ReportsStale, first_changed, length_in_table, stale_archive}
 pub use Rattle.mail_answer.specs.TableAnswers.{SendsTableAnswer, IsTableAnswer, TableAnswer, answer_of_numbers}
-pub use Rattle.mail_answer.specs.TableAnswers.{mail_told}
+pub use Rattle.mail_answer.specs.TableAnswers.{mail_of_table}
 pub use Rattle.mail_answer.specs.TableAnswers.{search_of}
 pub use Rattle.mail_answer.specs.TableFacts.{chosen_numbers, facts_at, is_number_among, no_record, record_at}
 pub use Rattle.mail_answer.specs.TableFacts.{texts_with}
 pub use Rattle.mail_answer.specs.TableFacts.{truths}
 pub use Rattle.mail_answer.specs.Threads.{AreThreads, IsInThread, IsInThreadOfSome, IsPathOfLinks, are_linked}
-pub use Rattle.mail_answer.specs.Verified.{AreReadOnce, AreVerified, FindsDigests, ReadEach, TellsVerified}
+pub use Rattle.mail_answer.specs.Verified.{AreReadOnce, AreVerified, FindsDigests, ReadEach, ReportsVerified}
 pub use Rattle.mail_answer.specs.Verified.{first_altered}
 pub use Rattle.mail_answer.specs.Verified.{has_digest, unverified_archive}
 pub use Rattle.mail_answer.specs.declared.archives.Archives.{Ghosts}

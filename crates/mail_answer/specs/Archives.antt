@@ -7,6 +7,6 @@ abbrev pub IsCount : ℕ → ℕ → Option (List (List ℕ)) → Type 0
 IsCount told number held = (told ≡ number) × IfSome held (λ archives. length archives ≡ number)
 
 -- The bytes that a call has read: as many at the front of the slice as it returns.
-abbrev pub bytes_told : Result ℕ DeviceFault → List ℕ → Result (List ℕ) DeviceFault
-bytes_told (Ok count) into = Ok (take count into)
-bytes_told (Err fault) into = Err fault
+abbrev pub bytes_of_read : Result ℕ DeviceFault → List ℕ → Result (List ℕ) DeviceFault
+bytes_of_read (Ok count) into = Ok (take count into)
+bytes_of_read (Err fault) into = Err fault

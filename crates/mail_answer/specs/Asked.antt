@@ -8,7 +8,7 @@ use Rattle.mail_answer.specs.Answers.{fails_by}
 use Rattle.mail_answer.specs.Faults.{is_of_archives, is_stale, IfStale}
 use Rattle.mail_answer.specs.Mail.{Search, AreChosen}
 use Rattle.mail_answer.specs.Stale.{length_in_table}
-use Rattle.mail_answer.specs.TableAnswers.{mail_told}
+use Rattle.mail_answer.specs.TableAnswers.{mail_of_table}
 use Rattle.mail_answer.specs.TableFacts.{is_number_among, record_at}
 use Rattle.mail_answer.specs.declared.archives.Archives.{Ghosts}
 use Rattle.mail_answer.specs.declared.fault.AnswerFault.{AnswerFault}
@@ -74,7 +74,7 @@ IsArchiveOfSome t numbers archive = (n : ℕ) × IsTrue (is_number_among n numbe
 
 -- the archive of one of the messages that the search chooses
 abbrev pub IsArchiveOfChosen : Table → Search → ℕ → Type 0
-IsArchiveOfChosen t s archive = (numbers : List ℕ) × AreChosen (mail_told t) s numbers
+IsArchiveOfChosen t s archive = (numbers : List ℕ) × AreChosen (mail_of_table t) s numbers
     × IsArchiveOfSome t numbers archive
 
 -- after lengths that agree

@@ -24,9 +24,9 @@ stale_archive named archives = if length archives == length named then first_cha
     else Some (min (length archives) (length named))
 
 -- What the call found is right: no archive is stale, or this one is. If a device failed, nothing was found.
-abbrev pub TellsStale : {T : Type 0} → Option ℕ → Result T AnswerFaultKind → Type 0
-TellsStale stale (Ok _) = stale ≡ None
-TellsStale stale (Err (Stale n)) = stale ≡ Some n
-TellsStale stale (Err Device) = Unit {0}
-TellsStale stale (Err OutOfMemory) = ⊥
-TellsStale stale (Err OutFailed) = ⊥
+abbrev pub ReportsStale : {T : Type 0} → Option ℕ → Result T AnswerFaultKind → Type 0
+ReportsStale stale (Ok _) = stale ≡ None
+ReportsStale stale (Err (Stale n)) = stale ≡ Some n
+ReportsStale stale (Err Device) = Unit {0}
+ReportsStale stale (Err OutOfMemory) = ⊥
+ReportsStale stale (Err OutFailed) = ⊥

@@ -18,8 +18,8 @@ use Rattle.mail_answer.specs.TableFacts.{facts_at}
 use Rattle.mail_answer.specs.Threads.{are_linked}
 
 -- the messages as the table describes them
-abbrev pub mail_told : Table → Mail
-mail_told t = record { count = length t.messages; facts = facts_at t; linked = are_linked t }
+abbrev pub mail_of_table : Table → Mail
+mail_of_table t = record { count = length t.messages; facts = facts_at t; linked = are_linked t }
 
 -- the search that a call is given
 abbrev pub search_of : program.Query → Bool → Format → Search
@@ -36,7 +36,7 @@ answer_of_numbers t s held numbers = record { text = known_answer s.format t hel
 
 -- the answer of the table: the text of the messages that the search chooses, and how many they are
 abbrev pub IsTableAnswer : Table → Search → Option (List (List ℕ)) → TableAnswer → Type 0
-IsTableAnswer t s held a = (numbers : List ℕ) × AreChosen (mail_told t) s numbers
+IsTableAnswer t s held a = (numbers : List ℕ) × AreChosen (mail_of_table t) s numbers
     × (a ≡ answer_of_numbers t s held numbers)
 
 -- The whole text was sent and the messages are counted; with a fault, a front of the text was sent, and the fault says

@@ -40,16 +40,16 @@ pub record AreVerified (named : List Archive) (archives : List (List ℕ)) : Typ
 
 -- The fault is right. A failed device says nothing of the archives. Memory runs out only if the number and the lengths
 -- of the archives are those that were indexed.
-abbrev pub TellsFault : List Archive → List (List ℕ) → AnswerFaultKind → Type 0
-TellsFault named archives (Stale n) = unverified_archive named archives ≡ Some n
-TellsFault named archives Device = Unit {0}
-TellsFault named archives OutOfMemory = stale_archive named archives ≡ None
-TellsFault named archives OutFailed = ⊥
+abbrev pub IsRightFault : List Archive → List (List ℕ) → AnswerFaultKind → Type 0
+IsRightFault named archives (Stale n) = unverified_archive named archives ≡ Some n
+IsRightFault named archives Device = Unit {0}
+IsRightFault named archives OutOfMemory = stale_archive named archives ≡ None
+IsRightFault named archives OutFailed = ⊥
 
 -- What the call found is right: all archives are those that were indexed, or the fault is right.
-abbrev pub TellsVerified : {T : Type 0} → List Archive → List (List ℕ) → Result T AnswerFaultKind → Type 0
-TellsVerified named archives (Ok _) = unverified_archive named archives ≡ None
-TellsVerified named archives (Err kind) = TellsFault named archives kind
+abbrev pub ReportsVerified : {T : Type 0} → List Archive → List (List ℕ) → Result T AnswerFaultKind → Type 0
+ReportsVerified named archives (Ok _) = unverified_archive named archives ≡ None
+ReportsVerified named archives (Err kind) = IsRightFault named archives kind
 
 -- ---- in which order the archives are read, and what is found, even if their bytes aren't known
 

@@ -8,7 +8,7 @@ ghost use Rattle.mail_answer.specs.Answers.{AnswersStale, CountsFailures, SendsS
 ghost use Rattle.mail_answer.specs.Faults.{is_of_output, is_of_archives};
 ghost use Rattle.mail_answer.specs.Mail.{AreChosen};
 ghost use Rattle.mail_answer.specs.Stale.{stale_archive};
-ghost use Rattle.mail_answer.specs.TableAnswers.{SendsTableAnswer, IsTableAnswer, LeavesOutput, TableAnswer, mail_told, search_of};
+ghost use Rattle.mail_answer.specs.TableAnswers.{SendsTableAnswer, IsTableAnswer, LeavesOutput, TableAnswer, mail_of_table, search_of};
 
 use crate::archives::Archives;
 use crate::archives::stale::check_archives;
@@ -49,7 +49,7 @@ pub fn answer<A: Archives, O: Out>(
     // An mbox answer has bytes for each message, as many as were indexed, and the LFs that close them, whether the
     // archives' bytes are known or not.
     ensures spans { format ≡ Format.Mbox → (numbers : List ℕ)
-        → AreChosen (mail_told index.now) (search_of query.now threads format) numbers
+        → AreChosen (mail_of_table index.now) (search_of query.now threads format) numbers
         → SendsSpans (O.taken out.old) (O.taken out.new) index.now numbers result }
     // If the archives' bytes are still known at the end: Stale exactly if there are more or fewer archives than were
     // indexed, or one of them has another length, and then nothing is written.

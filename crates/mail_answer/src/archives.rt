@@ -7,7 +7,7 @@ ghost use Rattle.contract_words.specs.Archives.{IsLength, IsReadFromArchive};
 ghost use Rattle.contract_words.specs.Devices.{Counts};
 ghost use Rattle.contract_words.specs.Knowledge.{WasKnown};
 ghost use Rattle.mbox_cutter.specs.declared.device.DeviceFault.{DeviceFault};
-ghost use Rattle.mail_answer.specs.Archives.{IsCount, bytes_told};
+ghost use Rattle.mail_answer.specs.Archives.{IsCount, bytes_of_read};
 
 pub mod fail_at;
 pub mod memory_archives;
@@ -67,7 +67,7 @@ pub trait Archives {
         ensures bound { IfOk result (λ bytes. bytes ≤ length into.new) }
         ensures bytes { IfOk result (λ bytes. IsReadFromArchive n offset (take bytes into.new)
             (held self.new)) }
-        ensures read { reads self.old n offset (bytes_told result into.new) self.new }
+        ensures read { reads self.old n offset (bytes_of_read result into.new) self.new }
         ensures asked { lengths_asked self.new ≡ lengths_asked self.old }
         ensures count { Counts result (failures self.old) (failures self.new) }
         ensures held { WasKnown (held self.old) (held self.new) }

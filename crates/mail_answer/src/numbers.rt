@@ -4,7 +4,7 @@ ghost use Rattle.mail_query.specs.Meaning.{meaning};
 ghost use Rattle.mail_answer.specs.Inside.CursorLists.{AreNumbers};
 ghost use Rattle.mail_answer.specs.CursorNumbers.{TakesFirst};
 ghost use Rattle.mail_answer.specs.Mail.{AreChosenBy};
-ghost use Rattle.mail_answer.specs.TableAnswers.{mail_told};
+ghost use Rattle.mail_answer.specs.TableAnswers.{mail_of_table};
 
 use crate::cursor::{Cursor, matches};
 use crate::threads::with_threads;
@@ -49,7 +49,7 @@ impl<'a> Numbers<'a> {
         query: &Query,
         threads: bool,
     ) -> Result<Self, AllocError>
-        ensures chosen { IfOk result (λ numbers. AreChosenBy threads (mail_told index.now)
+        ensures chosen { IfOk result (λ numbers. AreChosenBy threads (mail_of_table index.now)
             (meaning query.now) numbers) }
         ensures numbers { IfOk result (λ numbers. AreNumbers (length index.now.messages) numbers) }
     {

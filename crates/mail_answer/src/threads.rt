@@ -7,7 +7,7 @@ ghost use Rattle.std.specs.List.{All, AllByRecursion, list_any, range_with_len};
 ghost use Rattle.mail_index.specs.Tables.{IsWellFormed, RisesFrom};
 ghost use Rattle.mail_answer.specs.Marks.{truth_at, each_number};
 ghost use Rattle.mail_answer.specs.Threads.{AreThreads};
-ghost use Rattle.mail_answer.specs.Inside.Forests.{TellsThreads};
+ghost use Rattle.mail_answer.specs.Inside.Forests.{AreThreadRoots};
 
 mod forest;
 
@@ -22,7 +22,7 @@ fn thread_roots(
     steps: &mut Steps,
 ) -> Result<Vec<u32>, AllocError>
     requires { IsWellFormed index.now }
-    ensures { IfOk result (λ v. TellsThreads index.now v.items) }
+    ensures { IfOk result (λ v. AreThreadRoots index.now v.items) }
 {
     // At first each message is the root of a tree of its own.
     let count = index.message_count();

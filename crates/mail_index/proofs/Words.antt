@@ -63,8 +63,8 @@ pub use Rattle.mail_index.specs.LookUps.{is_key, is_of_kind, keys_beginning, key
 pub use Rattle.mail_index.specs.LookUps.{numbers_at, text_and_numbers}
 pub use Rattle.mail_index.specs.OrderOfKeys.{key_cmp}
 pub use Rattle.mail_index.specs.Pairs.{IsIn, HasPosting}
-pub use Rattle.mail_index.specs.PostingLists.{IsPosted, Told, end_from, numbers_so_far, told_whole}
-unfoldable pub use Rattle.mail_index.specs.PostingLists.{numbers_of, told_more, with_number}
+pub use Rattle.mail_index.specs.PostingLists.{IsPosted, DecodingState, end_from, numbers_so_far, state_after_numbers}
+unfoldable pub use Rattle.mail_index.specs.PostingLists.{numbers_of, state_after_byte, with_number}
 pub use Rattle.mail_index.specs.PostingReads.{ArePosted, ArePostings, IsShort, numbers_after, shown_split}
 unfoldable pub use Rattle.mail_index.specs.PostingReads.{numbers_read}
 pub use Rattle.mail_index.specs.Postings.{differences_from, leb128, postings, postings_from}

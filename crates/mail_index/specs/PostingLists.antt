@@ -15,26 +15,27 @@ with_number numbers n = if nat_lt n (end_from 0 numbers) then numbers else numbe
 
 -- What bytes of postings give: the whole numbers, and one past the last of them; of a difference that goes on, the part
 -- so far, and the weight of its next seven bits.
-pub record Told : Type 0 where
+pub record DecodingState : Type 0 where
   pub numbers : List ℕ
   pub next : ℕ
   pub part : ℕ
   pub weight : ℕ
 
 -- the state after these whole numbers, with no difference begun
-abbrev pub told_whole : List ℕ → ℕ → Told
-told_whole numbers next = record { numbers = numbers; next = next; part = 0; weight = 1 }
+abbrev pub state_after_numbers : List ℕ → ℕ → DecodingState
+state_after_numbers numbers next = record { numbers = numbers; next = next; part = 0; weight = 1 }
 
 -- the state after one more byte: a byte below 128 ends a difference
-unfoldable pub told_more : Told → ℕ → Told
-told_more t b =
+unfoldable pub state_after_byte : DecodingState → ℕ → DecodingState
+state_after_byte t b =
     if nat_lt b 128
-    then told_whole (t.numbers ++ (t.next + (t.part + b * t.weight) - 1) ∷ []) (t.next + (t.part + b * t.weight))
+    then state_after_numbers (t.numbers ++ (t.next + (t.part + b * t.weight) - 1) ∷ [])
+    (t.next + (t.part + b * t.weight))
     else record { numbers = t.numbers; next = t.next; part = t.part + (b - 128) * t.weight; weight = 128 * t.weight }
 
 -- what these bytes give, from the first to the last
-abbrev pub numbers_so_far : List ℕ → Told
-numbers_so_far bytes = fold told_more (told_whole [] 0) bytes
+abbrev pub numbers_so_far : List ℕ → DecodingState
+numbers_so_far bytes = fold state_after_byte (state_after_numbers [] 0) bytes
 
 -- the numbers of postings
 unfoldable pub numbers_of : List ℕ → List ℕ
@@ -42,7 +43,7 @@ numbers_of bytes = (numbers_so_far bytes).numbers
 
 -- the bytes are exactly the postings of the numbers that they give, and `next` is one past the last of these
 pub record IsPosted (bytes : List ℕ) (next : ℕ) : Type 0 where
-  pub told : numbers_so_far bytes ≡ told_whole (numbers_of bytes) next
+  pub told : numbers_so_far bytes ≡ state_after_numbers (numbers_of bytes) next
   pub spelled : postings (numbers_of bytes) ≡ bytes
   pub ends : end_from 0 (numbers_of bytes) ≡ next
   pub short : length bytes ≤ next

@@ -15,7 +15,7 @@ pub use Rattle.mail_answer.specs.Mail.{AreChosen, AreChosenBy, AreThreadsOf, IsC
 pub use Rattle.mail_answer.specs.Shapes.{answer_text, closed_text, known_answer, message_text, path_at, span}
 pub use Rattle.mail_answer.specs.Stale.{first_changed, stale_archive}
 pub use Rattle.mail_answer.specs.TableAnswers.{SendsTableAnswer, IsTableAnswer, TableAnswer, answer_of_numbers}
-pub use Rattle.mail_answer.specs.TableAnswers.{mail_told}
+pub use Rattle.mail_answer.specs.TableAnswers.{mail_of_table}
 pub use Rattle.mail_answer.specs.TableFacts.{facts_at, is_number_among, no_record, record_at, texts_with}
 pub use Rattle.mail_answer.specs.Threads.{are_linked}
 pub use Rattle.mail_answer.specs.Verified.{unverified_archive}
@@ -44,7 +44,7 @@ pub use Rattle.mail_words.specs.Folding.{folding}
 pub use Rattle.mail_words.specs.Words.{words}
 pub use Rattle.mail_words.specs.declared.kind.TextKind.{TextKind}
 pub use Rattle.mail_words.specs.declared.kind.TextKind.TheVariants.{Name}
-pub use Rattle.mairix_tool.specs.Altered.{AreToldApart, altered_archive}
+pub use Rattle.mairix_tool.specs.Altered.{HaveDistinctDigests, altered_archive}
 pub use Rattle.mairix_tool.specs.Asked.{Wanted, wanted_of_words, wanted_of_plan, asked_rc, query_asked, shown_wanted}
 pub use Rattle.mairix_tool.specs.Asked.{wanted_by}
 pub use Rattle.mairix_tool.specs.Chosen.{facts_of_message, id_list, is_kind, words_of}
@@ -55,8 +55,9 @@ pub use Rattle.mairix_tool.specs.OldTables.{without_digest}
 pub use Rattle.mairix_tool.specs.Replies.{Answer, answer_of_fault, status_of_count}
 pub use Rattle.mairix_tool.specs.Runs.{IsAnswer, IsCountedWhere, IsForNoOtherCause, IsAnswerFrom, IsIndexRefusal}
 pub use Rattle.mairix_tool.specs.Runs.{IsOldOr}
-pub use Rattle.mairix_tool.specs.Runs.{IsOnceReply, IsProvedAndTold, IsRefusedAs, IsReply, IsStaleOr, IsStoredReply}
-pub use Rattle.mairix_tool.specs.Runs.{IsThisOrMemory, IsTold, IsToldOf, IsUnindexed, RepliesBy, TellsProved}
+pub use Rattle.mairix_tool.specs.Runs.{IsOnceReply, IsVerifiedAnswer, IsRefusedAs, IsReply, IsStaleOr, IsStoredReply}
+pub use Rattle.mairix_tool.specs.Runs.{IsThisOrMemory, IsAnswerOrStale, IsStoredAnswer, IsUnindexed, RepliesBy}
+pub use Rattle.mairix_tool.specs.Runs.{ReportsProved}
 pub use Rattle.mairix_tool.specs.Runs.{WereVerified, answer_of_text, fault_of_answer_kind, first_renamed, is_too_old}
 pub use Rattle.mairix_tool.specs.Runs.{renamed_archive, reply_of, unproved_archive}
 pub use Rattle.mairix_tool.specs.declared.reply.Reply.{Reply}

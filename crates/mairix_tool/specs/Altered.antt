@@ -7,8 +7,8 @@ use Rattle.mail_answer.specs.Verified.{unverified_archive}
 use Rattle.mairix_tool.specs.Runs.{renamed_archive}
 
 -- SHA-256 distinguishes these texts: no two of them that differ have the same digest.
-abbrev pub AreToldApart : List (List ℕ) → Type 0
-AreToldApart all = (x y : List ℕ) → Contains all x → Contains all y → sha256 x ≡ sha256 y → x ≡ y
+abbrev pub HaveDistinctDigests : List (List ℕ) → Type 0
+HaveDistinctDigests all = (x y : List ℕ) → Contains all x → Contains all y → sha256 x ≡ sha256 y → x ≡ y
 
 -- The first of the indexed archives that has another path now; if their numbers differ, the smaller number; otherwise
 -- the first with other bytes, by number, length, then digest.

@@ -10,7 +10,7 @@ use Rattle.mbox_cutter.specs.Archives.{Message, text, size}
 use Rattle.mime_text.specs.MessageFacts.{facts_of}
 use Rattle.mime_text.specs.Sinks.{Pair}
 use Rattle.mime_text.specs.Texts.{texts_of_message}
-use Rattle.index_job.specs.ArchiveTables.{date_told}
+use Rattle.index_job.specs.ArchiveTables.{date_in_field}
 
 -- whether two kinds of text are the same
 abbrev pub is_kind : TextKind → TextKind → Bool
@@ -37,7 +37,7 @@ abbrev pub facts_of_message : Message → Facts
 facts_of_message m = record {
   words = λ kind. words_of kind (texts_of_message (text m));
   own_ids = id_list (facts_of (fields_of (text m))).own_id;
-  date = date_told (facts_of (fields_of (text m))).date_text;
+  date = date_in_field (facts_of (fields_of (text m))).date_text;
   size = size m;
   flags = (facts_of (fields_of (text m))).flags;
 }

@@ -11,7 +11,7 @@ use Rattle.mail_answer.specs.Mail.{Search, AreChosen}
 use Rattle.mail_answer.specs.Shapes.{answer_text, known_answer}
 use Rattle.mail_answer.specs.Sheets.{IsIfKnown}
 use Rattle.mail_answer.specs.Stale.{stale_archive}
-use Rattle.mail_answer.specs.TableAnswers.{mail_told}
+use Rattle.mail_answer.specs.TableAnswers.{mail_of_table}
 use Rattle.mail_answer.specs.Verified.{AreVerified, unverified_archive}
 use Rattle.mail_index.specs.declared.view.fault.IndexFault.{IndexFault}
 use Rattle.mail_index.specs.Faults.{IsFileOfTable, IsFirstFaultOfFile}
@@ -65,18 +65,18 @@ IsStaleOr None IsFound answer = IsFound answer
 
 -- the answer has the messages that the search chooses from the table, and their text over archives with these bytes
 abbrev pub IsAnswerFrom : Table → Search → List (List ℕ) → Answer → Type 0
-IsAnswerFrom t s held answer = (numbers : List ℕ) × AreChosen (mail_told t) s numbers
+IsAnswerFrom t s held answer = (numbers : List ℕ) × AreChosen (mail_of_table t) s numbers
     × (answer ≡ answer_of_text (answer_text s.format t held numbers) (length numbers))
 
 -- the answer of the table over archives with these bytes
-abbrev pub IsTold : Table → Search → List (List ℕ) → Answer → Type 0
-IsTold t s held answer = IsStaleOr (stale_archive t.archives held) (IsAnswerFrom t s held) answer
+abbrev pub IsAnswerOrStale : Table → Search → List (List ℕ) → Answer → Type 0
+IsAnswerOrStale t s held answer = IsStaleOr (stale_archive t.archives held) (IsAnswerFrom t s held) answer
 
 -- the answer if `bytes` are indexed and `held` are searched
 abbrev pub IsOnceReply : Result Wanted Fault → List (List ℕ) → List (List ℕ) → Answer → Type 0
 IsOnceReply (Err fault) bytes held answer = answer ≡ answer_of_fault fault
 IsOnceReply (Ok w) bytes held answer =
-    (AreSound (mboxes w.paths bytes) × IsTold (table (mboxes w.paths bytes)) w.search held answer)
+    (AreSound (mboxes w.paths bytes) × IsAnswerOrStale (table (mboxes w.paths bytes)) w.search held answer)
     ⊎ IsRefusedBy (mboxes w.paths bytes) answer
 
 -- ---- by a stored index
@@ -109,20 +109,21 @@ unproved_archive false named held = None
 unproved_archive true named held = unverified_archive named held
 
 -- the answer of the table over archives with its paths, which are verified first if that is wanted
-abbrev pub IsProvedAndTold : Wanted → Table → List (List ℕ) → Answer → Type 0
-IsProvedAndTold w t held answer = IsStaleOr (unproved_archive w.verify t.archives held) (IsTold t w.search held) answer
+abbrev pub IsVerifiedAnswer : Wanted → Table → List (List ℕ) → Answer → Type 0
+IsVerifiedAnswer w t held answer = IsStaleOr (unproved_archive w.verify t.archives held)
+    (IsAnswerOrStale t w.search held) answer
 
 -- the answer of a table, which depends first on its version, then on its paths, then on the archives' bytes
-abbrev pub IsToldOf : Wanted → Table → List (List ℕ) → Answer → Type 0
-IsToldOf w t held answer = IsOldOr (is_too_old t w)
-    (IsStaleOr (renamed_archive t.archives w.paths) (IsProvedAndTold w t held)) answer
+abbrev pub IsStoredAnswer : Wanted → Table → List (List ℕ) → Answer → Type 0
+IsStoredAnswer w t held answer = IsOldOr (is_too_old t w)
+    (IsStaleOr (renamed_archive t.archives w.paths) (IsVerifiedAnswer w t held)) answer
 
 -- a refusal of words, rcfile or query; otherwise the first fault of the index; otherwise the answer of its table
 abbrev pub IsStoredReply : Result Wanted Fault → List ℕ → List (List ℕ) → Answer → Type 0
 IsStoredReply (Err fault) index held answer = answer ≡ answer_of_fault fault
 IsStoredReply (Ok w) index held answer =
     ((fault : IndexFault) × IsFirstFaultOfFile index fault × (answer ≡ answer_of_fault (Index fault)))
-    ⊎ ((t : Table) × IsFileOfTable index t × IsToldOf w t held answer)
+    ⊎ ((t : Table) × IsFileOfTable index t × IsStoredAnswer w t held answer)
 
 -- the fault of a run for a fault of an answer
 abbrev pub fault_of_answer_kind : AnswerFaultKind → Fault
@@ -135,12 +136,12 @@ fault_of_answer_kind kind.OutFailed = of.Out
 
 -- What was found is right: the archives have the bytes that they must have, or this one doesn't. If a device or memory
 -- failed, nothing was found.
-abbrev pub TellsProved : {T : Type 0} → Option ℕ → Result T Fault → Type 0
-TellsProved unproved (Ok _) = unproved ≡ None
-TellsProved unproved (Err (Stale n)) = unproved ≡ Some n
-TellsProved unproved (Err of.Device) = ⊤
-TellsProved unproved (Err of.Memory) = ⊤
-TellsProved unproved (Err _) = ⊥
+abbrev pub ReportsProved : {T : Type 0} → Option ℕ → Result T Fault → Type 0
+ReportsProved unproved (Ok _) = unproved ≡ None
+ReportsProved unproved (Err (Stale n)) = unproved ≡ Some n
+ReportsProved unproved (Err of.Device) = ⊤
+ReportsProved unproved (Err of.Memory) = ⊤
+ReportsProved unproved (Err _) = ⊥
 
 -- Without a fault, the bytes that were read of the archives to verify them had the lengths and digests that were
 -- indexed.
@@ -192,7 +193,7 @@ IsForNoOtherCause asked index fault = OnTrue (is_early (Some fault) || is_of_ind
 -- known one.
 abbrev pub IsCounted : Table → Search → Option (List (List ℕ)) → Reply → Option (List ℕ) → Option (List ℕ) → Type 0
 IsCounted t s held reply old new =
-    (numbers : List ℕ) × AreChosen (mail_told t) s numbers
+    (numbers : List ℕ) × AreChosen (mail_of_table t) s numbers
     × (reply ≡ record { status = status_of_count (length numbers); messages = length numbers; fault = None })
     × (text : List ℕ) × IsIfKnown (known_answer s.format t held numbers) text × Appends old new text
 

@@ -11,8 +11,8 @@ use Rattle.mail_answer.specs.Answers.{AnswersStale, SendsSpans, kind_of}
 use Rattle.mail_answer.specs.Asked.{HoldsArchives, ReadsInOrder, RefusesCount}
 use Rattle.mail_answer.specs.Mail.{Search, AreChosen}
 use Rattle.mail_answer.specs.Stale.{stale_archive}
-use Rattle.mail_answer.specs.TableAnswers.{SendsTableAnswer, IsTableAnswer, LeavesOutput, TableAnswer, mail_told}
-use Rattle.mail_answer.specs.Verified.{TellsVerified, VerifiesArchives}
+use Rattle.mail_answer.specs.TableAnswers.{SendsTableAnswer, IsTableAnswer, LeavesOutput, TableAnswer, mail_of_table}
+use Rattle.mail_answer.specs.Verified.{ReportsVerified, VerifiesArchives}
 use Rattle.mail_answer.specs.declared.archives.Archives.{Ghosts}
 use Rattle.mail_answer.specs.declared.fault.AnswerFault.{AnswerFault}
 use Rattle.mail_answer.specs.declared.format.Format.TheVariants.{Mbox}
@@ -39,7 +39,7 @@ pub record Searches {A O : Type 0} (g : Ghosts A) (h : OutGhosts O) (t : Table) 
   pub answered : (a : TableAnswer) → IsTableAnswer t s (g.held new) a
       → SendsTableAnswer (h.taken before) (h.taken after) a found
   -- an mbox answer has, for each message, as many bytes as were indexed, closed; with a fault, a front of that
-  pub spans : s.format ≡ Mbox → (numbers : List ℕ) → AreChosen (mail_told t) s numbers
+  pub spans : s.format ≡ Mbox → (numbers : List ℕ) → AreChosen (mail_of_table t) s numbers
       → SendsSpans (h.taken before) (h.taken after) t numbers found
   -- archives whose known bytes have another number or length are stale, before anything is written
   pub stale : IfSome (g.held new) (λ bytes. AnswersStale (h.taken before) (h.taken after)
@@ -60,7 +60,7 @@ pub record Verifies {A : Type 0} (g : Ghosts A) (named : List Archive) (old new 
   -- the first that isn't the one that was indexed.
   pub read : g.number old ≡ length named → VerifiesArchives g named old new found
   -- what is known of their bytes decides, unless a device or memory fails
-  pub known : IfSome (g.held new) (λ bytes. TellsVerified named bytes (kind_of found))
+  pub known : IfSome (g.held new) (λ bytes. ReportsVerified named bytes (kind_of found))
 
 -- If that is wanted, archives are verified. If not, none is read.
 abbrev pub VerifiesWhere : {A : Type 0} → Ghosts A → Bool → List Archive → A → A → Result (Unit {0}) Fault → Type 0

@@ -8,7 +8,7 @@ use Rattle.mail_index.specs.Files.{index_file}
 use Rattle.mail_index.specs.Tables.{IsPath, Table}
 use Rattle.run_faults.specs.Faults.{IsSearchFault}
 use Rattle.run_faults.specs.declared.fault.Fault.{Fault}
-use Rattle.mairix_tool.specs.Altered.{AreToldApart, altered_archive}
+use Rattle.mairix_tool.specs.Altered.{HaveDistinctDigests, altered_archive}
 use Rattle.mairix_tool.specs.Asked.{Wanted}
 use Rattle.mairix_tool.specs.OldTables.{ServesFor}
 use Rattle.mairix_tool.specs.Replies.{Answer, IsConsistent, KeepsRawBack}
@@ -26,7 +26,7 @@ pub record RepliesByMessages (asked : Result Wanted Fault) (index : List ℕ) (b
   -- are now. Or one of those that there are now is reported as altered.
   pub verified : (w : Wanted) (before : List Mbox) → asked ≡ Ok w → w.verify ≡ true
       → All (λ a. IsPath a.path) before → AreSound before → index ≡ index_file (table before)
-      → AreToldApart (map (λ a. a.bytes) before ++ bytes)
+      → HaveDistinctDigests (map (λ a. a.bytes) before ++ bytes)
       → RepliesBy (IsStaleOr (altered_archive before w.paths bytes) (IsReply (Ok w) bytes)) reply old new
 
 -- An answer has the number of messages that the table chooses. With `--verify` there is one only if the bytes that were

@@ -13,12 +13,12 @@ ghost use Rattle.mail_index.specs.Tables.{IsPath, IsWellFormed, Table};
 ghost use Rattle.index_job.specs.ArchiveRefusals.{AreSound};
 ghost use Rattle.index_job.specs.ArchiveTables.{Mbox, all_messages, table};
 ghost use Rattle.index_job.specs.MessageTerms.{has_term, message_terms};
-ghost use Rattle.mairix_tool.specs.Altered.{AreToldApart, altered_archive};
+ghost use Rattle.mairix_tool.specs.Altered.{HaveDistinctDigests, altered_archive};
 ghost use Rattle.index_run.specs.ArchivesIndexed.{mboxes};
 ghost use Rattle.mairix_tool.specs.Asked.{Wanted};
 ghost use Rattle.mairix_tool.specs.CutAgain.{bytes_of_archives, spans_at};
 ghost use Rattle.mail_answer.specs.Mail.{Search, AreChosen};
-ghost use Rattle.mail_answer.specs.TableAnswers.{mail_told};
+ghost use Rattle.mail_answer.specs.TableAnswers.{mail_of_table};
 ghost use Rattle.mail_answer.specs.Threads.{are_linked};
 ghost use Rattle.mail_answer.specs.declared.format.Format.{Format};
 ghost use Rattle.mairix_tool.specs.Runs.{IsOnceReply, IsReply, IsStoredReply};
@@ -62,7 +62,7 @@ pub fn the_table_links_as_the_messages()
 /// themselves, threads included.
 pub fn the_table_chooses_as_the_messages()
     ensures { (archives : List Mbox) (s : Search) (numbers : List ℕ)
-        → AreChosen (mail_told (table archives)) s numbers
+        → AreChosen (mail_of_table (table archives)) s numbers
         → AreChosen (mail_in archives) s numbers }
 {}
 
@@ -100,7 +100,7 @@ pub fn a_table_replies_as_its_archives()
 /// bytes under the same paths.
 pub fn unaltered_archives_are_those_indexed()
     ensures only { (before : List Mbox) (paths bytes : List (List ℕ))
-        → AreToldApart (map (λ a. a.bytes) before ++ bytes)
+        → HaveDistinctDigests (map (λ a. a.bytes) before ++ bytes)
         → altered_archive before paths bytes ≡ None → before ≡ mboxes paths bytes }
     ensures all { (paths bytes : List (List ℕ)) → length paths ≡ length bytes
         → altered_archive (mboxes paths bytes) paths bytes ≡ None }

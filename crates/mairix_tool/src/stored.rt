@@ -12,7 +12,7 @@ ghost use Rattle.run_faults.specs.Faults.{fault_in, is_failed_out, is_failed_arc
 ghost use Rattle.mairix_tool.specs.Replies.{CountsFault, KeepsRawBack};
 ghost use Rattle.mairix_tool.specs.Searching.{SearchesFor, SearchesStored, VerifiesWhere};
 ghost use Rattle.mairix_tool.specs.StoredRuns.{CountsVerified, FailsStored, LeavesUnread, RepliesByMessages};
-ghost use Rattle.mairix_tool.specs.Runs.{IsForNoOtherCause, IsIndexRefusal, IsProvedAndTold, IsStoredReply, RepliesBy, TellsProved, WereVerified, is_too_old, renamed_archive, reply_of, unproved_archive};
+ghost use Rattle.mairix_tool.specs.Runs.{IsForNoOtherCause, IsIndexRefusal, IsVerifiedAnswer, IsStoredReply, RepliesBy, ReportsProved, WereVerified, is_too_old, renamed_archive, reply_of, unproved_archive};
 
 use crate::reply::Reply;
 use crate::view_answer::{answer_view, run_fault_of_answer};
@@ -147,7 +147,7 @@ fn answer_opened<A: Archives, O: Out>(
     requires archives { A.failures archives.old < 2 ^ 64 - 1 }
     requires out { O.failures out.old < 2 ^ 64 - 1 }
     ensures told { (held : List (List ℕ)) → A.held archives.new ≡ Some held
-        → RepliesBy (IsProvedAndTold (shown_wanted wanted.now) view.now held)
+        → RepliesBy (IsVerifiedAnswer (shown_wanted wanted.now) view.now held)
         (reply_of result) (O.taken out.old) (O.taken out.new) }
     ensures counted { CountsVerified view.now (shown_wanted wanted.now) (A.held archives.new)
         (reply_of result) (O.taken out.old) (O.taken out.new) }
@@ -171,7 +171,7 @@ fn prove_archives<A: Archives>(
     requires digests { wanted.now.verify ≡ true → view.now.version ≡ newest }
     requires archives { A.failures archives.old < 2 ^ 64 - 1 }
     ensures keeps { HoldsArchives A.Archives archives.old archives.new }
-    ensures proved { IfSome (A.held archives.new) (λ held. TellsProved
+    ensures proved { IfSome (A.held archives.new) (λ held. ReportsProved
         (unproved_archive wanted.now.verify view.now.archives held) result) }
     ensures read { WereVerified view.now.archives wanted.now.verify (fault_in result) }
     ensures asked { VerifiesWhere A.Archives wanted.now.verify view.now.archives

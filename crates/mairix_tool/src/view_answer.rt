@@ -4,7 +4,7 @@ ghost use Rattle.mail_answer.specs.Asked.{HoldsArchives};
 ghost use Rattle.mairix_tool.specs.Asked.{shown_wanted};
 ghost use Rattle.mairix_tool.specs.Inside.Answering.{AsksIndex};
 ghost use Rattle.mairix_tool.specs.Searching.{Searches};
-ghost use Rattle.mairix_tool.specs.Runs.{IsTold, RepliesBy, reply_of, IsCountedWhere, fault_of_answer_kind};
+ghost use Rattle.mairix_tool.specs.Runs.{IsAnswerOrStale, RepliesBy, reply_of, IsCountedWhere, fault_of_answer_kind};
 
 use crate::wanted::Wanted;
 use mail_answer::{AnswerFault, AnswerFaultKind, Archives, answer};
@@ -25,7 +25,7 @@ pub(crate) fn answer_view<A: Archives, O: Out>(
     requires out { O.failures out.old < 2 ^ 64 - 1 }
     ensures keeps { HoldsArchives A.Archives archives.old archives.new }
     ensures told { (held : List (List ℕ)) → A.held archives.new ≡ Some held
-        → RepliesBy (IsTold index.now (shown_wanted wanted.now).search held)
+        → RepliesBy (IsAnswerOrStale index.now (shown_wanted wanted.now).search held)
         (reply_of result) (O.taken out.old) (O.taken out.new) }
     ensures counted { IsCountedWhere index.now (shown_wanted wanted.now).search
         (A.held archives.new) (reply_of result).fault (reply_of result)

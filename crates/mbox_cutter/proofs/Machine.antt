@@ -1,8 +1,8 @@
 -- How the events go on from one line to the next.
 use Rattle.mbox_cutter.proofs.Words.{◌≡◌, ℕ, ◌+◌, ◌-◌, ◌≤◌, Bool, true, false, ◌||◌, ◌⊎◌, inl, inr, List, [], ◌∷◌}
 use Rattle.mbox_cutter.proofs.Words.{length, refl, ap, arith, add_assoc, add-zero, zero-add, is_empty, is_separator}
-use Rattle.mbox_cutter.proofs.Words.{marked_lines, grouped_lines, without_closing, Start, Line, End, told_between}
-use Rattle.mbox_cutter.proofs.Words.{told_inside}
+use Rattle.mbox_cutter.proofs.Words.{marked_lines, grouped_lines, without_closing, Start, Line, End, events_between}
+use Rattle.mbox_cutter.proofs.Words.{events_inside}
 use Rattle.std.specs.Str.{bytes_eq}
 use Rattle.std.proofs.lemmas.Slice.Eq.{bytes_eq-Decides}
 use Rattle.mbox_cutter.proofs.FirstLines.{not_true}
@@ -19,38 +19,38 @@ sub_front a b = omega arith
 -- a line of k bytes, and the lines after it
 module _ (l : List ℕ) (ls : List (List ℕ)) (k : ℕ) (len : length l ≡ k) where
   -- an empty line between two messages
-  pub between-empty : (all at : ℕ) → is_empty l ≡ true → is_separator l ≡ false → told_between all at (l ∷ ls)
-      ≡ told_between all (at + k) ls
+  pub between-empty : (all at : ℕ) → is_empty l ≡ true → is_separator l ≡ false → events_between all at (l ∷ ls)
+      ≡ events_between all (at + k) ls
   between-empty all at e s = grind (arith, add_assoc)
 
   -- a start
-  pub between-start : (all at : ℕ) → is_separator l ≡ true → is_empty l ≡ false → told_between all at (l ∷ ls)
-      ≡ Start at l ∷ told_inside all (at + k) at 0 ls
+  pub between-start : (all at : ℕ) → is_separator l ≡ true → is_empty l ≡ false → events_between all at (l ∷ ls)
+      ≡ Start at l ∷ events_inside all (at + k) at 0 ls
   between-start all at s e = rw (← len) (rw (s, e) (simp (add-zero, zero-add, add_assoc, sub_front)))
 
-  pub inside-line : (all at start size : ℕ) → is_empty l ≡ false → told_inside all at start size (l ∷ ls)
-      ≡ Line l ∷ told_inside all (at + k) start (size + k) ls
+  pub inside-line : (all at start size : ℕ) → is_empty l ≡ false → events_inside all at start size (l ∷ ls)
+      ≡ Line l ∷ events_inside all (at + k) start (size + k) ls
   inside-line all at start size e = rw (← len)
       (rw e (rw (without_closing-full l (grouped_lines (marked_lines false ls)).0 e) (simp add_assoc)))
 
   -- the archive ends with an empty line
   pub inside-closing_last : (all at start size : ℕ) → is_empty l ≡ true → ls ≡ []
-      → told_inside all at start size (l ∷ ls) ≡ End ((at + k) - start) size ∷ told_between all (at + k) ls
+      → events_inside all at start size (l ∷ ls) ≡ End ((at + k) - start) size ∷ events_between all (at + k) ls
   inside-closing_last all at start size e none = rw (← len, none) (rw e (simp add-zero))
 
   module _ (m : List ℕ) (after : List (List ℕ)) (next : ls ≡ m ∷ after) where
     -- an empty line before a start
     pub inside-closing : (all at start size : ℕ) → is_empty l ≡ true → is_separator m ≡ true → is_empty m ≡ false →
-        told_inside all at start size (l ∷ ls) ≡ End ((at + k) - start) size ∷ told_between all (at + k) ls
+        events_inside all at start size (l ∷ ls) ≡ End ((at + k) - start) size ∷ events_between all (at + k) ls
     inside-closing all at start size e s f = rw (← len, next) (rw (e, s, f) (rw e (simp add-zero)))
 
     -- another empty line
     pub inside-empty : (all at start size : ℕ) → is_empty l ≡ true → is_separator m ≡ false →
-        told_inside all at start size (l ∷ ls) ≡ Line l ∷ told_inside all (at + k) start (size + k) ls
+        events_inside all at start size (l ∷ ls) ≡ Line l ∷ events_inside all (at + k) start (size + k) ls
     inside-empty all at start size e s = rw (← len, next) (rw (e, s) (simp add_assoc))
 
-pub inside-nil : (all at start size : ℕ) → told_inside all at start size []
-    ≡ End (at - start) size ∷ told_between all at []
+pub inside-nil : (all at start size : ℕ) → events_inside all at start size []
+    ≡ End (at - start) size ∷ events_between all at []
 inside-nil all at start size = simp add-zero
 
 -- a separator isn't empty

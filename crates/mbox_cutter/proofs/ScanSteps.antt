@@ -5,7 +5,7 @@ use Rattle.mbox_cutter.proofs.Words.{sym, ◌∙◌, subst, arith, IsAtEnd, leng
 use Rattle.mbox_cutter.proofs.Words.{NotAnMbox, ArchiveTooLong, Phase, Between, Inside, Ended, first_length, is_empty}
 use Rattle.mbox_cutter.proofs.Words.{IsLine, is_separator, Line, IsRefusalToCome, TakesEvent, is_device, CutterPlace}
 use Rattle.mbox_cutter.proofs.Words.{Moves, HasLine}
-use Rattle.mbox_cutter.proofs.Words.{known_bytes, ReadsOn, resume, closes_at, coming_events, place_of, told_event}
+use Rattle.mbox_cutter.proofs.Words.{known_bytes, ReadsOn, resume, closes_at, coming_events, place_of, event_with_line}
 use Rattle.mbox_cutter.proofs.Words.{IsPlace, IsWithin}
 use Rattle.mbox_cutter.proofs.Words.{IsScan, IsFresh, FindsLine, Passes, Steps}
 use Rattle.mbox_cutter.specs.declared.event.Event.{Event}
@@ -118,9 +118,9 @@ told-steps : {S : Type 0} (g : Ghosts S) (old new : Scan S) (was : Phase) (p : C
     (p.phase ≡ Ended → IsAtEnd (g.rest new.window.source.now)) →
     IfSome (known_until g.rest old.window new.window) P
     → IfSome (known_until g.rest old.window new.window) (λ b. known_bytes g.rest new.window ≡ Some (left b)) →
-    ((b : List ℕ) → P b → TakesEvent (told_event line s) (resume was old.offset old.most b)
+    ((b : List ℕ) → P b → TakesEvent (event_with_line line s) (resume was old.offset old.most b)
     (resume p.phase p.offset p.most (left b))) →
-    Moves (told_event line s) (place_of old) p → HasLine (told_event line s) → Steps g old (Ok s) new
+    Moves (event_with_line line s) (place_of old) p → HasLine (event_with_line line s) → Steps g old (Ok s) new
 told-steps g old new was p s line P left reads at is before most place end h leaves takes moves lends =
     grind (arith, known-step)
 
@@ -129,9 +129,9 @@ module _ {S : Type 0} (g : Ghosts S) (old new : Scan S) (n : ℕ) (line : List �
   taken-steps : (was phase : Phase) (s : Event) (P : List ℕ → Type 0) → old.phase ≡ was → Taken g old new n phase line
       → IsWithin phase (old.offset + n) → (phase ≡ Ended → ⊥) →
       IfSome (known_until g.rest old.window new.window) P
-      → ((b : List ℕ) → P b → TakesEvent (told_event line s) (resume was old.offset old.most b)
+      → ((b : List ℕ) → P b → TakesEvent (event_with_line line s) (resume was old.offset old.most b)
       (resume phase (old.offset + n) old.most (drop n b))) →
-      Moves (told_event line s) (place_of old) (further phase n (place_of old)) → HasLine (told_event line s)
+      Moves (event_with_line line s) (place_of old) (further phase n (place_of old)) → HasLine (event_with_line line s)
       → Steps g old (Ok s) new
   taken-steps was phase s P before t within not_ended h takes moves lends = grind (arith, told-steps)
 
@@ -173,11 +173,11 @@ module _ {S : Type 0} (g : Ghosts S) (old new : Scan S) (n : ℕ) (line : List �
 module _ {S : Type 0} (g : Ghosts S) (old mid : Scan S) (n : ℕ) (found_none : FindsLine g old (Ok n) mid) (none : n ≡ 0)
     (was : IsScan g.rest old) where
   none-steps : (before phase : Phase) (s : Event) → old.phase ≡ before → IsWithin phase old.offset →
-      ((b : List ℕ) → 0 ≡ first_length b → TakesEvent (told_event mid.window.line s)
+      ((b : List ℕ) → 0 ≡ first_length b → TakesEvent (event_with_line mid.window.line s)
       (resume before old.offset old.most b)
       (resume phase old.offset old.most b)) →
-      Moves (told_event mid.window.line s) (place_of old)
-      (record { phase = phase; offset = old.offset; most = old.most }) → HasLine (told_event mid.window.line s) →
+      Moves (event_with_line mid.window.line s) (place_of old)
+      (record { phase = phase; offset = old.offset; most = old.most }) → HasLine (event_with_line mid.window.line s) →
       Steps g old (Ok s) (record mid { phase = phase })
   none-steps before phase s is within takes moves lends = grind (arith, told-steps, served)
 
@@ -261,7 +261,8 @@ skipped-one g old now new n line k t other empty = grind (arith, Serves-join, at
 
 moves-skipped : (result : Result Event CutFault) (line : List ℕ) (old now new : CutterPlace) → old.phase ≡ Between
     → now.phase ≡ Between → old.offset ≤ now.offset →
-    IfOk result (λ s. Moves (told_event line s) now new) → IfOk result (λ s. Moves (told_event line s) old new)
+    IfOk result (λ s. Moves (event_with_line line s) now new)
+    → IfOk result (λ s. Moves (event_with_line line s) old new)
 moves-skipped result line old now new h h2 h3 h4 = grind arith
 
 pub skipped-steps : {S : Type 0} (g : Ghosts S) (old now new : Scan S) (result : Result Event CutFault)

@@ -8,7 +8,7 @@ use Rattle.mbox_cutter.proofs.Words.{marked_lines, grouped_lines, is_refused, to
 use Rattle.mbox_cutter.proofs.Words.{Line, End}
 use Rattle.mbox_cutter.proofs.Words.{Done, events_of, events, first_full_end, archive_refusal, ComingEvents, coming_of}
 use Rattle.mbox_cutter.proofs.Words.{TakesEvent, IsRefusalToCome}
-use Rattle.mbox_cutter.proofs.Words.{closes_at, told_between, told_inside, refusal_between, too_long, resume}
+use Rattle.mbox_cutter.proofs.Words.{closes_at, events_between, events_inside, refusal_between, too_long, resume}
 use Rattle.mbox_cutter.proofs.FirstLines.{first_length-le, first_length-positive}
 use Rattle.mbox_cutter.proofs.LineLists.{lines-cons, lines-nil}
 use Rattle.mbox_cutter.proofs.Machine.{between-empty, between-start, inside-line, inside-closing_last, inside-closing}
@@ -122,7 +122,7 @@ module _ (at most n : ℕ) (b : List ℕ) (e : n ≡ first_length b) (h : 0 < n)
   unfolding resume
   step-start s =
       let full : is_empty (take n b) ≡ false = separator-full (take n b) s in (
-        front (λ all ls. told_between all at ls)
+        front (λ all ls. events_between all at ls)
             ∙ between-start (take n b) (lines (drop n b)) n len ((at + n) + length (drop n b)) at s full,
         all-same ∙ sym (refusal-start at most (length b) (take n b) (lines (drop n b)) (lines b) (first-lines b n e h) s
             full),
@@ -133,7 +133,7 @@ module _ (at most n : ℕ) (b : List ℕ) (e : n ≡ first_length b) (h : 0 < n)
   unfolding resume
   step-empty s f =
       same_coming
-      (front (λ all ls. told_between all at ls)
+      (front (λ all ls. events_between all at ls)
       ∙ between-empty (take n b) (lines (drop n b)) n len ((at + n) + length (drop n b)) at f s)
       (refusal-empty at most (length b) (take n b) (lines (drop n b)) (lines b) (first-lines b n e h) n
       (length (drop n b)) len s f (first-rest b n e))
@@ -152,7 +152,7 @@ module _ (at most n : ℕ) (b : List ℕ) (e : n ≡ first_length b) (h : 0 < n)
         (resume (Inside start (size + n)) (at + n) most (drop n b))
     unfolding resume
     step-line f = (
-      front (λ all ls. told_inside all at start size ls)
+      front (λ all ls. events_inside all at start size ls)
           ∙ inside-line (take n b) (lines (drop n b)) n len ((at + n) + length (drop n b)) at start size f,
       all-same,
     )
@@ -164,7 +164,7 @@ module _ (at most n : ℕ) (b : List ℕ) (e : n ≡ first_length b) (h : 0 < n)
         (resume (Inside start (size + n)) (at + n) most (drop n b))
     unfolding resume
     step-kept m f d k s = (
-      front (λ all ls. told_inside all at start size ls)
+      front (λ all ls. events_inside all at start size ls)
           ∙ inside-empty (take n b) (lines (drop n b)) n len (take m (drop n b)) (lines (drop m (drop n b)))
           (first-lines (drop n b) m d k) ((at + n) + length (drop n b)) at start size f s,
       all-same,
@@ -179,7 +179,7 @@ module _ (at most n : ℕ) (b : List ℕ) (e : n ≡ first_length b) (h : 0 < n)
     step-closing m f d k s =
         let full : is_empty (take m (drop n b)) ≡ false = separator-full (take m (drop n b)) s in
         let next : lines (drop n b) ≡ take m (drop n b) ∷ lines (drop m (drop n b)) = first-lines (drop n b) m d k in (
-          front (λ all ls. told_inside all at start size ls)
+          front (λ all ls. events_inside all at start size ls)
               ∙ inside-closing (take n b) (lines (drop n b)) n len (take m (drop n b)) (lines (drop m (drop n b))) next
               ((at + n) + length (drop n b)) at start size f s full,
           refusal-start (at + n) most (length (drop n b)) (take m (drop n b)) (lines (drop m (drop n b)))
@@ -193,7 +193,7 @@ module _ (at most n : ℕ) (b : List ℕ) (e : n ≡ first_length b) (h : 0 < n)
     unfolding resume
     step-closing_last f d =
         let none : lines (drop n b) ≡ [] = ap lines (no_bytes (drop n b) d) ∙ lines-nil in (
-          front (λ all ls. told_inside all at start size ls)
+          front (λ all ls. events_inside all at start size ls)
               ∙ inside-closing_last (take n b) (lines (drop n b)) n len ((at + n) + length (drop n b)) at start size f
               none,
           ap (λ (ls : List (List ℕ)). refusal_between (at + n) most ls (length (drop n b))) none ∙ all-same,
@@ -228,7 +228,7 @@ accepted : (t : Bool) (all : ℕ) (ms : List Message) → cond t [] (events_of a
     ≡ option_map_or (events_of all) (cond t None (Some ms)) []
 accepted t all ms = grind arith
 
-events-beginning : (b : List ℕ) → told_between (0 + length b) 0 (lines b) ≡ events b
+events-beginning : (b : List ℕ) → events_between (0 + length b) 0 (lines b) ≡ events b
 unfolding events messages
 events-beginning b =
     let groups = grouped_lines (marked_lines true (lines b)) in

@@ -10,14 +10,14 @@ pub use Rattle.mbox_cutter.specs.Events.{ArchiveEvent, ComingEvents, Done, End, 
 pub use Rattle.mbox_cutter.specs.Events.{events_of}
 unfoldable pub use Rattle.mbox_cutter.specs.Events.{events, archive_refusal}
 pub use Rattle.mbox_cutter.specs.Inside.Ahead.{BytesAhead, Extends, ReadsAfter, ReadsOn, known_bytes, known_until}
-pub use Rattle.mbox_cutter.specs.Inside.Resume.{coming_at, refusal_between, told_between, told_inside, too_long}
+pub use Rattle.mbox_cutter.specs.Inside.Resume.{coming_at, refusal_between, events_between, events_inside, too_long}
 unfoldable pub use Rattle.mbox_cutter.specs.Inside.Resume.{resume}
 pub use Rattle.mbox_cutter.specs.Inside.Scan.{FailsFirst, FindsLine, IsFresh, IsPlace, IsScan, IsWithin, Passes, Steps}
 pub use Rattle.mbox_cutter.specs.Inside.Scan.{closes_at, coming_events, place_of}
 pub use Rattle.mbox_cutter.specs.Lines.{AreCut, AreLines, IsLine, first_lines, length_before_feed}
 unfoldable pub use Rattle.mbox_cutter.specs.Lines.{first_length, is_empty, line_end_of, lines}
 pub use Rattle.mbox_cutter.specs.Places.{CutterPlace, HasLine, Moves}
-pub use Rattle.mbox_cutter.specs.Progress.{told_event}
+pub use Rattle.mbox_cutter.specs.Progress.{event_with_line}
 pub use Rattle.mbox_cutter.specs.Separators.{has_time_then_year, is_time, is_year, stands_for, separator_tokens}
 unfoldable pub use Rattle.mbox_cutter.specs.Separators.{has_form, is_separator, without_break}
 pub use Rattle.mbox_cutter.specs.declared.device.Source.{Ghosts}

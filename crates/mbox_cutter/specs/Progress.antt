@@ -23,16 +23,16 @@ pub record Progress (S : Type 0) : Type 0 where
   pub source : MutBor S
 
 -- an event, with the line that was taken last
-abbrev pub told_event : List ℕ → Event → ArchiveEvent
-told_event line (event.Start at) = Start at line
-told_event line event.Line = Line line
-told_event line (event.End span size) = End span size
-told_event line (event.Done all) = Done all
+abbrev pub event_with_line : List ℕ → Event → ArchiveEvent
+event_with_line line (event.Start at) = Start at line
+event_with_line line event.Line = Line line
+event_with_line line (event.End span size) = End span size
+event_with_line line (event.Done all) = Done all
 
 -- the result of a call, with the line that was taken last
-abbrev pub told_result : List ℕ → Result Event CutFault → Result ArchiveEvent CutFault
-told_result line (Ok e) = Ok (told_event line e)
-told_result line (Err fault) = Err fault
+abbrev pub result_with_line : List ℕ → Result Event CutFault → Result ArchiveEvent CutFault
+result_with_line line (Ok e) = Ok (event_with_line line e)
+result_with_line line (Err fault) = Err fault
 
 -- how a call with this result changes a cutter
 pub record Advances {S : Type 0} (g : Ghosts S) (old : Progress S) (result : Result Event CutFault)
@@ -44,12 +44,12 @@ pub record Advances {S : Type 0} (g : Ghosts S) (old : Progress S) (result : Res
   -- what no read changes stays as it was
   pub stays : Stays g old.source.now new.source.now
   -- if it is known what comes, an event is the first that comes, and a refusal is the archive's
-  pub answers : AnswersAsComing (still_known old.coming (g.rest new.source.now)) (told_result new.line result)
+  pub answers : AnswersAsComing (still_known old.coming (g.rest new.source.now)) (result_with_line new.line result)
       new.coming
   -- events come in order, and their offsets, lengths and sizes fit what was taken, whether bytes are known or not
-  pub moves : IfOk result (λ e. Moves (told_event new.line e) old.place new.place)
+  pub moves : IfOk result (λ e. Moves (event_with_line new.line e) old.place new.place)
   -- fewer events are left, so they end
-  pub nears : IfOk result (λ e. Nears (told_event new.line e) old.place new.place)
+  pub nears : IfOk result (λ e. Nears (event_with_line new.line e) old.place new.place)
   -- after a fault each call fails
   pub fails : OnErr result (new.place.phase ≡ Failed)
   -- the limit stays
@@ -57,4 +57,4 @@ pub record Advances {S : Type 0} (g : Ghosts S) (old : Progress S) (result : Res
   -- no more was taken than is allowed
   pub within : new.place.offset ≤ new.place.most
   -- at the archive's end all bytes have been read
-  pub ends : IfOk result (λ e. ReadsAll (told_event new.line e) (g.rest new.source.now))
+  pub ends : IfOk result (λ e. ReadsAll (event_with_line new.line e) (g.rest new.source.now))

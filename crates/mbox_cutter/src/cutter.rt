@@ -35,7 +35,7 @@ impl<'a, S: Source> Model for Cutter<'a, S> {
 impl<'a, S: Source> Cutter<'a, S> {
     ghost use Rattle.mbox_cutter.specs.Events.{coming_of};
     ghost use Rattle.mbox_cutter.specs.Places.{is_failed, HasLine};
-    ghost use Rattle.mbox_cutter.specs.Progress.{Advances, told_event};
+    ghost use Rattle.mbox_cutter.specs.Progress.{Advances, event_with_line};
 
     /// Makes a cutter of the bytes that the source still gives. At most `most` bytes are allowed. It takes all the
     /// memory that the cutter needs, 128 KiB, and fails only if there isn't as much.
@@ -96,7 +96,7 @@ impl<'a, S: Source> Cutter<'a, S> {
         ensures once { result ≡ Err CutFault.Failed → self.old.place.phase ≡ Phase.Failed }
         ensures done { self.old.place.phase ≡ Phase.Ended →
             result ≡ Ok (Event.Done self.old.place.offset) }
-        ensures line { IfOk result (λ event. HasLine (told_event self.new.line event)) }
+        ensures line { IfOk result (λ event. HasLine (event_with_line self.new.line event)) }
         ensures advances { Advances S.Source self.old result self.new }
     {
         if let Phase::Failed = self.scan.phase {

@@ -56,16 +56,16 @@ sizes-lines : (ls : List (List ℕ)) (es : List ArchiveEvent) → sizes (map Lin
 sizes-lines [] es = refl
 sizes-lines (l ∷ ls) es = sizes-lines ls es
 
-starts-told : (all : ℕ) (ms : List Message) → starts (events_of all ms) ≡ length ms
-starts-told all [] = refl
-starts-told all (m ∷ ms) = ap suc (starts-lines (text m) (End (span_length m) (size m) ∷ events_of all ms)
-    ∙ starts-told all ms)
+starts-reported : (all : ℕ) (ms : List Message) → starts (events_of all ms) ≡ length ms
+starts-reported all [] = refl
+starts-reported all (m ∷ ms) = ap suc (starts-lines (text m) (End (span_length m) (size m) ∷ events_of all ms)
+    ∙ starts-reported all ms)
 
-sizes-told : (all : ℕ) (ms : List Message) → sizes (events_of all ms) ≡ sum_by size ms
-sizes-told all [] = refl
-sizes-told all (m ∷ ms) =
+sizes-reported : (all : ℕ) (ms : List Message) → sizes (events_of all ms) ≡ sum_by size ms
+sizes-reported all [] = refl
+sizes-reported all (m ∷ ms) =
     sizes-lines (text m) (End (span_length m) (size m) ∷ events_of all ms)
-    ∙ ap (λ (n : ℕ). size m + n) (sizes-told all ms)
+    ∙ ap (λ (n : ℕ). size m + n) (sizes-reported all ms)
     ∙ sym (sum_by-cons size m ms)
 
 events-accepted : (b : List ℕ) (ms : List Message) → messages b ≡ Some ms → events b ≡ events_of (length b) ms
@@ -82,8 +82,8 @@ counted-at most b ms (Some k) (Some n) after count bytes all m e t d =
     let last : t.0.events ≡ Done all ∷ [] = ap (λ (c : ComingEvents). c.events) (sym is) ∙ d.2.0 in
     let first : k.events ≡ events_of (length b) ms =
     ap (λ (c : ComingEvents). c.events) (let same : k ≡ coming_of most b = cc in same) ∙ events-accepted b ms m in
-    let all_starts : starts k.events ≡ length ms = ap starts first ∙ starts-told (length b) ms in
-    let all_sizes : sizes k.events ≡ sum_by size ms = ap sizes first ∙ sizes-told (length b) ms in
+    let all_starts : starts k.events ≡ length ms = ap starts first ∙ starts-reported (length b) ms in
+    let all_sizes : sizes k.events ≡ sum_by size ms = ap sizes first ∙ sizes-reported (length b) ms in
     let no_starts : starts t.0.events ≡ 0 = ap starts last in
     let no_sizes : sizes t.0.events ≡ 0 = ap sizes last in
     (omega (arith, t.2), omega (arith, t.3))

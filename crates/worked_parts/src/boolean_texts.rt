@@ -1,13 +1,13 @@
 //! Boolean texts, and the queries that are read from them.
 
+use crate::query_lines::is_reported;
 use crate::reading::read_text;
-use crate::told::is_told;
 use std::alloc::Global;
 
 /// The number of rows of the table.
 const COUNT: usize = 230;
 
-/// The rows have the form `TEXT => QUERY`, with the query as [`is_told`] reads it. The queries were found by a second
+/// The rows have the form `TEXT => QUERY`, with the query as [`is_reported`] reads it. The queries were found by a second
 /// reader.
 const BOOLEAN_TEXTS: &str = "\
 subject:hello and not date:2003-02 => all(word s hello, not date 1044057600 1046476799)
@@ -263,16 +263,16 @@ id:x ) and or from:b => query item 2: bad parenthesis
 ";
 
 /// Whether the text of a row is read as the row's query. It is None if memory runs out.
-fn row_is_told(alloc: Global, row: &str) -> Option<bool> {
-    let (text, told) = row.split_once(" => ")?;
-    Some(is_told(&read_text(alloc, text)?, told))
+fn row_is_reported(alloc: Global, row: &str) -> Option<bool> {
+    let (text, reported) = row.split_once(" => ")?;
+    Some(is_reported(&read_text(alloc, text)?, reported))
 }
 
 #[test]
-fn boolean_texts_are_told(rt: HostRuntime) {
+fn boolean_texts_are_reported(rt: HostRuntime) {
     let mut count = 0usize;
     for row in BOOLEAN_TEXTS.lines() {
-        assert!(rt; row_is_told(rt.alloc(), row) == Some(true), "{row}");
+        assert!(rt; row_is_reported(rt.alloc(), row) == Some(true), "{row}");
         count = count.saturating_add(1);
     }
     assert_eq!(rt; count, COUNT);

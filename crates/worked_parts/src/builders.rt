@@ -43,7 +43,7 @@ fn file_of(alloc: Global, builder: &Builder) -> Option<MemoryOut>
     let mut out = MemoryOut::new(alloc, None);
     let count = builder.write(&mut out);
     let length = out.bytes().len() as u64;
-    matches!(count, Ok(told) if told == length).then_some(out)
+    matches!(count, Ok(reported) if reported == length).then_some(out)
 }
 
 /// Returns the file of the archive with one message.
@@ -155,7 +155,7 @@ fn one_more_is_too_many(rt: HostRuntime) {
 
 /// Whether a builder reports that the open message has a key once it has it, and doesn't report that for another key,
 /// or in the next message.
-fn tells_key(builder: &mut Builder, path: &str) -> Result<bool, BuildFault>
+fn reports_key(builder: &mut Builder, path: &str) -> Result<bool, BuildFault>
     requires empty { builder.old ≡ empty_draft 2 }
     requires path { IsPath path.now }
 {
@@ -173,13 +173,13 @@ fn tells_key(builder: &mut Builder, path: &str) -> Result<bool, BuildFault>
 }
 
 /// Whether a new builder does that.
-fn tells_what_it_has(alloc: Global) -> bool {
-    is_path(PATH) && matches!(tells_key(&mut Builder::new(alloc, 2), PATH), Ok(true))
+fn reports_what_it_has(alloc: Global) -> bool {
+    is_path(PATH) && matches!(reports_key(&mut Builder::new(alloc, 2), PATH), Ok(true))
 }
 
 #[test]
-fn keys_that_came_are_told(rt: HostRuntime) {
-    assert!(rt; tells_what_it_has(rt.alloc()));
+fn keys_that_came_are_reported(rt: HostRuntime) {
+    assert!(rt; reports_what_it_has(rt.alloc()));
 }
 
 /// Whether in a file only the first message has an id.

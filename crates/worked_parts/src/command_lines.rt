@@ -99,15 +99,15 @@ fn words(alloc: Global, line: &str) -> Result<Vec<String>, AllocError> {
 }
 
 /// Returns the plan of words as a text.
-fn told_plan(alloc: Global, words: &[String]) -> Result<String, Fail> {
+fn reported_plan(alloc: Global, words: &[String]) -> Result<String, Fail> {
     let plan = plan_of(alloc, words)?;
-    let mut told = String::new(alloc);
-    tell(&mut told, &plan)?;
-    Ok(told)
+    let mut reported = String::new(alloc);
+    report(&mut reported, &plan)?;
+    Ok(reported)
 }
 
-fn tell(told: &mut String, plan: &Plan) -> Result<(), AllocError> {
-    told.push_str(plan.rcfile.as_str())?;
+fn report(reported: &mut String, plan: &Plan) -> Result<(), AllocError> {
+    reported.push_str(plan.rcfile.as_str())?;
     let mfolder = match &plan.mfolder {
         Some(mfolder) => mfolder.as_str(),
         None => "",
@@ -123,27 +123,27 @@ fn tell(told: &mut String, plan: &Plan) -> Result<(), AllocError> {
         (plan.verify, "verify"),
     ] {
         if *is_set {
-            push_word(told, name)?;
+            push_word(reported, name)?;
         }
     }
-    told.push_str(":")?;
+    reported.push_str(":")?;
     for pattern in plan.patterns.as_slice() {
-        push_word(told, pattern.as_str())?;
+        push_word(reported, pattern.as_str())?;
     }
     Ok(())
 }
 
-fn push_word(told: &mut String, word: &str) -> Result<(), AllocError> {
-    told.push_str(" ")?;
-    told.push_str(word)
+fn push_word(reported: &mut String, word: &str) -> Result<(), AllocError> {
+    reported.push_str(" ")?;
+    reported.push_str(word)
 }
 
 /// Whether the fault is this refusal.
 fn is_refusal(fault: Option<OrMemory<UsageFault>>, refusal: &str) -> bool {
     match fault {
         Some(OrMemory::Refused(fault)) => {
-            let told: InlineText<32> = InlineText::of(fault);
-            told.as_str() == refusal
+            let reported: InlineText<32> = InlineText::of(fault);
+            reported.as_str() == refusal
         }
         _ => false,
     }
@@ -154,9 +154,12 @@ fn words_are_accepted(rt: HostRuntime) -> Result<(), Fail> {
     let alloc = rt.alloc();
     for (line, plan) in PLANS {
         let words = words(alloc, line)?;
-        let told = told_plan(alloc, &words)?;
+        let reported = reported_plan(alloc, &words)?;
         let text = usage_text(alloc, &words)?;
-        assert!(rt; told.as_str() == plan && text.is_empty(), "{line}: {told}");
+        assert!(rt;
+            reported.as_str() == plan && text.is_empty(),
+            "{line}: {reported}"
+        );
     }
     Ok(())
 }
@@ -166,9 +169,9 @@ fn words_are_refused(rt: HostRuntime) -> Result<(), Fail> {
     let alloc = rt.alloc();
     for (line, refusal, front) in REFUSALS {
         let words = words(alloc, line)?;
-        let told = plan_of(alloc, &words).err();
+        let reported = plan_of(alloc, &words).err();
         let text = usage_text(alloc, &words)?;
-        let as_wanted = is_refusal(told, refusal) && text.as_str().starts_with(front);
+        let as_wanted = is_refusal(reported, refusal) && text.as_str().starts_with(front);
         assert!(rt; as_wanted, "{line}: not {refusal}: {text}");
     }
     Ok(())

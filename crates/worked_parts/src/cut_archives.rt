@@ -60,12 +60,12 @@ fn source_of<'a, S: Source>(cutter: Cutter<'a, S>) -> &'a mut S
 
 /// The events of an archive as a text, with the lengths of the lines; and the lines themselves, one after another.
 #[derive(Drop)]
-struct Told {
+struct Reported {
     text: String,
     lent: Vec<u8>,
 }
 
-impl Told {
+impl Reported {
     /// Adds an event, with the line that was taken last.
     fn event(&mut self, event: Event, line: &[u8]) -> Result<(), AllocError> {
         match event {
@@ -84,36 +84,36 @@ impl Told {
 }
 
 /// Writes the events of an archive, and the fault that ends them, if there is one.
-fn tell<S: Source>(cutter: &mut Cutter<'_, S>, told: &mut Told) -> Result<(), AllocError>
+fn report<S: Source>(cutter: &mut Cutter<'_, S>, reported: &mut Reported) -> Result<(), AllocError>
     requires { S.failures cutter.old.source.now < 2 ^ 64 - 1 }
 {
     'events: loop {
         match cutter.next_event() {
-            Ok(Event::Done { length }) => return told.event(Event::Done { length }, b""),
-            Ok(event) => told.event(event, cutter.line())?,
-            Err(fault) => return write!(told.text, "{fault}"),
+            Ok(Event::Done { length }) => return reported.event(Event::Done { length }, b""),
+            Ok(event) => reported.event(event, cutter.line())?,
+            Err(fault) => return write!(reported.text, "{fault}"),
         }
     }
 }
 
 /// Returns the events of a source. It is None if memory runs out, and so are the results below.
-fn told_of<S: Source>(alloc: Global, source: &mut S, most: u64) -> Option<Told>
+fn reported_of<S: Source>(alloc: Global, source: &mut S, most: u64) -> Option<Reported>
     requires { S.failures source.old < 2 ^ 64 - 1 }
 {
-    let mut told = Told {
+    let mut reported = Reported {
         text: String::new(alloc),
         lent: Vec::new(alloc),
     };
     let mut cutter = Cutter::new(alloc, source, most).ok()?;
-    tell(&mut cutter, &mut told).ok()?;
-    Some(told)
+    report(&mut cutter, &mut reported).ok()?;
+    Some(reported)
 }
 
 /// Whether the events of a source are these.
-fn is_told<S: Source>(alloc: Global, source: &mut S, most: u64, wanted: &str) -> Option<bool>
+fn is_reported<S: Source>(alloc: Global, source: &mut S, most: u64, wanted: &str) -> Option<bool>
     requires { S.failures source.old < 2 ^ 64 - 1 }
 {
-    Some(told_of(alloc, source, most)?.text.as_str() == wanted)
+    Some(reported_of(alloc, source, most)?.text.as_str() == wanted)
 }
 
 /// In each line: the most bytes that a read gives, the most bytes that are allowed, an archive, and its events.
@@ -140,7 +140,7 @@ const ARCHIVES: &str = "\
 ";
 
 /// Whether the events of an archive are those of its row.
-fn row_is_told(alloc: Global, row: &str) -> Option<bool> {
+fn row_is_reported(alloc: Global, row: &str) -> Option<bool> {
     let (given, wanted) = row.split_once(" => ")?;
     let (piece, given) = given.split_once(' ')?;
     let (most, archive) = given.split_once(' ')?;
@@ -148,25 +148,25 @@ fn row_is_told(alloc: Global, row: &str) -> Option<bool> {
     let most = most.parse().ok()?;
     let bytes = bytes_of(alloc, archive)?;
     let mut source = MemorySource::new(alloc, &bytes, piece.max(1), None).ok()?;
-    is_told(alloc, &mut source, most, wanted)
+    is_reported(alloc, &mut source, most, wanted)
 }
 
 #[test]
-fn archives_are_told(rt: HostRuntime) {
+fn archives_are_reported(rt: HostRuntime) {
     for row in ARCHIVES.lines() {
-        assert!(rt; row_is_told(rt.alloc(), row).unwrap_or(false), "{row}");
+        assert!(rt; row_is_reported(rt.alloc(), row).unwrap_or(false), "{row}");
     }
 }
 
 /// Whether the events before a read that fails are the first ones of the archive; if fewer reads are made, they are
 /// all, and the lines are all but the closing one.
-fn is_told_up_to(alloc: Global, piece: usize, fail_at: u64, reads: u64) -> Option<bool> {
+fn is_reported_up_to(alloc: Global, piece: usize, fail_at: u64, reads: u64) -> Option<bool> {
     let mut source = MemorySource::new(alloc, ONE, piece.max(1), Some(fail_at)).ok()?;
-    let told = told_of(alloc, &mut source, 1000)?;
-    let text = told.text.as_str();
+    let reported = reported_of(alloc, &mut source, 1000)?;
+    let text = reported.text.as_str();
     let as_wanted = match text.strip_suffix("read failed") {
         Some(front) => fail_at <= reads && TOLD.starts_with(front),
-        None => fail_at > reads && text == TOLD && told.lent.as_slice() == &ONE[..57],
+        None => fail_at > reads && text == TOLD && reported.lent.as_slice() == &ONE[..57],
     };
     Some(as_wanted)
 }
@@ -175,7 +175,7 @@ fn is_told_up_to(alloc: Global, piece: usize, fail_at: u64, reads: u64) -> Optio
 fn each_read_fails(rt: HostRuntime) {
     for (piece, reads) in [(1, 59), (7, 10)] {
         for fail_at in 1..reads + 2 {
-            let as_wanted = is_told_up_to(rt.alloc(), piece, fail_at, reads);
+            let as_wanted = is_reported_up_to(rt.alloc(), piece, fail_at, reads);
             assert!(rt; as_wanted.unwrap_or(false), "read {fail_at} by {piece}");
         }
     }
@@ -216,7 +216,7 @@ impl Source for Feeds {
 
 #[test]
 fn a_source_without_end(rt: HostRuntime) {
-    assert!(rt; is_told(rt.alloc(), &mut Feeds, 10, "too long").unwrap_or(false));
+    assert!(rt; is_reported(rt.alloc(), &mut Feeds, 10, "too long").unwrap_or(false));
 }
 
 /// Whether a cutter with the buffer of an earlier one counts right.
@@ -251,12 +251,12 @@ fn is_written(alloc: Global) -> bool {
 #[test]
 fn devices_in_memory_and_of_std(rt: HostRuntime) {
     assert!(rt; takes(rt.alloc(), Some(13), 13) && takes(rt.alloc(), None, 58));
-    assert!(rt; is_told(rt.alloc(), &mut FromRead::new(ONE), 1000, TOLD).unwrap_or(false));
+    assert!(rt; is_reported(rt.alloc(), &mut FromRead::new(ONE), 1000, TOLD).unwrap_or(false));
     assert!(rt; is_written(rt.alloc()));
 }
 
 /// The gate refuses each allocation of this test in turn.
 #[test]
 fn sweep_cutter(rt: HostRuntime) {
-    assert!(rt; row_is_told(rt.alloc(), "1 10 | => done 1").unwrap_or(true));
+    assert!(rt; row_is_reported(rt.alloc(), "1 10 | => done 1").unwrap_or(true));
 }

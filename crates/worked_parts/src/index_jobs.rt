@@ -126,9 +126,9 @@ pub fn has_failed(alloc: Global, mut job: IndexJob) -> Option<bool> {
 /// Whether a job refuses an archive with this fault, and has failed then. It is None if memory runs out.
 fn is_lost(alloc: Global, text: &str, fail_at: Option<u64>, fault: &str) -> Option<bool> {
     match begun(alloc, text, 7, fail_at)? {
-        (job, Err(JobFault::Cut(told))) => {
-            let told: InlineText<32> = InlineText::of(told);
-            Some(has_failed(alloc, job)? && told.as_str() == fault)
+        (job, Err(JobFault::Cut(reported))) => {
+            let reported: InlineText<32> = InlineText::of(reported);
+            Some(has_failed(alloc, job)? && reported.as_str() == fault)
         }
         _ => Some(false),
     }

@@ -42,6 +42,8 @@ mod patterns;
 #[cfg(test)]
 mod queries;
 #[cfg(test)]
+mod query_lines;
+#[cfg(test)]
 mod rcfiles;
 #[cfg(test)]
 mod reading;
@@ -51,5 +53,3 @@ mod rows;
 mod sweeps;
 #[cfg(test)]
 mod text_words;
-#[cfg(test)]
-mod told;

@@ -45,7 +45,7 @@ all ^Message-ID: <a@x>|Content-Type: multipart/mixed; boundary=o||\
 all ^|--o|b>c| => Body [--o|], Body [b>c|], end, none
 # One that ends in its header.
 all ^Subject: soup|Status: R|Content-Disposition: attachment; filename=a.pdf| => end, Subject [soup], Name [a.pdf], other
-# A group of base64, and then a character in quoted-printable, over two lines: each text is told at its line's end.
+# A group of base64, and then a character in quoted-printable, over two lines: each text is reported at its line's end.
 all ^Content-Transfer-Encoding: base64||bHVuY|2gKYnJlYWs=| => Body [lunch|], end, Body [break], none
 all ^Content-Transfer-Encoding: quoted-printable||=C3=|=BC=C3|=BC| => Body [\u{FC}\u{FFFD}|], Body [\u{FFFD}|], end, none
 # A tag over two lines, and one that its message leaves open: the next message is outside of it.
@@ -58,7 +58,7 @@ all ^Content-Transfer-Encoding: BASE64|Content-Type: multipart/digest; charset=l
     --o;\"||Subject: soup||lunch|--o;\"--| => Subject [soup], Body [lunch|], end, none
 # Letters of either case name an encoding and a charset.
 all ^Content-Transfer-Encoding: BASE64|Content-Type: text/plain; charset=latin1||/A==| => end, Body [\u{FC}], none
-# A file name is told before a name of the type, and a message without either has none.
+# A file name is reported before a name of the type, and a message without either has none.
 all ^Content-Disposition: attachment; filename=\"=?utf-8?Q?a_b?=\"|Content-Type: text/plain; name=c|| => end, Name [a b], none
 all ^Content-Type: text/plain|| => end, none
 # A part at the depth of 16 has its name, and what is in it has none.
@@ -72,8 +72,8 @@ all ^Content-Transfer-Encoding: base64||{16384*YWFh}| => end, Body [{16384*aaa}]
 /// A sink that writes each text that it takes, with its kind. It refuses a text if it has no room, and takes none after
 /// that.
 #[derive(Drop)]
-struct Told {
-    told: String,
+struct Reported {
+    reported: String,
     room: usize,
     /// How many calls have succeeded.
     taken: usize,
@@ -96,7 +96,7 @@ fn name_of(kind: TextKind) -> &'static str {
     }
 }
 
-impl TextSink for Told {
+impl TextSink for Reported {
     ghost takes = { λ _ _ _ _. Unit {0} };
 
     ghost refuses = { λ _ _ _ _ _. Unit {0} };
@@ -108,16 +108,16 @@ impl TextSink for Told {
         }
         self.room -= 1;
         let name = name_of(kind);
-        write!(self.told, "{name} [{text}], ")?;
+        write!(self.reported, "{name} [{text}], ")?;
         Ok(())
     }
 }
 
-impl Told {
+impl Reported {
     /// Returns a sink with this much room, which has no text yet.
-    fn new(alloc: Global, room: usize) -> Told {
-        Told {
-            told: String::new(alloc),
+    fn new(alloc: Global, room: usize) -> Reported {
+        Reported {
+            reported: String::new(alloc),
             room,
             taken: 0,
             fault: None,
@@ -137,26 +137,26 @@ impl Told {
 
     /// Whether this is the whole outcome of a message that has ended. It is None if memory runs out, and so are the
     /// results below.
-    fn tells(&mut self, ended: &Result<Facts, TextFault>, wanted: &[u8]) -> Option<bool> {
+    fn reports(&mut self, ended: &Result<Facts, TextFault>, wanted: &[u8]) -> Option<bool> {
         let (answer, facts) = match ended {
-            Ok(facts) => (Ok(()), told_of_facts(facts)),
+            Ok(facts) => (Ok(()), reported_of_facts(facts)),
             Err(fault) => (Err(*fault), ""),
         };
         self.note(answer);
-        let told = match self.fault {
-            None => self.told.push_str(facts),
-            Some(fault) => write!(self.told, "{fault} after {}", self.taken),
+        let reported = match self.fault {
+            None => self.reported.push_str(facts),
+            Some(fault) => write!(self.reported, "{fault} after {}", self.taken),
         };
-        told.ok()?;
-        if !self.is_read || self.told.as_str().contains("out of memory after ") {
+        reported.ok()?;
+        if !self.is_read || self.reported.as_str().contains("out of memory after ") {
             return None;
         }
-        Some(self.told.as_str().as_bytes() == wanted)
+        Some(self.reported.as_str().as_bytes() == wanted)
     }
 }
 
 /// Returns what a message says of itself.
-fn told_of_facts(facts: &Facts) -> &'static str {
+fn reported_of_facts(facts: &Facts) -> &'static str {
     let flags = facts.flags;
     let is_marked = flags.seen || flags.replied || flags.flagged || facts.date_text.is_some();
     let ids = facts.ids.as_slice();
@@ -168,7 +168,12 @@ fn told_of_facts(facts: &Facts) -> &'static str {
 }
 
 /// Gives a reader the lines of the message in an archive.
-fn read(alloc: Global, archive: &[u8], reader: &mut MessageText, sink: &mut Told) -> Option<()> {
+fn read(
+    alloc: Global,
+    archive: &[u8],
+    reader: &mut MessageText,
+    sink: &mut Reported,
+) -> Option<()> {
     let mut source = FromRead::new(archive);
     let mut cutter = Cutter::new(alloc, &mut source, 1 << 20).ok()?;
     give_lines(&mut cutter, reader, sink)
@@ -178,7 +183,7 @@ fn read(alloc: Global, archive: &[u8], reader: &mut MessageText, sink: &mut Told
 fn give_lines<S: Source>(
     cutter: &mut Cutter<'_, S>,
     reader: &mut MessageText,
-    sink: &mut Told,
+    sink: &mut Reported,
 ) -> Option<()>
     requires { S.failures cutter.old.source.now < 2 ^ 64 - 1 }
 {
@@ -188,7 +193,7 @@ fn give_lines<S: Source>(
                 let answer = reader.line(cutter.line(), sink);
                 sink.note(answer);
             }
-            Ok(Event::Done { .. }) => return sink.told.push_str("end, ").ok(),
+            Ok(Event::Done { .. }) => return sink.reported.push_str("end, ").ok(),
             Ok(_) => {}
             Err(_) => return None,
         }
@@ -199,35 +204,35 @@ fn give_lines<S: Source>(
 type Row<'a> = (usize, &'a [u8], &'a [u8]);
 
 /// Whether a new reader gives the outcome of a row.
-fn is_told(alloc: Global, row: Row<'_>) -> Option<bool> {
+fn is_reported(alloc: Global, row: Row<'_>) -> Option<bool> {
     let (room, archive, wanted) = row;
     let mut reader = MessageText::new(alloc).ok()?;
-    let mut sink = Told::new(alloc, room);
+    let mut sink = Reported::new(alloc, room);
     sink.is_read = read(alloc, archive, &mut reader, &mut sink).is_some();
     let ended = reader.end(&mut sink);
-    sink.tells(&ended, wanted)
+    sink.reports(&ended, wanted)
 }
 
 /// Whether a reader that has read other messages gives it.
-fn is_told_again(alloc: Global, row: Row<'_>, reader: &mut MessageText) -> Option<bool> {
+fn is_reported_again(alloc: Global, row: Row<'_>, reader: &mut MessageText) -> Option<bool> {
     let (room, archive, wanted) = row;
-    let mut sink = Told::new(alloc, room);
+    let mut sink = Reported::new(alloc, room);
     reader.begin_again();
     sink.is_read = read(alloc, archive, reader, &mut sink).is_some();
     let ended = reader.finish(&mut sink);
-    sink.tells(&ended, wanted)
+    sink.reports(&ended, wanted)
 }
 
 /// Whether both give the outcome of a line of the table.
-fn are_told(alloc: Global, line: &str, reader: &mut MessageText) -> Option<bool> {
+fn are_reported(alloc: Global, line: &str, reader: &mut MessageText) -> Option<bool> {
     let (given, wanted) = line.split_once(" => ")?;
     let (room, archive) = given.split_once(' ')?;
     let room = room.parse().unwrap_or(ALL);
     let archive = bytes_of(alloc, archive)?;
     let wanted = bytes_of(alloc, wanted)?;
     let row = (room, archive.as_slice(), wanted.as_slice());
-    let is_new = is_told(alloc, row).unwrap_or(false);
-    Some(is_told_again(alloc, row, reader).unwrap_or(false) && is_new)
+    let is_new = is_reported(alloc, row).unwrap_or(false);
+    Some(is_reported_again(alloc, row, reader).unwrap_or(false) && is_new)
 }
 
 /// Nothing of one message is left when the next one begins, even if a reader has failed.
@@ -242,7 +247,10 @@ fn read_all(rt: &impl Abort, alloc: Global, reader: &mut MessageText) {
         if line.starts_with('#') {
             continue;
         }
-        assert!(rt; are_told(alloc, line, reader).unwrap_or(false), "{line}");
+        assert!(rt;
+            are_reported(alloc, line, reader).unwrap_or(false),
+            "{line}"
+        );
     }
 }
 
@@ -253,5 +261,5 @@ fn sweep_message_text(rt: HostRuntime) {
     let archive = b"From a@x.org Thu Jan  2 10:00:00 2003\nMessage-ID: <a@x>\nSubject: lunch\n\
         Content-Disposition: inline; filename=\"=?utf-8?Q?menu?=\"\n\nbreak";
     let wanted = b"Subject [lunch], Name [menu], end, Body [break], id a@x";
-    assert!(rt; is_told(rt.alloc(), (ALL, archive, wanted)).unwrap_or(true));
+    assert!(rt; is_reported(rt.alloc(), (ALL, archive, wanted)).unwrap_or(true));
 }

@@ -1,13 +1,13 @@
 //! Mairix patterns, and the queries that are read from them.
 
+use crate::query_lines::is_reported;
 use crate::reading::read_patterns;
-use crate::told::is_told;
 use std::alloc::Global;
 
 /// The number of rows of the table.
 const COUNT: usize = 240;
 
-/// The rows have the form `PATTERN, PATTERN => QUERY`, with the query as [`is_told`] reads it. The queries were found
+/// The rows have the form `PATTERN, PATTERN => QUERY`, with the query as [`is_reported`] reads it. The queries were found
 /// by a second reader.
 const PATTERNS: &str = "\
 F:-rs, s:one/GRÜSSE, d:mar => all(all(flag -r, flag s), either(word s one, word s grüsse), date 1046476800 1049155199)
@@ -259,16 +259,16 @@ tcfsban:x => word tcfsbn x
 ";
 
 /// Whether patterns are read as the query of their row. It is None if memory runs out before they are read.
-fn row_is_told(alloc: Global, row: &str) -> Option<bool> {
-    let (text, told) = row.split_once(" => ")?;
-    Some(is_told(&read_patterns(alloc, text)?, told))
+fn row_is_reported(alloc: Global, row: &str) -> Option<bool> {
+    let (text, reported) = row.split_once(" => ")?;
+    Some(is_reported(&read_patterns(alloc, text)?, reported))
 }
 
 #[test]
-fn patterns_are_told(rt: HostRuntime) {
+fn patterns_are_reported(rt: HostRuntime) {
     let mut count = 0usize;
     for row in PATTERNS.lines() {
-        assert!(rt; row_is_told(rt.alloc(), row) == Some(true), "{row}");
+        assert!(rt; row_is_reported(rt.alloc(), row) == Some(true), "{row}");
         count = count.saturating_add(1);
     }
     assert_eq!(rt; count, COUNT);

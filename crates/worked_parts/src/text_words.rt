@@ -56,11 +56,28 @@ fn folds_evenly(folded: &mut String) -> Result<bool, AllocError> {
     Ok(!folds_sharp_s && folds && folded.as_str() == "σασ, привет a-çd")
 }
 
+/// Whether letters at the ends of the ranges that are looked for sixteen bytes at a time are folded, and those next to
+/// them: a text with ß or ΰ isn't folded whole.
+fn folds_ends_of_ranges(folded: &mut String) -> Result<bool, AllocError> {
+    let folds_sharp_s = fold_evenly("à bientôt: Straße", folded)?;
+    let folds_upsilon = fold_evenly("καλημέρα, ΰ", folded)?;
+    let folds_ligature = fold_evenly("доброе утро, և", folded)?;
+    let folds = fold_evenly("µÞàÿΫάαοπςώϏЯапрџѠѡאक Ⴀ", folded)?;
+    Ok(
+        !folds_sharp_s
+            && !folds_upsilon
+            && !folds_ligature
+            && folds
+            && folded.as_str() == "μþàÿϋάαοπσώϗяапрџѡѡאक ⴀ",
+    )
+}
+
 #[test]
 fn words_fold(rt: HostRuntime) {
     let mut folded = String::from_str(rt.alloc(), "before ").expect(&rt, "a text");
     assert!(rt; folds_all(&mut folded).unwrap_or(false));
     assert!(rt; folds_evenly(&mut folded).unwrap_or(false));
+    assert!(rt; folds_ends_of_ranges(&mut folded).unwrap_or(false));
     assert!(rt; folds_to(rt.alloc(), "Straße", "strasse").unwrap_or(false));
 }
 
@@ -71,9 +88,10 @@ fn sweep_fold(rt: HostRuntime) {
 }
 
 #[test]
-fn pieces_are_told(rt: HostRuntime) {
+fn pieces_are_reported(rt: HostRuntime) {
     let is_one = is_one_word("e-mail") && !is_one_word("e-mail-");
     assert!(rt; is_one && is_part_of_word("e-mail-") && !is_part_of_word(""));
+    assert!(rt; is_part_of_word("aªÖØöø") && !is_part_of_word("a×") && !is_part_of_word("a÷"));
 }
 
 /// Whether the text of a row has this many words.

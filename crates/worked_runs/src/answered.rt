@@ -136,11 +136,11 @@ pub fn asked<'a>(alloc: Global, file: &'a [u8], pattern: &str) -> Option<(IndexV
 }
 
 /// The result of an answer, and what it has written.
-pub type Told = (Result<u64, AnswerFault>, MemoryOut);
+pub type Reported = (Result<u64, AnswerFault>, MemoryOut);
 
 /// Writes the answer from an index file over archives to an output: for a pattern, with threads or without, in a form.
 /// It is None also if the file or the pattern is refused.
-pub fn told_to<A: Archives, O: Out>(
+pub fn reported_to<A: Archives, O: Out>(
     alloc: Global,
     file: &[u8],
     search: (&str, bool, Format),
@@ -156,37 +156,37 @@ pub fn told_to<A: Archives, O: Out>(
 }
 
 /// Returns the result of such an answer, and what it writes into this much room.
-pub fn told<A: Archives>(
+pub fn reported<A: Archives>(
     alloc: Global,
     file: &[u8],
     search: (&str, bool, Format),
     archives: &mut A,
     room: Option<u64>,
-) -> Option<Told>
+) -> Option<Reported>
     requires { A.failures archives.old < 2 ^ 64 - 1 }
 {
     let mut out = MemoryOut::new(alloc, room);
-    let told = told_to(alloc, file, search, archives, &mut out)?;
-    Some((told, out))
+    let reported = reported_to(alloc, file, search, archives, &mut out)?;
+    Some((reported, out))
 }
 
 /// Returns the result of an answer by the index of some archives, and what it writes into this much room. The archives
 /// are others, of which this call fails, or none if it is 0.
-pub fn told_of(
+pub fn reported_of(
     alloc: Global,
     (of_index, archives): (&[(&str, &str)], &[(&str, &str)]),
     search: (&str, bool, Format),
     fail_at: u64,
     room: Option<u64>,
-) -> Option<Told> {
+) -> Option<Reported> {
     let file = indexed(alloc, of_index)?;
     let mut archives = FailAt::new(held(alloc, archives)?, fail_at);
-    told(alloc, &file, search, &mut archives, room)
+    reported(alloc, &file, search, &mut archives, room)
 }
 
 /// Whether an answer is this whole text, with this many messages.
-pub fn is_whole((told, sent): &Told, messages: u64, whole: &[u8]) -> bool {
-    matches!(told, Ok(count) if *count == messages) && sent.bytes() == whole
+pub fn is_whole((reported, sent): &Reported, messages: u64, whole: &[u8]) -> bool {
+    matches!(reported, Ok(count) if *count == messages) && sent.bytes() == whole
 }
 
 /// Whether both are the same fault.
@@ -199,9 +199,9 @@ pub fn is_same(one: AnswerFaultKind, other: AnswerFaultKind) -> bool {
 }
 
 /// Whether an answer failed with this fault, and has sent the first bytes of the text, as many as it reports.
-pub fn is_front((told, out): &Told, kind: AnswerFaultKind, whole: &[u8]) -> bool {
+pub fn is_front((reported, out): &Reported, kind: AnswerFaultKind, whole: &[u8]) -> bool {
     let sent = out.bytes();
     let length = sent.len() as u64;
-    matches!(told, Err(fault) if is_same(fault.kind, kind) && fault.sent == length)
+    matches!(reported, Err(fault) if is_same(fault.kind, kind) && fault.sent == length)
         && whole.starts_with(sent)
 }

@@ -1,8 +1,8 @@
 //! Answers that were worked out by hand, over archives in memory and their index.
 
 use crate::answered::{
-    ARCHIVE, BOTH_COUSINS, COUSINS, INDEX, RAW_COUSINS, TWO_MESSAGES, is_front, is_whole, text_of,
-    told, told_of,
+    ARCHIVE, BOTH_COUSINS, COUSINS, INDEX, RAW_COUSINS, TWO_MESSAGES, is_front, is_whole, reported,
+    reported_of, text_of,
 };
 use mail_answer::AnswerFaultKind::{OutFailed, OutOfMemory};
 use mail_answer::Format::{self, Excerpt, Mbox, Raw};
@@ -84,8 +84,8 @@ fn is_answered(
     text: &str,
 ) -> Option<bool> {
     let whole = text_of(alloc, text)?;
-    let told = told_of(alloc, (archives, archives), search, 0, None)?;
-    Some(is_whole(&told, messages, &whole))
+    let reported = reported_of(alloc, (archives, archives), search, 0, None)?;
+    Some(is_whole(&reported, messages, &whole))
 }
 
 #[test]
@@ -137,9 +137,9 @@ fn is_whole_or_wanting(alloc: Global, format: Format, text: &str) -> Option<bool
     let Some(mut archives) = held_again(alloc) else {
         return Some(false);
     };
-    let told = told(alloc, INDEX, ("s:~re", true, format), &mut archives, None)?;
-    let is_wanting = is_front(&told, OutOfMemory, &[]) || is_front(&told, OutFailed, &[]);
-    Some(is_wanting || is_whole(&told, 2, &text))
+    let reported = reported(alloc, INDEX, ("s:~re", true, format), &mut archives, None)?;
+    let is_wanting = is_front(&reported, OutOfMemory, &[]) || is_front(&reported, OutFailed, &[]);
+    Some(is_wanting || is_whole(&reported, 2, &text))
 }
 
 /// Each refused allocation is reported as lack of memory with nothing sent, or as a failure of the output in memory;

@@ -2,7 +2,7 @@
 
 use crate::answered::{
     BOTH_COUSINS, COUSIN as A, COUSINS, OTHER_COUSIN as B, RAW_COUSINS, is_front, is_whole,
-    text_of, told_of,
+    reported_of, text_of,
 };
 use mail_answer::AnswerFaultKind::{Device, OutFailed, Stale};
 use mail_answer::Format;
@@ -27,15 +27,15 @@ const BEYOND: u64 = 20;
 
 /// Whether a failure of one call is reported if the answer makes that call, and only then. A raw answer makes only the
 /// calls of the lengths. It is None if memory runs out, and so are the results below.
-fn tells_failed_call(alloc: Global, form: Form, fail_at: u64) -> Option<bool> {
+fn reports_failed_call(alloc: Global, form: Form, fail_at: u64) -> Option<bool> {
     let (format, text, least, _) = form;
     let whole = text_of(alloc, text)?;
     let search = ("b:hi", true, format);
-    let told = told_of(alloc, (&COUSINS, &COUSINS), search, fail_at, None)?;
-    let failed = is_front(&told, Device, &whole);
-    let answered = is_whole(&told, 2, &whole);
+    let reported = reported_of(alloc, (&COUSINS, &COUSINS), search, fail_at, None)?;
+    let failed = is_front(&reported, Device, &whole);
+    let answered = is_whole(&reported, 2, &whole);
     Some(if fail_at <= 2 {
-        failed && told.1.bytes().is_empty()
+        failed && reported.1.bytes().is_empty()
     } else if fail_at <= least {
         failed
     } else if fail_at == BEYOND || matches!(format, Format::Raw) {
@@ -49,7 +49,7 @@ fn tells_failed_call(alloc: Global, form: Form, fail_at: u64) -> Option<bool> {
 fn a_failed_call_leaves_a_front(rt: HostRuntime) {
     for form in FORMS {
         for fail_at in 1..=BEYOND {
-            let as_wanted = tells_failed_call(rt.alloc(), *form, fail_at);
+            let as_wanted = reports_failed_call(rt.alloc(), *form, fail_at);
             assert!(rt; as_wanted == Some(true), "{} at call {fail_at}", form.1);
         }
     }
@@ -59,11 +59,11 @@ fn a_failed_call_leaves_a_front(rt: HostRuntime) {
 fn fills(alloc: Global, (format, text, _, _): Form, room: u64) -> Option<bool> {
     let whole = text_of(alloc, text)?;
     let search = ("b:hi", true, format);
-    let told = told_of(alloc, (&COUSINS, &COUSINS), search, 0, Some(room))?;
+    let reported = reported_of(alloc, (&COUSINS, &COUSINS), search, 0, Some(room))?;
     Some(if room >= whole.len() as u64 {
-        is_whole(&told, 2, &whole)
+        is_whole(&reported, 2, &whole)
     } else {
-        is_front(&told, OutFailed, &whole) && told.1.bytes().len() as u64 == room
+        is_front(&reported, OutFailed, &whole) && reported.1.bytes().len() as u64 == room
     })
 }
 
@@ -109,10 +109,10 @@ fn is_stale(
     fail_at: u64,
 ) -> Option<bool> {
     let search = ("b:hi", true, format);
-    let told = told_of(alloc, (&[A, B, OTHER], archives), search, fail_at, None)?;
+    let reported = reported_of(alloc, (&[A, B, OTHER], archives), search, fail_at, None)?;
     let is_asked = archives.len() == 3 && 1 <= fail_at && fail_at <= u64::from(number) + 1;
     let kind = if is_asked { Device } else { Stale(number) };
-    Some(is_front(&told, kind, &[]))
+    Some(is_front(&reported, kind, &[]))
 }
 
 /// If there are more or fewer archives, or one has another length, the answer is refused in each form, even if that

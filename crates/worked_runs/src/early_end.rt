@@ -3,7 +3,7 @@ ghost use Rattle.std.specs.Prelude.{◌≡◌, ◌<◌, ◌≤◌, ◌-◌, ◌^
 ghost use Rattle.contract_words.specs.Archives.{IsLength, IsReadFromArchive};
 ghost use Rattle.contract_words.specs.Devices.{Counts};
 
-use crate::answered::{COUSINS, Told, held, indexed, is_front, is_whole, text_of, told};
+use crate::answered::{COUSINS, Reported, held, indexed, is_front, is_whole, reported, text_of};
 use crate::devices::{FORMS, Form};
 use mail_answer::{AnswerFaultKind, Archives, Format, MemoryArchives};
 use mbox_cutter::DeviceFault;
@@ -53,27 +53,27 @@ impl Archives for EarlyEnd {
 
 /// Returns the result of an answer to `b:hi` with threads, and what it writes, if the archives end there. It is None if
 /// memory runs out, and so is the result below.
-fn told_at_end(alloc: Global, format: Format, first: u32, end: u64) -> Option<Told> {
+fn reported_at_end(alloc: Global, format: Format, first: u32, end: u64) -> Option<Reported> {
     let file = indexed(alloc, &COUSINS)?;
     let inner = held(alloc, &COUSINS)?;
     let mut archives = EarlyEnd { inner, first, end };
-    told(alloc, &file, ("b:hi", true, format), &mut archives, None)
+    reported(alloc, &file, ("b:hi", true, format), &mut archives, None)
 }
 
 /// Whether the end of the archives from a number on is reported exactly if an answer reads up to it: by the number of
 /// the first of them.
-fn is_told(
+fn is_reported(
     alloc: Global,
     (format, text, _, bytes_read): Form,
     first: u32,
     end: u64,
 ) -> Option<bool> {
     let whole = text_of(alloc, text)?;
-    let told = told_at_end(alloc, format, first, end)?;
+    let reported = reported_at_end(alloc, format, first, end)?;
     Some(if end < bytes_read {
-        is_front(&told, AnswerFaultKind::Stale(first), &whole)
+        is_front(&reported, AnswerFaultKind::Stale(first), &whole)
     } else {
-        is_whole(&told, 2, &whole)
+        is_whole(&reported, 2, &whole)
     })
 }
 
@@ -83,7 +83,7 @@ fn an_archive_that_ends_early_is_stale(rt: HostRuntime) {
     for form in FORMS {
         for first in 0..2u32 {
             for end in 0..=79u64 {
-                let as_wanted = is_told(rt.alloc(), *form, first, end);
+                let as_wanted = is_reported(rt.alloc(), *form, first, end);
                 assert!(rt; as_wanted == Some(true), "{}, {first}: to {end}", form.1);
             }
         }

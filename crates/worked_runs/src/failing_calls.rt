@@ -2,7 +2,7 @@
 ghost use Rattle.std.specs.Prelude.{◌≡◌, None, IfSome};
 
 use crate::failing_folder::FailingFolder;
-use crate::fixture::{HELLO, RC, TWO_MESSAGES, bytes_of, index_of, tells};
+use crate::fixture::{HELLO, RC, TWO_MESSAGES, bytes_of, index_of, reports};
 use crate::program_runs::printed_over;
 use named_files::{Item, MemoryFolder};
 use std::alloc::Global;
@@ -140,7 +140,7 @@ impl Run {
     /// Whether it ends in this way if the call with this number fails.
     fn ends(&self, alloc: Global, number: u64, ending: &str) -> bool {
         match bytes_of(alloc, ending) {
-            Some(wanted) => tells(self.ending(alloc, number), &wanted),
+            Some(wanted) => reports(self.ending(alloc, number), &wanted),
             None => false,
         }
     }

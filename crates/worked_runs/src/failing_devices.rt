@@ -1,7 +1,7 @@
 //! Runs over devices of which one call fails, or that run full: over archives that are indexed, and over their stored
 //! index.
 
-use crate::fixture::{COUSINS, Given, HELLO, SOUND, TWO_MESSAGES, Told, tells};
+use crate::fixture::{COUSINS, Given, HELLO, Reported, SOUND, TWO_MESSAGES, reports};
 use std::alloc::Global;
 
 /// Archives, a row of which runs over them have the outcome if nothing fails, and the number of messages in the answer.
@@ -36,21 +36,27 @@ const BEYOND: u64 = 10;
 
 /// Whether the outcome of a run that makes this many calls of the archives is right: a failure if one of these calls
 /// fails, otherwise that of the row. Nothing is sent before the first read of a message in the answer.
-fn is_told(given: &Given, calls: u64, failing_call: u64, shown: u64, told: &Told) -> bool {
-    let Some(told) = told else {
+fn is_reported(
+    given: &Given,
+    calls: u64,
+    failing_call: u64,
+    shown: u64,
+    reported: &Reported,
+) -> bool {
+    let Some(reported) = reported else {
         return false;
     };
     if failing_call > calls {
-        return *told == given.told;
+        return *reported == given.reported;
     }
-    let sent = given.sent_before(b"refused 4: archive read failed", told);
+    let sent = given.sent_before(b"refused 4: archive read failed", reported);
     sent == Some(0) || (sent.is_some() && calls.saturating_sub(failing_call) < shown)
 }
 
 /// Whether all runs report each failing call of the archives with the first bytes of the answer, and succeed if the
 /// failing call is one that they don't make: the run that indexes the archives itself, the search of their stored
 /// index, and that with `--verify`.
-fn tell_failing_calls(alloc: Global, given: &Given, shown: u64) -> Option<bool> {
+fn report_failing_calls(alloc: Global, given: &Given, shown: u64) -> Option<bool> {
     let lengths = given.archives.len() as u64;
     let searched = lengths.saturating_add(shown);
     let verified = lengths.saturating_mul(2).saturating_add(searched);
@@ -58,21 +64,21 @@ fn tell_failing_calls(alloc: Global, given: &Given, shown: u64) -> Option<bool> 
     let mut as_wanted = true;
     for failing_call in 1..=BEYOND {
         devices.failing_call = failing_call;
-        let told = given.all(alloc, devices)?;
-        for (told, calls) in told.iter().zip(&[searched, searched, verified]) {
-            as_wanted = is_told(given, *calls, failing_call, shown, told) && as_wanted;
+        let reported = given.all(alloc, devices)?;
+        for (reported, calls) in reported.iter().zip(&[searched, searched, verified]) {
+            as_wanted = is_reported(given, *calls, failing_call, shown, reported) && as_wanted;
         }
     }
     Some(as_wanted)
 }
 
 /// Whether this is the outcome if the output has this much room.
-fn fills(given: &Given, room: usize, told: &Told) -> bool {
-    match told {
-        Some(told) if room < given.answer().len() => {
-            given.sent_before(b"refused 4: output failed", told) == Some(room)
+fn fills(given: &Given, room: usize, reported: &Reported) -> bool {
+    match reported {
+        Some(reported) if room < given.answer().len() => {
+            given.sent_before(b"refused 4: output failed", reported) == Some(room)
         }
-        Some(told) => *told == given.told,
+        Some(reported) => *reported == given.reported,
         None => false,
     }
 }
@@ -83,8 +89,8 @@ fn fill_each_room(alloc: Global, given: &Given) -> Option<bool> {
     let mut as_wanted = true;
     for room in 0..=given.answer().len() {
         devices.room = Some(room as u64);
-        for told in &given.all(alloc, devices)? {
-            as_wanted = fills(given, room, told) && as_wanted;
+        for reported in &given.all(alloc, devices)? {
+            as_wanted = fills(given, room, reported) && as_wanted;
         }
     }
     Some(as_wanted)
@@ -95,8 +101,8 @@ fn fill_each_room(alloc: Global, given: &Given) -> Option<bool> {
 fn devices_that_end_leave_a_front(rt: HostRuntime) {
     for (archives, row, shown) in ANSWERED {
         let given = Given::over(rt.alloc(), archives, row).expect(&rt, "what is given");
-        let tell = tell_failing_calls(rt.alloc(), &given, shown);
-        assert!(rt; tell.unwrap_or(false), "failing calls: {row}");
+        let report = report_failing_calls(rt.alloc(), &given, shown);
+        assert!(rt; report.unwrap_or(false), "failing calls: {row}");
         let fill = fill_each_room(rt.alloc(), &given);
         assert!(rt; fill.unwrap_or(false), "rooms: {row}");
     }
@@ -129,35 +135,35 @@ const READ: [(&str, &str, [(usize, [u64; 2]); 2]); 4] = [
 ];
 
 /// Returns the outcome if these reads fail, and this many reads of each archive are made.
-fn told_of_reads(given: &Given, failing: [Option<u64>; 2], [first, second]: [u64; 2]) -> &[u8] {
+fn reported_of_reads(given: &Given, failing: [Option<u64>; 2], [first, second]: [u64; 2]) -> &[u8] {
     match failing {
         [Some(read), _] if read <= first => b"refused 4: archive 1: read failed",
         [_, Some(read)] if read <= second => b"refused 4: archive 2: read failed",
-        _ => &given.told,
+        _ => &given.reported,
     }
 }
 
 /// Whether each failed read, of either archive or of both, is reported with nothing sent.
-fn tells_failing_reads(alloc: Global, given: &Given, piece: usize, reads: [u64; 2]) -> bool {
+fn reports_failing_reads(alloc: Global, given: &Given, piece: usize, reads: [u64; 2]) -> bool {
     let mut devices = SOUND;
     devices.piece = piece;
     let mut as_wanted = true;
     for n in 1..=reads[0].max(reads[1]).saturating_add(1) {
         for failing in [[Some(n), None], [None, Some(n)], [Some(n), Some(n)]] {
             devices.failing_reads = failing;
-            let wanted = told_of_reads(given, failing, reads);
-            as_wanted = tells(given.once(alloc, devices), wanted) && as_wanted;
+            let wanted = reported_of_reads(given, failing, reads);
+            as_wanted = reports(given.once(alloc, devices), wanted) && as_wanted;
         }
     }
     as_wanted
 }
 
 #[test]
-fn a_failed_read_is_told(rt: HostRuntime) {
+fn a_failed_read_is_reported(rt: HostRuntime) {
     for (archives, row, by_pieces) in READ {
         let given = Given::over(rt.alloc(), archives, row).expect(&rt, "what is given");
         for (piece, reads) in by_pieces {
-            let as_wanted = tells_failing_reads(rt.alloc(), &given, piece, reads);
+            let as_wanted = reports_failing_reads(rt.alloc(), &given, piece, reads);
             assert!(rt; as_wanted, "{row} by {piece}");
         }
     }

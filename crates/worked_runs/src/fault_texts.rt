@@ -125,9 +125,9 @@ const OF_ITEMS: [(usize, Kind); 14] = [
 /// None if memory runs out.
 fn is_shown(alloc: Global, fault: Fault, line: &str) -> Option<bool> {
     let text = fault_text(alloc, &fault).ok()?;
-    let told = format!(in alloc; "{fault:?} => {}: {text}", fault.status()).ok()?;
+    let reported = format!(in alloc; "{fault:?} => {}: {text}", fault.status()).ok()?;
     let own: InlineText<64> = InlineText::of(fault);
-    Some(told.as_str() == line && own.as_str() == text.as_str())
+    Some(reported.as_str() == line && own.as_str() == text.as_str())
 }
 
 /// Asserts that a fault, its status and its text are those of the next line. Memory may run out only in a sweep.

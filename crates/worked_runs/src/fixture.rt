@@ -93,12 +93,12 @@ pub const SOUND: Devices = Devices {
 };
 
 /// The outcome of a run as a text. It is None if memory runs out before or after the run.
-pub type Told = Option<Vec<u8>>;
+pub type Reported = Option<Vec<u8>>;
 
 /// Whether this is the outcome of a run.
-pub fn tells(told: Told, wanted: &[u8]) -> bool {
-    match told {
-        Some(told) => told.as_slice() == wanted,
+pub fn reports(reported: Reported, wanted: &[u8]) -> bool {
+    match reported {
+        Some(reported) => reported.as_slice() == wanted,
         None => false,
     }
 }
@@ -112,7 +112,7 @@ pub struct Given {
     pub archives: Vec<Vec<u8>>,
     /// The index file of the archives, if they have one.
     pub index: Option<Vec<u8>>,
-    pub told: Vec<u8>,
+    pub reported: Vec<u8>,
     /// The number of bytes of the outcome before the answer.
     front: usize,
 }
@@ -126,7 +126,7 @@ impl Given {
             rc: Vec::new(alloc),
             archives: Vec::new(alloc),
             index: None,
-            told: Vec::new(alloc),
+            reported: Vec::new(alloc),
             front: 0,
         };
         given.read(alloc, first, row, rc, texts)?;
@@ -134,17 +134,17 @@ impl Given {
     }
 
     fn read(&mut self, alloc: Global, first: &str, row: &str, rc: &str, texts: &str) -> Option<()> {
-        let (own, told) = row.split_once(" => ")?;
+        let (own, reported) = row.split_once(" => ")?;
         for part in &[first, own, "--verify"] {
             push_words(alloc, &mut self.verifying, part)?;
         }
         self.rc = bytes_of(alloc, rc)?;
         self.archives = archives_of(alloc, texts)?;
         self.index = indexed(alloc, &self.rc, &self.archives);
-        self.told = bytes_of(alloc, told)?;
-        self.front = match told.split_once(": ") {
+        self.reported = bytes_of(alloc, reported)?;
+        self.front = match reported.split_once(": ") {
             Some((front, _)) => front.len().saturating_add(2),
-            None => told.len(),
+            None => reported.len(),
         };
         Some(())
     }
@@ -165,15 +165,15 @@ impl Given {
 
     /// Returns the answer, which comes after `found N: ` in the outcome.
     pub fn answer(&self) -> &[u8] {
-        self.told.get(self.front..).unwrap_or(&[])
+        self.reported.get(self.front..).unwrap_or(&[])
     }
 
     /// Returns the outcome of a run that indexes the archives itself.
-    pub fn once(&self, alloc: Global, devices: Devices) -> Told {
+    pub fn once(&self, alloc: Global, devices: Devices) -> Reported {
         let mut sources = sources(alloc, &self.archives, devices)?;
         let mut out = MemoryOut::new(alloc, devices.room);
         let reply = self.run(alloc, devices.failing_call, &mut sources, &mut out);
-        told(alloc, reply, &out)
+        reported(alloc, reply, &out)
     }
 
     /// Runs over archives of which this call fails, or none for 0, and over their sources. It is None if memory runs
@@ -207,26 +207,32 @@ impl Given {
     }
 
     /// Returns the outcome of a search of an index over the archives.
-    pub fn stored(&self, alloc: Global, index: &[u8], devices: Devices) -> Told {
+    pub fn stored(&self, alloc: Global, index: &[u8], devices: Devices) -> Reported {
         self.searched(alloc, self.words(), index, devices)
     }
 
     /// Returns the same with `--verify`.
-    pub fn verified(&self, alloc: Global, index: &[u8], devices: Devices) -> Told {
+    pub fn verified(&self, alloc: Global, index: &[u8], devices: Devices) -> Reported {
         self.searched(alloc, &self.verifying, index, devices)
     }
 
-    fn searched(&self, alloc: Global, words: &[String], index: &[u8], devices: Devices) -> Told {
+    fn searched(
+        &self,
+        alloc: Global,
+        words: &[String],
+        index: &[u8],
+        devices: Devices,
+    ) -> Reported {
         let now = Moment::new(NOW)?;
         let mut held = FailAt::new(held(alloc, &self.archives)?, devices.failing_call);
         let mut out = MemoryOut::new(alloc, devices.room);
         let reply = search_run(alloc, words, &self.rc, index, &mut held, now, &mut out);
-        told(alloc, Some(reply), &out)
+        reported(alloc, Some(reply), &out)
     }
 
     /// Returns the outcomes of a run that indexes the archives itself, of a search of their stored index, and of a
     /// search with `--verify`. It is None if the archives have no index.
-    pub fn all(&self, alloc: Global, devices: Devices) -> Option<[Told; 3]> {
+    pub fn all(&self, alloc: Global, devices: Devices) -> Option<[Reported; 3]> {
         let index = self.index.as_ref()?;
         Some([
             self.once(alloc, devices),
@@ -236,15 +242,15 @@ impl Given {
     }
 
     /// Returns how many bytes of the answer were sent before this refusal. It is None if the outcome is another one.
-    pub fn sent_before(&self, refusal: &[u8], told: &[u8]) -> Option<usize> {
-        let sent = told.strip_prefix(refusal)?;
+    pub fn sent_before(&self, refusal: &[u8], reported: &[u8]) -> Option<usize> {
+        let sent = reported.strip_prefix(refusal)?;
         self.answer().starts_with(sent).then_some(sent.len())
     }
 }
 
 /// Returns the outcome: `found 2: ` and the bytes that were sent, `none` and these bytes, or `refused 4: `, the fault's
 /// text and these bytes. If the parts of a reply don't agree, it is `unlike a reply`.
-fn told(alloc: Global, reply: Option<Reply>, out: &MemoryOut) -> Told {
+fn reported(alloc: Global, reply: Option<Reply>, out: &MemoryOut) -> Reported {
     let reply = reply?;
     let text = match reply.fault {
         Some(fault) if reply.messages == 0 => {

@@ -1,7 +1,7 @@
 //! Runs of the program over the files of a folder: what it reads, what it makes, and what it prints.
 ghost use Rattle.std.specs.Prelude.{◌≡◌, None};
 
-use crate::fixture::{NOW, bytes_of, push_words, tells};
+use crate::fixture::{NOW, bytes_of, push_words, reports};
 use mail_dates::Moment;
 use mairix_files::{KitFolder, SupposedNames};
 use mairix_run::{MemoryStream, ProgramTexts, run_program};
@@ -97,7 +97,7 @@ fn is_done(rt: &HostRuntime, folder: &str, step: &str) -> Option<bool> {
         "has" => fs::read(rt, object).ok(),
         _ => printed(rt, alloc, object),
     };
-    Some(tells(found, &bytes))
+    Some(reports(found, &bytes))
 }
 
 #[test]

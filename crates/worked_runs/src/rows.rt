@@ -7,7 +7,7 @@
 //! [`bytes_of`]: crate::fixture::bytes_of
 
 use crate::date_rows::DATE_ROWS;
-use crate::fixture::{Devices, Given, SOUND, tells};
+use crate::fixture::{Devices, Given, SOUND, reports};
 use crate::form_rows::FORM_ROWS;
 use crate::index_rows::INDEX_ROWS;
 use crate::pattern_rows::PATTERN_ROWS;
@@ -43,35 +43,35 @@ impl<'a> Setting<'a> {
     }
 
     /// Whether runs have the outcome of a row. It is None if memory runs out.
-    fn is_told(&self, alloc: Global, row: &str) -> Option<bool> {
+    fn is_reported(&self, alloc: Global, row: &str) -> Option<bool> {
         let given = Given::of(alloc, self.words, row, self.rcfile, self.archives)?;
         match self.index {
-            "" => Some(is_told_by_all(alloc, &given)),
-            index => is_told_of(alloc, &given, index),
+            "" => Some(is_reported_by_all(alloc, &given)),
+            index => is_reported_of(alloc, &given, index),
         }
     }
 }
 
 /// Whether a search of an index with this name and length has the outcome of a row.
-fn is_told_of(alloc: Global, given: &Given, index: &str) -> Option<bool> {
+fn is_reported_of(alloc: Global, given: &Given, index: &str) -> Option<bool> {
     let (name, length) = index.split_once(' ')?;
     let index = front_of_index(alloc, name, length.parse().ok()?)?;
-    Some(tells(given.stored(alloc, &index, SOUND), &given.told))
+    Some(reports(given.stored(alloc, &index, SOUND), &given.reported))
 }
 
 /// Whether the outcome of a row is that of a run that indexes the archives itself, in pieces of each size, and of a
 /// search of their stored index, also with `--verify`. Archives that are refused have no index.
-fn is_told_by_all(alloc: Global, given: &Given) -> bool {
+fn is_reported_by_all(alloc: Global, given: &Given) -> bool {
     let mut as_wanted = match &given.index {
         Some(index) => {
-            tells(given.stored(alloc, index, SOUND), &given.told)
-                && tells(given.verified(alloc, index, SOUND), &given.told)
+            reports(given.stored(alloc, index, SOUND), &given.reported)
+                && reports(given.verified(alloc, index, SOUND), &given.reported)
         }
-        None => given.told.starts_with(b"refused 4: archive "),
+        None => given.reported.starts_with(b"refused 4: archive "),
     };
     for piece in PIECES {
         let devices = Devices { piece, ..SOUND };
-        as_wanted = tells(given.once(alloc, devices), &given.told) && as_wanted;
+        as_wanted = reports(given.once(alloc, devices), &given.reported) && as_wanted;
     }
     as_wanted
 }
@@ -84,7 +84,7 @@ fn wrong_row(alloc: Global, table: &'static str, count: u32) -> Option<&'static 
         if setting.is_set_by(line) {
             continue;
         }
-        if !setting.is_told(alloc, line).unwrap_or(false) {
+        if !setting.is_reported(alloc, line).unwrap_or(false) {
             return Some(line);
         }
         rows = rows.saturating_add(1);
@@ -97,37 +97,37 @@ fn wrong_row(alloc: Global, table: &'static str, count: u32) -> Option<&'static 
 }
 
 #[test]
-fn text_rows_are_told(rt: HostRuntime) {
+fn text_rows_are_reported(rt: HostRuntime) {
     let wrong = wrong_row(rt.alloc(), TEXT_ROWS, 32).unwrap_or("");
     assert!(rt; wrong.is_empty(), "{wrong}");
 }
 
 #[test]
-fn pattern_rows_are_told(rt: HostRuntime) {
+fn pattern_rows_are_reported(rt: HostRuntime) {
     let wrong = wrong_row(rt.alloc(), PATTERN_ROWS, 75).unwrap_or("");
     assert!(rt; wrong.is_empty(), "{wrong}");
 }
 
 #[test]
-fn date_rows_are_told(rt: HostRuntime) {
+fn date_rows_are_reported(rt: HostRuntime) {
     let wrong = wrong_row(rt.alloc(), DATE_ROWS, 26).unwrap_or("");
     assert!(rt; wrong.is_empty(), "{wrong}");
 }
 
 #[test]
-fn form_rows_are_told(rt: HostRuntime) {
+fn form_rows_are_reported(rt: HostRuntime) {
     let wrong = wrong_row(rt.alloc(), FORM_ROWS, 38).unwrap_or("");
     assert!(rt; wrong.is_empty(), "{wrong}");
 }
 
 #[test]
-fn refusal_rows_are_told(rt: HostRuntime) {
+fn refusal_rows_are_reported(rt: HostRuntime) {
     let wrong = wrong_row(rt.alloc(), REFUSAL_ROWS, 44).unwrap_or("");
     assert!(rt; wrong.is_empty(), "{wrong}");
 }
 
 #[test]
-fn index_rows_are_told(rt: HostRuntime) {
+fn index_rows_are_reported(rt: HostRuntime) {
     let wrong = wrong_row(rt.alloc(), INDEX_ROWS, 39).unwrap_or("");
     assert!(rt; wrong.is_empty(), "{wrong}");
 }
@@ -152,7 +152,7 @@ const SEPARATOR_SIZE: usize = 37;
 
 /// Whether the outcome for the beginning of an archive is right: the pattern is found in this many bytes and more. It
 /// is None if memory runs out.
-fn front_is_told(
+fn front_is_reported(
     alloc: Global,
     (text, pattern, enough): (&str, &str, usize),
     size: usize,
@@ -164,14 +164,14 @@ fn front_is_told(
         _ => [pattern, " => refused 4: archive 1: not an mbox"].concat(alloc),
     };
     let given = Given::over(alloc, text, row.ok()?.as_str())?;
-    Some(is_told_by_all(alloc, &given))
+    Some(is_reported_by_all(alloc, &given))
 }
 
 #[test]
-fn fronts_of_archives_are_told(rt: HostRuntime) {
+fn fronts_of_archives_are_reported(rt: HostRuntime) {
     for archive in FRONTS {
         for size in 0..=archive.0.len() {
-            let as_wanted = front_is_told(rt.alloc(), archive, size).unwrap_or(false);
+            let as_wanted = front_is_reported(rt.alloc(), archive, size).unwrap_or(false);
             assert!(rt; as_wanted, "{size} bytes of {}", archive.0);
         }
     }

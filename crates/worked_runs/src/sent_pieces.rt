@@ -1,7 +1,7 @@
 //! The number of calls in which an answer is sent.
 ghost use Rattle.std.specs.Prelude.{None};
 
-use crate::answered::{held, indexed, told_to};
+use crate::answered::{held, indexed, reported_to};
 use mail_answer::Format;
 use mbox_cutter::{DeviceFault, Out};
 use std::alloc::Global;
@@ -41,9 +41,9 @@ fn calls_over(alloc: Global, archives: &[(&str, &str)], format: Format) -> Optio
     let mut held = held(alloc, archives)?;
     let mut calls = Calls { count: 0, most: 0 };
     let search = ("s:hello", false, format);
-    let told = told_to(alloc, &file, search, &mut held, &mut calls);
+    let reported = reported_to(alloc, &file, search, &mut held, &mut calls);
     let all = archives.len() as u64;
-    matches!(told, Some(Ok(count)) if count == all).then_some((calls.count, calls.most))
+    matches!(reported, Some(Ok(count)) if count == all).then_some((calls.count, calls.most))
 }
 
 /// Returns the same for those archives.

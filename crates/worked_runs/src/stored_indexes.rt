@@ -1,6 +1,6 @@
 //! The stored indexes that the rows name, and files that aren't valid indexes.
 
-use crate::fixture::{Given, HELLO, RC, SOUND, Told, index_of};
+use crate::fixture::{Given, HELLO, RC, Reported, SOUND, index_of};
 use sha2::{Digest, Sha256};
 use std::alloc::Global;
 
@@ -89,9 +89,10 @@ const CHANGES: [(Change, &str); 5] = [
 const BITS: [u8; 8] = [1, 2, 4, 8, 16, 32, 64, 128];
 
 /// Whether a search refuses its index for this reason.
-fn refuses(told: Told, why: &str) -> bool {
-    match &told {
-        Some(told) => told.strip_prefix(b"refused 3: index: ".as_slice()) == Some(why.as_bytes()),
+fn refuses(reported: Reported, why: &str) -> bool {
+    match &reported {
+        Some(reported) => reported.strip_prefix(b"refused 3: index: ".as_slice())
+            == Some(why.as_bytes()),
         None => false,
     }
 }

@@ -2,23 +2,23 @@
 //! allocation, then the second, and so on. Each call returns its whole result, or reports lack of memory and leaves
 //! what it promises. If there is no memory for a fixture, the test succeeds.
 
-use crate::fixture::{COUSINS, Given, HELLO, SOUND, TWO_MESSAGES, Told};
+use crate::fixture::{COUSINS, Given, HELLO, Reported, SOUND, TWO_MESSAGES};
 use std::alloc::Global;
 use std::process::Abort;
 
 /// Whether a run reports that it found messages, with the whole answer, or lack of memory, with the first bytes of the
 /// answer. If an output in memory can't grow, that device has failed. There is no outcome if there was no memory for
 /// the fixture.
-fn is_answered(given: &Given, told: Told) -> bool {
-    let Some(told) = told else {
+fn is_answered(given: &Given, reported: Reported) -> bool {
+    let Some(reported) = reported else {
         return true;
     };
-    told == given.told
+    reported == given.reported
         || given
-            .sent_before(b"refused 5: out of memory", &told)
+            .sent_before(b"refused 5: out of memory", &reported)
             .is_some()
         || given
-            .sent_before(b"refused 4: output failed", &told)
+            .sent_before(b"refused 4: output failed", &reported)
             .is_some()
 }
 

@@ -74,8 +74,8 @@ fn have_threads(alloc: Global) -> Option<[bool; 7]> {
 
 #[test]
 fn messages_have_threads(rt: HostRuntime) {
-    let told = have_threads(rt.alloc());
-    assert!(rt; told == Some([true; 7]), "{told:?}");
+    let reported = have_threads(rt.alloc());
+    assert!(rt; reported == Some([true; 7]), "{reported:?}");
 }
 
 /// Whether the threads of two messages are whole, or lack of memory is reported.

@@ -125,8 +125,11 @@ fn failed(kind: AnswerFaultKind) -> Result<(), AnswerFault> {
 }
 
 /// Whether this is the result.
-fn is_told(told: &Option<Result<(), AnswerFault>>, wanted: Result<(), AnswerFault>) -> bool {
-    match (told, wanted) {
+fn is_reported(
+    reported: &Option<Result<(), AnswerFault>>,
+    wanted: Result<(), AnswerFault>,
+) -> bool {
+    match (reported, wanted) {
         (Some(Ok(())), Ok(())) => true,
         (Some(Err(a)), Err(b)) => is_same(a.kind, b.kind) && a.sent == b.sent,
         _ => false,
@@ -136,7 +139,7 @@ fn is_told(told: &Option<Result<(), AnswerFault>>, wanted: Result<(), AnswerFaul
 /// Returns the result for this many archives with these changes, by the index of those that were indexed. This call
 /// fails, or none if it is 0, and each archive is read as if it ended at this offset. If the index can't be read, the
 /// result is one that no row has.
-fn told(
+fn reported(
     alloc: Global,
     count: usize,
     changes: &[(usize, Change)],
@@ -154,7 +157,7 @@ fn told(
 }
 
 /// Returns the result if a call fails; otherwise that of this changed archive, or success if none has changed.
-fn told_of(is_failing: bool, stale: Option<u32>) -> Result<(), AnswerFault> {
+fn reported_of(is_failing: bool, stale: Option<u32>) -> Result<(), AnswerFault> {
     match stale {
         _ if is_failing => failed(Device),
         Some(n) => failed(Stale(n)),
@@ -186,15 +189,15 @@ const CHANGED: &[(usize, &[(usize, Change)], Option<u32>, u64)] = &[
 /// A failure is reported if one of these calls fails; otherwise the change is, even if a call after the last one would
 /// fail. If nothing has changed, each call fails in turn; otherwise only the last one does.
 #[test]
-fn changed_archives_are_told(rt: HostRuntime) {
+fn changed_archives_are_reported(rt: HostRuntime) {
     for (count, changes, stale, calls) in CHANGED {
         let first = if changes.is_empty() { 0 } else { *calls };
         for fail_at in first..=calls.saturating_add(1) {
             let is_failing = 1 <= fail_at && fail_at <= *calls;
-            let told = told(rt.alloc(), *count, changes, fail_at, NO_END);
+            let reported = reported(rt.alloc(), *count, changes, fail_at, NO_END);
             assert!(rt;
-                is_told(&told, told_of(is_failing, *stale)),
-                "{count} archives, {stale:?}, call {fail_at}: {told:?}"
+                is_reported(&reported, reported_of(is_failing, *stale)),
+                "{count} archives, {stale:?}, call {fail_at}: {reported:?}"
             );
         }
     }
@@ -211,12 +214,12 @@ const ENDS: &[(u64, Option<u32>)] = &[
 ];
 
 #[test]
-fn an_early_end_is_told(rt: HostRuntime) {
+fn an_early_end_is_reported(rt: HostRuntime) {
     for (end, stale) in ENDS {
-        let told = told(rt.alloc(), 3, &[], 0, *end);
+        let reported = reported(rt.alloc(), 3, &[], 0, *end);
         assert!(rt;
-            is_told(&told, told_of(false, *stale)),
-            "to {end}: {told:?}"
+            is_reported(&reported, reported_of(false, *stale)),
+            "to {end}: {reported:?}"
         );
     }
 }
@@ -233,9 +236,11 @@ const SWEPT: &[(&[(usize, Change)], Option<u32>)] = &[
 #[test]
 fn sweep_verify(rt: HostRuntime) {
     for (changes, stale) in SWEPT {
-        let told = told(rt.alloc(), 3, changes, 0, NO_END);
-        let is_wanting = is_told(&told, failed(OutOfMemory)) && *stale != Some(1);
-        let as_wanted = told.is_none() || is_told(&told, told_of(false, *stale)) || is_wanting;
-        assert!(rt; as_wanted, "{stale:?}: {told:?}");
+        let reported = reported(rt.alloc(), 3, changes, 0, NO_END);
+        let is_wanting = is_reported(&reported, failed(OutOfMemory)) && *stale != Some(1);
+        let as_wanted = reported.is_none()
+            || is_reported(&reported, reported_of(false, *stale))
+            || is_wanting;
+        assert!(rt; as_wanted, "{stale:?}: {reported:?}");
     }
 }

@@ -2,7 +2,7 @@
 use Rattle.index_job.proofs.Words.{◌≡◌, ℕ, ◌+◌, ◌*◌, ◌≤◌, ℤ, pos, neg_ℤ, ◌+ℤ◌, ◌-ℤ◌, Bool, cond, nat_le, ◌&&◌, ◌==◌}
 use Rattle.index_job.proofs.Words.{List, [], ◌∷◌, Option, Some, None, IfSome, FitsSigned, w64, refl, sym, subst, arith}
 use Rattle.index_job.proofs.Words.{AllByRecursion, find, slice_split, option_map_or, bytes_eq, str_to_ascii_lowercase}
-use Rattle.index_job.proofs.Words.{unwrap_or, and_parts, leb-true, date_told}
+use Rattle.index_job.proofs.Words.{unwrap_or, and_parts, leb-true, date_in_field}
 use Rattle.std.specs.Option.{option_map}
 use Rattle.jiff_core.specs.Calendar.{IsEpochDay, IsWithin, days_from_civil}
 use Rattle.jiff_core.proofs.CalendarLemmas.{days_from_civil-day_count, day_count_bounds}
@@ -149,6 +149,6 @@ date-fits : (text : List ℕ) → IfSome (date_of text) (FitsSigned w64)
 unfolding date_of
 date-fits text = tokens-fit (without_day_name (date_tokens (without_comments text)))
 
-pub told-fits : (text : Option (List ℕ)) → IfSome (date_told text) (FitsSigned w64)
+pub told-fits : (text : Option (List ℕ)) → IfSome (date_in_field text) (FitsSigned w64)
 told-fits None = tt
 told-fits (Some value) = date-fits value

@@ -3,7 +3,7 @@ use Rattle.mail_index.specs.declared.record.Record.{Record}
 use Rattle.mail_index.specs.Builders.{Draft, draft_after_message}
 use Rattle.mime_text.specs.declared.header.facts.Facts.{Facts}
 use Rattle.index_job.specs.declared.message_end.Span.{Span}
-use Rattle.index_job.specs.ArchiveTables.{date_told}
+use Rattle.index_job.specs.ArchiveTables.{date_in_field}
 use Rattle.index_job.specs.Indexing.{draft_with_terms}
 use Rattle.index_job.specs.MessageTerms.{id_terms}
 
@@ -14,7 +14,7 @@ ended_record span facts = record {
   offset = span.offset;
   length = span.length;
   size = span.size;
-  date = date_told facts.date_text;
+  date = date_in_field facts.date_text;
   flags = facts.flags;
 }
 

@@ -6,8 +6,8 @@ use Rattle.mail_answer.proofs.Words.{Some, IfSome, bytes_eq, refl, ap, ap₂, sy
 use Rattle.mail_answer.proofs.Words.{Ok, Err, OnOk, arith, eqb-true, length-map, map-append, bytes_eq-Decides}
 use Rattle.mail_answer.proofs.Words.{AllByRecursion, option_map_or, option_or, sha256, WasKnown, Archive, IsArchive}
 use Rattle.mail_answer.proofs.Words.{archive_length, archive_at, front_digest, ReadsDigest, ReadsFront, first_changed}
-use Rattle.mail_answer.proofs.Words.{stale_archive, TellsStale, has_digest, first_altered, unverified_archive}
-use Rattle.mail_answer.proofs.Words.{AreVerified, TellsVerified, ReadEach, AreReadOnce, FindsDigests, Ghosts}
+use Rattle.mail_answer.proofs.Words.{stale_archive, ReportsStale, has_digest, first_altered, unverified_archive}
+use Rattle.mail_answer.proofs.Words.{AreVerified, ReportsVerified, ReadEach, AreReadOnce, FindsDigests, Ghosts}
 use Rattle.mail_answer.proofs.Words.{AnswerFaultKind, Stale, Device, OutOfMemory, OutFailed}
 use Rattle.std.proofs.lemmas.Bool.{eq-eqb}
 use Rattle.std.specs.Option.{option_eq}
@@ -153,8 +153,8 @@ other_read g n a (Some d) before new other told =
 -- the result is decided by digests if no archive is stale
 pub told_by_digests : {T : Type 0} (named : List Archive) (held : Option (List (List ℕ))) (r : Result T AnswerFaultKind)
     → IfSome held (λ archives. stale_archive named archives ≡ None)
-    → IfSome held (λ archives. TellsStale (first_altered 0 named archives) r)
-    → IfSome held (λ archives. TellsVerified named archives r)
+    → IfSome held (λ archives. ReportsStale (first_altered 0 named archives) r)
+    → IfSome held (λ archives. ReportsVerified named archives r)
 told_by_digests {T} named None r fresh h = tt
 told_by_digests {T} named (Some archives) (Ok x) fresh h =
     ap (λ first. option_or first (first_altered 0 named archives)) fresh ∙ h

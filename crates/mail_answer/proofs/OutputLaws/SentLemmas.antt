@@ -1,7 +1,7 @@
 -- What was sent of an answer is what the table answers, or a front of it: by the result of each call.
 use Rattle.mail_answer.proofs.Words.{◌≡◌, ℕ, List, [], Option, Result, Ok, Err, length, refl, subst, arith, flat_map}
 use Rattle.mail_answer.proofs.Words.{appends-nil, Table, SendsKnown, SendsSpans, Search, AreChosen, known_answer}
-use Rattle.mail_answer.proofs.Words.{closed_text, mail_told, TableAnswer, IsTableAnswer, SendsTableAnswer}
+use Rattle.mail_answer.proofs.Words.{closed_text, mail_of_table, TableAnswer, IsTableAnswer, SendsTableAnswer}
 use Rattle.mail_answer.proofs.Words.{KeepsArchives, IsReadyToWrite}
 use Rattle.mail_answer.proofs.Words.{IsSameAnswer, Ghosts}
 use Rattle.std.specs.Result.{IsErrAnd}
@@ -33,7 +33,7 @@ nothing_sent taken known messages (Err fault) unsent =
 
 -- what was written is what the table answers
 pub answered_sent : (t : Table) (s : Search) (held : Option (List (List ℕ))) (taken taken' : Option (List ℕ))
-    (r : Result ℕ AnswerFault) (xs : List ℕ) → AreChosen (mail_told t) s xs
+    (r : Result ℕ AnswerFault) (xs : List ℕ) → AreChosen (mail_of_table t) s xs
     → SendsKnown taken taken' (known_answer s.format t held xs) (length xs) r → (a : TableAnswer)
     → IsTableAnswer t s held a → SendsTableAnswer taken taken' a r
 answered_sent t s held taken taken' r xs are sent a is = grind (arith, one-choice)
@@ -57,8 +57,8 @@ no_spans_sent taken t numbers (Err fault) unsent =
 
 -- the spans that were written are those of the chosen numbers
 pub spans_sent : (t : Table) (s : Search) (taken taken' : Option (List ℕ)) (r : Result ℕ AnswerFault) (xs : List ℕ)
-    → AreChosen (mail_told t) s xs → SendsSpans taken taken' t xs r
-    → (numbers : List ℕ) → AreChosen (mail_told t) s numbers → SendsSpans taken taken' t numbers r
+    → AreChosen (mail_of_table t) s xs → SendsSpans taken taken' t xs r
+    → (numbers : List ℕ) → AreChosen (mail_of_table t) s numbers → SendsSpans taken taken' t numbers r
 spans_sent t s taken taken' r xs are sent numbers chosen =
     subst (λ (ns : List ℕ). SendsSpans taken taken' t ns r) (one-choice t s.threads s.query xs numbers are chosen) sent
 

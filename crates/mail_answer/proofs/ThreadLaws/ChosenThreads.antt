@@ -5,7 +5,7 @@ use Rattle.mail_answer.proofs.Words.{Result, IfOk, AllByRecursion, filter, list_
 use Rattle.mail_answer.proofs.Words.{get_or-map-range_with_len, eqb-true, or_cases, or_left, or_right, eqb_tells}
 use Rattle.mail_answer.proofs.Words.{LinkId, Table, Key, RisesFrom, keys_of, is_number_among, truth_at, each_number}
 use Rattle.mail_answer.proofs.Words.{IsPathOfLinks}
-use Rattle.mail_answer.proofs.Words.{IsInThreadOfSome, AreThreads, TellsThreads}
+use Rattle.mail_answer.proofs.Words.{IsInThreadOfSome, AreThreads, AreThreadRoots}
 use Rattle.mail_answer.proofs.ThreadLaws.ThreadLemmas.{itself}
 
 -- ---- membership
@@ -96,7 +96,7 @@ to_passed test a (suc count) n low high passes =
 
 -- ---- the messages whose root is that of one of these are their threads
 
-pub chosen_threads : (t : Table) (numbers roots members : List ℕ) (test : ℕ → Bool) → TellsThreads t roots
+pub chosen_threads : (t : Table) (numbers roots members : List ℕ) (test : ℕ → Bool) → AreThreadRoots t roots
     → AllByRecursion (λ n. n < length t.messages) numbers
     → ((r : ℕ) → r < length t.messages → test r ≡ list_any (λ n. nat_eq r (get_or roots n 0)) numbers)
     → members ≡ filter (λ n. test (get_or roots n 0)) (range_with_len 0 (length roots)) → AreThreads t numbers members
@@ -164,7 +164,7 @@ pub no_keys : (ks : List Key) → (0 < length ks → ⊥) → ks ≡ []
 no_keys [] none = refl
 no_keys (k ∷ ks) none = absurd (none (omega arith))
 
-pub chosen_by_marks : (t : Table) (numbers roots members : List ℕ) (marks : List Bool) → TellsThreads t roots
+pub chosen_by_marks : (t : Table) (numbers roots members : List ℕ) (marks : List Bool) → AreThreadRoots t roots
     → AllByRecursion (λ n. n < length t.messages) numbers
     → marks ≡ each_number (length t.messages) (λ r. list_any (λ n. nat_eq r (get_or roots n 0)) numbers)
     → members ≡ filter (λ n. truth_at marks (get_or roots n 0)) (range_with_len 0 (length roots))

@@ -6,7 +6,7 @@ use Rattle.mail_answer.proofs.Words.{Table, Key, IsKey, IsWellFormed, keys_of, t
 use Rattle.mail_answer.proofs.Words.{are_linked}
 use Rattle.mail_answer.proofs.Words.{IsPathOfLinks, IsInThread, LeadsBack, StaysInThreads, LabelsTrees, Shortens}
 use Rattle.mail_answer.proofs.Words.{Unites}
-use Rattle.mail_answer.proofs.Words.{ShareKey, TellsThreads}
+use Rattle.mail_answer.proofs.Words.{ShareKey, AreThreadRoots}
 use Rattle.mail_answer.proofs.ThreadLaws.ThreadLemmas.{itself, by_link, through, back_again}
 
 -- ---- single messages, and the keys of an index
@@ -48,7 +48,7 @@ along t label links m n (l ∷ path) given = links m l given.0 ∙ along t label
 
 pub threads_told : (t : Table) (p q r : List ℕ) → p ≡ range_with_len 0 (length t.messages)
     → Unites (ShareKey (map text_and_numbers (keys_of LinkId t.keys))) p q → Shortens q r
-    → ((n : ℕ) → n < length q → get_or r (get_or r n 0) 0 ≡ get_or r n 0) → TellsThreads t r
+    → ((n : ℕ) → n < length q → get_or r (get_or r n 0) 0 ≡ get_or r n 0) → AreThreadRoots t r
 threads_told t p q r single joins short flat = record {
   long = long;
   back = short.back (joins.back (single_back p (length t.messages) single));

@@ -46,7 +46,7 @@ abbrev pub ShareKey : List (List ℕ × List ℕ) → ℕ → ℕ → Type 0
 ShareKey keys m n = IsTrue (list_any (λ k. is_number_among m k.1 && is_number_among n k.1) keys)
 
 -- for each message the root of its thread: two messages have the same one exactly if they are in one thread
-pub record TellsThreads (t : Table) (roots : List ℕ) : Type 0 where
+pub record AreThreadRoots (t : Table) (roots : List ℕ) : Type 0 where
   pub long : length roots ≡ length t.messages
   pub back : LeadsBack roots
   pub same : (m n : ℕ) → m < length t.messages → n < length t.messages

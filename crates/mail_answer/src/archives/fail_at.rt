@@ -3,7 +3,7 @@ ghost use Rattle.std.specs.Prelude.{◌≡◌, ◌<◌, ◌≤◌, ◌-◌, ◌+
 ghost use Rattle.contract_words.specs.Archives.{IsLength, IsReadFromArchive};
 ghost use Rattle.contract_words.specs.Devices.{Counted, Counts};
 ghost use Rattle.contract_words.specs.Knowledge.{WasKnown};
-ghost use Rattle.mail_answer.specs.Archives.{bytes_told};
+ghost use Rattle.mail_answer.specs.Archives.{bytes_of_read};
 ghost use Rattle.mail_answer.specs.FailAt.{PassesOn};
 
 use crate::archives::Archives;
@@ -95,7 +95,7 @@ impl<A: Archives + Drop> Archives for FailAt<A> {
         ensures bound { IfOk result (λ bytes. bytes ≤ length into.new) }
         ensures bytes { IfOk result (λ bytes. IsReadFromArchive n offset (take bytes into.new)
             (A.held self.new.inner)) }
-        ensures passed { PassesOn (A.reads self.old.inner n offset (bytes_told result into.new)
+        ensures passed { PassesOn (A.reads self.old.inner n offset (bytes_of_read result into.new)
             self.new.inner
             × Counts result (A.failures self.old.inner) (A.failures self.new.inner))
             self.old self.new result }

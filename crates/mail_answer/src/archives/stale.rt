@@ -3,7 +3,7 @@ ghost use Rattle.std.specs.Prelude.{◌≡◌, ◌≢◌, ◌<◌, ◌-◌, ◌^
 ghost use Rattle.contract_words.specs.Devices.{Counted};
 ghost use Rattle.mail_answer.specs.Asked.{FindsLengths, HoldsArchives};
 ghost use Rattle.mail_answer.specs.Faults.{has_fault, is_of_archives, is_of_output, IfStale};
-ghost use Rattle.mail_answer.specs.Stale.{stale_archive, TellsStale};
+ghost use Rattle.mail_answer.specs.Stale.{stale_archive, ReportsStale};
 
 use crate::archives::Archives;
 use crate::fault::AnswerFaultKind;
@@ -17,7 +17,7 @@ pub(crate) fn check_archives<A: Archives>(
 ) -> Result<(), AnswerFaultKind>
     requires { A.failures archives.old < 2 ^ 64 - 1 }
     ensures keeps { HoldsArchives A.Archives archives.old archives.new }
-    ensures stale { IfSome (A.held archives.new) (λ bytes. TellsStale
+    ensures stale { IfSome (A.held archives.new) (λ bytes. ReportsStale
         (stale_archive index.now.archives bytes) result) }
     ensures same_count { OnOk result (A.number archives.old ≡ length index.now.archives) }
     ensures other_count { A.number archives.old ≢ length index.now.archives

@@ -9,9 +9,9 @@ ghost use Rattle.mail_answer.specs.Asked.{HoldsArchives, RefusesCount};
 ghost use Rattle.mail_answer.specs.Inside.Calls.{AreAsIndexed, KeepsArchives};
 ghost use Rattle.mail_answer.specs.Inside.Digests.{front_digest, AbsorbsPart, ReadsDigest};
 ghost use Rattle.mail_answer.specs.Faults.{has_fault, is_of_archives, is_of_output, IfStale};
-ghost use Rattle.mail_answer.specs.Stale.{TellsStale};
+ghost use Rattle.mail_answer.specs.Stale.{ReportsStale};
 ghost use Rattle.mail_answer.specs.Pieces.{StopsWithin};
-ghost use Rattle.mail_answer.specs.Verified.{first_altered, AreVerified, TellsVerified, FindsDigests, VerifiesArchives};
+ghost use Rattle.mail_answer.specs.Verified.{first_altered, AreVerified, ReportsVerified, FindsDigests, VerifiesArchives};
 
 use crate::archives::Archives;
 use crate::archives::stale::check_archives;
@@ -78,7 +78,7 @@ fn check_digests<A: Archives>(
     requires count { A.failures archives.old < 2 ^ 64 - 1 }
     ensures keeps { KeepsArchives A.Archives archives.old archives.new }
     ensures altered { IfSome (A.held archives.new)
-        (λ bytes. TellsStale (first_altered 0 index.now.archives bytes) result) }
+        (λ bytes. ReportsStale (first_altered 0 index.now.archives bytes) result) }
     ensures found { FindsDigests A.Archives index.now.archives archives.old archives.new result }
     ensures below { IfErr result (λ kind. IfStale kind (λ n. n < length index.now.archives)) }
     ensures count { Counted (has_fault is_of_archives result)
@@ -114,7 +114,7 @@ pub fn verify<A: Archives>(
     requires version { index.now.version ≡ 2 }
     requires archives { A.failures archives.old < 2 ^ 64 - 1 }
     ensures verified { IfSome (A.held archives.new)
-        (λ bytes. TellsVerified index.now.archives bytes (kind_of result)) }
+        (λ bytes. ReportsVerified index.now.archives bytes (kind_of result)) }
     // Whether the bytes are known or not: the bytes that were read of each archive have the length and the digest that
     // were indexed.
     ensures read { OnOk result ((read : List (List ℕ)) × AreVerified index.now.archives read) }

@@ -3,8 +3,9 @@
 use Rattle.mail_index.proofs.Words.{◌≡◌, ℕ, zero, suc, ◌+◌, ◌-◌, ◌*◌, ◌/◌, ◌%◌, ◌^◌, ◌<◌, ◌≤◌, true, false, nat_lt}
 use Rattle.mail_index.proofs.Words.{if◌then◌else◌, List, [], ◌∷◌, ◌++◌, length, fold, flat_map, refl, ap, sym, ◌∙◌}
 use Rattle.mail_index.proofs.Words.{append-nil, length-append, arith, nat_tests, fold-append, flat_map-append, add-mul}
-use Rattle.mail_index.proofs.Words.{mul_assoc, pow-suc, leb128, differences_from, postings, end_from, with_number, Told}
-use Rattle.mail_index.proofs.Words.{told_whole, told_more, numbers_so_far, numbers_of, IsPosted}
+use Rattle.mail_index.proofs.Words.{mul_assoc, pow-suc, leb128, differences_from, postings, end_from, with_number}
+use Rattle.mail_index.proofs.Words.{DecodingState}
+use Rattle.mail_index.proofs.Words.{state_after_numbers, state_after_byte, numbers_so_far, numbers_of, IsPosted}
 
 end_from-snoc : (low : ℕ) (ns : List ℕ) (n : ℕ) → end_from low (ns ++ n ∷ []) ≡ suc n
 end_from-snoc low [] n = refl
@@ -33,24 +34,24 @@ postings-snoc ns n = grind (
 weights : (k p w : ℕ) → (p + (128 + k % 128 - 128) * w) + (k / 128) * (128 * w) ≡ p + k * w
 weights k p w = grind (arith, mul_assoc, add-mul)
 
-told_more-last : (t : Told) (b : ℕ) → b < 128 → told_more t b
-    ≡ told_whole (t.numbers ++ (t.next + (t.part + b * t.weight) - 1) ∷ []) (t.next + (t.part + b * t.weight))
-unfolding told_more
-told_more-last t b h = let e : nat_lt b 128 ≡ true = grind (arith, nat_tests) in rw e refl
+state_after_byte-last : (t : DecodingState) (b : ℕ) → b < 128 → state_after_byte t b
+    ≡ state_after_numbers (t.numbers ++ (t.next + (t.part + b * t.weight) - 1) ∷ []) (t.next + (t.part + b * t.weight))
+unfolding state_after_byte
+state_after_byte-last t b h = let e : nat_lt b 128 ≡ true = grind (arith, nat_tests) in rw e refl
 
-told_more-followed : (t : Told) (b : ℕ) → 128 ≤ b → told_more t b
+state_after_byte-followed : (t : DecodingState) (b : ℕ) → 128 ≤ b → state_after_byte t b
     ≡ record { numbers = t.numbers; next = t.next; part = t.part + (b - 128) * t.weight; weight = 128 * t.weight }
-unfolding told_more
-told_more-followed t b h = let e : nat_lt b 128 ≡ false = grind (arith, nat_tests) in rw e refl
+unfolding state_after_byte
+state_after_byte-followed t b h = let e : nat_lt b 128 ≡ false = grind (arith, nat_tests) in rw e refl
 
 -- the state after a difference k has been read to its end
-abbrev whole_after : Told → ℕ → Told
-whole_after t k = told_whole (t.numbers ++ (t.next + (t.part + k * t.weight) - 1) ∷ [])
+abbrev whole_after : DecodingState → ℕ → DecodingState
+whole_after t k = state_after_numbers (t.numbers ++ (t.next + (t.part + k * t.weight) - 1) ∷ [])
     (t.next + (t.part + k * t.weight))
 
 -- a step of the bytes of a difference
-told-step : (bytes : List ℕ) (t : Told) (k : ℕ) → 128 ≤ k
-    → fold told_more (record {
+told-step : (bytes : List ℕ) (t : DecodingState) (k : ℕ) → 128 ≤ k
+    → fold state_after_byte (record {
       numbers = t.numbers;
       next = t.next;
       part = t.part + (128 + k % 128 - 128) * t.weight;
@@ -63,22 +64,23 @@ told-step : (bytes : List ℕ) (t : Told) (k : ℕ) → 128 ≤ k
       weight =
           128 * t.weight;
     }) (k / 128)
-    → fold told_more (told_more t (128 + k % 128)) bytes ≡ whole_after t k
+    → fold state_after_byte (state_after_byte t (128 + k % 128)) bytes ≡ whole_after t k
 told-step bytes t k high e =
     let b : 128 ≤ 128 + k % 128 = omega arith in
-    rw (told_more-followed t (128 + k % 128) b)
-    (e ∙ ap (λ n. told_whole (t.numbers ++ (t.next + n - 1) ∷ []) (t.next + n)) (weights k t.part t.weight))
+    rw (state_after_byte-followed t (128 + k % 128) b)
+    (e ∙ ap (λ n. state_after_numbers (t.numbers ++ (t.next + n - 1) ∷ []) (t.next + n)) (weights k t.part t.weight))
 
 -- the bytes of a difference give this difference
-told-leb128 : (m : ℕ) (t : Told) (k : ℕ) → k < 128 ^ suc m → fold told_more t (leb128 (suc m) k) ≡ whole_after t k
+told-leb128 : (m : ℕ) (t : DecodingState) (k : ℕ) → k < 128 ^ suc m → fold state_after_byte t (leb128 (suc m) k)
+    ≡ whole_after t k
 told-leb128 zero t k h =
     let low : k < 128 = omega arith in
     let e : nat_lt k 128 ≡ true = grind (arith, nat_tests) in
-    rw e (told_more-last t k low)
+    rw e (state_after_byte-last t k low)
 told-leb128 (suc m) t k h = (elim (nat_lt k 128) as
-    (λ v. nat_lt k 128 ≡ v → fold told_more t (if v then k ∷ [] else (128 + k % 128) ∷ leb128 (suc m) (k / 128))
+    (λ v. nat_lt k 128 ≡ v → fold state_after_byte t (if v then k ∷ [] else (128 + k % 128) ∷ leb128 (suc m) (k / 128))
     ≡ whole_after t k) [
-      | true ↦ λ e. let low : k < 128 = grind (arith, nat_tests) in told_more-last t k low
+      | true ↦ λ e. let low : k < 128 = grind (arith, nat_tests) in state_after_byte-last t k low
       | false ↦ λ e.
           let high : 128 ≤ k = grind (arith, nat_tests) in
           let power : 128 ^ suc (suc m) ≡ 128 ^ suc m * 128 = pow-suc 128 (suc m) in
@@ -108,16 +110,16 @@ numbers_of-nil = refl
 
 -- the bytes of one more difference give one more number
 told-more : (bytes : List ℕ) (next n : ℕ) → IsPosted bytes next → next ≤ n → n + 1 < 2 ^ 32
-    → numbers_so_far (bytes ++ leb128 5 (n + 1 - next)) ≡ told_whole (numbers_of bytes ++ n ∷ []) (n + 1)
+    → numbers_so_far (bytes ++ leb128 5 (n + 1 - next)) ≡ state_after_numbers (numbers_of bytes ++ n ∷ []) (n + 1)
 told-more bytes next n p low high =
     let gap : n + 1 - next < 128 ^ 5 = omega arith in
     let number : next + (0 + (n + 1 - next) * 1) - 1 ≡ n = omega arith in
     let end : next + (0 + (n + 1 - next) * 1) ≡ n + 1 = omega arith in
-    fold-append told_more (told_whole [] 0) bytes (leb128 5 (n + 1 - next))
-    ∙ ap (λ t. fold told_more t (leb128 5 (n + 1 - next))) p.told
-    ∙ told-leb128 4 (told_whole (numbers_of bytes) next) (n + 1 - next) gap
-    ∙ ap (λ x. told_whole (numbers_of bytes ++ x ∷ []) (next + (0 + (n + 1 - next) * 1))) number
-    ∙ ap (λ x. told_whole (numbers_of bytes ++ n ∷ []) x) end
+    fold-append state_after_byte (state_after_numbers [] 0) bytes (leb128 5 (n + 1 - next))
+    ∙ ap (λ t. fold state_after_byte t (leb128 5 (n + 1 - next))) p.told
+    ∙ told-leb128 4 (state_after_numbers (numbers_of bytes) next) (n + 1 - next) gap
+    ∙ ap (λ x. state_after_numbers (numbers_of bytes ++ x ∷ []) (next + (0 + (n + 1 - next) * 1))) number
+    ∙ ap (λ x. state_after_numbers (numbers_of bytes ++ n ∷ []) x) end
 
 pub numbers_of-more : (bytes : List ℕ) (next n : ℕ) → IsPosted bytes next → next ≤ n → n + 1 < 2 ^ 32
     → numbers_of (bytes ++ leb128 5 (n + 1 - next)) ≡ numbers_of bytes ++ n ∷ []
@@ -132,7 +134,7 @@ posted-more bytes next n p low high =
     let s : suc n - end_from 0 (numbers_of bytes) ≡ n + 1 - next = rw p.ends (omega arith) in
     let gap : 0 < n + 1 - next = omega arith in
     record {
-      told = told-more bytes next n p low high ∙ ap (λ ns. told_whole ns (n + 1)) (sym e);
+      told = told-more bytes next n p low high ∙ ap (λ ns. state_after_numbers ns (n + 1)) (sym e);
       spelled = ap postings e ∙ postings-snoc (numbers_of bytes) n
           ∙ ap (λ k. postings (numbers_of bytes) ++ leb128 5 k) s ∙ ap (λ l. l ++ leb128 5 (n + 1 - next)) p.spelled;
       ends = ap (end_from 0) e ∙ end_from-snoc 0 (numbers_of bytes) n ∙ omega arith;

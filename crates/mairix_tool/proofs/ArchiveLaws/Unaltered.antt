@@ -4,7 +4,7 @@ use Rattle.mairix_tool.proofs.Words.{◌≡◌, ◌∙◌, ◌+◌, ◌++◌, �
 use Rattle.mairix_tool.proofs.Words.{bytes_eq, Option, None, Some, refl, sym, ap, ap₂, arith, Contains, option_or}
 use Rattle.mairix_tool.proofs.Words.{eqb-true, length-map, Contains-append_left, Contains-append_right}
 use Rattle.mairix_tool.proofs.Words.{bytes_eq-Decides, Mbox, table, entry_of_archive, unverified_archive, Archive}
-use Rattle.mairix_tool.proofs.Words.{AreToldApart}
+use Rattle.mairix_tool.proofs.Words.{HaveDistinctDigests}
 use Rattle.mairix_tool.proofs.Words.{altered_archive, mboxes, first_renamed, renamed_archive}
 use Rattle.sha2.specs.Sha256.{sha256}
 use Rattle.mail_answer.proofs.ArchiveLaws.VerifiedLemmas.{verified_are, are_verified}
@@ -60,7 +60,7 @@ later : {X : Type 0} (x y : X) (xs : List X) → Contains xs y → Contains (x �
 later x y xs h = let below = h.1 in (suc h.0, omega arith, h.2)
 
 -- by digests, if these are different for all these bytes
-module _ (all : List (List ℕ)) (apart : AreToldApart all) where
+module _ (all : List (List ℕ)) (apart : HaveDistinctDigests all) where
   bytes-from : (before : List Mbox) (bytes : List (List ℕ))
       → ((x : List ℕ) → Contains (map (λ (a : Mbox). a.bytes) before) x → Contains all x)
       → ((x : List ℕ) → Contains bytes x → Contains all x)
@@ -81,7 +81,7 @@ module _ (all : List (List ℕ)) (apart : AreToldApart all) where
       (apart a.bytes b (left a.bytes (first-of a.bytes others)) (right b (first-of b bytes)) digest)
       (bytes-from before bytes (λ x h. left x (later a.bytes x others h)) (λ x h. right x (later b x bytes h)) rest)
 
-same-bytes : (before : List Mbox) (bytes : List (List ℕ)) → AreToldApart (map (λ a. a.bytes) before ++ bytes)
+same-bytes : (before : List Mbox) (bytes : List (List ℕ)) → HaveDistinctDigests (map (λ a. a.bytes) before ++ bytes)
     → unverified_archive (table before).archives bytes ≡ None
     → map (λ (a : Mbox). a.bytes) before ≡ bytes
 same-bytes before bytes apart none =
@@ -100,7 +100,8 @@ neither-of : (o p : Option ℕ) → option_or o p ≡ None → (o ≡ None) × (
 neither-of o p h = grind arith
 
 -- archives of which none is altered are those that were indexed
-pub the-same : (before : List Mbox) (paths bytes : List (List ℕ)) → AreToldApart (map (λ a. a.bytes) before ++ bytes)
+pub the-same : (before : List Mbox) (paths bytes : List (List ℕ))
+    → HaveDistinctDigests (map (λ a. a.bytes) before ++ bytes)
     → altered_archive before paths bytes ≡ None
     → (length paths ≡ length bytes) × (before ≡ mboxes paths bytes)
 the-same before paths bytes apart none = grind (arith, neither-of, same-paths, same-bytes, length-map, made-again)

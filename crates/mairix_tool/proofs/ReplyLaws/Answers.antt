@@ -3,7 +3,8 @@ use Rattle.mairix_tool.proofs.Words.{◌≡◌, ◌∙◌, ℕ, List, [], length
 use Rattle.mairix_tool.proofs.Words.{subst, append-nil, arith, Appends, Keeps, Sends, Table, Format, Raw, Excerpt}
 use Rattle.mairix_tool.proofs.Words.{AnswersStale, Search, answer_text, known_answer, stale_archive, TableAnswer}
 use Rattle.mairix_tool.proofs.Words.{IsTableAnswer, SendsTableAnswer, answer_of_numbers, some-chosen, Fault, Answer}
-use Rattle.mairix_tool.proofs.Words.{status_of_count, answer_of_text, IsStaleOr, IsAnswerFrom, IsTold, RepliesBy}
+use Rattle.mairix_tool.proofs.Words.{status_of_count, answer_of_text, IsStaleOr, IsAnswerFrom, IsAnswerOrStale}
+use Rattle.mairix_tool.proofs.Words.{RepliesBy}
 use Rattle.mairix_tool.proofs.Words.{reply_of}
 use Rattle.mairix_tool.proofs.Words.{fault_of_answer_kind, IsCountedWhere}
 use Rattle.std.specs.Result.{IsErrAnd, MatchResult}
@@ -37,7 +38,7 @@ told-so (Err fault) (Err e) h = ap Err h
 module _ (t : Table) (s : Search) (h : List (List ℕ)) (old new : Option (List ℕ)) where
   ok-told : (count : ℕ) → ((a : TableAnswer) → IsTableAnswer t s (Some h) a → SendsTableAnswer old new a (Ok count))
       → stale_archive t.archives h ≡ None
-      → RepliesBy (IsTold t s h) (reply_of (Ok count)) old new
+      → RepliesBy (IsAnswerOrStale t s h) (reply_of (Ok count)) old new
   ok-told count given fresh =
       let some = some-chosen t s.threads s.query in
       let went = given (answer_of_numbers t s (Some h) some.0) (some.0, some.1, refl) in
@@ -78,7 +79,7 @@ err-by F (Some m) kind.OutFailed sent old new stale sends = let kinds : kind.Out
 pub told-by : (t : Table) (s : Search) (h : List (List ℕ)) (old new : Option (List ℕ)) (r : Result ℕ AnswerFault)
     → ((a : TableAnswer) → IsTableAnswer t s (Some h) a → SendsTableAnswer old new a r)
     → AnswersStale old new (stale_archive t.archives h) r
-    → RepliesBy (IsTold t s h) (reply_of (run_of_answer r)) old new
+    → RepliesBy (IsAnswerOrStale t s h) (reply_of (run_of_answer r)) old new
 told-by t s h old new (Ok count) given fresh = ok-told t s h old new count given fresh
 told-by t s h old new (Err fault) given stale =
     err-by (IsAnswerFrom t s h) (stale_archive t.archives h) fault.kind fault.sent old new stale

@@ -5,7 +5,8 @@ use Rattle.mairix_tool.proofs.Words.{Ok, Err, IfOk, IfSome, refl, ap, subst, ari
 use Rattle.mairix_tool.proofs.Words.{Search, answer_text, stale_archive, some-chosen, Fault, Reply, Mbox, table}
 use Rattle.mairix_tool.proofs.Words.{AreSound, mboxes, RefusesArchives, IsArchivesFault, Wanted, is_failure}
 use Rattle.mairix_tool.proofs.Words.{refusal_of_fault, Answer}
-use Rattle.mairix_tool.proofs.Words.{answer_of_fault, IsAnswer, IsTold, IsStaleOr, IsAnswerFrom, IsReply, IsOnceReply}
+use Rattle.mairix_tool.proofs.Words.{answer_of_fault, IsAnswer, IsAnswerOrStale, IsStaleOr, IsAnswerFrom, IsReply}
+use Rattle.mairix_tool.proofs.Words.{IsOnceReply}
 use Rattle.mairix_tool.proofs.Words.{IsThisOrMemory, IsUnindexed, RepliesBy, reply_of, answer_of_text}
 use Rattle.mairix_tool.proofs.Words.{sound-not-refused}
 use Rattle.run_faults.specs.Faults.{IsEarly}
@@ -15,12 +16,12 @@ use Rattle.index_run.proofs.ArchivesDecided.{decided, none-sound}
 
 -- the table's answer over the archives' own bytes is that of their messages
 pub told-answer : (archives : List Mbox) (s : Search) (answer : Answer)
-    → IsTold (table archives) s (map (λ (a : Mbox). a.bytes) archives) answer → IsAnswer archives s answer
+    → IsAnswerOrStale (table archives) s (map (λ (a : Mbox). a.bytes) archives) answer → IsAnswer archives s answer
 told-answer archives s answer told = grind (arith, not-stale, chosen-same, shape-same)
 
 -- and the reverse
 pub answer-told : (archives : List Mbox) (s : Search) (answer : Answer) → IsAnswer archives s answer
-    → IsTold (table archives) s (map (λ (a : Mbox). a.bytes) archives) answer
+    → IsAnswerOrStale (table archives) s (map (λ (a : Mbox). a.bytes) archives) answer
 answer-told archives s answer found = grind (arith, not-stale, chosen-back, shape-same)
 
 pub bytes-of-mboxes : (paths bytes : List (List ℕ)) → length paths ≡ length bytes
@@ -43,7 +44,7 @@ reply-once (Err fault) bytes answer many is = is
 reply-once (Ok w) bytes answer many (inl sound) =
     inl (
       sound.0,
-      subst (λ (held : List (List ℕ)). IsTold (table (mboxes w.paths bytes)) w.search held answer)
+      subst (λ (held : List (List ℕ)). IsAnswerOrStale (table (mboxes w.paths bytes)) w.search held answer)
           (bytes-of-mboxes w.paths bytes many)
           (answer-told (mboxes w.paths bytes) w.search answer sound.1),
     )
@@ -124,7 +125,7 @@ early-once asked bytes held f old h early =
 -- if the archives are sound, what their table says
 pub sound-once : (w : Wanted) (bytes held : List (List ℕ)) (t : Table) (reply : Reply) (old new : Option (List ℕ))
     → AreSound (mboxes w.paths bytes)
-    → t ≡ table (mboxes w.paths bytes) → RepliesBy (IsTold t w.search held) reply old new
+    → t ≡ table (mboxes w.paths bytes) → RepliesBy (IsAnswerOrStale t w.search held) reply old new
     → RepliesBy (IsOnceReply (Ok w) bytes held) reply old new
 sound-once w bytes held t reply old new sound same given = grind (arith, replies-as, sound-not-refused)
 

@@ -6,7 +6,8 @@ use Rattle.mairix_tool.proofs.Words.{ap₂, subst, arith, inl, inr, append-nil, 
 use Rattle.mairix_tool.proofs.Words.{AreBytes, Table, Search, answer_text, AreSound, Mbox, table, all_messages}
 use Rattle.mairix_tool.proofs.Words.{messages_in, with_messages, RefusesArchives, mboxes, Fault, Wanted, Answer}
 use Rattle.mairix_tool.proofs.Words.{answer_of_fault}
-use Rattle.mairix_tool.proofs.Words.{answer_of_text, IsAnswer, IsAnswerFrom, IsTold, IsToldOf, IsProvedAndTold}
+use Rattle.mairix_tool.proofs.Words.{answer_of_text, IsAnswer, IsAnswerFrom, IsAnswerOrStale, IsStoredAnswer}
+use Rattle.mairix_tool.proofs.Words.{IsVerifiedAnswer}
 use Rattle.mairix_tool.proofs.Words.{IsStaleOr}
 use Rattle.mairix_tool.proofs.Words.{IsOldOr, IsReply, IsOnceReply, IsStoredReply, stale_archive, renamed_archive}
 use Rattle.mairix_tool.proofs.Words.{unproved_archive, is_too_old, sound-not-refused}
@@ -45,7 +46,7 @@ module _ (t : Table) (s : Search) (held : List (List ℕ)) (a b : Answer) where
       (one-choice t s.threads s.query xs ys first second)
       ∙ sym other
 
-  one-told : IsTold t s held a → IsTold t s held b → a ≡ b
+  one-told : IsAnswerOrStale t s held a → IsAnswerOrStale t s held b → a ≡ b
   one-told = one-stale (stale_archive t.archives held) (IsAnswerFrom t s held) a b one-found
 
 one-answer : (archives : List Mbox) (s : Search) (a b : Answer) → IsAnswer archives s a → IsAnswer archives s b → a ≡ b
@@ -219,7 +220,8 @@ pub one-once : (asked : Result Wanted Fault) (bytes held : List (List ℕ)) (a b
 one-once (Err fault) bytes held a b h k = h ∙ sym k
 one-once (Ok w) bytes held a b h k =
     let archives = mboxes w.paths bytes in
-    one-of archives a b (IsTold (table archives) w.search held) (one-told (table archives) w.search held a b) h k
+    one-of archives a b (IsAnswerOrStale (table archives) w.search held)
+    (one-told (table archives) w.search held a b) h k
 
 -- if an archive is refused twice, each of the two refusals is allowed
 either-refuses : (archives : List Mbox) (number : ℕ) (answer : Answer) → IsRefusedTwice archives number
@@ -242,13 +244,15 @@ one-old : (old : Bool) (IsFound : Answer → Type 0) (a b : Answer) → (IsFound
 one-old true IsFound a b same h k = h ∙ sym k
 one-old false IsFound a b same h k = same h k
 
-one-told-of : (w : Wanted) (t : Table) (held : List (List ℕ)) (a b : Answer) → IsToldOf w t held a → IsToldOf w t held b
+one-told-of : (w : Wanted) (t : Table) (held : List (List ℕ)) (a b : Answer) → IsStoredAnswer w t held a
+    → IsStoredAnswer w t held b
     → a ≡ b
 one-told-of w t held a b =
     let named = renamed_archive t.archives w.paths in
-    one-old (is_too_old t w) (IsStaleOr named (IsProvedAndTold w t held)) a b
-    (one-stale named (IsProvedAndTold w t held) a b
-    (one-stale (unproved_archive w.verify t.archives held) (IsTold t w.search held) a b (one-told t w.search held a b)))
+    one-old (is_too_old t w) (IsStaleOr named (IsVerifiedAnswer w t held)) a b
+    (one-stale named (IsVerifiedAnswer w t held) a b
+    (one-stale (unproved_archive w.verify t.archives held) (IsAnswerOrStale t w.search held) a b
+    (one-told t w.search held a b)))
 
 module _ (index : List ℕ) (are : AreBytes index) (few : length index < 2 ^ 64) (held : List (List ℕ)) (a b : Answer)
   where
@@ -260,5 +264,6 @@ module _ (index : List ℕ) (are : AreBytes index) (few : length index < 2 ^ 64)
     one-stored (Ok w) (inl (f, h, is)) (inr (t, file, told)) = absurd (no_fault index t few file f h)
     one-stored (Ok w) (inr (t, file, told)) (inl (f, h, is)) = absurd (no_fault index t few file f h)
     one-stored (Ok w) (inr (t, file, told)) (inr (u, other, so)) =
-        one-told-of w t held a b told (subst (λ (v : Table). IsToldOf w v held b) (same-table index t u few file other)
+        one-told-of w t held a b told
+        (subst (λ (v : Table). IsStoredAnswer w v held b) (same-table index t u few file other)
         so)

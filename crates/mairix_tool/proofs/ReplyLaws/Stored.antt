@@ -8,9 +8,11 @@ use Rattle.mairix_tool.proofs.Words.{IsFirstFaultOfFile, AreBytes, Archive, IsPa
 use Rattle.mairix_tool.proofs.Words.{AreSound}
 use Rattle.mairix_tool.proofs.Words.{Mbox, table, entry_of_archive, Fault, Reply, mboxes, Wanted, refusal_of_fault}
 use Rattle.mairix_tool.proofs.Words.{is_failure}
-use Rattle.mairix_tool.proofs.Words.{IsOfAnswer, AreToldApart, altered_archive, ServesFor, but_digests, old_table}
-use Rattle.mairix_tool.proofs.Words.{Answer, answer_of_fault, IsTold, IsToldOf, IsProvedAndTold, unproved_archive}
-use Rattle.mairix_tool.proofs.Words.{TellsProved}
+use Rattle.mairix_tool.proofs.Words.{IsOfAnswer, HaveDistinctDigests, altered_archive, ServesFor, but_digests}
+use Rattle.mairix_tool.proofs.Words.{old_table}
+use Rattle.mairix_tool.proofs.Words.{Answer, answer_of_fault, IsAnswerOrStale, IsStoredAnswer, IsVerifiedAnswer}
+use Rattle.mairix_tool.proofs.Words.{unproved_archive}
+use Rattle.mairix_tool.proofs.Words.{ReportsProved}
 use Rattle.mairix_tool.proofs.Words.{IsStaleOr, IsOldOr, is_too_old, IsReply, IsStoredReply, IsForNoOtherCause}
 use Rattle.mairix_tool.proofs.Words.{IsIndexRefusal, IsRefusedAs, RepliesBy, reply_of, renamed_archive, first_renamed}
 use Rattle.mairix_tool.proofs.Words.{WereVerified, sound-not-refused}
@@ -85,31 +87,32 @@ module _ (w : Wanted) (index : List ℕ) (few : length index < 2 ^ 64) (t : Tabl
     abbrev altered : Option ℕ
     altered = option_or (renamed_archive t.archives w.paths) (unproved_archive w.verify t.archives held)
 
-    stored-by : (answer : Answer) → IsStaleOr altered (IsTold t w.search held) answer
+    stored-by : (answer : Answer) → IsStaleOr altered (IsAnswerOrStale t w.search held) answer
         → IsStoredReply (Ok w) index held answer
     stored-by answer is = grind (arith, part)
 
     told-by : (answer : Answer) → IsStoredReply (Ok w) index held answer
-        → IsStaleOr altered (IsTold t w.search held) answer
+        → IsStaleOr altered (IsAnswerOrStale t w.search held) answer
     told-by answer (inl bad) = absurd (no_fault index t few file bad.0 bad.1)
     told-by answer (inr (u, f, told)) =
-        let here = subst (λ (v : Table). IsToldOf w v held answer) (sym (one-table u f)) told in
+        let here = subst (λ (v : Table). IsStoredAnswer w v held answer) (sym (one-table u f)) told in
         let both = subst (λ (b : Bool). IsOldOr b
-        (IsStaleOr (renamed_archive t.archives w.paths) (IsProvedAndTold w t held)) answer) fresh here in
-        join (renamed_archive t.archives w.paths) (unproved_archive w.verify t.archives held) (IsTold t w.search held)
+        (IsStaleOr (renamed_archive t.archives w.paths) (IsVerifiedAnswer w t held)) answer) fresh here in
+        join (renamed_archive t.archives w.paths) (unproved_archive w.verify t.archives held)
+        (IsAnswerOrStale t w.search held)
         answer both
 
     -- the index has these paths
     pub stored-told : renamed_archive t.archives w.paths ≡ None → (reply : Reply) (old new : Option (List ℕ))
-        → RepliesBy (IsProvedAndTold w t held) reply old new
+        → RepliesBy (IsVerifiedAnswer w t held) reply old new
         → RepliesBy (IsStoredReply (Ok w) index held) reply old new
     stored-told none reply old new given =
-        replies-as (IsProvedAndTold w t held) (IsStoredReply (Ok w) index held)
+        replies-as (IsVerifiedAnswer w t held) (IsStoredReply (Ok w) index held)
         (λ answer is. stored-by answer (subst
         (λ (o : Option ℕ). IsStaleOr (option_or o (unproved_archive w.verify t.archives held))
-        (IsTold t w.search held) answer) (sym none) is))
+        (IsAnswerOrStale t w.search held) answer) (sym none) is))
         (λ answer is. subst (λ (o : Option ℕ). IsStaleOr (option_or o (unproved_archive w.verify t.archives held))
-        (IsTold t w.search held) answer) none (told-by answer is))
+        (IsAnswerOrStale t w.search held) answer) none (told-by answer is))
         reply old new given
 
   pub stored-counted : (u : Table) (held : Option (List (List ℕ))) (reply : Reply) (old new : Option (List ℕ))
@@ -129,10 +132,10 @@ module _ (w : Wanted) (index : List ℕ) (few : length index < 2 ^ 64) (bytes : 
   abbrev whole : Table
   whole = table (mboxes w.paths bytes)
 
-  pub once-told : (answer : Answer) → IsTold whole w.search bytes answer → IsReply (Ok w) bytes answer
+  pub once-told : (answer : Answer) → IsAnswerOrStale whole w.search bytes answer → IsReply (Ok w) bytes answer
   once-told answer told = once-reply (Ok w) bytes answer many (inl (sound, told))
 
-  pub told-once : (answer : Answer) → IsReply (Ok w) bytes answer → IsTold whole w.search bytes answer
+  pub told-once : (answer : Answer) → IsReply (Ok w) bytes answer → IsAnswerOrStale whole w.search bytes answer
   told-once answer is =
       elim (reply-once (Ok w) bytes answer many is) [
         | inl told ↦ told.1
@@ -143,8 +146,8 @@ module _ (w : Wanted) (index : List ℕ) (few : length index < 2 ^ 64) (bytes : 
   stored-alike : (t : Table) → IsFileOfTable index t → is_too_old t w ≡ false → renamed_archive t.archives w.paths
       ≡ None
       → unproved_archive w.verify t.archives bytes ≡ None
-      → ((answer : Answer) → IsTold t w.search bytes answer → IsTold whole w.search bytes answer)
-      → ((answer : Answer) → IsTold whole w.search bytes answer → IsTold t w.search bytes answer)
+      → ((answer : Answer) → IsAnswerOrStale t w.search bytes answer → IsAnswerOrStale whole w.search bytes answer)
+      → ((answer : Answer) → IsAnswerOrStale whole w.search bytes answer → IsAnswerOrStale t w.search bytes answer)
       → (reply : Reply) (old new : Option (List ℕ)) → RepliesBy (IsStoredReply (Ok w) index bytes) reply old new
       → RepliesBy (IsReply (Ok w) bytes) reply old new
   stored-alike t file fresh named proved forth back reply old new given =
@@ -152,10 +155,10 @@ module _ (w : Wanted) (index : List ℕ) (few : length index < 2 ^ 64) (bytes : 
       neither named proved in
       replies-as (IsStoredReply (Ok w) index bytes) (IsReply (Ok w) bytes)
       (λ answer is. once-told answer (forth answer
-      (subst (λ (o : Option ℕ). IsStaleOr o (IsTold t w.search bytes) answer) none
+      (subst (λ (o : Option ℕ). IsStaleOr o (IsAnswerOrStale t w.search bytes) answer) none
       (told-by w index few t file bytes fresh answer is))))
       (λ answer is. stored-by w index few t file bytes fresh answer
-      (subst (λ (o : Option ℕ). IsStaleOr o (IsTold t w.search bytes) answer) (sym none)
+      (subst (λ (o : Option ℕ). IsStaleOr o (IsAnswerOrStale t w.search bytes) answer) (sym none)
       (back answer (told-once answer is))))
       reply old new given
 
@@ -208,7 +211,7 @@ module _ (w : Wanted) (index : List ℕ) (few : length index < 2 ^ 64) (bytes : 
 -- if they are verified, with the index of any archives
 module _ (w : Wanted) (index : List ℕ) (few : length index < 2 ^ 64) (before : List Mbox) (bytes : List (List ℕ))
     (verify : w.verify ≡ true) (sound : AreSound before) (file : IsFileOfTable index (table before))
-    (apart : AreToldApart (map (λ a. a.bytes) before ++ bytes)) where
+    (apart : HaveDistinctDigests (map (λ a. a.bytes) before ++ bytes)) where
   stale-or : (o : Option ℕ) (IsFound IsOther : Answer → Type 0)
       → (o ≡ None → (answer : Answer) → IsFound answer → IsOther answer) → (answer : Answer)
       → IsStaleOr o IsFound answer → IsStaleOr o IsOther answer
@@ -220,11 +223,11 @@ module _ (w : Wanted) (index : List ℕ) (few : length index < 2 ^ 64) (before :
   unaltered none = the-same before w.paths bytes apart none
 
   replied : altered_archive before w.paths bytes ≡ None → (answer : Answer)
-      → IsTold (table before) w.search bytes answer → IsReply (Ok w) bytes answer
+      → IsAnswerOrStale (table before) w.search bytes answer → IsReply (Ok w) bytes answer
   replied none answer told = grind (arith, unaltered, once-told)
 
   told-again : altered_archive before w.paths bytes ≡ None → (answer : Answer) → IsReply (Ok w) bytes answer
-      → IsTold (table before) w.search bytes answer
+      → IsAnswerOrStale (table before) w.search bytes answer
   told-again none answer is = grind (arith, unaltered, told-once)
 
   abbrev by-tables : Bool → Option ℕ
@@ -238,14 +241,16 @@ module _ (w : Wanted) (index : List ℕ) (few : length index < 2 ^ 64) (before :
       replies-as (IsStoredReply (Ok w) index bytes)
       (IsStaleOr (altered_archive before w.paths bytes) (IsReply (Ok w) bytes))
       (λ answer is.
-      stale-or (altered_archive before w.paths bytes) (IsTold (table before) w.search bytes) (IsReply (Ok w) bytes)
+      stale-or (altered_archive before w.paths bytes) (IsAnswerOrStale (table before) w.search bytes)
+      (IsReply (Ok w) bytes)
       replied answer
-      (subst (λ (b : Bool). IsStaleOr (by-tables b) (IsTold (table before) w.search bytes) answer) verify
+      (subst (λ (b : Bool). IsStaleOr (by-tables b) (IsAnswerOrStale (table before) w.search bytes) answer) verify
       (told-by w index few (table before) file bytes refl answer is)))
       (λ answer is.
       stored-by w index few (table before) file bytes refl answer
-      (subst (λ (b : Bool). IsStaleOr (by-tables b) (IsTold (table before) w.search bytes) answer) (sym verify)
-      (stale-or (altered_archive before w.paths bytes) (IsReply (Ok w) bytes) (IsTold (table before) w.search bytes)
+      (subst (λ (b : Bool). IsStaleOr (by-tables b) (IsAnswerOrStale (table before) w.search bytes) answer) (sym verify)
+      (stale-or (altered_archive before w.paths bytes) (IsReply (Ok w) bytes)
+      (IsAnswerOrStale (table before) w.search bytes)
       told-again answer is)))
       reply old new given
 
@@ -282,9 +287,9 @@ pub some-stored-reply : (index : List ℕ) (read : Result Table IndexFault) → 
 some-stored-reply index read file bad (Err fault) held = (answer_of_fault fault, refl)
 some-stored-reply index (Ok t) file bad (Ok w) held =
     let told = some-told t w.search held (stale_archive t.archives held) in
-    let proved = some-stale (unproved_archive w.verify t.archives held) (IsTold t w.search held) told in
-    let named = some-stale (renamed_archive t.archives w.paths) (IsProvedAndTold w t held) proved in
-    let some = some-old (is_too_old t w) (IsStaleOr (renamed_archive t.archives w.paths) (IsProvedAndTold w t held))
+    let proved = some-stale (unproved_archive w.verify t.archives held) (IsAnswerOrStale t w.search held) told in
+    let named = some-stale (renamed_archive t.archives w.paths) (IsVerifiedAnswer w t held) proved in
+    let some = some-old (is_too_old t w) (IsStaleOr (renamed_archive t.archives w.paths) (IsVerifiedAnswer w t held))
     named in
     (some.0, inr (t, file, some.1))
 some-stored-reply index (Err f) file bad (Ok w) held = (answer_of_fault (of.Index f), inl (f, bad, refl))
@@ -306,7 +311,7 @@ refused-stored asked index held f old is = grind (arith, unanswered, stored-refu
 
 -- the reply if an archive isn't the indexed one, or couldn't be read to find out
 pub unproved-replied : (unproved : Option ℕ) (IsFound : Answer → Type 0) (f : Fault) (old : Option (List ℕ))
-    → TellsProved {T = Unit {0}} unproved (Err f)
+    → ReportsProved {T = Unit {0}} unproved (Err f)
     → RepliesBy (IsStaleOr unproved IsFound) (reply_of (Err f)) old old
 unproved-replied unproved IsFound f old tells = grind (arith, unanswered)
 

@@ -6,7 +6,7 @@ use Rattle.mairix_tool.proofs.Words.{length_push, get_or_at, fields_of, Message,
 use Rattle.mairix_tool.proofs.Words.{Facts, TextKind, words, folding, Text, LinkId, Record, kind_number, keys_of}
 use Rattle.mairix_tool.proofs.Words.{Archive, Key, Table, Query, is_true, Format, Raw, Excerpt, Search, IsChain}
 use Rattle.mairix_tool.proofs.Words.{IsLedToBySome, AreThreadsOf, AreChosen, AreChosenBy, satisfying, message_text}
-use Rattle.mairix_tool.proofs.Words.{answer_text, first_changed, stale_archive, mail_told, facts_at, record_at}
+use Rattle.mairix_tool.proofs.Words.{answer_text, first_changed, stale_archive, mail_of_table, facts_at, record_at}
 use Rattle.mairix_tool.proofs.Words.{texts_with, is_number_among, are_linked, table, entry_of_archive, with_messages}
 use Rattle.mairix_tool.proofs.Words.{Term, text_terms}
 use Rattle.mairix_tool.proofs.Words.{own_id_terms, link_terms, Numbered, numbered_messages, numbered_at, nobody}
@@ -115,7 +115,7 @@ told-at test q all before (x ∷ xs) n whole h tells =
     (filter test (range_with_len (n + 1) (length xs)))) agree
     ∙ ap (λ (l : List ℕ). cond (passes_in q (numbered_at all n)) (n ∷ l) l) rest
 
-pub satisfying-same : (archives : List Archived) (q : Query) → satisfying (mail_told (table archives)) q
+pub satisfying-same : (archives : List Archived) (q : Query) → satisfying (mail_of_table (table archives)) q
     ≡ satisfying (mail_in archives) q
 satisfying-same archives q =
     let t : Table = table archives in
@@ -149,33 +149,35 @@ threads-same linked other same count numbers members are = record {
 }
 
 chosen-by : (threads : Bool) (q : Query) (archives : List Archived) (numbers : List ℕ)
-    → AreChosenBy threads (mail_told (table archives)) q numbers → AreChosenBy threads (mail_in archives) q numbers
+    → AreChosenBy threads (mail_of_table (table archives)) q numbers → AreChosenBy threads (mail_in archives) q numbers
 chosen-by false q archives numbers are = are ∙ satisfying-same archives q
 chosen-by true q archives numbers are =
     subst (λ (ns : List ℕ). AreThreadsOf (mail_in archives).count (mail_in archives).linked ns numbers)
     (satisfying-same archives q)
     (threads-same (are_linked (table archives)) (mail_in archives).linked (links-same archives) (mail_in archives).count
-    (satisfying (mail_told (table archives)) q) numbers
-    (subst (λ (count : ℕ). AreThreadsOf count (are_linked (table archives)) (satisfying (mail_told (table archives)) q)
+    (satisfying (mail_of_table (table archives)) q) numbers
+    (subst (λ (count : ℕ). AreThreadsOf count (are_linked (table archives))
+    (satisfying (mail_of_table (table archives)) q)
     numbers) (count-same archives) are))
 
 chosen-back-by : (threads : Bool) (q : Query) (archives : List Archived) (numbers : List ℕ)
-    → AreChosenBy threads (mail_in archives) q numbers → AreChosenBy threads (mail_told (table archives)) q numbers
+    → AreChosenBy threads (mail_in archives) q numbers → AreChosenBy threads (mail_of_table (table archives)) q numbers
 chosen-back-by false q archives numbers are = are ∙ sym (satisfying-same archives q)
 chosen-back-by true q archives numbers are =
-    subst (λ (count : ℕ). AreThreadsOf count (are_linked (table archives)) (satisfying (mail_told (table archives)) q)
+    subst (λ (count : ℕ). AreThreadsOf count (are_linked (table archives))
+    (satisfying (mail_of_table (table archives)) q)
     numbers) (sym (count-same archives))
     (threads-same (mail_in archives).linked (are_linked (table archives)) (λ m n. sym (links-same archives m n))
-    (mail_in archives).count (satisfying (mail_told (table archives)) q) numbers
+    (mail_in archives).count (satisfying (mail_of_table (table archives)) q) numbers
     (subst (λ (ns : List ℕ). AreThreadsOf (mail_in archives).count (mail_in archives).linked ns numbers)
     (sym (satisfying-same archives q)) are))
 
 pub chosen-back : (archives : List Archived) (s : Search) (numbers : List ℕ) → AreChosen (mail_in archives) s numbers
-    → AreChosen (mail_told (table archives)) s numbers
+    → AreChosen (mail_of_table (table archives)) s numbers
 chosen-back archives s numbers are = chosen-back-by s.threads s.query archives numbers are
 
 pub chosen-same : (archives : List Archived) (s : Search) (numbers : List ℕ)
-    → AreChosen (mail_told (table archives)) s numbers → AreChosen (mail_in archives) s numbers
+    → AreChosen (mail_of_table (table archives)) s numbers → AreChosen (mail_in archives) s numbers
 chosen-same archives s numbers are = chosen-by s.threads s.query archives numbers are
 
 -- ---- how the messages are written

@@ -6,9 +6,10 @@ use Rattle.mairix_tool.proofs.Words.{filter, list_any, range_with_len, slice_get
 use Rattle.mairix_tool.proofs.Words.{TextKind, Name, Kind, Text, OwnId, LinkId, kind_number, is_of_kind, keys_of}
 use Rattle.mairix_tool.proofs.Words.{Archive, Key, Table, Query, uses_names, is_true, words_but_names, without_names}
 use Rattle.mairix_tool.proofs.Words.{Format, Raw, Excerpt, Search, AreChosen, AreChosenBy, satisfying, path_at}
-use Rattle.mairix_tool.proofs.Words.{answer_text, first_changed, stale_archive, mail_told, is_number_among, texts_with}
+use Rattle.mairix_tool.proofs.Words.{answer_text, first_changed, stale_archive, mail_of_table, is_number_among}
+use Rattle.mairix_tool.proofs.Words.{texts_with}
 use Rattle.mairix_tool.proofs.Words.{facts_at, record_at, are_linked, without_digest, keys_but_names, but_digests}
-use Rattle.mairix_tool.proofs.Words.{old_table, Answer, IsTold, IsStaleOr, answer_of_text, first_renamed}
+use Rattle.mairix_tool.proofs.Words.{old_table, Answer, IsAnswerOrStale, IsStaleOr, answer_of_text, first_renamed}
 use Rattle.mairix_tool.proofs.Words.{renamed_archive}
 use Rattle.std.specs.Str.{bytes_eq}
 use Rattle.mail_answer.specs.declared.format.Format.TheVariants.{Mbox}
@@ -74,12 +75,12 @@ linked-old t m n = ap (list_any (λ (k : Key). is_number_among m k.numbers && is
 
 -- ---- the messages that are chosen
 
-satisfying-old : (t : Table) (q : Query) → uses_names q ≡ false → satisfying (mail_told (old_table t)) q
-    ≡ satisfying (mail_told t) q
+satisfying-old : (t : Table) (q : Query) → uses_names q ≡ false → satisfying (mail_of_table (old_table t)) q
+    ≡ satisfying (mail_of_table t) q
 satisfying-old t q none = λ i. filter (λ n. truth-old t q none n i) (range_with_len 0 (length t.messages))
 
 chosen-by-old : (t : Table) (threads : Bool) (q : Query) (numbers : List ℕ) → uses_names q ≡ false
-    → AreChosenBy threads (mail_told (old_table t)) q numbers ≡ AreChosenBy threads (mail_told t) q numbers
+    → AreChosenBy threads (mail_of_table (old_table t)) q numbers ≡ AreChosenBy threads (mail_of_table t) q numbers
 chosen-by-old t threads q numbers h = grind (arith, satisfying-old, linked-old)
 
 -- ---- how the messages are written
@@ -138,36 +139,36 @@ renamed-old named paths =
 -- ---- the answers
 
 told-undigested : (t : Table) (s : Search) (held : List (List ℕ)) (answer : Answer)
-    → IsTold (but_digests t) s held answer ≡ IsTold t s held answer
+    → IsAnswerOrStale (but_digests t) s held answer ≡ IsAnswerOrStale t s held answer
 told-undigested t s held answer = λ i.
     IsStaleOr (stale-old t.archives held i)
-    (λ (a : Answer). (numbers : List ℕ) × AreChosen (mail_told t) s numbers
+    (λ (a : Answer). (numbers : List ℕ) × AreChosen (mail_of_table t) s numbers
     × (a ≡ answer_of_text (text-undigested t s.format held numbers i) (length numbers))) answer
 
 -- two tables that differ only in their digests give the same answers
 module _ (t u : Table) (same : but_digests t ≡ but_digests u) (s : Search) (held : List (List ℕ)) (answer : Answer)
   where
-    alike : IsTold t s held answer ≡ IsTold u s held answer
-    alike = sym (told-undigested t s held answer) ∙ ap (λ (v : Table). IsTold v s held answer) same
+    alike : IsAnswerOrStale t s held answer ≡ IsAnswerOrStale u s held answer
+    alike = sym (told-undigested t s held answer) ∙ ap (λ (v : Table). IsAnswerOrStale v s held answer) same
         ∙ told-undigested u s held answer
 
-    pub told-same : IsTold t s held answer → IsTold u s held answer
+    pub told-same : IsAnswerOrStale t s held answer → IsAnswerOrStale u s held answer
     told-same = transport alike
 
-    pub same-told : IsTold u s held answer → IsTold t s held answer
+    pub same-told : IsAnswerOrStale u s held answer → IsAnswerOrStale t s held answer
     same-told = transport⁻¹ alike
 
 told-alike : (t : Table) (s : Search) (held : List (List ℕ)) (answer : Answer) → uses_names s.query ≡ false
-    → IsTold (old_table t) s held answer ≡ IsTold t s held answer
+    → IsAnswerOrStale (old_table t) s held answer ≡ IsAnswerOrStale t s held answer
 told-alike t s held answer none = λ i.
     IsStaleOr (stale-old t.archives held i)
     (λ (a : Answer). (numbers : List ℕ) × chosen-by-old t s.threads s.query numbers none i
     × (a ≡ answer_of_text (text-old t s.format held numbers i) (length numbers))) answer
 
 pub told-old : (t : Table) (s : Search) (held : List (List ℕ)) (answer : Answer) → uses_names s.query ≡ false
-    → IsTold (old_table t) s held answer → IsTold t s held answer
+    → IsAnswerOrStale (old_table t) s held answer → IsAnswerOrStale t s held answer
 told-old t s held answer none = transport (told-alike t s held answer none)
 
 pub old-told : (t : Table) (s : Search) (held : List (List ℕ)) (answer : Answer) → uses_names s.query ≡ false
-    → IsTold t s held answer → IsTold (old_table t) s held answer
+    → IsAnswerOrStale t s held answer → IsAnswerOrStale (old_table t) s held answer
 old-told t s held answer none = transport⁻¹ (told-alike t s held answer none)

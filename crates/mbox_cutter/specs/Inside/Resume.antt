@@ -13,14 +13,14 @@ use Rattle.mbox_cutter.specs.Events.{ArchiveEvent, Line, End, Done, events_of, f
 use Rattle.mbox_cutter.specs.Places.{CutterPlace}
 
 -- the events from between two messages, or from before the first, with these lines left of an archive of `all` bytes
-abbrev pub told_between : ℕ → ℕ → List (List ℕ) → List ArchiveEvent
-told_between all at ls =
+abbrev pub events_between : ℕ → ℕ → List (List ℕ) → List ArchiveEvent
+events_between all at ls =
     let marks = marked_lines true ls in let groups = grouped_lines marks in
     if is_refused marks then [] else events_of all (messages_from (at + total groups.0) groups.1)
 
 -- the events from inside a message, after `size` bytes of its text
-abbrev pub told_inside : ℕ → ℕ → ℕ → ℕ → List (List ℕ) → List ArchiveEvent
-told_inside all at start size ls =
+abbrev pub events_inside : ℕ → ℕ → ℕ → ℕ → List (List ℕ) → List ArchiveEvent
+events_inside all at start size ls =
     let groups = grouped_lines (marked_lines false ls) in let text = without_closing groups.0 in
     map Line text ++ End ((at + total groups.0) - start) (size + total text) ∷ events_of all
     (messages_from (at + total groups.0) groups.1)
@@ -38,13 +38,13 @@ refusal_between at most ls rest =
 -- what still comes in a phase, at an offset, with these bytes left
 unfoldable pub resume : Phase → ℕ → ℕ → List ℕ → ComingEvents
 resume Between at most bytes = record {
-  events = told_between (at + length bytes) at (lines bytes);
+  events = events_between (at + length bytes) at (lines bytes);
   refusal =
       refusal_between at most (lines bytes) (length bytes);
 }
 resume (Inside start size) at most bytes =
     record {
-      events = told_inside (at + length bytes) at start size (lines bytes);
+      events = events_inside (at + length bytes) at start size (lines bytes);
       refusal =
           too_long most (at + length bytes);
     }

@@ -15,7 +15,7 @@ use Rattle.mbox_cutter.specs.Separators.{is_separator}
 use Rattle.mbox_cutter.specs.Events.{ComingEvents}
 use Rattle.mbox_cutter.specs.Coming.{AnswersAsComing, is_device_fault}
 use Rattle.mbox_cutter.specs.Places.{CutterPlace, HasLine, Moves}
-use Rattle.mbox_cutter.specs.Progress.{told_event, told_result}
+use Rattle.mbox_cutter.specs.Progress.{event_with_line, result_with_line}
 use Rattle.contract_words.specs.Knowledge.{still_known}
 use Rattle.mbox_cutter.specs.Sources.{Stays}
 use Rattle.mbox_cutter.specs.Inside.Ahead.{known_bytes, known_until, IsLineLength, ReadsOn, TakesLine}
@@ -97,11 +97,11 @@ module _ {S : Type 0} (g : Ghosts S) where
     pub most : new.most ≡ old.most
     -- if it is known what comes, the event is the first that comes, and a refusal is the archive's
     pub answers : AnswersAsComing (still_known (coming_events g.rest old) (g.rest new.window.source.now))
-        (told_result new.window.line result) (coming_events g.rest new)
+        (result_with_line new.window.line result) (coming_events g.rest new)
     -- the place moves as the event says
-    pub moves : IfOk result (λ e. Moves (told_event new.window.line e) (place_of old) (place_of new))
+    pub moves : IfOk result (λ e. Moves (event_with_line new.window.line e) (place_of old) (place_of new))
     -- the line of an event, if it has one, is a line
-    pub line : IfOk result (λ e. HasLine (told_event new.window.line e))
+    pub line : IfOk result (λ e. HasLine (event_with_line new.window.line e))
     -- a fault is that of this step, not of an earlier one
     pub fresh : IfErr result IsFresh
 

@@ -103,7 +103,7 @@ loop-number-preserved g c =
       ends = next-ends g.S.Source c.loop-number.sources i c.archive.new.source (omega arith)
           c.loop-number.invariant.ends
           (rw is at c.archive.ensures.end);
-      kept = rw is at c.archive.ensures.kept;
+      kept = rw is at c.archive.ensures.lost;
       found = λ archives known.
           let paths = map string_bytes c.args.paths.now in
           let below : i < length c.args.paths.now = omega (arith, c.requires.many) in

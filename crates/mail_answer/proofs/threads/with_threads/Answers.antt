@@ -2,7 +2,7 @@
 -- same roots.
 use Rattle.mail_answer.proofs.Words.{◌≡◌, ◌∙◌, ◌⊎◌, ℕ, nat_eq, [], length, get_or, inl, inr, sym, ap, subst, arith}
 use Rattle.mail_answer.proofs.Words.{length-map, list_any, eqb-true, LinkId, keys_of, each_number, AreThreads}
-use Rattle.mail_answer.proofs.Words.{TellsThreads}
+use Rattle.mail_answer.proofs.Words.{AreThreadRoots}
 use Rattle.mail_answer.proofs.ThreadLaws.ChosenThreads.{ok_then, empty_is, no_keys, threads_without, chosen_by_marks}
 use Rattle.mail_answer.proofs.threads.with_threads.Goals as goal
 use Rattle.mail_answer.proofs.threads.with_threads.Goals.{then-is_empty-via-then-is_empty}
@@ -26,8 +26,8 @@ returns-then-is_empty c =
 pub returns : goal.returns
 returns c =
     let t = c.args.index.now in
-    let tells : TellsThreads t c.as_slice.result.now =
-    subst (TellsThreads t) (sym c.as_slice.ensures.value) (rw c.again-index.ensures.same at c.in_ok-roots.ensures)
+    let tells : AreThreadRoots t c.as_slice.result.now =
+    subst (AreThreadRoots t) (sym c.as_slice.ensures.value) (rw c.again-index.ensures.same at c.in_ok-roots.ensures)
     in
     let marks = ap (λ (count : ℕ). each_number count
     (λ r. list_any (λ n. nat_eq r (get_or c.as_slice.result.now n 0)) c.args.numbers.now)) tells.long in

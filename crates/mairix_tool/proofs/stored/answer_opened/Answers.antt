@@ -1,7 +1,7 @@
 -- `answer_opened` replies what the table says, by the results of verification and search.
 use Rattle.mairix_tool.proofs.Words.{◌≡◌, ℕ, List, Option, None, Some, Err, IfSome, sym, subst, shown_wanted}
 use Rattle.mairix_tool.proofs.Words.{IsStaleOr}
-use Rattle.mairix_tool.proofs.Words.{IsTold, RepliesBy, TellsProved, unproved_archive, reply_of}
+use Rattle.mairix_tool.proofs.Words.{IsAnswerOrStale, RepliesBy, ReportsProved, unproved_archive, reply_of}
 use Rattle.std.proofs.lemmas.Result.{err_from_is_err_and}
 use Rattle.mairix_tool.proofs.ReplyLaws.Searching.{unverified-searched, verified-searched}
 use Rattle.mairix_tool.proofs.ReplyLaws.Stored.{unproved-replied, still-verified}
@@ -15,9 +15,9 @@ returns-in_err-prove_archives-clause-told g c = λ held holds.
     let fault = c.in_err-prove_archives.field-0.0 in
     let p = err_from_is_err_and c.from_residual.result c.from_residual.ensures.1 in
     let tells = subst (λ (o : Option (List (List ℕ))). IfSome o
-    (λ bytes. TellsProved {T = Unit {0}} (unproved_archive w.verify t.archives bytes) (Err fault))) holds
+    (λ bytes. ReportsProved {T = Unit {0}} (unproved_archive w.verify t.archives bytes) (Err fault))) holds
     c.in_err-prove_archives.ensures.proved in
-    rw (p.1, p.2) (unproved-replied (unproved_archive w.verify t.archives held) (IsTold t w.search held) fault
+    rw (p.1, p.2) (unproved-replied (unproved_archive w.verify t.archives held) (IsAnswerOrStale t w.search held) fault
     (g.O.Out.taken c.args.out.now) tells)
 
 pub returns-clause-told : goal.returns-clause-told
@@ -30,7 +30,7 @@ returns-clause-told g c = λ held holds.
     (λ bytes. unproved_archive w.verify t.archives bytes ≡ None)) held-before c.in_ok-prove_archives.ensures.proved
     in
     let told = c.answer_view.ensures.told held holds in
-    subst (λ (o : Option ℕ). RepliesBy (IsStaleOr o (IsTold t w.search held)) (reply_of c.answer_view.result)
+    subst (λ (o : Option ℕ). RepliesBy (IsStaleOr o (IsAnswerOrStale t w.search held)) (reply_of c.answer_view.result)
     (g.O.Out.taken c.args.out.now) (g.O.Out.taken c.answer_view.new.out)) (sym none) told
 
 pub returns-clause-counted : goal.returns-clause-counted

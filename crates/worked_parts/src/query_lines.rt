@@ -9,36 +9,36 @@ use mail_words::Flag;
 use std::fmt::{Display, InlineText};
 
 /// Whether the result of a reader is that of the line.
-pub fn is_told(answer: &Result<Query, QueryFault>, told: &str) -> bool {
+pub fn is_reported(answer: &Result<Query, QueryFault>, reported: &str) -> bool {
     match answer {
-        Ok(query) => after_node(told, query.root()) == Some(""),
+        Ok(query) => after_node(reported, query.root()) == Some(""),
         Err(fault) => {
             let text: InlineText<64> = InlineText::of(*fault);
-            text.as_str() == told
+            text.as_str() == reported
         }
     }
 }
 
 /// Returns what follows a query in the line, if the line begins with this query.
-fn after_node<'a>(told: &'a str, node: &Node) -> Option<&'a str> {
+fn after_node<'a>(reported: &'a str, node: &Node) -> Option<&'a str> {
     match node {
-        Node::Any => told.strip_prefix("any"),
-        Node::Word { kinds, text } => after_sought(told, "word ", *kinds, text.as_str()),
-        Node::Part { kinds, text } => after_sought(told, "part ", *kinds, text.as_str()),
-        Node::Prefix { kinds, text } => after_sought(told, "prefix ", *kinds, text.as_str()),
+        Node::Any => reported.strip_prefix("any"),
+        Node::Word { kinds, text } => after_sought(reported, "word ", *kinds, text.as_str()),
+        Node::Part { kinds, text } => after_sought(reported, "part ", *kinds, text.as_str()),
+        Node::Prefix { kinds, text } => after_sought(reported, "prefix ", *kinds, text.as_str()),
         Node::Date(range) => {
-            let rest = after_bound(told.strip_prefix("date ")?, range.from)?;
+            let rest = after_bound(reported.strip_prefix("date ")?, range.from)?;
             after_bound(rest.strip_prefix(" ")?, range.until)
         }
         Node::Size { low, high } => {
-            let rest = after_bound(told.strip_prefix("size ")?, Some(*low))?;
+            let rest = after_bound(reported.strip_prefix("size ")?, Some(*low))?;
             after_bound(rest.strip_prefix(" ")?, *high)
         }
-        Node::Flag { flag, wanted } => after_flag(told.strip_prefix("flag ")?, *flag, *wanted),
-        Node::Not(inner) => after_node(told.strip_prefix("not ")?, inner),
+        Node::Flag { flag, wanted } => after_flag(reported.strip_prefix("flag ")?, *flag, *wanted),
+        Node::Not(inner) => after_node(reported.strip_prefix("not ")?, inner),
         Node::All(members) | Node::Either(members) => {
             let is_all = matches!(node, Node::All(_));
-            let mut rest = told.strip_prefix(if is_all { "all(" } else { "either(" })?;
+            let mut rest = reported.strip_prefix(if is_all { "all(" } else { "either(" })?;
             let mut separator = "";
             for member in members {
                 rest = after_node(rest.strip_prefix(separator)?, member)?;
@@ -49,8 +49,8 @@ fn after_node<'a>(told: &'a str, node: &Node) -> Option<&'a str> {
     }
 }
 
-fn after_sought<'a>(told: &'a str, name: &str, kinds: Kinds, text: &str) -> Option<&'a str> {
-    let (letters, rest) = told.strip_prefix(name)?.split_once(' ')?;
+fn after_sought<'a>(reported: &'a str, name: &str, kinds: Kinds, text: &str) -> Option<&'a str> {
+    let (letters, rest) = reported.strip_prefix(name)?.split_once(' ')?;
     if kinds_of(letters) == Some(kinds) {
         rest.strip_prefix(text)
     } else {
@@ -78,21 +78,21 @@ fn kinds_of(letters: &str) -> Option<Kinds> {
     Some(kinds)
 }
 
-fn after_bound<N: Display + Drop>(told: &str, bound: Option<N>) -> Option<&str> {
+fn after_bound<N: Display + Drop>(reported: &str, bound: Option<N>) -> Option<&str> {
     match bound {
-        None => told.strip_prefix("-"),
+        None => reported.strip_prefix("-"),
         Some(number) => {
             let text: InlineText<20> = InlineText::of(number);
-            told.strip_prefix(text.as_str())
+            reported.strip_prefix(text.as_str())
         }
     }
 }
 
-fn after_flag(told: &str, flag: Flag, wanted: bool) -> Option<&str> {
+fn after_flag(reported: &str, flag: Flag, wanted: bool) -> Option<&str> {
     let rest = if wanted {
-        told
+        reported
     } else {
-        told.strip_prefix("-")?
+        reported.strip_prefix("-")?
     };
     rest.strip_prefix(match flag {
         Flag::Seen => "s",

@@ -2,7 +2,7 @@
 -- node.
 use denote.Text.{Utf8}
 use denote.Shadow.{shadow}
-use Rattle.worked_parts.proofs.told.+after_node.Given as goal
+use Rattle.worked_parts.proofs.query_lines.+after_node.Given as goal
 
 abbrev pub decreases-after_node : goal.decreases-after_node
 decreases-after_node l = goal.size-after_node l
