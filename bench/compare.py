@@ -52,12 +52,12 @@ def main(words):
     if words[:1] == ["--write"] and len(words) == 2:
         with open(KEPT, "w", encoding="utf-8") as file:
             file.write(small_runs(words[1]))
+    elif not 1 <= len(words) <= 2 or words[0].startswith("-"):
+        sys.exit(__doc__)
     elif len(words) == 1:
         return compare(read(KEPT), small_runs(words[0]))
-    elif len(words) == 2:
-        return compare(read(words[0]), read(words[1]))
     else:
-        sys.exit(__doc__)
+        return compare(read(words[0]), read(words[1]))
 
 
 if __name__ == "__main__":

@@ -1,11 +1,12 @@
 #!/usr/bin/env python3
-"""Runs the gates of two commits side by side, each on half of the processors and with nothing kept, and prints what each took.
+"""Runs the gates of some commits side by side, each on its share of the processors and with nothing kept, and prints what each took.
 
-    gates.py COMMIT [COMMIT]
+    gates.py COMMIT [COMMIT ..]
 
-The second commit is HEAD if it isn't given. Each gate runs in a clone of its own. In place of the folder in which `rt` keeps what it has proved it
-sees an empty one, which takes root (`unshare`, `mount`). Run nothing else meanwhile: that would take more of one gate's time than of the other's.
-Prints each gate's last lines, and the ratio of their processor minutes. Past runs are kept in bench/results/.
+A commit alone is compared with HEAD. Each gate runs in a clone of its own. In place of the folder in which `rt` keeps what it has proved it sees an
+empty one, which takes root (`unshare`, `mount`). If there are more processors than shares, the last ones are left free for other work; run nothing
+else on the shares. Prints each gate's last lines as it ends, and then the ratio of each gate's processor minutes to those of the one before. On more
+processors a gate takes more processor minutes, so only gates of one run can be compared. Past runs are kept in bench/results/.
 """
 import os, re, subprocess, sys, tempfile
 from concurrent.futures import ThreadPoolExecutor
@@ -39,22 +40,29 @@ def gate(room, commit, processors):
 
 
 def main(words):
-    if not 1 <= len(words) <= 2 or words[0].startswith("-"):
+    if not words or words[0].startswith("-"):
         sys.exit(__doc__)
-    commits = [said("git", "-C", TOP, "rev-parse", "--short", it) for it in [*words, "HEAD"][:2]]
+    commits = [said("git", "-C", TOP, "rev-parse", "--short", it) for it in (words if len(words) > 1 else [*words, "HEAD"])]
     processors = sorted(os.sched_getaffinity(0))
-    halves = processors[: len(processors) // 2], processors[len(processors) // 2 :]
+    share = len(processors) // len(commits)
+    if not share:
+        sys.exit(f"gates: {len(commits)} commits, and {len(processors)} processors")
     kept_by_rt().mkdir(exist_ok=True)
     room = Path(tempfile.mkdtemp(prefix="gates-"))
-    print("the whole of what both print is in", room, flush=True)
-    with ThreadPoolExecutor(2) as pool:
-        ends = [*pool.map(lambda it: gate(room, *it), zip(commits, halves))]
-    for commit, lines in zip(commits, ends):
-        print(commit, *lines, sep="\n  ")
-    took = [next((int(found[2]) for found in map(TOOK.search, lines) if found), None) for lines in ends]
-    if None in took:
+    print("the whole of what they print is in", room, flush=True)
+    took = {}
+
+    def run(at):
+        lines = gate(room, commits[at], processors[at * share : (at + 1) * share])
+        print(commits[at], *lines, sep="\n  ", flush=True)
+        took[at] = next((int(found[2]) for found in map(TOOK.search, lines) if found), None)
+
+    with ThreadPoolExecutor(len(commits)) as pool:
+        list(pool.map(run, range(len(commits))))
+    if None in took.values():
         return 1
-    print("processor minutes: %d and %d, %.2f of them" % (took[0], took[1], took[1] / took[0]))
+    for at in range(1, len(commits)):
+        print("processor minutes: %d and %d, %.2f of them" % (took[at - 1], took[at], took[at] / took[at - 1]))
     return 0
 
 
