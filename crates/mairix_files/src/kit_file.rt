@@ -210,7 +210,15 @@ impl<F: Read + OpenFile + FileExt + Drop> KeptFile for KitFile<F> {
         Err(DeviceFault)
     }
 
-    fn close(&mut self) {
+    fn close(&mut self)
+        ensures known { bytes_held self.new.record ≡ bytes_held self.old.record }
+        ensures rest { rest_held self.new.record ≡ rest_held self.old.record }
+        ensures whole { (bytes : List ℕ) → archive_at self.old.record.supposed 0 ≡ bytes
+            → archive_at self.new.record.supposed 0 ≡ bytes }
+        ensures found { self.new.state ≡ self.old.state }
+        ensures count { self.new.failures ≡ self.old.failures }
+        ensures closed { self.new.opened ≡ None }
+    {
         self.opened = None;
     }
 }
