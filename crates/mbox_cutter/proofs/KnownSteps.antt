@@ -46,6 +46,6 @@ pub known-fault : (bytes last : Option (List ℕ)) (p : CutterPlace) (was : Phas
 known-fault bytes last p was fault h h2 h3 = grind (arith, each_some)
 
 -- what comes at the beginning
-pub known-beginning : (bytes window : Option (List ℕ)) (most : ℕ) → window ≡ bytes
-    → option_map (resume Between 0 most) window ≡ option_map (coming_of most) bytes
-known-beginning bytes window most h = grind (arith, resume-beginning)
+pub known-beginning : (bytes reader : Option (List ℕ)) (most : ℕ) → reader ≡ bytes
+    → option_map (resume Between 0 most) reader ≡ option_map (coming_of most) bytes
+known-beginning bytes reader most h = grind (arith, resume-beginning)

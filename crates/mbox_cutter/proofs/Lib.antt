@@ -17,4 +17,4 @@ pub mod ScanSteps
 pub mod Sources
 pub mod Steps
 pub mod Tokens
-pub mod Windows
+pub mod LineReaders

@@ -6,16 +6,16 @@ use Rattle.mbox_cutter.proofs.Words.{NotAnMbox, ArchiveTooLong, Phase, Between, 
 use Rattle.mbox_cutter.proofs.Words.{IsLine, is_separator, Line, IsRefusalToCome, TakesEvent, is_device, CutterPlace}
 use Rattle.mbox_cutter.proofs.Words.{Moves, HasLine}
 use Rattle.mbox_cutter.proofs.Words.{known_bytes, ReadsOn, resume, closes_at, coming_events, place_of, event_with_line}
-use Rattle.mbox_cutter.proofs.Words.{IsPlace, IsWithin}
+use Rattle.mbox_cutter.proofs.Words.{IsPlace, IsWithin, ReadsSource}
 use Rattle.mbox_cutter.proofs.Words.{IsScan, IsFresh, FindsLine, Passes, Steps}
 use Rattle.mbox_cutter.specs.declared.event.Event.{Event}
 use Rattle.mbox_cutter.specs.declared.event.Event.TheVariants as event
 use Rattle.mbox_cutter.specs.declared.scan.Scan.{Scan}
 use Rattle.mbox_cutter.proofs.KnownSteps.{each_some, at_same, both, still-on, IsFirst, known-step, known-fault}
-use Rattle.mbox_cutter.proofs.Sources.{Serves, Serves-none, Serves-join, served}
+use Rattle.mbox_cutter.proofs.Sources.{ReadsSource-none, ReadsSource-join}
 use Rattle.mbox_cutter.proofs.Steps.{step-done, step-start, step-empty, step-refused, step-long, step-end, step-line}
 use Rattle.mbox_cutter.proofs.Steps.{step-open, step-closed, step-long_inside, ended-stays}
-use Rattle.mbox_cutter.proofs.Windows.{known_taken, line_taken, length-Extends, take-Extends, ReadsOn-join}
+use Rattle.mbox_cutter.proofs.LineReaders.{known_taken, line_taken, length-Extends, take-Extends, ReadsOn-join}
 
 -- the place n bytes further, in this phase
 abbrev further : Phase → ℕ → CutterPlace → CutterPlace
@@ -27,39 +27,39 @@ further phase n p = record { phase = phase; offset = p.offset + n; most = p.most
 pub record Found {S : Type 0} (g : Ghosts S) (old now : Scan S) (n : ℕ) (line : List ℕ) : Type 0 where
   pub some : 0 < n
   pub place : place_of now ≡ place_of old
-  pub reads : ReadsOn g false old.window now.window
-  pub first : IfSome (known_until g.rest old.window now.window) (IsFirst n line)
+  pub reads : ReadsOn g false old.reader now.reader
+  pub first : IfSome (known_until g.rest old.reader now.reader) (IsFirst n line)
   pub fits : old.offset + n ≤ old.most
-  pub within : n ≤ length now.window.unread
-  pub is : take n now.window.unread ≡ line
+  pub within : n ≤ length now.reader.unread
+  pub is : take n now.reader.unread ≡ line
   pub is_line : IsLine line
 
 -- the bytes have been taken, and this phase has begun
 pub record Taken {S : Type 0} (g : Ghosts S) (old new : Scan S) (n : ℕ) (phase : Phase) (line : List ℕ) : Type 0 where
   pub some : 0 < n
   pub place : place_of new ≡ further phase n (place_of old)
-  pub reads : Serves g false old.window.source new.window.source
-  pub moved : IfSome (known_until g.rest old.window new.window) (λ b. known_bytes g.rest new.window ≡ Some (drop n b))
-  pub first : IfSome (known_until g.rest old.window new.window) (IsFirst n line)
+  pub reads : ReadsSource g false old.reader.source new.reader.source
+  pub moved : IfSome (known_until g.rest old.reader new.reader) (λ b. known_bytes g.rest new.reader ≡ Some (drop n b))
+  pub first : IfSome (known_until g.rest old.reader new.reader) (IsFirst n line)
   pub fits : old.offset + n ≤ old.most
-  pub is : new.window.line ≡ line
+  pub is : new.reader.line ≡ line
   pub is_line : IsLine line
   pub size : length line ≡ n
 
 module _ {S : Type 0} (g : Ghosts S) (old mid : Scan S) (n : ℕ) (line : List ℕ) where
-  pub found : FindsLine g old (Ok n) mid → 0 < n → line ≡ take n mid.window.unread → Found g old mid n line
+  pub found : FindsLine g old (Ok n) mid → 0 < n → line ≡ take n mid.reader.unread → Found g old mid n line
   found f some is =
-      let within : n ≤ length mid.window.unread = omega (arith, f.first.within) in
+      let within : n ≤ length mid.reader.unread = omega (arith, f.first.within) in
       record {
         some = some;
         place = f.place;
         reads = f.reads;
-        first = both (known_until g.rest old.window mid.window) (λ b. n ≡ first_length b) (λ b. line ≡ take n b)
+        first = both (known_until g.rest old.reader mid.reader) (λ b. n ≡ first_length b) (λ b. line ≡ take n b)
             f.first.first
-            (at_same (known_until g.rest old.window mid.window) (known_bytes g.rest mid.window) (λ b. line ≡ take n b)
+            (at_same (known_until g.rest old.reader mid.reader) (known_bytes g.rest mid.reader) (λ b. line ≡ take n b)
             f.reads.bytes
-            (subst (λ (l : List ℕ). IfSome (known_bytes g.rest mid.window) (λ b. l ≡ take n b)) (sym is)
-            (line_taken n mid.window.unread (g.rest mid.window.source.now) within)));
+            (subst (λ (l : List ℕ). IfSome (known_bytes g.rest mid.reader) (λ b. l ≡ take n b)) (sym is)
+            (line_taken n mid.reader.unread (g.rest mid.reader.source.now) within)));
         fits = f.fits;
         within = within;
         is = sym is;
@@ -68,41 +68,41 @@ module _ {S : Type 0} (g : Ghosts S) (old mid : Scan S) (n : ℕ) (line : List �
 
   -- a line that was found is still found after more has been read
   pub found-on : (far : Scan S) → Found g old mid n line → place_of far ≡ place_of mid
-      → ReadsOn g false mid.window far.window → Found g old far n line
+      → ReadsOn g false mid.reader far.reader → Found g old far n line
   found-on far h same r = record {
     some = h.some;
     place = same ∙ h.place;
-    reads = ReadsOn-join g false old.window mid.window far.window h.reads r;
-    first = still-on (known_bytes g.rest old.window) (g.rest mid.window.source.now) (g.rest far.window.source.now)
-        (IsFirst n line) r.stays.known h.first;
+    reads = ReadsOn-join g false old.reader mid.reader far.reader h.reads r;
+    first = still-on (known_bytes g.rest old.reader) (g.rest mid.reader.source.now) (g.rest far.reader.source.now)
+        (IsFirst n line) r.source.stays.known h.first;
     fits = h.fits;
-    within = let more : length mid.window.unread ≤ length far.window.unread =
-        length-Extends mid.window.unread far.window.unread r.keeps in omega (arith, h.within);
-    is = take-Extends n mid.window.unread far.window.unread h.within r.keeps ∙ h.is;
+    within = let more : length mid.reader.unread ≤ length far.reader.unread =
+        length-Extends mid.reader.unread far.reader.unread r.keeps in omega (arith, h.within);
+    is = take-Extends n mid.reader.unread far.reader.unread h.within r.keeps ∙ h.is;
     is_line = h.is_line;
   }
 
   -- what `closes` returns, in terms of the bytes at the call
   closes-far : (far : Scan S) (is wanted : Bool) →
-      IfSome (known_until g.rest old.window mid.window) (λ b. known_bytes g.rest mid.window ≡ Some b) →
-      (IsSome (g.rest far.window.source.now) → IsSome (g.rest mid.window.source.now)) →
-      IfSome (known_until g.rest mid.window far.window) (λ b. is ≡ closes_at n b) → is ≡ wanted →
-      IfSome (known_until g.rest old.window far.window) (λ b. wanted ≡ closes_at n b)
+      IfSome (known_until g.rest old.reader mid.reader) (λ b. known_bytes g.rest mid.reader ≡ Some b) →
+      (IsSome (g.rest far.reader.source.now) → IsSome (g.rest mid.reader.source.now)) →
+      IfSome (known_until g.rest mid.reader far.reader) (λ b. is ≡ closes_at n b) → is ≡ wanted →
+      IfSome (known_until g.rest old.reader far.reader) (λ b. wanted ≡ closes_at n b)
   closes-far far is wanted same still h e = grind (arith, at_same)
 
-  pub closes-known : (far new : Scan S) (is wanted : Bool) → new.window.source ≡ far.window.source →
-      IfSome (known_until g.rest old.window mid.window) (λ b. known_bytes g.rest mid.window ≡ Some b) →
-      (IsSome (g.rest far.window.source.now) → IsSome (g.rest mid.window.source.now)) →
-      IfSome (known_until g.rest mid.window far.window) (λ b. is ≡ closes_at n b) → is ≡ wanted →
-      IfSome (known_until g.rest old.window new.window) (λ b. wanted ≡ closes_at n b)
+  pub closes-known : (far new : Scan S) (is wanted : Bool) → new.reader.source ≡ far.reader.source →
+      IfSome (known_until g.rest old.reader mid.reader) (λ b. known_bytes g.rest mid.reader ≡ Some b) →
+      (IsSome (g.rest far.reader.source.now) → IsSome (g.rest mid.reader.source.now)) →
+      IfSome (known_until g.rest mid.reader far.reader) (λ b. is ≡ closes_at n b) → is ≡ wanted →
+      IfSome (known_until g.rest old.reader new.reader) (λ b. wanted ≡ closes_at n b)
   closes-known far new is wanted source same still h e =
-      subst (λ (m : MutBor S). IfSome (still_known (known_bytes g.rest old.window) (g.rest m.now))
+      subst (λ (m : MutBor S). IfSome (still_known (known_bytes g.rest old.reader) (g.rest m.now))
       (λ b. wanted ≡ closes_at n b))
       (sym source) (closes-far far is wanted same still h e)
 
   pub taken : (new : Scan S) (phase : Phase) → Found g old mid n line → Passes n phase mid new
       → Taken g old new n phase line
-  taken new phase h p = grind (arith, served, at_same, known_taken, length-take-le)
+  taken new phase h p = grind (arith, at_same, known_taken, length-take-le)
 
 -- an option has its own value
 itself : {A B : Type 0} (o : Option A) (last : Option B) → IfSome (still_known o last) (λ x. o ≡ Some x)
@@ -113,11 +113,12 @@ itself o last = grind arith
 -- a step that reports an event in a phase leaves the scan at this place
 told-steps : {S : Type 0} (g : Ghosts S) (old new : Scan S) (was : Phase) (p : CutterPlace) (s : Event) (line : List ℕ)
     (P : List ℕ → Type 0) (left : List ℕ → List ℕ) →
-    Serves g false old.window.source new.window.source → place_of new ≡ p → new.window.line ≡ line → old.phase ≡ was
+    ReadsSource g false old.reader.source new.reader.source → place_of new ≡ p → new.reader.line ≡ line → old.phase
+    ≡ was
     → p.most ≡ old.most → IsPlace p →
-    (p.phase ≡ Ended → IsAtEnd (g.rest new.window.source.now)) →
-    IfSome (known_until g.rest old.window new.window) P
-    → IfSome (known_until g.rest old.window new.window) (λ b. known_bytes g.rest new.window ≡ Some (left b)) →
+    (p.phase ≡ Ended → IsAtEnd (g.rest new.reader.source.now)) →
+    IfSome (known_until g.rest old.reader new.reader) P
+    → IfSome (known_until g.rest old.reader new.reader) (λ b. known_bytes g.rest new.reader ≡ Some (left b)) →
     ((b : List ℕ) → P b → TakesEvent (event_with_line line s) (resume was old.offset old.most b)
     (resume p.phase p.offset p.most (left b))) →
     Moves (event_with_line line s) (place_of old) p → HasLine (event_with_line line s) → Steps g old (Ok s) new
@@ -128,7 +129,7 @@ told-steps g old new was p s line P left reads at is before most place end h lea
 module _ {S : Type 0} (g : Ghosts S) (old new : Scan S) (n : ℕ) (line : List ℕ) where
   taken-steps : (was phase : Phase) (s : Event) (P : List ℕ → Type 0) → old.phase ≡ was → Taken g old new n phase line
       → IsWithin phase (old.offset + n) → (phase ≡ Ended → ⊥) →
-      IfSome (known_until g.rest old.window new.window) P
+      IfSome (known_until g.rest old.reader new.reader) P
       → ((b : List ℕ) → P b → TakesEvent (event_with_line line s) (resume was old.offset old.most b)
       (resume phase (old.offset + n) old.most (drop n b))) →
       Moves (event_with_line line s) (place_of old) (further phase n (place_of old)) → HasLine (event_with_line line s)
@@ -146,7 +147,7 @@ module _ {S : Type 0} (g : Ghosts S) (old new : Scan S) (n : ℕ) (line : List �
 
     -- a line of the open message's text
     text-steps : (P : List ℕ → Type 0) → Taken g old new n (Inside start (size + n)) line
-        → IfSome (known_until g.rest old.window new.window) P →
+        → IfSome (known_until g.rest old.reader new.reader) P →
         ((b : List ℕ) → P b → TakesEvent (Line line) (resume (Inside start size) old.offset old.most b)
         (resume (Inside start (size + n)) (old.offset + n) old.most (drop n b))) →
         Steps g old (Ok event.Line) new
@@ -158,14 +159,14 @@ module _ {S : Type 0} (g : Ghosts S) (old new : Scan S) (n : ℕ) (line : List �
         (λ b f. rw f.1 (step-line old.offset old.most n b f.0 t.some start size (sym (ap is_empty f.1) ∙ full)))
 
     -- an empty line that doesn't end the message
-    pub open-steps : is_empty line ≡ true → IfSome (known_until g.rest old.window new.window)
+    pub open-steps : is_empty line ≡ true → IfSome (known_until g.rest old.reader new.reader)
         (λ b. false ≡ closes_at n b) →
         Taken g old new n (Inside start (size + n)) line → Steps g old (Ok event.Line) new
     open-steps empty opens t = grind (arith, text-steps, both, step-open)
 
     -- the empty line that ends the message
     pub closed-steps : is_empty line ≡ true
-        → IfSome (known_until g.rest old.window new.window) (λ b. true ≡ closes_at n b) →
+        → IfSome (known_until g.rest old.reader new.reader) (λ b. true ≡ closes_at n b) →
         Taken g old new n Between line → Steps g old (Ok (event.End (new.offset - start) size)) new
     closed-steps empty closes t = grind (arith, begun, taken-steps, both, step-closed)
 
@@ -173,13 +174,13 @@ module _ {S : Type 0} (g : Ghosts S) (old new : Scan S) (n : ℕ) (line : List �
 module _ {S : Type 0} (g : Ghosts S) (old mid : Scan S) (n : ℕ) (found_none : FindsLine g old (Ok n) mid) (none : n ≡ 0)
     (was : IsScan g.rest old) where
   none-steps : (before phase : Phase) (s : Event) → old.phase ≡ before → IsWithin phase old.offset →
-      ((b : List ℕ) → 0 ≡ first_length b → TakesEvent (event_with_line mid.window.line s)
+      ((b : List ℕ) → 0 ≡ first_length b → TakesEvent (event_with_line mid.reader.line s)
       (resume before old.offset old.most b)
       (resume phase old.offset old.most b)) →
-      Moves (event_with_line mid.window.line s) (place_of old)
-      (record { phase = phase; offset = old.offset; most = old.most }) → HasLine (event_with_line mid.window.line s) →
+      Moves (event_with_line mid.reader.line s) (place_of old)
+      (record { phase = phase; offset = old.offset; most = old.most }) → HasLine (event_with_line mid.reader.line s) →
       Steps g old (Ok s) (record mid { phase = phase })
-  none-steps before phase s is within takes moves lends = grind (arith, told-steps, served)
+  none-steps before phase s is within takes moves lends = grind (arith, told-steps)
 
   same_offset : mid.offset ≡ old.offset
   same_offset = ap (λ (p : CutterPlace). p.offset) found_none.place
@@ -194,15 +195,16 @@ module _ {S : Type 0} (g : Ghosts S) (old mid : Scan S) (n : ℕ) (found_none : 
 -- the end is reported again
 pub ended-steps : {S : Type 0} (g : Ghosts S) (old : Scan S) → old.phase ≡ Ended → IsScan g.rest old
     → Steps g old (Ok (event.Done old.offset)) old
-ended-steps g old ended was = grind (arith, told-steps, Serves-none, itself, ended-stays)
+ended-steps g old ended was = grind (arith, told-steps, ReadsSource-none, itself, ended-stays)
 
 -- ---- steps that fail
 
 module _ {S : Type 0} (g : Ghosts S) (old mid : Scan S) (fault : CutFault) (was : IsScan g.rest old) where
   -- a step that fails leaves the scan in its place
-  fails-steps : (old.phase ≡ Ended → ⊥) → Serves g (is_device fault) old.window.source mid.window.source → place_of mid
+  fails-steps : (old.phase ≡ Ended → ⊥) → ReadsSource g (is_device fault) old.reader.source mid.reader.source
+      → place_of mid
       ≡ place_of old →
-      IfSome (still_known (coming_events g.rest old) (g.rest mid.window.source.now)) (IsRefusalToCome fault)
+      IfSome (still_known (coming_events g.rest old) (g.rest mid.reader.source.now)) (IsRefusalToCome fault)
       → IsFresh fault
       → Steps g old (Err fault) mid
   fails-steps not_ended reads same refuses fresh = grind arith
@@ -212,7 +214,7 @@ module _ {S : Type 0} (g : Ghosts S) (old mid : Scan S) (fault : CutFault) (was 
       → ((b : List ℕ) → old.most < old.offset + first_length b
       → IsRefusalToCome ArchiveTooLong (resume before old.offset old.most b)) →
       FindsLine g old (Err fault) mid → Steps g old (Err fault) mid
-  unfound-steps before is not_ended long f = grind (arith, fails-steps, served, known-fault)
+  unfound-steps before is not_ended long f = grind (arith, fails-steps, known-fault)
 
   pub fault-steps : old.phase ≡ Between → FindsLine g old (Err fault) mid → Steps g old (Err fault) mid
   fault-steps between f = unfound-steps Between between (λ e. cc) (λ b. step-long old.offset old.most b was.place.most)
@@ -227,37 +229,37 @@ module _ {S : Type 0} (g : Ghosts S) (old mid : Scan S) (fault : CutFault) (was 
 pub unread-steps : {S : Type 0} (g : Ghosts S) (old mid : Scan S) (fault : CutFault) → IsScan g.rest old
     → (n start size : ℕ) (line : List ℕ) (far : Scan S) →
     old.phase ≡ Inside start size → Found g old mid n line → place_of far ≡ place_of mid
-    → ReadsOn g (is_device fault) mid.window far.window → fault ≡ Device → Steps g old (Err fault) far
+    → ReadsOn g (is_device fault) mid.reader far.reader → fault ≡ Device → Steps g old (Err fault) far
 unread-steps g old mid fault was n start size line far inside h same r device =
-    grind (arith, fails-steps, served, ReadsOn-join, each_some)
+    grind (arith, fails-steps, ReadsOn-join, each_some)
 
 -- the first line that isn't empty isn't a separator
 pub refused-steps : {S : Type 0} (g : Ghosts S) (old mid : Scan S) (n : ℕ) (line : List ℕ) → IsScan g.rest old
     → old.phase ≡ Between → Found g old mid n line →
     is_separator line ≡ false → is_empty line ≡ false → Steps g old (Err NotAnMbox) mid
-refused-steps g old mid n line was between h other full = grind (arith, fails-steps, served, step-refused)
+refused-steps g old mid n line was between h other full = grind (arith, fails-steps, step-refused)
 
 -- ---- empty lines before a step
 
 -- empty lines between two messages have been taken
 pub record Skipped {S : Type 0} (g : Ghosts S) (old now : Scan S) : Type 0 where
-  pub reads : Serves g false old.window.source now.window.source
+  pub reads : ReadsSource g false old.reader.source now.reader.source
   pub was : old.phase ≡ Between
   pub phase : now.phase ≡ Between
   pub scan : IsScan g.rest now
   pub later : old.offset ≤ now.offset
   pub most : now.most ≡ old.most
-  pub still : IfSome (still_known (coming_events g.rest old) (g.rest now.window.source.now))
+  pub still : IfSome (still_known (coming_events g.rest old) (g.rest now.reader.source.now))
       (λ k. coming_events g.rest now ≡ Some k)
 
 pub skipped-none : {S : Type 0} (g : Ghosts S) (old : Scan S) → old.phase ≡ Between → IsScan g.rest old
     → Skipped g old old
-skipped-none g old between was = grind (arith, Serves-none, itself)
+skipped-none g old between was = grind (arith, ReadsSource-none, itself)
 
 pub skipped-one : {S : Type 0} (g : Ghosts S) (old now new : Scan S) (n : ℕ) (line : List ℕ) → Skipped g old now
     → Taken g now new n Between line →
     is_separator line ≡ false → is_empty line ≡ true → Skipped g old new
-skipped-one g old now new n line k t other empty = grind (arith, Serves-join, at_same, both, step-empty)
+skipped-one g old now new n line k t other empty = grind (arith, ReadsSource-join, at_same, both, step-empty)
 
 moves-skipped : (result : Result Event CutFault) (line : List ℕ) (old now new : CutterPlace) → old.phase ≡ Between
     → now.phase ≡ Between → old.offset ≤ now.offset →
@@ -267,4 +269,4 @@ moves-skipped result line old now new h h2 h3 h4 = grind arith
 
 pub skipped-steps : {S : Type 0} (g : Ghosts S) (old now new : Scan S) (result : Result Event CutFault)
     → Skipped g old now → Steps g now result new → Steps g old result new
-skipped-steps g old now new result k s = grind (arith, Serves-join, moves-skipped)
+skipped-steps g old now new result k s = grind (arith, ReadsSource-join, moves-skipped)

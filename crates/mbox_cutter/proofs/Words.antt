@@ -1,5 +1,4 @@
 -- The names of std and of the definitions that proofs use, all from one place.
-pub use Rattle.contract_words.specs.Devices.{Counted}
 pub use Rattle.contract_words.specs.Knowledge.{still_known}
 pub use Rattle.mbox_cutter.specs.Archives.{Message, spans_of, grouped_lines, is_refused, marked_lines, messages_from}
 pub use Rattle.mbox_cutter.specs.Archives.{size, span_length}
@@ -9,17 +8,19 @@ pub use Rattle.mbox_cutter.specs.Coming.{IsRefusalToCome, TakesEvent, TakesKnown
 pub use Rattle.mbox_cutter.specs.Events.{ArchiveEvent, ComingEvents, Done, End, Line, Start, coming_of, first_full_end}
 pub use Rattle.mbox_cutter.specs.Events.{events_of}
 unfoldable pub use Rattle.mbox_cutter.specs.Events.{events, archive_refusal}
-pub use Rattle.mbox_cutter.specs.Inside.Ahead.{BytesAhead, Extends, ReadsAfter, ReadsOn, known_bytes, known_until}
+pub use Rattle.mbox_cutter.specs.Inside.Ahead.{Extends, ReadsAfter, ReadsOn}
 pub use Rattle.mbox_cutter.specs.Inside.Resume.{coming_at, refusal_between, events_between, events_inside, too_long}
 unfoldable pub use Rattle.mbox_cutter.specs.Inside.Resume.{resume}
 pub use Rattle.mbox_cutter.specs.Inside.Scan.{FailsFirst, FindsLine, IsFresh, IsPlace, IsScan, IsWithin, Passes, Steps}
 pub use Rattle.mbox_cutter.specs.Inside.Scan.{closes_at, coming_events, place_of}
+pub use Rattle.mbox_cutter.specs.LineReaders.{BytesAhead, TakesFirstLine, known_bytes, known_until}
 pub use Rattle.mbox_cutter.specs.Lines.{AreCut, AreLines, IsLine, first_lines, length_before_feed}
 unfoldable pub use Rattle.mbox_cutter.specs.Lines.{first_length, is_empty, line_end_of, lines}
 pub use Rattle.mbox_cutter.specs.Places.{CutterPlace, HasLine, Moves}
 pub use Rattle.mbox_cutter.specs.Progress.{event_with_line}
 pub use Rattle.mbox_cutter.specs.Separators.{has_time_then_year, is_time, is_year, stands_for, separator_tokens}
 unfoldable pub use Rattle.mbox_cutter.specs.Separators.{has_form, is_separator, without_break}
+pub use Rattle.mbox_cutter.specs.Sources.{ReadsSource, Stays}
 pub use Rattle.mbox_cutter.specs.declared.device.Source.{Ghosts}
 pub use Rattle.mbox_cutter.specs.declared.event.CutFault.{CutFault}
 pub use Rattle.mbox_cutter.specs.declared.event.CutFault.TheVariants.{ArchiveTooLong, Device, NotAnMbox}

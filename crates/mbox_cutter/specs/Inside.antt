@@ -4,4 +4,4 @@ pub mod Cutter
 pub mod MemoryFields
 pub mod Resume
 pub mod Scan
-pub mod Window
+pub mod ReaderFields

@@ -5,6 +5,7 @@ pub mod Digests
 pub mod Events
 pub mod FaultTexts
 pub mod Inside
+pub mod LineReaders
 pub mod Lines
 pub mod Memory
 pub mod Places

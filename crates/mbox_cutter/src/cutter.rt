@@ -5,8 +5,8 @@ ghost use Rattle.std.specs.Option.{option_map};
 use crate::buffer::Buffer;
 use crate::device::Source;
 use crate::event::{CutFault, Event};
+use crate::line_reader::LineReader;
 use crate::scan::{Phase, Scan};
-use crate::window::Window;
 use std::alloc::{AllocError, Global};
 use std::marker::Model;
 
@@ -60,7 +60,7 @@ impl<'a, S: Source> Cutter<'a, S> {
     {
         Cutter {
             scan: Scan {
-                window: Window::over(buffer, source),
+                reader: LineReader::over(buffer, source),
                 offset: 0,
                 most,
                 phase: Phase::Between,
@@ -75,8 +75,8 @@ impl<'a, S: Source> Cutter<'a, S> {
         ensures same { result.0.now ≡ self.entry.source.now }
     {
         let Cutter { scan } = self;
-        let Scan { window, .. } = scan;
-        window.into_parts()
+        let Scan { reader, .. } = scan;
+        reader.into_parts()
     }
 
     /// Returns the next event. It takes no memory.
@@ -115,6 +115,6 @@ impl<'a, S: Source> Cutter<'a, S> {
     pub fn line(&self) -> &[u8]
         ensures { result.now ≡ self.now.line }
     {
-        self.scan.window.taken_line()
+        self.scan.reader.line()
     }
 }

@@ -31,6 +31,10 @@ pub trait Source {
     /// changes them.
     ghost through: { Self → List ℕ } = { λ _. [] };
 
+    /// Whether it was this other source before any number of reads, as far as it keeps account of that. What it was
+    /// before a read, it was after it too.
+    ghost was: { Self → Self → Type 0 } = { λ _ _. ⊤ };
+
     /// Reads bytes to the front of a slice that isn't empty, and returns how many. It returns 0 only at the end.
     fn read_next(&mut self, into: &mut [u8]) -> Result<usize, DeviceFault>
         requires room { 0 < length into.old }
@@ -43,7 +47,8 @@ pub trait Source {
         ensures whole { (bytes : List ℕ) → whole self.old bytes → whole self.new bytes }
         ensures below { (number : ℕ) (bytes : List ℕ)
             → below self.old number bytes → below self.new number bytes }
-        ensures through { through self.new ≡ through self.old };
+        ensures through { through self.new ≡ through self.old }
+        ensures was { (first : Self) → was self.old first → was self.new first };
 }
 
 /// An output of bytes.

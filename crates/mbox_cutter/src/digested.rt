@@ -51,6 +51,7 @@ impl<'a, S: Source> Digested<'a, S> {
 
 impl<'a, S: Source> Source for Digested<'a, S> {
     ghost use Rattle.mbox_cutter.specs.Digests.{inner, AreWhole, AreWholeBelow, GivesBytes};
+    ghost use Rattle.mbox_cutter.specs.Sources.{Stays};
 
     ghost rest = { λ d. S.rest (inner d).now };
 
@@ -62,14 +63,14 @@ impl<'a, S: Source> Source for Digested<'a, S> {
 
     ghost through = { λ d. (inner d).ghost_name ∷ S.through (inner d).now };
 
+    ghost was = { λ d first. Stays S.Source (inner first).now (inner d).now };
+
     fn read_next(&mut self, into: &mut [u8]) -> Result<usize, DeviceFault>
         requires room { 0 < length into.old }
         requires count { S.failures (inner self.old).now < 2 ^ 64 - 1 }
         ensures bound { IfOk result (λ n. n ≤ length into.new) }
         ensures bytes { ReadConsumes (still_known (S.rest (inner self.old).now)
             (S.rest (inner self.new).now)) (S.rest (inner self.new).now) result into.new }
-        ensures known { IsSome (S.rest (inner self.new).now)
-            → IsSome (S.rest (inner self.old).now) }
         ensures count { Counts result
             (S.failures (inner self.old).now) (S.failures (inner self.new).now) }
         ensures whole { (bytes : List ℕ) →
@@ -79,6 +80,7 @@ impl<'a, S: Source> Source for Digested<'a, S> {
             → AreWholeBelow S.whole S.below self.new number bytes }
         ensures through { (inner self.new).ghost_name ∷ S.through (inner self.new).now
             ≡ (inner self.old).ghost_name ∷ S.through (inner self.old).now }
+        ensures inside { Stays S.Source (inner self.old).now (inner self.new).now }
         ensures gives { GivesBytes self.old result into.new self.new }
     {
         let n = self.source.read_next(into)?;

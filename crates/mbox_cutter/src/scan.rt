@@ -4,8 +4,8 @@ ghost use Rattle.std.specs.Prelude.{◌≡◌, Ok, false, ◌+◌, ◌-◌, ◌^
 use crate::device::{DeviceFault, Source};
 use crate::event::{CutFault, Event};
 use crate::line::is_empty_line;
+use crate::line_reader::LineReader;
 use crate::separator::is_separator;
-use crate::window::Window;
 
 #[derive(Clone, Copy)]
 pub(crate) enum Phase {
@@ -29,7 +29,7 @@ impl From<DeviceFault> for CutFault {
 
 #[derive(Drop)]
 pub(crate) struct Scan<'a, S: Source> {
-    pub(crate) window: Window<'a, S>,
+    pub(crate) reader: LineReader<'a, S>,
     // The number of bytes taken so far.
     pub(crate) offset: u64,
     pub(crate) most: u64,
@@ -39,17 +39,18 @@ pub(crate) struct Scan<'a, S: Source> {
 impl<'a, S: Source> Scan<'a, S> {
     ghost use Rattle.mbox_cutter.specs.Coming.{is_device_fault};
     ghost use Rattle.mbox_cutter.specs.Places.{is_failed};
-    ghost use Rattle.mbox_cutter.specs.Inside.Ahead.{known_bytes, known_until, ReadsOn};
+    ghost use Rattle.mbox_cutter.specs.LineReaders.{known_until};
+    ghost use Rattle.mbox_cutter.specs.Inside.Ahead.{ReadsOn};
     ghost use Rattle.mbox_cutter.specs.Inside.Scan.{closes_at, place_of, FindsLine, IsScan, Passes, Steps};
 
     /// Returns the length of the next line, or 0 at the end. Fails if the source does, or if the line goes over the
     /// limit.
     fn line_length(&mut self) -> Result<usize, CutFault>
         requires place { self.old.offset ≤ self.old.most }
-        requires count { S.failures self.old.window.source.now < 2 ^ 64 - 1 }
+        requires count { S.failures self.old.reader.source.now < 2 ^ 64 - 1 }
         ensures { FindsLine S.Source self.old result self.new }
     {
-        let n = self.window.line_length_after(0)?;
+        let n = self.reader.line_length_after(0)?;
         if n as u64 > self.most - self.offset {
             return Err(CutFault::ArchiveTooLong);
         }
@@ -60,7 +61,7 @@ impl<'a, S: Source> Scan<'a, S> {
     fn start(&mut self) -> Result<Event, CutFault>
         requires phase { self.old.phase ≡ Phase.Between }
         requires scan { IsScan S.rest self.old }
-        requires count { S.failures self.old.window.source.now < 2 ^ 64 - 1 }
+        requires count { S.failures self.old.reader.source.now < 2 ^ 64 - 1 }
         ensures { Steps S.Source self.old result self.new }
     {
         'empties: loop {
@@ -71,7 +72,7 @@ impl<'a, S: Source> Scan<'a, S> {
                     length: self.offset,
                 });
             }
-            let line = self.window.part(0, n);
+            let line = self.reader.part(0, n);
             if is_separator(line) {
                 let offset = self.offset;
                 let phase = Phase::Inside {
@@ -92,7 +93,7 @@ impl<'a, S: Source> Scan<'a, S> {
     fn go_on(&mut self, start: u64, size: u64) -> Result<Event, CutFault>
         requires phase { self.old.phase ≡ Phase.Inside start size }
         requires scan { IsScan S.rest self.old }
-        requires count { S.failures self.old.window.source.now < 2 ^ 64 - 1 }
+        requires count { S.failures self.old.reader.source.now < 2 ^ 64 - 1 }
         ensures { Steps S.Source self.old result self.new }
     {
         let n = self.line_length()?;
@@ -101,7 +102,7 @@ impl<'a, S: Source> Scan<'a, S> {
             let length = self.offset - start;
             return Ok(Event::End { length, size });
         }
-        let line = self.window.part(0, n);
+        let line = self.reader.part(0, n);
         let inside = Phase::Inside {
             start,
             size: size + n as u64,
@@ -123,29 +124,29 @@ impl<'a, S: Source> Scan<'a, S> {
     /// Returns whether a separator or the end comes after an empty line of `n` bytes.
     fn closes(&mut self, n: usize) -> Result<bool, CutFault>
         requires near { n ≤ 2 }
-        requires within { n ≤ length self.old.window.unread }
-        requires count { S.failures self.old.window.source.now < 2 ^ 64 - 1 }
+        requires within { n ≤ length self.old.reader.unread }
+        requires count { S.failures self.old.reader.source.now < 2 ^ 64 - 1 }
         ensures place { place_of self.new ≡ place_of self.old }
-        ensures reads { ReadsOn S.Source (is_device_fault result) self.old.window self.new.window }
+        ensures reads { ReadsOn S.Source (is_device_fault result) self.old.reader self.new.reader }
         ensures closes { IfOk result (λ is.
-            IfSome (known_until S.rest self.old.window self.new.window)
+            IfSome (known_until S.rest self.old.reader self.new.reader)
             (λ bytes. is ≡ closes_at n bytes)) }
         ensures err { IfErr result (λ fault. fault ≡ CutFault.Device) }
     {
-        let m = self.window.line_length_after(n)?;
+        let m = self.reader.line_length_after(n)?;
         if m == 0 {
             return Ok(true);
         }
-        Ok(is_separator(self.window.part(n, m)))
+        Ok(is_separator(self.reader.part(n, m)))
     }
 
     /// Takes the next `n` bytes, and begins this phase.
     fn pass(&mut self, n: usize, phase: Phase)
-        requires within { n ≤ length self.old.window.unread }
+        requires within { n ≤ length self.old.reader.unread }
         requires fits { self.old.offset + n ≤ self.old.most }
         ensures { Passes n phase self.old self.new }
     {
-        self.window.take(n);
+        self.reader.take(n);
         self.offset += n as u64;
         self.phase = phase;
     }
@@ -154,7 +155,7 @@ impl<'a, S: Source> Scan<'a, S> {
     pub(crate) fn advance(&mut self) -> Result<Event, CutFault>
         requires live { is_failed self.old.phase ≡ false }
         requires scan { IsScan S.rest self.old }
-        requires count { S.failures self.old.window.source.now < 2 ^ 64 - 1 }
+        requires count { S.failures self.old.reader.source.now < 2 ^ 64 - 1 }
         ensures steps { Steps S.Source self.old result self.new }
         ensures done { self.old.phase ≡ Phase.Ended → result ≡ Ok (Event.Done self.old.offset) }
     {

@@ -1,30 +1,12 @@
--- The state of a window on a source, and how its calls change it.
+-- How a reader of lines reads on, and takes bytes.
 use Rattle.std.specs.Prelude.{◌≡◌, ℕ, ◌++◌, ◌+◌, ◌<◌, ◌≤◌, Bool, List, Option, Some, IfSome, Result, MatchResult}
 use Rattle.std.specs.Prelude.{length, take, drop}
-use Rattle.std.specs.Io.KnownBytes.{Consumes, Keeps, IsAtEnd, prepend_known}
-use Rattle.std.specs.Borrow.{MutBor}
-use Rattle.contract_words.specs.Devices.{Counted}
+use Rattle.std.specs.Io.KnownBytes.{Consumes, Keeps, IsAtEnd}
 use Rattle.mbox_cutter.specs.declared.device.DeviceFault.{DeviceFault}
 use Rattle.mbox_cutter.specs.declared.device.Source.{Ghosts}
 use Rattle.mbox_cutter.specs.Lines.{first_length, IsLine}
-use Rattle.contract_words.specs.Knowledge.{still_known}
-use Rattle.mbox_cutter.specs.Sources.{Stays}
-
--- the state: the line that was taken last; the bytes that were read and not taken; whether the source has reported its
--- end; and the source
-pub record BytesAhead (S : Type 0) : Type 0 where
-  pub line : List ℕ
-  pub unread : List ℕ
-  pub ended : Bool
-  pub source : MutBor S
-
--- all bytes to come, if they are known
-abbrev pub known_bytes : {S : Type 0} → (S → Option (List ℕ)) → BytesAhead S → Option (List ℕ)
-known_bytes rest w = prepend_known w.unread (rest w.source.now)
-
--- all bytes to come at a window, if they are known, and if something is still known at a later one
-abbrev pub known_until : {S : Type 0} → (S → Option (List ℕ)) → BytesAhead S → BytesAhead S → Option (List ℕ)
-known_until rest old new = still_known (known_bytes rest old) (rest new.source.now)
+use Rattle.mbox_cutter.specs.LineReaders.{BytesAhead, known_bytes, known_until}
+use Rattle.mbox_cutter.specs.Sources.{ReadsSource}
 
 -- the new bytes are the old ones, with perhaps more after them
 abbrev pub Extends : List ℕ → List ℕ → Type 0
@@ -38,20 +20,15 @@ ReadsAfter held old new result before after =
     × (take (held + n) after ≡ take held before ++ got) × Consumes old new got × (n ≡ 0 → IsAtEnd new))
     (λ _. Keeps old new × (take held after ≡ take held before))
 
--- how a call that takes no byte changes a window: it may read more
+-- how a call that takes no byte changes a reader: it may read more
 pub record ReadsOn {S : Type 0} (g : Ghosts S) (failed : Bool) (old new : BytesAhead S) : Type 0 where
-  -- the source is the same
-  pub source : new.source.ghost_name ≡ old.source.ghost_name
-  -- its count of failures rises by one if it failed, and stays if it didn't
-  pub count : Counted failed (g.failures old.source.now) (g.failures new.source.now)
-  -- what no read changes stays as it was
-  pub stays : Stays g old.source.now new.source.now
+  pub source : ReadsSource g failed old.source new.source
   -- the bytes to come are the same, if they are known
   pub bytes : IfSome (known_until g.rest old new) (λ bytes. known_bytes g.rest new ≡ Some bytes)
   -- what was read before still comes first
   pub keeps : Extends old.unread new.unread
 
--- the line after the next `skip` bytes has n bytes, and 0 at the end; `old` is the window before more was read
+-- the line after the next `skip` bytes has n bytes, and 0 at the end; `old` is the reader before more was read
 pub record IsLineLength {S : Type 0} (g : Ghosts S) (skip : ℕ) (old new : BytesAhead S) (n : ℕ) : Type 0 where
   -- its bytes have been read
   pub within : skip + n ≤ length new.unread

@@ -9,9 +9,9 @@ abbrev pub progress : {S : Type 0} → (S → Option (List ℕ)) → Inside S �
 progress rest c = record {
   coming = coming_events rest c.scan;
   place = place_of c.scan;
-  line = c.scan.window.line;
+  line = c.scan.reader.line;
   source =
-      c.scan.window.source;
+      c.scan.reader.source;
 }
 
 -- what always holds of the fields

@@ -18,7 +18,8 @@ use Rattle.mbox_cutter.specs.Places.{CutterPlace, HasLine, Moves}
 use Rattle.mbox_cutter.specs.Progress.{event_with_line, result_with_line}
 use Rattle.contract_words.specs.Knowledge.{still_known}
 use Rattle.mbox_cutter.specs.Sources.{Stays}
-use Rattle.mbox_cutter.specs.Inside.Ahead.{known_bytes, known_until, IsLineLength, ReadsOn, TakesLine}
+use Rattle.mbox_cutter.specs.LineReaders.{known_bytes, known_until}
+use Rattle.mbox_cutter.specs.Inside.Ahead.{IsLineLength, ReadsOn, TakesLine}
 use Rattle.mbox_cutter.specs.Inside.Resume.{coming_at}
 
 -- inside a message, its separator and the bytes of its text so far have been taken
@@ -60,14 +61,14 @@ module _ {S : Type 0} where
 
   -- what still comes, if the bytes are known
   abbrev pub coming_events : (S → Option (List ℕ)) → Scan S → Option ComingEvents
-  coming_events rest s = coming_at (place_of s) (known_bytes rest s.window)
+  coming_events rest s = coming_at (place_of s) (known_bytes rest s.reader)
 
   -- what holds of a scan after each step
   pub record IsScan (rest : S → Option (List ℕ)) (s : Scan S) : Type 0 where
     -- it is at a place that a cutter can be in
     pub place : IsPlace (place_of s)
     -- after the archive's end was reported, all bytes have been read
-    pub end : s.phase ≡ phase.Ended → IsAtEnd (rest s.window.source.now)
+    pub end : s.phase ≡ phase.Ended → IsAtEnd (rest s.reader.source.now)
 
 module _ {S : Type 0} (g : Ghosts S) where
   -- a call finds the length of the first line, or why there is none; the scan stays in its place
@@ -75,33 +76,33 @@ module _ {S : Type 0} (g : Ghosts S) where
     -- nothing is taken
     pub place : place_of new ≡ place_of old
     -- more may be read
-    pub reads : ReadsOn g (is_device_fault result) old.window new.window
+    pub reads : ReadsOn g (is_device_fault result) old.reader new.reader
     -- the length is that of the first line, and 0 at the end
-    pub first : IfOk result (λ n. IsLineLength g 0 old.window new.window n)
+    pub first : IfOk result (λ n. IsLineLength g 0 old.reader new.reader n)
     -- the line ends within the limit
     pub fits : IfOk result (λ n. old.offset + n ≤ old.most)
     -- a fault is that of the source, or the line goes over the limit
-    pub fails : IfErr result (λ fault. FailsFirst old.offset old.most (known_until g.rest old.window new.window) fault)
+    pub fails : IfErr result (λ fault. FailsFirst old.offset old.most (known_until g.rest old.reader new.reader) fault)
 
   -- how a step with this result changes a scan
   pub record Steps (old : Scan S) (result : Result Event CutFault) (new : Scan S) : Type 0 where
     -- the source is the same
-    pub source : new.window.source.ghost_name ≡ old.window.source.ghost_name
+    pub source : new.reader.source.ghost_name ≡ old.reader.source.ghost_name
     -- its count of failures rises by one if it failed, and stays if it didn't
-    pub count : Counted (is_device_fault result) (g.failures old.window.source.now) (g.failures new.window.source.now)
+    pub count : Counted (is_device_fault result) (g.failures old.reader.source.now) (g.failures new.reader.source.now)
     -- what no read changes stays as it was
-    pub stays : Stays g old.window.source.now new.window.source.now
+    pub stays : Stays g old.reader.source.now new.reader.source.now
     -- what holds of a scan still holds
     pub scan : IsScan g.rest new
     -- the limit stays
     pub most : new.most ≡ old.most
     -- if it is known what comes, the event is the first that comes, and a refusal is the archive's
-    pub answers : AnswersAsComing (still_known (coming_events g.rest old) (g.rest new.window.source.now))
-        (result_with_line new.window.line result) (coming_events g.rest new)
+    pub answers : AnswersAsComing (still_known (coming_events g.rest old) (g.rest new.reader.source.now))
+        (result_with_line new.reader.line result) (coming_events g.rest new)
     -- the place moves as the event says
-    pub moves : IfOk result (λ e. Moves (event_with_line new.window.line e) (place_of old) (place_of new))
+    pub moves : IfOk result (λ e. Moves (event_with_line new.reader.line e) (place_of old) (place_of new))
     -- the line of an event, if it has one, is a line
-    pub line : IfOk result (λ e. HasLine (event_with_line new.window.line e))
+    pub line : IfOk result (λ e. HasLine (event_with_line new.reader.line e))
     -- a fault is that of this step, not of an earlier one
     pub fresh : IfErr result IsFresh
 
@@ -110,4 +111,4 @@ pub record Passes {S : Type 0} (n : ℕ) (phase : Phase) (old new : Scan S) : Ty
   -- the place is after them
   pub place : place_of new ≡ record { phase = phase; offset = old.offset + n; most = old.most }
   -- they are the line that was taken last
-  pub taken : TakesLine n old.window new.window
+  pub taken : TakesLine n old.reader new.reader

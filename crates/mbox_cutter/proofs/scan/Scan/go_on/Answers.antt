@@ -35,7 +35,7 @@ returns-then-branch g c =
     closed-steps g.S.Source old _ c.in_ok-n.n line c.args.start c.args.size c.requires.phase c.requires.scan empty
     (closes-known g.S.Source old c.line_length.new.self c.in_ok-n.n line c.closes.new.self c.pass-then-branch.new.self
     c.in_ok-closes.field-0 true c.pass-then-branch.ensures.taken.source c.in_ok-n.ensures.reads.bytes
-    c.in_ok-closes.ensures.reads.stays.known c.in_ok-closes.ensures.closes c.if-branch.true)
+    c.in_ok-closes.ensures.reads.source.stays.known c.in_ok-closes.ensures.closes c.if-branch.true)
     (taken g.S.Source old c.closes.new.self c.in_ok-n.n line _ _
     (found-on g.S.Source old _ c.in_ok-n.n line c.closes.new.self
     (found g.S.Source old _ c.in_ok-n.n line c.in_ok-n.ensures some c.part-line.ensures.unread)
@@ -50,7 +50,7 @@ returns-else-branch g c =
     open-steps g.S.Source old _ c.in_ok-n.n line c.args.start c.args.size c.requires.phase c.requires.scan empty
     (closes-known g.S.Source old c.line_length.new.self c.in_ok-n.n line c.closes.new.self c.pass-else-branch.new.self
     c.in_ok-closes.field-0 false c.pass-else-branch.ensures.taken.source c.in_ok-n.ensures.reads.bytes
-    c.in_ok-closes.ensures.reads.stays.known c.in_ok-closes.ensures.closes c.if-branch.false)
+    c.in_ok-closes.ensures.reads.source.stays.known c.in_ok-closes.ensures.closes c.if-branch.false)
     (taken g.S.Source old c.closes.new.self c.in_ok-n.n line _ _
     (found-on g.S.Source old _ c.in_ok-n.n line c.closes.new.self
     (found g.S.Source old _ c.in_ok-n.n line c.in_ok-n.ensures some c.part-line.ensures.unread)

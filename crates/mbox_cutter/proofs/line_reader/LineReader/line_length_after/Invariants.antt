@@ -1,7 +1,7 @@
 -- The reads so far only added unread bytes. The loop ends because each read fills some room or finds the end.
 use Rattle.mbox_cutter.proofs.Words.{false, ◌+◌, ◌-◌, ◌*◌, length, cond, ReadsOn}
 use Rattle.mbox_cutter.specs.declared.buffer.TheConstants.{ROOM}
-use Rattle.mbox_cutter.proofs.window.Window.line_length_after.Given as goal
+use Rattle.mbox_cutter.proofs.line_reader.LineReader.line_length_after.Given as goal
 
 abbrev pub invariant-more : goal.invariant-more
 invariant-more g l = ReadsOn g.S.Source false l.fn.self l.self

@@ -1,18 +1,20 @@
-//! The part of a source that is in the buffer.
-ghost use Rattle.std.specs.Prelude.{◌≡◌, ◌⊎◌, ℕ, List, true, false, ◌+◌, ◌-◌, ◌^◌, ◌<◌, ◌≤◌, is_err, length, take, drop, slice_range, IfOk, OnOk, IfSome};
+//! Reads the lines of a source, through a buffer of a fixed size (decision 120 in docs/DECISIONS.md).
+ghost use Rattle.std.specs.Prelude.{◌≡◌, ◌⊎◌, ℕ, List, Ok, true, false, ◌+◌, ◌-◌, ◌^◌, ◌<◌, ◌≤◌, is_err, length, take, drop, slice_range, IfOk, OnOk, IfSome};
+ghost use Rattle.std.specs.Io.KnownBytes.{IsAtEnd};
 ghost use Rattle.contract_words.specs.Devices.{Counts};
-ghost use Rattle.mbox_cutter.specs.Inside.Ahead.{known_bytes, IsLineLength, ReadsAfter, ReadsOn, TakesLine};
+ghost use Rattle.mbox_cutter.specs.Inside.Ahead.{IsLineLength, ReadsAfter, ReadsOn, TakesLine};
+ghost use Rattle.mbox_cutter.specs.LineReaders.{known_bytes, TakesKnownLine};
 ghost use Rattle.contract_words.specs.Knowledge.{still_known};
-ghost use Rattle.mbox_cutter.specs.Sources.{Stays};
+ghost use Rattle.mbox_cutter.specs.Sources.{ReadsSource, Stays};
 
 use crate::buffer::{Buffer, ROOM};
 use crate::device::{DeviceFault, Source};
 use crate::line::line_end;
 use std::marker::Model;
 
-/// A source with a buffer. The bytes `from..to` of the buffer have been read and not taken yet.
+/// Reads a source line by line, and once. The bytes `from..to` of the buffer have been read and not taken yet.
 #[derive(Drop)]
-pub(crate) struct Window<'a, S: Source> {
+pub struct LineReader<'a, S: Source> {
     source: &'a mut S,
     buffer: Vec<u8>,
     // The length of the line that was taken last. It ends at `from`.
@@ -23,25 +25,26 @@ pub(crate) struct Window<'a, S: Source> {
     ended: bool,
 }
 
-impl<'a, S: Source> Model for Window<'a, S> {
-    ghost use Rattle.mbox_cutter.specs.Inside.Ahead.{BytesAhead};
+impl<'a, S: Source> Model for LineReader<'a, S> {
+    ghost use Rattle.mbox_cutter.specs.LineReaders.{BytesAhead};
 
     ghost Value = { BytesAhead S };
 
-    ghost use Rattle.mbox_cutter.specs.Inside.Window.{ahead_of_window, IsWindow};
+    ghost use Rattle.mbox_cutter.specs.Inside.ReaderFields.{ahead_of_reader, IsLineReader};
 
-    ghost view = { ahead_of_window };
+    ghost view = { ahead_of_reader };
 
-    ghost invariant = { IsWindow S.rest };
+    ghost invariant = { IsLineReader S.rest };
 }
 
-impl<'a, S: Source> Window<'a, S> {
-    pub(crate) fn over(buffer: Buffer, source: &'a mut S) -> Self
+impl<'a, S: Source> LineReader<'a, S> {
+    /// Makes a reader of the bytes that the source still gives. It takes no memory.
+    pub fn over(buffer: Buffer, source: &'a mut S) -> Self
         ensures source { result.source.ghost_name ≡ source.entry.ghost_name }
         ensures same { result.source.now ≡ source.old }
         ensures known { known_bytes S.rest result ≡ S.rest source.old }
     {
-        Window {
+        LineReader {
             source,
             buffer: buffer.bytes,
             taken: 0,
@@ -51,12 +54,12 @@ impl<'a, S: Source> Window<'a, S> {
         }
     }
 
-    /// Gives back the source, after what was read, and the buffer.
-    pub(crate) fn into_parts(self) -> (&'a mut S, Buffer)
+    /// Gives back the source, after what was read, and the buffer for the next reader.
+    pub fn into_parts(self) -> (&'a mut S, Buffer)
         ensures name { result.0.ghost_name ≡ self.entry.source.ghost_name }
         ensures same { result.0.now ≡ self.entry.source.now }
     {
-        let Window { source, buffer, .. } = self;
+        let LineReader { source, buffer, .. } = self;
         (source, Buffer { bytes: buffer })
     }
 
@@ -70,8 +73,23 @@ impl<'a, S: Source> Window<'a, S> {
         &self.buffer[self.from + skip..self.to]
     }
 
-    /// Returns the line that was taken last.
-    pub(crate) fn taken_line(&self) -> &[u8]
+    /// Takes the next line, and returns its length, or 0 if no line is left. `line` lends it. If the source fails, no
+    /// byte is taken.
+    #[tactic(auto, using(crate::proofs::LineReaders::takes_line))]
+    pub fn next_line(&mut self) -> Result<usize, DeviceFault>
+        requires { S.failures self.old.source.now < 2 ^ 64 - 1 }
+        ensures length { IfOk result (λ n. n ≡ length self.new.line) }
+        ensures line { TakesKnownLine S.rest self.old result self.new }
+        ensures end { result ≡ Ok 0 → IsAtEnd (S.rest self.new.source.now) }
+        ensures reads { ReadsSource S.Source (is_err result) self.old.source self.new.source }
+    {
+        let n = self.line_length_after(0)?;
+        self.take(n);
+        Ok(n)
+    }
+
+    /// Returns the line that was taken last. It has its LF, if there is one.
+    pub fn line(&self) -> &[u8]
         ensures { result.now ≡ self.now.line }
     {
         &self.buffer[self.from - self.taken..self.from]

@@ -1,12 +1,12 @@
--- The fields of a window, and the state that they mean.
+-- The fields of a reader, and the state that they mean.
 use Rattle.std.specs.Prelude.{◌≡◌, ℕ, ◌-◌, ◌≤◌, List, Option, true, vec_len, slice_range}
 use Rattle.std.specs.Io.KnownBytes.{IsAtEnd}
-use Rattle.mbox_cutter.specs.declared.window.Window.TheInside.{Inside}
-use Rattle.mbox_cutter.specs.Inside.Ahead.{BytesAhead}
+use Rattle.mbox_cutter.specs.declared.line_reader.LineReader.TheInside.{Inside}
+use Rattle.mbox_cutter.specs.LineReaders.{BytesAhead}
 
--- the state of a window
-abbrev pub ahead_of_window : {S : Type 0} → Inside S → BytesAhead S
-ahead_of_window w = record {
+-- the state of a reader
+abbrev pub ahead_of_reader : {S : Type 0} → Inside S → BytesAhead S
+ahead_of_reader w = record {
   line = slice_range w.buffer.items (w.from - w.taken) w.from;
   unread = slice_range w.buffer.items w.from w.to;
   ended = w.ended;
@@ -14,7 +14,7 @@ ahead_of_window w = record {
 }
 
 -- what always holds of the fields
-pub record IsWindow {S : Type 0} (rest : S → Option (List ℕ)) (w : Inside S) : Type 0 where
+pub record IsLineReader {S : Type 0} (rest : S → Option (List ℕ)) (w : Inside S) : Type 0 where
   pub taken : w.taken ≤ w.from
   pub order : w.from ≤ w.to
   pub room : w.to ≤ vec_len w.buffer

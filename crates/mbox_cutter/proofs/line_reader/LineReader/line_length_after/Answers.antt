@@ -1,12 +1,12 @@
--- `Window::line_length_after` returns the length of the next line, because it reads on until nothing to come can change
--- it.
+-- `LineReader::line_length_after` returns the length of the next line, because it reads on until nothing to come can
+-- change it.
 use Rattle.mbox_cutter.proofs.Words.{ℕ, List, ◌<◌, length, take, ap, ◌∙◌, subst, sym, arith, IsAtEnd, take_all}
 use Rattle.mbox_cutter.proofs.Words.{BytesAhead}
 use Rattle.mbox_cutter.proofs.Words.{IsLine, line_end_of}
 use Rattle.mbox_cutter.proofs.FirstLines.{line_end-positive, line_end-within, line_end-open}
 use Rattle.mbox_cutter.proofs.LinesAreCut.{line_end-IsLine, open_end-IsLine}
-use Rattle.mbox_cutter.proofs.Windows.{at_some, at_end, ReadsOn-join, ReadsOn-failed}
-use Rattle.mbox_cutter.proofs.window.Window.line_length_after.Goals as goal
+use Rattle.mbox_cutter.proofs.LineReaders.{at_some, at_end, ReadsOn-join, ReadsOn-failed}
+use Rattle.mbox_cutter.proofs.line_reader.LineReader.line_length_after.Goals as goal
 
 pub returns-in-Some-clause-length : goal.returns-in-Some-clause-length
 returns-in-Some-clause-length g c = record {

@@ -1,16 +1,17 @@
--- How the calls of a window change the bytes to come.
+-- How the calls of a reader change the bytes to come.
 use Rattle.mbox_cutter.proofs.Words.{still_known, IsSome, ◌≡◌, ℕ, ◌+◌, ◌-◌, ◌<◌, ◌≤◌, Bool, true, false, Result, List}
 use Rattle.mbox_cutter.proofs.Words.{◌++◌, Option, Some, None, IfSome, IfOk, length, take, drop, append-nil, ap, ◌∙◌}
-use Rattle.mbox_cutter.proofs.Words.{arith, append_assoc, subst, ReadConsumes, IsAtEnd, prepend_known, take-append-add}
-use Rattle.mbox_cutter.proofs.Words.{take-append-le, length-take-le, drop-append-le, Counted, Ghosts, line_end_of}
+use Rattle.mbox_cutter.proofs.Words.{arith, append_assoc, ReadConsumes, IsAtEnd, prepend_known, take-append-add}
+use Rattle.mbox_cutter.proofs.Words.{take-append-le, length-take-le, drop-append-le, Ghosts, line_end_of}
 use Rattle.mbox_cutter.proofs.Words.{first_length, BytesAhead, known_bytes, ReadsAfter, ReadsOn, Extends}
+use Rattle.mbox_cutter.proofs.Words.{TakesFirstLine}
 use Rattle.std.specs.Result.{IsErr, is_err}
 use Rattle.std.proofs.lemmas.List.{length-append}
 use borrow.Rule.Slice.PartMut.{put_mid}
 use Rattle.mbox_cutter.specs.declared.device.DeviceFault.{DeviceFault}
 use Rattle.mbox_cutter.proofs.FirstLines.{line_end-more, line_end-whole}
 use Rattle.mbox_cutter.proofs.Parts.{take_front}
-use Rattle.mbox_cutter.proofs.Sources.{Stays-join}
+use Rattle.mbox_cutter.proofs.Sources.{ReadsSource-join}
 
 take_after : (front into post : List ℕ) (held n : ℕ) → length front ≡ held → n ≤ length into
     → take (held + n) (front ++ (into ++ post)) ≡ front ++ take n into
@@ -64,11 +65,20 @@ ReadsOn-failed g r old new h h2 = grind arith
 pub ReadsOn-join : {S : Type 0} (g : Ghosts S) (failed : Bool) (a b c : BytesAhead S) → ReadsOn g false a b
     → ReadsOn g failed b c → ReadsOn g failed a c
 ReadsOn-join g failed a b c h k = record {
-  source = k.source ∙ h.source;
-  count = subst (λ (n : ℕ). Counted failed n (g.failures c.source.now)) h.count k.count;
-  stays = Stays-join g a.source.now b.source.now c.source.now h.stays k.stays;
+  source = ReadsSource-join g failed a.source b.source c.source h.source k.source;
   bytes = join_known (known_bytes g.rest a) (known_bytes g.rest b) (known_bytes g.rest c) (g.rest b.source.now)
       (g.rest c.source.now)
-      k.stays.known h.bytes k.bytes;
+      k.source.stays.known h.bytes k.bytes;
   keeps = Extends-join a.unread b.unread c.unread h.keeps k.keeps;
 }
+
+-- the first line of the bytes to come is the one that was found in what was read
+pub takes_line : (before unread : List ℕ) (old new : Option (List ℕ)) (n : ℕ) → (IsSome new → IsSome old)
+    → IfSome (still_known (prepend_known before old) new) (λ b. prepend_known unread new ≡ Some b)
+    → IfSome (still_known (prepend_known before old) new) (λ b. n ≡ first_length b) → n ≤ length unread
+    → IfSome (prepend_known (drop n unread) new) (λ after. (bytes : List ℕ) × (prepend_known before old ≡ Some bytes)
+    × TakesFirstLine bytes n (take n unread) after)
+takes_line before unread None new n still moved first within = grind arith
+takes_line before unread (Some r) None n still moved first within = tt
+takes_line before unread (Some r) (Some now) n still moved first within =
+    grind (arith, drop-append-le, take-append-le)
