@@ -1,4 +1,5 @@
 -- The laws of what an answer writes.
+pub mod ArchiveParts
 pub mod ChosenBelow
 pub mod ClosedLemmas
 pub mod ClosedMessages

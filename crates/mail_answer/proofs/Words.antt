@@ -83,12 +83,12 @@ pub use Rattle.mail_query.specs.declared.kinds.Kinds.{Kinds}
 pub use Rattle.mail_query.specs.declared.node.Node.{Node, the_lemmas}
 pub use Rattle.mail_words.specs.declared.kind.TextKind.TheVariants.{Body, Name, Subject, To}
 pub use Rattle.mbox_cutter.proofs.FirstLines.{first_length-le, first_length-positive, length_before_feed-append_out}
-pub use Rattle.mbox_cutter.proofs.FirstLines.{length_before_feed-le, line_end-more, line_end-positive, line_end-whole}
-pub use Rattle.mbox_cutter.proofs.FirstLines.{line_end-within}
+pub use Rattle.mbox_cutter.proofs.FirstLines.{length_before_feed-le, line_end-more}
 pub use Rattle.mbox_cutter.proofs.LineLists.{lines-cons, lines-nil}
 pub use Rattle.mbox_cutter.specs.Archives.{Message, spans_of, grouped_lines, is_refused, marked_lines, messages_from}
 pub use Rattle.mbox_cutter.specs.Archives.{span_length, total}
 unfoldable pub use Rattle.mbox_cutter.specs.Archives.{messages}
+pub use Rattle.mbox_cutter.specs.LineReaders.{TakesFirstLine, known_bytes}
 pub use Rattle.mbox_cutter.specs.Lines.{AreCut, AreLines, IsLine, length_before_feed}
 unfoldable pub use Rattle.mbox_cutter.specs.Lines.{first_length, is_empty, line_end_of, lines}
 pub use Rattle.mbox_cutter.specs.Separators.{has_time_then_year, separator_tokens}

@@ -1,5 +1,6 @@
 -- Definitions for private functions only: what these promise one another, and views of their fields. No public clause
 -- depends on them.
+pub mod ArchiveParts
 pub mod Calls
 pub mod Copies
 pub mod CursorBegins

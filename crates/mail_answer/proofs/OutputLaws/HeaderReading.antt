@@ -1,18 +1,18 @@
 -- A header that is read line by line has the fields of the message, because lines after the empty line don't count.
-use Rattle.mail_answer.proofs.Words.{◌≡◌, ℕ, ◌<◌, ◌≤◌, true, List, [], ◌∷◌, ◌++◌, Option, None, Some, IfSome, length}
-use Rattle.mail_answer.proofs.Words.{take, drop, refl, ap, sym, ◌∙◌, append_assoc, append-nil, length-append, arith}
-use Rattle.mail_answer.proofs.Words.{take-append-le, drop-append-le, lines, first_length, lines-cons, lines-nil}
-use Rattle.mail_answer.proofs.Words.{HeaderField, fields_of, lines_before_empty, lines_within, fields_in}
-use Rattle.mail_answer.proofs.Words.{most_in_header, archive_at, HasFields, WillHaveFields, HasFieldsAfter, Record}
-use Rattle.mail_answer.proofs.Words.{Table, excerpt, excerpt_lines, Reading, bytes_not_passed, coming_count}
-use Rattle.mail_answer.proofs.Words.{IsInsideArchive}
+use Rattle.mail_answer.proofs.Words.{◌≡◌, ℕ, zero, suc, ◌<◌, ◌≤◌, true, List, [], ◌∷◌, ◌++◌, Option, None, Some, IfSome}
+use Rattle.mail_answer.proofs.Words.{length, drop, refl, ap, sym, ◌∙◌, subst, append_assoc, append-nil, arith, lines}
+use Rattle.mail_answer.proofs.Words.{length-drop, first_length, first_length-le, first_length-positive, lines-cons}
+use Rattle.mail_answer.proofs.Words.{lines-nil, HeaderField, fields_of, lines_before_empty, lines_within, fields_in}
+use Rattle.mail_answer.proofs.Words.{most_in_header, HasFields, WillHaveFields, HasFieldsAfter, Record}
+use Rattle.mail_answer.proofs.Words.{TakesFirstLine, Table, excerpt, excerpt_lines}
 use Rattle.mail_answer.proofs.Words.{known_message, path_at, span, IsIfKnown, record_at, Excerpt}
+use Rattle.std.specs.Io.KnownBytes.{prepend_known}
+use Rattle.contract_words.specs.Knowledge.{still_known}
 use Rattle.header_text.specs.HeldLines.{HasLines, taken_of}
 use Rattle.header_text.specs.Stages.{has_empty}
 use Rattle.header_text.specs.declared.header.Header.{Header}
 use Rattle.header_text.specs.declared.header.Taken.{Taken}
 use Rattle.header_text.specs.declared.header.Taken.TheVariants.{More, Ended}
-use Rattle.mail_answer.proofs.OutputLaws.ReadingLemmas.{count_known}
 
 -- lines after an empty one don't count
 before_empty-more : (ls more : List (List ℕ)) → has_empty ls ≡ true → lines_before_empty (ls ++ more)
@@ -25,87 +25,85 @@ unfolding fields_of
 fields_ended ls more h = ap (λ (ks : List (List ℕ)). fields_in (lines_within most_in_header ks))
     (before_empty-more ls more h)
 
-nothing : (b : List ℕ) → length b ≡ 0 → b ≡ []
+-- in this call the first line was taken, and this many bytes before it
+abbrev TakesFrom : Option (List ℕ) → ℕ → List ℕ → Option (List ℕ) → Type 0
+TakesFrom old n line new = IfSome new (λ after. (bytes : List ℕ) × (old ≡ Some bytes)
+    × TakesFirstLine bytes n line after)
+
+nothing : (b : List ℕ) → 0 ≡ first_length b → b ≡ []
 nothing [] e = refl
-nothing (x ∷ xs) e = absurd (omega arith)
+nothing (x ∷ xs) e = let some : 0 < first_length (x ∷ xs) = first_length-positive (x ∷ xs) (omega arith) in
+    absurd (omega arith)
 
--- no line comes any more
-pub none_comes : (held : Option (List (List ℕ))) (number : ℕ) (old new : Reading) (h : Header)
-    → IsInsideArchive number held old → bytes_not_passed held new ≡ bytes_not_passed held old → coming_count old ≡ 0
-    → (fields : List HeaderField) → WillHaveFields (bytes_not_passed held old) h fields
-    → HasFieldsAfter Ended (bytes_not_passed held new) h fields
-none_comes None number old new h i c z fields w = tt
-none_comes (Some archives) number old new h i c z fields w = grind (arith, nothing, count_known, append-nil, lines-nil)
+-- the first line, and those after it
+next_line : (bytes line after : List ℕ) (n : ℕ) → 0 < n → TakesFirstLine bytes n line after
+    → lines bytes ≡ line ∷ lines after
+next_line bytes line after n some t = grind (arith, lines-cons, first_length-le)
 
--- the next line, as it was read, and those after it
-next_line : (n : ℕ) (unread more : List ℕ) → 0 < n → n ≤ length unread → n ≡ first_length (unread ++ more)
-    → lines (unread ++ more) ≡ take n unread ∷ lines (drop n unread ++ more)
-next_line n unread more s w f = grind (arith, lines-cons, length-append, take-append-le, drop-append-le)
+-- no line came any more
+pub none_comes : (old new : Option (List ℕ)) (line : List ℕ) (h : Header) → TakesFrom old 0 line new
+    → (fields : List HeaderField) → WillHaveFields old h fields → HasFieldsAfter Ended new h fields
+none_comes old None line h t fields w = tt
+none_comes old (Some after) line h t fields w = grind (arith, nothing, append-nil, lines-nil)
 
 ended_is : (ls : List (List ℕ)) → Ended ≡ taken_of ls → has_empty ls ≡ true
 ended_is ls e = grind arith
 
 -- the header was given the next line
-pub line_given : (held : Option (List (List ℕ))) (n : ℕ) (old r new : Reading) (h h' : Header) (line : List ℕ)
-    (taken : Taken) → bytes_not_passed held r ≡ bytes_not_passed held old → 0 < n → n ≤ length r.unread
-    → IfSome (bytes_not_passed held old) (λ bytes. n ≡ first_length bytes) → line ≡ take n r.unread → new
-    ≡ record r { unread = drop n r.unread }
-    → ((ls : List (List ℕ)) → HasLines h ls → HasLines h' (ls ++ line ∷ []))
+pub line_given : (old new : Option (List ℕ)) (n : ℕ) (line : List ℕ) (h h' : Header) (taken : Taken)
+    → TakesFrom old n line new → 0 < n → ((ls : List (List ℕ)) → HasLines h ls → HasLines h' (ls ++ line ∷ []))
     → ((ls : List (List ℕ)) → HasLines h ls → taken ≡ taken_of (ls ++ line ∷ []))
-    → (fields : List HeaderField) → WillHaveFields (bytes_not_passed held old) h fields
-    → HasFieldsAfter taken (bytes_not_passed held new) h' fields
-line_given None n old r new h h' line More c s w f l is push told fields before = tt
-line_given None n old r new h h' line Ended c s w f l is push told fields before = tt
-line_given (Some archives) n old r new h h' line taken c s w f l is push told fields before =
-    given taken (told before.0 before.1)
+    → (fields : List HeaderField) → WillHaveFields old h fields → HasFieldsAfter taken new h' fields
+line_given old None n line h h' More t some push told fields w = tt
+line_given old None n line h h' Ended t some push told fields w = tt
+line_given old (Some after) n line h h' taken t some push told fields w = given taken (told before.0 before.1)
   where
-    more : List ℕ
-    more = take r.left (drop r.next (archive_at archives r.archive))
+    before : (ls : List (List ℕ)) × HasLines h ls × (fields_of (ls ++ lines t.0) ≡ fields)
+    before = subst (λ (o : Option (List ℕ)). WillHaveFields o h fields) t.1 w
 
-    bytes : List ℕ
-    bytes = old.unread ++ take old.left (drop old.next (archive_at archives old.archive))
+    whole : fields_of ((before.0 ++ line ∷ []) ++ lines after) ≡ fields
+    whole = ap fields_of (append_assoc before.0 (line ∷ []) (lines after)
+        ∙ ap (λ (ls : List (List ℕ)). before.0 ++ ls) (sym (next_line t.0 line after n some t.2))) ∙ before.2
 
-    same : r.unread ++ more ≡ bytes
-    same = cc c
-
-    parts : lines bytes ≡ line ∷ lines (drop n r.unread ++ more)
-    parts = ap lines (sym same) ∙ next_line n r.unread more s w (f ∙ ap first_length (sym same))
-        ∙ ap (λ (k : List ℕ). k ∷ lines (drop n r.unread ++ more)) (sym l)
-
-    whole : fields_of ((before.0 ++ line ∷ []) ++ lines (drop n r.unread ++ more)) ≡ fields
-    whole = ap fields_of (append_assoc before.0 (line ∷ []) (lines (drop n r.unread ++ more))
-        ∙ ap (λ (ls : List (List ℕ)). before.0 ++ ls) (sym parts)) ∙ before.2
-
-    given : (t : Taken) → t ≡ taken_of (before.0 ++ line ∷ [])
-        → HasFieldsAfter t (bytes_not_passed (Some archives) new) h' fields
-    given More e = rw is (before.0 ++ line ∷ [], push before.0 before.1, whole)
+    given : (t : Taken) → t ≡ taken_of (before.0 ++ line ∷ []) → HasFieldsAfter t (Some after) h' fields
+    given More e = (before.0 ++ line ∷ [], push before.0 before.1, whole)
     given Ended e = (
       before.0 ++ line ∷ [],
       push before.0 before.1,
-      sym (fields_ended (before.0 ++ line ∷ []) (lines (drop n r.unread ++ more))
-          (ended_is (before.0 ++ line ∷ []) e)) ∙ whole,
+      sym (fields_ended (before.0 ++ line ∷ []) (lines after) (ended_is (before.0 ++ line ∷ []) e)) ∙ whole,
     )
 
 -- the first line was passed, and the header has no line yet
-pub first_passed : (held : Option (List (List ℕ))) (number n : ℕ) (old r new : Reading) (h : Header)
-    → IsInsideArchive number held old → bytes_not_passed held r ≡ bytes_not_passed held old
-    → (n ≡ 0 → coming_count old ≡ 0)
-    → n ≤ length r.unread
-    → IfSome (bytes_not_passed held old) (λ bytes. n ≡ first_length bytes) → new ≡ record r { unread = drop n r.unread }
-    → HasLines h []
-    → IfSome (bytes_not_passed held old) (λ bytes. WillHaveFields (bytes_not_passed held new) h
-    (fields_of (drop 1 (lines bytes))))
-first_passed None number n old r new h i c z w f is none = tt
-first_passed (Some archives) number n old r new h i c z w f is none =
-    grind (arith, nothing, count_known, lines-nil, next_line)
+pub first_passed : (old new : Option (List ℕ)) (n : ℕ) (line : List ℕ) (h : Header) → TakesFrom old n line new
+    → HasLines h [] → IfSome old (λ bytes. WillHaveFields new h (fields_of (drop 1 (lines bytes))))
+first_passed None new n line h t none = tt
+first_passed (Some bytes) None n line h t none = tt
+first_passed (Some bytes) (Some after) zero line h t none = ([], none, grind (arith, nothing, lines-nil))
+first_passed (Some bytes) (Some after) (suc n) line h t none =
+    ([], none, grind (arith, next_line t.0 line after (suc n) (omega arith) t.2))
 
--- the header will have the fields, also after one more line
-pub goes_on : (known before after : Option (List ℕ)) (h h' : Header) (fields : List ℕ → List HeaderField)
-    → IfSome known (λ bytes. WillHaveFields before h (fields bytes))
-    → ((fs : List HeaderField) → WillHaveFields before h fs → HasFieldsAfter More after h' fs)
-    → IfSome known (λ bytes. WillHaveFields after h' (fields bytes))
-goes_on None before after h h' fields w step = tt
-goes_on (Some bytes) before after h h' fields w step = step (fields bytes) w
+-- no more bytes come after a line than before it
+pub fewer_come : (old new : Option (List ℕ)) (n : ℕ) (line : List ℕ) (most : ℕ) → TakesFrom old n line new
+    → IfSome old (λ bytes. length bytes ≤ most) → IfSome new (λ bytes. length bytes ≤ most)
+fewer_come old None n line most t few = tt
+fewer_come old (Some after) n line most t few = grind (arith, length-drop)
+
+-- a header that will have the fields has them once no byte is left
+pub has_all : (known new : Option (List ℕ)) (h : Header) (fields : List ℕ → List HeaderField) (most : ℕ) → most ≤ 0
+    → IfSome new (λ bytes. length bytes ≤ most) → IfSome known (λ bytes. WillHaveFields new h (fields bytes))
+    → IfSome known (λ bytes. HasFieldsAfter Ended new h (fields bytes))
+has_all None new h fields most none few w = tt
+has_all (Some b) None h fields most none few w = tt
+has_all (Some b) (Some []) h fields most none few w = grind (arith, append-nil, lines-nil)
+has_all (Some b) (Some (x ∷ xs)) h fields most none few w = absurd (omega arith)
+
+-- the header has the fields, if something is still known
+pub has_fields : (known now : Option (List ℕ)) (unread : List ℕ) (h : Header) (fields : List ℕ → List HeaderField)
+    → IfSome known (λ bytes. HasFieldsAfter Ended (prepend_known unread now) h (fields bytes))
+    → IfSome (still_known known now) (λ bytes. HasFields h (fields bytes))
+has_fields known None unread h fields ended = tt
+has_fields None (Some now) unread h fields ended = tt
+has_fields (Some bytes) (Some now) unread h fields ended = ended
 
 -- the excerpt of a message, from a header that has its fields
 pub excerpt_told : (t : Table) (held : Option (List (List ℕ))) (n : ℕ) (m : Record) (path text : List ℕ) (h : Header)

@@ -1,8 +1,8 @@
 -- A read of an archive moves bytes from those that come to those that were read, and changes nothing else.
-use Rattle.mail_answer.proofs.Words.{◌≡◌, ℕ, ◌+◌, ◌-◌, ◌<◌, ◌≤◌, List, ◌++◌, Option, None, Some, IfSome, Result, IfOk}
-use Rattle.mail_answer.proofs.Words.{length, take, drop, refl, ap, sym, ◌∙◌, append_assoc, append-nil, arith}
-use Rattle.mail_answer.proofs.Words.{take-append-add, take-append-le, drop-drop, DeviceFault, line_end_of, first_length}
-use Rattle.mail_answer.proofs.Words.{line_end-more, line_end-whole, archive_at, IsReadFromArchive, Reading}
+use Rattle.mail_answer.proofs.Words.{◌≡◌, ℕ, ◌+◌, ◌-◌, ◌<◌, ◌≤◌, List, ◌++◌, Option, None, Some, Result, IfOk}
+use Rattle.mail_answer.proofs.Words.{length, take, drop, refl, ap, sym, ◌∙◌, append_assoc, arith}
+use Rattle.mail_answer.proofs.Words.{take-append-add, take-append-le, drop-drop, DeviceFault}
+use Rattle.mail_answer.proofs.Words.{archive_at, IsReadFromArchive, Reading}
 use Rattle.mail_answer.proofs.Words.{bytes_not_passed}
 use Rattle.mail_answer.proofs.Words.{AppendsRead}
 use Rattle.mail_answer.proofs.Words.{ReadsTail, coming_count, IsInsideArchive}
@@ -45,16 +45,6 @@ coming_read archive next left n (Some archives) unread new r h =
     ∙ ap (λ l. unread ++ (take n rest ++ take (left - n) l)) further
     ∙ ap (λ l. unread ++ l) (sym parts)
     )
-
--- the end of a line is found in what was read
-pub line_found : (n : ℕ) (held : Option (List (List ℕ))) (r : Reading) → Some n ≡ line_end_of r.unread
-    → IfSome (bytes_not_passed held r) (λ bytes. n ≡ first_length bytes)
-line_found n held r h = grind (arith, line_end-more)
-
--- no byte is left, so the bytes that were read are the line
-pub line_left : (held : Option (List (List ℕ))) (r : Reading) → None ≡ line_end_of r.unread → r.left ≡ 0
-    → IfSome (bytes_not_passed held r) (λ bytes. length r.unread ≡ first_length bytes)
-line_left held r h h2 = grind (arith, line_end-whole, append-nil)
 
 -- how many bytes come
 pub count_known : (archives : List (List ℕ)) (number : ℕ) (r : Reading) → IsInsideArchive number (Some archives) r

@@ -1,5 +1,5 @@
 -- The fields of a header while its lines are read into it.
-use Rattle.std.specs.Prelude.{◌≡◌, ℕ, List, ◌++◌, Option, IfSome}
+use Rattle.std.specs.Prelude.{◌≡◌, ◌<◌, ℕ, List, ◌++◌, Option, IfSome, length}
 use Rattle.mbox_cutter.specs.Lines.{lines}
 use Rattle.header_text.specs.Headers.{HeaderField, fields_of}
 use Rattle.header_text.specs.HeldLines.{HasLines}
@@ -20,3 +20,7 @@ WillHaveFields coming header fields = IfSome coming
 abbrev pub HasFieldsAfter : Taken → Option (List ℕ) → Header → List HeaderField → Type 0
 HasFieldsAfter More coming header fields = WillHaveFields coming header fields
 HasFieldsAfter Ended coming header fields = IfSome coming (λ _. HasFields header fields)
+
+-- fewer bytes are still to come, if they are known
+abbrev pub IsShorter : Option (List ℕ) → Option (List ℕ) → Type 0
+IsShorter old new = IfSome new (λ bytes. IfSome old (λ before. length bytes < length before))

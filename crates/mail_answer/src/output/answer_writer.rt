@@ -22,7 +22,7 @@ use crate::output::places::Places;
 use crate::output::raw_answer::push_raw;
 use crate::output::sheet::Sheet;
 use mail_index::IndexView;
-use mbox_cutter::Out;
+use mbox_cutter::{Buffer, Out};
 use std::alloc::Global;
 
 /// What writing an answer needs, besides the archives and the output.
@@ -32,6 +32,8 @@ pub(crate) struct AnswerWriter<'a> {
     format: Format,
     places: Places<'a>,
     sheet: Sheet,
+    // Through it headers are read. It is made when the first one is.
+    buffer: Option<Buffer>,
 }
 
 impl<'a> AnswerWriter<'a> {
@@ -52,6 +54,7 @@ impl<'a> AnswerWriter<'a> {
                 text: HeldBytes::new(alloc),
                 sent: 0,
             },
+            buffer: None,
         }
     }
 
@@ -80,6 +83,7 @@ impl<'a> AnswerWriter<'a> {
                 self.alloc,
                 &mut self.places,
                 n,
+                &mut self.buffer,
                 archives,
                 &mut self.sheet,
                 out,

@@ -17,7 +17,7 @@ use crate::output::header_reads::read_header;
 use crate::output::places::Places;
 use crate::output::sheet::Sheet;
 use header_text::{Header, decode_words, unfold};
-use mbox_cutter::Out;
+use mbox_cutter::{Buffer, Out};
 use std::alloc::{AllocError, Global};
 
 /// The names of the fields in an excerpt.
@@ -83,11 +83,12 @@ fn push_lines(
 }
 
 /// Adds the excerpt of the message with this number to an answer. Fails if the archive ends early or can't be read, if
-/// memory runs out, or if the output fails.
+/// memory runs out, or if the output fails. The buffer is kept for the next message.
 pub(crate) fn push_excerpt<A: Archives, O: Out>(
     alloc: Global,
     places: &mut Places<'_>,
     n: u32,
+    kept: &mut Option<Buffer>,
     archives: &mut A,
     sheet: &mut Sheet,
     out: &mut O,
@@ -106,7 +107,7 @@ pub(crate) fn push_excerpt<A: Archives, O: Out>(
         (λ archive. archive ≡ (record_at places.old.table.messages n).archive)) }
 {
     let message = places.index().message(n);
-    let header = read_header(alloc, message, archives)?;
+    let header = read_header(alloc, message, kept, archives)?;
     let path = places.path_of(message.archive);
     let mut text = Vec::new(alloc);
     push_lines(alloc, path, &header, &mut text)?;

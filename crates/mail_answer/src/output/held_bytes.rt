@@ -1,5 +1,5 @@
 //! A buffer of bytes whose memory is kept when bytes are dropped.
-ghost use Rattle.std.specs.Prelude.{◌≡◌, ◌<◌, ◌≤◌, ◌+◌, ◌-◌, ◌^◌, ◌++◌, [], false, length, take, drop, IfOk, IfErr, OnOk, OnErr, IfSome};
+ghost use Rattle.std.specs.Prelude.{◌≡◌, ◌<◌, ◌≤◌, ◌+◌, ◌-◌, ◌^◌, ◌++◌, [], false, length, take, IfOk, IfErr, OnOk, OnErr, IfSome};
 ghost use Rattle.contract_words.specs.Archives.{archive_at};
 ghost use Rattle.contract_words.specs.Devices.{Counted, Counts};
 ghost use Rattle.mail_answer.specs.Faults.{has_fault, is_of_output, is_of_archives, is_stale, IfStale};
@@ -60,15 +60,6 @@ impl HeldBytes {
         ensures { self.new ≡ [] }
     {
         self.count = 0;
-    }
-
-    /// Drops the first `n` bytes.
-    pub(crate) fn drop_front(&mut self, n: usize)
-        requires { n ≤ length self.old }
-        ensures { self.new ≡ drop n self.old }
-    {
-        self.room.copy_within(n..self.count, 0);
-        self.count -= n;
     }
 
     /// Appends bytes. If memory runs out, nothing changes.

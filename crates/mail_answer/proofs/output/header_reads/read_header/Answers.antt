@@ -1,29 +1,47 @@
--- `read_header` reads the fields of a message, line by line.
-use Rattle.mail_answer.proofs.Words.{ℕ, List, Option, IfSome, drop, ap, ◌∙◌, subst, lines, fields_of, WillHaveFields}
-use Rattle.mail_answer.proofs.Words.{Reading, bytes_not_passed, IsInsideArchive}
-use Rattle.mail_answer.proofs.ArchiveLaws.KnowledgeLemmas.{inside_later}
-use Rattle.mail_answer.proofs.OutputLaws.HeaderReading.{first_passed}
+-- `read_header` reads the fields of a message, because the part of the archive gives the bytes of the message.
+use Rattle.mail_answer.proofs.Words.{◌≡◌, ℕ, Ok, Err, List, [], IfSome, Stale, drop, refl, arith, lines, span}
+use Rattle.mail_answer.proofs.Words.{fields_of}
+use Rattle.mail_answer.proofs.Words.{HasFields}
+use Rattle.header_text.specs.declared.header.Header.{Header}
+use Rattle.mail_answer.specs.Inside.Calls.{ReadsArchives}
+use Rattle.mail_answer.specs.Inside.Readings.{reading}
+use Rattle.mail_answer.proofs.OutputLaws.ArchiveParts.{part_self, part_reads, part_ends_early, part_told}
 use Rattle.mail_answer.proofs.output.header_reads.read_header.Goals as goal
 
-pub lines-init : goal.lines-init
-lines-init g c =
-    let held : Option (List (List ℕ)) = g.A.Archives.held c.first_line.new.archives in
-    let number : ℕ = g.A.Archives.number c.args.archives.now in
-    let old : IsInsideArchive number held c.over-reader.result = rw c.over-reader.ensures
-    (inside_later (g.A.Archives.held c.args.archives.now) held number _ c.in_ok-first.ensures.archives.keeps.held
-    c.requires.inside) in
-    let inside = c.in_ok-first.ensures.inside in
-    record {
-      keeps = c.in_ok-first.ensures.archives.keeps;
-      inside = rw c.pass.ensures (record { exists = inside.exists; fits = inside.fits; within = inside.within });
-      archive = ap (λ (r : Reading). r.archive) c.pass.ensures ∙ c.in_ok-first.ensures.archive
-          ∙ ap (λ (r : Reading). r.archive) c.over-reader.ensures;
-      fields = subst (λ (r : Reading). IfSome (bytes_not_passed held r)
-          (λ bytes. WillHaveFields (bytes_not_passed held c.pass.new.self) c.new-header.result
-          (fields_of (drop 1 (lines bytes))))) c.over-reader.ensures
-          (first_passed held number c.in_ok-first.first c.over-reader.result c.first_line.new.self c.pass.new.self
-          c.new-header.result old c.in_ok-first.ensures.coming c.in_ok-first.ensures.some
-          c.in_ok-first.ensures.within c.in_ok-first.ensures.line
-          c.pass.ensures c.new-header.ensures);
-      count = c.in_ok-first.ensures.archives.count;
-    }
+pub returns-then-part-gt0-clause-archives : goal.returns-then-part-gt0-clause-archives
+returns-then-part-gt0-clause-archives g c =
+    let call = c.read_source-read.ensures in
+    let reads = call.stays.was _ (part_self g.A.Archives _) in
+    let told : ReadsArchives {T = Header} g.A.Archives c.args.archives.now c.read_source-read.new.source.archives.now
+    (Err (Stale c.args.message.archive)) =
+    part_ends_early g.A.Archives _ _ reads refl _ call.count Header c.args.message.archive c.if-part-gt0.true in
+    grind (arith, told)
+
+pub returns-in-Ok-clause-archives : goal.returns-in-Ok-clause-archives
+returns-in-Ok-clause-archives g c =
+    let reads = c.in-Ok.ensures.stays.was _ (part_self g.A.Archives _) in
+    let none : c.read_source-read.new.source.early_ends ≡ 0 = omega (arith, c.if-part-gt0.false) in
+    let told : ReadsArchives {T = Header} g.A.Archives c.args.archives.now c.read_source-read.new.source.archives.now
+    (Ok c.read_source-read.new.header) =
+    part_reads g.A.Archives _ _ reads refl _ c.in-Ok.ensures.count _ none refl refl in
+    grind (arith, told)
+
+pub returns-in-Ok-clause-fields : goal.returns-in-Ok-clause-fields
+returns-in-Ok-clause-fields g c =
+    let reads = c.in-Ok.ensures.stays.was _ (part_self g.A.Archives _) in
+    let now = c.read_source-read.new.source in
+    let told : IfSome (g.A.Archives.held now.archives.now) (λ bytes.
+    HasFields c.read_source-read.new.header (fields_of (drop 1 (lines (span bytes c.args.message))))) =
+    part_told _ _ c.args.message (reading now.archive [] now.next now.left)
+    (λ (bytes : List ℕ). HasFields c.read_source-read.new.header
+    (fields_of (drop 1 (lines bytes)))) reads.keeps.held c.in-Ok.ensures.fields in
+    grind (arith, told)
+
+pub returns-in-Err-clause-archives : goal.returns-in-Err-clause-archives
+returns-in-Err-clause-archives g c =
+    let reads = c.in-Err.ensures.stays.was _ (part_self g.A.Archives _) in
+    let none : c.read_source-read.new.source.early_ends ≡ 0 = omega (arith, c.if-part-gt0.false) in
+    let told : ReadsArchives {T = Header} g.A.Archives c.args.archives.now c.read_source-read.new.source.archives.now
+    (Err c.in-Err.kind) =
+    part_reads g.A.Archives _ _ reads refl _ c.in-Err.ensures.count _ none refl c.in-Err.ensures.fresh in
+    grind (arith, told)

@@ -1,0 +1,103 @@
+-- A part of an archive gives the archive's bytes, and its reads leave of the archives what reads of these leave.
+use Rattle.mail_answer.proofs.Words.{◌≡◌, ℕ, ◌+◌, ◌-◌, ◌<◌, ◌≤◌, Bool, true, false, List, [], ◌++◌, Option, None, Some}
+use Rattle.mail_answer.proofs.Words.{IfSome, Result, Err, length, take, drop, refl, ap, sym, ◌∙◌, subst, arith}
+use Rattle.mail_answer.proofs.Words.{take-add}
+use Rattle.mail_answer.proofs.Words.{take-append-le, drop-drop, length-drop, length-take-le, WasKnown, archive_at, span}
+use Rattle.mail_answer.proofs.Words.{IsReadFromArchive, Reading, bytes_not_passed, span_reading, Record, Ghosts}
+use Rattle.mail_answer.proofs.Words.{AnswerFaultKind, Stale}
+use Rattle.std.specs.Io.KnownBytes.{Consumes}
+use Rattle.contract_words.specs.Devices.{Counted}
+use Rattle.contract_words.specs.Knowledge.{still_known}
+use Rattle.mail_answer.specs.Faults.{has_fault, is_of_archives, is_stale}
+use Rattle.mail_answer.specs.Inside.ArchiveParts.{ReadsPart}
+use Rattle.mail_answer.specs.Inside.Calls.{ReadsArchives}
+use Rattle.mail_answer.specs.Inside.Readings.{reading}
+use Rattle.mail_answer.specs.declared.output.archive_part.ArchivePart.{ArchivePart}
+use Rattle.mail_answer.proofs.ArchiveLaws.CallLemmas.{keeps_self}
+
+-- an archive whose bytes are known doesn't end before its part does
+pub ends_early : (held : Option (List (List ℕ))) (archive next left : ℕ) (bytes : List ℕ) → 0 < left
+    → length bytes ≡ 0 → IsReadFromArchive archive next bytes held
+    → IfSome held (λ archives. next + left ≤ length (archive_at archives archive)) → held ≡ None
+ends_early None archive next left bytes some none read within = refl
+ends_early (Some archives) archive next left bytes some none read within =
+    absurd (omega (arith, ap length (read.1 none), length-drop next (archive_at archives archive)))
+
+-- a read gives the bytes that come first, and leaves those after them
+pub gives_part : (old new : Option (List (List ℕ))) (archive next left n : ℕ) (into more : List ℕ) → 0 < n → n ≤ left
+    → n ≤ length into → WasKnown old new → IsReadFromArchive archive next (take n into) new
+    → Consumes (still_known (bytes_not_passed old (reading archive [] next left))
+    (bytes_not_passed new (reading archive [] (next + n) (left - n))))
+    (bytes_not_passed new (reading archive [] (next + n) (left - n))) (take n (into ++ more))
+gives_part old None archive next left n into more some le within was read = tt
+gives_part None (Some archives) archive next left n into more some le within was read = absurd (cc was)
+gives_part (Some before) (Some archives) archive next left n into more some le within was read =
+    ap (λ (held : List (List ℕ)). take left (drop next (archive_at held archive))) same ∙ parts
+    ∙ ap (λ (l : List ℕ). l ++ take (left - n) (drop n rest)) front
+    ∙ ap (λ (l : List ℕ). take n (into ++ more) ++ take (left - n) l) (drop-drop n next (archive_at archives archive))
+  where
+    rest : List ℕ
+    rest = drop next (archive_at archives archive)
+
+    same : before ≡ archives
+    same = cc was
+
+    parts : take left rest ≡ take n rest ++ take (left - n) (drop n rest)
+    parts = ap (λ (k : ℕ). take k rest) (omega arith) ∙ take-add n (left - n) rest
+
+    front : take n rest ≡ take n (into ++ more)
+    front = sym (take-append-le n into more within ∙ read.0
+        ∙ ap (λ (k : ℕ). take k rest) (length-take-le n into within))
+
+-- what holds of the bytes of a part, if something is still known of it, holds of the archive's bytes
+pub part_told : (old new : Option (List (List ℕ))) (m : Record) (after : Reading) (P : List ℕ → Type 0)
+    → WasKnown old new
+    → IfSome (still_known (bytes_not_passed old (span_reading m)) (bytes_not_passed new after)) P
+    → IfSome new (λ archives. P (span archives m))
+part_told old None m after P was holds = tt
+part_told old (Some archives) m after P was holds =
+    subst (λ (held : Option (List (List ℕ))). IfSome (still_known (bytes_not_passed held (span_reading m))
+    (bytes_not_passed (Some archives) after)) P) was holds
+
+counted_same : (failed : Bool) (f f' e e' : ℕ) → e ≡ 0 → e' ≡ 0 → Counted failed (f + e) (f' + e') → Counted failed f f'
+counted_same true f f' e e' none none' count = omega (arith, none, none', count)
+counted_same false f f' e e' none none' count = omega (arith, none, none', count)
+
+counted_early : (failed : Bool) (f f' e e' : ℕ) → e ≡ 0 → 0 < e' → f ≤ f' → Counted failed (f + e) (f' + e') → f' ≡ f
+counted_early true f f' e e' none some rises count = omega (arith, none, some, rises, count)
+counted_early false f f' e e' none some rises count = absurd (omega (arith, none, some, rises, count))
+
+module _ {A : Type 0} (g : Ghosts A) where
+  pub part_self : (part : ArchivePart A g) → ReadsPart g part part
+  part_self part = record {
+    name = refl;
+    keeps = keeps_self g part.archives.now;
+    failures = omega arith;
+    early_ends = omega arith;
+  }
+
+  module _ (first now : ArchivePart A g) (reads : ReadsPart g first now) (none : first.early_ends ≡ 0) (failed : Bool)
+      (count : Counted failed (g.failures first.archives.now + first.early_ends)
+      (g.failures now.archives.now + now.early_ends)) where
+    -- no archive ended early
+    pub part_reads : {T : Type 0} (result : Result T AnswerFaultKind) → now.early_ends ≡ 0
+        → has_fault is_of_archives result ≡ failed → has_fault is_stale result ≡ false
+        → ReadsArchives g first.archives.now now.archives.now result
+    part_reads result none' is fresh = record {
+      keeps = reads.keeps;
+      count = rw is (counted_same failed _ _ _ _ none none' count);
+      fresh = known (g.held now.archives.now);
+    }
+      where
+        known : (held : Option (List (List ℕ))) → IfSome held (λ _. has_fault is_stale result ≡ false)
+        known None = tt
+        known (Some archives) = fresh
+
+    -- the archive ended early
+    pub part_ends_early : (T : Type 0) (n : ℕ) → 0 < now.early_ends
+        → ReadsArchives {A = A} {T = T} g first.archives.now now.archives.now (Err (Stale n))
+    part_ends_early T n some = record {
+      keeps = reads.keeps;
+      count = counted_early failed _ _ _ _ none some reads.failures count;
+      fresh = rw (now.fresh some) tt;
+    }
