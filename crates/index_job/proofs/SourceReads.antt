@@ -8,10 +8,8 @@ use Rattle.mbox_cutter.specs.declared.device.Source.{Ghosts}
 use Rattle.mbox_cutter.specs.declared.event.CutFault.TheVariants as cut
 use Rattle.mbox_cutter.specs.declared.event.Event.TheVariants as event
 use Rattle.mbox_cutter.proofs.Sources.{Stays-self, Stays-join}
-use Rattle.mbox_cutter.specs.Digests.{inner, AreWholeBelow}
-use Rattle.mbox_cutter.specs.Sources.{Stays}
 use Rattle.mbox_cutter.specs.declared.digested.Digested.{Digested}
-use Rattle.std.specs.Prelude.{ℕ, zero, suc, List, ◌∷◌, IsSome}
+use Rattle.std.specs.Prelude.{ℕ, List, ◌∷◌}
 use Rattle.index_job.specs.declared.job_fault.JobFault.TheVariants as job
 
 -- ---- whether the source failed
@@ -53,19 +51,3 @@ module _ {S : Type 0} (g : Ghosts S) where
       → (line : List ℕ) → line ≡ new.line
       → TakesKnown (Line line) (still_known old.coming (g.rest new.source.now)) new.coming
   line-takes old new r is h line same = grind (arith, event-takes)
-
--- ---- a source with a digest
-
--- what no read of it changes, no read of the source below it changes
-module _ {S : Type 0} (g : Ghosts S) (old new : Digested S) where
-  pub stays-inside : ((number : ℕ) (bytes : List ℕ) → AreWholeBelow g.whole g.below old number bytes
-      → AreWholeBelow g.whole g.below new number bytes)
-      → (inner new).ghost_name ∷ g.through (inner new).now ≡ (inner old).ghost_name ∷ g.through (inner old).now
-      → (IsSome (g.rest (inner new).now) → IsSome (g.rest (inner old).now))
-      → Stays g (inner old).now (inner new).now
-  stays-inside below through known = record {
-    whole = λ bytes. below zero bytes;
-    below = λ number bytes. below (suc number) bytes;
-    through = grind arith;
-    known = known;
-  }

@@ -13,7 +13,7 @@ pub use Rattle.index_job.specs.Indexing.{IsOpenAt, IsReadyForMessage, IsFaultOfA
 pub use Rattle.index_job.specs.Indexing.{draft_with_messages, draft_with_terms}
 pub use Rattle.index_job.specs.Inside.ArchiveReading.{AddsMessage, AddsMessages, Awaited, HasDone, HasEnded, HasReadAll}
 pub use Rattle.index_job.specs.Inside.ArchiveReading.{Heads, IsHeading, IsInsideMessage, IsMessageFault, IsReading}
-pub use Rattle.index_job.specs.Inside.ArchiveReading.{IsReadingSome, ReadsSource, coming_ahead, coming_between}
+pub use Rattle.index_job.specs.Inside.ArchiveReading.{IsReadingSome, coming_ahead, coming_between}
 pub use Rattle.index_job.specs.Inside.ArchiveReading.{coming_inside}
 pub use Rattle.index_job.specs.Inside.FoldedWords.{HoldsWords, parts_of_lengths}
 pub use Rattle.index_job.specs.Inside.Gathering.{HasGathered, IsGatherFault, with_texts}
@@ -50,6 +50,7 @@ pub use Rattle.mbox_cutter.specs.Events.{ComingEvents, Done, End, Line, Start, c
 unfoldable pub use Rattle.mbox_cutter.specs.Events.{events, archive_refusal}
 pub use Rattle.mbox_cutter.specs.Places.{events_left}
 pub use Rattle.mbox_cutter.specs.Progress.{Advances, Progress, event_with_line}
+pub use Rattle.mbox_cutter.specs.Sources.{ReadsSource}
 pub use Rattle.mbox_cutter.specs.declared.event.CutFault.{CutFault}
 pub use Rattle.mbox_cutter.specs.declared.event.Event.{Event}
 pub use Rattle.mime_text.specs.MessageFacts.{first_of}

@@ -31,8 +31,7 @@ pub trait Source {
     /// changes them.
     ghost through: { Self → List ℕ } = { λ _. [] };
 
-    /// Whether it was this other source before any number of reads, as far as it keeps account of that. What it was
-    /// before a read, it was after it too.
+    /// Whether it was this other source before any number of reads, if it keeps account of that. No read changes it.
     ghost was: { Self → Self → Type 0 } = { λ _ _. ⊤ };
 
     /// Reads bytes to the front of a slice that isn't empty, and returns how many. It returns 0 only at the end.

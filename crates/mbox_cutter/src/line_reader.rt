@@ -73,8 +73,8 @@ impl<'a, S: Source> LineReader<'a, S> {
         &self.buffer[self.from + skip..self.to]
     }
 
-    /// Takes the next line, and returns its length, or 0 if no line is left. `line` lends it. If the source fails, no
-    /// byte is taken.
+    /// Takes the next line, and returns its length, or 0 if no line is left. `line` returns it. If the source fails,
+    /// no byte is taken.
     #[tactic(auto, using(crate::proofs::LineReaders::takes_line))]
     pub fn next_line(&mut self) -> Result<usize, DeviceFault>
         requires { S.failures self.old.source.now < 2 ^ 64 - 1 }

@@ -2,18 +2,14 @@
 use Rattle.std.specs.Prelude.{Bool, ◌≡◌, ⊤, ℕ, ◌+◌, ◌<◌, ◌≤◌, List, [], ◌∷◌, ◌++◌, Option, None, Some, option_map}
 use Rattle.std.specs.Prelude.{unwrap_or, length, Result, Ok, Err}
 use Rattle.std.specs.Option.{option_map_or}
-use Rattle.std.specs.Borrow.{MutBor}
 use Rattle.std.specs.Io.KnownBytes.{IsAtEnd}
-use Rattle.contract_words.specs.Devices.{Counted}
 use Rattle.mail_index.specs.Builders.{Draft}
 use Rattle.mbox_cutter.specs.Archives as archives
 use Rattle.mbox_cutter.specs.Archives.{text, size, span_length}
-use Rattle.mbox_cutter.specs.declared.device.Source.{Ghosts}
 use Rattle.mbox_cutter.specs.declared.event.CutFault.{CutFault}
 use Rattle.mbox_cutter.specs.declared.scan.Phase.TheVariants.{Between, Inside}
 use Rattle.mbox_cutter.specs.Events.{ComingEvents, events_of, events_from_inside}
 use Rattle.mbox_cutter.specs.Places.{CutterPlace, events_left}
-use Rattle.mbox_cutter.specs.Sources.{Stays}
 use Rattle.mime_text.specs.declared.message_text.MessageText.{MessageText}
 use Rattle.index_job.specs.declared.archive_reading.Ended.{Ended}
 use Rattle.index_job.specs.declared.archive_reading.Heading.{Heading}
@@ -47,17 +43,6 @@ coming_between all ms refusal = record { events = events_of all ms; refusal = re
 -- what is to come of an archive with these messages; only the refusal, if the archive is refused and so has no messages
 abbrev pub coming_ahead : ℕ → Option (List archives.Message) → Option CutFault → ComingEvents
 coming_ahead all ms refusal = record { events = option_map_or (events_of all) ms []; refusal = refusal }
-
--- ---- the source
-
--- A cutter has read its source. `failed` says whether the source failed.
-pub record ReadsSource {S : Type 0} (g : Ghosts S) (failed : Bool) (old new : MutBor S) : Type 0 where
-  -- it is the same source
-  pub source : new.ghost_name ≡ old.ghost_name
-  -- what no read changes hasn't changed
-  pub stays : Stays g old.now new.now
-  -- its count of failures rises by one if it failed, and stays otherwise
-  pub count : Counted failed (g.failures old.now) (g.failures new.now)
 
 -- ---- the place of a cutter
 

@@ -6,7 +6,7 @@ use Rattle.index_job.proofs.Words.{most_in_index, Mbox, draft_of_archives}
 use Rattle.contract_words.proofs.StillKnown.{still-known, still-end}
 use Rattle.mbox_cutter.specs.Digests.{inner, AreWhole}
 use Rattle.mbox_cutter.specs.Sources.{Stays}
-use Rattle.index_job.proofs.SourceReads.{stays-inside}
+use Rattle.mbox_cutter.proofs.Sources.{Stays-self}
 use Rattle.index_job.proofs.TableSteps.{number-is, one-added, add-fault}
 use Rattle.index_job.proofs.archive_reading.add_archive.Goals as goal
 
@@ -46,21 +46,18 @@ returns-clause-ok g c = λ before bytes is rest.
 
 pub returns-in_err-messages-clause-stays : goal.returns-in_err-messages-clause-stays
 returns-in_err-messages-clause-stays g c =
-    let reads = c.read_archive.ensures.stays in
     let inside : Stays g.S.Source (inner c.new-digested.result).now (inner c.read_archive.new.source).now =
-    stays-inside g.S.Source c.new-digested.result c.read_archive.new.source reads.below reads.through reads.known in
+    c.read_archive.ensures.stays.was c.new-digested.result (Stays-self g.S.Source _) in
     grind (arith, inside)
 
 pub returns-in_err-end_archive-clause-stays : goal.returns-in_err-end_archive-clause-stays
 returns-in_err-end_archive-clause-stays g c =
-    let reads = c.read_archive.ensures.stays in
     let inside : Stays g.S.Source (inner c.new-digested.result).now (inner c.read_archive.new.source).now =
-    stays-inside g.S.Source c.new-digested.result c.read_archive.new.source reads.below reads.through reads.known in
+    c.read_archive.ensures.stays.was c.new-digested.result (Stays-self g.S.Source _) in
     grind (arith, inside)
 
 pub returns-clause-stays : goal.returns-clause-stays
 returns-clause-stays g c =
-    let reads = c.read_archive.ensures.stays in
     let inside : Stays g.S.Source (inner c.new-digested.result).now (inner c.read_archive.new.source).now =
-    stays-inside g.S.Source c.new-digested.result c.read_archive.new.source reads.below reads.through reads.known in
+    c.read_archive.ensures.stays.was c.new-digested.result (Stays-self g.S.Source _) in
     grind (arith, inside)
