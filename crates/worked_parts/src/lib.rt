@@ -50,6 +50,8 @@ mod reading;
 #[cfg(test)]
 mod rows;
 #[cfg(test)]
+mod source_lines;
+#[cfg(test)]
 mod sweeps;
 #[cfg(test)]
 mod text_words;
