@@ -4,6 +4,7 @@ ghost use Rattle.std.specs.Io.KnownBytes.{IsAtEnd};
 ghost use Rattle.contract_words.specs.Devices.{Counts};
 ghost use Rattle.mbox_cutter.specs.Inside.Ahead.{IsLineLength, ReadsAfter, ReadsOn, TakesLine};
 ghost use Rattle.mbox_cutter.specs.LineReaders.{known_bytes, TakesKnownLine};
+ghost use Rattle.mbox_cutter.specs.Lines.{IsLine};
 ghost use Rattle.contract_words.specs.Knowledge.{still_known};
 ghost use Rattle.mbox_cutter.specs.Sources.{ReadsSource, Stays};
 
@@ -79,6 +80,7 @@ impl<'a, S: Source> LineReader<'a, S> {
     pub fn next_line(&mut self) -> Result<usize, DeviceFault>
         requires { S.failures self.old.source.now < 2 ^ 64 - 1 }
         ensures length { IfOk result (λ n. n ≡ length self.new.line) }
+        ensures one { IfOk result (λ n. 0 < n → IsLine self.new.line) }
         ensures line { TakesKnownLine S.rest self.old result self.new }
         ensures end { result ≡ Ok 0 → IsAtEnd (S.rest self.new.source.now) }
         ensures reads { ReadsSource S.Source (is_err result) self.old.source self.new.source }
