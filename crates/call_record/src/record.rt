@@ -26,15 +26,33 @@ impl Record {
         ghost bytes: { List (List ℕ) }
         ensures { (result.supposed ≡ bytes) × (result.calls ≡ []) }
     {
-        Record {
-            marker: PhantomData,
-        }
+        Record::of()
     }
 
     /// Adds a call. The numbers are its kind, an archive's number, an offset or a length, and 1 for success. Other
     /// crates can add a call only by making it.
-    pub(crate) fn note(&mut self, _numbers: &[u64], _bytes: &[u8])
+    pub(crate) fn note(&mut self, numbers: &[u64], bytes: &[u8])
         ensures { (self.new.supposed ≡ self.old.supposed)
-            × (self.new.calls ≡ call_of _numbers.now _bytes.now ∷ self.old.calls) }
-    {}
+            × (self.new.calls ≡ call_of numbers.now bytes.now ∷ self.old.calls) }
+    {
+        *self = self.next(numbers, bytes);
+    }
+
+    /// Makes the record that comes after this one. A proof says which one that is, by what is passed here.
+    fn next(&self, _numbers: &[u64], _bytes: &[u8]) -> Record
+        ghost said: { List (List ℕ) × List Call }
+        ensures { (result.supposed ≡ said.0) × (result.calls ≡ said.1) }
+    {
+        Record::of()
+    }
+
+    /// Makes a record, of whatever is supposed and of any calls.
+    fn of() -> Record
+        ghost said: { List (List ℕ) × List Call }
+        ensures { (result.supposed ≡ said.0) × (result.calls ≡ said.1) }
+    {
+        Record {
+            marker: PhantomData,
+        }
+    }
 }

@@ -36,16 +36,34 @@ impl KitCalls {
     pub(crate) fn new() -> KitCalls
         ensures { result.done ≡ [] }
     {
+        KitCalls::of()
+    }
+
+    /// Adds a call that was done. The numbers are its kind, and 1 if what was given a name was on the disk.
+    fn note(&mut self, numbers: &[u64], name: &[u8])
+        ghost bytes: { List ℕ }
+        ensures { self.new.done ≡ name_call_of numbers.now name.now bytes ∷ self.old.done }
+    {
+        *self = self.next(numbers, name);
+    }
+
+    /// Returns the calls that come after these. A proof says which ones these are, by what is passed here.
+    fn next(&self, _numbers: &[u64], _name: &[u8]) -> KitCalls
+        ghost said: { List NameCall }
+        ensures { result.done ≡ said }
+    {
+        KitCalls::of()
+    }
+
+    /// Returns any calls.
+    fn of() -> KitCalls
+        ghost said: { List NameCall }
+        ensures { result.done ≡ said }
+    {
         KitCalls {
             marker: PhantomData,
         }
     }
-
-    /// Adds a call that was done. The numbers are its kind, and 1 if what was given a name was on the disk.
-    fn note(&mut self, _numbers: &[u64], _name: &[u8])
-        ghost bytes: { List ℕ }
-        ensures { self.new.done ≡ name_call_of _numbers.now _name.now bytes ∷ self.old.done }
-    {}
 }
 
 /// Notes that a file was made under this name.

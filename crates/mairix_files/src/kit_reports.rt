@@ -25,16 +25,34 @@ impl KitReports {
     pub(crate) fn new() -> KitReports
         ensures { result.agree ≡ true }
     {
-        KitReports {
-            marker: PhantomData,
-        }
+        KitReports::of()
     }
 
     /// Adds a report, which agrees with what is supposed or doesn't.
     pub(crate) fn note(&mut self)
         ghost agrees: { Bool }
         ensures { self.new.agree ≡ (self.old.agree && agrees) }
-    {}
+    {
+        *self = self.next();
+    }
+
+    /// Returns the reports that come after these. A proof says whether they agree, by what is passed here.
+    fn next(&self) -> KitReports
+        ghost said: { Bool }
+        ensures { result.agree ≡ said }
+    {
+        KitReports::of()
+    }
+
+    /// Returns any reports.
+    fn of() -> KitReports
+        ghost said: { Bool }
+        ensures { result.agree ≡ said }
+    {
+        KitReports {
+            marker: PhantomData,
+        }
+    }
 }
 
 /// Notes what was reported of a name, as it is compared with what the name is supposed to lead to after the calls.

@@ -1,7 +1,7 @@
--- `new` makes a value without bytes, whose ghost field is true.
+-- `of` makes a value without bytes, whose ghost field is what is said.
 use mathlib.Core.Path.{refl}
 use mathlib.Core.List.{[], ◌∷◌}
-use Rattle.std.specs.Prelude.{true}
+use Rattle.std.specs.Prelude.{Bool}
 use seplogic.Ra.Ura.{Ura}
 use mir.Val.{Val, vstruct, vcons, vnil}
 use base.Logic.{SProp}
@@ -24,16 +24,16 @@ use denote.Triple.Table.{entered}
 use denote.Triple.Walked.{says, ends_at, walked, walk_Meets}
 use Rattle.mairix_files.specs.declared.kit_reports.KitReports.{KitReports}
 use Rattle.mairix_files.specs.contracts.kit_reports.KitReports as T
-use Rattle.mairix_files.specs.contracts.kit_reports.KitReports.new.Key.{name as #it}
-use Rattle.mairix_files.specs.contracts.kit_reports.KitReports.new as it
-use Rattle.mairix_files.proofs.kit_reports.KitReports.new.Statement as stated
-use Rattle.mairix_files.proofs.kit_reports.KitReports.new.Code as code
+use Rattle.mairix_files.specs.contracts.kit_reports.KitReports.of.Key.{name as #it}
+use Rattle.mairix_files.specs.contracts.kit_reports.KitReports.of as it
+use Rattle.mairix_files.proofs.kit_reports.KitReports.of.Statement as stated
+use Rattle.mairix_files.proofs.kit_reports.KitReports.of.Code as code
 
 abbrev v : Val
 v = vstruct (vcons (vstruct vnil) vnil)
 
-abbrev r : KitReports
-r = record { marker = record {}; agree = true }
+abbrev r : Bool → KitReports
+r said = record { marker = record {}; agree = said }
 
 meets : {M : Type 1} {𝓤 : Ura M} (𝓛 : Logic 𝓤) → (at_mem : Memory → SProp 𝓤) (run : Routine → Fun 𝓤) (𝓣 : Tables 𝓤 𝓛.H)
     → Meets 𝓛 it.signature (WpFn 𝓤 𝓛.H 𝓣.C 𝓣.Λ code.function) (it.spec 𝓛 at_mem run)
@@ -48,15 +48,15 @@ meets {𝓤 = 𝓤} 𝓛 at_mem run 𝓣 =
     sets ! (agg ! (no_more !)) refl (tt, tt) $ sets ! (agg ! (and_then ! (get ! refl) (no_more !))) refl (tt, (tt, tt))
     $
     returns ! (look_at ! 0 refl) $ free_all ! refl $
-    pure_i ! ((T.the_row).own_val r (v ∷ [])) ((λ vss. (tt, ((λ uss. (tt, tt)), tt))), tt)
+    pure_i ! ((T.the_row).own_val (r g) (v ∷ [])) ((λ vss. (tt, ((λ uss. (tt, tt)), tt))), tt)
     (((vstruct vnil ∷ [], tt), (refl, ((tt, (refl, tt)), tt))), tt) $
-    suffices ! _ (ends_at 𝓛 it.ended tt (it.clauses 𝓛 at_mem run) ((κs, qs, bounds, a, tt), g) v r tt tt) $ says !
+    suffices ! _ (ends_at 𝓛 it.ended tt (it.clauses 𝓛 at_mem run) ((κs, qs, bounds, a, tt), g) v (r g) tt tt) $ says !
     refl $
     nothing ! $ join ! $ nothing ! $ done !)))
 
-pub new_spec : {M : Type 1} → stated.statement M
+pub of_spec : {M : Type 1} → stated.statement M
 unfolding tables_of
-new_spec 𝓤 𝓛 𝓜 𝓡 wired =
+of_spec 𝓤 𝓛 𝓜 𝓡 wired =
     entered 𝓤 𝓛.H (triple_of 𝓛 it.signature (it.spec 𝓛 𝓜.mem 𝓡.returns))
     (tables 𝓤 𝓛.H 𝓜 𝓡 𝓡.env).C (tables 𝓤 𝓛.H 𝓜 𝓡 𝓡.env).Λ #it code.function (code.unfolded 𝓤 𝓛.H 𝓜 𝓡 wired)
     (meets 𝓛 𝓜.mem 𝓡.returns (tables_of 𝓤 𝓛.H 𝓜 (tables 𝓤 𝓛.H 𝓜 𝓡 𝓡.env)))

@@ -1,6 +1,8 @@
--- `new` makes a value without bytes, whose ghost field is empty.
+-- `of` makes a value without bytes, whose ghost fields are those that are said.
 use mathlib.Core.Path.{refl}
-use mathlib.Core.List.{[], ◌∷◌}
+use mathlib.Core.List.{List, [], ◌∷◌}
+use Rattle.std.specs.Prelude.{ℕ}
+use Rattle.call_record.specs.Calls.{Call}
 use seplogic.Ra.Ura.{Ura}
 use mir.Val.{Val, vstruct, vcons, vnil}
 use base.Logic.{SProp}
@@ -21,18 +23,18 @@ use denote.Triple.Entry.{on_entry}
 use denote.Triple.Spec.{Meets, triple_of}
 use denote.Triple.Table.{entered}
 use denote.Triple.Walked.{says, ends_at, walked, walk_Meets}
-use Rattle.mairix_files.specs.declared.kit_calls.KitCalls.{KitCalls}
-use Rattle.mairix_files.specs.contracts.kit_calls.KitCalls as T
-use Rattle.mairix_files.specs.contracts.kit_calls.KitCalls.new.Key.{name as #it}
-use Rattle.mairix_files.specs.contracts.kit_calls.KitCalls.new as it
-use Rattle.mairix_files.proofs.kit_calls.KitCalls.new.Statement as stated
-use Rattle.mairix_files.proofs.kit_calls.KitCalls.new.Code as code
+use Rattle.call_record.specs.declared.record.Record.{Record}
+use Rattle.call_record.specs.contracts.record.Record as T
+use Rattle.call_record.specs.contracts.record.Record.of.Key.{name as #it}
+use Rattle.call_record.specs.contracts.record.Record.of as it
+use Rattle.call_record.proofs.record.Record.of.Statement as stated
+use Rattle.call_record.proofs.record.Record.of.Code as code
 
 abbrev v : Val
 v = vstruct (vcons (vstruct vnil) vnil)
 
-abbrev r : KitCalls
-r = record { marker = record {}; done = [] }
+abbrev r : List (List ℕ) × List Call → Record
+r said = record { marker = record {}; supposed = said.0; calls = said.1 }
 
 meets : {M : Type 1} {𝓤 : Ura M} (𝓛 : Logic 𝓤) → (at_mem : Memory → SProp 𝓤) (run : Routine → Fun 𝓤) (𝓣 : Tables 𝓤 𝓛.H)
     → Meets 𝓛 it.signature (WpFn 𝓤 𝓛.H 𝓣.C 𝓣.Λ code.function) (it.spec 𝓛 at_mem run)
@@ -47,15 +49,15 @@ meets {𝓤 = 𝓤} 𝓛 at_mem run 𝓣 =
     sets ! (agg ! (no_more !)) refl (tt, tt) $ sets ! (agg ! (and_then ! (get ! refl) (no_more !))) refl (tt, (tt, tt))
     $
     returns ! (look_at ! 0 refl) $ free_all ! refl $
-    pure_i ! ((T.the_row).own_val r (v ∷ [])) ((λ vss. (tt, ((λ uss. (tt, tt)), tt))), tt)
+    pure_i ! ((T.the_row).own_val (r g) (v ∷ [])) ((λ vss. (tt, ((λ uss. (tt, tt)), tt))), tt)
     (((vstruct vnil ∷ [], tt), (refl, ((tt, (refl, tt)), tt))), tt) $
-    suffices ! _ (ends_at 𝓛 it.ended tt (it.clauses 𝓛 at_mem run) ((κs, qs, bounds, a, tt), g) v r tt tt) $ says !
-    refl $
+    suffices ! _ (ends_at 𝓛 it.ended tt (it.clauses 𝓛 at_mem run) ((κs, qs, bounds, a, tt), g) v (r g) tt tt) $ says !
+    (refl, refl) $
     nothing ! $ join ! $ nothing ! $ done !)))
 
-pub new_spec : {M : Type 1} → stated.statement M
+pub of_spec : {M : Type 1} → stated.statement M
 unfolding tables_of
-new_spec 𝓤 𝓛 𝓜 𝓡 wired =
+of_spec 𝓤 𝓛 𝓜 𝓡 wired =
     entered 𝓤 𝓛.H (triple_of 𝓛 it.signature (it.spec 𝓛 𝓜.mem 𝓡.returns))
     (tables 𝓤 𝓛.H 𝓜 𝓡 𝓡.env).C (tables 𝓤 𝓛.H 𝓜 𝓡 𝓡.env).Λ #it code.function (code.unfolded 𝓤 𝓛.H 𝓜 𝓡 wired)
     (meets 𝓛 𝓜.mem 𝓡.returns (tables_of 𝓤 𝓛.H 𝓜 (tables 𝓤 𝓛.H 𝓜 𝓡 𝓡.env)))

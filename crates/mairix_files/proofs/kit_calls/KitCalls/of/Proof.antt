@@ -1,7 +1,6 @@
--- `new` makes a value without bytes, whose ghost fields are what is supposed and the empty list.
+-- `of` makes a value without bytes, whose ghost field is what is said.
 use mathlib.Core.Path.{refl}
 use mathlib.Core.List.{List, [], ◌∷◌}
-use Rattle.std.specs.Prelude.{ℕ}
 use seplogic.Ra.Ura.{Ura}
 use mir.Val.{Val, vstruct, vcons, vnil}
 use base.Logic.{SProp}
@@ -22,18 +21,19 @@ use denote.Triple.Entry.{on_entry}
 use denote.Triple.Spec.{Meets, triple_of}
 use denote.Triple.Table.{entered}
 use denote.Triple.Walked.{says, ends_at, walked, walk_Meets}
-use Rattle.call_record.specs.declared.record.Record.{Record}
-use Rattle.call_record.specs.contracts.record.Record as T
-use Rattle.call_record.specs.contracts.record.Record.new.Key.{name as #it}
-use Rattle.call_record.specs.contracts.record.Record.new as it
-use Rattle.call_record.proofs.record.Record.new.Statement as stated
-use Rattle.call_record.proofs.record.Record.new.Code as code
+use Rattle.mairix_files.specs.NameCalls.{NameCall}
+use Rattle.mairix_files.specs.declared.kit_calls.KitCalls.{KitCalls}
+use Rattle.mairix_files.specs.contracts.kit_calls.KitCalls as T
+use Rattle.mairix_files.specs.contracts.kit_calls.KitCalls.of.Key.{name as #it}
+use Rattle.mairix_files.specs.contracts.kit_calls.KitCalls.of as it
+use Rattle.mairix_files.proofs.kit_calls.KitCalls.of.Statement as stated
+use Rattle.mairix_files.proofs.kit_calls.KitCalls.of.Code as code
 
 abbrev v : Val
 v = vstruct (vcons (vstruct vnil) vnil)
 
-abbrev r : List (List ℕ) → Record
-r supposed = record { marker = record {}; supposed = supposed; calls = [] }
+abbrev r : List NameCall → KitCalls
+r said = record { marker = record {}; done = said }
 
 meets : {M : Type 1} {𝓤 : Ura M} (𝓛 : Logic 𝓤) → (at_mem : Memory → SProp 𝓤) (run : Routine → Fun 𝓤) (𝓣 : Tables 𝓤 𝓛.H)
     → Meets 𝓛 it.signature (WpFn 𝓤 𝓛.H 𝓣.C 𝓣.Λ code.function) (it.spec 𝓛 at_mem run)
@@ -51,12 +51,12 @@ meets {𝓤 = 𝓤} 𝓛 at_mem run 𝓣 =
     pure_i ! ((T.the_row).own_val (r g) (v ∷ [])) ((λ vss. (tt, ((λ uss. (tt, tt)), tt))), tt)
     (((vstruct vnil ∷ [], tt), (refl, ((tt, (refl, tt)), tt))), tt) $
     suffices ! _ (ends_at 𝓛 it.ended tt (it.clauses 𝓛 at_mem run) ((κs, qs, bounds, a, tt), g) v (r g) tt tt) $ says !
-    (refl, refl) $
+    refl $
     nothing ! $ join ! $ nothing ! $ done !)))
 
-pub new_spec : {M : Type 1} → stated.statement M
+pub of_spec : {M : Type 1} → stated.statement M
 unfolding tables_of
-new_spec 𝓤 𝓛 𝓜 𝓡 wired =
+of_spec 𝓤 𝓛 𝓜 𝓡 wired =
     entered 𝓤 𝓛.H (triple_of 𝓛 it.signature (it.spec 𝓛 𝓜.mem 𝓡.returns))
     (tables 𝓤 𝓛.H 𝓜 𝓡 𝓡.env).C (tables 𝓤 𝓛.H 𝓜 𝓡 𝓡.env).Λ #it code.function (code.unfolded 𝓤 𝓛.H 𝓜 𝓡 wired)
     (meets 𝓛 𝓜.mem 𝓡.returns (tables_of 𝓤 𝓛.H 𝓜 (tables 𝓤 𝓛.H 𝓜 𝓡 𝓡.env)))

@@ -1,0 +1,7 @@
+-- As long as nothing is reported, all agrees.
+use Rattle.std.specs.Prelude.{true}
+use Rattle.mairix_files.proofs.kit_reports.KitReports.new.Given as goal
+
+-- all agrees
+abbrev pub ghost-of : goal.ghost-of
+ghost-of a = true
