@@ -32,9 +32,8 @@ pub use Rattle.mail_answer.specs.Inside.Forests.{AreBothAmong, AreInOneTree, Lab
 pub use Rattle.mail_answer.specs.Inside.Forests.{StaysInThreads, AreThreadRoots, Unites}
 pub use Rattle.mail_answer.specs.Inside.HeaderReads.{HasFields, HasFieldsAfter, WillHaveFields}
 pub use Rattle.mail_answer.specs.Inside.PassedArchives.{ArePassed}
-pub use Rattle.mail_answer.specs.Inside.Readings.{IsInsideArchive, Reading, AppendsRead, ReadsTail, bytes_not_passed}
-pub use Rattle.mail_answer.specs.Inside.Readings.{coming_count}
-pub use Rattle.mail_answer.specs.Inside.Readings.{span_reading}
+pub use Rattle.mail_answer.specs.Inside.Readings.{IsInsideArchive, Reading, AppendsRead, ReadsTail, bytes_left}
+pub use Rattle.mail_answer.specs.Inside.Readings.{reading, span_reading}
 pub use Rattle.mail_answer.specs.Inside.Writing.{IsReadyToWrite, IsSameAnswer}
 pub use Rattle.mail_answer.specs.Mail.{AreChosen, AreChosenBy, AreThreadsOf, IsChain, IsLedTo, IsLedToBySome, Search}
 pub use Rattle.mail_answer.specs.Mail.{satisfying}

@@ -1,6 +1,6 @@
 -- What is known after some calls was known before them. So what held of the known bytes then still holds.
 use Rattle.mail_answer.proofs.Words.{◌≡◌, ℕ, List, ◌++◌, Option, None, Some, IfSome, refl, subst, option_map, WasKnown}
-use Rattle.mail_answer.proofs.Words.{Raw, Excerpt, Mbox, Table, Reading, bytes_not_passed, known_answer, joined_texts}
+use Rattle.mail_answer.proofs.Words.{Raw, Excerpt, Mbox, Table, Reading, bytes_left, known_answer, joined_texts}
 use Rattle.mail_answer.proofs.Words.{IsInsideArchive}
 use Rattle.mail_answer.specs.declared.format.Format.{Format}
 
@@ -28,10 +28,10 @@ inside_later old new number r was inside =
 
 -- what was copied of a part and what comes are still the whole part
 pub copied_later : (old new : Option (List (List ℕ))) (whole part : Reading) (text : List ℕ) → WasKnown old new
-    → bytes_not_passed old whole ≡ option_map (λ bytes. text ++ bytes) (bytes_not_passed old part)
-    → bytes_not_passed new whole ≡ option_map (λ bytes. text ++ bytes) (bytes_not_passed new part)
+    → bytes_left old whole ≡ option_map (λ bytes. text ++ bytes) (bytes_left old part)
+    → bytes_left new whole ≡ option_map (λ bytes. text ++ bytes) (bytes_left new part)
 copied_later old new whole part text was is =
-    known_later (λ held. bytes_not_passed held whole ≡ option_map (λ bytes. text ++ bytes) (bytes_not_passed held part))
+    known_later (λ held. bytes_left held whole ≡ option_map (λ bytes. text ++ bytes) (bytes_left held part))
     old new was refl is
 
 -- what was added to an answer and what comes are still all of it

@@ -1,19 +1,18 @@
 -- A part of an archive gives the archive's bytes, and its reads leave of the archives what reads of these leave.
-use Rattle.mail_answer.proofs.Words.{◌≡◌, ℕ, ◌+◌, ◌-◌, ◌<◌, ◌≤◌, Bool, true, false, List, [], ◌++◌, Option, None, Some}
+use Rattle.mail_answer.proofs.Words.{◌≡◌, ℕ, ◌+◌, ◌-◌, ◌<◌, ◌≤◌, Bool, true, false, List, ◌++◌, Option, None, Some}
 use Rattle.mail_answer.proofs.Words.{IfSome, Result, Err, length, take, drop, refl, ap, sym, ◌∙◌, subst, arith}
-use Rattle.mail_answer.proofs.Words.{take-add}
-use Rattle.mail_answer.proofs.Words.{take-append-le, drop-drop, length-drop, length-take-le, WasKnown, archive_at, span}
-use Rattle.mail_answer.proofs.Words.{IsReadFromArchive, Reading, bytes_not_passed, span_reading, Record, Ghosts}
-use Rattle.mail_answer.proofs.Words.{AnswerFaultKind, Stale}
+use Rattle.mail_answer.proofs.Words.{take-append-le, length-drop, length-take-le, WasKnown, archive_at, span}
+use Rattle.mail_answer.proofs.Words.{IsReadFromArchive, Reading, bytes_left, span_reading, Record, Ghosts}
+use Rattle.mail_answer.proofs.Words.{AnswerFaultKind, Stale, reading}
 use Rattle.std.specs.Io.KnownBytes.{Consumes}
 use Rattle.contract_words.specs.Devices.{Counted}
 use Rattle.contract_words.specs.Knowledge.{still_known}
 use Rattle.mail_answer.specs.Faults.{has_fault, is_of_archives, is_stale}
 use Rattle.mail_answer.specs.Inside.ArchiveParts.{ReadsPart}
 use Rattle.mail_answer.specs.Inside.Calls.{ReadsArchives}
-use Rattle.mail_answer.specs.Inside.Readings.{reading}
 use Rattle.mail_answer.specs.declared.output.archive_part.ArchivePart.{ArchivePart}
 use Rattle.mail_answer.proofs.ArchiveLaws.CallLemmas.{keeps_self}
+use Rattle.mail_answer.proofs.OutputLaws.ReadingLemmas.{piece_first}
 
 -- an archive whose bytes are known doesn't end before its part does
 pub ends_early : (held : Option (List (List ℕ))) (archive next left : ℕ) (bytes : List ℕ) → 0 < left
@@ -26,38 +25,34 @@ ends_early (Some archives) archive next left bytes some none read within =
 -- a read gives the bytes that come first, and leaves those after them
 pub gives_part : (old new : Option (List (List ℕ))) (archive next left n : ℕ) (into more : List ℕ) → 0 < n → n ≤ left
     → n ≤ length into → WasKnown old new → IsReadFromArchive archive next (take n into) new
-    → Consumes (still_known (bytes_not_passed old (reading archive [] next left))
-    (bytes_not_passed new (reading archive [] (next + n) (left - n))))
-    (bytes_not_passed new (reading archive [] (next + n) (left - n))) (take n (into ++ more))
+    → Consumes (still_known (bytes_left old (reading archive next left))
+    (bytes_left new (reading archive (next + n) (left - n))))
+    (bytes_left new (reading archive (next + n) (left - n))) (take n (into ++ more))
 gives_part old None archive next left n into more some le within was read = tt
 gives_part None (Some archives) archive next left n into more some le within was read = absurd (cc was)
 gives_part (Some before) (Some archives) archive next left n into more some le within was read =
-    ap (λ (held : List (List ℕ)). take left (drop next (archive_at held archive))) same ∙ parts
-    ∙ ap (λ (l : List ℕ). l ++ take (left - n) (drop n rest)) front
-    ∙ ap (λ (l : List ℕ). take n (into ++ more) ++ take (left - n) l) (drop-drop n next (archive_at archives archive))
+    ap (λ (held : List (List ℕ)). take left (drop next (archive_at held archive))) same
+    ∙ piece_first bytes next left n le ∙ ap (λ (l : List ℕ). l ++ take (left - n) (drop (next + n) bytes)) front
   where
-    rest : List ℕ
-    rest = drop next (archive_at archives archive)
+    bytes : List ℕ
+    bytes = archive_at archives archive
 
     same : before ≡ archives
     same = cc was
 
-    parts : take left rest ≡ take n rest ++ take (left - n) (drop n rest)
-    parts = ap (λ (k : ℕ). take k rest) (omega arith) ∙ take-add n (left - n) rest
-
-    front : take n rest ≡ take n (into ++ more)
+    front : take n (drop next bytes) ≡ take n (into ++ more)
     front = sym (take-append-le n into more within ∙ read.0
-        ∙ ap (λ (k : ℕ). take k rest) (length-take-le n into within))
+        ∙ ap (λ (k : ℕ). take k (drop next bytes)) (length-take-le n into within))
 
 -- what holds of the bytes of a part, if something is still known of it, holds of the archive's bytes
 pub part_told : (old new : Option (List (List ℕ))) (m : Record) (after : Reading) (P : List ℕ → Type 0)
     → WasKnown old new
-    → IfSome (still_known (bytes_not_passed old (span_reading m)) (bytes_not_passed new after)) P
+    → IfSome (still_known (bytes_left old (span_reading m)) (bytes_left new after)) P
     → IfSome new (λ archives. P (span archives m))
 part_told old None m after P was holds = tt
 part_told old (Some archives) m after P was holds =
-    subst (λ (held : Option (List (List ℕ))). IfSome (still_known (bytes_not_passed held (span_reading m))
-    (bytes_not_passed (Some archives) after)) P) was holds
+    subst (λ (held : Option (List (List ℕ))). IfSome (still_known (bytes_left held (span_reading m))
+    (bytes_left (Some archives) after)) P) was holds
 
 counted_same : (failed : Bool) (f f' e e' : ℕ) → e ≡ 0 → e' ≡ 0 → Counted failed (f + e) (f' + e') → Counted failed f f'
 counted_same true f f' e e' none none' count = omega (arith, none, none', count)

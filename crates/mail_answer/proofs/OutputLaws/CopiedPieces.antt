@@ -4,16 +4,16 @@ use Rattle.mail_answer.proofs.Words.{◌++◌, Option, None, Some, Result, IsErr
 use Rattle.mail_answer.proofs.Words.{append_assoc, append-nil, arith, inl, inr, option_map, cases_lt, drop-append-le}
 use Rattle.mail_answer.proofs.Words.{drop_all, take-append-drop, take_rest, lines, first_length, first_length-le}
 use Rattle.mail_answer.proofs.Words.{first_length-positive, archive_at, feed, feeds_after, after_next, ending_of_bytes}
-use Rattle.mail_answer.proofs.Words.{feeds_of, Reading, bytes_not_passed, coming_count, IsInsideArchive, AppendsRead}
+use Rattle.mail_answer.proofs.Words.{feeds_of, Reading, bytes_left, IsInsideArchive, AppendsRead}
 use Rattle.mail_answer.proofs.Words.{closed_text}
 use Rattle.mail_answer.proofs.Words.{is_closed}
 use Rattle.mail_answer.proofs.Words.{last_line_of, IsIfKnown, JoinsFront, Ending, AnswerFaultKind, Sheet, Table}
-use Rattle.mail_answer.proofs.Words.{span_reading}
+use Rattle.mail_answer.proofs.Words.{reading, span_reading}
 use Rattle.mail_answer.proofs.Words.{record_at, known_message, Mbox}
 use Rattle.std.proofs.lemmas.List.{length-drop}
 use Rattle.mail_answer.specs.Inside.Copies.{Copies}
 use Rattle.mail_answer.proofs.OutputLaws.ClosedLemmas.{closed_more, next_front, last_after, one_line}
-use Rattle.mail_answer.proofs.OutputLaws.ReadingLemmas.{count_known, coming_read}
+use Rattle.mail_answer.proofs.OutputLaws.ReadingLemmas.{count_known, piece_first}
 use Rattle.mail_answer.proofs.OutputLaws.Endings.{lines_single, feeds_told}
 
 -- ---- calls that fail
@@ -32,15 +32,15 @@ some_bytes (suc count) = let bytes = some_bytes count in (0 ∷ bytes.0, omega (
 -- the bytes that still come; if they aren't known, other bytes of the same length
 pub some_coming : (held : Option (List (List ℕ))) (number : ℕ) (r : Reading) → IsInsideArchive number held r
     → (text : List ℕ)
-    × IsIfKnown (bytes_not_passed held r) text × (length text ≡ coming_count r)
-some_coming None number r inside = let bytes = some_bytes (coming_count r) in (bytes.0, tt, bytes.1)
+    × IsIfKnown (bytes_left held r) text × (length text ≡ r.left)
+some_coming None number r inside = let bytes = some_bytes r.left in (bytes.0, tt, bytes.1)
 some_coming (Some archives) number r inside =
-    (r.unread ++ take r.left (drop r.next (archive_at archives r.archive)), refl, count_known archives number r inside)
+    (take r.left (drop r.next (archive_at archives r.archive)), refl, count_known archives number r inside)
 
 -- the part after a piece
 pub inside_after : (number : ℕ) (held : Option (List (List ℕ))) (archive next left n : ℕ) → n ≤ left
-    → IsInsideArchive number held (record { archive = archive; unread = []; next = next; left = left })
-    → IsInsideArchive number held (record { archive = archive; unread = []; next = next + n; left = left - n })
+    → IsInsideArchive number held (reading archive next left)
+    → IsInsideArchive number held (reading archive (next + n) (left - n))
 inside_after number held archive next left n le h = grind arith
 
 -- ---- bytes are closed as their last line is
@@ -90,25 +90,12 @@ closed_begins b = go (is_closed b) (is_closed (b ++ feed))
 -- what comes is the piece that was read, and what comes after it
 pub piece_read : (archive next left n : ℕ) (held : Option (List (List ℕ))) (old new : List ℕ)
     (r : AppendsRead archive next n held old new) → n ≤ left
-    → bytes_not_passed held (record { archive = archive; unread = []; next = next; left = left })
-    ≡ option_map (λ bytes. r.bytes ++ bytes)
-    (bytes_not_passed held (record { archive = archive; unread = []; next = next + n; left = left - n }))
-piece_read archive next left n held old new r le =
-    sym (coming_read archive next left n held [] r.bytes
-    (record { bytes = r.bytes; after = refl; number = r.number; some = r.some; known = r.known }) le) ∙ parts held
-  where
-    parts : (held : Option (List (List ℕ)))
-        → bytes_not_passed held (record {
-          archive = archive;
-          unread = drop 0 r.bytes;
-          next = next + n;
-          left =
-              left - n;
-        })
-        ≡ option_map (λ bytes. r.bytes ++ bytes)
-        (bytes_not_passed held (record { archive = archive; unread = []; next = next + n; left = left - n }))
-    parts None = refl
-    parts (Some archives) = refl
+    → bytes_left held (reading archive next left)
+    ≡ option_map (λ bytes. r.bytes ++ bytes) (bytes_left held (reading archive (next + n) (left - n)))
+piece_read archive next left n None old new r le = refl
+piece_read archive next left n (Some archives) old new r le =
+    ap Some (piece_first (archive_at archives archive) next left n le
+    ∙ ap (λ l. l ++ take (left - n) (drop (next + n) (archive_at archives archive))) (sym r.known))
 
 -- the bytes after those that were there
 pub after_gathered : (old piece items : List ℕ) (at : ℕ) → items ≡ old ++ piece → at ≡ length old
@@ -137,17 +124,16 @@ front_told span (Some k) text rest is told =
 
 -- the whole span was copied
 pub closed_told : (held : Option (List (List ℕ))) (number : ℕ) (span part : Reading) (text : List ℕ)
-    → IsInsideArchive number held span → 0 < coming_count span
-    → bytes_not_passed held span ≡ option_map (λ bytes. text ++ bytes) (bytes_not_passed held part) → coming_count part
-    ≡ 0
-    → IsInsideArchive number held part → IsIfKnown (option_map closed_text (bytes_not_passed held span))
+    → IsInsideArchive number held span → 0 < span.left
+    → bytes_left held span ≡ option_map (λ bytes. text ++ bytes) (bytes_left held part) → part.left ≡ 0
+    → IsInsideArchive number held part → IsIfKnown (option_map closed_text (bytes_left held span))
     (text ++ feeds_of (ending_of_bytes text))
 closed_told None number span part text inside some is none within = tt
 closed_told (Some archives) number span part text inside some is none within =
-    let all : List ℕ = span.unread ++ take span.left (drop span.next (archive_at archives span.archive)) in
-    let rest : List ℕ = part.unread ++ take part.left (drop part.next (archive_at archives part.archive)) in
-    let long : length all ≡ coming_count span = count_known archives number span inside in
-    let short : length rest ≡ coming_count part = count_known archives number part within in
+    let all : List ℕ = take span.left (drop span.next (archive_at archives span.archive)) in
+    let rest : List ℕ = take part.left (drop part.next (archive_at archives part.archive)) in
+    let long : length all ≡ span.left = count_known archives number span inside in
+    let short : length rest ≡ part.left = count_known archives number part within in
     let joined : all ≡ text ++ rest = cc is in
     let same : all ≡ text = joined ∙ ap (λ (l : List ℕ). text ++ l) (empty rest (omega (arith, short, none)))
     ∙ append-nil text in
@@ -159,7 +145,7 @@ closed_told (Some archives) number span part text inside some is none within =
 
 -- what is known of a message is its span, closed, if this is known
 pub known_closed : (t : Table) (held : Option (List (List ℕ))) (n : ℕ)
-    → option_map closed_text (bytes_not_passed held (span_reading (record_at t.messages n)))
+    → option_map closed_text (bytes_left held (span_reading (record_at t.messages n)))
     ≡ known_message Mbox t held n
 known_closed t None n = refl
 known_closed t (Some archives) n = refl

@@ -1,13 +1,11 @@
--- A read of an archive moves bytes from those that come to those that were read, and changes nothing else.
-use Rattle.mail_answer.proofs.Words.{◌≡◌, ℕ, ◌+◌, ◌-◌, ◌<◌, ◌≤◌, List, ◌++◌, Option, None, Some, Result, IfOk}
-use Rattle.mail_answer.proofs.Words.{length, take, drop, refl, ap, sym, ◌∙◌, append_assoc, arith}
+-- A read of an archive gives the bytes of a part that come first, and leaves those after them.
+use Rattle.mail_answer.proofs.Words.{◌≡◌, ℕ, ◌+◌, ◌-◌, ◌<◌, ◌≤◌, List, ◌++◌, Option, Some, Result, IfOk}
+use Rattle.mail_answer.proofs.Words.{length, take, drop, ap, ◌∙◌, arith}
 use Rattle.mail_answer.proofs.Words.{take-append-add, take-append-le, drop-drop, DeviceFault}
 use Rattle.mail_answer.proofs.Words.{archive_at, IsReadFromArchive, Reading}
-use Rattle.mail_answer.proofs.Words.{bytes_not_passed}
-use Rattle.mail_answer.proofs.Words.{AppendsRead}
-use Rattle.mail_answer.proofs.Words.{ReadsTail, coming_count, IsInsideArchive}
+use Rattle.mail_answer.proofs.Words.{ReadsTail, IsInsideArchive}
 use Rattle.std.proofs.Math.Seq.{take-add}
-use Rattle.std.proofs.lemmas.List.{length-take-le, length-append, length-drop}
+use Rattle.std.proofs.lemmas.List.{length-take-le, length-drop}
 use borrow.Rule.Slice.PartMut.{put_mid}
 
 take_after : (front into post : List ℕ) (held n : ℕ) → length front ≡ held → n ≤ length into
@@ -26,27 +24,14 @@ pub tail_result : (archive offset from k : ℕ) (held : Option (List (List ℕ))
     → IfOk r (λ n. ReadsTail archive offset from n held old (put_mid from k old into))
 tail_result archive offset from k held old into r h h2 h3 = grind (arith, tail_read)
 
--- the bytes that come are the same before and after a read
-pub coming_read : (archive next left n : ℕ) (held : Option (List (List ℕ))) (unread new : List ℕ)
-    → AppendsRead archive next n held unread new → n ≤ left
-    → bytes_not_passed held (record { archive = archive; unread = drop 0 new; next = next + n; left = left - n })
-    ≡ bytes_not_passed held (record { archive = archive; unread = unread; next = next; left = left })
-coming_read archive next left n None unread new r h = refl
-coming_read archive next left n (Some archives) unread new r h =
-    let rest : List ℕ = drop next (archive_at archives archive) in
-    let parts : take left rest ≡ take n rest ++ take (left - n) (drop n rest) = ap (λ k. take k rest) (omega arith)
-    ∙ take-add n (left - n) rest in
-    let further : drop (next + n) (archive_at archives archive) ≡ drop n rest =
-    sym (drop-drop n next (archive_at archives archive)) in
-    ap Some (
-    ap (λ l. l ++ take (left - n) (drop (next + n) (archive_at archives archive)))
-    (r.after ∙ ap (λ l. unread ++ l) r.known)
-    ∙ append_assoc unread (take n rest) (take (left - n) (drop (next + n) (archive_at archives archive)))
-    ∙ ap (λ l. unread ++ (take n rest ++ take (left - n) l)) further
-    ∙ ap (λ l. unread ++ l) (sym parts)
-    )
+-- the bytes of a part are those of its first piece and those after them
+pub piece_first : (bytes : List ℕ) (next left n : ℕ) → n ≤ left
+    → take left (drop next bytes) ≡ take n (drop next bytes) ++ take (left - n) (drop (next + n) bytes)
+piece_first bytes next left n le = ap (λ k. take k (drop next bytes)) (omega arith)
+    ∙ take-add n (left - n) (drop next bytes)
+    ∙ ap (λ l. take n (drop next bytes) ++ take (left - n) l) (drop-drop n next bytes)
 
--- how many bytes come
+-- how many bytes are left
 pub count_known : (archives : List (List ℕ)) (number : ℕ) (r : Reading) → IsInsideArchive number (Some archives) r
-    → length (r.unread ++ take r.left (drop r.next (archive_at archives r.archive))) ≡ coming_count r
-count_known archives number r h = grind (arith, length-drop, length-append, length-take-le)
+    → length (take r.left (drop r.next (archive_at archives r.archive))) ≡ r.left
+count_known archives number r h = grind (arith, length-drop, length-take-le)

@@ -1,6 +1,6 @@
 //! A part of an archive as a source, so that its lines are read as those of a whole archive are (decision 120 in
 //! docs/DECISIONS.md).
-ghost use Rattle.std.specs.Prelude.{◌≡◌, ◌<◌, [], None};
+ghost use Rattle.std.specs.Prelude.{◌≡◌, ◌<◌, None};
 ghost use Rattle.std.proofs.Props.{props};
 ghost use Rattle.mail_answer.specs.Inside.Readings.{reading, IsInsideArchive};
 
@@ -21,17 +21,17 @@ pub(crate) struct ArchivePart<'a, A: Archives> {
     // The number of reads that failed because the archive had ended.
     pub(crate) early_ends: u64,
     ghost inside: { IsInsideArchive (A.number archives.now) (A.held archives.now)
-        (reading archive [] next left) } by { Prim.hlevel props },
+        (reading archive next left) } by { Prim.hlevel props },
     ghost fresh: { 0 < early_ends → A.held archives.now ≡ None },
 }
 
 impl<'a, A: Archives> Source for ArchivePart<'a, A> {
     ghost use Rattle.std.specs.Prelude.{◌+◌};
-    ghost use Rattle.mail_answer.specs.Inside.Readings.{bytes_not_passed};
+    ghost use Rattle.mail_answer.specs.Inside.Readings.{bytes_left};
     ghost use Rattle.mail_answer.specs.Inside.ArchiveParts.{ReadsPart};
 
-    ghost rest = { λ s. bytes_not_passed (A.held s.archives.now)
-        (reading s.archive [] s.next s.left) };
+    ghost rest = { λ s. bytes_left (A.held s.archives.now)
+        (reading s.archive s.next s.left) };
 
     ghost failures = { λ s. A.failures s.archives.now + s.early_ends };
 

@@ -1,5 +1,5 @@
 //! Reads the header of a message from its archive.
-ghost use Rattle.std.specs.Prelude.{◌≡◌, ◌<◌, ◌≤◌, ◌-◌, ◌^◌, List, [], false, length, drop, IfOk, IfErr, OnOk, IfSome};
+ghost use Rattle.std.specs.Prelude.{◌≡◌, ◌<◌, ◌≤◌, ◌-◌, ◌^◌, List, [], false, length, drop, IfOk, IfErr, OnOk, IfSome, IsSome};
 ghost use Rattle.header_text.specs.HeldLines.{HasLines};
 ghost use Rattle.header_text.specs.Headers.{HeaderField, fields_of};
 ghost use Rattle.mbox_cutter.specs.LineReaders.{known_bytes};
@@ -94,6 +94,7 @@ fn read_source<S: Source>(
         (S.failures source.old) (S.failures source.new) }
     ensures fields { OnOk result (IfSome (still_known (S.rest source.old) (S.rest source.new))
         (λ bytes. HasFields header.new (fields_of (drop 1 (lines bytes))))) }
+    ensures kept { OnOk result (IsSome kept.new) }
     ensures own { has_fault is_of_output result ≡ false }
     ensures fresh { has_fault is_stale result ≡ false }
 {
@@ -111,6 +112,7 @@ fn read_source<S: Source>(
 fn source_of<'a, S: Source>(reader: LineReader<'a, S>, kept: &mut Option<Buffer>) -> &'a mut S
     ensures name { result.ghost_name ≡ reader.entry.source.ghost_name }
     ensures same { result.now ≡ reader.entry.source.now }
+    ensures kept { IsSome kept.new }
 {
     let (source, buffer) = reader.into_parts();
     *kept = Some(buffer);
@@ -131,6 +133,7 @@ pub(crate) fn read_header<A: Archives>(
     ensures archives { ReadsArchives A.Archives archives.old archives.new result }
     ensures fields { IfOk result (λ header. IfSome (A.held archives.new)
         (λ bytes. HasFields header (fields_of (drop 1 (lines (span bytes message)))))) }
+    ensures kept { OnOk result (IsSome kept.new) }
     ensures own { has_fault is_of_output result ≡ false }
     ensures stale { IfErr result (λ kind. IfStale kind (λ n. n ≡ message.archive)) }
 {
@@ -146,8 +149,6 @@ pub(crate) fn read_header<A: Archives>(
     if part.early_ends > 0 {
         return Err(AnswerFaultKind::Stale(message.archive));
     }
-    match read {
-        Ok(()) => Ok(header),
-        Err(kind) => Err(kind),
-    }
+    read?;
+    Ok(header)
 }

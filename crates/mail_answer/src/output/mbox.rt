@@ -4,7 +4,7 @@ ghost use Rattle.mail_index.specs.Tables.{IsWellFormed};
 ghost use Rattle.mail_answer.specs.Faults.{IfStale};
 ghost use Rattle.mail_answer.specs.Inside.Calls.{AreAsIndexed, ReadsArchives, WritesOut};
 ghost use Rattle.mail_answer.specs.Inside.Copies.{Copies};
-ghost use Rattle.mail_answer.specs.Inside.Readings.{bytes_not_passed, coming_count, span_reading, IsInsideArchive};
+ghost use Rattle.mail_answer.specs.Inside.Readings.{bytes_left, span_reading, IsInsideArchive};
 ghost use Rattle.mail_answer.specs.Inside.Spans.{WritesSpan};
 ghost use Rattle.mail_answer.specs.Shapes.{known_message};
 ghost use Rattle.mail_answer.specs.Sheets.{WritesText};
@@ -31,12 +31,11 @@ struct Part {
 }
 
 impl Model for Part {
-    ghost use Rattle.std.specs.Prelude.{[]};
     ghost use Rattle.mail_answer.specs.Inside.Readings.{Reading, reading};
 
     ghost Value = { Reading };
 
-    ghost view = { λ s. reading s.archive [] s.next s.left };
+    ghost view = { λ s. reading s.archive s.next s.left };
 }
 
 impl Part {
@@ -61,7 +60,7 @@ impl Part {
         out: &mut O,
     ) -> Result<Ending, AnswerFaultKind>
         requires inside { IsInsideArchive (A.number archives.old) (A.held archives.old) self.old }
-        requires some { 0 < coming_count self.old }
+        requires some { 0 < self.old.left }
         requires archives { A.failures archives.old < 2 ^ 64 - 1 }
         requires out { O.failures out.old < 2 ^ 64 - 1 }
         ensures archives { ReadsArchives A.Archives archives.old archives.new result }
@@ -69,10 +68,10 @@ impl Part {
             self.new) }
         ensures archive { OnOk result (self.new.archive ≡ self.old.archive) }
         ensures copies { Copies (O.taken out.old) (O.taken out.new) sheet.old sheet.new
-            (bytes_not_passed (A.held archives.new) self.old) (bytes_not_passed
+            (bytes_left (A.held archives.new) self.old) (bytes_left
             (A.held archives.new) self.new)
-            (coming_count self.old) (coming_count self.new) before result }
-        ensures less { OnOk result (coming_count self.new < coming_count self.old) }
+            self.old.left self.new.left before result }
+        ensures less { OnOk result (self.new.left < self.old.left) }
         ensures out { WritesOut O.Out sheet.new.sent out.old out.new result }
         ensures stale { IfErr result (λ kind. IfStale kind (λ n. n ≡ self.old.archive)) }
     {

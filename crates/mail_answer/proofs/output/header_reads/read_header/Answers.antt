@@ -1,10 +1,8 @@
 -- `read_header` reads the fields of a message, because the part of the archive gives the bytes of the message.
-use Rattle.mail_answer.proofs.Words.{◌≡◌, ℕ, Ok, Err, List, [], IfSome, Stale, drop, refl, arith, lines, span}
-use Rattle.mail_answer.proofs.Words.{fields_of}
-use Rattle.mail_answer.proofs.Words.{HasFields}
+use Rattle.mail_answer.proofs.Words.{◌≡◌, ℕ, Ok, Err, List, IfSome, Stale, drop, refl, arith, lines, span}
+use Rattle.mail_answer.proofs.Words.{fields_of, HasFields, reading}
 use Rattle.header_text.specs.declared.header.Header.{Header}
 use Rattle.mail_answer.specs.Inside.Calls.{ReadsArchives}
-use Rattle.mail_answer.specs.Inside.Readings.{reading}
 use Rattle.mail_answer.proofs.OutputLaws.ArchiveParts.{part_self, part_reads, part_ends_early, part_told}
 use Rattle.mail_answer.proofs.output.header_reads.read_header.Goals as goal
 
@@ -17,31 +15,31 @@ returns-then-part-gt0-clause-archives g c =
     part_ends_early g.A.Archives _ _ reads refl _ call.count Header c.args.message.archive c.if-part-gt0.true in
     grind (arith, told)
 
-pub returns-in-Ok-clause-archives : goal.returns-in-Ok-clause-archives
-returns-in-Ok-clause-archives g c =
-    let reads = c.in-Ok.ensures.stays.was _ (part_self g.A.Archives _) in
+pub returns-clause-archives : goal.returns-clause-archives
+returns-clause-archives g c =
+    let reads = c.in_ok-read.ensures.stays.was _ (part_self g.A.Archives _) in
     let none : c.read_source-read.new.source.early_ends ≡ 0 = omega (arith, c.if-part-gt0.false) in
     let told : ReadsArchives {T = Header} g.A.Archives c.args.archives.now c.read_source-read.new.source.archives.now
     (Ok c.read_source-read.new.header) =
-    part_reads g.A.Archives _ _ reads refl _ c.in-Ok.ensures.count _ none refl refl in
+    part_reads g.A.Archives _ _ reads refl _ c.in_ok-read.ensures.count _ none refl refl in
     grind (arith, told)
 
-pub returns-in-Ok-clause-fields : goal.returns-in-Ok-clause-fields
-returns-in-Ok-clause-fields g c =
-    let reads = c.in-Ok.ensures.stays.was _ (part_self g.A.Archives _) in
+pub returns-clause-fields : goal.returns-clause-fields
+returns-clause-fields g c =
+    let reads = c.in_ok-read.ensures.stays.was _ (part_self g.A.Archives _) in
     let now = c.read_source-read.new.source in
     let told : IfSome (g.A.Archives.held now.archives.now) (λ bytes.
     HasFields c.read_source-read.new.header (fields_of (drop 1 (lines (span bytes c.args.message))))) =
-    part_told _ _ c.args.message (reading now.archive [] now.next now.left)
+    part_told _ _ c.args.message (reading now.archive now.next now.left)
     (λ (bytes : List ℕ). HasFields c.read_source-read.new.header
-    (fields_of (drop 1 (lines bytes)))) reads.keeps.held c.in-Ok.ensures.fields in
+    (fields_of (drop 1 (lines bytes)))) reads.keeps.held c.in_ok-read.ensures.fields in
     grind (arith, told)
 
-pub returns-in-Err-clause-archives : goal.returns-in-Err-clause-archives
-returns-in-Err-clause-archives g c =
-    let reads = c.in-Err.ensures.stays.was _ (part_self g.A.Archives _) in
+pub returns-in_err-read-clause-archives : goal.returns-in_err-read-clause-archives
+returns-in_err-read-clause-archives g c =
+    let reads = c.in_err-read.ensures.stays.was _ (part_self g.A.Archives _) in
     let none : c.read_source-read.new.source.early_ends ≡ 0 = omega (arith, c.if-part-gt0.false) in
     let told : ReadsArchives {T = Header} g.A.Archives c.args.archives.now c.read_source-read.new.source.archives.now
-    (Err c.in-Err.kind) =
-    part_reads g.A.Archives _ _ reads refl _ c.in-Err.ensures.count _ none refl c.in-Err.ensures.fresh in
+    (Err c.in_err-read.field-0.0) =
+    part_reads g.A.Archives _ _ reads refl _ c.in_err-read.ensures.count _ none refl c.in_err-read.ensures.fresh in
     grind (arith, told)

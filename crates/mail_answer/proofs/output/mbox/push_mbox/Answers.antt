@@ -1,7 +1,7 @@
 -- `push_mbox` adds a closed span, piece by piece, because the ending decides what closes it.
 use Rattle.mail_answer.proofs.Words.{◌≡◌, ◌∙◌, ℕ, record_at, List, ◌++◌, length, length-append, Option, None, Some, ap}
 use Rattle.mail_answer.proofs.Words.{sym, refl, append-nil, arith, nat_tests, err_from_is_err_and, option_map}
-use Rattle.mail_answer.proofs.Words.{ending_of_bytes, feeds_of, Reading, bytes_not_passed, coming_count, span_reading}
+use Rattle.mail_answer.proofs.Words.{ending_of_bytes, feeds_of, Reading, bytes_left, span_reading}
 use Rattle.mail_answer.proofs.Words.{closed_text}
 use Rattle.mail_answer.proofs.Words.{stale_archive, IsIfKnown}
 use Rattle.mail_answer.proofs.OutputLaws.CopiedPieces.{known_closed, pieces_more, front_told, closed_told}
@@ -45,7 +45,7 @@ pieces-preserved g c =
       joins = (
         j.0 ++ w.0,
         so_far ∙ ap (option_map (λ bytes. j.0 ++ bytes)) w.1
-            ∙ pieces_more (bytes_not_passed held c.copy_piece.new.self) j.0 w.0,
+            ∙ pieces_more (bytes_left held c.copy_piece.new.self) j.0 w.0,
         w.3 j.0 j.2,
         joins_more j.3 w.2,
         omega (arith, j.4, w.4, length-append j.0 w.0),
@@ -65,10 +65,10 @@ returns-in_err-ending-clause-writes g c =
     let so_far =
     copied_later (g.A.Archives.held c.pieces.archives) held span c.pieces.part j.0
     c.in_err-ending.ensures.archives.keeps.held j.1 in
-    let told = front_told (bytes_not_passed held span) (bytes_not_passed held c.pieces.part) j.0 w.0 so_far w.1 in
+    let told = front_told (bytes_left held span) (bytes_left held c.pieces.part) j.0 w.0 so_far w.1 in
     rw (← known_closed c.args.index.now held c.args.n)
     (writes_err (g.O.Out.taken c.args.out.now) (g.O.Out.taken c.copy_piece.new.out) c.args.sheet.now
-    c.copy_piece.new.sheet (option_map closed_text (bytes_not_passed held span)) c.from_residual.result
+    c.copy_piece.new.sheet (option_map closed_text (bytes_left held span)) c.from_residual.result
     c.from_residual.ensures.0
     ((j.0 ++ w.0) ++ told.0, told.1, front_more told.0 (joins_front j.3 w.2)))
 
@@ -84,20 +84,20 @@ returns-clause-writes g c =
     let i = c.pieces.invariant in
     let j = i.joins in
     let feeds : List ℕ = c.feeds.result.now in
-    let none : coming_count c.pieces.part ≡ 0 = grind (arith, nat_tests) in
+    let none : c.pieces.part.left ≡ 0 = grind (arith, nat_tests) in
     let fresh = some_later (λ archives. stale_archive t.archives archives ≡ None)
     (g.A.Archives.held c.args.archives.now) held i.keeps.held
     c.requires.indexed.fresh in
     let inside = message_inside t held number c.args.n c.requires.table c.requires.below c.requires.indexed.number fresh
     in
-    let told : IsIfKnown (option_map closed_text (bytes_not_passed held span)) (j.0 ++ feeds_of (ending_of_bytes j.0)) =
+    let told : IsIfKnown (option_map closed_text (bytes_left held span)) (j.0 ++ feeds_of (ending_of_bytes j.0)) =
     closed_told held number span c.pieces.part j.0 inside
     (omega (arith, message_some t c.args.n c.requires.table c.requires.below)) j.1 none
     (rw i.keeps.number at i.inside) in
     let same : feeds_of (ending_of_bytes j.0) ≡ feeds = ap feeds_of (sym j.2) ∙ sym c.feeds.ensures in
     rw (← known_closed c.args.index.now held c.args.n)
     (writes_less (g.O.Out.taken c.args.out.now) (g.O.Out.taken c.push.new.out) c.args.sheet.now c.push.new.self
-    (option_map closed_text (bytes_not_passed held span)) (j.0 ++ feeds) c.push.result (rw same at told)
+    (option_map closed_text (bytes_left held span)) (j.0 ++ feeds) c.push.result (rw same at told)
     (writes_next (g.O.Out.taken c.args.out.now) (g.O.Out.taken c.pieces.out) (g.O.Out.taken c.push.new.out)
     c.args.sheet.now c.pieces.sheet c.push.new.self (Some j.0) (Some feeds) c.push.result (j.0, refl, j.3)
     c.push.ensures.writes))
@@ -121,7 +121,7 @@ returns-clause-span g c =
     let i = c.pieces.invariant in
     let j = i.joins in
     let feeds : List ℕ = c.feeds.result.now in
-    let none : coming_count c.pieces.part ≡ 0 = grind (arith, nat_tests) in
+    let none : c.pieces.part.left ≡ 0 = grind (arith, nat_tests) in
     let long : length j.0 ≡ (record_at c.args.index.now.messages c.args.n).length = omega (arith, j.4, none) in
     let same : feeds_of (ending_of_bytes j.0) ≡ feeds = ap feeds_of (sym j.2) ∙ sym c.feeds.ensures in
     let is : closed_text j.0 ≡ j.0 ++ feeds = closed_by_last j.0

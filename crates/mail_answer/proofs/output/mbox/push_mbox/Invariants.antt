@@ -1,7 +1,7 @@
 -- Some pieces were added to the answer; they and the rest are the span.
 use Rattle.mail_answer.proofs.Words.{◌≡◌, ◌+◌, ℕ, List, ◌++◌, length, option_map, record_at, ending_of_bytes}
-use Rattle.mail_answer.proofs.Words.{bytes_not_passed}
-use Rattle.mail_answer.proofs.Words.{coming_count, span_reading, IsInsideArchive, AddsBytes, KeepsArchives}
+use Rattle.mail_answer.proofs.Words.{bytes_left}
+use Rattle.mail_answer.proofs.Words.{span_reading, IsInsideArchive, AddsBytes, KeepsArchives}
 use Rattle.mail_answer.proofs.output.mbox.push_mbox.Given as goal
 
 abbrev pub invariant-pieces : goal.invariant-pieces
@@ -10,15 +10,15 @@ invariant-pieces g l = record {
   inside : IsInsideArchive (g.A.Archives.number l.archives) (g.A.Archives.held l.archives) l.part;
   archive : l.part.archive ≡ (record_at l.fn.index.messages l.fn.n).archive;
   joins : (text : List ℕ)
-      × (bytes_not_passed (g.A.Archives.held l.archives) (span_reading (record_at l.fn.index.messages l.fn.n))
-      ≡ option_map (λ bytes. text ++ bytes) (bytes_not_passed (g.A.Archives.held l.archives) l.part))
+      × (bytes_left (g.A.Archives.held l.archives) (span_reading (record_at l.fn.index.messages l.fn.n))
+      ≡ option_map (λ bytes. text ++ bytes) (bytes_left (g.A.Archives.held l.archives) l.part))
       × (l.ending ≡ ending_of_bytes text) × AddsBytes (g.O.Out.taken l.fn.out) (g.O.Out.taken l.out) l.fn.sheet l.sheet
       text
-      × (coming_count (span_reading (record_at l.fn.index.messages l.fn.n)) ≡ length text + coming_count l.part);
+      × ((record_at l.fn.index.messages l.fn.n).length ≡ length text + l.part.left);
   kept : l.sheet.sent ≡ 0 → l.out ≡ l.fn.out;
   out_count : g.O.Out.failures l.out ≡ g.O.Out.failures l.fn.out;
   archives_count : g.A.Archives.failures l.archives ≡ g.A.Archives.failures l.fn.archives;
 }
 
 abbrev pub decreases-pieces : goal.decreases-pieces
-decreases-pieces g l = coming_count l.part
+decreases-pieces g l = l.part.left

@@ -1,8 +1,7 @@
 -- `Part::copy_piece` adds one piece of a span and keeps its ending, by the result of each call.
-use Rattle.mail_answer.proofs.Words.{◌≡◌, ◌∙◌, ℕ, List, [], ◌++◌, ◌+◌, ◌-◌, ◌≤◌, length-append, Option, Result, Ok, Err}
+use Rattle.mail_answer.proofs.Words.{◌≡◌, ◌∙◌, ℕ, List, ◌++◌, ◌+◌, ◌-◌, ◌≤◌, length-append, Option, Result, Ok, Err}
 use Rattle.mail_answer.proofs.Words.{refl, ap, sym, subst, arith, option_map, ending_of_bytes, Reading}
-use Rattle.mail_answer.proofs.Words.{bytes_not_passed}
-use Rattle.mail_answer.proofs.Words.{coming_count}
+use Rattle.mail_answer.proofs.Words.{bytes_left, reading}
 use Rattle.mail_answer.proofs.Words.{IsInsideArchive, AddsBytes, JoinsFront, AnswerFaultKind}
 use Rattle.mail_answer.proofs.ArchiveLaws.KnowledgeLemmas.{inside_later}
 use Rattle.mail_answer.proofs.OutputLaws.CopiedPieces.{copies_err, piece_read, after_gathered, tells_after}
@@ -15,7 +14,7 @@ returns-in_err-n-clause-copies g c =
     let taken : Option (List ℕ) = g.O.Out.taken c.args.out.now in
     let held : Option (List (List ℕ)) = g.A.Archives.held c.read.new.archives in
     let number : ℕ = g.A.Archives.number c.args.archives.now in
-    let known : Option (List ℕ) = bytes_not_passed held c.args.self.now in
+    let known : Option (List ℕ) = bytes_left held c.args.self.now in
     let inside =
     inside_later (g.A.Archives.held c.args.archives.now) held number c.args.self.now c.in_err-n.ensures.keeps.held
     c.requires.inside in
@@ -33,10 +32,9 @@ returns-in_err-send_full-clause-copies g c =
     let failed : Result ℕ AnswerFaultKind = Err c.in_err-send_full.field-0.0 in
     let went = gathered_went taken taken' c.args.sheet.now _ c.send_full.new.self reads.bytes failed reads.after refl
     c.in_err-send_full.ensures.writes in
-    let after : Option (List ℕ) = bytes_not_passed held
-    (record { archive = s.archive; unread = []; next = s.next + c.in_ok-n.n; left = s.left - c.in_ok-n.n }) in
-    let is : bytes_not_passed held c.args.self.now ≡ option_map (λ bytes. reads.bytes ++ bytes) after =
-    sym (ap (λ (r : Reading). bytes_not_passed held r) c.self.view_is)
+    let after : Option (List ℕ) = bytes_left held (reading s.archive (s.next + c.in_ok-n.n) (s.left - c.in_ok-n.n)) in
+    let is : bytes_left held c.args.self.now ≡ option_map (λ bytes. reads.bytes ++ bytes) after =
+    sym (ap (λ (r : Reading). bytes_left held r) c.self.view_is)
     ∙ piece_read s.archive s.next s.left c.in_ok-n.n held c.args.sheet.now.text c.read.new.self reads
     (omega (arith, c.in_ok-n.ensures.bound)) in
     let few : c.in_ok-n.n ≤ s.left = omega (arith, c.in_ok-n.ensures.bound) in
@@ -47,8 +45,8 @@ returns-in_err-send_full-clause-copies g c =
     let inside = inside_after number held s.archive s.next s.left c.in_ok-n.n few
     (subst (IsInsideArchive number held) (sym c.self.view_is) was) in
     let rest = some_coming held number _ inside in
-    let whole : coming_count c.args.self.now ≡ s.left = omega (arith, ap coming_count c.self.view_is) in
-    copies_err taken taken' c.args.sheet.now c.send_full.new.self (bytes_not_passed held c.args.self.now) after _ _
+    let whole : c.args.self.now.left ≡ s.left = ap (λ (r : Reading). r.left) (sym c.self.view_is) in
+    copies_err taken taken' c.args.sheet.now c.send_full.new.self (bytes_left held c.args.self.now) after _ _
     c.args.before
     c.from_residual-in_err-send_full.result c.from_residual-in_err-send_full.ensures.0 (
       reads.bytes ++ rest.0,
@@ -68,7 +66,7 @@ returns-clause-copies g c =
     let went = gathered_went taken taken' c.args.sheet.now _ c.send_full.new.self reads.bytes done reads.after refl
     c.in_ok-send_full.ensures.writes in (
       reads.bytes,
-      sym (ap (λ (r : Reading). bytes_not_passed held r) c.self.view_is)
+      sym (ap (λ (r : Reading). bytes_left held r) c.self.view_is)
           ∙ piece_read s.archive s.next s.left c.in_ok-n.n held c.args.sheet.now.text c.read.new.self reads
           (omega (arith, c.in_ok-n.ensures.bound)),
       subst (AddsBytes taken taken' c.args.sheet.now c.send_full.new.self) (sym went.1) went.2,
@@ -76,5 +74,5 @@ returns-clause-copies g c =
           ∙ ap (λ (l : List ℕ). ending_of_bytes (text ++ l))
           (after_gathered c.args.sheet.now.text reads.bytes c.as_slice.result.now c.len-gathered.result
           (c.as_slice.ensures ∙ reads.after) (omega arith)),
-      omega (arith, reads.number, c.in_ok-n.ensures.bound, ap coming_count c.self.view_is),
+      omega (arith, reads.number, c.in_ok-n.ensures.bound, ap (λ (r : Reading). r.left) c.self.view_is),
     )
