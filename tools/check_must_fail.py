@@ -180,7 +180,7 @@ HARMLESS = "NOT refused: the crate is still proved"
 
 # Each edit: its pairs of an old text and a new one, the clause that it names, and how its line begins.
 EDITS = {
-    "a_counter_begins_at_one": ([("Counter { count: 0 }", "Counter { count: 1 }")], "returns", TOGETHER),
+    "a_counter_begins_at_one": ([("Counter { count: 0 }", "Counter { count: 1 }")], "returns", ALONE),
     "a_lost_name": (
         [("let mut sum = n;", "let mut total = n;"), ("sum += 1;", "total += 1;"), ("= sum;", "= total;")],
         "returns",
@@ -225,6 +225,13 @@ EDITS = {
     ),
 }
 
+# The goals that some of these edits name. One of them isn't a goal of the function as it is: that edit is tried alone.
+GOALS = {
+    "a_step_is_two": ["returns"],
+    "a_counter_begins_at_one": ["returns-in-Ok"],
+    "larger_gives_the_first": ["returns-else-b-a-clause-second"],
+}
+
 
 def write_repository(root):
     """A repository of the one crate, with its edits."""
@@ -238,6 +245,7 @@ def write_repository(root):
     (crate / "proofs/+halving/Invariants.antt").write_text(CYCLE, "utf-8")
     for name, (pairs, clause, _) in EDITS.items():
         named = [f"# refused by: {clause}"] if clause else []
+        named += [f"# at: {it}" for it in GOALS.get(name, [])]
         lines = [*named, "file: src/lib.rt", *[line for old, new in pairs for line in (f"old: {old}", f"new: {new}")]]
         (crate / f"must-fail/{name}.edit").write_text("\n".join(lines) + "\n", "utf-8")
 

@@ -19,6 +19,8 @@ from lemmas import lemmas_of
 
 # The line of an edit that names the clause which refuses it.
 CLAUSE = re.compile(r"^# refused by: (\S+)\n", re.M)
+# The lines of an edit that name the goals at which it is refused.
+GOAL = re.compile(r"^# at: (\S+)\n", re.M)
 # The line of an edit of a constant that names a function which doesn't name the constant, and in which the edit shows
 # all the same.
 SHOWS_IN = re.compile(r"^# shows in: (\S+)$", re.M)
@@ -34,6 +36,8 @@ GOAL_OF_CLAUSE = re.compile(r"returns\b.*-clause-(\w+)")
 GOAL_OF_CYCLE = re.compile(r"(invariant-|decreases-|)([^-]+)-?(.*)")
 # What a loop of a function has by name only where the function calls itself, directly or in a cycle.
 ONLY_IN_A_CYCLE = re.compile(r"\bgoal\.(?:unvisited|no_deeper|left|size)-")
+# An import of the lemmas that `search` goes by if it is given no others.
+RULES = re.compile(r"^use .*[{ ]rules[,}]", re.M)
 # A constant of a module, to its end.
 CONSTANT = re.compile(r"^(?:pub(?:\([^)]*\))? )?(?:const|static) (\w+).*?;$", re.M | re.S)
 
@@ -72,13 +76,15 @@ class Stub(Change):
 @dataclass(frozen=True)
 class Twin(Change):
     """An edited function under a second name, behind the one that it is made of, so that a check tries more than one
-    edit of it, the clauses that its contract keeps, None where that is all of them, and the name of the other's cycle
-    of calls. It calls the functions of that cycle, and none of them calls it."""
+    edit of it, the clauses that its contract keeps, None where that is all of them, the name of the other's cycle of
+    calls, and the goals at which nothing is tried but `search rules`. It calls the functions of that cycle, and none of
+    them calls it."""
 
     function: str
     name: str
     kept: frozenset
     cycle: str
+    goals: frozenset
 
     def assume(self, copy):
         """Gives it the written proofs of the other, but for goals of clauses that it doesn't keep."""
@@ -86,6 +92,11 @@ class Twin(Change):
             file = proofs_of(copy, self.name) / path
             file.parent.mkdir(parents=True, exist_ok=True)
             file.write_text(text if self.kept is None else with_answers(text, self.kept), "utf-8")
+        if self.goals:
+            file = proofs_of(copy, self.name) / "Answers.antt"
+            file.parent.mkdir(parents=True, exist_ok=True)
+            text = file.read_text("utf-8") if file.is_file() else ""
+            file.write_text(with_searches(text, f"{module_of(self.name)}.Goals", self.goals), "utf-8")
 
 
 def written_proofs(crate, function, cycle, name):
@@ -135,6 +146,14 @@ def with_answers(text, kept):
     return "\n".join(lines)
 
 
+def with_searches(text, module, goals):
+    """Answers with `search rules` for each of these goals of a module that has no answer."""
+    uses = [] if RULES.search(text) else ["use Rattle.std.proofs.Common.{rules}\n"]
+    uses += [] if f"use {module} as goal\n" in text else [f"use {module} as goal\n"]
+    open_goals = sorted(goals - {it.name for it in lemmas_of(text.split("\n"))})
+    return "".join([*uses, text, *(f"\npub {it} : goal.{it}\n{it} = search rules\n" for it in open_goals)])
+
+
 def proofs_of(crate, function):
     """The folder of a function's written proofs in this folder of its crate."""
     return crate / "proofs" / function.partition("::")[2].replace("::", "/")
@@ -162,6 +181,7 @@ class Edit:
     changes: list = field(default_factory=list)
     functions: set = field(default_factory=set)
     is_of_constant: bool = False
+    goals: frozenset = frozenset()
     wrong: str = ""
 
     def fits(self, other, crate):
@@ -169,9 +189,15 @@ class Edit:
         return not self.functions & other.functions or crate.can_have_twin(self) and crate.can_have_twin(other)
 
     def write_clause(self, clause):
-        """Writes the line that names the clause which refuses it, in front."""
+        """Writes the line that names the clause which refuses it."""
         self.clause = clause
-        self.file.write_text(f"# refused by: {clause}\n" + CLAUSE.sub("", self.file.read_text("utf-8")), "utf-8")
+        self.write_head()
+
+    def write_head(self):
+        """Writes the lines in front: the clause that refuses it, and the goals at which it is refused."""
+        rest = GOAL.sub("", CLAUSE.sub("", self.file.read_text("utf-8")))
+        goals = "".join(f"# at: {it}\n" for it in sorted(self.goals))
+        self.file.write_text(f"# refused by: {self.clause}\n{goals}{rest}", "utf-8")
 
 
 def pairs_of(text):
@@ -201,7 +227,7 @@ def place_in_own(place, length, changes):
 def read_edit(file, crate):
     """Reads an edit of this crate."""
     text = file.read_text("utf-8")
-    edit = Edit(file, f"{crate.name}/{file.name}", *CLAUSE.findall(text)[:1])
+    edit = Edit(file, f"{crate.name}/{file.name}", *CLAUSE.findall(text)[:1], goals=frozenset(GOAL.findall(text)))
     texts, before = {}, {}
     for path, old, new in pairs_of(text):
         if not path or not old or os.path.normpath(path) != path or not path.startswith(("src/", "specs/", "proofs/")):
@@ -304,7 +330,7 @@ class Crate:
     def twin_of(self, edit, number):
         """The edit with twins of its functions in place of these; one of a constant has a second constant, which they
         name."""
-        twins = [self.twin(it, edit, number) for it in sorted(edit.functions)]
+        twins = [self.twin(it, edit, number, self.kept_for(it, edit)) for it in sorted(edit.functions)]
         for change in edit.changes if edit.is_of_constant else []:
             start, end, name = self.constant_at(change)
             inside = replace(change, start=change.start - start, end=change.end - start)
@@ -314,18 +340,37 @@ class Crate:
             twins.append(Change(change.path, end, end, f"\n{second}"))
         return replace(edit, changes=twins, functions={it.name for it in twins if isinstance(it, Twin)})
 
-    def twin(self, function, edit, number):
-        """An edited function under another name. Of the clauses that have names its contract keeps the one that refuses
-        the edit, where it is said to be one of them, and those that this one's proof names."""
+    def as_they_are(self, edits):
+        """For each function of which some of these edits have twins with goals: it as it is, as an edit that changes
+        nothing, with the same answers to these goals. It has to be proved: otherwise they say nothing of the edits."""
+        named = {}
+        for edit in edits:
+            if edit.goals and self.can_have_twin(edit):
+                for function in edit.functions - self.cycles.keys():
+                    named.setdefault(function, []).append(edit)
+        found = {}
+        for function, of_it in named.items():
+            kept = [self.kept_for(function, it) for it in of_it]
+            plain = Edit(Path(), function, goals=frozenset().union(*(it.goals for it in of_it)))
+            twin = self.twin(function, plain, 0, None if None in kept else frozenset().union(*kept))
+            found[function] = replace(plain, changes=[twin], functions={twin.name})
+        return found
+
+    def kept_for(self, function, edit):
+        """Of the clauses with names of a function those that a twin for an edit keeps: the one that refuses the edit,
+        where it is said to be one of them, and those that this one's proof names. None where that is all of them."""
+        path, body, _ = self.every_body[function]
+        text = self.text(path)
+        clauses = clauses_of(text[item_of(text, body)[0] : body])
+        is_of_one = clauses and edit.clause not in ("", "returns")
+        return self.kept_beside(function, edit.clause) & clauses.keys() if is_of_one else None
+
+    def twin(self, function, edit, number, kept):
+        """An edited function under another name, whose contract keeps these clauses of those that have names."""
         path, body, end = self.every_body[function]
         text = self.text(path)
         start, impl = item_of(text, body)
         clauses = clauses_of(text[start:body])
-        kept = (
-            self.kept_beside(function, edit.clause) & clauses.keys()
-            if clauses and edit.clause not in ("", "returns")
-            else None
-        )
         others = [clauses[it] for it in clauses if kept is not None and it not in kept]
         inside = [
             replace(it, start=it.start - start, end=it.end - start)
@@ -339,12 +384,14 @@ class Crate:
             constant = self.constant_at(change)[2]
             item = re.sub(rf"\b{constant}\b", f"{module_path(self.name, change.path)}::{constant}_{number}", item)
         cycle = self.cycle_of(function)
+        # In a cycle of calls goals have other names.
+        goals = frozenset() if cycle else edit.goals
         if not impl:
-            return Twin(path, end, end, f"\n\n{item}", function, f"{function}_{number}", kept, cycle)
+            return Twin(path, end, end, f"\n\n{item}", function, f"{function}_{number}", kept, cycle, goals)
         head, imports = inherent(text[slice(*impl)])
         block = "\n".join([f"\n\n{head} {{", *imports, item, "}"])
         twin = f"{module_of_file(self.name, path)}::{impl_name(head)}::{name}_{number}"
-        return Twin(path, impl[1], impl[1], block, function, twin, kept, cycle)
+        return Twin(path, impl[1], impl[1], block, function, twin, kept, cycle, goals)
 
     def kept_beside(self, function, clause):
         """The clause, and those whose answers stand in the answers that are kept with it."""

@@ -23,6 +23,11 @@ couldn't show. Some goals are the whole contract, which the prover doesn't part;
 alone, such a goal is the clause's. --write writes that line where it is missing or wrong. --list tries nothing: it
 prints the edits by the modules that they change.
 
+Its lines `# at: GOAL` name the goals at which it is refused. There the prover tries `search rules` alone, and not all
+that it knows, which is most of the time that a wrong body takes. In the same check the function as it is has to be
+proved with the same answers; otherwise the edit is tried as if it had no such lines. --write adds them to an edit that
+has none, if it is refused with them too.
+
 Without --proved, what isn't built yet is proved and built first, by tools/build.py, and the copies go on from what
 checks of the crate have kept. With it, FOLDER is a copy of the repository whose crates `rt ci` has just proved and left
 built: its texts are edited, and each check has one job.
@@ -99,6 +104,10 @@ class Verdict:
         self.is_proved = status == 0
         self.reasons = {}
         self.clauses = {}
+        # The goals that weren't shown: those without an answer, and those whose answer was refused. And the functions
+        # that are proved as far as others are.
+        self.goals, self.refused = {}, {}
+        self.shown = set()
         self.by_names = {}
         # Functions that call one another are proved together, so such a reason tells of none of them by itself.
         self.in_cycles = {}
@@ -124,14 +133,16 @@ class Verdict:
     def take(self, function, verdict, why, errors):
         """Takes what is said of a function."""
         self.reasons[function], self.clauses[function] = "", []
+        self.shown |= {function} if verdict in ("proved", "no holes", "depends on a hole in") else set()
         goals = [it.strip("`") for found in UNSHOWN.findall(why) for it in found.split(", ")]
         is_of_others = goals and self.is_shared(why) and not any(is_goal_of(function, it) for it in goals)
         if verdict == "no proof" and not ONLY_CALLS.match(why) and not is_of_others:
-            self.reasons[function] = why
+            self.reasons[function], self.goals[function] = why, frozenset(goals)
             self.clauses[function] = [clause_of(function, it) for it in goals]
         if verdict == "not proved" and not ONLY_CALLS.match(why):
             own = "proofs/" + function.partition("::")[2].replace("::", "/") + "/"
             said = [line for path, line in errors if path.startswith(own)]
+            self.refused[function] = {it for line in said for it in GOAL_OF_ERROR.findall(line)}
             of_values = [line for line in said if not LOST_NAME.search(line)]
             cycles = [
                 line
@@ -185,6 +196,8 @@ class Room:
     def __init__(self, crate, folder, kept, writes, hurries):
         self.crate, self.folder, self.kept = crate, Path(folder), Path(folder) / "kept"
         self.checks, self.writes, self.hurries = 0, writes, hurries
+        # The goals at which edits were refused that name none, and those at which functions as they are were refused.
+        self.goals, self.refused = {}, {}
         if kept.is_dir():
             shutil.copytree(kept, self.kept)
 
@@ -251,20 +264,27 @@ def rounds_of(edits, crate):
 def try_together(room, edits):
     """The edits of a round that are refused or don't compile, each with what to say of it. Where some don't compile,
     the others are tried without them; where a check fails and tells no place, as for want of memory, by halves."""
-    made = room.crate.side_by_side(edits)
-    verdict = room.check([*made.values()], {it for edit in made.values() for it in edit.functions})
+    made, as_they_are = room.crate.side_by_side(edits), room.crate.as_they_are(edits)
+    tried = [*made.values(), *as_they_are.values()]
+    verdict = room.check(tried, {it for edit in tried for it in edit.functions})
     if verdict.trouble:
         broken = {edit: (False, unreached(line)) for edit, it in made.items() for line in room.errors_in(it, verdict)}
         left, half = [it for it in edits if it not in broken], len(edits) // 2
         parts = [left] if broken else [left[:half], left[half:]] if half else []
         return broken | {edit: said for part in parts if part for edit, said in try_together(room, part).items()}
-    if verdict.is_proved or verdict.refuses_others(made.values()):
+    if verdict.is_proved or verdict.refuses_others(tried):
         return {}
+    unshown = {function for function, it in as_they_are.items() if not it.functions <= verdict.shown}
+    for function in unshown:
+        room.refused[function] = verdict.refused.get(*as_they_are[function].functions, set())
     reasons = {
         edit: verdict.of(it, verdict.reasons, False)
         for edit, it in made.items()
-        if it.functions & verdict.reasons.keys()
+        if it.functions & verdict.reasons.keys() and not (edit.goals and edit.functions & unshown)
     }
+    for edit, it in made.items():
+        if not edit.goals and len(it.functions) == 1 and not edit.functions & room.crate.cycles.keys():
+            room.goals[edit] = verdict.goals.get(*it.functions, frozenset())
     return {edit: refused_by(room, made[edit], verdict, f"refused: {why}") for edit, why in reasons.items() if why}
 
 
@@ -323,7 +343,7 @@ def try_edits(room, edits):
 
     say({edit: (False, f"NOT refused: BAD EDIT: {edit.wrong}") for edit in edits if edit.wrong})
     left = [it for it in edits if not it.wrong]
-    if len(rounds_of(left, room.crate)) > 1:
+    if len(rounds_of(left, room.crate)) > 1 or room.writes:
         room.keep()
     found = True
     while found:
@@ -338,7 +358,25 @@ def try_edits(room, edits):
     for edit in edits:
         if edit not in said:
             say({edit: try_alone(room, edit)})
+    if room.writes:
+        write_goals(room, [it for it in edits if said[it] and room.goals.get(it)])
     return [*said.values()]
+
+
+def write_goals(room, edits):
+    """Writes into edits that are refused the goals at which they are, if they are refused too where only `search rules`
+    is tried there. Goals at which the function as it is would be refused are left out in a second attempt."""
+    for attempt in range(2):
+        for edit in edits:
+            edit.goals = room.goals[edit] - room.refused.get(*edit.functions, set())
+        edits = [it for it in edits if it.goals]
+        written = set()
+        for together in rounds_of(edits, room.crate):
+            told = try_together(room, together)
+            written |= {edit for edit in together if edit in told and told[edit][0]}
+        for edit in written:
+            edit.write_head()
+        edits = [it for it in edits if it not in written and room.refused.keys() & it.functions]
 
 
 def try_crate(proved, name, files, writes):
