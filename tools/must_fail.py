@@ -363,13 +363,19 @@ def try_edits(room, edits):
     return [*said.values()]
 
 
+def names_clause(edit, goal):
+    """Whether a goal of an edit's function is about the clause that refuses it, or about the whole contract."""
+    return clause_of(next(iter(edit.functions)), goal) in (edit.clause, "returns")
+
+
 def write_goals(room, edits):
     """Writes into edits that are refused the goals at which they are, if they are refused too where only `search rules`
     is tried there. Goals at which the function as it is would be refused are left out in a second attempt."""
     for attempt in range(2):
         for edit in edits:
             edit.goals = room.goals[edit] - room.refused.get(*edit.functions, set())
-        edits = [it for it in edits if it.goals]
+        # At least one of them has to be of the clause that refuses the edit: only what is refused there counts then.
+        edits = [it for it in edits if any(names_clause(it, goal) for goal in it.goals)]
         written = set()
         for together in rounds_of(edits, room.crate):
             told = try_together(room, together)
