@@ -1,7 +1,7 @@
 #!/usr/bin/env python3
 """Tries the edits that the prover must refuse, many of a crate in one check.
 
-    tools/must_fail.py [--jobs N] [--proved FOLDER] [--write] [CRATE or CRATE/NAME ..]
+    tools/must_fail.py [--jobs N] [--proved FOLDER] [--write] [--full] [CRATE or CRATE/NAME ..]
     tools/must_fail.py --list [CRATE or CRATE/NAME ..]
 
 An edit, crates/CRATE/must-fail/NAME.edit, turns the meaning of a function, and its crate must then not be proved. A
@@ -25,8 +25,9 @@ prints the edits by the modules that they change.
 
 Its lines `# at: GOAL` name the goals at which it is refused. There the prover tries `search rules` alone, and not all
 that it knows, which is most of the time that a wrong body takes. In the same check the function as it is has to be
-proved with the same answers; otherwise the edit is tried as if it had no such lines. --write adds them to an edit that
-has none, if it is refused with them too.
+proved with the same answers; otherwise the edit is tried as if it had no such lines (decision 126 in
+docs/DECISIONS.md). --write adds them to an edit that has none, if it is refused with them too. --full passes over them,
+so that the prover tries all that it knows.
 
 Without --proved, what isn't built yet is proved and built first, by tools/build.py, and the copies go on from what
 checks of the crate have kept. With it, FOLDER is a copy of the repository whose crates `rt ci` has just proved and left
@@ -371,7 +372,7 @@ def names_clause(edit, goal):
 def write_goals(room, edits):
     """Writes into edits that are refused the goals at which they are, if they are refused too where only `search rules`
     is tried there. Goals at which the function as it is would be refused are left out in a second attempt."""
-    for attempt in range(2):
+    for _ in range(2):
         for edit in edits:
             edit.goals = room.goals[edit] - room.refused.get(*edit.functions, set())
         # At least one of them has to be of the clause that refuses the edit: only what is refused there counts then.
@@ -385,7 +386,7 @@ def write_goals(room, edits):
         edits = [it for it in edits if it not in written and room.refused.keys() & it.functions]
 
 
-def try_crate(proved, name, files, writes):
+def try_crate(proved, name, files, writes, is_full):
     """Whether each edit of a crate is refused."""
     started = time.monotonic()
     if name in proved.unmade:
@@ -397,6 +398,8 @@ def try_crate(proved, name, files, writes):
         return [False] * len(files)
     crate = Crate(name, proved.crates.folder(name), proved.crates.size(name), proved.checking(proved.crates, name))
     edits = [read_edit(it, crate) for it in files]
+    for edit in edits if is_full else []:
+        edit.goals = frozenset()
     with tempfile.TemporaryDirectory(prefix="must-fail-") as folder:
         room = Room(crate, folder, kept_of(proved.crates, name), writes, not proved.is_by_ci)
         tried = try_edits(room, edits)
@@ -448,6 +451,7 @@ def main():
     asked.add_argument("--jobs", type=int, help="how many crates at a time")
     asked.add_argument("--proved", metavar="FOLDER", help="a copy of the repository that rt ci has just proved")
     asked.add_argument("--write", action="store_true", help="write the clauses that refuse the edits into them")
+    asked.add_argument("--full", action="store_true", help="pass over the goals that edits name")
     asked.add_argument("--list", action="store_true", help="print the edits by modules, and try none")
     asked.add_argument(
         "wanted", nargs="*", metavar="CRATE or CRATE/NAME", help="the edits of a crate, or one of them; none: all"
@@ -464,7 +468,7 @@ def main():
         print(f"{file}: NOT an edit: those end in .edit, in must-fail/ itself; what is only to be read ends in .md")
     with ThreadPoolExecutor(jobs) as pool:
         largest_first = sorted(edits, key=lambda it: -proved.crates.size(it))
-        running = [pool.submit(try_crate, proved, it, edits[it], words.write) for it in largest_first]
+        running = [pool.submit(try_crate, proved, it, edits[it], words.write, words.full) for it in largest_first]
         for tried in (it.result() for it in running):
             passed, failed = passed + sum(tried), failed + len(tried) - sum(tried)
     print(f"{passed} passed, {failed} failed")

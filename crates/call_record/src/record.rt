@@ -38,7 +38,8 @@ impl Record {
         *self = self.next(numbers, bytes);
     }
 
-    /// Makes the record that comes after this one. A proof says which one that is, by what is passed here.
+    /// Makes the record that comes after this one. A proof says which one that is, by what is passed here (decision 125
+    /// in docs/DECISIONS.md).
     fn next(&self, _numbers: &[u64], _bytes: &[u8]) -> Record
         ghost said: { List (List ℕ) × List Call }
         ensures { (result.supposed ≡ said.0) × (result.calls ≡ said.1) }

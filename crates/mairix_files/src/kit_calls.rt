@@ -47,7 +47,8 @@ impl KitCalls {
         *self = self.next(numbers, name);
     }
 
-    /// Returns the calls that come after these. A proof says which ones these are, by what is passed here.
+    /// Returns the calls that come after these. A proof says which ones these are, by what is passed here (decision 125
+    /// in docs/DECISIONS.md).
     fn next(&self, _numbers: &[u64], _name: &[u8]) -> KitCalls
         ghost said: { List NameCall }
         ensures { result.done ≡ said }

@@ -36,7 +36,8 @@ impl KitReports {
         *self = self.next();
     }
 
-    /// Returns the reports that come after these. A proof says whether they agree, by what is passed here.
+    /// Returns the reports that come after these. A proof says whether they agree, by what is passed here (decision 125
+    /// in docs/DECISIONS.md).
     fn next(&self) -> KitReports
         ghost said: { Bool }
         ensures { result.agree ≡ said }
