@@ -145,7 +145,16 @@ abbrev pub invariant-loop-i : goal.invariant-loop-i
 invariant-loop-i l = l.sum ≡ l.fn.n + l.i
 """
 
-# Those of the functions that call one another.
+# A written answer.
+ANSWERS = """\
+use Rattle.std.proofs.Common.{rules}
+use Rattle.counters.proofs.at_most.Goals as goal
+
+pub returns : goal.returns
+returns = search rules
+"""
+
+# The invariants of the functions that call one another.
 CYCLE = """\
 use Rattle.std.proofs.Common.{◌+◌, ◌*◌}
 use Rattle.counters.proofs.+halving.Given as goal
@@ -201,12 +210,13 @@ EDITS = {
         "NOT refused by either, but by first, second",
     ),
     "doubled_in_fewer_steps": ([("in 0..n {", "in 1..n {")], "loop-i-init", TOGETHER),
+    "harmless_at_a_goal": ([("larger(larger(a, b), c)", "larger(larger(b, a), c)")], "third", HARMLESS),
     "harmless_changes": (
         [("larger(larger(a, b), c)", "larger(a, larger(b, c))"), ("rest_of(n - 2)", "rest_of(n - 1)")],
         "third",
         HARMLESS,
     ),
-    "largest_of_the_first_two": ([("larger(larger(a, b), c)", "larger(larger(a, b), b)")], "third", TOGETHER),
+    "largest_of_the_first_two": ([("larger(larger(a, b), c)", "larger(larger(a, b), b)")], "third", ALONE),
     "less_than_the_least": ([("LEAST: u32 = 1", "LEAST: u32 = 0")], "returns", TOGETHER),
     "more_than_the_most": ([("MOST: u32 = 100", "MOST: u32 = 101")], "returns", TOGETHER),
     "given_one_more": ([("smaller(self.count, 100)", "smaller(self.count, 101)")], "most", TOGETHER),
@@ -226,21 +236,27 @@ EDITS = {
 }
 
 # The goals that some of these edits name. One of them isn't a goal of the function as it is: that edit is tried alone.
+# At one nothing is wrong, at one the wrong function isn't refused, but at another, and one has a written answer.
 GOALS = {
     "a_step_is_two": ["returns"],
     "a_counter_begins_at_one": ["returns-in-Ok"],
+    "doubled_in_fewer_steps": ["loop-i-init"],
+    "harmless_at_a_goal": ["returns-clause-third"],
     "larger_gives_the_first": ["returns-else-b-a-clause-second"],
+    "largest_of_the_first_two": ["returns-clause-first"],
+    "more_than_the_most": ["returns"],
 }
 
 
 def write_repository(root):
     """A repository of the one crate, with its edits."""
     crate = root / "crates/counters"
-    for folder in ("src", "specs", "proofs/doubled", "proofs/+halving", "must-fail"):
+    for folder in ("src", "specs", "proofs/at_most", "proofs/doubled", "proofs/+halving", "must-fail"):
         (crate / folder).mkdir(parents=True)
     (root / "crates.txt").write_text("counters:\n")
     (crate / "src/lib.rt").write_text(SOURCE, "utf-8")
     (crate / "specs/Lib.antt").write_text("")
+    (crate / "proofs/at_most/Answers.antt").write_text(ANSWERS, "utf-8")
     (crate / "proofs/doubled/Invariants.antt").write_text(INVARIANTS, "utf-8")
     (crate / "proofs/+halving/Invariants.antt").write_text(CYCLE, "utf-8")
     for name, (pairs, clause, _) in EDITS.items():

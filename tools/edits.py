@@ -36,6 +36,10 @@ GOAL_OF_CLAUSE = re.compile(r"returns\b.*-clause-(\w+)")
 GOAL_OF_CYCLE = re.compile(r"(invariant-|decreases-|)([^-]+)-?(.*)")
 # What a loop of a function has by name only where the function calls itself, directly or in a cycle.
 ONLY_IN_A_CYCLE = re.compile(r"\bgoal\.(?:unvisited|no_deeper|left|size)-")
+# What says which tactics are tried at the goals of a function that have no answer.
+TACTIC = re.compile(r"^ *#\[tactic\([^\n]*\)\]\n", re.M)
+# A declaration that is always refused: a set of lemmas is no type.
+REFUSED = "goals-that-are-left"
 # An import of the lemmas that `search` goes by if it is given no others.
 RULES = re.compile(r"^use .*[{ ]rules[,}]", re.M)
 # A constant of a module, to its end.
@@ -77,8 +81,8 @@ class Stub(Change):
 class Twin(Change):
     """An edited function under a second name, behind the one that it is made of, so that a check tries more than one
     edit of it, the clauses that its contract keeps, None where that is all of them, the name of the other's cycle of
-    calls, and the goals at which nothing is tried but `search rules`. It calls the functions of that cycle, and none of
-    them calls it."""
+    calls, and the goals at which alone something is tried: their written answer, or else `search rules`. It calls the
+    functions of that cycle, and none of them calls it."""
 
     function: str
     name: str
@@ -92,11 +96,17 @@ class Twin(Change):
             file = proofs_of(copy, self.name) / path
             file.parent.mkdir(parents=True, exist_ok=True)
             file.write_text(text if self.kept is None else with_answers(text, self.kept), "utf-8")
+        folder = proofs_of(copy, self.name)
+        if not (folder / "Proof.antt").is_file():
+            folder.mkdir(parents=True, exist_ok=True)
+            self.write_answers(folder / "Answers.antt")
+
+    def write_answers(self, file):
+        """Writes its answers: of the goals that are named alone, if any are, and a declaration that is refused."""
+        text = file.read_text("utf-8") if file.is_file() else ""
         if self.goals:
-            file = proofs_of(copy, self.name) / "Answers.antt"
-            file.parent.mkdir(parents=True, exist_ok=True)
-            text = file.read_text("utf-8") if file.is_file() else ""
-            file.write_text(with_searches(text, f"{module_of(self.name)}.Goals", self.goals), "utf-8")
+            text = with_searches(with_declarations(text, self.goals), f"{module_of(self.name)}.Goals", self.goals)
+        file.write_text(with_refused(text), "utf-8")
 
 
 def written_proofs(crate, function, cycle, name):
@@ -146,12 +156,42 @@ def with_answers(text, kept):
     return "\n".join(lines)
 
 
+def with_declarations(text, names):
+    """Answers without those that none of these needs."""
+    lines = text.split("\n")
+    answers = {it.name: it for it in lemmas_of(lines)}
+    needed, before = set(names) & answers.keys(), None
+    while needed != before:
+        before = needed
+        texts = ["\n".join(lines[answers[it].start : answers[it].end]) for it in needed]
+        needed = needed | {name for name in answers if any(names_it(text, name) for text in texts)}
+    for answer in reversed(list(answers.values())):
+        if answer.name not in needed:
+            del lines[answer.start : answer.end]
+    return "\n".join(lines)
+
+
+def names_it(text, name):
+    """Whether a text of a proof has this name."""
+    return bool(re.search(rf"(?<![\w.-]){re.escape(name)}(?![\w-])", text))
+
+
+def answered(text):
+    """The goals that have an answer in a text of answers."""
+    return {it.name for it in lemmas_of(text.split("\n"))}
+
+
 def with_searches(text, module, goals):
     """Answers with `search rules` for each of these goals of a module that has no answer."""
-    uses = [] if RULES.search(text) else ["use Rattle.std.proofs.Common.{rules}\n"]
-    uses += [] if f"use {module} as goal\n" in text else [f"use {module} as goal\n"]
-    open_goals = sorted(goals - {it.name for it in lemmas_of(text.split("\n"))})
-    return "".join([*uses, text, *(f"\npub {it} : goal.{it}\n{it} = search rules\n" for it in open_goals)])
+    uses = [] if f"use {module} as goal\n" in text else [f"use {module} as goal\n"]
+    searches = (f"\npub {it} : goal.{it}\n{it} = search rules\n" for it in sorted(goals - answered(text)))
+    return "".join([*uses, text, *searches])
+
+
+def with_refused(text):
+    """Answers with a declaration that is refused, so that the check doesn't print each goal that is left."""
+    uses = "" if RULES.search(text) else "use Rattle.std.proofs.Common.{rules}\n"
+    return f"{uses}{text}\n{REFUSED} : rules\n{REFUSED} = rules\n"
 
 
 def proofs_of(crate, function):
@@ -341,13 +381,15 @@ class Crate:
         return replace(edit, changes=twins, functions={it.name for it in twins if isinstance(it, Twin)})
 
     def as_they_are(self, edits):
-        """For each function of which some of these edits have twins with goals: it as it is, as an edit that changes
-        nothing, with the same answers to these goals. It has to be proved: otherwise they say nothing of the edits."""
+        """For each function of which some of these edits have twins at goals that have no written answer: it as it is,
+        as an edit that changes nothing, with `search rules` for an answer to these goals. It has to be proved there:
+        otherwise they say nothing of the edits."""
         named = {}
         for edit in edits:
             if edit.goals and self.can_have_twin(edit):
                 for function in edit.functions - self.cycles.keys():
-                    named.setdefault(function, []).append(edit)
+                    if edit.goals - answered(self.answers_of(function)):
+                        named.setdefault(function, []).append(edit)
         found = {}
         for function, of_it in named.items():
             kept = [self.kept_for(function, it) for it in of_it]
@@ -386,31 +428,30 @@ class Crate:
         cycle = self.cycle_of(function)
         # In a cycle of calls goals have other names.
         goals = frozenset() if cycle else edit.goals
+        item = without_tactics(item, f"{name}_{number}") if goals else item
+        rest = (kept, cycle, goals)
         if not impl:
-            return Twin(path, end, end, f"\n\n{item}", function, f"{function}_{number}", kept, cycle, goals)
+            return Twin(path, end, end, f"\n\n{item}", function, f"{function}_{number}", *rest)
         head, imports = inherent(text[slice(*impl)])
         block = "\n".join([f"\n\n{head} {{", *imports, item, "}"])
         twin = f"{module_of_file(self.name, path)}::{impl_name(head)}::{name}_{number}"
-        return Twin(path, impl[1], impl[1], block, function, twin, kept, cycle, goals)
+        return Twin(path, impl[1], impl[1], block, function, twin, *rest)
+
+    def answers_of(self, function):
+        """The written answers to goals of a function."""
+        written = written_proofs(self.folder, function, self.cycle_of(function), function)
+        return written.get(Path("Answers.antt"), "")
 
     def kept_beside(self, function, clause):
         """The clause, and those whose answers stand in the answers that are kept with it."""
-        lines = (
-            written_proofs(self.folder, function, self.cycle_of(function), function)
-            .get(Path("Answers.antt"), "")
-            .split("\n")
-        )
+        lines = self.answers_of(function).split("\n")
         answers = {it.name: "\n".join(lines[it.start : it.end]) for it in lemmas_of(lines)}
         of_clause = {name: found[1] for name in answers for found in [GOAL_OF_CLAUSE.fullmatch(name)] if found}
         kept, before = frozenset([clause]), None
         while kept != before:
             before = kept
             texts = [text for name, text in answers.items() if of_clause.get(name, clause) in kept]
-            kept |= {
-                it
-                for name, it in of_clause.items()
-                if any(re.search(rf"(?<![\w.-]){re.escape(name)}(?![\w-])", text) for text in texts)
-            }
+            kept |= {it for name, it in of_clause.items() if any(names_it(text, name) for text in texts)}
         return kept
 
     def side_by_side(self, edits):
@@ -445,6 +486,17 @@ class Crate:
         }
         is_alone = sum(len(named.findall(it)) for it in texts) == 1 + sum(bodies.values())
         return {it for it, count in bodies.items() if count} if is_alone else set()
+
+
+def without_tactics(item, name):
+    """A function of this name of which no goal is proved that has no written answer."""
+    return re.sub(
+        rf"^( *)(?=(?:pub(?:\([^)]*\))? )?(?:const )?fn {name}\b)",
+        r"\1#[tactic(none)]\n\1",
+        TACTIC.sub("", item),
+        count=1,
+        flags=re.M,
+    )
 
 
 def changed(text, changes):

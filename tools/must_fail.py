@@ -23,11 +23,11 @@ couldn't show. Some goals are the whole contract, which the prover doesn't part;
 alone, such a goal is the clause's. --write writes that line where it is missing or wrong. --list tries nothing: it
 prints the edits by the modules that they change.
 
-Its lines `# at: GOAL` name the goals at which it is refused. There the prover tries `search rules` alone, and not all
-that it knows, which is most of the time that a wrong body takes. In the same check the function as it is has to be
-proved with the same answers; otherwise the edit is tried as if it had no such lines (decision 126 in
-docs/DECISIONS.md). --write adds them to an edit that has none, if it is refused with them too. --full passes over them,
-so that the prover tries all that it knows.
+Its lines `# at: GOAL` name goals at which it is refused. Nothing is tried then at others. At a goal that has a written
+answer, that is tried; otherwise `search rules`, and not all that the prover knows, which is most of the time that a
+wrong body takes. In that case the function as it is has to be proved in the same check with the same answers;
+otherwise the edit is tried as if it had no such lines (decision 126 in docs/DECISIONS.md). --write adds one to an edit
+that has none, if it is refused with it too. --full passes over them, so that the prover tries all that it knows.
 
 Without --proved, what isn't built yet is proved and built first, by tools/build.py, and the copies go on from what
 checks of the crate have kept. With it, FOLDER is a copy of the repository whose crates `rt ci` has just proved and left
@@ -49,7 +49,7 @@ sys.dont_write_bytecode = True
 from build import Proved, kept_of
 from commands import Commands
 from crates import PARTS, Crates
-from edits import Crate, Stub, Twin, is_goal_of, read_edit
+from edits import REFUSED, Crate, Stub, Twin, answered, is_goal_of, read_edit
 from machine import checks_side_by_side, processors
 
 # A check of 150 edits of mairix_run took 7 GB of memory.
@@ -66,6 +66,10 @@ TOLD = re.compile(r"fn (\S+): (proved|no proof|not proved|could not tell|no hole
 ONLY_CALLS = re.compile(r"(?:in `[^`]*`, of this cycle of calls: )?it calls ")
 # The folder for the answers of a cycle of calls.
 CYCLE = re.compile(r"expected answers in (\S*/\+[^/\s]+)/")
+# What is said of a function with goals at which nothing was tried.
+NOT_TRIED = "`#[tactic(none)]` leaves"
+# What is said before such a line of a goal that is left.
+LEFT = re.compile(r"note: src/\S+:\d+:\d+: .* \(`([\w+:.-]+)`\)(?:;|$)")
 # The goals that a check couldn't show, as a reason lists them, and as an error names its own.
 UNSHOWN = re.compile(r"`search` did not prove ((?:`[^`]*`(?:, )?)+)")
 GOAL_OF_ERROR = re.compile(r": error: `([\w+:.-]+)`:")
@@ -99,16 +103,14 @@ def clause_of(function, goal):
 
 class Verdict:
     """What a check said: of each function that it names the reason of its own for which it is refused, or an empty
-    text, and the clauses that weren't shown."""
+    text, and the clauses that weren't shown. At some functions nothing was tried but at goals that edits name."""
 
-    def __init__(self, status, lines):
+    def __init__(self, status, lines, at_goals=frozenset()):
         self.is_proved = status == 0
         self.reasons = {}
         self.clauses = {}
-        # The goals that weren't shown: those without an answer, and those whose answer was refused. And the functions
-        # that are proved as far as others are.
+        # The goals that weren't shown, and for each function of which answers were tried those that were refused.
         self.goals, self.refused = {}, {}
-        self.shown = set()
         self.by_names = {}
         # Functions that call one another are proved together, so such a reason tells of none of them by itself.
         self.in_cycles = {}
@@ -119,11 +121,17 @@ class Verdict:
         unread = [line for path, line in errors if path.startswith(("src/", "specs/")) and LOST_NAME.search(line)]
         refused = status == 1 and any(line.startswith(("logic=not-proved", "only=")) for line in lines)
         self.trouble = "" if self.is_proved or refused and not unread else next((line for _, line in errors), lines[-1])
-        told = [found for line in lines for found in [TOLD.match(line)] if found]
+        told, left = [], []
+        for line in lines:
+            left += LEFT.findall(line)
+            found = TOLD.match(line)
+            if found:
+                told.append((found[1], found[2], found[3], [] if found[1] in at_goals else left))
+                left = []
         # The folder of each cycle of calls, once for each of its functions that is told to want answers there.
-        self.cycles = [found[1] for it in told for found in [CYCLE.search(it[3])] if found]
-        for it in told:
-            self.take(it[1], it[2], it[3], errors)
+        self.cycles = [found[1] for it in told for found in [CYCLE.search(it[2])] if found]
+        for function, verdict, why, left in told:
+            self.take(function, verdict, why, left, errors)
 
     def is_shared(self, why):
         """Whether more functions than one are told these goals: then they call one another, and each goal begins with
@@ -131,36 +139,49 @@ class Verdict:
         found = CYCLE.search(why)
         return bool(found) and self.cycles.count(found[1]) > 1
 
-    def take(self, function, verdict, why, errors):
-        """Takes what is said of a function."""
+    def take(self, function, verdict, why, left, errors):
+        """Takes what is said of a function, and the goals that were left."""
         self.reasons[function], self.clauses[function] = "", []
-        self.shown |= {function} if verdict in ("proved", "no holes", "depends on a hole in") else set()
-        goals = [it.strip("`") for found in UNSHOWN.findall(why) for it in found.split(", ")]
-        is_of_others = goals and self.is_shared(why) and not any(is_goal_of(function, it) for it in goals)
-        if verdict == "no proof" and not ONLY_CALLS.match(why) and not is_of_others:
-            self.reasons[function], self.goals[function] = why, frozenset(goals)
-            self.clauses[function] = [clause_of(function, it) for it in goals]
+        own = "proofs/" + function.partition("::")[2].replace("::", "/") + "/"
+        said = [line for path, line in errors if path.startswith(own)]
+        refused = [line for line in said if GOAL_OF_ERROR.findall(line) != [REFUSED]]
+        if verdict not in ("no proof", "could not tell"):
+            self.refused[function] = {it for line in refused for it in GOAL_OF_ERROR.findall(line)}
+        if verdict == "not proved" and said and not refused:
+            # Only the declaration is refused that always is.
+            verdict, why = "no proof", "`search` did not prove " + ", ".join(f"`{it}`" for it in left) if left else ""
+        if verdict == "no proof" and why:
+            self.take_left(function, why)
         if verdict == "not proved" and not ONLY_CALLS.match(why):
-            own = "proofs/" + function.partition("::")[2].replace("::", "/") + "/"
-            said = [line for path, line in errors if path.startswith(own)]
-            self.refused[function] = {it for line in said for it in GOAL_OF_ERROR.findall(line)}
-            of_values = [line for line in said if not LOST_NAME.search(line)]
-            cycles = [
+            of_cycle = [
                 line
                 for path, line in errors
                 if "/+" in path and own.startswith(path.partition("/+")[0] + "/") and not LOST_NAME.search(line)
             ]
-            of_values += [
-                line for line in cycles if any(is_goal_of(function, it) for it in GOAL_OF_ERROR.findall(line))
-            ]
-            self.reasons[function] = next(iter(of_values), "")
-            self.clauses[function] = [
-                clause_of(function, it) for line in of_values or cycles for it in GOAL_OF_ERROR.findall(line)
-            ]
-            if cycles and not of_values:
-                self.in_cycles[function] = cycles[0]
-            if said and not of_values:
-                self.by_names[function] = said[0]
+            self.take_refused(function, refused, of_cycle)
+
+    def take_left(self, function, why):
+        """Takes what is said of a function that has goals without a proof."""
+        goals = [it.strip("`") for found in UNSHOWN.findall(why) for it in found.split(", ")]
+        is_of_others = goals and self.is_shared(why) and not any(is_goal_of(function, it) for it in goals)
+        if not ONLY_CALLS.match(why) and not is_of_others and NOT_TRIED not in why:
+            self.reasons[function], self.goals[function] = why, frozenset(goals)
+            self.clauses[function] = [clause_of(function, it) for it in goals]
+
+    def take_refused(self, function, refused, of_cycle):
+        """Takes what is said of a function of which declarations are refused: these errors, and those of its cycle of
+        calls."""
+        of_values = [line for line in refused if not LOST_NAME.search(line)]
+        of_values += [
+            line for line in of_cycle if any(is_goal_of(function, it) for it in GOAL_OF_ERROR.findall(line))
+        ]
+        goals = [it for line in of_values or of_cycle for it in GOAL_OF_ERROR.findall(line)]
+        self.reasons[function], self.goals[function] = next(iter(of_values), ""), frozenset(self.refused[function])
+        self.clauses[function] = [clause_of(function, it) for it in goals]
+        if of_cycle and not of_values:
+            self.in_cycles[function] = of_cycle[0]
+        if refused and not of_values:
+            self.by_names[function] = refused[0]
 
     def functions_of(self, edit, is_alone):
         """The functions of an edit that the check names; all of them where it names none of those. A constant may show
@@ -197,8 +218,8 @@ class Room:
     def __init__(self, crate, folder, kept, writes, hurries):
         self.crate, self.folder, self.kept = crate, Path(folder), Path(folder) / "kept"
         self.checks, self.writes, self.hurries = 0, writes, hurries
-        # The goals at which edits were refused that name none, and those at which functions as they are were refused.
-        self.goals, self.refused = {}, {}
+        # The goals at which edits were refused that name none.
+        self.goals = {}
         if kept.is_dir():
             shutil.copytree(kept, self.kept)
 
@@ -231,7 +252,9 @@ class Room:
         words += ["--allow-holes"] if stubs else []
         self.checks += 1
         changes += stubs
-        return Verdict(*Commands.run([*self.crate.command, *words], self.copy(self.crate.changed(changes), changes)))
+        at_goals = {it.name for it in changes if isinstance(it, Twin) and it.goals}
+        copy = self.copy(self.crate.changed(changes), changes)
+        return Verdict(*Commands.run([*self.crate.command, *words], copy), at_goals)
 
     def errors_in(self, edit, verdict):
         """The errors that the last check told in the new texts of an edit."""
@@ -275,18 +298,21 @@ def try_together(room, edits):
         return broken | {edit: said for part in parts if part for edit, said in try_together(room, part).items()}
     if verdict.is_proved or verdict.refuses_others(tried):
         return {}
-    unshown = {function for function, it in as_they_are.items() if not it.functions <= verdict.shown}
-    for function in unshown:
-        room.refused[function] = verdict.refused.get(*as_they_are[function].functions, set())
     reasons = {
         edit: verdict.of(it, verdict.reasons, False)
         for edit, it in made.items()
-        if it.functions & verdict.reasons.keys() and not (edit.goals and edit.functions & unshown)
+        if it.functions & verdict.reasons.keys() and not is_void(edit, as_they_are, verdict)
     }
     for edit, it in made.items():
         if not edit.goals and len(it.functions) == 1 and not edit.functions & room.crate.cycles.keys():
             room.goals[edit] = verdict.goals.get(*it.functions, frozenset())
     return {edit: refused_by(room, made[edit], verdict, f"refused: {why}") for edit, why in reasons.items() if why}
+
+
+def is_void(edit, as_they_are, verdict):
+    """Whether the goals that an edit names say nothing of it, since a function as it is was refused there too."""
+    plain = [as_they_are[it] for it in edit.functions & as_they_are.keys()] if edit.goals else []
+    return any(edit.goals & verdict.refused.get(*it.functions, edit.goals) for it in plain)
 
 
 def unreached(error):
@@ -364,26 +390,29 @@ def try_edits(room, edits):
     return [*said.values()]
 
 
-def names_clause(edit, goal):
-    """Whether a goal of an edit's function is about the clause that refuses it, or about the whole contract."""
-    return clause_of(next(iter(edit.functions)), goal) in (edit.clause, "returns")
+def goals_of_clause(room, edit):
+    """The goals at which an edit is refused that are about its clause, or about the whole contract: those that have a
+    written answer first, since it fails at once."""
+    (function,) = edit.functions
+    written = answered(room.crate.answers_of(function))
+    found = [it for it in room.goals[edit] if clause_of(function, it) in (edit.clause, "returns")]
+    return sorted(found, key=lambda it: (it not in written, it))
 
 
 def write_goals(room, edits):
-    """Writes into edits that are refused the goals at which they are, if they are refused too where only `search rules`
-    is tried there. Goals at which the function as it is would be refused are left out in a second attempt."""
-    for _ in range(2):
-        for edit in edits:
-            edit.goals = room.goals[edit] - room.refused.get(*edit.functions, set())
-        # At least one of them has to be of the clause that refuses the edit: only what is refused there counts then.
-        edits = [it for it in edits if any(names_clause(it, goal) for goal in it.goals)]
-        written = set()
-        for together in rounds_of(edits, room.crate):
+    """Writes into edits that are refused a goal at which they are, if they are refused too where nothing is tried but
+    its written answer or `search rules`. If they aren't, the next one is tried, but no third."""
+    left = {it: goals_of_clause(room, it)[:2] for it in edits}
+    while any(left.values()):
+        tried = [it for it, goals in left.items() if goals]
+        for edit in tried:
+            edit.goals = frozenset([left[edit].pop(0)])
+        for together in rounds_of(tried, room.crate):
             told = try_together(room, together)
-            written |= {edit for edit in together if edit in told and told[edit][0]}
-        for edit in written:
-            edit.write_head()
-        edits = [it for it in edits if it not in written and room.refused.keys() & it.functions]
+            for edit in together:
+                if edit in told and told[edit][0]:
+                    edit.write_head()
+                    left[edit] = []
 
 
 def try_crate(proved, name, files, writes, is_full):
