@@ -5,18 +5,18 @@
     tools/must_fail.py --list [CRATE or CRATE/NAME ..]
 
 An edit, crates/CRATE/must-fail/NAME.edit, turns the meaning of a function, and its crate must then not be proved. A
-function is proved against the contracts of those that it calls, never their bodies. So one check tries up to 60 edits,
-in a copy of the crate. An edited function stands there as a twin of its own for each edit. Of the clauses with names,
-the twin's contract keeps the one that the edit says refuses it, since that one has to do so by itself. All other
-functions have an empty loop for a body and a hole for a proof: their contracts are taken as they stand, and nothing is
-proved that is proved already. Each edited function must be refused for a reason of its own. That it calls another that
-isn't proved is none, nor is a proof that only lacks a name that the edit took away. An edit of a constant is looked for
-in the functions that name the constant, and in those that its lines `# shows in: FUNCTION` name.
+function is proved against the contracts of those that it calls, never their bodies. So one check tries up to 120
+edits, in a copy of the crate. An edited function stands there as a twin of its own for each edit. Of the clauses with
+names, the twin's contract keeps the one that the edit says refuses it, since that one has to do so by itself. All
+other functions have an empty loop for a body and a hole for a proof: their contracts are taken as they stand, and
+nothing is proved that is proved already. Each edited function must be refused for a reason of its own. That it calls
+another that isn't proved is none, nor is a proof that only lacks a name that the edit took away. An edit of a constant
+is looked for in the functions that name the constant, and in those that its lines `# shows in: FUNCTION` name.
 
-An edit of which such a check gives no reason is tried alone. If its functions get no reason then either, a check of the
-whole crate decides, with all bodies and proofs. Alone it fails where the crate is still proved, where its functions get
-no reason of their own, and where it doesn't reach the prover. What changes more than bodies, and constants that these
-name, is no edit.
+An edit of which such a check gives no reason, or only one of other clauses, is tried alone. If its functions get no
+reason then either, a check of the whole crate decides, with all bodies and proofs. Alone it fails where the crate is
+still proved, where its functions get no reason of their own, and where it doesn't reach the prover. What changes more
+than bodies, and constants that these name, is no edit.
 
 Its line `# refused by: CLAUSE` names the clause that refuses it, and that clause has to be one of those that the prover
 couldn't show. Some goals are the whole contract, which the prover doesn't part; where a twin's contract is that clause
@@ -52,8 +52,8 @@ from crates import PARTS, Crates
 from edits import REFUSED, Crate, Stub, Twin, answered, is_goal_of, read_edit
 from machine import checks_side_by_side, processors
 
-# A check of 150 edits of mairix_run took 7 GB of memory.
-MOST_IN_A_ROUND = 60
+# A check of 60 edits takes up to 2 GB of memory.
+MOST_IN_A_ROUND = 120
 ERROR = re.compile(r"(?:\./)?(\S+?):(\d+):\d+: error\b")
 # What is said of a proof that names what an edit took away, and of what rests on such a proof.
 LOST_NAME = re.compile(
@@ -306,7 +306,9 @@ def try_together(room, edits):
     for edit, it in made.items():
         if not edit.goals and len(it.functions) == 1 and not edit.functions & room.crate.cycles.keys():
             room.goals[edit] = verdict.goals.get(*it.functions, frozenset())
-    return {edit: refused_by(room, made[edit], verdict, f"refused: {why}") for edit, why in reasons.items() if why}
+    told = {edit: refused_by(room, made[edit], verdict, f"refused: {why}") for edit, why in reasons.items() if why}
+    # One that seems to be refused by other clauses is tried alone: more is said there of what isn't proved.
+    return {edit: said for edit, said in told.items() if said[0]}
 
 
 def is_void(edit, as_they_are, verdict):
