@@ -235,8 +235,9 @@ EDITS = {
     ),
 }
 
-# The goals that some of these edits name. One of them isn't a goal of the function as it is: that edit is tried alone.
-# At one nothing is wrong, at one the wrong function isn't refused, but at another, and one has a written answer.
+# The goals that some of these edits name. One isn't a goal of the function as it is, and at one the wrong function
+# isn't refused: these two edits are tried alone. One edit that names a goal is harmless, and one goal has a written
+# answer.
 GOALS = {
     "a_step_is_two": ["returns"],
     "a_counter_begins_at_one": ["returns-in-Ok"],

@@ -381,14 +381,14 @@ class Crate:
         return replace(edit, changes=twins, functions={it.name for it in twins if isinstance(it, Twin)})
 
     def as_they_are(self, edits):
-        """For each function of which some of these edits have twins at goals that have no written answer: it as it is,
-        as an edit that changes nothing, with `search rules` for an answer to these goals. It has to be proved there:
-        otherwise they say nothing of the edits."""
+        """For each function of which some of these edits have twins at goals that say nothing by themselves: it as it
+        is, as an edit that changes nothing, with the same answers to these goals. It has to be proved there: otherwise
+        they say nothing of the edits."""
         named = {}
         for edit in edits:
             if edit.goals and self.can_have_twin(edit):
                 for function in edit.functions - self.cycles.keys():
-                    if edit.goals - answered(self.answers_of(function)):
+                    if self.needs_as_it_is(function, edit):
                         named.setdefault(function, []).append(edit)
         found = {}
         for function, of_it in named.items():
@@ -397,6 +397,13 @@ class Crate:
             twin = self.twin(function, plain, 0, None if None in kept else frozenset().union(*kept))
             found[function] = replace(plain, changes=[twin], functions={twin.name})
         return found
+
+    def needs_as_it_is(self, function, edit):
+        """Whether the goals that an edit names say nothing without the function as it is: one has no written answer, or
+        is about the whole contract, of which the twin keeps a part."""
+        written, is_cut = answered(self.answers_of(function)), self.kept_for(function, edit) is not None
+        of_whole = {it for it in edit.goals if it.startswith("returns") and "-clause-" not in it}
+        return bool(edit.goals - written or is_cut and of_whole)
 
     def kept_for(self, function, edit):
         """Of the clauses with names of a function those that a twin for an edit keeps: the one that refuses the edit,

@@ -24,10 +24,10 @@ alone, such a goal is the clause's. --write writes that line where it is missing
 prints the edits by the modules that they change.
 
 Its lines `# at: GOAL` name goals at which it is refused. Nothing is tried then at others. At a goal that has a written
-answer, that is tried; otherwise `search rules`, and not all that the prover knows, which is most of the time that a
-wrong body takes. In that case the function as it is has to be proved in the same check with the same answers;
-otherwise the edit is tried as if it had no such lines (decision 126 in docs/DECISIONS.md). --write adds one to an edit
-that has none, if it is refused with it too. --full passes over them, so that the prover tries all that it knows.
+answer, that is tried; otherwise `search rules`, and not all that the prover knows, which takes longer at a goal that
+doesn't hold. In that case the function as it is has to be proved there in the same check; otherwise the edit is tried
+as if it had no such lines (decision 126 in docs/DECISIONS.md). --write adds one to an edit that has none, if it is
+refused with it too. --full passes over them, so that the prover tries all that it knows.
 
 Without --proved, what isn't built yet is proved and built first, by tools/build.py, and the copies go on from what
 checks of the crate have kept. With it, FOLDER is a copy of the repository whose crates `rt ci` has just proved and left
@@ -52,7 +52,7 @@ from crates import PARTS, Crates
 from edits import REFUSED, Crate, Stub, Twin, answered, is_goal_of, read_edit
 from machine import checks_side_by_side, processors
 
-# A check of 60 edits takes up to 2 GB of memory.
+# A check of 110 edits of mairix_run took 3.4 GB of memory.
 MOST_IN_A_ROUND = 120
 ERROR = re.compile(r"(?:\./)?(\S+?):(\d+):\d+: error\b")
 # What is said of a proof that names what an edit took away, and of what rests on such a proof.
@@ -148,8 +148,9 @@ class Verdict:
         if verdict not in ("no proof", "could not tell"):
             self.refused[function] = {it for line in refused for it in GOAL_OF_ERROR.findall(line)}
         if verdict == "not proved" and said and not refused:
-            # Only the declaration is refused that always is.
-            verdict, why = "no proof", "`search` did not prove " + ", ".join(f"`{it}`" for it in left) if left else ""
+            # Only the declaration is refused that always is, so the goals that are left are the reason, if any is.
+            verdict = "no proof"
+            why = "`search` did not prove " + ", ".join(f"`{it}`" for it in left) if left else ""
         if verdict == "no proof" and why:
             self.take_left(function, why)
         if verdict == "not proved" and not ONLY_CALLS.match(why):
