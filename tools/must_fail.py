@@ -5,7 +5,7 @@
     tools/must_fail.py --list [CRATE or CRATE/NAME ..]
 
 An edit, crates/CRATE/must-fail/NAME.edit, turns the meaning of a function, and its crate must then not be proved. A
-function is proved against the contracts of those that it calls, never their bodies. So one check tries up to 120
+function is proved against the contracts of those that it calls, never their bodies. So one check tries up to 140
 edits, in a copy of the crate. An edited function stands there as a twin of its own for each edit. Of the clauses with
 names, the twin's contract keeps the one that the edit says refuses it, since that one has to do so by itself. All
 other functions have an empty loop for a body and a hole for a proof: their contracts are taken as they stand, and
@@ -36,6 +36,7 @@ built: its texts are edited, and each check has one job.
 Each edit has a line as soon as it is tried, and each crate one with its seconds. The last line is `N passed, M failed`.
 """
 import argparse
+import math
 import os
 import re
 import shutil
@@ -53,7 +54,7 @@ from edits import REFUSED, Crate, Stub, Twin, answered, is_goal_of, read_edit
 from machine import checks_side_by_side, processors
 
 # A check of 110 edits of mairix_run took 3.4 GB of memory.
-MOST_IN_A_ROUND = 120
+MOST_IN_A_ROUND = 140
 ERROR = re.compile(r"(?:\./)?(\S+?):(\d+):\d+: error\b")
 # What is said of a proof that names what an edit took away, and of what rests on such a proof.
 LOST_NAME = re.compile(
@@ -274,10 +275,11 @@ class Room:
 
 
 def rounds_of(edits, crate):
-    """Parts edits into rounds, each for one check."""
-    rounds = []
+    """Parts edits into rounds of about one size, each for one check."""
+    count = math.ceil(len(edits) / MOST_IN_A_ROUND)
+    most, rounds = math.ceil(len(edits) / max(count, 1)), []
     for edit in edits:
-        fits = (it for it in rounds if len(it) < MOST_IN_A_ROUND and all(edit.fits(other, crate) for other in it))
+        fits = (it for it in rounds if len(it) < most and all(edit.fits(other, crate) for other in it))
         together = next(fits, None)
         if together is None:
             rounds.append([edit])
