@@ -29,4 +29,5 @@ pub mod RunLemmas
 pub mod Seams
 pub mod ShownWords
 pub mod Steps
+pub mod WordBits
 pub mod WordTests
