@@ -15,7 +15,7 @@ from function_bodies import (
     item_of,
     module_of as module_of_file,
 )
-from lemmas import lemmas_of
+from lemmas import begins_with, lemmas_of
 
 # The line of an edit that names the clause which refuses it.
 CLAUSE = re.compile(r"^# refused by: (\S+)\n", re.M)
@@ -38,6 +38,8 @@ GOAL_OF_CYCLE = re.compile(r"(invariant-|decreases-|)([^-]+)-?(.*)")
 ONLY_IN_A_CYCLE = re.compile(r"\bgoal\.(?:unvisited|no_deeper|left|size)-")
 # What says which tactics are tried at the goals of a function that have no answer.
 TACTIC = re.compile(r"^ *#\[tactic\([^\n]*\)\]\n", re.M)
+# The files of a function's proofs. All others have lemmas.
+OF_FUNCTIONS = ("Answers.antt", "Invariants.antt", "Proof.antt")
 # A declaration that is always refused: a set of lemmas is no type.
 REFUSED = "goals-that-are-left"
 # An import of the lemmas that `search` goes by if it is given no others.
@@ -65,15 +67,15 @@ class Stub(Change):
     cycle: str
 
     def assume(self, copy):
-        """Has a check of this copy of the crate take the function's contract as it stands: its proof is a hole."""
+        """Has a check of this copy of the crate take the function's contract as it stands."""
         folder, name = proofs_of(copy, self.function), self.function.rpartition("::")[2]
         folder.mkdir(parents=True, exist_ok=True)
-        for written in ("Answers.antt", "Invariants.antt"):
+        for written in OF_FUNCTIONS:
             (folder / written).unlink(missing_ok=True)
         for together in list((copy / "proofs").rglob(f"+{self.cycle}")) if self.cycle else []:
             shutil.rmtree(together)
-        proof = f"use {module_of(self.function)}.Statement.{{statement}}\n\n"
-        proof += f"pub {name}_spec : {{M : Type 1}} → statement M\n{name}_spec 𝓤 𝓛 𝓜 𝓡 w = ?\n"
+        proof = f"{use_of_assumed(self.function)}use {module_of(self.function)}.Statement.{{statement}}\n\n"
+        proof += f"pub {name}_spec : {{M : Type 1}} → statement M\n{name}_spec = assumed\n"
         (folder / "Proof.antt").write_text(proof, "utf-8")
 
 
@@ -192,6 +194,44 @@ def with_refused(text):
     """Answers with a declaration that is refused, so that the check doesn't print each goal that is left."""
     uses = "" if RULES.search(text) else "use Rattle.std.proofs.Common.{rules}\n"
     return f"{uses}{text}\n{REFUSED} : rules\n{REFUSED} = rules\n"
+
+
+def use_of_assumed(function):
+    """The import of what stands for each proof that a check takes as it is stated, in the crate of this function."""
+    return f"use Rattle.{function.partition('::')[0]}.proofs.Assumed.{{assumed}}\n"
+
+
+def assume_lemmas(crate, copy):
+    """Has a check of this copy of a crate take its lemmas as they are stated. One hole stands for all their proofs: the
+    check would print the goal of each."""
+    proofs = copy / "proofs"
+    for file in (it for it in proofs.rglob("*.antt") if it.name not in OF_FUNCTIONS):
+        file.write_text(use_of_assumed(crate) + without_proofs(file.read_text("utf-8")), "utf-8")
+    (proofs / "Assumed.antt").write_text("pub assumed {ℓ} : {A : Type ℓ} → A\nassumed = ?\n", "utf-8")
+    with open(proofs / "Lib.antt", "a", encoding="utf-8") as modules:
+        modules.write("\npub mod Assumed\n")
+
+
+def without_proofs(text):
+    """Lemmas that are taken as they are stated, but for those of which others see what they are."""
+    lines = text.split("\n")
+    for lemma in reversed(lemmas_of(lines)):
+        end = lemma.end
+        while end < len(lines) and (not lines[end][:1].strip() or begins_with(lines[end], "", lemma.name)):
+            end += 1
+        if lemma.proof:
+            lines[lemma.proof : end] = [f"{lemma.name} = assumed", ""]
+    return "\n".join(lines)
+
+
+def refuse_in_place(copy, function):
+    """Writes the declaration that is refused into the answers of a function of this copy that is edited in its place.
+    One with a proof of its own has no answers."""
+    folder = proofs_of(copy, function)
+    if not (folder / "Proof.antt").is_file():
+        folder.mkdir(parents=True, exist_ok=True)
+        file = folder / "Answers.antt"
+        file.write_text(with_refused(file.read_text("utf-8") if file.is_file() else ""), "utf-8")
 
 
 def proofs_of(crate, function):
@@ -358,14 +398,20 @@ class Crate:
         """Whether a function can have a twin for an edit: one that calls itself can't, nor one whose contract stands at
         its trait. In a cycle of calls more is required of those that it calls, and its proofs may name what stands only
         there."""
-        path, start, end = self.every_body[function]
-        text, name = self.text(path), function.rpartition("::")[2]
+        path, start, _ = self.every_body[function]
+        text = self.text(path)
         if function in self.cycles:
             proofs = written_proofs(self.folder, function, self.cycle_of(function), function).values()
             return not edit.clause.endswith("-requires") and not any(ONLY_IN_A_CYCLE.search(it) for it in proofs)
         item, impl = item_of(text, start)
-        calls_itself = re.search(rf"(?<![.:\w]){name}\(|\b(self\.|Self::){name}\(", text[start:end])
-        return not calls_itself and not (impl and "ensures" not in text[item:start])
+        return not self.calls_itself(function) and not (impl and "ensures" not in text[item:start])
+
+    def calls_itself(self, function):
+        """Whether a function calls itself. It has its proofs in another folder then, that of its cycle of calls."""
+        path, start, end = self.every_body[function]
+        name = function.rpartition("::")[2]
+        found = re.search(rf"(?<![.:\w]){name}\(|\b(self\.|Self::){name}\(", self.text(path)[start:end])
+        return function in self.cycles or bool(found)
 
     def twin_of(self, edit, number):
         """The edit with twins of its functions in place of these; one of a constant has a second constant, which they

@@ -12,8 +12,8 @@ def begins_with(line, indent, name):
 
 
 class Lemma:
-    """A lemma or a record of a file: its name, whether it is public, its lines from the comment in front of it on, and how often it names itself
-    to be what it is."""
+    """A lemma or a record of a file: its name, whether it is public, its lines from the comment in front of it on, how often it names itself to be
+    what it is, and the line of its first clause, if others don't see what it is."""
 
     def __init__(self, lines, at, head):
         indent, words, name = head.groups()
@@ -21,10 +21,14 @@ class Lemma:
         self.is_public, self.is_record = "pub " in words, "record " in words
         while self.start and lines[self.start - 1].startswith(f"{indent}-- ") and not lines[self.start - 1].startswith(f"{indent}-- ----"):
             self.start -= 1
-        self.own = 1
+        self.own, self.proof = 1, None
         while self.end < len(lines) and self.goes_on(lines[self.end], indent):
-            self.own += begins_with(lines[self.end], indent, name)
+            if begins_with(lines[self.end], indent, name):
+                self.own += 1
+                self.proof = self.proof or self.end
             self.end += 1
+        if indent or {"abbrev", "unfoldable"} & {*words.split()}:
+            self.proof = None
 
     def goes_on(self, line, indent):
         """Whether a line behind the head is still the lemma's."""

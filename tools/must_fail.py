@@ -8,10 +8,11 @@ An edit, crates/CRATE/must-fail/NAME.edit, turns the meaning of a function, and 
 function is proved against the contracts of those that it calls, never their bodies. So one check tries up to 140
 edits, in a copy of the crate. An edited function stands there as a twin of its own for each edit. Of the clauses with
 names, the twin's contract keeps the one that the edit says refuses it, since that one has to do so by itself. All
-other functions have an empty loop for a body and a hole for a proof: their contracts are taken as they stand, and
-nothing is proved that is proved already. Each edited function must be refused for a reason of its own. That it calls
-another that isn't proved is none, nor is a proof that only lacks a name that the edit took away. An edit of a constant
-is looked for in the functions that name the constant, and in those that its lines `# shows in: FUNCTION` name.
+other functions have an empty loop for a body. Their contracts are taken as they stand, and so are the crate's lemmas:
+one hole is the proof of them all, so that nothing is proved that is proved already (decision 127). Each edited function
+must be refused for a reason of its own. That it calls another that isn't proved is none, nor is a proof that only lacks
+a name that the edit took away. An edit of a constant is looked for in the functions that name the constant, and in
+those that its lines `# shows in: FUNCTION` name.
 
 An edit of which such a check gives no reason, or only one of other clauses, is tried alone. If its functions get no
 reason then either, a check of the whole crate decides, with all bodies and proofs. Alone it fails where the crate is
@@ -50,7 +51,7 @@ sys.dont_write_bytecode = True
 from build import Proved, kept_of
 from commands import Commands
 from crates import PARTS, Crates
-from edits import REFUSED, Crate, Stub, Twin, answered, is_goal_of, read_edit
+from edits import REFUSED, Crate, Stub, Twin, answered, assume_lemmas, is_goal_of, read_edit, refuse_in_place
 from machine import checks_side_by_side, processors
 
 # A check of 110 edits of mairix_run took 3.4 GB of memory.
@@ -229,8 +230,9 @@ class Room:
         """Has each check keep what it did. That takes time, which only later checks make good."""
         self.kept.mkdir(exist_ok=True)
 
-    def copy(self, texts, changes):
-        """Makes a copy of the crate with these texts, and the proofs that the changes behind them need."""
+    def copy(self, texts, changes, edited, assumes):
+        """Makes a copy of the crate with these texts, and the proofs that the changes behind them need, and the
+        functions that are edited in their places. It may assume the crate's lemmas."""
         copy = self.folder / "copy"
         shutil.rmtree(copy, ignore_errors=True)
         for part in PARTS:
@@ -241,21 +243,26 @@ class Room:
         for change in changes:
             if isinstance(change, (Stub, Twin)):
                 change.assume(copy)
+        for function in edited:
+            refuse_in_place(copy, function)
+        if assumes:
+            assume_lemmas(self.crate.name, copy)
         return copy
 
-    def check(self, edits, functions=()):
-        """What a check says of the crate with these edits: of these functions over the contracts of the others, or of
-        all where none is named."""
+    def check(self, edits, functions=(), edited=()):
+        """What a check says of the crate with these edits: of these functions, over the contracts of the others and the
+        lemmas as they are stated, or of all where none is named. Of those that are edited in their places it doesn't
+        print the goals that are left."""
         changes = [it for edit in edits for it in edit.changes]
         stubs = self.crate.stubs_beside(functions) if functions else []
         words = [word for it in sorted(functions) for word in ("--only", it.partition("::")[2])]
         words += ["--jobs", str(idle_processors() if self.hurries else 1)]
         words += ["--incremental", str(self.kept)] if self.kept.is_dir() else []
-        words += ["--allow-holes"] if stubs else []
+        words += ["--allow-holes"] if functions else []
         self.checks += 1
         changes += stubs
         at_goals = {it.name for it in changes if isinstance(it, Twin) and it.goals}
-        copy = self.copy(self.crate.changed(changes), changes)
+        copy = self.copy(self.crate.changed(changes), changes, edited, bool(functions))
         return Verdict(*Commands.run([*self.crate.command, *words], copy), at_goals)
 
     def errors_in(self, edit, verdict):
@@ -293,7 +300,9 @@ def try_together(room, edits):
     the others are tried without them; where a check fails and tells no place, as for want of memory, by halves."""
     made, as_they_are = room.crate.side_by_side(edits), room.crate.as_they_are(edits)
     tried = [*made.values(), *as_they_are.values()]
-    verdict = room.check(tried, {it for edit in tried for it in edit.functions})
+    in_place = {it for edit, other in made.items() if edit is other for it in edit.functions}
+    edited = {it for it in in_place if not room.crate.calls_itself(it)}
+    verdict = room.check(tried, {it for edit in tried for it in edit.functions}, edited)
     if verdict.trouble:
         broken = {edit: (False, unreached(line)) for edit, it in made.items() for line in room.errors_in(it, verdict)}
         left, half = [it for it in edits if it not in broken], len(edits) // 2
@@ -374,7 +383,8 @@ def try_edits(room, edits):
             print(f"must-fail {edit.name}: {text[:300]}", flush=True)
 
     say({edit: (False, f"NOT refused: BAD EDIT: {edit.wrong}") for edit in edits if edit.wrong})
-    left = [it for it in edits if not it.wrong]
+    # Those of one function come into one round, where the function as it is may have to be proved too.
+    left = sorted((it for it in edits if not it.wrong), key=lambda it: sorted(it.functions))
     if len(rounds_of(left, room.crate)) > 1 or room.writes:
         room.keep()
     found = True
