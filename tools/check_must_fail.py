@@ -104,6 +104,22 @@ impl Giver for Counter {
     }
 }
 
+/// What there is without a count.
+pub struct Nothing {}
+
+impl Giver for Nothing {
+    fn give(&self) -> u32 {
+        smaller(7, 100)
+    }
+}
+
+/// What is left of a number where 1 is taken away as often as it can be.
+pub fn none_of(n: u32) -> u32
+    ensures { result ≡ 0 }
+{
+    if n == 0 { 0 } else { none_of(n - 1) }
+}
+
 /// What is left of a number where 2 is taken away as often as it can be.
 #[cycle(halving)]
 pub fn rest_of(n: u32) -> u32
@@ -166,6 +182,14 @@ abbrev pub decreases-rest_after : goal.decreases-rest_after
 decreases-rest_after l = 2 * l.n
 """
 
+# That of the function that calls itself.
+CALLS_ITSELF = """\
+use Rattle.counters.proofs.+none_of.Given as goal
+
+abbrev pub decreases-none_of : goal.decreases-none_of
+decreases-none_of l = l.n
+"""
+
 # What a check says of a function whose proof names what an edit took away, where the name of the record is long.
 LONG_NAMES = """\
 ./proofs/counter/step/Answers.antt:1:1: error: `returns`: record `Rattle.counters.proofs.counter.step.Lts.View`
@@ -221,6 +245,8 @@ EDITS = {
     "more_than_the_most": ([("MOST: u32 = 100", "MOST: u32 = 101")], "returns", TOGETHER),
     "given_one_more": ([("smaller(self.count, 100)", "smaller(self.count, 101)")], "most", TOGETHER),
     "given_none": ([("smaller(self.count, 100)", "smaller(self.count, 0)")], "count", TOGETHER),
+    "nothing_gives_too_much": ([("smaller(7, 100)", "larger(7, 101)")], "returns", TOGETHER),
+    "one_is_left": ([("if n == 0 { 0 }", "if n == 0 { 1 }")], "returns", TOGETHER),
     "rest_is_two": ([("if n < 2 { n }", "if n < 3 { n }")], "less", TOGETHER),
     "rest_is_whole": ([("rest_after(n) }", "rest_after(n) + n }")], "less", TOGETHER),
     "unknown_name": (
@@ -252,7 +278,8 @@ GOALS = {
 def write_repository(root):
     """A repository of the one crate, with its edits."""
     crate = root / "crates/counters"
-    for folder in ("src", "specs", "proofs/at_most", "proofs/doubled", "proofs/+halving", "must-fail"):
+    proofs = ("proofs/at_most", "proofs/doubled", "proofs/+halving", "proofs/+none_of")
+    for folder in ("src", "specs", *proofs, "must-fail"):
         (crate / folder).mkdir(parents=True)
     (root / "crates.txt").write_text("counters:\n")
     (crate / "src/lib.rt").write_text(SOURCE, "utf-8")
@@ -260,6 +287,7 @@ def write_repository(root):
     (crate / "proofs/at_most/Answers.antt").write_text(ANSWERS, "utf-8")
     (crate / "proofs/doubled/Invariants.antt").write_text(INVARIANTS, "utf-8")
     (crate / "proofs/+halving/Invariants.antt").write_text(CYCLE, "utf-8")
+    (crate / "proofs/+none_of/Invariants.antt").write_text(CALLS_ITSELF, "utf-8")
     for name, (pairs, clause, _) in EDITS.items():
         named = [f"# refused by: {clause}"] if clause else []
         named += [f"# at: {it}" for it in GOALS.get(name, [])]

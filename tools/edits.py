@@ -44,6 +44,8 @@ OF_FUNCTIONS = ("Answers.antt", "Invariants.antt", "Proof.antt")
 REFUSED = "goals-that-are-left"
 # An import of the lemmas that `search` goes by if it is given no others.
 RULES = re.compile(r"^use .*[{ ]rules[,}]", re.M)
+# A line of a lemma that names definitions of its file of which it sees what they are.
+UNFOLDING = re.compile(r"^ *unfolding (.*)")
 # A constant of a module, to its end.
 CONSTANT = re.compile(r"^(?:pub(?:\([^)]*\))? )?(?:const|static) (\w+).*?;$", re.M | re.S)
 
@@ -215,11 +217,12 @@ def assume_lemmas(crate, copy):
 def without_proofs(text):
     """Lemmas that are taken as they are stated, but for those of which others see what they are."""
     lines = text.split("\n")
+    shown = {name for line in lines for found in UNFOLDING.findall(line) for name in found.split()}
     for lemma in reversed(lemmas_of(lines)):
         end = lemma.end
         while end < len(lines) and (not lines[end][:1].strip() or begins_with(lines[end], "", lemma.name)):
             end += 1
-        if lemma.proof:
+        if lemma.proof and lemma.name not in shown:
             lines[lemma.proof : end] = [f"{lemma.name} = assumed", ""]
     return "\n".join(lines)
 
