@@ -113,7 +113,7 @@ def faults_of(page, proved):
 
 
 def unproved(pages, proved, jobs):
-    """What a check says of the callers of these pages, if it doesn't prove them."""
+    """What a check says of the callers of these pages, if it doesn't prove them, with its status: one that was ended may have said nothing."""
     libraries = dict.fromkeys(library for page in pages for library in page.libraries())
     lines = dict.fromkeys(line for page in pages for line in page.lines())
     modules = "".join(f"pub mod {page.name};\n" for page in pages)
@@ -121,7 +121,8 @@ def unproved(pages, proved, jobs):
     with tempfile.TemporaryDirectory(prefix="callers-") as room:
         crates = write_repository(Path(room), [*lines, f"caller: {' '.join(libraries)}"], files)
         status, said = Commands.run([*proved.checking(crates, "caller"), "--jobs", str(jobs)], crates.folder("caller"))
-        return [it for it in said if not it.startswith("statements ")][-20:] if status else []
+        wrong = [it for it in said if not it.startswith("statements ")][-20:]
+        return [*wrong, f"the check ended with status {status}"] if status else []
 
 
 def main():

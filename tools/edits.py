@@ -76,7 +76,8 @@ class Stub(Change):
             (folder / written).unlink(missing_ok=True)
         for together in list((copy / "proofs").rglob(f"+{self.cycle}")) if self.cycle else []:
             shutil.rmtree(together)
-        proof = f"{use_of_assumed(self.function)}use {module_of(self.function)}.Statement.{{statement}}\n\n"
+        proof = use_of_assumed(self.function.partition("::")[0])
+        proof += f"use {module_of(self.function)}.Statement.{{statement}}\n\n"
         proof += f"pub {name}_spec : {{M : Type 1}} → statement M\n{name}_spec = assumed\n"
         (folder / "Proof.antt").write_text(proof, "utf-8")
 
@@ -198,9 +199,9 @@ def with_refused(text):
     return f"{uses}{text}\n{REFUSED} : rules\n{REFUSED} = rules\n"
 
 
-def use_of_assumed(function):
-    """The import of what stands for each proof that a check takes as it is stated, in the crate of this function."""
-    return f"use Rattle.{function.partition('::')[0]}.proofs.Assumed.{{assumed}}\n"
+def use_of_assumed(crate):
+    """The import of what stands in this crate for each proof of what a check takes as it is stated."""
+    return f"use Rattle.{crate}.proofs.Assumed.{{assumed}}\n"
 
 
 def assume_lemmas(crate, copy):
@@ -215,7 +216,8 @@ def assume_lemmas(crate, copy):
 
 
 def without_proofs(text):
-    """Lemmas that are taken as they are stated, but for those of which others see what they are."""
+    """Lemmas that are taken as they are stated, but for those of which others see what they are, and those in a module
+    of the file."""
     lines = text.split("\n")
     shown = {name for line in lines for found in UNFOLDING.findall(line) for name in found.split()}
     for lemma in reversed(lemmas_of(lines)):

@@ -13,7 +13,7 @@ def begins_with(line, indent, name):
 
 class Lemma:
     """A lemma or a record of a file: its name, whether it is public, its lines from the comment in front of it on, how often it names itself to be
-    what it is, and the line of its first clause, if others don't see what it is."""
+    what it is, and the line of its first clause, if it stands in no module of the file and others don't see what it is."""
 
     def __init__(self, lines, at, head):
         indent, words, name = head.groups()
