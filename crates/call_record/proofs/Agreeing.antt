@@ -1,11 +1,9 @@
 -- Bytes that agree with what a source gave are the bytes that it gave and those that are left, call by call.
-use Rattle.std.proofs.Common.{◌≡◌, ◌<◌, ◌⊎◌, ℕ, ◌++◌, Bool, true, false, List, [], ◌∷◌, Option, None, Some, length}
-use Rattle.std.proofs.Common.{take, drop, refl, sym, ap, ◌∙◌, arith, append_assoc, take-append-drop, if◌then◌else◌}
+use Rattle.std.proofs.Common.{◌≡◌, ◌<◌, ◌⊎◌, ℕ, ◌++◌, Bool, true, false, List, [], ◌∷◌, Option, None, Some, length, take, drop, refl, sym, ap, ◌∙◌, arith, append_assoc, take-append-drop, if◌then◌else◌}
 use Rattle.std.proofs.lemmas.Bool.Decides.{nat_tests}
 use Rattle.std.proofs.lemmas.Slice.Eq.{bytes_eq-Decides}
 use Rattle.std.proofs.lemmas.Grind.{common_steps}
-use Rattle.call_record.specs.Calls.{Call, read_next, read_at, measured, written, left_by, left_after, is_front}
-use Rattle.call_record.specs.Calls.{given_by, given_after}
+use Rattle.call_record.specs.Calls.{Call, read_next, read_at, measured, written, left_by, left_after, is_front, given_by, given_after}
 
 -- the bytes of a read are the first of these
 front : (got bytes : List ℕ) → is_front got bytes ≡ true → take (length got) bytes ≡ got

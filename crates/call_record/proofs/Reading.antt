@@ -1,8 +1,6 @@
 -- What is known of a source after one more read: the bytes that it gave were the first of those that were left, or
 -- nothing is known any more.
-use Rattle.std.proofs.Common.{◌≡◌, ◌≤◌, ◌<◌, ◌∙◌, ℕ, ◌++◌, Bool, true, false, List, [], Option, None, Some, Result, Ok}
-use Rattle.std.proofs.Common.{Err, IfOk, length, take, drop, refl, sym, ap, arith, take-append-drop, length-take-le}
-use Rattle.std.proofs.Common.{if◌then◌else◌, ◌⊎◌}
+use Rattle.std.proofs.Common.{◌≡◌, ◌≤◌, ◌<◌, ◌∙◌, ℕ, ◌++◌, Bool, true, false, List, [], Option, None, Some, Result, Ok, Err, IfOk, length, take, drop, refl, sym, ap, arith, take-append-drop, length-take-le, if◌then◌else◌, ◌⊎◌}
 use Rattle.std.proofs.lemmas.Bool.Decides.{nat_tests}
 use Rattle.std.proofs.lemmas.Slice.Eq.{bytes_eq-Decides}
 use Rattle.std.proofs.Math.Seq.{drop-nil}

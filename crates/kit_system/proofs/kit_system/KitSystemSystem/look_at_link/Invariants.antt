@@ -1,0 +1,8 @@
+-- One more call.
+use Rattle.std.specs.Prelude.{◌∷◌}
+use Rattle.system.specs.SystemCalls.{LookedAtLink}
+use Rattle.kit_system.proofs.kit_system.KitSystemSystem.look_at_link.Given as goal
+
+-- the calls with this one
+abbrev pub ghost-next : goal.ghost-next
+ghost-next g a = LookedAtLink a._said.now.0.now a._said.now.1 ∷ a.self.now.calls

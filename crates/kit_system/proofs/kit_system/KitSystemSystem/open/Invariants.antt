@@ -1,0 +1,9 @@
+-- One more call.
+use Rattle.std.specs.Prelude.{◌∷◌}
+use Rattle.system.specs.Answers.{done_or_error}
+use Rattle.system.specs.SystemCalls.{OpenedFile}
+use Rattle.kit_system.proofs.kit_system.KitSystemSystem.open.Given as goal
+
+-- the calls with this one
+abbrev pub ghost-next : goal.ghost-next
+ghost-next g a = OpenedFile a._said.now.0.now (done_or_error a._said.now.1.now) ∷ a.self.now.calls

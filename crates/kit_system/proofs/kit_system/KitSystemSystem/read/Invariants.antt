@@ -1,0 +1,10 @@
+-- One more call.
+use Rattle.std.specs.Prelude.{◌∷◌, length, take}
+use Rattle.system.specs.Answers.{answer_as}
+use Rattle.system.specs.SystemCalls.{ReadOn}
+use Rattle.kit_system.proofs.kit_system.KitSystemSystem.read.Given as goal
+
+-- the calls with this one
+abbrev pub ghost-next : goal.ghost-next
+ghost-next g a = ReadOn (length a._said.now.0.now.before.calls)
+    (answer_as (λ n. take n a._said.now.1.now) a._said.now.2) ∷ a.self.now.calls

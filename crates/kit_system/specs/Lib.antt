@@ -1,0 +1,2 @@
+-- The answers of the kit's files.
+pub mod KitAnswers

@@ -1,0 +1,5 @@
+-- The system's calls on files, with their answers.
+pub mod Answers
+pub mod FileKinds
+pub mod SystemCallCodes
+pub mod SystemCalls
