@@ -1,12 +1,5 @@
 -- What reading an archive's messages, one after another, makes of a builder's draft.
-use Rattle.index_job.proofs.Words.{◌≡◌, ◌∙◌, ◌+◌, ◌≤◌, ◌++◌, ℕ, suc, List, []}
-use Rattle.index_job.proofs.Words.{◌∷◌, length, Option, Some, option_map, unwrap_or, refl, sym, ap, subst, arith}
-use Rattle.index_job.proofs.Words.{append_assoc, append-nil, ⊎_elim, Ok, length-map, map-append, Draft}
-use Rattle.index_job.proofs.Words.{Key, Message, text}
-use Rattle.index_job.proofs.Words.{CutFault, ComingEvents, JobFault, coming_ahead, Heads, AddsMessages, HasDone}
-use Rattle.index_job.proofs.Words.{with_terms}
-use Rattle.index_job.proofs.Words.{with_messages, draft_with_messages, HasTooMany, IsJobFault}
-use Rattle.index_job.proofs.Words.{message_terms}
+use Rattle.index_job.proofs.Words.{◌≡◌, ◌∙◌, ◌+◌, ◌≤◌, ◌++◌, ℕ, suc, List, [], ◌∷◌, length, Option, Some, option_map, unwrap_or, refl, sym, ap, subst, arith, append_assoc, append-nil, ⊎_elim, Ok, length-map, map-append, Draft, Key, Message, text, CutFault, ComingEvents, JobFault, coming_ahead, Heads, AddsMessages, HasDone, with_terms, with_messages, draft_with_messages, HasTooMany, IsJobFault, message_terms}
 use Rattle.std.proofs.lemmas.List.{length-append}
 use Rattle.index_job.specs.declared.archive_reading.Heading.TheVariants as heading
 use Rattle.index_job.proofs.Terms.{with_terms-more}

@@ -1,6 +1,5 @@
 -- A text of spaces and control characters has no words, because none of these is a word character.
-use Rattle.index_job.proofs.Words.{◌≡◌, ◌≤◌, ◌∙◌, ℕ, List, [], ◌∷◌, refl, sym, ap, arith, IsAscii, nat_tests}
-use Rattle.index_job.proofs.Words.{words, Draft, TextKind, text_terms, draft_with_terms}
+use Rattle.index_job.proofs.Words.{◌≡◌, ◌≤◌, ◌∙◌, ℕ, List, [], ◌∷◌, refl, sym, ap, arith, IsAscii, nat_tests, words, Draft, TextKind, text_terms, draft_with_terms}
 use Rattle.std.proofs.Common.{true, false}
 use Rattle.std.proofs.lemmas.Str.{chars-IsAscii}
 use Rattle.std.proofs.lemmas.Str.Ascii.{IsAscii-nil, IsAscii-cons}
@@ -21,7 +20,7 @@ blank-passed : (bs : List ℕ) → is_blank_text bs ≡ true → after_front is_
 blank-passed [] h = refl
 blank-passed (b ∷ bs) h = grind (arith, nat_tests, blank-other, blank-passed bs)
 
-blank-words : (text : List ℕ) → is_blank_text text ≡ true → words text ≡ []
+pub blank-words : (text : List ℕ) → is_blank_text text ≡ true → words text ≡ []
 blank-words text h =
     sym (words_left-whole text) ∙ ap (words_left false) (chars-IsAscii text (blank-ascii text h))
     ∙ words_left-gaps false text ∙ ap (words_left false) (blank-passed text h) ∙ words_left-end false

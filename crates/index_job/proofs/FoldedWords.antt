@@ -1,10 +1,5 @@
 -- Laws of folded words, one after another in memory, and of their terms.
-use Rattle.index_job.proofs.Words.{◌≡◌, ◌≤◌, ◌<◌, ◌+◌, ℕ, List, [], ◌∷◌, ◌++◌, length, map, take, drop, get_or, refl}
-use Rattle.index_job.proofs.Words.{sym, ap, ap₂, subst, ◌∙◌, arith, IsAscii, length-append, append-nil, Global, String}
-use Rattle.index_job.proofs.Words.{string_bytes, string_len, sum, AllByRecursion, concat, drop_more, map-append, Text}
-use Rattle.index_job.proofs.Words.{TextKind, folding, words, parts_of_lengths, HoldsWords, HasTermLength, Term}
-use Rattle.index_job.proofs.Words.{word_terms}
-use Rattle.index_job.proofs.Words.{text_terms}
+use Rattle.index_job.proofs.Words.{◌≡◌, ◌≤◌, ◌<◌, ◌+◌, ℕ, List, [], ◌∷◌, ◌++◌, length, map, take, drop, get_or, refl, sym, ap, ap₂, subst, ◌∙◌, arith, IsAscii, length-append, append-nil, Global, String, string_bytes, string_len, sum, AllByRecursion, concat, drop_more, map-append, Text, TextKind, folding, words, parts_of_lengths, HoldsWords, HasTermLength, Term, word_terms, text_terms}
 use Rattle.std.proofs.Math.Seq.{take-append_seam, drop-append_seam}
 use Rattle.std.proofs.lemmas.List.Folds.{concat-append}
 use Rattle.std.proofs.lemmas.List.Sums.{sum_by-cons}

@@ -1,6 +1,5 @@
 -- What comes between two messages of a known archive.
-use Rattle.index_job.proofs.Words.{ℕ, List, [], ◌∷◌, Option, None, Some, refl, arith, Message, CutFault, Start, Done}
-use Rattle.index_job.proofs.Words.{ComingEvents, TakesKnown, coming_ahead, Heads}
+use Rattle.index_job.proofs.Words.{ℕ, List, [], ◌∷◌, Option, None, Some, refl, arith, Message, CutFault, Start, Done, ComingEvents, TakesKnown, coming_ahead, Heads}
 use Rattle.index_job.specs.declared.archive_reading.Heading.TheVariants as heading
 
 -- if a message begins, it is the first of those that were to come

@@ -3,6 +3,7 @@ pub mod Words
 pub mod Terms
 pub mod FoldedWords
 pub mod BlankTexts
+pub mod JoinedLines
 pub mod Gatherings
 pub mod ReadingLines
 pub mod SourceReads

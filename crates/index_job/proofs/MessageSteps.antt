@@ -1,14 +1,5 @@
 -- What reading a whole message makes of a builder's draft.
-use Rattle.index_job.proofs.Words.{◌≡◌, ◌∙◌, ◌+◌, ◌++◌, false, ℕ, nat_eq, if◌then◌else◌, List, [], ◌∷◌}
-use Rattle.index_job.proofs.Words.{Option, refl, sym, subst, arith, Result, Ok, Err, IfErr, OnOk, fields_of, Record}
-use Rattle.index_job.proofs.Words.{Draft}
-use Rattle.index_job.proofs.Words.{end_of, IsInArchive, Message, text, size, span_length, ComingEvents, Facts}
-use Rattle.index_job.proofs.Words.{MessageText}
-use Rattle.index_job.proofs.Words.{facts_of, texts_of_message, JobFault, Span, Awaited, HasReadAll, IsMessageFault}
-use Rattle.index_job.proofs.Words.{AddsMessage, HasGathered, IsGatherFault, with_texts, draft_with_terms}
-use Rattle.index_job.proofs.Words.{draft_with_messages, draft_in_message, HasTooMany, IsReadyForMessage, IsOpenAt}
-use Rattle.index_job.proofs.Words.{IsJobFault, IsArchiveFault, ended_with, Term, text_terms}
-use Rattle.index_job.proofs.Words.{message_terms}
+use Rattle.index_job.proofs.Words.{◌≡◌, ◌∙◌, ◌+◌, ◌++◌, false, ℕ, nat_eq, if◌then◌else◌, List, [], ◌∷◌, Option, refl, sym, subst, arith, Result, Ok, Err, IfErr, OnOk, fields_of, Record, Draft, end_of, IsInArchive, Message, text, size, span_length, ComingEvents, Facts, MessageText, facts_of, texts_of_message, JobFault, Span, Awaited, HasReadAll, IsMessageFault, AddsMessage, HasGathered, IsGatherFault, with_texts, draft_with_terms, draft_with_messages, draft_in_message, HasTooMany, IsReadyForMessage, IsOpenAt, IsJobFault, IsArchiveFault, ended_with, Term, text_terms, message_terms}
 use Rattle.index_job.proofs.Terms.{with_terms-append}
 use Rattle.index_job.proofs.ReadingLines.{gather-own, gather-is-job}
 use Rattle.std.specs.List.{flat_map}

@@ -1,9 +1,5 @@
 -- The table of archives has the numbers of the messages at their terms, and is the only such table.
-use Rattle.index_job.proofs.Words.{◌≡◌, ◌∙◌, ℕ, suc, ◌<◌, ◌≤◌, Bool, true, false, cond, nat_eq, nat_lt, ◌&&◌, List, []}
-use Rattle.index_job.proofs.Words.{◌∷◌, ◌++◌, length, map, refl, sym, ap, ap₂, arith, append-nil, append_assoc}
-use Rattle.index_job.proofs.Words.{bytes_eq, AllByRecursion, nat_tests, Key, KeyBefore, AllNext, newest, IsKey}
-use Rattle.index_job.proofs.Words.{with_pair, Message, text, Mbox, all_messages, table, with_terms, with_messages, Term}
-use Rattle.index_job.proofs.Words.{message_terms}
+use Rattle.index_job.proofs.Words.{◌≡◌, ◌∙◌, ℕ, suc, ◌<◌, ◌≤◌, Bool, true, false, cond, nat_eq, nat_lt, ◌&&◌, List, [], ◌∷◌, ◌++◌, length, map, refl, sym, ap, ap₂, arith, append-nil, append_assoc, bytes_eq, AllByRecursion, nat_tests, Key, KeyBefore, AllNext, newest, IsKey, with_pair, Message, text, Mbox, all_messages, table, with_terms, with_messages, Term, message_terms}
 use Rattle.std.specs.Prelude.{◌≢◌, filter}
 use Rattle.std.specs.List.{enumerate_from}
 use Rattle.std.specs.declared.cmp.Ordering.{Ordering}

@@ -1,10 +1,5 @@
 -- The lines of a message, as its archive gives them and as they are gathered.
-use Rattle.index_job.proofs.Words.{still_known, ◌≡◌, ◌∙◌, ◌++◌, ℕ, List, [], ◌∷◌, Option, Some, sym, ap, subst}
-use Rattle.index_job.proofs.Words.{append_assoc, append-nil, arith, Draft, text, size, span_length, CutFault, Line, End}
-use Rattle.index_job.proofs.Words.{ComingEvents, TakesKnown, MessageText, texts_of_message, Ended, JobFault, Awaited}
-use Rattle.index_job.proofs.Words.{coming_inside, coming_between, IsReading, HasReadAll, IsMessageFault, HasGathered}
-use Rattle.index_job.proofs.Words.{IsGatherFault, with_texts, draft_with_terms, RefusesTerms, IsJobFault}
-use Rattle.index_job.proofs.Words.{IsArchiveFault, message_terms}
+use Rattle.index_job.proofs.Words.{still_known, ◌≡◌, ◌∙◌, ◌++◌, ℕ, List, [], ◌∷◌, Option, Some, sym, ap, subst, append_assoc, append-nil, arith, Draft, text, size, span_length, CutFault, Line, End, ComingEvents, TakesKnown, MessageText, texts_of_message, Ended, JobFault, Awaited, coming_inside, coming_between, IsReading, HasReadAll, IsMessageFault, HasGathered, IsGatherFault, with_texts, draft_with_terms, RefusesTerms, IsJobFault, IsArchiveFault, message_terms}
 use Rattle.index_job.proofs.Gatherings.{texts-fail}
 use Rattle.contract_words.proofs.StillKnown.{still-other}
 

@@ -1,8 +1,5 @@
 -- Reads of a cutter's source, one after another, up to the archive's end.
-use Rattle.index_job.proofs.Words.{◌≡◌, ◌∙◌, Bool, true, false, refl, sym, ap, subst, arith, Result, Ok, Err, CutFault}
-use Rattle.index_job.proofs.Words.{Event, Progress, Advances, ComingEvents, Line, TakesKnown, event_with_line}
-use Rattle.index_job.proofs.Words.{still_known}
-use Rattle.index_job.proofs.Words.{JobFault, ReadsSource, is_source_failure, Option}
+use Rattle.index_job.proofs.Words.{◌≡◌, ◌∙◌, Bool, true, false, refl, sym, ap, subst, arith, Result, Ok, Err, CutFault, Event, Progress, Advances, ComingEvents, Line, TakesKnown, event_with_line, still_known, JobFault, ReadsSource, is_source_failure, Option}
 use Rattle.std.specs.Borrow.{MutBor}
 use Rattle.mbox_cutter.specs.declared.device.Source.{Ghosts}
 use Rattle.mbox_cutter.specs.declared.event.CutFault.TheVariants as cut

@@ -1,11 +1,5 @@
 -- What adding terms makes of a builder's draft.
-use Rattle.index_job.proofs.Words.{◌≡◌, ◌<◌, ◌≤◌, ℕ, zero, Bor, List, [], ◌∷◌, ◌++◌, length}
-use Rattle.index_job.proofs.Words.{refl, ap, ◌∙◌, sym, subst, arith, suc, drop, take, map, append_assoc, get_or}
-use Rattle.index_job.proofs.Words.{◌+◌, Vec, BuildFault, Global, AllByRecursion, drop_more, map-append}
-use Rattle.index_job.proofs.Words.{length-map, length-take-le, LinkId, Text, TextKind, Key, Draft, with_pair}
-use Rattle.index_job.proofs.Words.{draft_with_key}
-use Rattle.index_job.proofs.Words.{IsBuildRefusal, with_terms, draft_with_terms, IsFaultOfAdding}
-use Rattle.index_job.proofs.Words.{RefusesTerms, Term, link_terms, word_terms, HasTermLength}
+use Rattle.index_job.proofs.Words.{◌≡◌, ◌<◌, ◌≤◌, ℕ, zero, Bor, List, [], ◌∷◌, ◌++◌, length, refl, ap, ◌∙◌, sym, subst, arith, suc, drop, take, map, append_assoc, get_or, ◌+◌, Vec, BuildFault, Global, AllByRecursion, drop_more, map-append, length-map, length-take-le, LinkId, Text, TextKind, Key, Draft, with_pair, draft_with_key, IsBuildRefusal, with_terms, draft_with_terms, IsFaultOfAdding, RefusesTerms, Term, link_terms, word_terms, HasTermLength}
 use Rattle.mail_index.specs.declared.kind.Kind.{Kind}
 use Rattle.mail_index.specs.Builders.{HasPair}
 use Rattle.mail_index.proofs.BuildLaws.HadPairs.{with_pair-had}
@@ -48,7 +42,7 @@ pub joined : (ts us : List Term) (d : Draft) → draft_with_terms (ts ++ us) d
 joined ts us d = grind (arith, with_terms-append)
 
 -- a draft with too many keys has too many with more terms, too
-still-fails : (us : List Term) (d : Draft) (fault : BuildFault) → IsFaultOfAdding d fault
+pub still-fails : (us : List Term) (d : Draft) (fault : BuildFault) → IsFaultOfAdding d fault
     → IsFaultOfAdding (draft_with_terms us d) fault
 still-fails us d fault h = grind (arith, with_terms-more)
 

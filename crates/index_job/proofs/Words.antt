@@ -1,37 +1,25 @@
 -- The names of std and of the definitions that proofs use, all from one place.
 pub use Rattle.contract_words.specs.Knowledge.{still_known}
-pub use Rattle.header_text.specs.Headers.{HeaderField, continued_and_fields, field_of_line, header, lines_before_empty}
-pub use Rattle.header_text.specs.Headers.{lines_within, most_in_header, with_continuations}
+pub use Rattle.header_text.specs.Headers.{HeaderField, continued_and_fields, field_of_line, header, lines_before_empty, lines_within, most_in_header, with_continuations}
 unfoldable pub use Rattle.header_text.specs.Headers.{fields_of}
 pub use Rattle.index_job.specs.ArchiveRefusals.{AreSound, IsTooMuch}
-pub use Rattle.index_job.specs.ArchiveTables.{Mbox, all_messages, date_in_field, entry_of_archive, messages_in}
-pub use Rattle.index_job.specs.ArchiveTables.{record_of}
-pub use Rattle.index_job.specs.ArchiveTables.{records_from, table, with_messages, with_terms}
+pub use Rattle.index_job.specs.ArchiveTables.{Mbox, all_messages, date_in_field, entry_of_archive, messages_in, record_of, records_from, table, with_messages, with_terms}
 pub use Rattle.index_job.specs.IndexJobs.{IsAddFault, IsAdded}
-pub use Rattle.index_job.specs.Indexing.{HasTooMany, IsArchiveFault, IsIdle, IsJobFault}
-pub use Rattle.index_job.specs.Indexing.{IsOpenAt, IsReadyForMessage, IsFaultOfAdding, RefusesTerms, draft_of_archives}
-pub use Rattle.index_job.specs.Indexing.{draft_with_messages, draft_with_terms}
-pub use Rattle.index_job.specs.Inside.ArchiveReading.{AddsMessage, AddsMessages, Awaited, HasDone, HasEnded, HasReadAll}
-pub use Rattle.index_job.specs.Inside.ArchiveReading.{Heads, IsHeading, IsInsideMessage, IsMessageFault, IsReading}
-pub use Rattle.index_job.specs.Inside.ArchiveReading.{IsReadingSome, coming_ahead, coming_between}
-pub use Rattle.index_job.specs.Inside.ArchiveReading.{coming_inside}
+pub use Rattle.index_job.specs.Indexing.{HasTooMany, IsArchiveFault, IsIdle, IsJobFault, IsOpenAt, IsReadyForMessage, IsFaultOfAdding, RefusesTerms, draft_of_archives, draft_with_messages, draft_with_terms}
+pub use Rattle.index_job.specs.Inside.ArchiveReading.{AddsMessage, AddsMessages, Awaited, HasDone, HasEnded, HasReadAll, Heads, IsHeading, IsInsideMessage, IsMessageFault, IsReading, IsReadingSome, coming_ahead, coming_between, coming_inside}
 pub use Rattle.index_job.specs.Inside.FoldedWords.{HoldsWords, parts_of_lengths}
 pub use Rattle.index_job.specs.Inside.Gathering.{HasGathered, IsGatherFault, with_texts}
 pub use Rattle.index_job.specs.Inside.MessageEnds.{ended_with}
+pub use Rattle.index_job.specs.Inside.WaitingLines.{with_waiting}
 pub use Rattle.index_job.specs.JobFaults.{is_source_failure, of_text}
-pub use Rattle.index_job.specs.MessageTerms.{HasTermLength, Term, id_terms, link_terms, message_terms, own_id_terms}
-pub use Rattle.index_job.specs.MessageTerms.{text_terms, word_terms}
+pub use Rattle.index_job.specs.MessageTerms.{HasTermLength, Term, id_terms, link_terms, message_terms, own_id_terms, text_terms, word_terms}
 pub use Rattle.index_job.specs.declared.archive_reading.Ended.{Ended}
 pub use Rattle.index_job.specs.declared.archive_reading.ReadArchive.{ReadArchive}
 pub use Rattle.index_job.specs.declared.job_fault.JobFault.{JobFault}
 pub use Rattle.index_job.specs.declared.message_end.Span.{Span}
-pub use Rattle.mail_index.specs.Builders.{Draft, IsInArchive, IsInMessage, IsWithinMost, draft_with_key}
-pub use Rattle.mail_index.specs.Builders.{draft_in_archive, draft_in_message, end_of, draft_after_archive}
-pub use Rattle.mail_index.specs.Builders.{IsBuildRefusal}
-pub use Rattle.mail_index.specs.Builders.{with_pair}
+pub use Rattle.mail_index.specs.Builders.{Draft, IsInArchive, IsInMessage, IsWithinMost, draft_with_key, draft_in_archive, draft_in_message, end_of, draft_after_archive, IsBuildRefusal, with_pair}
 pub use Rattle.mail_index.specs.Limits.{most_in_archive, most_in_index}
-pub use Rattle.mail_index.specs.Tables.{AllNext, Archive, Follows, IsArchive, IsKey, IsMessage, IsPath, IsWellFormed}
-pub use Rattle.mail_index.specs.Tables.{Key, KeyBefore, archive_length}
+pub use Rattle.mail_index.specs.Tables.{AllNext, Archive, Follows, IsArchive, IsKey, IsMessage, IsPath, IsWellFormed, Key, KeyBefore, archive_length}
 pub use Rattle.mail_index.specs.Versions.{newest}
 pub use Rattle.mail_index.specs.declared.build.build_fault.BuildFault.{BuildFault}
 pub use Rattle.mail_index.specs.declared.build.build_fault.BuildFault.TheVariants.{OutOfMemory}
@@ -41,9 +29,7 @@ pub use Rattle.mail_words.specs.Folding.{folding}
 pub use Rattle.mail_words.specs.Words.{HasWordLength, range_bytes, word_ranges}
 unfoldable pub use Rattle.mail_words.specs.Words.{words}
 pub use Rattle.mail_words.specs.declared.kind.TextKind.{TextKind}
-pub use Rattle.mbox_cutter.specs.Archives.{Message, grouped_lines, is_refused, marked_lines, messages_from, size}
-pub use Rattle.mbox_cutter.specs.Archives.{span_length, text}
-pub use Rattle.mbox_cutter.specs.Archives.{total, without_closing}
+pub use Rattle.mbox_cutter.specs.Archives.{Message, grouped_lines, is_refused, marked_lines, messages_from, size, span_length, text, total, without_closing}
 unfoldable pub use Rattle.mbox_cutter.specs.Archives.{messages}
 pub use Rattle.mbox_cutter.specs.Coming.{TakesKnown}
 pub use Rattle.mbox_cutter.specs.Events.{ComingEvents, Done, End, Line, Start, coming_of}
@@ -59,13 +45,7 @@ pub use Rattle.mime_text.specs.Sinks.{Breaks, Pair, TakesAll}
 pub use Rattle.mime_text.specs.Texts.{texts_of_message}
 pub use Rattle.mime_text.specs.declared.header.facts.Facts.{Facts}
 pub use Rattle.mime_text.specs.declared.message_text.MessageText.{MessageText}
-pub use Rattle.sha2.specs.Sha256.{sha256}
-pub use Rattle.std.proofs.Common.{All, Bool, Bor, Err, FitsSigned, IfSome, IsAscii, List, None, Ok, Option, Result}
-pub use Rattle.std.proofs.Common.{Some, Vec, [], ap, append-nil, append_assoc, ap₂, arith, cond, drop, encode_utf8_all}
-pub use Rattle.std.proofs.Common.{false, flat_map, get_or, if◌then◌else◌, inl, inr, length, length-append, map, nat_eq}
-pub use Rattle.std.proofs.Common.{nat_le, nat_lt, neg_ℤ, option_map, pos, refl, rules, subst, suc, sym, take, true}
-pub use Rattle.std.proofs.Common.{unwrap_or, w64, zero, ℕ, ℤ, ⊎_elim, ◌%◌, ◌&&◌, ◌*◌, ◌++◌, ◌+ℤ◌, ◌+◌, ◌-ℤ◌, ◌-◌, ◌/◌}
-pub use Rattle.std.proofs.Common.{◌<◌, ◌==◌, ◌^◌, ◌∙◌, ◌∷◌, ◌≡◌, ◌≤◌, ◌⊎◌}
+pub use Rattle.std.proofs.Common.{All, Bool, Bor, Err, FitsSigned, IfSome, IsAscii, List, None, Ok, Option, Result, Some, Vec, [], ap, append-nil, append_assoc, ap₂, arith, cond, drop, encode_utf8_all, false, flat_map, get_or, if◌then◌else◌, inl, inr, length, length-append, map, nat_eq, nat_le, nat_lt, neg_ℤ, option_map, pos, refl, rules, subst, suc, sym, take, true, unwrap_or, w64, zero, ℕ, ℤ, ⊎_elim, ◌%◌, ◌&&◌, ◌*◌, ◌++◌, ◌+ℤ◌, ◌+◌, ◌-ℤ◌, ◌-◌, ◌/◌, ◌<◌, ◌==◌, ◌^◌, ◌∙◌, ◌∷◌, ◌≡◌, ◌≤◌, ◌⊎◌}
 pub use Rattle.std.proofs.lemmas.Bool.{and_parts, cases_lt, leb-true, ltb-false, ltb-true}
 pub use Rattle.std.proofs.lemmas.Bool.Decides.{nat_tests}
 pub use Rattle.std.proofs.lemmas.Grind.{flat_map-append}

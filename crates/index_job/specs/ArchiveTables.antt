@@ -3,8 +3,10 @@ use Rattle.std.specs.Prelude.{ℕ, suc, ℤ, List, [], ◌∷◌, ◌++◌, leng
 use Rattle.sha2.specs.Sha256.{sha256}
 use Rattle.header_text.specs.Headers.{fields_of}
 use Rattle.mail_dates.specs.HeaderDates.{date_of}
+use Rattle.mail_index.specs.declared.digests.Digests.{Digests}
 use Rattle.mail_index.specs.declared.record.Record.{Record}
 use Rattle.mail_index.specs.Builders.{with_pair}
+use Rattle.mail_index.specs.Files.{digest_or_zeros}
 use Rattle.mail_index.specs.Versions.{newest}
 use Rattle.mail_index.specs.Tables.{Archive, Key, Table}
 use Rattle.mbox_cutter.specs.Archives.{Message, messages, text, size, span_length}
@@ -78,3 +80,13 @@ table archives = record {
   messages = records_from 0 archives;
   keys = with_messages 0 (all_messages archives) [];
 }
+
+-- ---- tables without digests
+
+-- the entry of an archive, with its digest or with zeros in its place
+abbrev pub entry_by : Digests → Mbox → Archive
+entry_by digests a = record (entry_of_archive a) { digest = Some (digest_or_zeros digests a.bytes) }
+
+-- the table of archives, with their digests or without
+abbrev pub table_by : Digests → List Mbox → Table
+table_by digests archives = record (table archives) { archives = map (entry_by digests) archives }

@@ -2,6 +2,7 @@
 use Rattle.std.specs.Prelude.{◌≡◌, ⊤, ℕ, ◌<◌, ◌≤◌, ◌⊎◌, true, false, List, ◌++◌, length, map, Option, None, Some}
 use Rattle.std.specs.Prelude.{Result}
 use Rattle.std.specs.Result.{MatchResult}
+use Rattle.mail_index.specs.declared.digests.Digests.{Digests}
 use Rattle.mail_index.specs.declared.build.build_fault.BuildFault.{BuildFault}
 use Rattle.mail_index.specs.declared.build.build_fault.BuildFault.TheVariants as build
 use Rattle.mail_index.specs.Builders.{Draft, archive_count, end_of, IsBetweenArchives, IsInArchive, IsInMessage}
@@ -11,17 +12,17 @@ use Rattle.mbox_cutter.specs.declared.event.CutFault.{CutFault}
 use Rattle.mbox_cutter.specs.declared.event.CutFault.TheVariants.{Device, NotAnMbox, ArchiveTooLong, Failed}
 use Rattle.index_job.specs.declared.job_fault.JobFault.{JobFault}
 use Rattle.index_job.specs.declared.job_fault.JobFault.TheVariants as job
-use Rattle.index_job.specs.ArchiveTables.{Mbox, record_of, with_terms, with_messages, table}
+use Rattle.index_job.specs.ArchiveTables.{Mbox, record_of, with_terms, with_messages, table_by}
 use Rattle.mail_index.specs.Limits.{most_in_index}
 use Rattle.index_job.specs.MessageTerms.{Term}
 
--- the draft of archives that have all ended
-abbrev pub draft_of_archives : List Mbox → Draft
-draft_of_archives archives = record {
+-- the draft of archives that have all ended, with their digests or without
+abbrev pub draft_of_archives : Digests → List Mbox → Draft
+draft_of_archives digests archives = record {
   most = most_in_index;
   path = None;
   in_message = false;
-  table = table archives;
+  table = table_by digests archives;
   failed = false;
 }
 

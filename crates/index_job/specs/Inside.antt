@@ -3,4 +3,5 @@ pub mod ArchiveReading
 pub mod BlankTexts
 pub mod FoldedWords
 pub mod Gathering
+pub mod WaitingLines
 pub mod MessageEnds

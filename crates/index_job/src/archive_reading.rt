@@ -2,9 +2,11 @@
 ghost use Rattle.std.specs.Prelude.{◌≡◌, ◌<◌, ◌+◌, ◌-◌, ◌^◌, true, false, ℕ, List, Option, Some, Err, IfOk, IfErr, OnOk, length, IsSome};
 ghost use Rattle.std.specs.Io.KnownBytes.{IsAtEnd};
 ghost use Rattle.std.specs.Option.{MatchOption};
+ghost use Rattle.sha2.specs.Sha256.{sha256};
 ghost use Rattle.contract_words.specs.Devices.{Counted};
 ghost use Rattle.contract_words.specs.Knowledge.{still_known};
 ghost use Rattle.mail_index.specs.Builders.{Draft, IsInMessage};
+ghost use Rattle.mail_index.specs.Files.{digest_or_zeros};
 ghost use Rattle.mail_index.specs.Tables.{IsPath};
 ghost use Rattle.mbox_cutter.specs.Archives.{Message, messages as messages_of, text as text_of};
 ghost use Rattle.mbox_cutter.specs.Sources.{ReadsSource, Stays};
@@ -14,16 +16,17 @@ ghost use Rattle.mbox_cutter.specs.declared.scan.Phase.TheVariants as Phase;
 ghost use Rattle.mail_index.specs.Limits.{most_in_archive};
 ghost use Rattle.index_job.specs.Inside.ArchiveReading.{Awaited, AwaitsEnd, AddsMessages, coming_inside, coming_ahead, IsHeading, Heads, ReadsToEnd, AddsMessage, IsInsideMessage, GoesFurther, HasEnded, IsReading, HasReadAll, IsMessageFault};
 ghost use Rattle.index_job.specs.Inside.Gathering.{HasGathered};
+ghost use Rattle.index_job.specs.Inside.WaitingLines.{with_waiting};
 ghost use Rattle.index_job.specs.ArchiveTables.{Mbox};
-ghost use Rattle.index_job.specs.IndexJobs.{IsIndexOf, IsAdded, IsAddFault};
-ghost use Rattle.index_job.specs.Indexing.{IsArchiveFault, IsIdle, IsJobFault, IsReadyForMessage};
+ghost use Rattle.index_job.specs.IndexJobs.{IsAdded, IsAddFault};
+ghost use Rattle.index_job.specs.Indexing.{draft_of_archives, IsArchiveFault, IsIdle, IsJobFault, IsReadyForMessage};
 ghost use Rattle.index_job.specs.JobFaults.{is_source_failure};
 
 use crate::folding_room::FoldingRoom;
 use crate::gathering::feed_line;
 use crate::job_fault::JobFault;
 use crate::message_end::{Span, finish_message};
-use mail_index::Builder;
+use mail_index::{Builder, Digests, NO_DIGEST};
 use mbox_cutter::{Buffer, Cutter, Digested, Event, Source};
 use mime_text::MessageText;
 use std::alloc::Global;
@@ -97,20 +100,23 @@ fn next_line<'a, S: Source>(
     ensures place { IfOk result (λ end. MatchOption end (IsInsideMessage start cutter.new.place)
         (λ e. HasEnded start e cutter.new.place)) }
     ensures gathers { OnOk result ((d : Draft) (ls : List (List ℕ))
-        → HasGathered text.old builder.old d ls
-        → (ms : List (List ℕ)) × HasGathered text.new builder.new d ms) }
+        → HasGathered text.old (with_waiting room.old.waiting builder.old) d ls
+        → (ms : List (List ℕ))
+        × HasGathered text.new (with_waiting room.new.waiting builder.new) d ms) }
     ensures known { IfOk result (λ end. (d : Draft) (w : Awaited) (ls rest : List (List ℕ))
-        → IsReading d w ls rest text.old builder.old
+        → IsReading d w ls rest text.old (with_waiting room.old.waiting builder.old)
         (still_known cutter.old.coming (S.rest cutter.new.source.now))
-        → MatchOption end ((more left : List (List ℕ))
-        × IsReading d w more left text.new builder.new cutter.new.coming)
-        (λ e. HasReadAll d w e text.new builder.new cutter.new.coming)) }
-    ensures fault { IfErr result (λ fault. (d : Draft) (w : Awaited)
-        (ls rest : List (List ℕ)) → IsReading d w ls rest text.old builder.old
+        → MatchOption end ((more left : List (List ℕ)) × IsReading d w more left text.new
+        (with_waiting room.new.waiting builder.new) cutter.new.coming)
+        (λ e. HasReadAll d w e text.new (with_waiting room.new.waiting builder.new)
+        cutter.new.coming)) }
+    ensures fault { IfErr result (λ fault. (d : Draft) (w : Awaited) (ls rest : List (List ℕ))
+        → IsReading d w ls rest text.old (with_waiting room.old.waiting builder.old)
         (still_known cutter.old.coming (S.rest cutter.new.source.now))
         → IsMessageFault d w fault) }
     ensures own { IfErr result (λ fault. (d : Draft) (ls : List (List ℕ))
-        → HasGathered text.old builder.old d ls → IsArchiveFault fault) }
+        → HasGathered text.old (with_waiting room.old.waiting builder.old) d ls
+        → IsArchiveFault fault) }
 {
     match cutter.next_event()? {
         Event::Line => {
@@ -150,6 +156,8 @@ fn add_message<'a, S: Source>(
 {
     builder.begin_message()?;
     text.begin_again();
+    // Only after a fault are there lines of another message.
+    room.waiting.clear();
     'lines: loop {
         if let Some(Ended { length, size }) = next_line(cutter, text, room, builder, offset)? {
             let span = Span {
@@ -244,29 +252,102 @@ fn source_of<'a, S: Source>(cutter: Cutter<'a, S>, kept: &mut Option<Buffer>) ->
     source
 }
 
-/// Adds an archive, with the digest of the bytes that one read of its source gives, and returns the number of its
-/// messages. After a fault the builder may have a part of the archive.
+/// Does what `read_archive` does, and returns the digest of all bytes that the one read of the source gives.
+fn read_digested<S: Source>(
+    alloc: Global,
+    source: &mut S,
+    kept: &mut Option<Buffer>,
+    room: &mut FoldingRoom,
+    builder: &mut Builder,
+    archive: u32,
+) -> (Result<ReadArchive, JobFault>, [u8; 32])
+    requires count { S.failures source.old < 2 ^ 64 - 1 }
+    requires ready { IsReadyForMessage archive 0 builder.old }
+    ensures stays { Stays S.Source source.old source.new }
+    ensures count { Counted (is_source_failure result.0) (S.failures source.old)
+        (S.failures source.new) }
+    ensures ended { IfOk result.0 (λ read. AwaitsEnd archive (S.rest source.new) read.length
+        builder.new) }
+    ensures known { (bytes : List ℕ)
+        → still_known (S.rest source.old) (S.rest source.new) ≡ Some bytes
+        → AddsMessages archive builder.old (length bytes) (messages_of bytes)
+        (archive_refusal most_in_archive bytes) result.0 builder.new }
+    ensures digest { OnOk result.0 ((bytes : List ℕ)
+        → still_known (S.rest source.old) (S.rest source.new) ≡ Some bytes
+        → result.1 ≡ sha256 bytes) }
+    ensures own { IfErr result.0 IsArchiveFault }
+{
+    let mut digested = Digested::new(source);
+    let read = read_archive(alloc, &mut digested, kept, room, builder, archive);
+    (read, digested.finish())
+}
+
+/// An archive that is added: its path, its number, and whether its digest is computed.
+#[derive(Clone, Copy)]
+pub(crate) struct NewArchive<'a> {
+    pub(crate) path: &'a str,
+    pub(crate) number: u32,
+    pub(crate) digests: Digests,
+}
+
+/// Does what `read_archive` does, and returns what the archive's entry has for a digest.
+fn read_for_entry<S: Source>(
+    alloc: Global,
+    source: &mut S,
+    kept: &mut Option<Buffer>,
+    room: &mut FoldingRoom,
+    builder: &mut Builder,
+    archive: NewArchive<'_>,
+) -> (Result<ReadArchive, JobFault>, [u8; 32])
+    requires count { S.failures source.old < 2 ^ 64 - 1 }
+    requires ready { IsReadyForMessage archive.number 0 builder.old }
+    ensures stays { Stays S.Source source.old source.new }
+    ensures count { Counted (is_source_failure result.0) (S.failures source.old)
+        (S.failures source.new) }
+    ensures ended { IfOk result.0 (λ read. AwaitsEnd archive.entry.number (S.rest source.new)
+        read.length builder.new) }
+    ensures known { (bytes : List ℕ)
+        → still_known (S.rest source.old) (S.rest source.new) ≡ Some bytes
+        → AddsMessages archive.entry.number builder.old (length bytes) (messages_of bytes)
+        (archive_refusal most_in_archive bytes) result.0 builder.new }
+    ensures digest { OnOk result.0 ((bytes : List ℕ)
+        → still_known (S.rest source.old) (S.rest source.new) ≡ Some bytes
+        → result.1 ≡ digest_or_zeros archive.entry.digests bytes) }
+    ensures own { IfErr result.0 IsArchiveFault }
+{
+    let number = archive.number;
+    match archive.digests {
+        Digests::Computed => read_digested(alloc, source, kept, room, builder, number),
+        Digests::LeftOut => {
+            let read = read_archive(alloc, source, kept, room, builder, number);
+            (read, NO_DIGEST)
+        }
+    }
+}
+
+/// Adds an archive by one read of its source, and returns the number of its messages. After a fault the builder may
+/// have a part of the archive.
 pub(crate) fn add_archive<S: Source>(
     alloc: Global,
     source: &mut S,
     kept: &mut Option<Buffer>,
     room: &mut FoldingRoom,
     builder: &mut Builder,
-    path: &str,
-    archive: u32,
+    archive: NewArchive<'_>,
 ) -> Result<u64, JobFault>
     requires count { S.failures source.old < 2 ^ 64 - 1 }
-    requires idle { builder.old.failed ≡ false → IsIdle archive builder.old }
-    requires path { IsPath path.now }
+    requires idle { builder.old.failed ≡ false → IsIdle archive.number builder.old }
+    requires path { IsPath archive.path.now }
     ensures ok { IfOk result (λ n. (before : List Mbox) (bytes : List ℕ)
-        → IsIndexOf builder.old before
+        → builder.old ≡ draft_of_archives archive.entry.digests before
         → still_known (S.rest source.old) (S.rest source.new) ≡ Some bytes
-        → IsAdded before (record { path = path.now; bytes = bytes }) n builder.new) }
+        → IsAdded before (record { path = archive.entry.path.now; bytes = bytes }) n
+        (record { digests = archive.entry.digests; draft = builder.new })) }
     ensures err { IfErr result (λ fault. (before : List Mbox) (bytes : List ℕ)
-        → IsIndexOf builder.old before
+        → builder.old ≡ draft_of_archives archive.entry.digests before
         → still_known (S.rest source.old) (S.rest source.new) ≡ Some bytes
-        → IsAddFault before (record { path = path.now; bytes = bytes }) fault) }
-    ensures idle { OnOk result (IsIdle (archive + 1) builder.new) }
+        → IsAddFault before (record { path = archive.entry.path.now; bytes = bytes }) fault) }
+    ensures idle { OnOk result (IsIdle (archive.entry.number + 1) builder.new) }
     ensures end { OnOk result (IsAtEnd (S.rest source.new)) }
     ensures stays { Stays S.Source source.old source.new }
     ensures count { Counted (is_source_failure result) (S.failures source.old)
@@ -275,16 +356,9 @@ pub(crate) fn add_archive<S: Source>(
     ensures failed { builder.old.failed ≡ true → (result ≡ Err JobFault.Failed)
         × (source.new ≡ source.old) }
 {
-    builder.begin_archive(path)?;
-    let mut digested = Digested::new(source);
-    let ReadArchive { messages, length } = read_archive(
-        alloc,
-        &mut digested,
-        kept,
-        room,
-        builder,
-        archive,
-    )?;
-    builder.end_archive(length, digested.finish())?;
+    builder.begin_archive(archive.path)?;
+    let (read, digest) = read_for_entry(alloc, source, kept, room, builder, archive);
+    let ReadArchive { messages, length } = read?;
+    builder.end_archive(length, digest)?;
     Ok(messages)
 }

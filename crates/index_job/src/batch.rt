@@ -9,7 +9,7 @@ use mail_words::TextKind;
 use std::marker::Model;
 
 /// The most words of a batch. Their keys come from memory together, in about the time of one.
-const MOST_WAITING: usize = 8;
+const MOST_WAITING: usize = 24;
 
 /// Folded words whose keys are fetched from memory together, before any of the words is added. Takes no memory of its
 /// own.

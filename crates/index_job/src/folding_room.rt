@@ -9,31 +9,35 @@ ghost use Rattle.index_job.specs.Inside.FoldedWords.{parts_of_lengths, HoldsWord
 ghost use Rattle.index_job.specs.MessageTerms.{word_terms, HasTermLength};
 
 use crate::batch::Batch;
+use crate::waiting_lines::WaitingLines;
 use mail_index::{BuildFault, Builder};
 use mail_words::{TextKind, Words, fold_onto};
 use std::alloc::{AllocError, Global};
 
-/// Memory for folding a text. The bytes that it has of one text mean nothing for the next.
+/// Memory for folding texts, and the waiting lines of the open message.
 #[derive(Drop)]
 pub(crate) struct FoldingRoom {
-    // Either a whole text of ASCII, folded; or the words of any other text, each folded, one after another.
+    // Either a text, folded as a whole; or its words, each folded, one after another. Means nothing for the next text.
     pub(crate) folded: String,
     // The number of bytes of each of these words.
     pub(crate) lengths: Vec<usize>,
+    pub(crate) waiting: WaitingLines,
 }
 
 impl FoldingRoom {
-    /// Returns an empty room. Takes no memory.
-    pub(crate) fn new(alloc: Global) -> Self {
-        FoldingRoom {
+    /// Returns an empty room. Takes the memory for waiting lines.
+    pub(crate) fn new(alloc: Global) -> Result<Self, AllocError> {
+        Ok(FoldingRoom {
             folded: String::new(alloc),
             lengths: Vec::new(alloc),
-        }
+            waiting: WaitingLines::new(alloc)?,
+        })
     }
 
     /// Folds each word of a text, and drops what the room had before.
     pub(crate) fn fold_words(&mut self, text: &str) -> Result<(), AllocError>
-        ensures { OnOk result (HoldsWords self.new (map folding (words text.now))) }
+        ensures folded { OnOk result (HoldsWords self.new (map folding (words text.now))) }
+        ensures waiting { self.new.waiting ≡ self.old.waiting }
     {
         self.folded.clear();
         self.lengths.clear();
@@ -46,8 +50,9 @@ impl FoldingRoom {
     /// Folds a word, and appends it to the others.
     fn fold_word(&mut self, word: &str) -> Result<(), AllocError>
         requires { HasWordLength word.now }
-        ensures { OnOk result ((ws : List (List ℕ)) → HoldsWords self.old ws
+        ensures folded { OnOk result ((ws : List (List ℕ)) → HoldsWords self.old ws
             → HoldsWords self.new (ws ++ folding word.now ∷ [])) }
+        ensures waiting { self.new.waiting ≡ self.old.waiting }
     {
         let start = self.folded.len();
         fold_onto(word, &mut self.folded)?;

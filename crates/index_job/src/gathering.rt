@@ -7,6 +7,7 @@ ghost use Rattle.mime_text.specs.MessageFacts.{HasSizedIds, facts_of};
 ghost use Rattle.mime_text.specs.Texts.{texts_of_message};
 ghost use Rattle.index_job.specs.JobFaults.{of_text};
 ghost use Rattle.index_job.specs.Inside.Gathering.{HasGathered, IsGatherFault, with_texts};
+ghost use Rattle.index_job.specs.Inside.WaitingLines.{with_waiting};
 
 use crate::folding_room::FoldingRoom;
 use crate::term_sink::TermSink;
@@ -23,10 +24,11 @@ pub(crate) fn feed_line(
     requires line { IsLine line.now }
     requires phase { IsInMessage builder.old }
     ensures ok { OnOk result ((ls : List (List ℕ)) (d : Draft)
-        → HasGathered text.old builder.old d ls
-        → HasGathered text.new builder.new d (ls ++ line.now ∷ [])) }
+        → HasGathered text.old (with_waiting room.old.waiting builder.old) d ls
+        → HasGathered text.new (with_waiting room.new.waiting builder.new) d
+        (ls ++ line.now ∷ [])) }
     ensures err { IfErr result (λ fault. (ls ms : List (List ℕ)) (d : Draft)
-        → HasGathered text.old builder.old d ls
+        → HasGathered text.old (with_waiting room.old.waiting builder.old) d ls
         → IsGatherFault (with_texts (texts_of_message (ls ++ line.now ∷ ms)) d) (of_text fault)) }
 {
     let mut terms = TermSink { builder, room };
@@ -42,13 +44,13 @@ pub(crate) fn end_text(
     requires { IsInMessage builder.old }
     ensures sizes { IfOk result HasSizedIds }
     ensures facts { IfOk result (λ facts. (ls : List (List ℕ)) (d : Draft)
-        → HasGathered text.old builder.old d ls
+        → HasGathered text.old (with_waiting room.old.waiting builder.old) d ls
         → facts ≡ facts_of (fields_of ls)) }
     ensures ok { OnOk result ((ls : List (List ℕ)) (d : Draft)
-        → HasGathered text.old builder.old d ls
-        → builder.new ≡ with_texts (texts_of_message ls) d) }
+        → HasGathered text.old (with_waiting room.old.waiting builder.old) d ls
+        → with_waiting room.new.waiting builder.new ≡ with_texts (texts_of_message ls) d) }
     ensures err { IfErr result (λ fault. (ls : List (List ℕ)) (d : Draft)
-        → HasGathered text.old builder.old d ls
+        → HasGathered text.old (with_waiting room.old.waiting builder.old) d ls
         → IsGatherFault (with_texts (texts_of_message ls) d) (of_text fault)) }
 {
     let mut terms = TermSink { builder, room };

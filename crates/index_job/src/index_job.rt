@@ -1,22 +1,21 @@
 //! A job that indexes archives one after another.
 ghost use Rattle.std.specs.Prelude.{◌≡◌, ◌<◌, ◌^◌, ◌-◌, ℕ, List, [], true, false, Some, Err, IfOk, IfErr, OnOk, length};
-ghost use Rattle.std.specs.Result.{MatchResult};
 ghost use Rattle.std.specs.Io.KnownBytes.{Appends, IsAtEnd};
 ghost use Rattle.contract_words.specs.Devices.{Counted, Sends};
 ghost use Rattle.contract_words.specs.Knowledge.{still_known};
 ghost use Rattle.mbox_cutter.specs.Sources.{Stays};
-ghost use Rattle.mail_index.specs.Builders.{is_output_failure, IsLost};
-ghost use Rattle.mail_index.specs.Files.{index_file, HasSmallSections};
+ghost use Rattle.mail_index.specs.Builders.{is_output_failure};
+ghost use Rattle.mail_index.specs.Files.{file_by, HasSmallSections};
 ghost use Rattle.mail_index.specs.Tables.{IsPath, IsWellFormed};
 ghost use Rattle.index_job.specs.ArchiveTables.{Mbox};
-ghost use Rattle.index_job.specs.IndexJobs.{IsIndexOf, IsAdded, IsAddFault};
+ghost use Rattle.index_job.specs.IndexJobs.{GoesOn, IsIndexOf, IsAdded, IsAddFault};
 ghost use Rattle.index_job.specs.Indexing.{IsArchiveFault};
 ghost use Rattle.index_job.specs.JobFaults.{is_source_failure};
 
-use crate::archive_reading::add_archive;
+use crate::archive_reading::{NewArchive, add_archive};
 use crate::folding_room::FoldingRoom;
 use crate::job_fault::JobFault;
-use mail_index::{Builder, WriteFault};
+use mail_index::{Builder, Digests, WriteFault};
 use mbox_cutter::{Buffer, Out, Source};
 use std::alloc::{AllocError, Global};
 use std::marker::Model;
@@ -30,6 +29,7 @@ const MOST_IN_INDEX: u32 = 2_147_483_647;
 #[derive(Drop)]
 pub struct IndexJob {
     alloc: Global,
+    digests: Digests,
     // Both are kept from one archive to the next, so that their memory is used again.
     buffer: Option<Buffer>,
     room: FoldingRoom,
@@ -41,33 +41,35 @@ pub struct IndexJob {
 
 impl Model for IndexJob {
     ghost use Rattle.std.specs.Prelude.{◌≡◌, false};
-    ghost use Rattle.mail_index.specs.Builders.{Draft};
+    ghost use Rattle.index_job.specs.IndexJobs.{Job};
     ghost use Rattle.index_job.specs.Indexing.{IsIdle};
 
-    ghost Value = { Draft };
+    ghost Value = { Job };
 
-    ghost view = { λ s. s.builder };
+    ghost view = { λ s. record { digests = s.digests; draft = s.builder } };
 
     ghost invariant = { λ s. s.builder.failed ≡ false → IsIdle s.archives s.builder };
 }
 
 impl IndexJob {
-    /// Begins a job without archives. Takes the memory that reading needs.
-    pub fn new(alloc: Global) -> Result<Self, AllocError>
-        ensures { IfOk result (λ job. IsIndexOf job []) }
+    /// Begins a job without archives, which computes digests or leaves them out. Takes the memory that reading needs.
+    pub fn new(alloc: Global, digests: Digests) -> Result<Self, AllocError>
+        ensures empty { IfOk result (λ job. IsIndexOf job []) }
+        ensures digests { IfOk result (λ job. job.digests ≡ digests) }
     {
         let buffer = Buffer::new(alloc)?;
         Ok(IndexJob {
             alloc,
+            digests,
             buffer: Some(buffer),
-            room: FoldingRoom::new(alloc),
+            room: FoldingRoom::new(alloc)?,
             builder: Builder::new(alloc, MOST_IN_INDEX),
             archives: 0,
         })
     }
 
     /// Indexes an archive whose path meets [`is_path`](mail_index::is_path), and returns the number of its messages.
-    /// Reads the source once, to its end. The index notes the digest of the bytes that were read.
+    /// Reads the source once, to its end. If digests are computed, the index notes that of the bytes that were read.
     ///
     /// # Errors
     ///
@@ -89,10 +91,9 @@ impl IndexJob {
         ensures stays { Stays S.Source source.old source.new }
         ensures count { Counted (is_source_failure result) (S.failures source.old)
             (S.failures source.new) }
-        ensures own { self.old.failed ≡ false → IfErr result IsArchiveFault }
-        ensures lost { MatchResult result (λ _. self.new.failed ≡ false)
-            (λ _. IsLost self.new) }
-        ensures failed { self.old.failed ≡ true → (result ≡ Err JobFault.Failed)
+        ensures own { self.old.draft.failed ≡ false → IfErr result IsArchiveFault }
+        ensures goes_on { GoesOn result self.old self.new }
+        ensures failed { self.old.draft.failed ≡ true → (result ≡ Err JobFault.Failed)
             × (source.new ≡ source.old) }
     {
         let added = add_archive(
@@ -101,8 +102,11 @@ impl IndexJob {
             &mut self.buffer,
             &mut self.room,
             &mut self.builder,
-            path,
-            self.archives,
+            NewArchive {
+                path,
+                number: self.archives,
+                digests: self.digests,
+            },
         );
         match added {
             Ok(_) => self.archives += 1,
@@ -119,16 +123,16 @@ impl IndexJob {
     /// `Out` if the output fails: then only a beginning of the file was sent. `Failed` if an earlier call has failed.
     pub fn finish<O: Out>(self, out: &mut O) -> Result<u64, WriteFault>
         requires { O.failures out.old < 2 ^ 64 - 1 }
-        ensures formed { IsWellFormed self.table × HasSmallSections self.table }
-        ensures ok { IfOk result (λ n. (n ≡ length (index_file self.table))
-            × Appends (O.taken out.old) (O.taken out.new) (index_file self.table)) }
-        ensures err { self.failed ≡ false → IfErr result (λ fault. (fault ≡ WriteFault.Out)
-            × Sends (O.taken out.old) (O.taken out.new) (index_file self.table)) }
+        ensures formed { IsWellFormed self.draft.table × HasSmallSections self.draft.table }
+        ensures ok { IfOk result (λ n. (n ≡ length (file_by self.digests self.draft.table))
+            × Appends (O.taken out.old) (O.taken out.new) (file_by self.digests self.draft.table)) }
+        ensures err { self.draft.failed ≡ false → IfErr result (λ fault. (fault ≡ WriteFault.Out)
+            × Sends (O.taken out.old) (O.taken out.new) (file_by self.digests self.draft.table)) }
         ensures count { Counted (is_output_failure result) (O.failures out.old)
             (O.failures out.new) }
-        ensures failed { self.failed ≡ true
+        ensures failed { self.draft.failed ≡ true
             → (result ≡ Err WriteFault.Failed) × (out.new ≡ out.old) }
     {
-        self.builder.write(out)
+        self.builder.write(out, self.digests)
     }
 }

@@ -10,6 +10,7 @@ mod job_fault;
 mod laws;
 mod message_end;
 mod term_sink;
+mod waiting_lines;
 
 pub use index_job::IndexJob;
 pub use job_fault::JobFault;

@@ -10,6 +10,7 @@ ghost use Rattle.index_job.specs.Inside.Gathering.{HasGathered, IsGatheringMessa
 ghost use Rattle.index_job.specs.Indexing.{draft_with_terms, IsOpenAt};
 ghost use Rattle.index_job.specs.JobFaults.{is_source_failure};
 ghost use Rattle.index_job.specs.Inside.MessageEnds.{ended_with};
+ghost use Rattle.index_job.specs.Inside.WaitingLines.{with_waiting};
 ghost use Rattle.index_job.specs.MessageTerms.{id_terms, message_terms};
 
 use crate::folding_room::FoldingRoom;
@@ -70,18 +71,20 @@ pub(crate) fn finish_message(
     builder: &mut Builder,
     span: Span,
 ) -> Result<(), JobFault>
-    requires opened { IsGatheringMessage span.archive span.offset text.old builder.old }
+    requires opened { IsGatheringMessage span.archive span.offset text.old
+        (with_waiting room.old.waiting builder.old) }
     requires size { span.size < span.length }
     requires within { span.offset + span.length ≤ most_in_archive }
     ensures source { is_source_failure result ≡ false }
     ensures ok { OnOk result ((ls : List (List ℕ)) (d : Draft)
-        → HasGathered text.old builder.old d ls
+        → HasGathered text.old (with_waiting room.old.waiting builder.old) d ls
         → builder.new ≡ ended_with (facts_of (fields_of ls)) span
         (with_texts (texts_of_message ls) d)) }
     ensures err { IfErr result (λ fault. (ls : List (List ℕ)) (d : Draft)
-        → HasGathered text.old builder.old d ls
+        → HasGathered text.old (with_waiting room.old.waiting builder.old) d ls
         → IsGatherFault (draft_with_terms (message_terms ls) d) fault) }
 {
     let facts = end_text(text, room, builder)?;
+    room.waiting.add(builder)?;
     end_message(builder, &facts, span)
 }

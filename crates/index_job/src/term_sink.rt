@@ -6,7 +6,8 @@ ghost use Rattle.mail_words.specs.Words.{words};
 ghost use Rattle.mime_text.specs.MessageFacts.{HasSizedIds, IsSizedId};
 ghost use Rattle.index_job.specs.Indexing.{AddsTerms};
 ghost use Rattle.index_job.specs.Inside.BlankTexts.{is_blank_text};
-ghost use Rattle.index_job.specs.MessageTerms.{text_terms, own_id_terms, link_terms, id_terms};
+ghost use Rattle.index_job.specs.Inside.WaitingLines.{with_waiting};
+ghost use Rattle.index_job.specs.MessageTerms.{text_terms, own_id_terms, link_terms, id_terms, word_terms};
 
 use crate::folding_room::{FoldingRoom, add_cut_words, add_words_of};
 use mail_index::{BuildFault, Builder, Kind};
@@ -26,14 +27,18 @@ impl<'a> TextSink for TermSink<'a> {
     ghost use Rattle.std.specs.Prelude.{◌≡◌, ◌⊎◌};
     ghost use Rattle.mime_text.specs.declared.fault.SinkFault.TheVariants.{OutOfMemory, Refused};
     ghost use Rattle.index_job.specs.Indexing.{draft_with_terms, RefusesTerms};
+    ghost use Rattle.index_job.specs.Inside.WaitingLines.{with_waiting};
     ghost use Rattle.index_job.specs.MessageTerms.{text_terms};
 
     ghost takes = { λ old kind text new. (new.builder.ghost_name ≡ old.builder.ghost_name)
-        × (new.builder.now ≡ draft_with_terms (text_terms (kind, text)) old.builder.now) };
+        × (new.room.ghost_name ≡ old.room.ghost_name)
+        × (with_waiting new.room.now.waiting new.builder.now
+        ≡ draft_with_terms (text_terms (kind, text))
+        (with_waiting old.room.now.waiting old.builder.now)) };
 
     ghost refuses = { λ old kind text fault new. (fault ≡ OutOfMemory)
-        ⊎ ((fault ≡ Refused) × RefusesTerms
-        (draft_with_terms (text_terms (kind, text)) old.builder.now)) };
+        ⊎ ((fault ≡ Refused) × RefusesTerms (draft_with_terms (text_terms (kind, text))
+        (with_waiting old.room.now.waiting old.builder.now))) };
 
     fn text(&mut self, kind: TextKind, text: &str) -> Result<(), SinkFault> {
         match add_words(self.builder, self.room, kind, text) {
@@ -71,7 +76,7 @@ fn is_blank(text: &str) -> bool
     true
 }
 
-/// Adds the words of a text to the builder, each folded.
+/// Adds the words of a text, each folded, to the builder or to the waiting lines of the room.
 fn add_words(
     builder: &mut Builder,
     room: &mut FoldingRoom,
@@ -79,7 +84,8 @@ fn add_words(
     text: &str,
 ) -> Result<(), BuildFault>
     requires { IsInMessage builder.old }
-    ensures terms { AddsTerms (text_terms (kind, text.now)) result builder.old builder.new }
+    ensures terms { AddsTerms (text_terms (kind, text.now)) result
+        (with_waiting room.old.waiting builder.old) (with_waiting room.new.waiting builder.new) }
     ensures phase { IsInMessage builder.new }
 {
     // Many lines of mail are empty.
@@ -89,8 +95,9 @@ fn add_words(
     let is_whole = fold_whole(text, &mut room.folded)?;
     if is_whole {
         // One folding serves all words.
-        return add_words_of(builder, kind, room.folded.as_str());
+        return add_folded(builder, room, kind);
     }
+    room.waiting.add(builder)?;
     room.fold_words(text)?;
     add_cut_words(
         builder,
@@ -98,6 +105,24 @@ fn add_words(
         room.folded.as_bytes(),
         room.lengths.as_slice(),
     )
+}
+
+/// Adds the words of the room's folded text to the builder; at a line of a body, to the room's waiting lines.
+fn add_folded(
+    builder: &mut Builder,
+    room: &mut FoldingRoom,
+    kind: TextKind,
+) -> Result<(), BuildFault>
+    requires { IsInMessage builder.old }
+    ensures terms { AddsTerms (word_terms kind (words (string_bytes room.old.folded))) result
+        (with_waiting room.old.waiting builder.old) (with_waiting room.new.waiting builder.new) }
+    ensures phase { IsInMessage builder.new }
+{
+    if let TextKind::Body = kind {
+        return room.waiting.push(builder, room.folded.as_str());
+    }
+    room.waiting.add(builder)?;
+    add_words_of(builder, kind, room.folded.as_str())
 }
 
 /// Adds the ids of the message's own header: its own id, and the ids that link it to others.

@@ -1,10 +1,5 @@
 -- Laws of archives indexed one after another: what is known so far, and which source has failed.
-use Rattle.index_run.proofs.Words.{◌≡◌, ◌∙◌, ◌+◌, ◌<◌, ◌≤◌, ◌++◌, ℕ, zero, suc, List, [], ◌∷◌, length, take, drop}
-use Rattle.index_run.proofs.Words.{get_or, None, Some, false, inl, inr, refl, sym, ap, arith, drop-cons, take_more}
-use Rattle.index_run.proofs.Words.{take-append-drop, length-take-le, All-append, All-cons, All-nil, Draft}
-use Rattle.index_run.proofs.Words.{archive_refusal}
-use Rattle.index_run.proofs.Words.{Mbox, most_in_archive, AreSound, mboxes, Parted, IsArchivesFault, run_fault_of_job}
-use Rattle.index_run.proofs.Words.{IsAdded, IsAddFault, Err, ◌≢◌, eqb_tells, is_failed_source}
+use Rattle.index_run.proofs.Words.{◌≡◌, ◌∙◌, ◌+◌, ◌<◌, ◌≤◌, ◌++◌, ℕ, zero, suc, List, [], ◌∷◌, length, take, drop, get_or, None, Some, false, inl, inr, refl, sym, ap, arith, drop-cons, take_more, take-append-drop, length-take-le, All-append, All-cons, All-nil, Job, archive_refusal, Mbox, most_in_archive, AreSound, mboxes, Parted, IsArchivesFault, run_fault_of_job, IsAdded, IsAddFault, Err, ◌≢◌, eqb_tells, is_failed_source}
 use Rattle.mbox_cutter.specs.declared.event.CutFault.TheVariants as cut
 use Rattle.index_job.specs.declared.job_fault.JobFault.{JobFault}
 use Rattle.index_job.specs.declared.job_fault.JobFault.TheVariants as job
@@ -58,7 +53,7 @@ module _ (paths bytes : List (List ℕ)) (i : ℕ) (same : length paths ≡ leng
       in length-take-le i (mboxes paths bytes) within
 
 -- sound archives, with one more that isn't refused, are sound
-pub sound-more : (before : List Mbox) (a : Mbox) (n : ℕ) (j : Draft) → AreSound before → IsAdded before a n j
+pub sound-more : (before : List Mbox) (a : Mbox) (n : ℕ) (j : Job) → AreSound before → IsAdded before a n j
     → AreSound (before ++ a ∷ [])
 sound-more before a n j sound added = record {
   each = All-append (λ (b : Mbox). archive_refusal most_in_archive b.bytes ≡ None) before (a ∷ []) sound.each

@@ -1,9 +1,5 @@
 -- Either all archives are sound, or there is a first one that is refused, by induction over the archives.
-use Rattle.index_run.proofs.Words.{◌≡◌, ◌∙◌, ◌+◌, ◌<◌, ◌≤◌, ◌++◌, ℕ, List, [], ◌∷◌, length, None, Some, refl, sym}
-use Rattle.index_run.proofs.Words.{subst, arith, append-nil, append_assoc, ⊎_elim, inl, inr, ◌⊎◌, leb_tells}
-use Rattle.index_run.proofs.Words.{length-append, length-map, All-append, All-cons, All-nil, CutFault, archive_refusal}
-use Rattle.index_run.proofs.Words.{Fault, most_in_archive, most_in_index, AreSound, IsTooMuch, IsWithinLimit, Mbox}
-use Rattle.index_run.proofs.Words.{table, entry_of_archive, Parted, RefusesArchives}
+use Rattle.index_run.proofs.Words.{◌≡◌, ◌∙◌, ◌+◌, ◌<◌, ◌≤◌, ◌++◌, ℕ, List, [], ◌∷◌, length, None, Some, refl, sym, subst, arith, append-nil, append_assoc, ⊎_elim, inl, inr, ◌⊎◌, leb_tells, length-append, length-map, All-append, All-cons, All-nil, CutFault, archive_refusal, Fault, most_in_archive, most_in_index, AreSound, IsTooMuch, IsWithinLimit, Mbox, table, entry_of_archive, Parted, RefusesArchives}
 use Rattle.std.proofs.Common.{Option}
 use Rattle.run_faults.specs.declared.fault.Fault.TheVariants.{Archive, TooMany}
 

@@ -1,9 +1,6 @@
 -- Laws of sources that are indexed one after another: each stays what it was, those before the next one have been read
--- to
--- their ends, and those after it haven't been read.
-use Rattle.index_run.proofs.Words.{◌≡◌, ◌∙◌, ◌+◌, ◌<◌, ℕ, zero, suc, List, [], ◌∷◌, length, All, take, drop, get_or}
-use Rattle.index_run.proofs.Words.{None, Some}
-use Rattle.index_run.proofs.Words.{refl, sym, ap, subst, All-append, All-cons, All-nil, run_fault_of_job}
+-- to their ends, and those after it haven't been read.
+use Rattle.index_run.proofs.Words.{◌≡◌, ◌∙◌, ◌+◌, ◌<◌, ℕ, zero, suc, List, [], ◌∷◌, length, All, take, drop, get_or, None, Some, refl, sym, ap, subst, All-append, All-cons, All-nil, run_fault_of_job}
 use Rattle.std.proofs.Math.ListN.{set}
 use Rattle.std.proofs.lemmas.List.{drop-drop, take-set, take_more_set}
 use Rattle.std.specs.List.{AllZip}

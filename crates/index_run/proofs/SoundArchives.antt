@@ -1,9 +1,5 @@
 -- Sound archives aren't refused, because the counts of a front of them are no larger.
-use Rattle.index_run.proofs.Words.{◌≡◌, ◌∙◌, ◌+◌, ◌<◌, ◌≤◌, ◌++◌, List, [], ◌∷◌, length, All, get_or, None, Some, sym}
-use Rattle.index_run.proofs.Words.{ap, subst, arith, append_assoc, ⊎_elim, length-append, length-map, All-get_or}
-use Rattle.index_run.proofs.Words.{get_or-append_seam, CutFault, archive_refusal, Fault, most_in_archive, AreSound}
-use Rattle.index_run.proofs.Words.{IsTooMuch, IsWithinLimit, Mbox, table, all_messages, messages_in, with_messages}
-use Rattle.index_run.proofs.Words.{entry_of_archive, RefusesArchives}
+use Rattle.index_run.proofs.Words.{◌≡◌, ◌∙◌, ◌+◌, ◌<◌, ◌≤◌, ◌++◌, List, [], ◌∷◌, length, All, get_or, None, Some, sym, ap, subst, arith, append_assoc, ⊎_elim, length-append, length-map, All-get_or, get_or-append_seam, CutFault, archive_refusal, Fault, most_in_archive, AreSound, IsTooMuch, IsWithinLimit, Mbox, table, all_messages, messages_in, with_messages, entry_of_archive, RefusesArchives}
 use Rattle.std.proofs.lemmas.Grind.{flat_map-append}
 use Rattle.run_faults.specs.declared.fault.Fault.TheVariants as of
 use Rattle.index_job.proofs.ArchiveSteps.{with_messages-append, with_messages-more}

@@ -8,8 +8,7 @@ use Rattle.run_faults.specs.declared.fault.Fault.{Fault}
 use Rattle.run_faults.specs.declared.fault.Fault.TheVariants.{Archive, Out}
 
 -- Of all the sources, this many are read to their ends: all of them if no archive is at fault, and those before it if
--- one
--- is. Other faults don't say how many.
+-- one is. Other faults don't say how many.
 abbrev pub AreReadToEnd : Option Fault → ℕ → ℕ → Type 0
 AreReadToEnd None all read = read ≡ all
 AreReadToEnd (Some Out) all read = read ≡ all

@@ -12,6 +12,7 @@ ghost use Rattle.index_run.specs.SourcesStay.{SourcesStay};
 ghost use Rattle.run_faults.specs.Faults.{fault_in, is_failed_out, is_early, IsOfIndexing};
 
 use index_job::{IndexJob, JobFault};
+use mail_index::Digests;
 use mbox_cutter::{CutFault, Source};
 use run_faults::Fault;
 use std::alloc::Global;
@@ -32,17 +33,18 @@ fn run_fault_of_job(number: u64, fault: JobFault) -> Fault
     }
 }
 
-/// Indexes each archive from its source, and returns the job, which can be finished. Fails with the first faulty
-/// archive, or for lack of memory.
+/// Indexes each archive from its source, with its digest or without, and returns the job, which can be finished. Fails
+/// with the first faulty archive, or for lack of memory.
 pub(crate) fn job_of_archives<S: Source>(
     alloc: Global,
+    digests: Digests,
     paths: &[String],
     sources: &mut [S],
 ) -> Result<IndexJob, Fault>
     requires many { length paths.now ≡ length sources.old }
     requires paths { All IsPath (map string_bytes paths.now) }
     requires count { All (λ s. S.failures s < 2 ^ 64 - 1) sources.old }
-    ensures kept { IfOk result (λ job. job.failed ≡ false) }
+    ensures kept { IfOk result (λ job. (job.digests ≡ digests) × (job.draft.failed ≡ false)) }
     ensures known { (archives : List (List ℕ))
         → AreStillKnown (map S.rest sources.old) (map S.rest sources.new) archives
         → MatchResult result (λ job. AreSound (mboxes (map string_bytes paths.now) archives)
@@ -55,7 +57,7 @@ pub(crate) fn job_of_archives<S: Source>(
     ensures early { is_early (fault_in result) ≡ false }
     ensures kinds { IfErr result IsOfIndexing }
 {
-    let mut job = IndexJob::new(alloc)?;
+    let mut job = IndexJob::new(alloc, digests)?;
     for number in 0..sources.len() {
         if let Err(fault) = job.archive(paths[number].as_str(), &mut sources[number]) {
             return Err(run_fault_of_job(number as u64, fault));

@@ -17,6 +17,7 @@ ghost use Rattle.run_faults.specs.Faults.{fault_in, is_failed_out, IsOfIndexing}
 ghost use Rattle.index_run.specs.IndexRuns.{IsIndexRunFault};
 
 use crate::archives_job::job_of_archives;
+use mail_index::Digests;
 use mbox_cutter::{Out, Source};
 use run_faults::Fault;
 use std::alloc::Global;
@@ -59,7 +60,7 @@ pub fn send_index<S: Source, O: Out>(
     ensures silent { IfErr result (λ fault. OnFalse (is_failed_out (Some fault))
         (out.new ≡ out.old)) }
 {
-    let job = job_of_archives(alloc, paths, sources)?;
+    let job = job_of_archives(alloc, Digests::Computed, paths, sources)?;
     // A job without a fault can fail here only if its output does.
     job.finish(out).or(Err(Fault::Out)).and(Ok(()))
 }

@@ -3,6 +3,7 @@ pub mod DraftLemmas
 pub mod EntryLemmas
 pub mod FrontLemmas
 pub mod HadPairs
+pub mod InKeyOrder
 pub mod KeyMapLemmas
 pub mod KeyPlaces
 pub mod PageLemmas
@@ -12,3 +13,5 @@ pub mod PostingLemmas
 pub mod SameTexts
 pub mod SigningLemmas
 pub mod Sizes
+pub mod SortedSlots
+pub mod TableLemmas

@@ -1,6 +1,5 @@
 -- Properties of each item of a list, and a list without items.
-use Rattle.mail_index.proofs.Words.{◌≡◌, ◌<◌, ℕ, zero, suc, List, [], ◌∷◌, ◌++◌, length, take, drop, get_or, refl}
-use Rattle.mail_index.proofs.Words.{arith, AllByRecursion}
+use Rattle.mail_index.proofs.Words.{◌≡◌, ◌<◌, ℕ, zero, suc, List, [], ◌∷◌, ◌++◌, length, take, drop, get_or, refl, arith, AllByRecursion}
 
 pub all-snoc : {A : Type 0} (P : A → Type 0) (xs : List A) (x : A) → AllByRecursion P xs → P x
     → AllByRecursion P (xs ++ x ∷ [])
@@ -27,6 +26,11 @@ pub all-at : {A : Type 0} (P : A → Type 0) (xs : List A) (n : ℕ) (d : A) →
 all-at P [] n d all lt = absurd (omega (arith, lt))
 all-at P (x ∷ xs) zero d all lt = all.0
 all-at P (x ∷ xs) (suc n) d all lt = all-at P xs n d all.1 (omega (arith, lt))
+
+pub other-default : {A : Type 0} (xs : List A) (n : ℕ) (d e : A) → n < length xs → get_or xs n d ≡ get_or xs n e
+other-default [] n d e lt = absurd (omega (arith, lt))
+other-default (x ∷ xs) zero d e lt = refl
+other-default (x ∷ xs) (suc n) d e lt = other-default xs n d e (omega (arith, lt))
 
 pub empty_list : (r : List ℕ) → length r ≡ 0 → r ≡ []
 empty_list [] e = refl

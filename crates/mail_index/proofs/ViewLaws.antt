@@ -7,6 +7,7 @@ pub mod DirectorySections
 pub mod DirectoryWalk
 pub mod KindNumbers
 pub mod ListWalk
+pub mod LoadSums
 pub mod LookUpLemmas
 pub mod Opening
 pub mod PostingReadLemmas
@@ -14,4 +15,5 @@ pub mod RecordReads
 pub mod RecordSections
 pub mod RecordWalk
 pub mod RunLemmas
+pub mod ShortDifferenceLemmas
 pub mod StepLemmas

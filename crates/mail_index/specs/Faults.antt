@@ -4,6 +4,7 @@ use Rattle.std.specs.Prelude.{slice_range}
 use Rattle.std.specs.List.{AllByRecursion}
 use Rattle.std.specs.declared.cmp.Ordering.TheVariants.{Less}
 use Rattle.sha2.specs.Sha256.{sha256}
+use Rattle.mail_index.specs.declared.digests.Digests.{Digests}
 use Rattle.mail_index.specs.declared.view.fault.IndexFault.{IndexFault}
 use Rattle.mail_index.specs.declared.view.fault.IndexFault.TheVariants.{TooShort, BadMagic, BadVersion, BadDigest}
 use Rattle.mail_index.specs.declared.view.fault.IndexFault.TheVariants.{BadLayout}
@@ -15,7 +16,7 @@ use Rattle.mail_index.specs.Fields.{u32_at, u64_at}
 use Rattle.mail_index.specs.Tables.{Archive, Key, Table, IsWellFormed, IsArchive, IsMessage, IsKey, Follows, AllNext}
 use Rattle.mail_index.specs.Files.{magic, archive_bytes, record_bytes, DirectoryEntry, entry_of_key, directory_from}
 use Rattle.mail_index.specs.Files.{texts_of}
-use Rattle.mail_index.specs.Files.{postings_of, index_file}
+use Rattle.mail_index.specs.Files.{postings_of, index_file, file_by}
 use Rattle.mail_index.specs.Limits.{four_byte_limit}
 use Rattle.mail_index.specs.Places.{magic_size, counts_size, record_size, entry_size, digest_size, least_size}
 use Rattle.mail_index.specs.Places.{version_at, archive_count_at, message_count_at, key_count_at, archive_bytes_at}
@@ -106,6 +107,10 @@ module _ (bytes : List ℕ) where
   -- the bytes are the file of the table
   abbrev pub IsFileOfTable : Table → Type 0
   IsFileOfTable t = IsWellFormed t × (bytes ≡ index_file t)
+
+  -- the bytes are the file of the table, with its digest or without
+  abbrev pub IsFileBy : Digests → Table → Type 0
+  IsFileBy digests t = IsWellFormed t × (bytes ≡ file_by digests t)
 
   -- the fault is that of the first broken rule
   abbrev pub IsFirstFaultOfFile : IndexFault → Type 0

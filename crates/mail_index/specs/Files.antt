@@ -2,15 +2,18 @@
 -- of each part have the order of their offsets in Places.
 use Rattle.std.specs.Prelude.{ℕ, ◌+◌, ◌^◌, ◌<◌, Bool, if◌then◌else◌, ℤ, List, [], ◌∷◌, ◌++◌, length, map, Option, Some}
 use Rattle.std.specs.Prelude.{None, flat_map, is_some, unwrap_or}
+use Rattle.std.specs.Prelude.{replicate}
 use Rattle.std.specs.Int.{w32, w64, to_be_bytes, cast_unsigned}
 use Rattle.std.specs.List.{concat}
 use Rattle.sha2.specs.Sha256.{sha256}
+use Rattle.mail_index.specs.declared.digests.Digests.{Digests}
+use Rattle.mail_index.specs.declared.digests.Digests.TheVariants.{Computed, LeftOut}
 use Rattle.mail_index.specs.declared.kind.Kind.{Kind}
 use Rattle.mail_index.specs.declared.record.Record.{Record}
 use Rattle.mail_index.specs.Kinds.{kind_number}
 use Rattle.mail_index.specs.Tables.{Archive, Key, Table}
 use Rattle.mail_index.specs.Postings.{postings}
-use Rattle.mail_index.specs.Places.{seen_flag, replied_flag, flagged_flag, dated_flag}
+use Rattle.mail_index.specs.Places.{seen_flag, replied_flag, flagged_flag, dated_flag, digest_size}
 
 -- "MAIRIX" and a line's end
 abbrev pub magic : List ℕ
@@ -108,6 +111,24 @@ body t = concat (sections t)
 -- the file of the table
 unfoldable pub index_file : Table → List ℕ
 index_file t = body t ++ sha256 (body t)
+
+-- zeros, in the place of a digest that isn't computed
+abbrev pub no_digest : List ℕ
+no_digest = replicate digest_size 0
+
+-- the digest of these bytes, or zeros in its place
+abbrev pub digest_or_zeros : Digests → List ℕ → List ℕ
+digest_or_zeros Computed bytes = sha256 bytes
+digest_or_zeros LeftOut bytes = no_digest
+
+-- the file of the table, but with zeros in the place of its digest
+unfoldable pub undigested_file : Table → List ℕ
+undigested_file t = body t ++ no_digest
+
+-- the file of the table, with its digest or without
+abbrev pub file_by : Digests → Table → List ℕ
+file_by Computed t = index_file t
+file_by LeftOut t = undigested_file t
 
 -- the length of each section fits its count
 pub record HasSmallSections (t : Table) : Type 0 where

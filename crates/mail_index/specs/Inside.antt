@@ -6,6 +6,8 @@ pub mod KeyFronts
 pub mod KeyMaps
 pub mod KeyParts
 pub mod KeyRuns
+pub mod KeyTables
 pub mod SectionCounts
+pub mod ShortDifferences
 pub mod Signing
 pub mod Walks

@@ -1,5 +1,5 @@
 -- What a table returns for a key, and how many comparisons this takes.
-use Rattle.std.specs.Prelude.{◌≡◌, ℕ, zero, suc, ◌+◌, ◌/◌, ◌^◌, ◌<◌, ◌≤◌, Bool, true, false, ◌&&◌, nat_eq, nat_lt, List}
+use Rattle.std.specs.Prelude.{◌≡◌, ℕ, zero, suc, ◌/◌, ◌^◌, ◌<◌, ◌≤◌, Bool, true, false, ◌&&◌, nat_eq, List}
 use Rattle.std.specs.Prelude.{[], ◌∷◌, length, take, drop, map, filter}
 use Rattle.std.specs.Str.{bytes_eq}
 use Rattle.std.specs.List.{starts_with}
@@ -7,12 +7,12 @@ use Rattle.mail_index.specs.declared.kind.Kind.{Kind}
 use Rattle.mail_index.specs.Kinds.{kind_number}
 use Rattle.std.specs.declared.cmp.Ordering.{Ordering}
 use Rattle.std.specs.declared.cmp.Ordering.TheVariants.{Less, Equal, Greater}
-use Rattle.std.specs.Ordering.{nat_cmp, ordering_index}
+use Rattle.std.specs.Ordering.{nat_cmp}
 use Rattle.std.specs.Cmp.Lexicographic.{slice_cmp}
 use Rattle.std.specs.List.Sorted.{IsStrictlySortedBy}
 use Rattle.mail_index.specs.Steps.{add_steps}
 use Rattle.mail_index.specs.OrderOfKeys.{key_cmp}
-use Rattle.mail_index.specs.Tables.{Key, Table}
+use Rattle.mail_index.specs.Tables.{Key}
 
 -- whether the key is of this kind
 abbrev pub is_of_kind : Kind → Key → Bool
@@ -69,44 +69,3 @@ comparisons kind text ks = comparisons_within (length ks) kind text ks
 abbrev pub TakesDigits : ℕ → ℕ → ℕ → Type 0
 TakesDigits number old new = (digits : ℕ) → number < 2 ^ digits → (taken : ℕ) × (taken ≤ digits)
     × (new ≡ add_steps old taken)
-
--- ---- runs of keys: those of a kind that begin with one text
-
--- how a key compares with a run, the keys of this kind whose texts begin with this one: only as much of its own text is
--- compared
-abbrev pub lies_to_run : Kind → List ℕ → Key → Ordering
-lies_to_run kind text k = key_cmp (kind_number k.kind) (take (length text) k.text) (kind_number kind) text
-
--- whether the key compares with the run as less than `least`
-abbrev pub lies_below : Ordering → Kind → List ℕ → Key → Bool
-lies_below least kind text k = nat_lt (ordering_index (lies_to_run kind text k)) (ordering_index least)
-
--- How many comparisons a binary search makes to find where the keys that pass a test end: one with the key in the
--- middle, and those in the half where the end is. The keys are halved at most `most` times.
-abbrev pub bisections_within : ℕ → (Key → Bool) → List Key → ℕ
-bisections_within zero passes ks = 0
-bisections_within (suc most) passes ks = elim (drop (length ks / 2) ks) [
-  | [] ↦ 0
-  | k ∷ after ↦ suc (elim (passes k) [
-    | true ↦ bisections_within most passes after
-    | false ↦ bisections_within most
-        passes (take (length ks / 2) ks)
-  ])
-]
-
--- the same, halving as often as there are keys, which is enough
-abbrev pub bisections : (Key → Bool) → List Key → ℕ
-bisections passes ks = bisections_within (length ks) passes ks
-
--- how many comparisons find a run: those for where it begins, and those for where it ends
-abbrev pub comparisons_of_run : Kind → List ℕ → List Key → ℕ
-comparisons_of_run kind text ks = bisections (lies_below Equal kind text) ks + bisections (lies_below Greater kind text)
-    ks
-
--- ---- a table with counts
-
--- a table, the count of the steps that look-ups in it take, and the count of those that finding runs of its keys takes
-pub record CountedTable : Type 0 where
-  pub table : Table
-  pub steps : ℕ
-  pub run_steps : ℕ

@@ -19,7 +19,7 @@ pub enum Kind {
 }
 
 impl Kind {
-    ghost use Rattle.mail_index.specs.Kinds.{kind_number};
+    ghost use Rattle.mail_index.specs.Kinds.{kind_number, kind_of_number};
 
     /// The number of the kind in an index file, 1 to 9. Names come last, because files of version 1 have none.
     pub(crate) fn number(self) -> u8
@@ -35,6 +35,23 @@ impl Kind {
             Kind::OwnId => 7,
             Kind::LinkId => 8,
             Kind::Text(TextKind::Name) => 9,
+        }
+    }
+
+    /// The kind of a number from 1 to 9.
+    pub(crate) fn of_number(number: u8) -> Self
+        ensures { result ≡ kind_of_number number }
+    {
+        match number {
+            0 | 1 => Kind::Text(TextKind::To),
+            2 => Kind::Text(TextKind::Cc),
+            3 => Kind::Text(TextKind::Bcc),
+            4 => Kind::Text(TextKind::From),
+            5 => Kind::Text(TextKind::Subject),
+            6 => Kind::Text(TextKind::Body),
+            7 => Kind::OwnId,
+            8 => Kind::LinkId,
+            _ => Kind::Text(TextKind::Name),
         }
     }
 }

@@ -1,5 +1,5 @@
 //! Laws of the definitions.
-ghost use Rattle.std.specs.Prelude.{◌≡◌, ◌<◌, ◌≤◌, ◌*◌, ◌^◌, ◌⊎◌, ℕ, suc, false, List, length};
+ghost use Rattle.std.specs.Prelude.{◌≡◌, ◌<◌, ◌≤◌, ◌^◌, ◌⊎◌, ℕ, suc, false, List, length};
 ghost use Rattle.std.specs.List.{AllByRecursion};
 ghost use Rattle.mail_index.specs.declared.kind.Kind.{Kind};
 ghost use Rattle.mail_index.specs.declared.view.fault.IndexFault.{IndexFault};
@@ -7,7 +7,7 @@ ghost use Rattle.mail_index.specs.Faults.{IsFileOfTable, IsFirstFaultOfFile};
 ghost use Rattle.mail_index.specs.Tables.{Key, Table, IsKey, IsWellFormed};
 ghost use Rattle.mail_index.specs.Pairs.{HasPosting};
 ghost use Rattle.mail_index.specs.Builders.{with_pair};
-ghost use Rattle.mail_index.specs.LookUps.{is_key, comparisons, comparisons_of_run};
+ghost use Rattle.mail_index.specs.LookUps.{is_key, comparisons};
 ghost use Rattle.mail_index.specs.Files.{index_file, HasSmallSections};
 
 /// Two well-formed tables with the same file are the same table: an index file can't mean two things.
@@ -27,8 +27,7 @@ pub fn the_file_of_a_table_has_no_fault()
 ///
 /// There are at most as many as the number of keys has binary digits, that is, the least number of digits that can hold
 /// it (`few`). If the key isn't there, there are also at least as many as the number of keys plus one has binary
-/// digits, less one (`many`). If there are keys, at least one is compared (`some`). The two searches for a run of keys
-/// never end early, so the first two bounds hold for each of the two (`run_few`, `run_many`).
+/// digits, less one (`many`). If there are keys, at least one is compared (`some`).
 pub fn comparisons_law()
     ensures few { (kind : Kind) (text : List ℕ) (ks : List Key) (digits : ℕ)
         → length ks < 2 ^ digits → comparisons kind text ks ≤ digits }
@@ -37,10 +36,6 @@ pub fn comparisons_law()
         → 2 ^ digits ≤ suc (length ks) → digits ≤ comparisons kind text ks }
     ensures some { (kind : Kind) (text : List ℕ) (ks : List Key)
         → 0 < length ks → 0 < comparisons kind text ks }
-    ensures run_few { (kind : Kind) (text : List ℕ) (ks : List Key) (digits : ℕ)
-        → length ks < 2 ^ digits → comparisons_of_run kind text ks ≤ 2 * digits }
-    ensures run_many { (kind : Kind) (text : List ℕ) (ks : List Key) (digits : ℕ)
-        → 2 ^ digits ≤ suc (length ks) → 2 * digits ≤ comparisons_of_run kind text ks }
 {}
 
 /// Adding a pair of a key and a message leaves all pairs that were there (`kept`), adds this pair (`added`) and adds no

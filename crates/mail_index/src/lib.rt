@@ -3,6 +3,7 @@
 #![tactic(auto)]
 
 mod build;
+mod digests;
 mod fields;
 mod kind;
 mod laws;
@@ -15,6 +16,7 @@ mod view;
 pub use build::build_fault::{BuildFault, WriteFault};
 pub use build::builder::Builder;
 pub use build::prefetched::Prefetched;
+pub use digests::{Digests, NO_DIGEST};
 pub use kind::Kind;
 pub use laws::{
     comparisons_law, one_table_for_a_file, pairs_law, the_file_of_a_table_has_no_fault,

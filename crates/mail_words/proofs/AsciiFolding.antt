@@ -1,7 +1,5 @@
 -- ASCII folds evenly, so the words of its folding are the foldings of its words.
-use Rattle.mail_words.proofs.Imports.{◌≡◌, ℕ, suc, ◌<◌, true, ◌&&◌, List, [], ◌∷◌, IsAscii, refl, ap, ◌∙◌}
-use Rattle.mail_words.proofs.Imports.{chars-IsAscii, to_ascii_lowercase, list_all, ucd_category, ucd_derived, all_below}
-use Rattle.mail_words.proofs.Imports.{all_below-at, folding, is_word_character, is_joiner, words}
+use Rattle.mail_words.proofs.Imports.{◌≡◌, ℕ, suc, ◌<◌, true, ◌&&◌, List, [], ◌∷◌, IsAscii, refl, ap, ◌∙◌, chars-IsAscii, to_ascii_lowercase, list_all, ucd_category, ucd_derived, all_below, all_below-at, folding, is_word_character, is_joiner, words}
 use Rattle.std.proofs.Common.{map}
 use Rattle.std.proofs.lemmas.Str.{IsUtf8-from_ascii}
 use Rattle.ucd_case.proofs.CaseFoldingLemmas.{full_fold-ascii}

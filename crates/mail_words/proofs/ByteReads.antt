@@ -1,11 +1,7 @@
 -- Loops that count the bytes of a text's front. Each byte is a character by itself, up to the first beyond ASCII.
-use Rattle.mail_words.proofs.Imports.{◌≡◌, ℕ, zero, suc, ◌+◌, ◌<◌, ◌≤◌, Bool, true, false, ◌&&◌, nat_lt, List, ◌++◌}
-use Rattle.mail_words.proofs.Imports.{length, drop, get_or, encode_utf8, encode_utf8_all, IsUtf8, refl, sym, ap, subst}
-use Rattle.mail_words.proofs.Imports.{◌∙◌, arith, add-one, drop-cons, and_parts, ltb-true, encode_ascii, len_utf8_ascii}
-use Rattle.mail_words.proofs.Imports.{IsCharBoundary-from_drop, is_ascii, IsCharBoundary, front}
+use Rattle.mail_words.proofs.Imports.{◌≡◌, ℕ, zero, suc, ◌+◌, ◌<◌, ◌≤◌, Bool, true, false, ◌&&◌, nat_lt, List, ◌++◌, length, drop, get_or, encode_utf8, encode_utf8_all, IsUtf8, refl, sym, ap, subst, ◌∙◌, arith, add-one, drop-cons, and_parts, ltb-true, encode_ascii, len_utf8_ascii, IsCharBoundary-from_drop, is_ascii, IsCharBoundary, front}
 use Rattle.std.proofs.Common.{chars}
-use Rattle.mail_words.proofs.FrontReads.{IsRead, FrontRead, front_read-start, front_read-pass, front_read-stop}
-use Rattle.mail_words.proofs.FrontReads.{front_read-end}
+use Rattle.mail_words.proofs.FrontReads.{IsRead, FrontRead, front_read-start, front_read-pass, front_read-stop, front_read-end}
 use Rattle.mail_words.proofs.Seams.{front_seam}
 
 -- ---- one byte

@@ -1,9 +1,6 @@
 -- The bytes of a character, by how many they are, and a character of two bytes found by its first one.
 use lib.Utf8.{encode}
-use Rattle.mail_words.proofs.Imports.{◌≡◌, ℕ, ◌+◌, ◌%◌, ◌<◌, ◌≤◌, Bool, true, false, ltb, List, [], ◌∷◌, ◌++◌}
-use Rattle.mail_words.proofs.Imports.{length, drop, get_or, encode_utf8, encode_utf8_all, len_utf8, IsUtf8, inl, inr}
-use Rattle.mail_words.proofs.Imports.{refl, sym, ap, ◌∙◌, subst, arith, cases_lt, nat_tests, length-encode}
-use Rattle.mail_words.proofs.Imports.{encode_ascii, encodes-chars, front}
+use Rattle.mail_words.proofs.Imports.{◌≡◌, ℕ, ◌+◌, ◌%◌, ◌<◌, ◌≤◌, Bool, true, false, ltb, List, [], ◌∷◌, ◌++◌, length, drop, get_or, encode_utf8, encode_utf8_all, len_utf8, IsUtf8, inl, inr, refl, sym, ap, ◌∙◌, subst, arith, cases_lt, nat_tests, length-encode, encode_ascii, encodes-chars, front}
 use Rattle.std.proofs.Common.{◌/◌, chars}
 use Rattle.std.proofs.lemmas.List.{get_or-drop, length-drop}
 use Rattle.std.proofs.lemmas.Str.{drop_past_char}

@@ -1,11 +1,5 @@
 -- The word characters of ASCII; joiners aren't word characters; joiners can be found among bytes.
-use Rattle.mail_words.proofs.Imports.{◌≡◌, ℕ, zero, suc, ◌-◌, ◌<◌, ◌≤◌, Bool, true, false, not, ◌&&◌, nat_lt, List, []}
-use Rattle.mail_words.proofs.Imports.{◌∷◌, get_or, encode_utf8, encode_utf8_all, IsUtf8, inl, inr, refl, sym, ap, ◌∙◌}
-use Rattle.mail_words.proofs.Imports.{arith, and-true, cases_lt, nat_tests, list_all-append, list_all_at, encode_ascii}
-use Rattle.mail_words.proofs.Imports.{encodes-chars, char_from_byte, length-encode, len_utf8_bounds, beq}
-use Rattle.mail_words.proofs.Imports.{is_ascii_alphanumeric, list_all, ucd_category, ucd_derived, same_from_beq}
-use Rattle.mail_words.proofs.Imports.{all_below, all_below-at, is_word_character, is_joiner, is_piece, begins, length}
-use Rattle.mail_words.proofs.Imports.{length-append, get_or_append_left}
+use Rattle.mail_words.proofs.Imports.{◌≡◌, ℕ, zero, suc, ◌-◌, ◌<◌, ◌≤◌, Bool, true, false, not, ◌&&◌, nat_lt, List, [], ◌∷◌, get_or, encode_utf8, encode_utf8_all, IsUtf8, inl, inr, refl, sym, ap, ◌∙◌, arith, and-true, cases_lt, nat_tests, list_all-append, list_all_at, encode_ascii, encodes-chars, char_from_byte, length-encode, len_utf8_bounds, beq, is_ascii_alphanumeric, list_all, ucd_category, ucd_derived, same_from_beq, all_below, all_below-at, is_word_character, is_joiner, is_piece, begins, length, length-append, get_or_append_left}
 use Rattle.std.proofs.Common.{chars, append-nil}
 use Rattle.std.specs.Prelude.{◌==◌}
 

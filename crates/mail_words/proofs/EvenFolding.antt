@@ -1,11 +1,6 @@
 -- If each character of a text folds evenly, the words of its folding are the foldings of its words.
 use lib.Utf8.{scalar}
-use Rattle.mail_words.proofs.Imports.{◌≡◌, ◌<◌, ℕ, Bool, true, false, not, cond, ◌&&◌, ◌||◌, nat_le, List, [], ◌∷◌}
-use Rattle.mail_words.proofs.Imports.{◌++◌, reverse, length, encode_utf8, encode_utf8_all, IsUtf8, refl, sym, ap, ap₂}
-use Rattle.mail_words.proofs.Imports.{◌∙◌, arith, and_parts, nat_tests, length-append, length-encode, len_utf8}
-use Rattle.mail_words.proofs.Imports.{list_all-append, map-append, reverse-append, chars-encodes, scalars-chars}
-use Rattle.mail_words.proofs.Imports.{list_all, list_any, same_from_beq, is_piece, folding, is_word_character}
-use Rattle.mail_words.proofs.Imports.{is_joiner, begins, after_joiners, is_word, word_limit, words}
+use Rattle.mail_words.proofs.Imports.{◌≡◌, ◌<◌, ℕ, Bool, true, false, not, cond, ◌&&◌, ◌||◌, nat_le, List, [], ◌∷◌, ◌++◌, reverse, length, encode_utf8, encode_utf8_all, IsUtf8, refl, sym, ap, ap₂, ◌∙◌, arith, and_parts, nat_tests, length-append, length-encode, len_utf8, list_all-append, map-append, reverse-append, chars-encodes, scalars-chars, list_all, list_any, same_from_beq, is_piece, folding, is_word_character, is_joiner, begins, after_joiners, is_word, word_limit, words}
 use Rattle.std.proofs.Common.{map, chars, eqb-true}
 use Rattle.std.proofs.Math.Utf8.{scalars}
 use Rattle.caseless.specs.Caseless.{default_case_fold}

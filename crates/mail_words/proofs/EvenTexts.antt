@@ -1,9 +1,5 @@
 -- Texts that are folded as a whole, piece by piece.
-use Rattle.mail_words.proofs.Imports.{◌≡◌, ℕ, ◌+◌, Bool, true, false, ◌&&◌, List, [], ◌∷◌, ◌++◌, length, take, drop}
-use Rattle.mail_words.proofs.Imports.{encode_utf8, encode_utf8_all, IsUtf8, refl, sym, ap, ◌∙◌, arith, append_assoc}
-use Rattle.mail_words.proofs.Imports.{length-append, list_all-append, encodes-append, chars_past_char, IsUtf8-past_char}
-use Rattle.mail_words.proofs.Imports.{IsCharBoundary, nil_from_length, subst, chars-nil, and_parts, length-encode}
-use Rattle.mail_words.proofs.Imports.{len_utf8, list_all, front, after_front, folding}
+use Rattle.mail_words.proofs.Imports.{◌≡◌, ℕ, ◌+◌, Bool, true, false, ◌&&◌, List, [], ◌∷◌, ◌++◌, length, take, drop, encode_utf8, encode_utf8_all, IsUtf8, refl, sym, ap, ◌∙◌, arith, append_assoc, length-append, list_all-append, encodes-append, chars_past_char, IsUtf8-past_char, IsCharBoundary, nil_from_length, subst, chars-nil, and_parts, length-encode, len_utf8, list_all, front, after_front, folding}
 use Rattle.std.proofs.Common.{chars, append-nil, eqb-true}
 use Rattle.std.proofs.lemmas.Str.{IsUtf8-drop}
 use Rattle.caseless.specs.Caseless.{default_case_fold}

@@ -1,10 +1,5 @@
 -- Laws of foldings, and of a folding that isn't written to its end yet.
-use Rattle.mail_words.proofs.Imports.{◌≡◌, ℕ, true, not, beq, same_from_beq, list_all, ◌*◌, ◌≤◌, List, [], ◌∷◌, ◌++◌}
-use Rattle.mail_words.proofs.Imports.{length, None, Some, encode_utf8, encode_utf8_all, IsAscii, IsUtf8, refl, sym, ap}
-use Rattle.mail_words.proofs.Imports.{ap₂, ◌∙◌, ◌<◌, arith, append_assoc, length-append, cases_lt, chars-IsAscii}
-use Rattle.mail_words.proofs.Imports.{encodes-IsAscii, encodes-chars, length-le-encodes, Chars-gives, len_utf8_bounds}
-use Rattle.mail_words.proofs.Imports.{length-encode, IsAscii-map, lowercase_ascii, to_ascii_lowercase, chars_rest}
-use Rattle.mail_words.proofs.Imports.{chars_steps, folding}
+use Rattle.mail_words.proofs.Imports.{◌≡◌, ℕ, true, not, beq, same_from_beq, list_all, ◌*◌, ◌≤◌, List, [], ◌∷◌, ◌++◌, length, None, Some, encode_utf8, encode_utf8_all, IsAscii, IsUtf8, refl, sym, ap, ap₂, ◌∙◌, ◌<◌, arith, append_assoc, length-append, cases_lt, chars-IsAscii, encodes-IsAscii, encodes-chars, length-le-encodes, Chars-gives, len_utf8_bounds, length-encode, IsAscii-map, lowercase_ascii, to_ascii_lowercase, chars_rest, chars_steps, folding}
 use Rattle.std.proofs.Common.{map, chars, append-nil}
 use Rattle.std.specs.declared.str.Chars.{Chars}
 use Rattle.std.specs.Iterator.{AlwaysYields}
@@ -19,8 +14,7 @@ use Rattle.ucd_case.specs.CaseFolding.{full_folding}
 use Rattle.ucd_case.proofs.CaseFoldingLemmas.{full_folding_stepped}
 use Rattle.unicode.proofs.TableComputing.{tables}
 use Rattle.unicode.proofs.Facts.{Stepped-below}
-use Rattle.caseless.proofs.CaselessLemmas.{default_case_fold-ascii, default_case_fold-nil, default_case_fold-cons}
-use Rattle.caseless.proofs.CaselessLemmas.{All-chars, length-default_case_fold, full_fold-none, full_fold-some}
+use Rattle.caseless.proofs.CaselessLemmas.{default_case_fold-ascii, default_case_fold-nil, default_case_fold-cons, All-chars, length-default_case_fold, full_fold-none, full_fold-some}
 
 -- in ASCII only the capital letters change
 pub folding-ascii : (text : List ℕ) → IsAscii text → folding text ≡ map to_ascii_lowercase text

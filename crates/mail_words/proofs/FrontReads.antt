@@ -1,7 +1,5 @@
 -- Loops over the characters of a text that count the bytes of its front.
-use Rattle.mail_words.proofs.Imports.{◌≡◌, ℕ, ◌+◌, Bool, true, false, List, [], ◌∷◌, ◌++◌, length, encode_utf8}
-use Rattle.mail_words.proofs.Imports.{encode_utf8_all, IsUtf8, ap, ◌∙◌, arith, length-append, nil_from_length}
-use Rattle.mail_words.proofs.Imports.{chars_past_char, IsUtf8-past_char, length-encode, chars-nil, len_utf8, front}
+use Rattle.mail_words.proofs.Imports.{◌≡◌, ℕ, ◌+◌, Bool, true, false, List, [], ◌∷◌, ◌++◌, length, encode_utf8, encode_utf8_all, IsUtf8, ap, ◌∙◌, arith, length-append, nil_from_length, chars_past_char, IsUtf8-past_char, length-encode, chars-nil, len_utf8, front}
 use Rattle.std.proofs.Common.{chars}
 use Rattle.mail_words.proofs.RunLemmas.{front-pass, front-fail}
 

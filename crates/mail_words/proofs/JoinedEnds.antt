@@ -1,15 +1,9 @@
 -- A run of word characters and joiners is its joined front and the joiners at its end, found by looking at bytes.
-use Rattle.mail_words.proofs.Imports.{◌≡◌, ℕ, ◌+◌, ◌-◌, ◌<◌, ◌≤◌, Bool, true, false, ◌&&◌, ◌||◌, List, [], ◌∷◌, ◌++◌}
-use Rattle.mail_words.proofs.Imports.{length, reverse, get_or, encode_utf8, encode_utf8_all, inl, inr, refl, sym, ap}
-use Rattle.mail_words.proofs.Imports.{ap₂, subst, ◌∙◌, arith, length-append, and_parts, cases_lt, get_or_append_left}
-use Rattle.mail_words.proofs.Imports.{get_or-append-add, get_or-append_right, list_all_at, encode_ascii, encodes-append}
-use Rattle.mail_words.proofs.Imports.{inside_one, length-encode, len_utf8_bounds, length-le-encodes, list_all}
-use Rattle.mail_words.proofs.Imports.{is_word_character, is_joiner, begins, front, is_piece, joined_to, joined_front}
+use Rattle.mail_words.proofs.Imports.{◌≡◌, ℕ, ◌+◌, ◌-◌, ◌<◌, ◌≤◌, Bool, true, false, ◌&&◌, ◌||◌, List, [], ◌∷◌, ◌++◌, length, reverse, get_or, encode_utf8, encode_utf8_all, inl, inr, refl, sym, ap, ap₂, subst, ◌∙◌, arith, length-append, and_parts, cases_lt, get_or_append_left, get_or-append-add, get_or-append_right, list_all_at, encode_ascii, encodes-append, inside_one, length-encode, len_utf8_bounds, length-le-encodes, list_all, is_word_character, is_joiner, begins, front, is_piece, joined_to, joined_front}
 use Rattle.std.proofs.Common.{append-nil}
 use Rattle.mail_words.proofs.Characters.{joiner_below, word_character_is_no_joiner}
 use Rattle.mail_words.proofs.OneWord.{ends-cons, ends-joined_front}
-use Rattle.mail_words.proofs.RunLemmas.{front-pass, front-fail, joined_front-word, joined_front-joiner}
-use Rattle.mail_words.proofs.RunLemmas.{joined_front-other}
+use Rattle.mail_words.proofs.RunLemmas.{front-pass, front-fail, joined_front-word, joined_front-joiner, joined_front-other}
 use Rattle.mail_words.proofs.Seams.{some_from_bytes}
 
 -- ---- characters

@@ -1,9 +1,5 @@
 -- Words that are short enough to be kept, and words that are too long.
-use Rattle.mail_words.proofs.Imports.{◌≡◌, ℕ, ◌+◌, ◌≤◌, ◌<◌, Bool, true, false, List, [], ◌∷◌, ◌++◌, length, take, drop}
-use Rattle.mail_words.proofs.Imports.{encode_utf8_all, IsUtf8, sym, ap, ◌∙◌, arith, append_assoc, length-append, le-leb}
-use Rattle.mail_words.proofs.Imports.{nat_tests, encodes-append, is_word_character, begins, word_limit, front}
-use Rattle.mail_words.proofs.Imports.{after_front}
-use Rattle.mail_words.proofs.Imports.{joined_front, within, joined_on, long_at, words_left}
+use Rattle.mail_words.proofs.Imports.{◌≡◌, ℕ, ◌+◌, ◌≤◌, ◌<◌, Bool, true, false, List, [], ◌∷◌, ◌++◌, length, take, drop, encode_utf8_all, IsUtf8, sym, ap, ◌∙◌, arith, append_assoc, length-append, le-leb, nat_tests, encodes-append, is_word_character, begins, word_limit, front, after_front, joined_front, within, joined_on, long_at, words_left}
 use Rattle.std.proofs.Common.{chars}
 use Rattle.mail_words.proofs.RunLemmas.{front-after, is_some}
 use Rattle.mail_words.proofs.OneWord.{joined_front-prefix}

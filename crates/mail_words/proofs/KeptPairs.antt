@@ -1,13 +1,6 @@
 -- If no byte at the front of a text is a stop, folding keeps its characters: their first two bytes show it.
 use lib.Seq.{drop-append-add}
-use Rattle.mail_words.proofs.Imports.{◌≡◌, ℕ, zero, suc, ◌+◌, ◌-◌, ◌%◌, ◌<◌, ◌≤◌, Bool, true, false, ◌&&◌, ◌||◌, nat_le}
-use Rattle.mail_words.proofs.Imports.{nat_lt, List}
-use Rattle.mail_words.proofs.Imports.{[], ◌∷◌, ◌++◌, length, drop, get_or, encode_utf8, encode_utf8_all, len_utf8}
-use Rattle.mail_words.proofs.Imports.{IsUtf8}
-use Rattle.mail_words.proofs.Imports.{and_parts, leb-true, inl, inr, refl, sym, ap, ◌∙◌, subst, arith, cases_lt}
-use Rattle.mail_words.proofs.Imports.{nat_tests, length-append}
-use Rattle.mail_words.proofs.Imports.{length-encode, encode_ascii, encodes-chars}
-use Rattle.mail_words.proofs.Imports.{IsUtf8-past_char, get_or-append-add}
+use Rattle.mail_words.proofs.Imports.{◌≡◌, ℕ, zero, suc, ◌+◌, ◌-◌, ◌%◌, ◌<◌, ◌≤◌, Bool, true, false, ◌&&◌, ◌||◌, nat_le, nat_lt, List, [], ◌∷◌, ◌++◌, length, drop, get_or, encode_utf8, encode_utf8_all, len_utf8, IsUtf8, and_parts, leb-true, inl, inr, refl, sym, ap, ◌∙◌, subst, arith, cases_lt, nat_tests, length-append, length-encode, encode_ascii, encodes-chars, IsUtf8-past_char, get_or-append-add}
 use Rattle.std.proofs.Common.{◌/◌, chars}
 use Rattle.std.specs.Prelude.{nat_eq}
 use Rattle.ucd_case.specs.CaseFolding.{full_folding}

@@ -1,8 +1,5 @@
 -- Loops that count the bytes of the front that folding leaves as it is: ASCII and letters beyond it, by turns.
-use Rattle.mail_words.proofs.Imports.{◌≡◌, ℕ, ◌+◌, ◌<◌, ◌≤◌, Bool, true, false, not, nat_lt, List, [], ◌∷◌, ◌++◌}
-use Rattle.mail_words.proofs.Imports.{length, drop, get_or, encode_utf8_all, IsUtf8, inl, inr, refl, sym, ap, subst}
-use Rattle.mail_words.proofs.Imports.{◌∙◌, arith, and_parts, cases_lt, nat_tests, length-append}
-use Rattle.mail_words.proofs.Imports.{encodes-append, encodes-chars, encode_ascii, IsCharBoundary, front}
+use Rattle.mail_words.proofs.Imports.{◌≡◌, ℕ, ◌+◌, ◌<◌, ◌≤◌, Bool, true, false, not, nat_lt, List, [], ◌∷◌, ◌++◌, length, drop, get_or, encode_utf8_all, IsUtf8, inl, inr, refl, sym, ap, subst, ◌∙◌, arith, and_parts, cases_lt, nat_tests, length-append, encodes-append, encodes-chars, encode_ascii, IsCharBoundary, front}
 use Rattle.std.proofs.Common.{chars}
 use Rattle.std.proofs.lemmas.Str.{IsUtf8-drop}
 use Rattle.mail_words.specs.Inside.Folds.{keeps_itself, is_kept_byte, is_kept_letter}

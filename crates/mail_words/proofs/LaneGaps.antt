@@ -1,11 +1,7 @@
 -- The gap and the word after it, found in the mask of one load.
 use lib.Count.{count_trailing_zeros, under}
 use lib.Lanes.{chunk, mask_l}
-use Rattle.mail_words.proofs.Imports.{◌≡◌, ℕ, zero, suc, ◌+◌, ◌*◌, ◌%◌, ◌^◌, ◌<◌, ◌≤◌, cond, Bool, true, false, not}
-use Rattle.mail_words.proofs.Imports.{List, [], ◌∷◌, length, drop, get_or, nat_lt, ◌||◌, eqb, eqb-true, refl, sym, ap}
-use Rattle.mail_words.proofs.Imports.{◌∙◌, subst, arith, inl, inr, cases_lt, nat_tests, length-map, length-chunk}
-use Rattle.mail_words.proofs.Imports.{HasGapAndWord, is_ascii_other, is_ascii_word, is_beyond_ascii, is_no_ascii_word}
-use Rattle.mail_words.proofs.Imports.{prefix_len}
+use Rattle.mail_words.proofs.Imports.{◌≡◌, ℕ, zero, suc, ◌+◌, ◌*◌, ◌%◌, ◌^◌, ◌<◌, ◌≤◌, cond, Bool, true, false, not, List, [], ◌∷◌, length, drop, get_or, nat_lt, ◌||◌, eqb, eqb-true, refl, sym, ap, ◌∙◌, subst, arith, inl, inr, cases_lt, nat_tests, length-map, length-chunk, HasGapAndWord, is_ascii_other, is_ascii_word, is_beyond_ascii, is_no_ascii_word, prefix_len}
 use Rattle.std.proofs.Common.{◌/◌, map, div-one, div-le_self}
 use Rattle.std.proofs.lemmas.Bool.{not-true, not-false}
 use Rattle.std.proofs.lemmas.List.{drop-map, get_or-drop, get_or-take, length-drop}

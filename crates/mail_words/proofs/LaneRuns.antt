@@ -1,9 +1,6 @@
 -- The bytes that are word characters, found from the mask of one load.
 use lib.Lanes.{Each1, chunk, mask_l, top}
-use Rattle.mail_words.proofs.Imports.{◌≡◌, ℕ, ◌+◌, ◌-◌, ◌%◌, ◌^◌, ◌<◌, ◌≤◌, Bool, true, false, not, List, [], ◌∷◌}
-use Rattle.mail_words.proofs.Imports.{length, get_or, Fits, w8, refl, ap, ap₂, ◌∙◌, subst, arith, inl, inr, agree_below}
-use Rattle.mail_words.proofs.Imports.{agree_below_at, cases_lt, length-map, map-map, mask_l-mod, length-chunk}
-use Rattle.mail_words.proofs.Imports.{get_or-chunk, prefix_len}
+use Rattle.mail_words.proofs.Imports.{◌≡◌, ℕ, ◌+◌, ◌-◌, ◌%◌, ◌^◌, ◌<◌, ◌≤◌, Bool, true, false, not, List, [], ◌∷◌, length, get_or, Fits, w8, refl, ap, ap₂, ◌∙◌, subst, arith, inl, inr, agree_below, agree_below_at, cases_lt, length-map, map-map, mask_l-mod, length-chunk, get_or-chunk, prefix_len}
 use Rattle.std.proofs.Common.{map}
 use Rattle.std.proofs.lemmas.List.Sums.{prefix_len-le-length, prefix_len_passes}
 

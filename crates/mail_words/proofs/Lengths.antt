@@ -1,8 +1,5 @@
 -- Each word has 1 to 128 bytes, because the test of a word has these limits.
-use Rattle.mail_words.proofs.Imports.{◌≡◌, ℕ, zero, suc, ◌≤◌, Bool, true, false, cond, List, [], ◌∷◌, ◌++◌, All, length}
-use Rattle.mail_words.proofs.Imports.{encode_utf8_all, nat_le, refl, sym, subst, arith, and_parts, leb-true}
-use Rattle.mail_words.proofs.Imports.{length-le-encodes, is_word_character, begins, is_word, word_limit, words}
-use Rattle.mail_words.proofs.Imports.{HasWordLength, words_left}
+use Rattle.mail_words.proofs.Imports.{◌≡◌, ℕ, zero, suc, ◌≤◌, Bool, true, false, cond, List, [], ◌∷◌, ◌++◌, All, length, encode_utf8_all, nat_le, refl, sym, subst, arith, and_parts, leb-true, length-le-encodes, is_word_character, begins, is_word, word_limit, words, HasWordLength, words_left}
 use Rattle.std.proofs.Common.{chars}
 use Rattle.std.proofs.lemmas.List.Elements.{All-append}
 use Rattle.mail_words.proofs.Places.{if_word, words_on, words_from, words_after-places}

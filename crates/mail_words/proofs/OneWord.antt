@@ -1,16 +1,9 @@
 -- A text is one word if it can be part of a word, begins with a word character, and is the joined front of itself.
-use Rattle.mail_words.proofs.Imports.{◌≡◌, ℕ, ◌≤◌, Bool, true, false, not, ◌&&◌, ◌||◌, List, [], ◌∷◌, ◌++◌, length}
-use Rattle.mail_words.proofs.Imports.{reverse, encode_utf8_all, IsUtf8, nat_le, nat_lt, refl, sym, ap, ◌∙◌, arith}
-use Rattle.mail_words.proofs.Imports.{length-append, and-true, and-false, and_parts, le-leb, eq-eqb, eqb-true}
-use Rattle.mail_words.proofs.Imports.{reverse-append, encodes-append, encodes-chars, length-le-encodes, length-encode}
-use Rattle.mail_words.proofs.Imports.{len_utf8_bounds, list_all, list_any, is_word_character, is_joiner, begins}
-use Rattle.mail_words.proofs.Imports.{is_one_word, is_part_of_word, is_word, word_limit, is_piece, front, after_front}
-use Rattle.mail_words.proofs.Imports.{joined_to, joined_front}
+use Rattle.mail_words.proofs.Imports.{◌≡◌, ℕ, ◌≤◌, Bool, true, false, not, ◌&&◌, ◌||◌, List, [], ◌∷◌, ◌++◌, length, reverse, encode_utf8_all, IsUtf8, nat_le, nat_lt, refl, sym, ap, ◌∙◌, arith, length-append, and-true, and-false, and_parts, le-leb, eq-eqb, eqb-true, reverse-append, encodes-append, encodes-chars, length-le-encodes, length-encode, len_utf8_bounds, list_all, list_any, is_word_character, is_joiner, begins, is_one_word, is_part_of_word, is_word, word_limit, is_piece, front, after_front, joined_to, joined_front}
 use Rattle.std.proofs.Common.{chars}
 use Rattle.std.specs.Prelude.{◌==◌}
 use Rattle.std.proofs.lemmas.List.{append-nil}
-use Rattle.mail_words.proofs.RunLemmas.{is_some, front-pass, front-fail, front-after, joined_front-word}
-use Rattle.mail_words.proofs.RunLemmas.{joined_front-joiner, joined_front-other}
+use Rattle.mail_words.proofs.RunLemmas.{is_some, front-pass, front-fail, front-after, joined_front-word, joined_front-joiner, joined_front-other}
 
 -- ---- the last character
 

@@ -3,11 +3,7 @@
 use lib.Count.{count_trailing_zeros}
 use lib.Lanes.{chunk, mask_l, top, zip2}
 use mathlib.Core.List.{map-id}
-use Rattle.mail_words.proofs.Imports.{◌≡◌, ℕ, zero, suc, ◌+◌, ◌-◌, ◌*◌, ◌%◌, ◌^◌, ◌<◌, ◌≤◌, cond, Bool, true, false}
-use Rattle.mail_words.proofs.Imports.{not}
-use Rattle.mail_words.proofs.Imports.{◌&&◌, ◌||◌, List, [], ◌∷◌, length, get_or, replicate, bit_and, bit_or, eqb, leb}
-use Rattle.mail_words.proofs.Imports.{refl, sym, ap, ◌∙◌, subst, arith, inl, inr, cases_lt, mask_l-mod, length-chunk}
-use Rattle.mail_words.proofs.Imports.{get_or-chunk, prefix_len, first_set_mask_l}
+use Rattle.mail_words.proofs.Imports.{◌≡◌, ℕ, zero, suc, ◌+◌, ◌-◌, ◌*◌, ◌%◌, ◌^◌, ◌<◌, ◌≤◌, cond, Bool, true, false, not, ◌&&◌, ◌||◌, List, [], ◌∷◌, length, get_or, replicate, bit_and, bit_or, eqb, leb, refl, sym, ap, ◌∙◌, subst, arith, inl, inr, cases_lt, mask_l-mod, length-chunk, get_or-chunk, prefix_len, first_set_mask_l}
 use Rattle.std.proofs.Common.{map}
 use Rattle.std.proofs.Math.Bool.{or-false}
 use Rattle.std.proofs.lemmas.Bool.{not-true}

@@ -1,13 +1,7 @@
 -- The words that are left after a place, as a text is read from its front.
-use Rattle.mail_words.proofs.Imports.{◌≡◌, ℕ, Bool, true, false, ◌&&◌, List, [], ◌∷◌, ◌++◌, reverse, refl, sym, ap, ap₂}
-use Rattle.mail_words.proofs.Imports.{◌∙◌, lit<, arith, and-true, and-false, list_all, is_word_character, is_joiner}
-use Rattle.mail_words.proofs.Imports.{begins, after_joiners, front, after_front, is_other, read_front, words_left}
-use Rattle.mail_words.proofs.Imports.{within}
-use Rattle.mail_words.proofs.Imports.{long_at}
-use Rattle.mail_words.proofs.Characters.{joiner_is_no_word_character, word_character_is_no_joiner}
-use Rattle.mail_words.proofs.Characters.{is_word_character-ascii}
-use Rattle.mail_words.proofs.RunLemmas.{front-pass, front-fail, after-pass, after-fail, begins-after, is_some}
-use Rattle.mail_words.proofs.RunLemmas.{after_joiners-joiner, after_joiners-other, run-word}
+use Rattle.mail_words.proofs.Imports.{◌≡◌, ℕ, Bool, true, false, ◌&&◌, List, [], ◌∷◌, ◌++◌, reverse, refl, sym, ap, ap₂, ◌∙◌, lit<, arith, and-true, and-false, list_all, is_word_character, is_joiner, begins, after_joiners, front, after_front, is_other, read_front, words_left, within, long_at}
+use Rattle.mail_words.proofs.Characters.{joiner_is_no_word_character, word_character_is_no_joiner, is_word_character-ascii}
+use Rattle.mail_words.proofs.RunLemmas.{front-pass, front-fail, after-pass, after-fail, begins-after, is_some, after_joiners-joiner, after_joiners-other, run-word}
 use Rattle.mail_words.proofs.Places.{words_on, words_from, words_after-places}
 use Rattle.mail_words.proofs.WordTests.{same_before}
 use Rattle.mail_words.proofs.Steps.{words_on-other, none_within, words_on-word}

@@ -1,6 +1,5 @@
 -- Words of given texts, by computation. Here word characters are the letters and digits of ASCII.
-use Rattle.mail_words.proofs.Imports.{ℕ, Bool, ◌||◌, ◌&&◌, List, [], ◌∷◌, refl, leb, codes, is_joiner, is_word}
-use Rattle.mail_words.proofs.Imports.{words_after}
+use Rattle.mail_words.proofs.Imports.{ℕ, Bool, ◌||◌, ◌&&◌, List, [], ◌∷◌, refl, leb, codes, is_joiner, is_word, words_after}
 use Rattle.mail_words.proofs.RowTables.{Each}
 
 abbrev is_ascii_word : ℕ → Bool

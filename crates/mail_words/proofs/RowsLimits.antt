@@ -1,7 +1,6 @@
 -- Words of exactly 128 bytes and of more, by computation. A letter of four bytes keeps these texts short. Here word
 -- characters are the characters beyond ASCII.
-use Rattle.mail_words.proofs.Imports.{◌≡◌, ℕ, Bool, true, false, List, [], ◌∷◌, ◌++◌, refl, leb, encode_utf8_all}
-use Rattle.mail_words.proofs.Imports.{replicate, is_joiner, is_word, words_after}
+use Rattle.mail_words.proofs.Imports.{◌≡◌, ℕ, Bool, true, false, List, [], ◌∷◌, ◌++◌, refl, leb, encode_utf8_all, replicate, is_joiner, is_word, words_after}
 
 abbrev is_wide : ℕ → Bool
 is_wide = leb 0x80

@@ -1,7 +1,5 @@
 -- Word characters by Unicode's own tables, by computation.
-use Rattle.mail_words.proofs.Imports.{◌≡◌, Bool, true, false, List, [], ◌∷◌, refl, codes, replicate, ucd_derived}
-use Rattle.mail_words.proofs.Imports.{ucd_category, is_word_character, is_joiner, is_word, words, is_one_word}
-use Rattle.mail_words.proofs.Imports.{is_part_of_word}
+use Rattle.mail_words.proofs.Imports.{◌≡◌, Bool, true, false, List, [], ◌∷◌, refl, codes, replicate, ucd_derived, ucd_category, is_word_character, is_joiner, is_word, words, is_one_word, is_part_of_word}
 use Rattle.std.proofs.Common.{map}
 use Rattle.std.specs.Str.{chars}
 use Rattle.mail_words.proofs.RowTables.{Each}

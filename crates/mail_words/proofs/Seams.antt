@@ -1,9 +1,6 @@
 -- A text can be cut between any two of its characters.
 use lib.Utf8.{scalar}
-use Rattle.mail_words.proofs.Imports.{◌≡◌, ℕ, ◌+◌, ◌<◌, Bool, true, ◌&&◌, List, [], ◌∷◌, ◌++◌, length, take, drop}
-use Rattle.mail_words.proofs.Imports.{encode_utf8_all, IsUtf8, refl, sym, ap, subst, ◌∙◌, arith, length-append}
-use Rattle.mail_words.proofs.Imports.{and_parts, encodes-append, encodes-chars, chars-encodes, scalars-chars}
-use Rattle.mail_words.proofs.Imports.{length-le-encodes, IsCharBoundary-at_seam, IsCharBoundary, front, after_front}
+use Rattle.mail_words.proofs.Imports.{◌≡◌, ℕ, ◌+◌, ◌<◌, Bool, true, ◌&&◌, List, [], ◌∷◌, ◌++◌, length, take, drop, encode_utf8_all, IsUtf8, refl, sym, ap, subst, ◌∙◌, arith, length-append, and_parts, encodes-append, encodes-chars, chars-encodes, scalars-chars, length-le-encodes, IsCharBoundary-at_seam, IsCharBoundary, front, after_front}
 use Rattle.std.proofs.Common.{chars}
 use Rattle.std.proofs.Math.Seq.{take-append_seam, drop-append_seam}
 use Rattle.std.proofs.Math.Utf8.{scalars}

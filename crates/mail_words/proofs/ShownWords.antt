@@ -1,7 +1,5 @@
 -- A gap and a word found by one load are those that the text begins with.
-use Rattle.mail_words.proofs.Imports.{◌≡◌, ℕ, ◌+◌, ◌<◌, true, not, List, length, drop, get_or, encode_utf8_all, IsUtf8}
-use Rattle.mail_words.proofs.Imports.{refl, sym, ap, subst, arith, is_word_character, front, is_other, HasGapAndWord}
-use Rattle.mail_words.proofs.Imports.{is_ascii_other, is_ascii_word}
+use Rattle.mail_words.proofs.Imports.{◌≡◌, ℕ, ◌+◌, ◌<◌, true, not, List, length, drop, get_or, encode_utf8_all, IsUtf8, refl, sym, ap, subst, arith, is_word_character, front, is_other, HasGapAndWord, is_ascii_other, is_ascii_word}
 use Rattle.std.proofs.Common.{chars}
 use Rattle.std.proofs.lemmas.Bool.{not-true}
 use Rattle.std.proofs.lemmas.List.{get_or-drop, length-drop}

@@ -1,17 +1,10 @@
 -- The words that begin at a place, by the character there.
-use Rattle.mail_words.proofs.Imports.{◌≡◌, ℕ, Bool, true, false, ◌&&◌, ◌||◌, List, [], ◌∷◌, ◌++◌, reverse, refl, sym}
-use Rattle.mail_words.proofs.Imports.{ap, ap₂, ◌∙◌, append_assoc, arith, and-false, or-true, and_parts, reverse-append}
-use Rattle.mail_words.proofs.Imports.{list_all-append, list_any-append, list_all, list_any, is_word_character}
-use Rattle.mail_words.proofs.Imports.{is_joiner, begins, after_joiners, is_piece, front, after_front, joined_to}
-use Rattle.mail_words.proofs.Imports.{joined_front, within, joined_on, long_at}
+use Rattle.mail_words.proofs.Imports.{◌≡◌, ℕ, Bool, true, false, ◌&&◌, ◌||◌, List, [], ◌∷◌, ◌++◌, reverse, refl, sym, ap, ap₂, ◌∙◌, append_assoc, arith, and-false, or-true, and_parts, reverse-append, list_all-append, list_any-append, list_all, list_any, is_word_character, is_joiner, begins, after_joiners, is_piece, front, after_front, joined_to, joined_front, within, joined_on, long_at}
 use Rattle.std.proofs.Common.{append-nil}
 use Rattle.mail_words.proofs.Characters.{joiner_is_no_word_character, word_character_is_no_joiner}
-use Rattle.mail_words.proofs.RunLemmas.{front-pass, front-fail, after-pass, after-fail, begins-after, is_some}
-use Rattle.mail_words.proofs.RunLemmas.{nil_from_none, joined_front-word, joined_front-joiner, joined_front-other}
-use Rattle.mail_words.proofs.RunLemmas.{is_some-joined_front}
+use Rattle.mail_words.proofs.RunLemmas.{front-pass, front-fail, after-pass, after-fail, begins-after, is_some, nil_from_none, joined_front-word, joined_front-joiner, joined_front-other, is_some-joined_front}
 use Rattle.mail_words.proofs.Places.{words_on}
-use Rattle.mail_words.proofs.WordTests.{is_plain, is_long, none_begins, none_inside, none_of_others, none_ends}
-use Rattle.mail_words.proofs.WordTests.{none_yet, none_in_run, none_before_end}
+use Rattle.mail_words.proofs.WordTests.{is_plain, is_long, none_begins, none_inside, none_of_others, none_ends, none_yet, none_in_run, none_before_end}
 
 -- ---- the front of a word that grows by a character
 

@@ -1,6 +1,5 @@
 -- The table of word characters agrees with the definition at each of the 2,048 characters, by computation.
-use Rattle.mail_words.proofs.Imports.{ℕ, Bool, ◌≡◌, ◌<◌, ◌%◌, ◌^◌, get_or, refl, bit_and, agree_below_at}
-use Rattle.mail_words.proofs.Imports.{is_word_character, ucd_category, ucd_derived}
+use Rattle.mail_words.proofs.Imports.{ℕ, Bool, ◌≡◌, ◌<◌, ◌%◌, ◌^◌, get_or, refl, bit_and, agree_below_at, is_word_character, ucd_category, ucd_derived}
 use Rattle.std.proofs.Common.{◌==◌, ◌/◌}
 use Rattle.mail_words.specs.declared.bit_tables.TheConstants.{WORD_BITS}
 

@@ -1,7 +1,5 @@
 -- When the middle one of three parts of a text is a word.
-use Rattle.mail_words.proofs.Imports.{◌≡◌, ℕ, true, false, List, [], reverse, refl, and-false, or-true, list_all}
-use Rattle.mail_words.proofs.Imports.{list_any, is_word_character, is_joiner, begins, after_joiners, is_word, is_piece}
-use Rattle.mail_words.proofs.Imports.{within}
+use Rattle.mail_words.proofs.Imports.{◌≡◌, ℕ, true, false, List, [], reverse, refl, and-false, or-true, list_all, list_any, is_word_character, is_joiner, begins, after_joiners, is_word, is_piece, within}
 use Rattle.mail_words.proofs.Places.{if_word}
 
 pub is_plain : (before inside after : List ℕ) → begins is_word_character inside ≡ true

@@ -1,18 +1,12 @@
 -- The second that a Date field names fits in 64 bits.
-use Rattle.index_job.proofs.Words.{◌≡◌, ℕ, ◌+◌, ◌*◌, ◌≤◌, ℤ, pos, neg_ℤ, ◌+ℤ◌, ◌-ℤ◌, Bool, cond, nat_le, ◌&&◌, ◌==◌}
-use Rattle.index_job.proofs.Words.{List, [], ◌∷◌, Option, Some, None, IfSome, FitsSigned, w64, refl, sym, subst, arith}
-use Rattle.index_job.proofs.Words.{AllByRecursion, find, slice_split, option_map_or, bytes_eq, str_to_ascii_lowercase}
-use Rattle.index_job.proofs.Words.{unwrap_or, and_parts, leb-true, date_in_field}
+use Rattle.index_job.proofs.Words.{◌≡◌, ℕ, ◌+◌, ◌*◌, ◌≤◌, ℤ, pos, neg_ℤ, ◌+ℤ◌, ◌-ℤ◌, Bool, cond, nat_le, ◌&&◌, ◌==◌, List, [], ◌∷◌, Option, Some, None, IfSome, FitsSigned, w64, refl, sym, subst, arith, AllByRecursion, find, slice_split, option_map_or, bytes_eq, str_to_ascii_lowercase, unwrap_or, and_parts, leb-true, date_in_field}
 use Rattle.std.specs.Option.{option_map}
 use Rattle.jiff_core.specs.Calendar.{IsEpochDay, IsWithin, days_from_civil}
 use Rattle.jiff_core.proofs.CalendarLemmas.{days_from_civil-day_count, day_count_bounds}
 use Rattle.jiff_core.proofs.SignedLemmas.{signed_arith, fits_between}
 use Rattle.mail_dates.specs.Calendar.{day_number, month_of, start_of_day}
 use Rattle.mail_dates.specs.Numbers.{number_in, ◌>>=◌}
-use Rattle.mail_dates.specs.HeaderDates.{zones, hours_west, offset_size, numeric_offset, offset_of, zone_offset}
-use Rattle.mail_dates.specs.HeaderDates.{second_of_day, time_by, time_of_parts, is_colon, time_of, year_of}
-use Rattle.mail_dates.specs.HeaderDates.{date_of_parts_by, date_of_tokens_by, date_of, date_tokens, without_comments}
-use Rattle.mail_dates.specs.HeaderDates.{without_day_name}
+use Rattle.mail_dates.specs.HeaderDates.{zones, hours_west, offset_size, numeric_offset, offset_of, zone_offset, second_of_day, time_by, time_of_parts, is_colon, time_of, year_of, date_of_parts_by, date_of_tokens_by, date_of, date_tokens, without_comments, without_day_name}
 use Rattle.mail_dates.proofs.CivilDays.{IsCivilDay, numbered, year_within}
 
 -- if the condition is true of all values, it is true of the result

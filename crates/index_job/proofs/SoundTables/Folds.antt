@@ -1,14 +1,9 @@
 -- The folding of a word has at least one byte, and not too many for a key, whatever bytes the word has.
-use Rattle.index_job.proofs.Words.{◌≡◌, ℕ, zero, suc, ◌+◌, ◌-◌, ◌*◌, ◌/◌, ◌%◌, ◌^◌, ◌<◌, ◌≤◌, Bool, true, false, cond}
-use Rattle.index_job.proofs.Words.{nat_lt, List, [], ◌∷◌, ◌++◌, length, map, encode_utf8_all, refl, ap, arith}
-use Rattle.index_job.proofs.Words.{length-append, slice_range, AllByRecursion, chars, chars_after, continuation_len}
-use Rattle.index_job.proofs.Words.{lead_bits, cases_lt, nat_tests, recursion_from_All, folding, range_bytes}
-use Rattle.index_job.proofs.Words.{word_ranges, words, HasWordLength}
+use Rattle.index_job.proofs.Words.{◌≡◌, ℕ, zero, suc, ◌+◌, ◌-◌, ◌*◌, ◌/◌, ◌%◌, ◌^◌, ◌<◌, ◌≤◌, Bool, true, false, cond, nat_lt, List, [], ◌∷◌, ◌++◌, length, map, encode_utf8_all, refl, ap, arith, length-append, slice_range, AllByRecursion, chars, chars_after, continuation_len, lead_bits, cases_lt, nat_tests, recursion_from_All, folding, range_bytes, word_ranges, words, HasWordLength}
 use Rattle.std.specs.Char.{encode_utf8}
 use Rattle.std.proofs.lemmas.Str.{len_utf8_bounds, length-encode, length-le-encodes}
 use Rattle.caseless.specs.Caseless.{default_case_fold}
-use Rattle.caseless.proofs.CaselessLemmas.{default_case_fold-cons, length-default_case_fold, full_fold-none}
-use Rattle.caseless.proofs.CaselessLemmas.{full_fold-some}
+use Rattle.caseless.proofs.CaselessLemmas.{default_case_fold-cons, length-default_case_fold, full_fold-none, full_fold-some}
 use Rattle.unicode.specs.CaseFolding.{full_fold}
 use Rattle.mail_words.proofs.Lengths.{all-words}
 

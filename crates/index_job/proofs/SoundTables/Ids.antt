@@ -1,9 +1,5 @@
 -- The ids of a message's own header have at least one byte, and not too many for a key.
-use Rattle.index_job.proofs.Words.{ℕ, ◌+◌, ◌-◌, ◌<◌, ◌≤◌, ◌++◌, Bool, true, false, cond, List, [], ◌∷◌, length, map}
-use Rattle.index_job.proofs.Words.{drop, Option, IfSome, arith, length-append, slice_range, filter, flat_map}
-use Rattle.index_job.proofs.Words.{AllByRecursion, ltb-true, leb-true, length-take, length-drop, HeaderField}
-use Rattle.index_job.proofs.Words.{most_in_header, lines_before_empty, lines_within, header, field_of_line}
-use Rattle.index_job.proofs.Words.{with_continuations, continued_and_fields, fields_of, total, first_of, facts_of}
+use Rattle.index_job.proofs.Words.{ℕ, ◌+◌, ◌-◌, ◌<◌, ◌≤◌, ◌++◌, Bool, true, false, cond, List, [], ◌∷◌, length, map, drop, Option, IfSome, arith, length-append, slice_range, filter, flat_map, AllByRecursion, ltb-true, leb-true, length-take, length-drop, HeaderField, most_in_header, lines_before_empty, lines_within, header, field_of_line, with_continuations, continued_and_fields, fields_of, total, first_of, facts_of}
 use Rattle.header_text.specs.Blanks.{after_blanks, split_while}
 use Rattle.header_text.specs.Headers.{is_field_name_byte, field_of_name}
 use Rattle.header_text.specs.Ids.{id_ranges, kept_ids, ids_of}

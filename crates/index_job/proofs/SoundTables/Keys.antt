@@ -1,8 +1,5 @@
 -- The keys of archives are those of a well-formed table.
-use Rattle.index_job.proofs.Words.{ℕ, suc, ◌+◌, ◌<◌, ◌≤◌, ◌++◌, List, [], ◌∷◌, length, map, flat_map, Option, IfSome}
-use Rattle.index_job.proofs.Words.{arith, AllByRecursion, TextKind, words, folding, Text, Key, IsKey, KeyBefore}
-use Rattle.index_job.proofs.Words.{AllNext, newest, Message, text, Pair, with_terms, with_messages, Term, text_terms}
-use Rattle.index_job.proofs.Words.{own_id_terms, link_terms, message_terms}
+use Rattle.index_job.proofs.Words.{ℕ, suc, ◌+◌, ◌<◌, ◌≤◌, ◌++◌, List, [], ◌∷◌, length, map, flat_map, Option, IfSome, arith, AllByRecursion, TextKind, words, folding, Text, Key, IsKey, KeyBefore, AllNext, newest, Message, text, Pair, with_terms, with_messages, Term, text_terms, own_id_terms, link_terms, message_terms}
 use Rattle.mail_index.proofs.BuildLaws.DraftLemmas.{with_pair-listed}
 use Rattle.mail_index.proofs.BuildLaws.KeyPlaces.{with_pair-sorted}
 use Rattle.index_job.proofs.SoundTables.Folds.{IsKeyText, words-fold}

@@ -1,8 +1,5 @@
 -- The records of archives are those of a well-formed table.
-use Rattle.index_job.proofs.Words.{◌≡◌, ◌∙◌, ◌⊎◌, inl, inr, ℕ, suc, ◌+◌, ◌<◌, ◌≤◌, ◌++◌, List, [], ◌∷◌, length, map}
-use Rattle.index_job.proofs.Words.{refl, sym, ap, subst, arith, append_assoc, length-append, AllByRecursion, length-map}
-use Rattle.index_job.proofs.Words.{Record, Archive, archive_length, IsMessage, Follows, AllNext, Message, span_length}
-use Rattle.index_job.proofs.Words.{Mbox, messages_in, record_of, records_from, entry_of_archive}
+use Rattle.index_job.proofs.Words.{◌≡◌, ◌∙◌, ◌⊎◌, inl, inr, ℕ, suc, ◌+◌, ◌<◌, ◌≤◌, ◌++◌, List, [], ◌∷◌, length, map, refl, sym, ap, subst, arith, append_assoc, length-append, AllByRecursion, length-map, Record, Archive, archive_length, IsMessage, Follows, AllNext, Message, span_length, Mbox, messages_in, record_of, records_from, entry_of_archive}
 use Rattle.index_job.proofs.SoundTables.Dates.{told-fits}
 use Rattle.index_job.proofs.SoundTables.Spans.{AreSpanned, messages-spanned}
 

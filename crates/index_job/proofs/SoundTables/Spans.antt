@@ -1,9 +1,5 @@
 -- The messages of an archive come one after another within it, and each is longer than its text.
-use Rattle.index_job.proofs.Words.{◌≡◌, ◌∙◌, ℕ, ◌+◌, ◌<◌, ◌≤◌, Bool, true, false, cond, nat_lt, List, [], ◌∷◌, length}
-use Rattle.index_job.proofs.Words.{map, Some, None, refl, ap, arith, length-append, unwrap_or, AllByRecursion, concat}
-use Rattle.index_job.proofs.Words.{and_parts, ltb-false, Message, total, marked_lines, grouped_lines, is_refused}
-use Rattle.index_job.proofs.Words.{without_closing}
-use Rattle.index_job.proofs.Words.{size, span_length, messages_from, messages, archive_refusal, messages_in}
+use Rattle.index_job.proofs.Words.{◌≡◌, ◌∙◌, ℕ, ◌+◌, ◌<◌, ◌≤◌, Bool, true, false, cond, nat_lt, List, [], ◌∷◌, length, map, Some, None, refl, ap, arith, length-append, unwrap_or, AllByRecursion, concat, and_parts, ltb-false, Message, total, marked_lines, grouped_lines, is_refused, without_closing, size, span_length, messages_from, messages, archive_refusal, messages_in}
 use Rattle.mbox_cutter.specs.Lines.{lines, is_empty}
 use Rattle.mbox_cutter.specs.Separators.{is_separator}
 use Rattle.mbox_cutter.specs.declared.event.CutFault.TheVariants.{NotAnMbox, ArchiveTooLong}

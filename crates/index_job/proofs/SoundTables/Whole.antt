@@ -1,8 +1,5 @@
 -- The table of archives is well-formed if each has a path, none is refused, and all together are within the limits.
-use Rattle.index_job.proofs.Words.{◌≡◌, All, List, [], ◌∷◌, map, None, arith, AllByRecursion, recursion_from_All}
-use Rattle.index_job.proofs.Words.{most_in_archive, IsPath, IsArchive, IsWellFormed, newest, archive_refusal, AreSound}
-use Rattle.index_job.proofs.Words.{Mbox}
-use Rattle.index_job.proofs.Words.{entry_of_archive, table}
+use Rattle.index_job.proofs.Words.{◌≡◌, All, List, [], ◌∷◌, map, None, arith, AllByRecursion, recursion_from_All, most_in_archive, IsPath, IsArchive, IsWellFormed, newest, archive_refusal, AreSound, Mbox, entry_of_archive, table}
 use Rattle.sha2.proofs.Facts256.{length-sha256}
 use Rattle.index_job.proofs.SoundTables.Keys.{messages-listed, messages-sorted}
 use Rattle.index_job.proofs.SoundTables.Records.{records-in-order, records-placed}

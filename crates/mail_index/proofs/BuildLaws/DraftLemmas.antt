@@ -1,10 +1,6 @@
 -- Each call of a draft keeps its archives and keys well-formed, because every new number is below the count of
 -- messages.
-use Rattle.mail_index.proofs.Words.{◌≡◌, ℕ, suc, ◌+◌, ◌^◌, ◌<◌, ◌≤◌, true, false, nat_lt, if◌then◌else◌, List, [], ◌∷◌}
-use Rattle.mail_index.proofs.Words.{◌++◌, length, Result, OnOk, OnErr, refl, length-append, arith, Less, Equal, Greater}
-use Rattle.mail_index.proofs.Words.{match_ordering, nat_cmp, slice_cmp, AllByRecursion, nat_tests, Kind, kind_number}
-use Rattle.mail_index.proofs.Words.{newest, leb128, postings_from, end_from, with_number, Key, RisesFrom, IsKey, Draft}
-use Rattle.mail_index.proofs.Words.{with_pair}
+use Rattle.mail_index.proofs.Words.{◌≡◌, ℕ, suc, ◌+◌, ◌^◌, ◌<◌, ◌≤◌, true, false, nat_lt, if◌then◌else◌, List, [], ◌∷◌, ◌++◌, length, Result, OnOk, OnErr, refl, length-append, arith, Less, Equal, Greater, match_ordering, nat_cmp, slice_cmp, AllByRecursion, nat_tests, Kind, kind_number, newest, leb128, postings_from, end_from, with_number, Key, RisesFrom, IsKey, Draft, with_pair}
 use Rattle.mail_index.specs.Inside.Drafts.{IsDraft, message_count}
 use Rattle.mail_index.proofs.BuildLaws.PostingLemmas.{length-leb128}
 pub use Rattle.mail_index.proofs.Items.{all-snoc, all-weaker}

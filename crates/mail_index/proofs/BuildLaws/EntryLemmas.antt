@@ -1,14 +1,8 @@
 -- The bytes of an entry are the number of its kind, its text and its postings, wherever their parts are kept.
-use Rattle.mail_index.proofs.Words.{◌≡◌, ◌∙◌, ℕ, ◌+◌, ◌-◌, ◌^◌, ◌<◌, ◌≤◌, nat_le, Bool, true, false, cond, List, []}
-use Rattle.mail_index.proofs.Words.{◌∷◌, ◌++◌, length, take, drop, slice_index, refl, sym, ap, ap₂, subst, arith}
-use Rattle.mail_index.proofs.Words.{append-nil, append_assoc, length-append, nat_tests, length-take-le, take-append-le}
-use Rattle.mail_index.proofs.Words.{drop-append-le, drop_at, take-length, drop-append_seam, Kind, kind_number}
-use Rattle.mail_index.proofs.Words.{kind_of_number, Key, leb128, end_from, numbers_of}
-use Rattle.mail_index.specs.Inside.KeyMaps.{new_key, with_one, key_in, short_front, front_holder, key_bytes}
-use Rattle.mail_index.specs.Inside.KeyMaps.{AreEntryBytes, HoldsFront}
+use Rattle.mail_index.proofs.Words.{◌≡◌, ◌∙◌, ℕ, ◌+◌, ◌-◌, ◌^◌, ◌<◌, ◌≤◌, nat_le, Bool, true, false, cond, List, [], ◌∷◌, ◌++◌, length, take, drop, slice_index, refl, sym, ap, ap₂, subst, arith, append-nil, append_assoc, length-append, nat_tests, length-take-le, take-append-le, drop-append-le, drop_at, take-length, drop-append_seam, Kind, kind_number, kind_of_number, Key, leb128, end_from, numbers_of}
+use Rattle.mail_index.specs.Inside.KeyMaps.{new_key, with_one, key_in, short_front, front_holder, key_bytes, AreEntryBytes, HoldsFront}
 use Rattle.mail_index.proofs.ViewLaws.KindNumbers.{kind_of-number}
-use Rattle.mail_index.proofs.BuildLaws.PostingLemmas.{posted-nil, numbers_of-nil, posted-more, numbers_of-more}
-use Rattle.mail_index.proofs.BuildLaws.PostingLemmas.{with_number-low, with_number-new, with_number-nil}
+use Rattle.mail_index.proofs.BuildLaws.PostingLemmas.{posted-nil, numbers_of-nil, posted-more, numbers_of-more, with_number-low, with_number-new, with_number-nil}
 
 -- ---- no postings
 

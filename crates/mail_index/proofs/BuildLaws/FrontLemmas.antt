@@ -1,15 +1,8 @@
 -- Keys whose fronts differ compare as their fronts do, because a front is the number of a key's first eight bytes.
-use Rattle.mail_index.proofs.Words.{◌≡◌, ◌∙◌, ℕ, zero, suc, ◌+◌, ◌*◌, ◌^◌, ◌<◌, ◌≤◌, Bool, nat_eq, nat_lt, List, []}
-use Rattle.mail_index.proofs.Words.{◌∷◌, ◌++◌, length, take, drop, min, replicate, set, get_or, refl, sym, ap, ap₂}
-use Rattle.mail_index.proofs.Words.{arith, length-append, nat_cmp, lit<, Fits, w8, Ordering, Less, Equal, Greater}
-use Rattle.mail_index.proofs.Words.{MatchOrdering, ordering_then, ordering_reverse, slice_cmp, w64, from_be_bytes}
-use Rattle.mail_index.proofs.Words.{AllByRecursion, insert, nat_tests, nat_list_cmp_total, ranked, length-take-le}
-use Rattle.mail_index.proofs.Words.{get_or_append_left, get_or-append_right, get_or-take, get_or-drop, get_or_past}
-use Rattle.mail_index.proofs.Words.{get_or-set_same, get_or-set_other, length-set, get_or-append_seam, mul-le-mul_right}
-use Rattle.mail_index.proofs.Words.{pow-succ', Kind, Key, kind_number, lies_to, key_at, no_key}
+use Rattle.mail_index.proofs.Words.{◌≡◌, ◌∙◌, ℕ, zero, suc, ◌+◌, ◌*◌, ◌^◌, ◌<◌, ◌≤◌, Bool, nat_eq, nat_lt, List, [], ◌∷◌, ◌++◌, length, take, drop, min, replicate, set, get_or, refl, sym, ap, ap₂, arith, length-append, nat_cmp, lit<, Fits, w8, Ordering, Less, Equal, Greater, MatchOrdering, ordering_then, ordering_reverse, slice_cmp, w64, from_be_bytes, AllByRecursion, insert, nat_tests, nat_list_cmp_total, ranked, length-take-le, get_or_append_left, get_or-append_right, get_or-take, get_or-drop, get_or_past, get_or-set_same, get_or-set_other, length-set, get_or-append_seam, mul-le-mul_right, pow-succ', Kind, Key, kind_number, lies_to, key_at, no_key}
 use Rattle.mail_index.specs.declared.build.key_front.Fronted.{Fronted}
 use Rattle.mail_index.specs.Inside.KeyFronts.{number_of_first, IsFrontOfKey, IsFronted}
-use Rattle.mail_index.specs.Inside.KeyMaps.{new_key, with_one}
+use Rattle.mail_index.specs.Inside.KeyMaps.{with_one}
 use Rattle.mail_index.proofs.BuildLaws.KeyMapLemmas.{all-inserted}
 
 -- ---- the order of lists by their first items
@@ -156,12 +149,20 @@ fronted-kept : (old new : List Key) → length old ≤ length new
 fronted-kept old new more same [] all = tt
 fronted-kept old new more same (slot ∷ slots) all = grind (arith, key_at, fronted-kept old new more same slots all.1)
 
+-- one more key, without a slot
+pub fronted-more : (k : Key) (entries : List Key) (slots : List Fronted) → AllByRecursion (IsFronted entries) slots
+    → AllByRecursion (IsFronted (entries ++ k ∷ [])) slots
+fronted-more k entries slots all =
+    fronted-kept entries (entries ++ k ∷ []) (omega (arith, length-append entries (k ∷ [])))
+    (λ i h. let same : key_at (entries ++ k ∷ []) i ≡ key_at entries i = get_or_append_left entries (k ∷ []) no_key i h
+    in record { kind = sym (ap (λ (j : Key). j.kind) same); text = sym (ap (λ (j : Key). j.text) same) }) slots all
+
 -- one more key, with its slot
-pub fronted-new : (kind : Kind) (text : List ℕ) (n : ℕ) (entries : List Key) (slots : List Fronted) (place front : ℕ)
-    → IsFrontOfKey kind text front → AllByRecursion (IsFronted entries) slots
-    → AllByRecursion (IsFronted (entries ++ new_key kind text n ∷ []))
+pub fronted-new : (k : Key) (entries : List Key) (slots : List Fronted) (place front : ℕ)
+    → IsFrontOfKey k.kind k.text front → AllByRecursion (IsFronted entries) slots
+    → AllByRecursion (IsFronted (entries ++ k ∷ []))
     (insert slots place (record { number = length entries; front = front }))
-fronted-new kind text n entries slots place front new all =
+fronted-new k entries slots place front new all =
     grind (arith, length-append, key_at, get_or-append_seam, no_key, all-inserted, fronted-kept, get_or_append_left)
 
 -- one more number of a key

@@ -1,8 +1,6 @@
 -- A pair that is there already changes nothing, also after another pair was added: by the order of the two keys.
 use Rattle.std.proofs.Common.{arith}
-use Rattle.mail_index.proofs.Words.{◌≡◌, ℕ, List, [], ◌∷◌, length, drop, get_or, refl, sym, ap, ◌∙◌, subst, Ordering}
-use Rattle.mail_index.proofs.Words.{Less, Equal, Greater, match_ordering, ordering_reverse, nat_cmp, slice_cmp}
-use Rattle.mail_index.proofs.Words.{nat_list_cmp_total, Kind, kind_number, key_cmp, Key, with_pair}
+use Rattle.mail_index.proofs.Words.{◌≡◌, ℕ, List, [], ◌∷◌, length, drop, get_or, refl, sym, ap, ◌∙◌, subst, Ordering, Less, Equal, Greater, match_ordering, ordering_reverse, nat_cmp, slice_cmp, nat_list_cmp_total, Kind, kind_number, key_cmp, Key, with_pair}
 use Rattle.mail_index.specs.Inside.KeyMaps.{new_key, with_one}
 
 -- the keys with a pair, if its key compares with the first of them in this way

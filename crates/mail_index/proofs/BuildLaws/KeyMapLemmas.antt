@@ -1,19 +1,9 @@
 -- One more number and one more entry keep the map's keys in order, because a search finds the only gap for a new key.
-use Rattle.mail_index.proofs.Words.{◌≡◌, ◌∙◌, ℕ, zero, suc, ◌-◌, ◌<◌, ◌≤◌, inl, inr, Bool, true, false, nat_eq, nat_lt}
-use Rattle.mail_index.proofs.Words.{List, [], ◌∷◌, ◌++◌, length, map, set, get_or, refl, sym, ap, ap₂, subst, arith}
-use Rattle.mail_index.proofs.Words.{length-append, Vec, Global, Ordering, Less, Equal, Greater, match_ordering}
-use Rattle.mail_index.proofs.Words.{ordering_reverse, nat_cmp, slice_cmp, AllByRecursion, insert, IsStrictlySortedBy}
-use Rattle.mail_index.proofs.Words.{nat_tests, nat_list_cmp_total, length-map, length-set, get_or-map}
-use Rattle.mail_index.proofs.Words.{get_or_append_left, get_or-set_same, get_or-set_other, get_or-append_seam}
-use Rattle.mail_index.proofs.Words.{length-insert, Kind, kind_number, Key, key_at, no_key, lies_to, AreSorted}
-use Rattle.mail_index.proofs.Words.{with_pair}
+use Rattle.mail_index.proofs.Words.{◌≡◌, ◌∙◌, ℕ, zero, suc, ◌-◌, ◌<◌, ◌≤◌, inl, inr, Bool, true, false, nat_eq, nat_lt, List, [], ◌∷◌, ◌++◌, length, map, set, get_or, refl, sym, ap, ap₂, subst, arith, length-append, Vec, Global, Ordering, Less, Equal, Greater, ordering_reverse, nat_cmp, slice_cmp, AllByRecursion, insert, IsStrictlySortedBy, nat_tests, nat_list_cmp_total, length-map, length-set, get_or-map, get_or_append_left, get_or-set_same, get_or-set_other, get_or-append_seam, Kind, kind_number, Key, key_at, no_key, lies_to, AreSorted}
 use Rattle.mail_index.specs.declared.build.key_front.Fronted.{Fronted}
-use Rattle.mail_index.specs.Inside.KeyMaps.{new_key, with_one, keys_by_numbers, numbers_of_slots, slot_keys, rows}
-use Rattle.mail_index.specs.Inside.KeyMaps.{in_pages}
-use Rattle.mail_index.specs.Inside.KeyMaps.{position, IsAmong, IsOrder, IsGap}
+use Rattle.mail_index.specs.Inside.KeyMaps.{with_one, keys_by_numbers, numbers_of_slots, slot_keys, rows, in_pages, position, IsAmong, IsOrder, IsGap}
 use Rattle.mail_index.proofs.ViewLaws.LookUpLemmas.{key_bytes, before-less, after-greater}
-use Rattle.mail_index.proofs.BuildLaws.PageLemmas.{position-step, position-next, position-last, position-within}
-use Rattle.mail_index.proofs.BuildLaws.PageLemmas.{at-page, at-head}
+use Rattle.mail_index.proofs.BuildLaws.PageLemmas.{position-step, position-next, position-last, position-within, at-page, at-head}
 use Rattle.mail_index.proofs.Items.{all-weaker}
 
 abbrev bytes_of : Kind → List ℕ → List ℕ
@@ -150,21 +140,6 @@ gap-above kind text ks place j s g le lt =
 
 -- ---- one more key
 
-with_pair-new : (kind : Kind) (text : List ℕ) (n : ℕ) (ks : List Key) (place : ℕ) → place ≤ length ks
-    → ((j : ℕ) → j < place → lies_to kind text (key_at ks j) ≡ Less)
-    → ((j : ℕ) → place ≤ j → j < length ks → lies_to kind text (key_at ks j) ≡ Greater)
-    → with_pair kind text n ks ≡ insert ks place (new_key kind text n)
-with_pair-new kind text n [] zero w below above = refl
-with_pair-new kind text n [] (suc place) w below above = absurd (omega (arith, w))
-with_pair-new kind text n (k ∷ ks) zero w below above =
-    ap (λ (o : Ordering). match_ordering o (new_key kind text n ∷ k ∷ ks) (with_one k n ∷ ks)
-    (k ∷ with_pair kind text n ks)) (wanted-to kind text k Greater (above 0 (omega arith) (omega arith)))
-with_pair-new kind text n (k ∷ ks) (suc place) w below above =
-    ap (λ (o : Ordering). match_ordering o (new_key kind text n ∷ k ∷ ks) (with_one k n ∷ ks)
-    (k ∷ with_pair kind text n ks)) (wanted-to kind text k Less (below 0 (omega arith)))
-    ∙ ap (λ (l : List Key). k ∷ l) (with_pair-new kind text n ks place (omega (arith, w))
-    (λ j lt. below (suc j) (omega (arith, lt))) (λ j le lt. above (suc j) (omega (arith, le)) (omega (arith, lt))))
-
 all-after : (kind : Kind) (text : List ℕ) (ks : List Key)
     → ((j : ℕ) → j < length ks → lies_to kind text (key_at ks j) ≡ Greater)
     → AllByRecursion (λ y. slice_cmp nat_cmp (bytes_of kind text) y ≡ Less) (map key_bytes ks)
@@ -181,19 +156,19 @@ all-insert P [] (suc place) k all new = (new, tt)
 all-insert P (x ∷ ks) zero k all new = (new, all)
 all-insert P (x ∷ ks) (suc place) k all new = (all.0, all-insert P ks place k all.1 new)
 
-sorted-new : (kind : Kind) (text : List ℕ) (n : ℕ) (ks : List Key) (place : ℕ) → AreSorted ks → place ≤ length ks
-    → ((j : ℕ) → j < place → lies_to kind text (key_at ks j) ≡ Less)
-    → ((j : ℕ) → place ≤ j → j < length ks → lies_to kind text (key_at ks j) ≡ Greater)
-    → AreSorted (insert ks place (new_key kind text n))
+sorted-new : (k : Key) (ks : List Key) (place : ℕ) → AreSorted ks → place ≤ length ks
+    → ((j : ℕ) → j < place → lies_to k.kind k.text (key_at ks j) ≡ Less)
+    → ((j : ℕ) → place ≤ j → j < length ks → lies_to k.kind k.text (key_at ks j) ≡ Greater)
+    → AreSorted (insert ks place k)
 unfolding IsStrictlySortedBy
-sorted-new kind text n [] zero s w below above = (tt, tt)
-sorted-new kind text n [] (suc place) s w below above = (tt, tt)
-sorted-new kind text n (k ∷ ks) zero s w below above =
-    (all-after kind text (k ∷ ks) (λ j lt. above j (omega arith) lt), s)
-sorted-new kind text n (k ∷ ks) (suc place) s w below above = (
-  all-insert (λ y. slice_cmp nat_cmp (key_bytes k) y ≡ Less) ks place (new_key kind text n) s.0 (below 0 (omega arith)),
-  sorted-new kind text n ks place s.1 (omega (arith, w)) (λ j lt. below (suc j) (omega (arith, lt)))
-      (λ j le lt. above (suc j) (omega (arith, le)) (omega (arith, lt))),
+sorted-new k [] zero s w below above = (tt, tt)
+sorted-new k [] (suc place) s w below above = (tt, tt)
+sorted-new k (j ∷ js) zero s w below above =
+    (all-after k.kind k.text (j ∷ js) (λ i lt. above i (omega arith) lt), s)
+sorted-new k (j ∷ js) (suc place) s w below above = (
+  all-insert (λ y. slice_cmp nat_cmp (key_bytes j) y ≡ Less) js place k s.0 (below 0 (omega arith)),
+  sorted-new k js place s.1 (omega (arith, w)) (λ i lt. below (suc i) (omega (arith, lt)))
+      (λ i le lt. above (suc i) (omega (arith, le)) (omega (arith, lt))),
 )
 
 -- one more entry leaves the keys of the others unchanged
@@ -224,64 +199,139 @@ all-inserted P [] (suc place) m all new = (new, tt)
 all-inserted P (i ∷ order) zero m all new = (new, all)
 all-inserted P (i ∷ order) (suc place) m all new = (all.0, all-inserted P order place m all.1 new)
 
-among-new : (order : List ℕ) (place m : ℕ) → IsAmong m (insert order place m)
+pub among-new : (order : List ℕ) (place m : ℕ) → IsAmong m (insert order place m)
 among-new [] zero m = inl refl
 among-new [] (suc place) m = inl refl
 among-new (i ∷ order) zero m = inl refl
 among-new (i ∷ order) (suc place) m = inr (among-new order place m)
 
-among-kept : (order : List ℕ) (place m i : ℕ) → IsAmong i order → IsAmong i (insert order place m)
+pub among-kept : (order : List ℕ) (place m i : ℕ) → IsAmong i order → IsAmong i (insert order place m)
 among-kept [] place m i a = absurd a
 among-kept (x ∷ order) zero m i a = inr a
 among-kept (x ∷ order) (suc place) m i a = elim a [ inl e ↦ inl e | inr b ↦ inr (among-kept order place m i b) ]
 
--- the keys with one more entry are those with one more pair
-pub with_pair-gap : (kind : Kind) (text : List ℕ) (n : ℕ) (entries : List Key) (order : List ℕ) (place : ℕ)
-    → IsOrder entries order → IsGap kind text (keys_by_numbers entries order) place
-    → keys_by_numbers (entries ++ new_key kind text n ∷ []) (insert order place (length entries))
-    ≡ with_pair kind text n (keys_by_numbers entries order)
-with_pair-gap kind text n entries order place o g =
-    placed-new entries (new_key kind text n) order place o.within
-    ∙ sym (with_pair-new kind text n (keys_by_numbers entries order) place g.within
-    (λ j lt. gap-below kind text (keys_by_numbers entries order) place j o.sorted g lt)
-    (λ j le lt. gap-above kind text (keys_by_numbers entries order) place j o.sorted g le lt))
+-- an order keeps the keys of its entries sorted if one more is put at its gap
+sorted-gap : (k : Key) (ks : List Key) (place : ℕ) → AreSorted ks → IsGap k.kind k.text ks place
+    → AreSorted (insert ks place k)
+sorted-gap k ks place s g = sorted-new k ks place s g.within
+    (λ j lt. gap-below k.kind k.text ks place j s g lt)
+    (λ j le lt. gap-above k.kind k.text ks place j s g le lt)
 
-pub length-with_pair-gap : (kind : Kind) (text : List ℕ) (n : ℕ) (entries : List Key) (order : List ℕ) (place : ℕ)
-    → IsOrder entries order → IsGap kind text (keys_by_numbers entries order) place
-    → length (with_pair kind text n (keys_by_numbers entries order)) ≡ suc (length entries)
-length-with_pair-gap kind text n entries order place o g =
-    let low : place ≤ length order = omega (arith, g.within, length-map order (key_at entries)) in
-    ap length (sym (with_pair-gap kind text n entries order place o g))
-    ∙ length-map (insert order place (length entries)) (key_at (entries ++ new_key kind text n ∷ []))
-    ∙ length-insert order place (length entries) low ∙ omega (arith, o.count)
+-- one more entry, without its number
+pub order-more : (k : Key) (entries : List Key) (order : List ℕ) → IsOrder entries order
+    → IsOrder (entries ++ k ∷ []) order
+order-more k entries order o = record {
+  sorted = subst AreSorted (sym (placed-more entries k order o.within)) o.sorted;
+  within = all-weaker (λ m. m < length entries) (λ m. m < length (entries ++ k ∷ []))
+      (λ m low. omega (arith, length-append entries (k ∷ []))) order o.within;
+}
 
-pub order-new : (kind : Kind) (text : List ℕ) (n : ℕ) (entries : List Key) (order : List ℕ) (place : ℕ)
-    → IsOrder entries order → IsGap kind text (keys_by_numbers entries order) place
-    → IsOrder (entries ++ new_key kind text n ∷ []) (insert order place (length entries))
-order-new kind text n entries order place o g =
-    let k : Key = new_key kind text n in
-    let long : length (entries ++ k ∷ []) ≡ suc (length entries) = length-append entries (k ∷ []) ∙ omega arith in
-    let low : place ≤ length order = omega (arith, g.within, length-map order (key_at entries)) in
-    record {
-      sorted = subst AreSorted (sym (placed-new entries k order place o.within))
-          (sorted-new kind text n (keys_by_numbers entries order) place o.sorted g.within
-          (λ j lt. gap-below kind text (keys_by_numbers entries order) place j o.sorted g lt)
-          (λ j le lt. gap-above kind text (keys_by_numbers entries order) place j o.sorted g le lt));
-      within = all-inserted (λ i. i < length (entries ++ k ∷ [])) order place (length entries)
-          (all-weaker (λ m. m < length entries) (λ m. m < length (entries ++ k ∷ []))
-          (λ m low. omega (arith, long, low)) order o.within) (omega (arith, long));
-      whole = λ i lt. whole i lt (nat_eq i (length entries)) refl;
-      count = length-insert order place (length entries) low ∙ omega (arith, o.count, long);
-    }
+-- one more entry, with its number
+pub order-new : (k : Key) (entries : List Key) (order : List ℕ) (place : ℕ) → IsOrder entries order
+    → IsGap k.kind k.text (keys_by_numbers entries order) place
+    → IsOrder (entries ++ k ∷ []) (insert order place (length entries))
+order-new k entries order place o g = record {
+  sorted = subst AreSorted (sym (placed-new entries k order place o.within))
+      (sorted-gap k (keys_by_numbers entries order) place o.sorted g);
+  within = all-inserted (λ i. i < length (entries ++ k ∷ [])) order place (length entries)
+      (order-more k entries order o).within (omega (arith, length-append entries (k ∷ [])));
+}
+
+-- one more number of an entry
+pub order-placed : (entries : List Key) (number : ℕ) (order : List ℕ) (place : ℕ) → number < length entries
+    → IsOrder entries order
+    → IsGap (key_at entries number).kind (key_at entries number).text (keys_by_numbers entries order) place
+    → IsOrder entries (insert order place number)
+order-placed entries number order place low o g = record {
+  sorted = subst AreSorted (sym (map-insert (key_at entries) order place number))
+      (sorted-gap (key_at entries number) (keys_by_numbers entries order) place o.sorted g);
+  within = all-inserted (λ i. i < length entries) order place number o.within low;
+}
+
+pub among-within : (count : ℕ) (order : List ℕ) (i : ℕ) → AllByRecursion (λ n. n < count) order → IsAmong i order
+    → i < count
+among-within count [] i all a = absurd a
+among-within count (x ∷ order) i all a = elim a [
+  | inl e ↦ subst (λ n. n < count) e all.0
+  | inr b ↦ among-within count order i all.1 b
+]
+
+among-index : (order : List ℕ) (i : ℕ) → IsAmong i order → (k : ℕ) × (k < length order) × (get_or order k 0 ≡ i)
+among-index [] i a = absurd a
+among-index (x ∷ order) i a = elim a [
+  | inl e ↦ (0, omega arith, e)
+  | inr b ↦ let found = among-index order i b in (suc found.0, omega (arith, found.1), found.2)
+]
+
+-- an order with a gap for a key has no entry of it
+pub gap-absent : (kind : Kind) (text : List ℕ) (entries : List Key) (order : List ℕ) (place i : ℕ)
+    → IsOrder entries order → IsGap kind text (keys_by_numbers entries order) place → IsAmong i order
+    → lies_to kind text (key_at entries i) ≡ Equal → ⊥
+gap-absent kind text entries order place i o g a equal =
+    let found = among-index order i a in
+    let long : length (keys_by_numbers entries order) ≡ length order = length-map order (key_at entries) in
+    let same : lies_to kind text (key_at (keys_by_numbers entries order) found.0) ≡ Equal =
+    ap (lies_to kind text) (placed-at entries order found.0 found.1 ∙ ap (key_at entries) found.2) ∙ equal in
+    go found.0 (omega (arith, found.1, long)) same (nat_lt found.0 place) refl
   where
-    whole : (i : ℕ) → i < length (entries ++ new_key kind text n ∷ []) → (t : Bool) → nat_eq i (length entries) ≡ t
-        → IsAmong i (insert order place (length entries))
-    whole i lt true e = let same : length entries ≡ i = grind (arith, nat_tests)
-        in subst (λ (m : ℕ). IsAmong i (insert order place m)) (sym same) (among-new order place i)
-    whole i lt false e =
-        let low : i < length entries = grind (arith, nat_tests, length-append entries (new_key kind text n ∷ []), lt, e)
-        in
-        among-kept order place (length entries) i (o.whole i low)
+    go : (j : ℕ) → j < length (keys_by_numbers entries order)
+        → lies_to kind text (key_at (keys_by_numbers entries order) j) ≡ Equal → (t : Bool) → nat_lt j place ≡ t → ⊥
+    go j low same true e =
+        let less : lies_to kind text (key_at (keys_by_numbers entries order) j) ≡ Less =
+        gap-below kind text (keys_by_numbers entries order) place j o.sorted g (grind (arith, nat_tests)) in
+        absurd cc
+    go j low same false e =
+        let greater : lies_to kind text (key_at (keys_by_numbers entries order) j) ≡ Greater =
+        gap-above kind text (keys_by_numbers entries order) place j o.sorted g (grind (arith, nat_tests)) low in
+        absurd cc
+
+-- ---- numbers of slots
+
+pub among-slot : (slots : List Fronted) (j : ℕ) (d : Fronted) → j < length slots
+    → IsAmong (get_or slots j d).number (numbers_of_slots slots)
+among-slot [] j d h = absurd (omega (arith, h))
+among-slot (slot ∷ slots) zero d h = inl refl
+among-slot (slot ∷ slots) (suc j) d h = inr (among-slot slots j d (omega (arith, h)))
+
+among-right : (n : ℕ) (xs ys : List Fronted) → IsAmong n (numbers_of_slots ys) → IsAmong n (numbers_of_slots (xs ++ ys))
+among-right n [] ys a = a
+among-right n (x ∷ xs) ys a = inr (among-right n xs ys a)
+
+among-left : (n : ℕ) (xs ys : List Fronted) → IsAmong n (numbers_of_slots xs) → IsAmong n (numbers_of_slots (xs ++ ys))
+among-left n [] ys a = absurd a
+among-left n (x ∷ xs) ys a = elim a [ inl e ↦ inl e | inr b ↦ inr (among-left n xs ys b) ]
+
+among-heads : (n : ℕ) (pages : List (List Fronted)) (heads : List Fronted) → length heads ≡ length pages - 1
+    → IsAmong n (numbers_of_slots heads) → IsAmong n (numbers_of_slots (in_pages pages heads))
+among-heads n pages [] b a = absurd a
+among-heads n [] (head ∷ heads) b a = absurd (omega (arith, b))
+among-heads n (row ∷ []) (head ∷ heads) b a = absurd (omega (arith, b))
+among-heads n (row ∷ next ∷ rest) (head ∷ heads) b a = among-right n row (head ∷ in_pages (next ∷ rest) heads)
+    (elim a [ inl e ↦ inl e | inr c ↦ inr (among-heads n (next ∷ rest) heads (omega (arith, b)) c) ])
+
+among-row : (n : ℕ) (pages : List (List Fronted)) (heads : List Fronted) (page : ℕ) → length heads ≡ length pages - 1
+    → page < length pages → IsAmong n (numbers_of_slots (get_or pages page []))
+    → IsAmong n (numbers_of_slots (in_pages pages heads))
+among-row n [] heads page b h a = absurd (omega (arith, h))
+among-row n (row ∷ rest) [] zero b h a = among-left n row [] a
+among-row n (row ∷ rest) (head ∷ heads) zero b h a = among-left n row (head ∷ in_pages rest heads) a
+among-row n (row ∷ rest) [] (suc page) b h a = absurd (omega (arith, b, h))
+among-row n (row ∷ rest) (head ∷ heads) (suc page) b h a = among-right n row (head ∷ in_pages rest heads)
+    (inr (among-row n rest heads page (omega (arith, b, h)) (omega (arith, h)) a))
+
+pub among-head : (n : ℕ) (pages : List (Vec Fronted Global)) (heads : List Fronted) → length heads
+    ≡ length pages - 1 → IsAmong n (numbers_of_slots heads)
+    → IsAmong n (numbers_of_slots (in_pages (rows pages) heads))
+among-head n pages heads b a = among-heads n (rows pages) heads
+    (omega (arith, b, length-map pages (λ (p : Vec Fronted Global). p.items))) a
+
+pub among-page : (n : ℕ) (pages : List (Vec Fronted Global)) (heads : List Fronted) (page : ℕ) (row : List Fronted)
+    → length heads ≡ length pages - 1 → page < length pages → row ≡ get_or (rows pages) page []
+    → IsAmong n (numbers_of_slots row) → IsAmong n (numbers_of_slots (in_pages (rows pages) heads))
+among-page n pages heads page row b h r a =
+    let long = length-map pages (λ (p : Vec Fronted Global). p.items) in
+    among-row n (rows pages) heads page (omega (arith, b, long)) (omega (arith, h, long))
+    (subst (λ l. IsAmong n (numbers_of_slots l)) r a)
 
 -- ---- one more number
 
@@ -289,89 +339,6 @@ order-new kind text n entries order place o g =
 key-other : (entries : List Key) (i j : ℕ) (k : Key) → nat_eq j i ≡ false → key_at (set entries i k) j
     ≡ key_at entries j
 key-other entries i j k e = get_or-set_other entries i j k no_key (grind (arith, nat_tests))
-
-placed-other : (entries : List Key) (i : ℕ) (k : Key) (order : List ℕ)
-    → AllByRecursion (λ y. slice_cmp nat_cmp (key_bytes (key_at entries i)) y ≡ Less)
-    (map key_bytes (keys_by_numbers entries order))
-    → keys_by_numbers (set entries i k) order ≡ keys_by_numbers entries order
-placed-other entries i k [] all = refl
-placed-other entries i k (j ∷ order) all =
-    ap₂ (λ (x : Key) (l : List Key). x ∷ l) (go (nat_eq j i) refl) (placed-other entries i k order all.1)
-  where
-    go : (t : Bool) → nat_eq j i ≡ t → key_at (set entries i k) j ≡ key_at entries j
-    go true e =
-        let same : j ≡ i = grind (arith, nat_tests) in
-        let less : slice_cmp nat_cmp (key_bytes (key_at entries i)) (key_bytes (key_at entries i)) ≡ Less =
-        subst (λ (m : ℕ). slice_cmp nat_cmp (key_bytes (key_at entries i)) (key_bytes (key_at entries m)) ≡ Less)
-        same all.0 in
-        absurd (irreflexive (slice_cmp nat_cmp (key_bytes (key_at entries i)) (key_bytes (key_at entries i))) less
-        (nat_list_cmp_total.antisymm (key_bytes (key_at entries i)) (key_bytes (key_at entries i))))
-      where
-        irreflexive : (o : Ordering) → o ≡ Less → o ≡ ordering_reverse o → ⊥
-        irreflexive Less e r = absurd cc
-        irreflexive Equal e r = absurd cc
-        irreflexive Greater e r = absurd cc
-    go false e = key-other entries i j k e
-
--- a key among those after a key comes after it
-among-after : (entries : List Key) (i : ℕ) (first : List ℕ) (order : List ℕ) → IsAmong i order
-    → AllByRecursion (λ y. slice_cmp nat_cmp first y ≡ Less) (map key_bytes (keys_by_numbers entries order))
-    → slice_cmp nat_cmp first (key_bytes (key_at entries i)) ≡ Less
-among-after entries i first [] a all = absurd a
-among-after entries i first (j ∷ order) a all = elim a [
-  | inl e ↦ subst (λ (m : ℕ). slice_cmp nat_cmp first (key_bytes (key_at entries m)) ≡ Less) e all.0
-  | inr b ↦ among-after entries i first order b all.1
-]
-
-pub with_pair-found : (kind : Kind) (text : List ℕ) (n : ℕ) (entries : List Key) (i : ℕ) (order : List ℕ)
-    → i < length entries → lies_to kind text (key_at entries i) ≡ Equal
-    → AreSorted (keys_by_numbers entries order) → IsAmong i order
-    → with_pair kind text n (keys_by_numbers entries order)
-    ≡ keys_by_numbers (set entries i (with_one (key_at entries i) n)) order
-unfolding IsStrictlySortedBy
-with_pair-found kind text n entries i [] lt equal s a = absurd a
-with_pair-found kind text n entries i (j ∷ order) lt equal s a =
-    go (λ rest. with_pair-found kind text n entries i order lt equal s.1 rest) (nat_eq j i) refl
-  where
-    new : Key
-    new = with_one (key_at entries i) n
-
-    branch : Ordering → List Key
-    branch o = match_ordering o (new_key kind text n ∷ key_at entries j ∷ keys_by_numbers entries order)
-        (with_one (key_at entries j) n ∷ keys_by_numbers entries order)
-        (key_at entries j ∷ with_pair kind text n (keys_by_numbers entries order))
-
-    go : (IsAmong i order → with_pair kind text n (keys_by_numbers entries order)
-        ≡ keys_by_numbers (set entries i (with_one (key_at entries i) n)) order)
-        → (t : Bool) → nat_eq j i ≡ t → with_pair kind text n (keys_by_numbers entries (j ∷ order))
-        ≡ keys_by_numbers (set entries i (with_one (key_at entries i) n)) (j ∷ order)
-    go others true e =
-        let same : j ≡ i = grind (arith, nat_tests) in
-        let here : lies_to kind text (key_at entries j) ≡ Equal =
-        ap (λ (m : ℕ). lies_to kind text (key_at entries m)) same ∙ equal in
-        let first : key_at (set entries i (with_one (key_at entries i) n)) j ≡ with_one (key_at entries j) n =
-        ap (key_at (set entries i (with_one (key_at entries i) n))) same
-        ∙ get_or-set_same entries i (with_one (key_at entries i) n) no_key lt
-        ∙ ap (λ (m : ℕ). with_one (key_at entries m) n) (sym same) in
-        let after : AllByRecursion (λ y. slice_cmp nat_cmp (key_bytes (key_at entries i)) y ≡ Less)
-        (map key_bytes (keys_by_numbers entries order)) =
-        subst (λ (m : ℕ). AllByRecursion (λ y. slice_cmp nat_cmp (key_bytes (key_at entries m)) y ≡ Less)
-        (map key_bytes (keys_by_numbers entries order))) same s.0 in
-        ap branch (wanted-to kind text (key_at entries j) Equal here)
-        ∙ sym (ap₂ (λ (x : Key) (l : List Key). x ∷ l) first
-        (placed-other entries i (with_one (key_at entries i) n) order after))
-    go others false e =
-        let rest : IsAmong i order = elim a [ inl f ↦ absurd (grind (arith, nat_tests)) | inr b ↦ b ] in
-        let less : slice_cmp nat_cmp (key_bytes (key_at entries j)) (key_bytes (key_at entries i)) ≡ Less =
-        among-after entries i (key_bytes (key_at entries j)) order rest s.0 in
-        let greater : slice_cmp nat_cmp (bytes_of kind text) (key_bytes (key_at entries j)) ≡ Greater =
-        sym (nat_list_cmp_total.congr (key_bytes (key_at entries i)) (bytes_of kind text) (key_bytes (key_at entries j))
-        equal)
-        ∙ nat_list_cmp_total.antisymm (key_bytes (key_at entries i)) (key_bytes (key_at entries j))
-        ∙ ap ordering_reverse less in
-        ap branch greater
-        ∙ ap₂ (λ (x : Key) (l : List Key). x ∷ l) (sym (key-other entries i j (with_one (key_at entries i) n) e))
-        (others rest)
 
 -- one more number leaves the keys' bytes unchanged
 bytes-same : (entries : List Key) (i n : ℕ) (order : List ℕ) → i < length entries
@@ -403,4 +370,4 @@ numbers-insert slots place slot = map-insert (λ (slot : Fronted). slot.number) 
 
 pub order-empty : IsOrder [] []
 unfolding IsStrictlySortedBy
-order-empty = record { sorted = tt; within = tt; whole = λ i h. absurd (omega (arith, h)); count = refl }
+order-empty = record { sorted = tt; within = tt }

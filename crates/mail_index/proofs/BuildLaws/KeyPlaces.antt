@@ -1,8 +1,6 @@
 -- A pair that is put at its place keeps the keys in order, because each key still comes before the next.
 use Rattle.std.proofs.Common.{arith}
-use Rattle.mail_index.proofs.Words.{◌≡◌, ℕ, List, [], ◌∷◌, Result, OnOk, OnErr, refl, ap, ◌∙◌, Less, Equal, Greater}
-use Rattle.mail_index.proofs.Words.{match_ordering, ordering_reverse, nat_list_cmp_total, Kind, kind_number, key_cmp}
-use Rattle.mail_index.proofs.Words.{Key, KeyBefore, AllNext, with_number, with_pair}
+use Rattle.mail_index.proofs.Words.{◌≡◌, ℕ, List, [], ◌∷◌, Result, OnOk, OnErr, refl, ap, ◌∙◌, Less, Equal, Greater, match_ordering, ordering_reverse, nat_list_cmp_total, Kind, kind_number, key_cmp, Key, KeyBefore, AllNext, with_number, with_pair}
 
 -- if a key comes after another, the other comes before it
 turned : (j k : Kind) (xs ys : List ℕ) → key_cmp (kind_number j) xs (kind_number k) ys ≡ Greater

@@ -1,9 +1,5 @@
 -- The order is kept in pages with a head between each two; reads, insertions and splits of pages are those of one list.
-use Rattle.mail_index.proofs.Words.{◌≡◌, ◌∙◌, ℕ, zero, suc, ◌+◌, ◌-◌, ◌<◌, ◌≤◌, List, [], ◌∷◌, ◌++◌, length, take, drop}
-use Rattle.mail_index.proofs.Words.{set, get_or, Vec, refl, sym, ap, subst, arith, append-nil, length-append, Global}
-use Rattle.mail_index.proofs.Words.{AllByRecursion, insert, length-map, get_or-map, append_assoc, get_or_append_left}
-use Rattle.mail_index.proofs.Words.{get_or-append-add, take-map, drop-map, map-append, take-append-drop}
-use Rattle.mail_index.proofs.Words.{get_or-append_seam, insert-append_left, insert-append_right}
+use Rattle.mail_index.proofs.Words.{◌≡◌, ◌∙◌, ℕ, zero, suc, ◌+◌, ◌-◌, ◌<◌, ◌≤◌, List, [], ◌∷◌, ◌++◌, length, take, drop, set, get_or, Vec, refl, sym, ap, subst, arith, append-nil, length-append, Global, AllByRecursion, insert, length-map, get_or-map, append_assoc, get_or_append_left, get_or-append-add, take-map, drop-map, map-append, take-append-drop, get_or-append_seam, insert-append_left, insert-append_right}
 use Rattle.mail_index.specs.declared.build.key_front.Fronted.{Fronted}
 use Rattle.mail_index.specs.Inside.KeyMaps.{rows, in_pages, position}
 

@@ -1,9 +1,5 @@
 -- Keys with one more pair have this pair and those that they had, and no other: key by key.
-use Rattle.mail_index.proofs.Words.{◌≡◌, ℕ, suc, ◌<◌, ◌≤◌, true, false, nat_lt, if◌then◌else◌, List, [], ◌∷◌, ◌++◌}
-use Rattle.mail_index.proofs.Words.{refl, sym, ◌∙◌, inl, inr, arith, ◌⊎◌, Ordering, Less, Equal, Greater}
-use Rattle.mail_index.proofs.Words.{match_ordering, ordering_then, nat_cmp, slice_cmp, AllByRecursion, nat_tests}
-use Rattle.mail_index.proofs.Words.{ranked, Kind, kind_number, kind_of_number, Key, RisesFrom, IsKey, end_from}
-use Rattle.mail_index.proofs.Words.{with_number, with_pair, IsIn, HasPosting}
+use Rattle.mail_index.proofs.Words.{◌≡◌, ℕ, suc, ◌<◌, ◌≤◌, true, false, nat_lt, if◌then◌else◌, List, [], ◌∷◌, ◌++◌, refl, sym, ◌∙◌, inl, inr, arith, ◌⊎◌, Ordering, Less, Equal, Greater, match_ordering, ordering_then, nat_cmp, slice_cmp, AllByRecursion, nat_tests, ranked, Kind, kind_number, kind_of_number, Key, RisesFrom, IsKey, end_from, with_number, with_pair, IsIn, HasPosting}
 use Rattle.mail_index.proofs.BuildLaws.DraftLemmas.{by-number, end_from-below}
 use Rattle.mail_index.proofs.ViewLaws.KindNumbers.{kind_of-number}
 
@@ -17,7 +13,7 @@ texts-same (x ∷ xs) (y ∷ ys) h = go (nat_cmp x y) refl h (λ e. texts-same x
         → (slice_cmp nat_cmp xs ys ≡ Equal → xs ≡ ys) → x ∷ xs ≡ y ∷ ys
     go o h h2 h3 = grind (arith, ranked)
 
-keys-same : (j k : Kind) (xs ys : List ℕ) → slice_cmp nat_cmp (kind_number j ∷ xs) (kind_number k ∷ ys) ≡ Equal
+pub keys-same : (j k : Kind) (xs ys : List ℕ) → slice_cmp nat_cmp (kind_number j ∷ xs) (kind_number k ∷ ys) ≡ Equal
     → (j ≡ k) × (xs ≡ ys)
 keys-same j k xs ys h = grind (arith, kind_number, texts-same, kind_of-number, kind_of_number)
 

@@ -1,9 +1,5 @@
 -- Messages that are added one after another are those of a well-formed table, because each begins after the one before.
-use Rattle.mail_index.proofs.Words.{◌≡◌, ℕ, zero, suc, ◌+◌, ◌^◌, ◌<◌, ◌≤◌, Bool, false, if◌then◌else◌, List, [], ◌∷◌}
-use Rattle.mail_index.proofs.Words.{◌++◌, length, Option, None, Some, IsSome, IfSome, FitsSigned, refl, sym, subst}
-use Rattle.mail_index.proofs.Words.{length-append, arith, w64, AllByRecursion, nat_tests, Record, newest, Archive}
-use Rattle.mail_index.proofs.Words.{archive_length, IsMessage, Follows, AllNext, IsPath, IsKey, IsWellFormed, Draft}
-use Rattle.mail_index.proofs.Words.{end_of, IsNextMessage, IsInMessage, IsBetweenArchives}
+use Rattle.mail_index.proofs.Words.{◌≡◌, ℕ, zero, suc, ◌+◌, ◌^◌, ◌<◌, ◌≤◌, Bool, false, if◌then◌else◌, List, [], ◌∷◌, ◌++◌, length, Option, None, Some, IsSome, IfSome, FitsSigned, refl, sym, subst, length-append, arith, w64, AllByRecursion, nat_tests, Record, newest, Archive, archive_length, IsMessage, Follows, AllNext, IsPath, IsKey, IsWellFormed, Draft, end_of, IsNextMessage, IsInMessage, IsBetweenArchives}
 use Rattle.mail_index.specs.Inside.Drafts.{with_open, IsDraft}
 use Rattle.mail_index.proofs.BuildLaws.DraftLemmas.{all-snoc, all-weaker, listed-weaker}
 

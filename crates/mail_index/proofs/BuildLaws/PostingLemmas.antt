@@ -1,11 +1,6 @@
 -- One more number is one more difference, and the bytes give the numbers back: by the weights of their groups of seven
 -- bits.
-use Rattle.mail_index.proofs.Words.{◌≡◌, ℕ, zero, suc, ◌+◌, ◌-◌, ◌*◌, ◌/◌, ◌%◌, ◌^◌, ◌<◌, ◌≤◌, true, false, nat_lt}
-use Rattle.mail_index.proofs.Words.{if◌then◌else◌, List, [], ◌∷◌, ◌++◌, length, fold, flat_map, refl, ap, sym, ◌∙◌}
-use Rattle.mail_index.proofs.Words.{append-nil, length-append, arith, nat_tests, fold-append, flat_map-append, add-mul}
-use Rattle.mail_index.proofs.Words.{mul_assoc, pow-suc, leb128, differences_from, postings, end_from, with_number}
-use Rattle.mail_index.proofs.Words.{DecodingState}
-use Rattle.mail_index.proofs.Words.{state_after_numbers, state_after_byte, numbers_so_far, numbers_of, IsPosted}
+use Rattle.mail_index.proofs.Words.{◌≡◌, ℕ, zero, suc, ◌+◌, ◌-◌, ◌*◌, ◌/◌, ◌%◌, ◌^◌, ◌<◌, ◌≤◌, true, false, nat_lt, if◌then◌else◌, List, [], ◌∷◌, ◌++◌, length, fold, flat_map, refl, ap, sym, ◌∙◌, append-nil, length-append, arith, nat_tests, fold-append, flat_map-append, add-mul, mul_assoc, pow-suc, leb128, differences_from, postings, end_from, with_number, DecodingState, state_after_numbers, state_after_byte, numbers_so_far, numbers_of, IsPosted}
 
 end_from-snoc : (low : ℕ) (ns : List ℕ) (n : ℕ) → end_from low (ns ++ n ∷ []) ≡ suc n
 end_from-snoc low [] n = refl

@@ -1,6 +1,5 @@
 -- Lists are the same if they have the same first n and the same last n items, because these cover the whole list.
-use Rattle.mail_index.proofs.Words.{◌≡◌, ◌∙◌, ℕ, ◌+◌, ◌-◌, ◌≤◌, List, ◌++◌, length, take, drop, sym, ap₂, arith}
-use Rattle.mail_index.proofs.Words.{take-append-drop, drop-drop}
+use Rattle.mail_index.proofs.Words.{◌≡◌, ◌∙◌, ℕ, ◌+◌, ◌-◌, ◌≤◌, List, ◌++◌, length, take, drop, sym, ap₂, arith, take-append-drop, drop-drop}
 
 -- the items after the first n, of a list of n to 2 * n: they are among the last n
 after-first : (n : ℕ) (l : List ℕ) → n ≤ length l → length l ≤ n + n

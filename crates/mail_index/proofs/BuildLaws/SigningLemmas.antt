@@ -1,37 +1,35 @@
 -- Bytes that are written in steps are written as a whole: what was sent and what is still gathered are all bytes so
 -- far.
 use Rattle.std.proofs.Common.{arith}
-use Rattle.mail_index.proofs.Words.{◌≡◌, ℕ, suc, ◌+◌, ◌<◌, List, [], ◌∷◌, ◌++◌, length, flat_map, drop, get_or, Option}
-use Rattle.mail_index.proofs.Words.{Result, IsErr, OnErr, ap, sym, subst, ◌∙◌, append_assoc, append-nil, add-one}
-use Rattle.mail_index.proofs.Words.{drop-cons, Appends}
-use Rattle.sha2.specs.declared.Sha256.{Sha256}
-use Rattle.sha2.specs.Hashers.{Holds256}
-use Rattle.sha2.specs.Sha256.{sha256}
+use Rattle.mail_index.proofs.Words.{◌≡◌, ℕ, suc, ◌+◌, ◌<◌, List, [], ◌∷◌, ◌++◌, length, flat_map, drop, get_or, Option, Result, IsErr, OnErr, ap, sym, subst, ◌∙◌, append_assoc, append-nil, add-one, drop-cons, Appends}
 use Rattle.contract_words.specs.Devices.{Sends}
 use Rattle.contract_words.proofs.Sending.{appends-nil, appends_join, sends_more}
+use Rattle.mail_index.specs.Files.{digest_or_zeros}
 use Rattle.mail_index.specs.declared.build.file_out.Signer.{Signer}
-use Rattle.mail_index.specs.Inside.Signing.{Absorbs, StopsSigning, Signs, WritesSigned, IsSigning}
+use Rattle.mail_index.specs.declared.build.seal.Seal.{Seal}
+use Rattle.mail_index.specs.declared.digests.Digests.{Digests}
+use Rattle.mail_index.specs.Inside.Signing.{Absorbs, Seals, StopsSigning, Signs, WritesSigned, IsSigning}
 
-absorbs-nothing : (h : Sha256) → Absorbs h h []
-absorbs-nothing h m held = subst (λ x. Holds256 h x) (sym (append-nil m)) held
+absorbs-nothing : (s : Seal) → Absorbs s s []
+absorbs-nothing s digests m held = subst (λ x. Seals digests s x) (sym (append-nil m)) held
 
-absorbs-join : (h j k : Sha256) (x y : List ℕ) → Absorbs h j x → Absorbs j k y → Absorbs h k (x ++ y)
-absorbs-join h j k x y first second m held =
-    subst (λ z. Holds256 k z) (append_assoc m x y) (second (m ++ x) (first m held))
+absorbs-join : (h j k : Seal) (x y : List ℕ) → Absorbs h j x → Absorbs j k y → Absorbs h k (x ++ y)
+absorbs-join h j k x y first second digests m held =
+    subst (λ z. Seals digests k z) (append_assoc m x y) (second digests (m ++ x) (first digests m held))
 
 -- bytes that were only gathered
-pub signs-gathered : {k : Signer} (t : Option (List ℕ)) (s : Signer) (bytes : List ℕ) → k.hasher ≡ s.hasher → k.pending
+pub signs-gathered : {k : Signer} (t : Option (List ℕ)) (s : Signer) (bytes : List ℕ) → k.seal ≡ s.seal → k.pending
     ≡ s.pending ++ bytes → Signs t t s k bytes
 signs-gathered {k} t s bytes same gathered = grind (arith, appends-nil, absorbs-nothing)
 
 -- all gathered bytes were sent
-pub signs-flushed : {t u : Option (List ℕ)} {s k : Signer} → Appends t u s.pending → Absorbs s.hasher k.hasher s.pending
+pub signs-flushed : {t u : Option (List ℕ)} {s k : Signer} → Appends t u s.pending → Absorbs s.seal k.seal s.pending
     → k.pending ≡ [] → Signs t u s k []
 signs-flushed {t} {u} {s} {k} out digest none = grind arith
 
 -- bytes that were sent at once, with nothing gathered before
 pub signs-at-once : {t u : Option (List ℕ)} {s k : Signer} {bytes : List ℕ} → s.pending ≡ [] → Appends t u bytes
-    → Absorbs s.hasher k.hasher bytes → k.pending ≡ [] → Signs t u s k bytes
+    → Absorbs s.seal k.seal bytes → k.pending ≡ [] → Signs t u s k bytes
 signs-at-once {t} {u} {s} {k} {bytes} before out digest none = grind (arith, append-nil)
 
 -- two writes, one after the other
@@ -81,11 +79,12 @@ sends-all {t} {u} {s} {k} {whole} v none signs rest =
     sends_more t u v whole signs.sent k.pending []
     (all-sent none signs ∙ ap (λ l. signs.sent ++ l) (sym (append-nil k.pending))) signs.out rest
 
-pub digests-all : {t u : Option (List ℕ)} {s k : Signer} {whole : List ℕ} (digest : List ℕ) → s.pending ≡ []
-    → Holds256 s.hasher [] → Signs t u s k whole
-    → ((m : List ℕ) → Holds256 k.hasher m → digest ≡ sha256 (m ++ k.pending)) → digest ≡ sha256 whole
-digests-all {t} {u} {s} {k} {whole} digest none held signs told = told signs.sent (signs.digest [] held)
-    ∙ ap sha256 (sym (all-sent none signs))
+pub digests-all : {t u : Option (List ℕ)} {s k : Signer} {whole : List ℕ} (digests : Digests) (digest : List ℕ)
+    → s.pending ≡ [] → Seals digests s.seal [] → Signs t u s k whole
+    → ((by : Digests) (m : List ℕ) → Seals by k.seal m → digest ≡ digest_or_zeros by (m ++ k.pending))
+    → digest ≡ digest_or_zeros digests whole
+digests-all {t} {u} {s} {k} {whole} digests digest none held signs told =
+    told digests signs.sent (signs.seal digests [] held) ∙ ap (digest_or_zeros digests) (sym (all-sent none signs))
 
 -- ---- the parts of a whole
 

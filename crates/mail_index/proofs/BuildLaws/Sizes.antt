@@ -1,11 +1,11 @@
 -- The sections of an index file have the sizes that its counts give, and these stay below 2 ^ 64 by the limits.
-use Rattle.mail_index.proofs.Words.{◌≡◌, ℕ, ◌+◌, ◌*◌, ◌^◌, ◌<◌, ◌≤◌, List, [], ◌∷◌, ◌++◌, length, map, flat_map, Option}
-use Rattle.mail_index.proofs.Words.{refl, ap, ◌∙◌, length-append, arith, unwrap_or, AllByRecursion, concat, length-map}
-use Rattle.mail_index.proofs.Words.{newest, IsDigest, Archive, Key, Table, IsArchive, IsKey, postings, archive_bytes}
-use Rattle.mail_index.proofs.Words.{record_bytes, entry_of_key, directory_from, texts_of, postings_of, entries}
-use Rattle.mail_index.proofs.Words.{archive_section, counts, body, index_file, HasSmallSections}
+use Rattle.mail_index.proofs.Words.{◌≡◌, ℕ, ◌+◌, ◌*◌, ◌^◌, ◌<◌, ◌≤◌, List, [], ◌∷◌, ◌++◌, length, map, flat_map, Option, refl, ap, ◌∙◌, length-append, arith, unwrap_or, AllByRecursion, concat, length-map, newest, IsDigest, Archive, Key, Table, IsArchive, IsKey, postings, archive_bytes, record_bytes, entry_of_key, directory_from, texts_of, postings_of, entries, archive_section, counts, body, index_file, HasSmallSections}
 use Rattle.sha2.specs.Sha256.{sha256}
 use Rattle.sha2.proofs.Facts256.{length-sha256}
+use Rattle.mail_index.specs.Files.{digest_or_zeros, file_by}
+unfoldable use Rattle.mail_index.specs.Files.{undigested_file}
+use Rattle.mail_index.specs.declared.digests.Digests.{Digests}
+use Rattle.mail_index.specs.declared.digests.Digests.TheVariants.{Computed, LeftOut}
 use Rattle.mail_index.specs.declared.build.sections.Counts.{Counts}
 use Rattle.mail_index.specs.Inside.SectionCounts.{IsCountOf, counted_length}
 use Rattle.mail_index.proofs.ViewLaws.DigestReads.{digest_size}
@@ -85,11 +85,25 @@ pub length-index_file : (t : Table) → length (index_file t) ≡ length (body t
 unfolding index_file
 length-index_file t = length-append (body t) (sha256 (body t)) ∙ ap (λ n. length (body t) + n) (length-sha256 (body t))
 
+pub length-digest : (digests : Digests) (bytes : List ℕ) → length (digest_or_zeros digests bytes) ≡ 32
+length-digest Computed bytes = length-sha256 bytes
+length-digest LeftOut bytes = refl
+
+pub file-is : (digests : Digests) (t : Table) → file_by digests t ≡ body t ++ digest_or_zeros digests (body t)
+unfolding index_file undigested_file
+file-is Computed t = refl
+file-is LeftOut t = refl
+
+length-file : (digests : Digests) (t : Table) → length (file_by digests t) ≡ length (body t) + 32
+length-file digests t = ap length (file-is digests t) ∙ length-append (body t) (digest_or_zeros digests (body t))
+    ∙ ap (λ n. length (body t) + n) (length-digest digests (body t))
+
 -- the counts give the file's length
-pub counted_length-is : (t : Table) (c : Counts) → IsCountOf t c → counted_length c ≡ length (index_file t)
-counted_length-is t c is = omega (
+pub counted_length-is : (digests : Digests) (t : Table) (c : Counts) → IsCountOf t c → counted_length c
+    ≡ length (file_by digests t)
+counted_length-is digests t c is = omega (
   arith,
-  length-index_file t,
+  length-file digests t,
   length-body t,
   is.messages,
   is.keys,
@@ -105,10 +119,6 @@ pub counted_length-small : (t : Table) (c : Counts) (count : ℕ) → IsCountOf 
     → counted_length c < 2 ^ 64
 counted_length-small t c count is archives messages keys h named listed =
     grind (arith, length-archives, length-texts, length-all_postings)
-
-pub index_file-is : (t : Table) → index_file t ≡ body t ++ sha256 (body t)
-unfolding index_file
-index_file-is t = refl
 
 pub small-sections : (t : Table) (c : Counts) → IsCountOf t c → counted_length c < 2 ^ 64 → HasSmallSections t
 small-sections t c is small = grind (arith, postings)

@@ -1,20 +1,9 @@
 -- The file of a table keeps every rule, so it has no fault: section by section.
-use Rattle.mail_index.proofs.Words.{◌≡◌, ℕ, suc, ◌+◌, ◌-◌, ◌*◌, ◌^◌, ◌<◌, List, [], ◌∷◌, ◌++◌, length, map, take, drop}
-use Rattle.mail_index.proofs.Words.{refl, sym, ap, subst, ◌∙◌, arith, length-append, flat_map, slice_range}
-use Rattle.mail_index.proofs.Words.{AllByRecursion, concat, take-append_seam, drop-append_seam, drop-drop}
-use Rattle.mail_index.proofs.Words.{from_be_bytes-to_be_bytes_4, from_be_bytes-to_be_bytes_8, Record, IsVersion, u32_at}
-use Rattle.mail_index.proofs.Words.{u64_at, magic, entry_of_key, entries, archive_bytes, archive_section, record_bytes}
-use Rattle.mail_index.proofs.Words.{directory_from, texts_of, postings_of, counts, sections, body, index_file, Archive}
-use Rattle.mail_index.proofs.Words.{Key, Table, IsWellFormed, IsArchive, IsKey, AllNext, KeyBefore, version_told}
-use Rattle.mail_index.proofs.Words.{IsFirstFaultOfFile, EntryBefore, IsEntry, records_start, directory_start}
-use Rattle.mail_index.proofs.Words.{texts_start}
-use Rattle.mail_index.proofs.Words.{postings_start, digest_start, HasDigest, IsSigned, HasArchives, HasRecords}
-use Rattle.mail_index.proofs.Words.{HasDirectory, HasPostings, IsFileOfTable, read_archives, read_records}
+use Rattle.mail_index.proofs.Words.{◌≡◌, ℕ, suc, ◌+◌, ◌-◌, ◌*◌, ◌^◌, ◌<◌, ◌≤◌, List, [], ◌∷◌, ◌++◌, length, map, take, drop, refl, sym, ap, subst, ◌∙◌, arith, length-append, flat_map, slice_range, AllByRecursion, concat, take-append_seam, drop-append_seam, drop-drop, from_be_bytes-to_be_bytes_4, from_be_bytes-to_be_bytes_8, Record, IsVersion, u32_at, u64_at, magic, entry_of_key, entries, archive_bytes, archive_section, record_bytes, directory_from, texts_of, postings_of, counts, sections, body, index_file, Archive, Key, Table, IsWellFormed, IsArchive, IsKey, AllNext, KeyBefore, version_told, IsFirstFaultOfFile, EntryBefore, IsEntry, records_start, directory_start, texts_start, postings_start, digest_start, HasDigest, IsSigned, HasArchives, HasRecords, HasDirectory, HasPostings, IsFileOfTable, read_archives, read_records}
 use Rattle.sha2.specs.Sha256.{sha256}
 use Rattle.sha2.proofs.Facts256.{length-sha256}
 use Rattle.mail_index.specs.declared.view.fault.IndexFault.{IndexFault}
-use Rattle.mail_index.specs.declared.view.fault.IndexFault.TheVariants.{TooShort, BadMagic, BadVersion, BadDigest}
-use Rattle.mail_index.specs.declared.view.fault.IndexFault.TheVariants.{BadLayout}
+use Rattle.mail_index.specs.declared.view.fault.IndexFault.TheVariants.{TooShort, BadMagic, BadVersion, BadDigest, BadLayout}
 use Rattle.mail_index.specs.declared.view.fault.Section.TheVariants.{Counts, Archives, Records, Directory, Postings}
 use Rattle.mail_index.proofs.ViewLaws.ArchiveReads.{archives_back}
 use Rattle.mail_index.proofs.ViewLaws.RecordSections.{records_back}
@@ -100,6 +89,54 @@ length_body t = grind (
   count_entries_of,
 )
 
+-- the sections of a table's file, whatever its last bytes are
+pub record HasParts (bytes : List ℕ) (t : Table) : Type 0 where
+  pub told : TellsCounts bytes t
+  pub size : length bytes ≡ length (body t) + 32
+  pub long : 80 ≤ length bytes
+  pub adds_up : digest_start bytes + 32 ≡ length bytes
+  pub archives : slice_range bytes 48 (records_start bytes) ≡ archive_section t
+  pub records : slice_range bytes (records_start bytes) (directory_start bytes) ≡ flat_map record_bytes t.messages
+  pub directory : slice_range bytes (directory_start bytes) (texts_start bytes) ≡ directory_from 0 0 (entries t)
+  pub texts : slice_range bytes (texts_start bytes) (postings_start bytes) ≡ texts_of (entries t)
+  pub postings : slice_range bytes (postings_start bytes) (digest_start bytes) ≡ postings_of (entries t)
+
+pub has_parts : (bytes : List ℕ) (t : Table) (seal : List ℕ) → length bytes < 2 ^ 64 → IsWellFormed t → length seal ≡ 32
+    → bytes ≡ body t ++ seal → HasParts bytes t
+has_parts bytes t seal few w sealed is =
+    let b = body t in
+    let size : length bytes ≡ length b + 32 = ap length is ∙ length-append b seal
+    ∙ ap (λ (n : ℕ). length b + n) sealed in
+    let n = length_body t in
+    let a = archive_section t in let r = flat_map record_bytes t.messages in let d = directory_from 0 0 (entries t)
+    in let x = texts_of (entries t) in let p = postings_of (entries t) in
+    let rest = a ++ (r ++ (d ++ (x ++ (p ++ seal)))) in
+    let spelled : bytes ≡ before (counts t) rest = is ∙ concat_then (sections t) seal ∙ concat_then (counts t) rest in
+    let c : TellsCounts bytes t = subst (λ (y : List ℕ). TellsCounts y t) (sym spelled)
+    (tells t rest w (omega (arith, size, n, few)) (omega (arith, size, n, few)) (omega (arith, size, n, few))) in
+    let d₀ : drop 48 bytes ≡ rest = ap (drop 48) spelled in
+    let p₁ = part_at bytes 48 (records_start bytes) a (r ++ (d ++ (x ++ (p ++ seal)))) d₀
+    (omega (arith, c.archive_bytes)) in
+    let p₂ = part_at bytes (records_start bytes) (directory_start bytes) r (d ++ (x ++ (p ++ seal))) p₁.rest
+    (omega (arith, c.messages, length_records t.messages)) in
+    let p₃ = part_at bytes (directory_start bytes) (texts_start bytes) d (x ++ (p ++ seal)) p₂.rest
+    (omega (arith, c.keys, length_directory 0 0 (entries t), count_entries_of t.keys)) in
+    let p₄ = part_at bytes (texts_start bytes) (postings_start bytes) x (p ++ seal) p₃.rest
+    (omega (arith, c.text_bytes)) in
+    let p₅ = part_at bytes (postings_start bytes) (digest_start bytes) p seal p₄.rest
+    (omega (arith, c.posting_bytes)) in
+    record {
+      told = c;
+      size = size;
+      long = omega (arith, size, n);
+      adds_up = omega (arith, size, n, c.archive_bytes, c.messages, c.keys, c.text_bytes, c.posting_bytes);
+      archives = p₁.is;
+      records = p₂.is;
+      directory = p₃.is;
+      texts = p₄.is;
+      postings = p₅.is;
+    }
+
 -- the file of a table that fits in memory keeps all rules
 pub keeps_rules : (bytes : List ℕ) (t : Table) → length bytes < 2 ^ 64 → IsFileOfTable bytes t
     → HasPostings bytes t.archives t.messages t.keys
@@ -107,36 +144,15 @@ unfolding index_file
 keeps_rules bytes t few f =
     let w = f.0 in
     let b = body t in
-    let size : length bytes ≡ length b + 32 = ap length f.1 ∙ length-append b (sha256 b)
-    ∙ ap (λ (n : ℕ). length b + n) (length-sha256 b) in
-    let n = length_body t in
-    let a = archive_section t in let r = flat_map record_bytes t.messages in let d = directory_from 0 0 (entries t)
-    in let x = texts_of (entries t) in let p = postings_of (entries t) in
-    let rest = a ++ (r ++ (d ++ (x ++ (p ++ sha256 b)))) in
-    let spelled : bytes ≡ before (counts t) rest = f.1 ∙ concat_then (sections t) (sha256 b)
-    ∙ concat_then (counts t) rest in
-    let c : TellsCounts bytes t = subst (λ (y : List ℕ). TellsCounts y t) (sym spelled)
-    (tells t rest w (omega (arith, size, n, few)) (omega (arith, size, n, few)) (omega (arith, size, n, few))) in
-    let d₀ : drop 48 bytes ≡ rest = ap (drop 48) spelled in
-    let p₁ = part_at bytes 48 (records_start bytes) a (r ++ (d ++ (x ++ (p ++ sha256 b)))) d₀
-    (omega (arith, c.archive_bytes)) in
-    let p₂ = part_at bytes (records_start bytes) (directory_start bytes) r (d ++ (x ++ (p ++ sha256 b))) p₁.rest
-    (omega (arith, c.messages, length_records t.messages)) in
-    let p₃ = part_at bytes (directory_start bytes) (texts_start bytes) d (x ++ (p ++ sha256 b)) p₂.rest
-    (omega (arith, c.keys, length_directory 0 0 (entries t), count_entries_of t.keys)) in
-    let p₄ = part_at bytes (texts_start bytes) (postings_start bytes) x (p ++ sha256 b) p₃.rest
-    (omega (arith, c.text_bytes)) in
-    let p₅ = part_at bytes (postings_start bytes) (digest_start bytes) p (sha256 b) p₄.rest
-    (omega (arith, c.posting_bytes)) in
-    let adds : digest_start bytes + 32 ≡ length bytes =
-    omega (arith, size, n, c.archive_bytes, c.messages, c.keys, c.text_bytes, c.posting_bytes) in
-    let before_digest : length bytes - 32 ≡ length b = omega (arith, size) in
+    let parts = has_parts bytes t (sha256 b) few w (length-sha256 b) f.1 in
+    let c = parts.told in
+    let before_digest : length bytes - 32 ≡ length b = omega (arith, parts.size) in
     let digest : HasDigest bytes =
     ap (λ (k : ℕ). drop k bytes) before_digest ∙ ap (drop (length b)) f.1 ∙ drop-append_seam b (sha256 b)
     ∙ ap sha256 (sym (ap (λ (k : ℕ). take k bytes) before_digest ∙ ap (take (length b)) f.1
     ∙ take-append_seam b (sha256 b))) in
     let signed : IsSigned bytes = record {
-      long = omega (arith, size, n);
+      long = parts.long;
       marked = c.marked;
       known =
           subst IsVersion (sym c.known) w.version;
@@ -144,20 +160,20 @@ keeps_rules bytes t few f =
     } in
     let archives : HasArchives bytes t.archives =
     record {
-      before = (signed, adds);
-      spelled = p₁.is;
+      before = (signed, parts.adds_up);
+      spelled = parts.archives;
       counted = sym c.archives;
       each =
           subst (λ (v : ℕ). AllByRecursion (IsArchive v) t.archives) (sym c.known) w.archives;
     } in
     let records : HasRecords bytes t.archives t.messages =
-    record { before = archives; spelled = p₂.is; each = w.messages; in_order = w.in_order } in
+    record { before = archives; spelled = parts.records; each = w.messages; in_order = w.in_order } in
     let keys = subst (λ (v : ℕ). AllByRecursion (IsKey v (length t.messages)) t.keys) (sym c.known) w.keys in
     let directory : HasDirectory bytes t.archives t.messages (map entry_of_key t.keys) = record {
       before = records;
-      spelled = p₃.is;
-      texts = p₄.is;
-      postings = p₅.is;
+      spelled = parts.directory;
+      texts = parts.texts;
+      postings = parts.postings;
       each = are_entries (version_told bytes) (length t.messages) t.keys keys;
       sorted = entries_in_order t.keys w.sorted;
     } in

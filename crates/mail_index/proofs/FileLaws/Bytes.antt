@@ -1,8 +1,7 @@
 -- A number that was read from bytes is written back as the same bytes.
-use Rattle.mail_index.proofs.Words.{length-take-le, ◌≡◌, ℕ, zero, suc, ◌+◌, ◌<◌, ◌≤◌, List, [], ◌∷◌, ◌++◌, length, take}
-use Rattle.mail_index.proofs.Words.{drop, get_or, refl, Bool, true, ◌&&◌, sym, ap, ◌∙◌, arith, length-drop}
-use Rattle.mail_index.proofs.Words.{take-append-drop, drop-drop, be_bytes_4, be_bytes_8, byte_at, u32_at, u64_at, be32}
-use Rattle.mail_index.proofs.Words.{be64}
+use Rattle.mail_index.proofs.Words.{length-take-le, ◌≡◌, ℕ, zero, suc, ◌+◌, ◌<◌, ◌≤◌, List, [], ◌∷◌, ◌++◌, length, take, drop, get_or, refl, Bool, true, ◌&&◌, sym, ap, ◌∙◌, arith, length-drop, take-append-drop, drop-drop, be_bytes_4, be_bytes_8, byte_at, u32_at, u64_at, be32, be64, slice_index}
+use Rattle.sha2.specs.Sha256.{final_hash, initial_hash_256}
+unfoldable use Rattle.sha2.specs.Sha256.{digest_bytes, sha256}
 
 pub record AreBytes (bytes : List ℕ) : Type 0 where
   pub below : (i : ℕ) → get_or bytes i 0 < 256
@@ -26,6 +25,35 @@ bytes_after n bytes h = record { below = drop_below n bytes h.below }
 
 pub bytes_before : (n : ℕ) (bytes : List ℕ) → AreBytes bytes → AreBytes (take n bytes)
 bytes_before n bytes h = record { below = take_below n bytes h.below }
+
+append_below : (xs ys : List ℕ) → ((i : ℕ) → get_or xs i 0 < 256) → ((i : ℕ) → get_or ys i 0 < 256) → (i : ℕ)
+    → get_or (xs ++ ys) i 0 < 256
+append_below [] ys h k i = k i
+append_below (x ∷ xs) ys h k zero = h zero
+append_below (x ∷ xs) ys h k (suc i) = append_below xs ys (tail_below x xs h) k i
+
+pub bytes_of_both : (xs ys : List ℕ) → AreBytes xs → AreBytes ys → AreBytes (xs ++ ys)
+bytes_of_both xs ys h k = record { below = append_below xs ys h.below k.below }
+
+-- ---- the bytes of a digest
+
+be32_below : (n i : ℕ) → get_or (be32 n) i 0 < 256
+be32_below n zero = omega arith
+be32_below n (suc zero) = omega arith
+be32_below n (suc (suc zero)) = omega arith
+be32_below n (suc (suc (suc zero))) = omega arith
+be32_below n (suc (suc (suc (suc i)))) = omega arith
+
+words_below : (words : List ℕ) (n i : ℕ) → get_or (digest_bytes words n) i 0 < 256
+unfolding digest_bytes
+words_below words zero i = omega arith
+words_below words (suc n) i =
+    append_below (digest_bytes words n) (be32 (slice_index words n)) (words_below words n)
+    (be32_below (slice_index words n)) i
+
+pub sha256_bytes : (m : List ℕ) → AreBytes (sha256 m)
+unfolding sha256
+sha256_bytes m = record { below = words_below (final_hash initial_hash_256 m) 8 }
 
 pub length_part : (k : ℕ) (bytes : List ℕ) → k ≤ length bytes → length (take k bytes) ≡ k
 length_part k bytes h = length-take-le k bytes h

@@ -1,9 +1,5 @@
 -- What each walk over a file finds is what the file has, and what a walk refuses is in no file.
-use Rattle.mail_index.proofs.Words.{◌≡◌, ℕ, ◌-◌, ◌*◌, ◌^◌, ◌<◌, ◌≤◌, List, length, drop, refl, sym, ap, subst, ◌∙◌}
-use Rattle.mail_index.proofs.Words.{arith, length-drop, transport, flat_map, slice_range, AllByRecursion, Record}
-use Rattle.mail_index.proofs.Words.{record_bytes, version_number, Archive, IsArchive, records_start, directory_start}
-use Rattle.mail_index.proofs.Words.{texts_start, HasCounts, HasArchives, HasRecords, read_archives, SpellsArchives}
-use Rattle.mail_index.proofs.Words.{AreRecords, read_records, IsLayout}
+use Rattle.mail_index.proofs.Words.{◌≡◌, ℕ, ◌-◌, ◌*◌, ◌^◌, ◌<◌, ◌≤◌, List, length, drop, refl, sym, ap, subst, ◌∙◌, arith, length-drop, transport, flat_map, slice_range, AllByRecursion, Record, record_bytes, version_number, Archive, IsArchive, records_start, directory_start, texts_start, HasCounts, HasArchives, HasRecords, read_archives, SpellsArchives, AreRecords, read_records, IsLayout}
 use Rattle.mail_index.specs.declared.view.layout.Layout.{Layout}
 use Rattle.mail_index.proofs.FileLaws.Bytes.{AreBytes, bytes_after, bytes_before, length_part}
 use Rattle.mail_index.proofs.ViewLaws.ArchiveReads.{read_count}

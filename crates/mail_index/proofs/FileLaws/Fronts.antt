@@ -1,8 +1,5 @@
 -- Two equal lists of bytes begin with equal parts, if these have the same lengths.
-use Rattle.mail_index.proofs.Words.{◌≡◌, ℕ, ◌^◌, ◌<◌, List, [], ◌∷◌, ◌++◌, length, map, refl, sym, ap, ◌∙◌}
-use Rattle.mail_index.proofs.Words.{append_assoc, arith, flat_map, unwrap_or, concat, AllByRecursion, w32, w64}
-use Rattle.mail_index.proofs.Words.{from_be_bytes, from_be_bytes-to_be_bytes_4, from_be_bytes-to_be_bytes_8, Archive}
-use Rattle.mail_index.proofs.Words.{IsArchive, be32, be64, archive_bytes}
+use Rattle.mail_index.proofs.Words.{◌≡◌, ℕ, ◌^◌, ◌<◌, List, [], ◌∷◌, ◌++◌, length, map, refl, sym, ap, ◌∙◌, append_assoc, arith, flat_map, unwrap_or, concat, AllByRecursion, w32, w64, from_be_bytes, from_be_bytes-to_be_bytes_4, from_be_bytes-to_be_bytes_8, Archive, IsArchive, be32, be64, archive_bytes}
 use Rattle.mail_index.proofs.ViewLaws.DigestReads.{same_size, digest_is}
 
 pub split : (a b x y : List ℕ) → length a ≡ length b → a ++ x ≡ b ++ y → (a ≡ b) × (x ≡ y)

@@ -1,6 +1,5 @@
 -- LEB128 is split byte by byte: each byte has seven bits, which are lower than those of the next byte.
-use Rattle.mail_index.proofs.Words.{◌≡◌, ◌≢◌, ℕ, zero, suc, ◌+◌, ◌-◌, ◌*◌, ◌/◌, ◌<◌, ◌≤◌, refl, arith, IsShort, leb128}
-use Rattle.mail_index.proofs.Words.{[], ◌∷◌}
+use Rattle.mail_index.proofs.Words.{◌≡◌, ◌≢◌, ℕ, zero, suc, ◌+◌, ◌-◌, ◌*◌, ◌/◌, ◌<◌, ◌≤◌, refl, arith, IsShort, leb128, [], ◌∷◌}
 
 -- a number of five groups has at most 35 bits
 pub IsShort-small : (groups n : ℕ) → groups ≤ 5 → IsShort groups n → n < 34359738368

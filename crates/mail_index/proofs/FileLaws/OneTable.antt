@@ -1,15 +1,7 @@
 -- Equal files are those of equal tables: each section of the two is equal, in turn.
-use Rattle.mail_index.proofs.Words.{◌≡◌, ℕ, zero, suc, ◌+◌, ◌^◌, ◌<◌, ◌≤◌, List, [], ◌∷◌, ◌++◌, length, map, get_or}
-use Rattle.mail_index.proofs.Words.{refl, sym, ap, subst, ◌∙◌, append_assoc, arith, flat_map, AllByRecursion}
-use Rattle.mail_index.proofs.Words.{length-append, length-map, Record, kind_number, IsVersion, Archive, Key, Table}
-use Rattle.mail_index.proofs.Words.{IsArchive, IsMessage, IsKey, IsWellFormed, archive_length, zeros, be32, be64}
-use Rattle.mail_index.proofs.Words.{archive_bytes, record_bytes, DirectoryEntry, entry_of_key, entry_bytes}
-use Rattle.mail_index.proofs.Words.{directory_from, texts_of}
-use Rattle.mail_index.proofs.Words.{postings_of, archive_section, entries, counts, sections, body, HasSmallSections}
-use Rattle.mail_index.proofs.Words.{index_file}
+use Rattle.mail_index.proofs.Words.{◌≡◌, ℕ, zero, suc, ◌+◌, ◌^◌, ◌<◌, ◌≤◌, List, [], ◌∷◌, ◌++◌, length, map, get_or, refl, sym, ap, subst, ◌∙◌, append_assoc, arith, flat_map, AllByRecursion, length-append, length-map, Record, kind_number, IsVersion, Archive, Key, Table, IsArchive, IsMessage, IsKey, IsWellFormed, archive_length, zeros, be32, be64, archive_bytes, record_bytes, DirectoryEntry, entry_of_key, entry_bytes, directory_from, texts_of, postings_of, archive_section, entries, counts, sections, body, HasSmallSections, index_file}
 use Rattle.sha2.specs.Sha256.{sha256}
-use Rattle.mail_index.proofs.FileLaws.Fronts.{split, before, concat_then, same_parts, be32_is, be64_is, front_each}
-use Rattle.mail_index.proofs.FileLaws.Fronts.{archive_front}
+use Rattle.mail_index.proofs.FileLaws.Fronts.{split, before, concat_then, same_parts, be32_is, be64_is, front_each, archive_front}
 use Rattle.mail_index.proofs.ViewLaws.KindNumbers.{kind_is}
 use Rattle.mail_index.proofs.FileLaws.RecordFronts.{same_at, HasFew, message_front, numbers_are}
 

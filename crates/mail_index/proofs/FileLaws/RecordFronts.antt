@@ -1,10 +1,5 @@
 -- Two equal lists of bytes that begin with records, or with lists of numbers, begin with equal ones.
-use Rattle.mail_index.proofs.Words.{◌≡◌, ℕ, zero, suc, ◌+◌, ◌-◌, ◌/◌, ◌%◌, ◌^◌, ◌<◌, ◌≤◌, Bool, cond, ltb, List, []}
-use Rattle.mail_index.proofs.Words.{◌∷◌, ◌++◌, length, get_or, Option, refl, sym, ap, ◌∙◌, arith, ℤ, ltb-true, flat_map}
-use Rattle.mail_index.proofs.Words.{IfSome, FitsSigned, is_some, AllByRecursion, w64, cast_unsigned, cast_signed}
-use Rattle.mail_index.proofs.Words.{to_z-of_z, Fits-of_z, Fits-lt-pow, Record, Archive, IsMessage, RisesFrom, Key}
-use Rattle.mail_index.proofs.Words.{IsKey, archive_length, leb128, differences_from, postings, zeros, be32, be64, bit}
-use Rattle.mail_index.proofs.Words.{flags_byte, date_number, record_bytes}
+use Rattle.mail_index.proofs.Words.{◌≡◌, ℕ, zero, suc, ◌+◌, ◌-◌, ◌/◌, ◌%◌, ◌^◌, ◌<◌, ◌≤◌, Bool, cond, ltb, List, [], ◌∷◌, ◌++◌, length, get_or, Option, refl, sym, ap, ◌∙◌, arith, ℤ, ltb-true, flat_map, IfSome, FitsSigned, is_some, AllByRecursion, w64, cast_unsigned, cast_signed, to_z-of_z, Fits-of_z, Fits-lt-pow, Record, Archive, IsMessage, RisesFrom, Key, IsKey, archive_length, leb128, differences_from, postings, zeros, be32, be64, bit, flags_byte, date_number, record_bytes}
 use Rattle.mail_index.proofs.FileLaws.Fronts.{concat_then, same_parts, be32_is, be64_is}
 
 abbrev pub at : List (List ℕ) → ℕ → List ℕ

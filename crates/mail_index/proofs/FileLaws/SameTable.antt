@@ -1,6 +1,5 @@
 -- Bytes that fit in memory are the file of at most one table, because no section is too long for its count.
-use Rattle.mail_index.proofs.Words.{◌≡◌, ◌∙◌, ◌^◌, ◌<◌, ℕ, List, length, sym, arith, Table, HasSmallSections}
-use Rattle.mail_index.proofs.Words.{IsFileOfTable}
+use Rattle.mail_index.proofs.Words.{◌≡◌, ◌∙◌, ◌^◌, ◌<◌, ℕ, List, length, sym, arith, Table, HasSmallSections, IsFileOfTable}
 use Rattle.mail_index.proofs.BuildLaws.Sizes.{length-body, length-index_file}
 use Rattle.mail_index.proofs.FileLaws.OneTable.{one_file}
 

@@ -1,26 +1,13 @@
 -- A file whose sections are those of a table is the file of that table: its sections are its parts in order.
-use Rattle.mail_index.proofs.Words.{◌≡◌, ℕ, ◌+◌, ◌-◌, ◌^◌, ◌<◌, ◌≤◌, List, [], ◌∷◌, ◌++◌, length, map, take, drop, refl}
-use Rattle.mail_index.proofs.Words.{sym, ap, subst, ◌∙◌, arith, length-drop, length-append, length-map, transport}
-use Rattle.mail_index.proofs.Words.{flat_map, slice_range, AllByRecursion, concat, take-append-drop, drop-drop}
-use Rattle.mail_index.proofs.Words.{version_number, IsVersion, u32_at, u64_at, magic, be32, be64, DirectoryEntry}
-use Rattle.mail_index.proofs.Words.{entry_of_key}
-use Rattle.mail_index.proofs.Words.{entries, archive_section, record_bytes, directory_from, texts_of, postings_of}
-use Rattle.mail_index.proofs.Words.{counts, sections, body, index_file, Key, IsArchive, IsKey, IsWellFormed, IsEntry}
-use Rattle.mail_index.proofs.Words.{version_told, IsSigned, records_start, directory_start, texts_start, postings_start}
-use Rattle.mail_index.proofs.Words.{digest_start, HasDigest, HasDirectory, HasPostings, IsFileOfTable, SpellsArchives}
-use Rattle.mail_index.proofs.Words.{AreRecords, AreEntries, read_entries, IsList, AreLists, IsLayout, IsChecked}
-use Rattle.mail_index.proofs.Words.{table_of, key_of}
+use Rattle.mail_index.proofs.Words.{◌≡◌, ℕ, ◌+◌, ◌-◌, ◌^◌, ◌<◌, ◌≤◌, List, [], ◌∷◌, ◌++◌, length, map, take, drop, refl, sym, ap, subst, ◌∙◌, arith, length-drop, length-append, length-map, transport, flat_map, slice_range, AllByRecursion, concat, take-append-drop, drop-drop, version_number, IsVersion, u32_at, u64_at, magic, be32, be64, DirectoryEntry, entry_of_key, entries, archive_section, record_bytes, directory_from, texts_of, postings_of, counts, sections, body, index_file, Key, IsArchive, IsKey, IsWellFormed, IsEntry, version_told, IsSigned, records_start, directory_start, texts_start, postings_start, digest_start, HasDigest, HasDirectory, HasPostings, IsFileOfTable, SpellsArchives, AreRecords, AreEntries, read_entries, IsList, AreLists, IsLayout, IsChecked, table_of, key_of}
 use Rattle.sha2.specs.Sha256.{sha256}
 use Rattle.mail_index.specs.declared.view.layout.Layout.{Layout}
 use Rattle.mail_index.proofs.FileLaws.Fronts.{before, concat_then, split}
 use Rattle.mail_index.proofs.FileLaws.Bytes.{AreBytes, length_part, u32_back, u64_back}
 use Rattle.mail_index.proofs.ViewLaws.ArchiveReads.{read_count}
-use Rattle.mail_index.proofs.ViewLaws.DirectorySections.{u32_small, shows_entries, entries_back, are_entries_of}
-use Rattle.mail_index.proofs.ViewLaws.DirectorySections.{IsAhead, are_after, sorted}
-use Rattle.mail_index.proofs.ViewLaws.Opening.{length_directory, count_records, count_entries, reads_keys, lists_of}
-use Rattle.mail_index.proofs.ViewLaws.Opening.{are_lists, lists_of_keys, keys_in_order}
-use Rattle.mail_index.proofs.FileLaws.FileLemmas.{IsLaidOut, section_length, section_bytes, record_section}
-use Rattle.mail_index.proofs.FileLaws.FileLemmas.{directory_section, has_records}
+use Rattle.mail_index.proofs.ViewLaws.DirectorySections.{u32_small, shows_entries, entries_back, are_entries_of, IsAhead, are_after, sorted}
+use Rattle.mail_index.proofs.ViewLaws.Opening.{length_directory, count_records, count_entries, reads_keys, lists_of, are_lists, lists_of_keys, keys_in_order}
+use Rattle.mail_index.proofs.FileLaws.FileLemmas.{IsLaidOut, section_length, section_bytes, record_section, directory_section, has_records}
 
 pub laid_out : (bytes : List ℕ) (l : Layout) → IsSigned bytes → IsLayout bytes l → AreBytes bytes → IsLaidOut bytes l
 laid_out bytes l s y b = record {

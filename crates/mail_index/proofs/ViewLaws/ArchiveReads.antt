@@ -1,12 +1,5 @@
 -- An archive that is written and read is the same, and so are its bytes if they are read and written.
-use Rattle.mail_index.proofs.Words.{Some, slice_get, ◌≡◌, ◌↔◌, ℕ, zero, suc, ◌+◌, ◌-◌, ◌^◌, ◌<◌, ◌≤◌, List, [], ◌∷◌}
-use Rattle.mail_index.proofs.Words.{◌++◌, length, take, drop, Option, refl, sym, ap, subst, ◌∙◌, arith, length-append}
-use Rattle.mail_index.proofs.Words.{length-drop, append_assoc, unwrap_or, flat_map, take-append_seam, drop-append_seam}
-use Rattle.mail_index.proofs.Words.{take-append-drop, append-nil, AllByRecursion, from_be_bytes-to_be_bytes_4}
-use Rattle.mail_index.proofs.Words.{from_be_bytes-to_be_bytes_8, u32_at, u64_at, be32, be64, archive_bytes, IsDigest}
-use Rattle.mail_index.proofs.Words.{digest_length, read_digest, after_digest, Archive, IsArchive, IsPath}
-use Rattle.mail_index.proofs.Words.{archive_length, after_path, read_archive, after_archive, read_archives}
-use Rattle.mail_index.proofs.Words.{after_archives, HasArchive, SpellsArchives}
+use Rattle.mail_index.proofs.Words.{Some, slice_get, ◌≡◌, ◌↔◌, ℕ, zero, suc, ◌+◌, ◌-◌, ◌^◌, ◌<◌, ◌≤◌, List, [], ◌∷◌, ◌++◌, length, take, drop, Option, refl, sym, ap, subst, ◌∙◌, arith, length-append, length-drop, append_assoc, unwrap_or, flat_map, take-append_seam, drop-append_seam, take-append-drop, append-nil, AllByRecursion, from_be_bytes-to_be_bytes_4, from_be_bytes-to_be_bytes_8, u32_at, u64_at, be32, be64, archive_bytes, IsDigest, digest_length, read_digest, after_digest, Archive, IsArchive, IsPath, archive_length, after_path, read_archive, after_archive, read_archives, after_archives, HasArchive, SpellsArchives}
 use Rattle.mail_index.proofs.ViewLaws.DigestReads.{digest_back, digest_kept, digest_room}
 use Rattle.mail_index.proofs.FileLaws.Fronts.{concat_then}
 use Rattle.mail_index.proofs.FileLaws.Bytes.{AreBytes, u32_back, u64_back, length_part}

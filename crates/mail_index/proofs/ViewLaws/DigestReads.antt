@@ -1,8 +1,5 @@
 -- A digest that is written and read is the same, and so are its bytes if they are read and written.
-use Rattle.mail_index.proofs.Words.{◌≡◌, ℕ, ◌+◌, ◌<◌, ◌≤◌, true, false, nat_eq, if◌then◌else◌, List, [], ◌++◌, length}
-use Rattle.mail_index.proofs.Words.{take, drop, Option, None, Some, refl, sym, ap, ◌∙◌, arith, unwrap_or}
-use Rattle.mail_index.proofs.Words.{take-append_seam, drop-append_seam, take-append-drop, length-take, version_number}
-use Rattle.mail_index.proofs.Words.{IsDigest, digest_length, read_digest, after_digest}
+use Rattle.mail_index.proofs.Words.{◌≡◌, ℕ, ◌+◌, ◌<◌, ◌≤◌, true, false, nat_eq, if◌then◌else◌, List, [], ◌++◌, length, take, drop, Option, None, Some, refl, sym, ap, ◌∙◌, arith, unwrap_or, take-append_seam, drop-append_seam, take-append-drop, length-take, version_number, IsDigest, digest_length, read_digest, after_digest}
 use Rattle.mail_index.specs.declared.version.Version.{Version}
 use Rattle.mail_index.specs.declared.version.Version.TheVariants.{Two}
 

@@ -1,11 +1,6 @@
 -- The keys of a directory are read entry by entry, and they are sorted because each entry comes after the one before
 -- it.
-use Rattle.mail_index.proofs.Words.{◌≡◌, ◌∙◌, ℕ, zero, suc, ◌+◌, ◌-◌, ◌*◌, ◌^◌, ◌<◌, ◌≤◌, List, [], ◌∷◌, length, map}
-use Rattle.mail_index.proofs.Words.{drop, refl, sym, ap, subst, arith, length-drop, AllByRecursion, Less, nat_cmp}
-use Rattle.mail_index.proofs.Words.{slice_cmp, IsStrictlySortedBy, nat_list_cmp_total, drop-drop, length-map}
-use Rattle.mail_index.proofs.Words.{kind_number, kind_of_number, last_kind, byte_at, u32_at, u64_at, Key, ArePosted}
-use Rattle.mail_index.proofs.Words.{end_before, text_at, read_entry, read_entries, IsEntryAt, AreEntries, list_at}
-use Rattle.mail_index.proofs.Words.{AreLists, key_of, keys_read, IsDirectory, key_at, AreSorted}
+use Rattle.mail_index.proofs.Words.{◌≡◌, ◌∙◌, ℕ, zero, suc, ◌+◌, ◌-◌, ◌*◌, ◌^◌, ◌<◌, ◌≤◌, List, [], ◌∷◌, length, map, drop, refl, sym, ap, subst, arith, length-drop, AllByRecursion, Less, nat_cmp, slice_cmp, IsStrictlySortedBy, nat_list_cmp_total, drop-drop, length-map, kind_number, kind_of_number, last_kind, byte_at, u32_at, u64_at, Key, ArePosted, end_before, text_at, read_entry, read_entries, IsEntryAt, AreEntries, list_at, AreLists, key_of, keys_read, IsDirectory, key_at, AreSorted}
 use Rattle.mail_index.specs.Inside.FrontEntries.{IsInFront}
 use Rattle.mail_index.proofs.Items.{all-weaker}
 use Rattle.mail_index.proofs.ViewLaws.KindNumbers.{kind_kept, few_kinds}

@@ -1,20 +1,9 @@
 -- The walk over a directory accepts exactly the directories of tables: what it reads has the section's bytes, entry by
 -- entry.
-use Rattle.mail_index.proofs.Words.{◌≡◌, ℕ, zero, suc, ◌+◌, ◌-◌, ◌*◌, ◌^◌, ◌<◌, ◌≤◌, Bool, true, false, cond, ◌&&◌}
-use Rattle.mail_index.proofs.Words.{List, [], ◌∷◌, ◌++◌, length, take, drop, refl, sym, ap, subst, ◌∙◌, arith}
-use Rattle.mail_index.proofs.Words.{length-drop, length-append, nat_eq, Less, AllByRecursion, transport}
-use Rattle.mail_index.proofs.Words.{take-append_seam, drop-append_seam, take-append-drop, drop-drop, nat_tests}
-use Rattle.mail_index.proofs.Words.{from_be_bytes-to_be_bytes_4, from_be_bytes-to_be_bytes_8, kind_number}
-use Rattle.mail_index.proofs.Words.{kind_of_number, is_kind_number, last_kind, are_zeros_at, byte_at, u32_at, u64_at}
-use Rattle.mail_index.proofs.Words.{zeros, be32, be64, DirectoryEntry, entry_bytes, directory_from, texts_of}
-use Rattle.mail_index.proofs.Words.{postings_of}
-use Rattle.mail_index.proofs.Words.{AllNext, IsEntry}
-use Rattle.mail_index.proofs.Words.{EntryBefore, key_cmp, is_entry, end_before, text_at, read_entry, read_entries}
-use Rattle.mail_index.proofs.Words.{IsEntryAt, AreEntries}
+use Rattle.mail_index.proofs.Words.{◌≡◌, ℕ, zero, suc, ◌+◌, ◌-◌, ◌*◌, ◌^◌, ◌<◌, ◌≤◌, Bool, true, false, cond, ◌&&◌, List, [], ◌∷◌, ◌++◌, length, take, drop, refl, sym, ap, subst, ◌∙◌, arith, length-drop, length-append, nat_eq, Less, AllByRecursion, transport, take-append_seam, drop-append_seam, take-append-drop, drop-drop, nat_tests, from_be_bytes-to_be_bytes_4, from_be_bytes-to_be_bytes_8, kind_number, kind_of_number, is_kind_number, last_kind, are_zeros_at, byte_at, u32_at, u64_at, zeros, be32, be64, DirectoryEntry, entry_bytes, directory_from, texts_of, postings_of, AllNext, IsEntry, EntryBefore, key_cmp, is_entry, end_before, text_at, read_entry, read_entries, IsEntryAt, AreEntries}
 use Rattle.mail_index.proofs.Items.{empty_list}
 use Rattle.mail_index.proofs.FileLaws.Fronts.{before, concat_then}
-use Rattle.mail_index.proofs.FileLaws.Bytes.{AreBytes, bytes_after, bytes_before, u32_back, u64_back, byte_back, both}
-use Rattle.mail_index.proofs.FileLaws.Bytes.{length_part}
+use Rattle.mail_index.proofs.FileLaws.Bytes.{AreBytes, bytes_after, bytes_before, u32_back, u64_back, byte_back, both, length_part}
 use Rattle.mail_index.proofs.ViewLaws.KindNumbers.{kind_of-number, kind_passes, kind_kept, few_kinds, first_less}
 
 -- each entry comes after the one before it, and the first entry comes after this key

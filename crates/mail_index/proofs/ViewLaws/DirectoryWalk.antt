@@ -1,6 +1,5 @@
 -- Each step of the walk over a directory keeps the question the same: whether the rest are entries from this place on.
-use Rattle.mail_index.proofs.Words.{◌≡◌, ◌↔◌, ℕ, suc, ◌+◌, ◌-◌, ◌<◌, List, drop, refl, sym, subst, arith, transport}
-use Rattle.mail_index.proofs.Words.{byte_at, u32_at, end_before, text_at, IsEntryAt, AreEntries}
+use Rattle.mail_index.proofs.Words.{◌≡◌, ◌↔◌, ℕ, suc, ◌+◌, ◌-◌, ◌<◌, List, drop, refl, sym, subst, arith, transport, byte_at, u32_at, end_before, text_at, IsEntryAt, AreEntries}
 
 first_of : (version : ℕ) (texts : List ℕ) (total tp pp number : ℕ) (text : List ℕ) (n i : ℕ) (d : List ℕ) → i < n
     → AreEntries version texts total tp pp number text (n - i) d

@@ -1,7 +1,5 @@
 -- A kind and its number determine each other, and the newest version has each kind.
-use Rattle.mail_index.proofs.Words.{◌≡◌, ℕ, ◌<◌, ◌≤◌, true, List, sym, ap, ◌∙◌, arith, Ordering, Less, Equal, nat_cmp}
-use Rattle.mail_index.proofs.Words.{ordering_then, slice_cmp, nat_tests, Kind, kind_number, kind_of_number}
-use Rattle.mail_index.proofs.Words.{is_kind_number, key_cmp, last_kind}
+use Rattle.mail_index.proofs.Words.{◌≡◌, ℕ, ◌<◌, ◌≤◌, true, List, sym, ap, ◌∙◌, arith, Ordering, Less, Equal, nat_cmp, ordering_then, slice_cmp, nat_tests, Kind, kind_number, kind_of_number, is_kind_number, key_cmp, last_kind}
 
 pub kind_of-number : (k : Kind) → kind_of_number (kind_number k) ≡ k
 kind_of-number k = grind arith

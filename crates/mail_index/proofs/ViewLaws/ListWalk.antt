@@ -1,7 +1,6 @@
 -- Each step of the walk over posting lists keeps the question the same: whether the rest of the directory has such
 -- lists.
-use Rattle.mail_index.proofs.Words.{◌≡◌, ◌↔◌, ℕ, suc, ◌+◌, ◌-◌, ◌<◌, Bool, true, false, List, length, take, drop, sym}
-use Rattle.mail_index.proofs.Words.{subst, arith, u64_at, end_before, list_at, IsList, AreLists}
+use Rattle.mail_index.proofs.Words.{◌≡◌, ◌↔◌, ℕ, suc, ◌+◌, ◌-◌, ◌<◌, Bool, true, false, List, length, take, drop, sym, subst, arith, u64_at, end_before, list_at, IsList, AreLists}
 
 lists_first : (messages : ℕ) (postings : List ℕ) (n i : ℕ) (d : List ℕ) → i < n → AreLists messages postings (n - i) d
     → AreLists messages postings (suc (n - (i + 1))) d

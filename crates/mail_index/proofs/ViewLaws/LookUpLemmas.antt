@@ -1,9 +1,5 @@
 -- A look-up among sorted keys finds the key if it is there, because all keys before a lower one are lower.
-use Rattle.mail_index.proofs.Words.{◌≡◌, ◌∙◌, ℕ, zero, suc, ◌+◌, ◌-◌, ◌^◌, ◌<◌, ◌≤◌, Bool, true, false, List, [], ◌∷◌}
-use Rattle.mail_index.proofs.Words.{◌/◌, length, map, get_or, refl, sym, ap, ap₂, arith, nat_eq, Ordering, Less, Equal}
-use Rattle.mail_index.proofs.Words.{Greater, nat_cmp, is_eq, ordering_reverse, slice_cmp, length-map, get_or-map}
-use Rattle.mail_index.proofs.Words.{nat_tests, pow-suc, nat_list_cmp_total, is_eq-slice_cmp, Less-from_sorted, Kind}
-use Rattle.mail_index.proofs.Words.{kind_number, Key, is_key, lies_to, numbers_at, AreSorted}
+use Rattle.mail_index.proofs.Words.{◌≡◌, ◌∙◌, ℕ, zero, suc, ◌+◌, ◌-◌, ◌^◌, ◌<◌, ◌≤◌, Bool, true, false, List, [], ◌∷◌, ◌/◌, length, map, get_or, refl, sym, ap, ap₂, arith, nat_eq, Ordering, Less, Equal, Greater, nat_cmp, is_eq, ordering_reverse, slice_cmp, length-map, get_or-map, nat_tests, pow-suc, nat_list_cmp_total, is_eq-slice_cmp, Less-from_sorted, Kind, kind_number, Key, is_key, lies_to, numbers_at, AreSorted}
 
 -- a key's bytes, by which keys are sorted
 abbrev pub key_bytes : Key → List ℕ

@@ -1,11 +1,5 @@
 -- What the walks over the sections find in a file is what its table has, and they refuse nothing of a table's file.
-use Rattle.mail_index.proofs.Words.{◌≡◌, ℕ, zero, suc, ◌+◌, ◌*◌, ◌^◌, ◌<◌, List, [], ◌∷◌, length, map, drop, refl, ap}
-use Rattle.mail_index.proofs.Words.{◌∙◌, arith, length-append, flat_map, AllByRecursion, Some, slice_get, drop-drop}
-use Rattle.mail_index.proofs.Words.{Record, DirectoryEntry, entry_of_key, entry_bytes, archive_bytes, record_bytes}
-use Rattle.mail_index.proofs.Words.{directory_from}
-use Rattle.mail_index.proofs.Words.{Archive, Key, IsArchive, IsKey, AllNext, KeyBefore, RisesFrom, postings}
-use Rattle.mail_index.proofs.Words.{postings_from, IsEntry, EntryBefore, read_archives, SpellsArchives, read_record}
-use Rattle.mail_index.proofs.Words.{read_records, read_entry, read_entries, numbers_read, IsList, AreLists, key_of}
+use Rattle.mail_index.proofs.Words.{◌≡◌, ℕ, zero, suc, ◌+◌, ◌*◌, ◌^◌, ◌<◌, List, [], ◌∷◌, length, map, drop, refl, ap, ◌∙◌, arith, length-append, flat_map, AllByRecursion, Some, slice_get, drop-drop, Record, DirectoryEntry, entry_of_key, entry_bytes, archive_bytes, record_bytes, directory_from, Archive, Key, IsArchive, IsKey, AllNext, KeyBefore, RisesFrom, postings, postings_from, IsEntry, EntryBefore, read_archives, SpellsArchives, read_record, read_records, read_entry, read_entries, numbers_read, IsList, AreLists, key_of}
 use Rattle.mail_index.proofs.Items.{all-weaker}
 use Rattle.mail_index.proofs.ViewLaws.ArchiveReads.{archives_back}
 use Rattle.mail_index.proofs.FileLaws.RecordFronts.{leb_some}

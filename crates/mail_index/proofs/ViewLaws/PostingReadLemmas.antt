@@ -1,9 +1,5 @@
 -- Postings are read back: the bytes of rising numbers give these numbers, difference by difference.
-use Rattle.mail_index.proofs.Words.{◌≡◌, ◌∙◌, ℕ, zero, suc, ◌+◌, ◌-◌, ◌*◌, ◌/◌, ◌%◌, ◌^◌, ◌<◌, ◌≤◌, Bool, true, false}
-use Rattle.mail_index.proofs.Words.{cond, nat_lt, List, [], ◌∷◌, ◌++◌, length, Option, Some, None, refl, sym, ap, ap₂}
-use Rattle.mail_index.proofs.Words.{subst, arith, length-append, AllByRecursion, is_some, false≢true, nat_tests}
-use Rattle.mail_index.proofs.Words.{add-mul, mul_assoc, RisesFrom, leb128, postings_from, IsShort, numbers_after}
-use Rattle.mail_index.proofs.Words.{numbers_read, ArePostings, ArePosted}
+use Rattle.mail_index.proofs.Words.{◌≡◌, ◌∙◌, ℕ, zero, suc, ◌+◌, ◌-◌, ◌*◌, ◌/◌, ◌%◌, ◌^◌, ◌<◌, ◌≤◌, Bool, true, false, cond, nat_lt, List, [], ◌∷◌, ◌++◌, length, Option, Some, None, refl, sym, ap, ap₂, subst, arith, length-append, AllByRecursion, is_some, false≢true, nat_tests, add-mul, mul_assoc, RisesFrom, leb128, postings_from, IsShort, numbers_after, numbers_read, ArePostings, ArePosted}
 use Rattle.mail_index.proofs.FileLaws.RecordFronts.{leb_front, leb_some}
 
 -- ---- a difference

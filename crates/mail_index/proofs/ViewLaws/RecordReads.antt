@@ -1,12 +1,5 @@
 -- A record that is written and read is the same, and so are its bytes if they are read and written.
-use Rattle.mail_index.proofs.Words.{◌≡◌, ℕ, zero, suc, ◌+◌, ◌^◌, ◌<◌, ◌≤◌, Bool, true, false, cond, ◌&&◌, ◌||◌, List}
-use Rattle.mail_index.proofs.Words.{[], ◌∷◌, ◌++◌, length, drop, Option, Some, None, refl, ap, ◌∙◌, arith, ℤ, IfSome}
-use Rattle.mail_index.proofs.Words.{FitsSigned, is_some, nat_eq, nat_le, w64, cast_signed, to_z-of_z, Fits-of_z}
-use Rattle.mail_index.proofs.Words.{Fits-lt-pow, from_be_bytes-to_be_bytes_4, from_be_bytes-to_be_bytes_8, Record}
-use Rattle.mail_index.proofs.Words.{are_zeros_at, byte_at, u32_at, u64_at, be32, be64, zeros, bit, flags_byte}
-use Rattle.mail_index.proofs.Words.{date_number}
-use Rattle.mail_index.proofs.Words.{record_bytes, has_bit, read_flags, read_date, read_record, is_record, of_z-to_z}
-use Rattle.mail_index.proofs.Words.{leb-true, nat_tests}
+use Rattle.mail_index.proofs.Words.{◌≡◌, ℕ, zero, suc, ◌+◌, ◌^◌, ◌<◌, ◌≤◌, Bool, true, false, cond, ◌&&◌, ◌||◌, List, [], ◌∷◌, ◌++◌, length, drop, Option, Some, None, refl, ap, ◌∙◌, arith, ℤ, IfSome, FitsSigned, is_some, nat_eq, nat_le, w64, cast_signed, to_z-of_z, Fits-of_z, Fits-lt-pow, from_be_bytes-to_be_bytes_4, from_be_bytes-to_be_bytes_8, Record, are_zeros_at, byte_at, u32_at, u64_at, be32, be64, zeros, bit, flags_byte, date_number, record_bytes, has_bit, read_flags, read_date, read_record, is_record, of_z-to_z, leb-true, nat_tests}
 use Rattle.mail_index.proofs.FileLaws.Fronts.{before, concat_then}
 use Rattle.mail_index.proofs.FileLaws.Bytes.{AreBytes, u32_back, u64_back, byte_back, both, bytes_after, bytes_before}
 

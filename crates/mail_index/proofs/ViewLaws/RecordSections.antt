@@ -1,15 +1,9 @@
 -- The walk over records accepts exactly the records of tables: what it reads has the section's bytes, record by record.
-use Rattle.mail_index.proofs.Words.{◌≡◌, ℕ, zero, suc, ◌+◌, ◌-◌, ◌*◌, ◌^◌, ◌<◌, ◌≤◌, Bool, true, cond, List, [], ◌∷◌}
-use Rattle.mail_index.proofs.Words.{◌++◌, length, drop, Some, None, refl, sym, ap, ◌∙◌, arith, length-drop, flat_map}
-use Rattle.mail_index.proofs.Words.{IfSome, FitsSigned, w64, cast_signed, AllByRecursion, nat_tests, Record, byte_at}
-use Rattle.mail_index.proofs.Words.{u64_at, record_bytes, Archive, IsArchive, IsMessage, Follows, AllNext}
-use Rattle.mail_index.proofs.Words.{archive_length, has_bit, is_after, after_archives, read_archives, IsNextRecord}
-use Rattle.mail_index.proofs.Words.{AreRecords, read_record, read_records, is_record}
+use Rattle.mail_index.proofs.Words.{◌≡◌, ℕ, zero, suc, ◌+◌, ◌-◌, ◌*◌, ◌^◌, ◌<◌, ◌≤◌, Bool, true, cond, List, [], ◌∷◌, ◌++◌, length, drop, Some, None, refl, sym, ap, ◌∙◌, arith, length-drop, flat_map, IfSome, FitsSigned, w64, cast_signed, AllByRecursion, nat_tests, Record, byte_at, u64_at, record_bytes, Archive, IsArchive, IsMessage, Follows, AllNext, archive_length, has_bit, is_after, after_archives, read_archives, IsNextRecord, AreRecords, read_record, read_records, is_record}
 use Rattle.mail_index.proofs.Items.{empty_list}
 use Rattle.mail_index.proofs.FileLaws.Bytes.{AreBytes, bytes_after}
 use Rattle.mail_index.proofs.FileLaws.OneTable.{small_archive}
-use Rattle.mail_index.proofs.ViewLaws.RecordReads.{HasSmallFields, record_back, after_record, record_kept}
-use Rattle.mail_index.proofs.ViewLaws.RecordReads.{record_passes}
+use Rattle.mail_index.proofs.ViewLaws.RecordReads.{HasSmallFields, record_back, after_record, record_kept, record_passes}
 use Rattle.mail_index.proofs.ViewLaws.ArchiveReads.{archives_after, length_at, read_count}
 
 -- the first message comes after the place, and each other one after the end of the one before it

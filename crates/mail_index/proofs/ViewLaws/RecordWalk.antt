@@ -1,7 +1,5 @@
 -- Each step of the walk over records keeps the question the same: whether the rest are records from this place on.
-use Rattle.mail_index.proofs.Words.{transport, ◌≡◌, ◌↔◌, ℕ, suc, ◌+◌, ◌-◌, ◌<◌, true, false, List, drop, refl, sym}
-use Rattle.mail_index.proofs.Words.{subst, ◌∙◌, arith, Record, after_archives, IsNextRecord, AreRecords, read_record}
-use Rattle.mail_index.proofs.Words.{is_record}
+use Rattle.mail_index.proofs.Words.{transport, ◌≡◌, ◌↔◌, ℕ, suc, ◌+◌, ◌-◌, ◌<◌, true, false, List, drop, refl, sym, subst, ◌∙◌, arith, Record, after_archives, IsNextRecord, AreRecords, read_record, is_record}
 
 -- ---- the loop
 

@@ -1,12 +1,6 @@
 -- The keys of a kind whose texts begin with a text follow one another, because sorted keys compare with them in rising
 -- order.
-use Rattle.mail_index.proofs.Words.{◌≡◌, ◌∙◌, ℕ, zero, suc, ◌+◌, ◌-◌, ◌<◌, ◌≤◌, Bool, true, false, cond, ◌&&◌, List, []}
-use Rattle.mail_index.proofs.Words.{◌∷◌, length, map, take, drop, get_or, refl, sym, ap, ap₂, subst, arith, length-drop}
-use Rattle.mail_index.proofs.Words.{nat_eq, bytes_eq, Ordering, Less, Equal, Greater, nat_cmp, is_eq, is_lt}
-use Rattle.mail_index.proofs.Words.{ordering_index, ordering_then, slice_cmp, filter, starts_with, length-map}
-use Rattle.mail_index.proofs.Words.{get_or-map, get_or-drop, drop_more, nat_tests, same_from_decides, Decides-like}
-use Rattle.mail_index.proofs.Words.{ranked, is_eq-slice_cmp, Less-from_sorted, bytes_eq-Decides, Kind, kind_number, Key}
-use Rattle.mail_index.proofs.Words.{is_of_kind, AreSorted, keys_of, keys_beginning}
+use Rattle.mail_index.proofs.Words.{◌≡◌, ◌∙◌, ℕ, zero, suc, ◌+◌, ◌-◌, ◌<◌, ◌≤◌, Bool, true, false, cond, ◌&&◌, List, [], ◌∷◌, length, map, take, drop, get_or, refl, sym, ap, ap₂, subst, arith, length-drop, nat_eq, bytes_eq, Ordering, Less, Equal, Greater, nat_cmp, is_eq, is_lt, ordering_index, ordering_then, slice_cmp, filter, starts_with, length-map, get_or-map, get_or-drop, drop_more, nat_tests, same_from_decides, Decides-like, ranked, is_eq-slice_cmp, Less-from_sorted, bytes_eq-Decides, Kind, kind_number, Key, is_of_kind, AreSorted, keys_of, keys_beginning}
 use Rattle.mail_index.specs.Inside.KeyRuns.{lies_to_run, keys_between}
 use Rattle.mail_index.proofs.ViewLaws.KindNumbers.{tied}
 use Rattle.mail_index.proofs.ViewLaws.LookUpLemmas.{key_bytes}

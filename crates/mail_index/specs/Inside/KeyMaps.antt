@@ -1,7 +1,11 @@
--- The keys of a builder: entries in the order in which they came, and their numbers in the order of their keys.
+-- The keys of a builder: entries in the order in which they came, and the numbers of some in the order of their keys.
 use Rattle.std.specs.Prelude.{◌≡◌, ℕ, zero, suc, ◌+◌, ◌-◌, ◌<◌, ◌≤◌, ◌⊎◌, nat_le, if◌then◌else◌, List, [], ◌∷◌, ◌++◌}
 use Rattle.std.specs.Prelude.{length, map, take, drop, Vec}
 use Rattle.std.specs.Global.{Global}
+use Rattle.std.specs.Prelude.{Bool}
+use Rattle.std.specs.Ordering.{match_ordering, nat_cmp}
+use Rattle.std.specs.Cmp.Lexicographic.{slice_cmp}
+use Rattle.std.specs.declared.cmp.Ordering.{Ordering}
 use Rattle.std.specs.declared.cmp.Ordering.TheVariants.{Less, Equal, Greater}
 use Rattle.std.specs.List.{AllByRecursion, slice_index, slice_index_or}
 use Rattle.mail_index.specs.declared.kind.Kind.{Kind}
@@ -18,6 +22,7 @@ use Rattle.mail_index.specs.PostingLists.{with_number, numbers_of, IsPosted}
 use Rattle.mail_index.specs.Kinds.{kind_number, kind_of_number}
 use Rattle.mail_index.specs.LookUps.{lies_to, AreSorted}
 use Rattle.mail_index.specs.KeysRead.{key_at}
+use Rattle.mail_index.specs.OrderOfKeys.{key_cmp}
 use Rattle.mail_index.specs.Inside.KeyFronts.{IsFrontOfKey, IsFronted}
 
 -- a key of one message
@@ -31,6 +36,22 @@ with_added key keys = with_pair key.kind key.text.now key.number keys
 -- the key with n among its numbers
 abbrev pub with_one : Key → ℕ → Key
 with_one k n = record { kind = k.kind; text = k.text; numbers = with_number k.numbers n }
+
+-- the keys in order with one more, which comes before the first that isn't smaller
+unfoldable pub with_key : Key → List Key → List Key
+with_key k [] = k ∷ []
+with_key k (j ∷ js) = match_ordering (key_cmp (kind_number k.kind) k.text (kind_number j.kind) j.text) (k ∷ j ∷ js)
+    (k ∷ j ∷ js) (j ∷ with_key k js)
+
+-- the keys of the entries, in order
+unfoldable pub in_key_order : List Key → List Key
+in_key_order [] = []
+in_key_order (k ∷ ks) = with_key k (in_key_order ks)
+
+-- the keys so far, in order; and whether the code has put all of them in order
+pub record KeyState : Type 0 where
+  pub keys : List Key
+  pub sorted : Bool
 
 -- ---- an entry's bytes
 
@@ -86,12 +107,19 @@ abbrev pub IsAmong : ℕ → List ℕ → Type 0
 IsAmong i [] = ⊥
 IsAmong i (j ∷ js) = (j ≡ i) ⊎ IsAmong i js
 
--- the order has the number of each entry once, and sorts the entries by their keys
+-- no two entries have the same key
+abbrev pub AreDistinct : List Key → Type 0
+AreDistinct entries = (i j : ℕ) → i < length entries → j < length entries
+    → lies_to (key_at entries i).kind (key_at entries i).text (key_at entries j) ≡ Equal → i ≡ j
+
+-- the order sorts some of the entries by their keys
 pub record IsOrder (entries : List Key) (order : List ℕ) : Type 0 where
   pub sorted : AreSorted (keys_by_numbers entries order)
   pub within : AllByRecursion (λ i. i < length entries) order
-  pub whole : (i : ℕ) → i < length entries → IsAmong i order
-  pub count : length order ≡ length entries
+
+-- all numbers of the first order are among those of the second
+abbrev pub IsPartOf : List ℕ → List ℕ → Type 0
+IsPartOf old new = (i : ℕ) → IsAmong i old → IsAmong i new
 
 -- the wanted key isn't among the keys, and this is its place: the key before it is smaller, and the key there is
 -- greater
@@ -167,7 +195,20 @@ place_in order place = position (rows order.pages.items) place.page place.at
 abbrev pub keys_in : List Key → KeyOrder → List Key
 keys_in entries order = keys_by_numbers entries (numbers_in order)
 
--- there is a head between each page and the next, and the order has the number of each entry, with its key's front
+-- each slot has the number of its place
+abbrev pub AreNumbered : List Fronted → Type 0
+AreNumbered slots = (i : ℕ) (d : Fronted) → i < length slots → (slice_index_or slots i d).number ≡ i
+
+-- the front of a slot and its key, as numbers that compare as slots do
+abbrev pub slot_numbers : List Key → Fronted → List ℕ
+slot_numbers entries slot =
+    slot.front ∷ kind_number (key_at entries slot.number).kind ∷ (key_at entries slot.number).text
+
+-- how two slots compare: by their fronts, and those of one front by their keys
+abbrev pub slot_cmp : List Key → Fronted → Fronted → Ordering
+slot_cmp entries one other = slice_cmp nat_cmp (slot_numbers entries one) (slot_numbers entries other)
+
+-- there is a head between each page and the next, and the order has numbers of entries, each with its key's front
 pub record AreInStep (entries : List Key) (order : KeyOrder) : Type 0 where
   pub between : length order.heads.items ≡ length order.pages.items - 1
   pub sorts : IsOrder entries (numbers_in order)

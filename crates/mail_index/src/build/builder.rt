@@ -1,9 +1,8 @@
 //! Builds an index.
-ghost use Rattle.std.specs.Prelude.{◌≡◌, ◌+◌, ◌^◌, ◌<◌, ◌≤◌, ◌-◌, length, true, false, flat_map, string_len, Err, IfOk, IfErr, IsTrue, OnOk, OnErr};
+ghost use Rattle.std.specs.Prelude.{◌≡◌, ◌+◌, ◌^◌, ◌<◌, ◌≤◌, ◌-◌, length, true, false, flat_map, string_len, Err, None, IfOk, IfErr, IsTrue, OnOk, OnErr};
 ghost use Rattle.std.specs.Io.KnownBytes.{Appends};
-ghost use Rattle.sha2.specs.Sha256.{sha256};
 ghost use Rattle.contract_words.specs.Devices.{Counted, Counts as CountsFailures, Sends};
-ghost use Rattle.mail_index.specs.Files.{HasSmallSections, body, index_file};
+ghost use Rattle.mail_index.specs.Files.{HasSmallSections, body, digest_or_zeros, file_by};
 ghost use Rattle.mail_index.specs.Inside.SectionCounts.{IsCountOf, counted_length, section_of};
 ghost use Rattle.mail_index.specs.Inside.Signing.{WritesSigned};
 ghost use Rattle.mail_index.specs.Tables.{IsPath, IsWellFormed};
@@ -18,6 +17,7 @@ use crate::build::prefetched::Prefetched;
 use crate::build::sections::{
     Counts, FILE_SECTIONS, FileSection, archives_length, send_archives, send_counts, send_records,
 };
+use crate::digests::Digests;
 use crate::kind::Kind;
 use crate::places::{ENTRY, LEAST_FILE, RECORD};
 use crate::record::Record;
@@ -54,16 +54,19 @@ pub struct Builder {
 }
 
 impl Model for Builder {
+    ghost use Rattle.std.specs.Prelude.{◌≡◌, None, true};
     ghost use Rattle.mail_index.specs.Builders.{Draft};
     ghost use Rattle.mail_index.specs.Inside.Drafts.{draft_of_fields, IsDraft};
 
     ghost Value = { Draft };
 
     ghost view = { λ s. draft_of_fields s.most s.path s.in_message s.archives.items
-        s.records.items s.keys s.failed };
+        s.records.items s.keys.keys s.failed };
 
     ghost invariant = { λ s. IsDraft (draft_of_fields s.most s.path s.in_message s.archives.items
-        s.records.items s.keys s.failed) };
+        s.records.items s.keys.keys s.failed)
+        × ((draft_of_fields s.most s.path s.in_message s.archives.items s.records.items s.keys.keys
+        s.failed).path ≡ None → s.keys.sorted ≡ true) };
 }
 
 impl Builder {
@@ -236,6 +239,12 @@ impl Builder {
             self.new }
         ensures within { IsWithinMost self.new }
     {
+        if self.failed {
+            return Err(BuildFault::Failed);
+        }
+        if self.keys.sort(self.alloc).is_err() {
+            return self.refuse(BuildFault::OutOfMemory);
+        }
         let Some(path) = self.path.take() else {
             // Only after a fault is no archive open.
             return Err(BuildFault::Failed);
@@ -254,7 +263,8 @@ impl Builder {
         }
     }
 
-    /// Writes the index file of all archives, in version 2, and returns its number of bytes. No archive may be open.
+    /// Writes the index file of all archives, in version 2, and returns its number of bytes. Its own digest is computed,
+    /// or zeros are in its place; those of the archives are what they were given as. No archive may be open.
     ///
     /// Takes no memory, and writes in pieces of some thousand bytes. The builder stays as it is, even if the output
     /// fails.
@@ -263,23 +273,23 @@ impl Builder {
     ///
     /// `Out` if the output fails: then only a beginning of the file was sent. `Failed` if nothing is left after an
     /// earlier call.
-    pub fn write<O: Out>(&self, out: &mut O) -> Result<u64, WriteFault>
+    pub fn write<O: Out>(&self, out: &mut O, digests: Digests) -> Result<u64, WriteFault>
         requires failures { O.failures out.old < 2 ^ 64 - 1 }
         requires phase { IsBetweenArchives self.now }
         ensures formed { IsWellFormed self.now.table × HasSmallSections self.now.table }
         ensures failed { self.now.failed ≡ true
             → (result ≡ Err WriteFault.Failed) × (out.new ≡ out.old) }
-        ensures ok { IfOk result (λ n. (n ≡ length (index_file self.now.table))
-            × Appends (O.taken out.old) (O.taken out.new) (index_file self.now.table)) }
+        ensures ok { IfOk result (λ n. (n ≡ length (file_by digests self.now.table))
+            × Appends (O.taken out.old) (O.taken out.new) (file_by digests self.now.table)) }
         ensures err { self.now.failed ≡ false → IfErr result (λ e. (e ≡ WriteFault.Out)
-            × Sends (O.taken out.old) (O.taken out.new) (index_file self.now.table)) }
+            × Sends (O.taken out.old) (O.taken out.new) (file_by digests self.now.table)) }
         ensures count { Counted (is_output_failure result) (O.failures out.old)
             (O.failures out.new) }
     {
         if self.failed {
             return Err(WriteFault::Failed);
         }
-        self.write_table(out).or(Err(WriteFault::Out))
+        self.write_table(out, digests).or(Err(WriteFault::Out))
     }
 
     /// Frees all that was built. Every later call fails with [`BuildFault::Failed`].
@@ -305,19 +315,19 @@ impl Builder {
     }
 
     /// Writes the index file of the table, and returns its number of bytes. Fails if the output does.
-    fn write_table<O: Out>(&self, out: &mut O) -> Result<u64, DeviceFault>
+    fn write_table<O: Out>(&self, out: &mut O, digests: Digests) -> Result<u64, DeviceFault>
         requires failures { O.failures out.old < 2 ^ 64 - 1 }
         requires kept { self.now.failed ≡ false }
         requires phase { IsBetweenArchives self.now }
         ensures formed { IsWellFormed self.now.table × HasSmallSections self.now.table }
-        ensures ok { IfOk result (λ n. (n ≡ length (index_file self.now.table))
-            × Appends (O.taken out.old) (O.taken out.new) (index_file self.now.table)) }
+        ensures ok { IfOk result (λ n. (n ≡ length (file_by digests self.now.table))
+            × Appends (O.taken out.old) (O.taken out.new) (file_by digests self.now.table)) }
         ensures err { OnErr result
-            (Sends (O.taken out.old) (O.taken out.new) (index_file self.now.table)) }
+            (Sends (O.taken out.old) (O.taken out.new) (file_by digests self.now.table)) }
         ensures count { CountsFailures result (O.failures out.old) (O.failures out.new) }
     {
         let counts = self.counts();
-        let digest = self.send_undigested(out, &counts)?;
+        let digest = self.send_undigested(out, &counts, digests)?;
         send(out, digest.as_slice())?;
         let length = LEAST_FILE as u64
             + counts.archive_bytes
@@ -330,6 +340,7 @@ impl Builder {
 
     /// The contents of the counts section.
     fn counts(&self) -> Counts
+        requires { self.now.path ≡ None }
         ensures draft { IsDraft self.now }
         ensures counts { IsCountOf self.now.table result }
         ensures small { counted_length result < 2 ^ 64 }
@@ -345,19 +356,26 @@ impl Builder {
         }
     }
 
-    /// Writes all of the file but its digest, and returns the digest.
-    fn send_undigested<O: Out>(&self, out: &mut O, counts: &Counts) -> Result<[u8; 32], DeviceFault>
+    /// Writes all of the file but its digest, and returns the digest, or zeros.
+    fn send_undigested<O: Out>(
+        &self,
+        out: &mut O,
+        counts: &Counts,
+        digests: Digests,
+    ) -> Result<[u8; 32], DeviceFault>
         requires failures { O.failures out.old < 2 ^ 64 - 1 }
+        requires closed { self.now.path ≡ None }
         requires counts { IsCountOf self.now.table counts.now }
         requires small { counted_length counts.now < 2 ^ 64 }
         ensures ok { OnOk result
             (Appends (O.taken out.old) (O.taken out.new) (body self.now.table)) }
-        ensures digest { IfOk result (λ digest. digest ≡ sha256 (body self.now.table)) }
+        ensures digest { IfOk result (λ digest.
+            digest ≡ digest_or_zeros digests (body self.now.table)) }
         ensures err { OnErr result
             (Sends (O.taken out.old) (O.taken out.new) (body self.now.table)) }
         ensures count { CountsFailures result (O.failures out.old) (O.failures out.new) }
     {
-        let mut signer = Signer::new();
+        let mut signer = Signer::new(digests);
         self.send_sections(out, &mut signer, counts, FILE_SECTIONS.as_slice())?;
         signer.finish(out)
     }
@@ -371,6 +389,7 @@ impl Builder {
         sections: &[FileSection],
     ) -> Result<(), DeviceFault>
         requires failures { O.failures out.old < 2 ^ 64 - 1 }
+        requires closed { self.now.path ≡ None }
         requires counts { IsCountOf self.now.table counts.now }
         requires small { counted_length counts.now < 2 ^ 64 }
         ensures written { WritesSigned result (O.taken out.old) (O.taken out.new) signer.old
@@ -393,6 +412,7 @@ impl Builder {
         section: FileSection,
     ) -> Result<(), DeviceFault>
         requires failures { O.failures out.old < 2 ^ 64 - 1 }
+        requires closed { self.now.path ≡ None }
         requires counts { IsCountOf self.now.table counts.now }
         requires small { counted_length counts.now < 2 ^ 64 }
         ensures written { WritesSigned result (O.taken out.old) (O.taken out.new) signer.old

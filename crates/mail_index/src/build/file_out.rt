@@ -1,63 +1,64 @@
-//! Writes bytes, and digests them on the way.
+//! Writes bytes, and digests them on the way if that is wanted.
 ghost use Rattle.std.specs.Prelude.{◌≡◌, ◌-◌, ◌^◌, ◌<◌, ℕ, List, [], ◌++◌, IfOk, OnOk, OnErr, map};
 ghost use Rattle.std.specs.Io.KnownBytes.{Appends};
 ghost use Rattle.std.specs.List.{concat};
-ghost use Rattle.sha2.specs.Hashers.{Holds256};
-ghost use Rattle.sha2.specs.Sha256.{sha256};
 ghost use Rattle.contract_words.specs.Devices.{Counts, Sends};
-ghost use Rattle.mail_index.specs.Inside.Signing.{Absorbs, WritesSigned};
+ghost use Rattle.mail_index.specs.Files.{digest_or_zeros};
+ghost use Rattle.mail_index.specs.Inside.Signing.{Absorbs, Seals, WritesSigned};
+ghost use Rattle.mail_index.specs.declared.digests.Digests.{Digests};
 
 use crate::build::pending::{Pending, ROOM};
+use crate::build::seal::Seal;
+use crate::digests::Digests;
 use mbox_cutter::{DeviceFault, Out, send};
-use sha2::{Digest, Sha256};
 
-/// The digest of what was written, and the bytes that are gathered to be written next.
+/// The seal of what was written, and the bytes that are gathered to be written next.
 ///
 /// A file consists of fields of few bytes. Gathered, some hundred of them cost an output and a digest one call.
 #[derive(Drop)]
 pub(crate) struct Signer {
-    hasher: Sha256,
+    seal: Seal,
     pending: Pending,
 }
 
 impl Signer {
     /// Returns a signer that has written nothing.
-    pub(crate) fn new() -> Self
-        ensures digest { Holds256 result.hasher [] }
+    pub(crate) fn new(digests: Digests) -> Self
+        ensures seal { Seals digests result.seal [] }
         ensures pending { result.pending ≡ [] }
     {
         Signer {
-            hasher: Sha256::new(),
+            seal: Seal::new(digests),
             pending: Pending::new(),
         }
     }
 
-    /// Writes the gathered bytes, and adds them to the digest.
+    /// Writes the gathered bytes, and adds them to the seal.
     fn flush<O: Out>(&mut self, out: &mut O) -> Result<(), DeviceFault>
         requires { O.failures out.old < 2 ^ 64 - 1 }
         ensures ok { OnOk result (Appends (O.taken out.old) (O.taken out.new) self.old.pending) }
-        ensures digest { OnOk result (Absorbs self.old.hasher self.new.hasher self.old.pending) }
+        ensures seal { OnOk result (Absorbs self.old.seal self.new.seal self.old.pending) }
         ensures all { OnOk result (self.new.pending ≡ []) }
         ensures err { OnErr result (Sends (O.taken out.old) (O.taken out.new) self.old.pending) }
         ensures count { Counts result (O.failures out.old) (O.failures out.new) }
     {
         let gathered = self.pending.as_slice();
         let sent = send(out, gathered);
-        self.hasher.update(gathered);
+        self.seal.update(gathered);
         self.pending.clear();
         sent
     }
 
-    /// Writes the gathered bytes, and returns the digest of all that was written.
+    /// Writes the gathered bytes, and returns the digest of all that was written, or zeros.
     pub(crate) fn finish<O: Out>(mut self, out: &mut O) -> Result<[u8; 32], DeviceFault>
         requires { O.failures out.old < 2 ^ 64 - 1 }
         ensures ok { OnOk result (Appends (O.taken out.old) (O.taken out.new) self.pending) }
-        ensures digest { IfOk result (λ digest. (m : List ℕ) → Holds256 self.hasher m
-            → digest ≡ sha256 (m ++ self.pending)) }
+        ensures digest { IfOk result (λ digest. (digests : Digests) (m : List ℕ)
+            → Seals digests self.seal m → digest ≡ digest_or_zeros digests (m ++ self.pending)) }
         ensures err { OnErr result (Sends (O.taken out.old) (O.taken out.new) self.pending) }
         ensures count { Counts result (O.failures out.old) (O.failures out.new) }
     {
-        self.flush(out).and(Ok(self.hasher.finalize()))
+        self.flush(out).and(Ok(self.seal.finish()))
     }
 
     /// Writes the gathered bytes. Then gathers the new ones if there is room for them, and writes them if not.
@@ -73,12 +74,12 @@ impl Signer {
             return Ok(());
         }
         send(out, bytes)?;
-        self.hasher.update(bytes);
+        self.seal.update(bytes);
         Ok(())
     }
 }
 
-/// Gathers these bytes to be written, or writes them, and adds all that is written to the digest.
+/// Gathers these bytes to be written, or writes them, and adds all that is written to the seal.
 #[inline(always)]
 pub(crate) fn send_signed<O: Out>(
     out: &mut O,

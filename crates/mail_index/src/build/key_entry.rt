@@ -130,6 +130,13 @@ impl KeyEntry {
         own_number == kind.number() && is_same_text(own_text, text)
     }
 
+    /// The key's kind.
+    pub(crate) fn kind(&self) -> Kind
+        ensures { result ≡ self.now.kind }
+    {
+        Kind::of_number(self.front[0])
+    }
+
     /// The key's text.
     pub(crate) fn text(&self) -> &[u8]
         ensures text { result.now ≡ self.now.text }

@@ -1,61 +1,74 @@
 //! The keys of an index while it is built.
-ghost use Rattle.std.specs.Prelude.{◌≡◌, ◌-◌, ◌<◌, ◌≤◌, [], length, set, IfSome, IfOk, IfErr, IsTrue, OnOk, OnErr};
-ghost use Rattle.mail_index.specs.Inside.KeyMaps.{keys_in, with_added, with_one, IsEntryOf, AreInStep, IsPlaceFor, IsWantOf};
-ghost use Rattle.mail_index.specs.KeysRead.{key_at};
+ghost use Rattle.std.specs.Prelude.{◌≡◌, ◌+◌, ◌<◌, ◌≤◌, ℕ, [], ◌∷◌, ◌++◌, true, length, set, IfSome, IfOk, IfErr, IsTrue, OnOk, OnErr};
 ghost use Rattle.mail_index.specs.Builders.{with_pair};
+ghost use Rattle.mail_index.specs.Inside.KeyMaps.{numbers_in, new_key, with_added, with_one, IsAmong, IsEntryOf, IsPartOf, AreInStep, AreDistinct, IsPlaceFor, IsWantOf};
+ghost use Rattle.mail_index.specs.Inside.KeyTables.{AreReachable, IsSpot, hash_of};
+ghost use Rattle.mail_index.specs.KeysRead.{key_at};
 ghost use Rattle.mail_index.specs.Limits.{four_byte_limit};
 
 use crate::build::build_fault::BuildFault;
 use crate::build::key_entry::KeyEntry;
-use crate::build::key_hints::{KeyHints, Slot};
-use crate::build::key_order::{KeyOrder, Place};
+use crate::build::key_hash::KeyHash;
+use crate::build::key_order::{KeyOrder, Place, sorted};
+use crate::build::key_table::{Found, KeyTable};
 use crate::build::keys_in_order::KeysInOrder;
 use crate::build::prefetched::Prefetched;
 use crate::kind::Kind;
-use std::alloc::Global;
+use std::alloc::{AllocError, Global};
 use std::marker::Model;
 
-/// The keys so far, in the order of the file, each with the numbers of its messages.
+/// If fewer than one key of this many is new since all were put in order, each new one is put at its place.
+const OF_WHICH_ONE_IS_NEW: usize = 4;
+
+/// The keys so far, each with the numbers of its messages.
 ///
-/// The entries of the keys are kept in the order in which they came. The numbers of the entries are kept in the order
-/// of the keys. A key that is there already is mostly found by a hint, and isn't copied.
+/// The entries of the keys are kept in the order in which they came. A table finds the entry of a key, or that the key
+/// is new. The keys are put in order only when an archive ends.
 #[derive(Drop)]
 pub(crate) struct KeyMap {
     entries: Vec<KeyEntry>,
+    table: KeyTable,
+    // The order of the first entries, and of those that have no slot in the table.
     order: KeyOrder,
-    hints: KeyHints,
+    // How many entries were put in order when the last archive ended.
+    sorted: usize,
 }
 
 impl Model for KeyMap {
-    ghost use Rattle.std.specs.Prelude.{List};
-    ghost use Rattle.mail_index.specs.Tables.{Key};
-    ghost use Rattle.mail_index.specs.Inside.KeyMaps.{keys_in, AreInStep};
+    ghost use Rattle.std.specs.Prelude.{nat_eq, length};
+    ghost use Rattle.mail_index.specs.Inside.KeyMaps.{in_key_order, KeyState};
+    ghost use Rattle.mail_index.specs.Inside.KeyTables.{IsKeyMap};
 
-    ghost Value = { List Key };
+    ghost Value = { KeyState };
 
-    ghost view = { λ s. keys_in s.entries.items s.order };
+    ghost view = { λ s. record {
+      keys = in_key_order s.entries.items;
+      sorted = nat_eq s.sorted (length s.entries.items);
+    } };
 
-    ghost invariant = { λ s. AreInStep s.entries.items s.order };
+    ghost invariant = { λ s. IsKeyMap s.entries.items s.table s.order s.sorted };
 }
 
 impl KeyMap {
     /// Returns a map without keys. Takes no memory.
     pub(crate) fn new(alloc: Global) -> Self
-        ensures { result ≡ [] }
+        ensures keys { result.keys ≡ [] }
+        ensures sorted { result.sorted ≡ true }
     {
         KeyMap {
             entries: Vec::new(alloc),
+            table: KeyTable::new(alloc),
             order: KeyOrder {
                 heads: Vec::new(alloc),
                 pages: Vec::new(alloc),
             },
-            hints: KeyHints::new(alloc),
+            sorted: 0,
         }
     }
 
     /// The number of keys.
     pub(crate) fn len(&self) -> usize
-        ensures { result ≡ length self.now }
+        ensures { result ≡ length self.now.keys }
     {
         self.entries.len()
     }
@@ -65,7 +78,7 @@ impl KeyMap {
         // Two loops: within each of them no read needs what another has read, so the processor reads from memory for
         // all of them at once.
         for place in places.iter_mut() {
-            place.number = self.hints.get(place.slot);
+            place.number = self.table.guess(place.hash);
         }
         for place in places.iter_mut() {
             place.text_length = match self.entries.get(place.number as usize) {
@@ -78,9 +91,9 @@ impl KeyMap {
     /// Whether a quick look finds that a key has a message's number already. It reads only one of the latest keys.
     #[inline(always)]
     pub(crate) fn has_recent(&self, kind: Kind, text: &[u8], number: u32, place: Prefetched) -> bool
-        ensures { IsTrue result → with_pair kind text.now number self.now ≡ self.now }
+        ensures { IsTrue result → with_pair kind text.now number self.now.keys ≡ self.now.keys }
     {
-        match self.entries.get(self.hints.recent(place.slot) as usize) {
+        match self.entries.get(self.table.recent(place.hash) as usize) {
             Some(entry) => entry.has(kind, text, number),
             None => false,
         }
@@ -99,12 +112,12 @@ impl KeyMap {
     ) -> Result<(), BuildFault>
         requires number { number < u32.MAX }
         requires short { length text.now < four_byte_limit }
-        requires fits { length self.old ≤ most }
-        ensures ok { OnOk result (self.new ≡ with_pair kind text.now number self.old) }
-        ensures err { OnErr result (self.new ≡ self.old) }
-        ensures fits { length self.new ≤ most }
+        requires fits { length self.old.keys ≤ most }
+        ensures ok { OnOk result (self.new.keys ≡ with_pair kind text.now number self.old.keys) }
+        ensures err { OnErr result (self.new.keys ≡ self.old.keys) }
+        ensures fits { length self.new.keys ≤ most }
         ensures fault { IfErr result
-            (IsWantOf most (length (with_pair kind text.now number self.old))) }
+            (IsWantOf most (length (with_pair kind text.now number self.old.keys))) }
     {
         let key = Added {
             kind,
@@ -112,45 +125,71 @@ impl KeyMap {
             number,
             most,
         };
-        // A right guess needs neither the order nor the hints.
+        // A right guess needs neither the table nor the order.
         if let Some(entry) = guessed(self.entries.as_slice(), place, kind, text) {
-            self.hints.note_recent(place.slot, entry);
-            return add_number(&mut self.entries, &self.order, entry, &key);
+            self.table.note_recent(place.hash, entry);
+            return add_number(&mut self.entries, entry, number);
         }
-        self.add_searched(alloc, place.slot, key)
+        self.add_unguessed(alloc, key)
     }
 
-    /// Does what `add` does, by a search, and leaves a hint. A function of its own, so that a right guess costs no more
-    /// than its own steps.
+    /// Does what `add` does, without a guess. A function of its own, so that a right guess costs no more than its own
+    /// steps.
     #[inline(never)]
-    fn add_searched(&mut self, alloc: Global, slot: Slot, key: Added<'_>) -> Result<(), BuildFault>
+    fn add_unguessed(&mut self, alloc: Global, key: Added<'_>) -> Result<(), BuildFault>
         requires number { key.number < u32.MAX }
         requires short { length key.text.now < four_byte_limit }
-        requires fits { length self.old ≤ key.most }
-        ensures ok { OnOk result
-            (self.new ≡ with_added key.entry self.old) }
-        ensures err { OnErr result (self.new ≡ self.old) }
-        ensures fits { length self.new ≤ key.entry.most }
+        requires fits { length self.old.keys ≤ key.most }
+        ensures ok { OnOk result (self.new.keys ≡ with_added key.entry self.old.keys) }
+        ensures err { OnErr result (self.new.keys ≡ self.old.keys) }
+        ensures fits { length self.new.keys ≤ key.entry.most }
         ensures fault { IfErr result
-            (IsWantOf key.entry.most (length (with_added key.entry self.old))) }
+            (IsWantOf key.entry.most (length (with_added key.entry self.old.keys))) }
     {
-        self.hints.make_room(alloc, self.entries.len())?;
-        self.order.begin(alloc)?;
-        match self.order.find(self.entries.as_slice(), key.kind, key.text) {
-            Ok(entry) => {
-                self.hints.note(slot, entry);
-                add_number(&mut self.entries, &self.order, entry, &key)
+        prepare(
+            alloc,
+            self.entries.as_slice(),
+            &mut self.table,
+            &mut self.order,
+        )?;
+        // The hash of a guess may be that of another key.
+        let hash = KeyHash::of(key.kind, key.text);
+        match spot_of(
+            self.entries.as_slice(),
+            &self.table,
+            &self.order,
+            hash,
+            &key,
+        ) {
+            Spot::AtEntry(entry) => {
+                self.table.note_recent(hash, entry);
+                add_number(&mut self.entries, entry, key.number)
             }
-            Err(place) => {
-                self.hints.note(slot, self.entries.len() as u32);
-                insert(alloc, &mut self.entries, &mut self.order, place, &key)
+            Spot::InSlot(slot) => {
+                let number = push(alloc, &mut self.entries, &key)?;
+                self.table.put(slot, number);
+                self.table.note_recent(hash, number);
+                Ok(())
             }
+            Spot::InOrder(place) => insert(alloc, &mut self.entries, &mut self.order, place, &key),
         }
     }
 
-    /// The entries in the order of the keys.
+    /// Puts all keys in order.
+    pub(crate) fn sort(&mut self, alloc: Global) -> Result<(), AllocError>
+        requires fits { length self.old.keys ≤ u32.MAX }
+        ensures keys { self.new.keys ≡ self.old.keys }
+        ensures sorted { OnOk result (self.new.sorted ≡ true) }
+    {
+        put_all_in_order(alloc, self.entries.as_slice(), &mut self.order, self.sorted)?;
+        self.sorted = self.entries.len();
+        Ok(())
+    }
+
+    /// The entries in the order of the keys, which must have been put in order.
     pub(crate) fn in_order(&self) -> KeysInOrder<'_>
-        ensures { result ≡ self.now }
+        requires { self.now.sorted ≡ true }
+        ensures { result ≡ self.now.keys }
     {
         KeysInOrder::of(
             self.entries.as_slice(),
@@ -169,6 +208,63 @@ struct Added<'a> {
     most: u32,
 }
 
+/// Where a key is, or where a new one belongs.
+#[derive(Clone, Copy)]
+enum Spot {
+    AtEntry(u32),
+    /// A slot of the table.
+    InSlot(usize),
+    /// A place in the order.
+    InOrder(Place),
+}
+
+/// Finds where a key is, or where it belongs.
+fn spot_of(
+    entries: &[KeyEntry],
+    table: &KeyTable,
+    order: &KeyOrder,
+    hash: KeyHash,
+    key: &Added<'_>,
+) -> Spot
+    requires hash { hash.bits ≡ hash_of key.now.kind key.now.text.now }
+    requires kept { AreReachable entries.now table.now order.now (length entries.now) }
+    requires step { AreInStep entries.now order.now }
+    requires page { 0 < length order.now.pages.items }
+    ensures { IsSpot key.now.kind key.now.text.now entries.now table.now order.now hash.bits
+        result }
+{
+    match table.find(entries, hash, key.kind, key.text) {
+        Found::Entry(entry) => Spot::AtEntry(entry),
+        Found::Vacant(slot) => Spot::InSlot(slot),
+        Found::Full => match order.find(entries, key.kind, key.text) {
+            Ok(entry) => Spot::AtEntry(entry),
+            Err(place) => Spot::InOrder(place),
+        },
+    }
+}
+
+/// Makes room for one more key: a first page of the order, and a larger table if this one is small.
+fn prepare(
+    alloc: Global,
+    entries: &[KeyEntry],
+    table: &mut KeyTable,
+    order: &mut KeyOrder,
+) -> Result<(), AllocError>
+    requires fits { length entries.now ≤ u32.MAX }
+    requires distinct { AreDistinct entries.now }
+    requires step { AreInStep entries.now order.old }
+    requires kept { AreReachable entries.now table.old order.old (length entries.now) }
+    ensures step { AreInStep entries.now order.new }
+    ensures part { IsPartOf (numbers_in order.old) (numbers_in order.new) }
+    ensures kept { AreReachable entries.now table.new order.new (length entries.now) }
+    ensures page { OnOk result (0 < length order.new.pages.items) }
+{
+    if table.is_small_for(entries.len()) {
+        grow(alloc, entries, table, order)?;
+    }
+    order.begin(alloc)
+}
+
 /// The number of the key's entry, if the guess was right.
 fn guessed(entries: &[KeyEntry], place: Prefetched, kind: Kind, text: &[u8]) -> Option<u32>
     ensures { IfSome result (IsEntryOf kind text.now entries.now) }
@@ -182,27 +278,40 @@ fn guessed(entries: &[KeyEntry], place: Prefetched, kind: Kind, text: &[u8]) -> 
 }
 
 /// Adds a message's number to the key of an entry.
-fn add_number(
-    entries: &mut Vec<KeyEntry>,
-    order: &KeyOrder,
-    entry: u32,
-    key: &Added<'_>,
-) -> Result<(), BuildFault>
-    requires number { key.now.number < u32.MAX }
-    requires step { AreInStep entries.old.items order.now }
-    requires found { IsEntryOf key.now.kind key.now.text.now entries.old.items entry }
-    ensures step { AreInStep entries.new.items order.now }
-    ensures ok { OnOk result (keys_in entries.new.items order.now
-        ≡ with_added key.now (keys_in entries.old.items order.now)) }
+fn add_number(entries: &mut Vec<KeyEntry>, entry: u32, number: u32) -> Result<(), BuildFault>
+    requires number { number < u32.MAX }
+    requires within { entry < length entries.old.items }
+    ensures ok { OnOk result (entries.new.items ≡ set entries.old.items entry
+        (with_one (key_at entries.old.items entry) number)) }
     ensures err { OnErr result (entries.new.items ≡ entries.old.items) }
-    ensures same { length entries.new.items ≡ length entries.old.items }
     ensures fault { IfErr result (λ fault. fault ≡ BuildFault.OutOfMemory) }
 {
-    entries[entry as usize].push(key.number)?;
+    entries[entry as usize].push(number)?;
     Ok(())
 }
 
-/// Inserts a key at its place. Its entry comes last.
+/// Appends the entry of a new key, and returns its number.
+fn push(alloc: Global, entries: &mut Vec<KeyEntry>, key: &Added<'_>) -> Result<u32, BuildFault>
+    requires number { key.now.number < u32.MAX }
+    requires short { length key.now.text.now < four_byte_limit }
+    requires fits { length entries.old.items ≤ key.now.most }
+    ensures ok { OnOk result (entries.new.items
+        ≡ entries.old.items ++ new_key key.now.kind key.now.text.now key.now.number ∷ []) }
+    ensures number { IfOk result (λ number. number ≡ length entries.old.items) }
+    ensures err { OnErr result (entries.new.items ≡ entries.old.items) }
+    ensures fits { length entries.new.items ≤ key.now.most }
+    ensures fault { IfErr result (IsWantOf key.now.most (length entries.old.items + 1)) }
+{
+    let number = entries.len();
+    if number >= key.most as usize {
+        return Err(BuildFault::TooMany);
+    }
+    let entry = KeyEntry::new(alloc, key.kind, key.text, key.number)?;
+    entries.push(entry)?;
+    Ok(number as u32)
+}
+
+/// Appends the entry of a new key, and puts it at its place in the order.
 fn insert(
     alloc: Global,
     entries: &mut Vec<KeyEntry>,
@@ -215,26 +324,143 @@ fn insert(
     requires fits { length entries.old.items ≤ key.now.most }
     requires step { AreInStep entries.old.items order.old }
     requires place { IsPlaceFor key.now.kind key.now.text.now entries.old.items order.old place }
+    ensures ok { OnOk result (entries.new.items
+        ≡ entries.old.items ++ new_key key.now.kind key.now.text.now key.now.number ∷ []) }
+    ensures err { OnErr result (entries.new.items ≡ entries.old.items) }
     ensures step { AreInStep entries.new.items order.new }
-    ensures ok { OnOk result (keys_in entries.new.items order.new
-        ≡ with_added key.now (keys_in entries.old.items order.old)) }
-    ensures err { OnErr result
-        (keys_in entries.new.items order.new ≡ keys_in entries.old.items order.old) }
+    ensures part { IsPartOf (numbers_in order.old) (numbers_in order.new) }
+    ensures has { OnOk result (IsAmong (length entries.old.items) (numbers_in order.new)) }
     ensures fits { length entries.new.items ≤ key.now.most }
-    ensures fault { IfErr result (IsWantOf key.now.most
-        (length (with_added key.now (keys_in entries.old.items order.old)))) }
+    ensures fault { IfErr result (IsWantOf key.now.most (length entries.old.items + 1)) }
 {
-    let number = entries.len();
-    if number >= key.most as usize {
-        return Err(BuildFault::TooMany);
-    }
-    let entry = KeyEntry::new(alloc, key.kind, key.text, key.number)?;
-    entries.push(entry)?;
-    match order.insert(alloc, place, number as u32) {
+    let number = push(alloc, entries, key)?;
+    match order.insert(alloc, place, number) {
         Ok(()) => Ok(()),
         Err(_) => {
-            entries.truncate(number);
+            entries.truncate(number as usize);
             Err(BuildFault::OutOfMemory)
         }
+    }
+}
+
+/// Makes a table larger. If memory runs out, it is as before.
+///
+/// Inlined, it would have 2 KB cleared for each new key: the place for the larger table.
+#[inline(never)]
+fn grow(
+    alloc: Global,
+    entries: &[KeyEntry],
+    table: &mut KeyTable,
+    order: &mut KeyOrder,
+) -> Result<(), AllocError>
+    requires fits { length entries.now ≤ u32.MAX }
+    requires distinct { AreDistinct entries.now }
+    requires step { AreInStep entries.now order.old }
+    requires kept { AreReachable entries.now table.old order.old (length entries.now) }
+    ensures step { AreInStep entries.now order.new }
+    ensures part { IsPartOf (numbers_in order.old) (numbers_in order.new) }
+    ensures kept { AreReachable entries.now table.new order.new (length entries.now) }
+{
+    *table = grown(alloc, entries, table, order)?;
+    Ok(())
+}
+
+/// A larger table of the same entries. Entries that have no slot in it are put in order.
+fn grown(
+    alloc: Global,
+    entries: &[KeyEntry],
+    table: &KeyTable,
+    order: &mut KeyOrder,
+) -> Result<KeyTable, AllocError>
+    requires fits { length entries.now ≤ u32.MAX }
+    requires distinct { AreDistinct entries.now }
+    requires step { AreInStep entries.now order.old }
+    ensures step { AreInStep entries.now order.new }
+    ensures part { IsPartOf (numbers_in order.old) (numbers_in order.new) }
+    ensures kept { IfOk result
+        (λ larger. AreReachable entries.now larger order.new (length entries.now)) }
+{
+    let mut larger = table.larger(alloc)?;
+    for number in 0..entries.len() {
+        keep(alloc, entries, &mut larger, order, number)?;
+    }
+    Ok(larger)
+}
+
+/// Gives an entry a slot in the table, or puts it in order if its window is full.
+fn keep(
+    alloc: Global,
+    entries: &[KeyEntry],
+    table: &mut KeyTable,
+    order: &mut KeyOrder,
+    number: usize,
+) -> Result<(), AllocError>
+    requires within { number < length entries.now }
+    requires fits { length entries.now ≤ u32.MAX }
+    requires distinct { AreDistinct entries.now }
+    requires step { AreInStep entries.now order.old }
+    ensures step { AreInStep entries.now order.new }
+    ensures part { IsPartOf (numbers_in order.old) (numbers_in order.new) }
+    ensures kept { OnOk result (AreReachable entries.now table.old order.old number
+        → AreReachable entries.now table.new order.new (number + 1)) }
+{
+    let entry = &entries[number];
+    let hash = KeyHash::of(entry.kind(), entry.text());
+    match table.vacancy(hash, entries.len()) {
+        Some(slot) => {
+            table.put(slot, number as u32);
+            Ok(())
+        }
+        None => put_in_order(alloc, entries, order, number),
+    }
+}
+
+/// Puts all entries in order, the first of which are in order already.
+fn put_all_in_order(
+    alloc: Global,
+    entries: &[KeyEntry],
+    order: &mut KeyOrder,
+    first: usize,
+) -> Result<(), AllocError>
+    requires fits { length entries.now ≤ u32.MAX }
+    requires within { first ≤ length entries.now }
+    requires distinct { AreDistinct entries.now }
+    requires step { AreInStep entries.now order.old }
+    requires first { (i : ℕ) → i < first → IsAmong i (numbers_in order.old) }
+    ensures step { AreInStep entries.now order.new }
+    ensures part { IsPartOf (numbers_in order.old) (numbers_in order.new) }
+    ensures all { OnOk result
+        ((i : ℕ) → i < length entries.now → IsAmong i (numbers_in order.new)) }
+{
+    if entries.len() - first > first / OF_WHICH_ONE_IS_NEW {
+        *order = sorted(alloc, entries)?;
+        return Ok(());
+    }
+    for number in first..entries.len() {
+        put_in_order(alloc, entries, order, number)?;
+    }
+    Ok(())
+}
+
+/// Puts an entry at its place in the order, unless it is there.
+fn put_in_order(
+    alloc: Global,
+    entries: &[KeyEntry],
+    order: &mut KeyOrder,
+    number: usize,
+) -> Result<(), AllocError>
+    requires within { number < length entries.now }
+    requires fits { length entries.now ≤ u32.MAX }
+    requires distinct { AreDistinct entries.now }
+    requires step { AreInStep entries.now order.old }
+    ensures step { AreInStep entries.now order.new }
+    ensures part { IsPartOf (numbers_in order.old) (numbers_in order.new) }
+    ensures has { OnOk result (IsAmong number (numbers_in order.new)) }
+{
+    order.begin(alloc)?;
+    let entry = &entries[number];
+    match order.find(entries, entry.kind(), entry.text()) {
+        Ok(_) => Ok(()),
+        Err(place) => order.insert(alloc, place, number as u32),
     }
 }

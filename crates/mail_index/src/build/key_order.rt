@@ -1,14 +1,17 @@
 //! The order of the keys of an index while it is built.
-ghost use Rattle.std.specs.Prelude.{◌≡◌, ◌+◌, ◌-◌, ◌<◌, ◌≤◌, [], ◌∷◌, length, take, drop, set, OnOk, OnErr, IfOk, IfErr};
+ghost use Rattle.std.specs.Prelude.{◌≡◌, ◌-◌, ◌<◌, ◌≤◌, ℕ, length, OnOk, OnErr, IfOk, IfErr, IsPermutation, IsSorted};
 ghost use Rattle.std.specs.List.{AllByRecursion, insert};
 ghost use Rattle.mail_index.specs.Inside.KeyFronts.{IsFronted};
-ghost use Rattle.mail_index.specs.Inside.KeyMaps.{rows, row_at, in_pages, slots_in, slot_for, place_in, IsEntryOf, IsPlaceIn, IsPlaceFor};
+ghost use Rattle.mail_index.specs.Inside.KeyMaps.{rows, row_at, in_pages, slots_in, numbers_in, slot_for, place_in, IsAmong, IsEntryOf, IsPlaceIn, IsPlaceFor, AreDistinct, AreInStep, AreNumbered, slot_cmp};
+ghost use Rattle.mail_index.specs.Kinds.{kind_number};
+ghost use Rattle.mail_index.specs.KeysRead.{key_at};
 
 use crate::build::key_entry::KeyEntry;
 use crate::build::key_front::{Fronted, front_of_key};
 use crate::build::key_search::search;
-use crate::kind::Kind;
+use crate::kind::{Kind, compare_keys};
 use std::alloc::{AllocError, Global};
+use std::cmp::Ordering;
 
 /// A page is split in two once it has this many slots, and also one slot for each `PAGES_FOR_A_SLOT` pages.
 const PAGE: usize = 48;
@@ -56,6 +59,7 @@ impl KeyOrder {
         requires between { length self.now.heads.items ≡ length self.now.pages.items - 1 }
         requires fronted { AllByRecursion (IsFronted entries.now) (slots_in self.now) }
         ensures found { IfOk result (IsEntryOf kind text.now entries.now) }
+        ensures among { IfOk result (λ number. IsAmong number (numbers_in self.now)) }
         ensures place { IfErr result (IsPlaceFor kind text.now entries.now self.now) }
     {
         let front = front_of_key(kind, text);
@@ -128,5 +132,74 @@ fn split(
     if pages.insert(page + 1, rest).is_ok() {
         let _inserted = heads.insert(page, head);
         pages[page].truncate(half);
+    }
+}
+
+/// The order of all entries.
+pub(crate) fn sorted(alloc: Global, entries: &[KeyEntry]) -> Result<KeyOrder, AllocError>
+    requires fits { length entries.now ≤ u32.MAX }
+    requires distinct { AreDistinct entries.now }
+    ensures step { IfOk result (AreInStep entries.now) }
+    ensures all { IfOk result
+        (λ order. (i : ℕ) → i < length entries.now → IsAmong i (numbers_in order)) }
+{
+    let mut slots = slots_of(alloc, entries)?;
+    sort_slots(&mut slots, entries);
+    let mut pages = Vec::new(alloc);
+    pages.push(slots)?;
+    Ok(KeyOrder {
+        heads: Vec::new(alloc),
+        pages,
+    })
+}
+
+/// The slots of all entries, as these are.
+fn slots_of(alloc: Global, entries: &[KeyEntry]) -> Result<Vec<Fronted>, AllocError>
+    requires fits { length entries.now ≤ u32.MAX }
+    ensures long { IfOk result (λ slots. length slots.items ≡ length entries.now) }
+    ensures numbers { IfOk result (λ slots. AreNumbered slots.items) }
+    ensures fronted { IfOk result (λ slots. AllByRecursion (IsFronted entries.now) slots.items) }
+{
+    let mut slots = Vec::with_capacity(alloc, entries.len())?;
+    for (number, entry) in entries.iter().enumerate() {
+        slots.push(Fronted {
+            number: number as u32,
+            front: front_of_key(entry.kind(), entry.text()),
+        })?;
+    }
+    Ok(slots)
+}
+
+/// Sorts slots by their keys.
+fn sort_slots(slots: &mut Vec<Fronted>, entries: &[KeyEntry])
+    ensures permutation { IsPermutation slots.old.items slots.new.items }
+    ensures sorted { IsSorted (slot_cmp entries.now) slots.new.items }
+{
+    slots.sort_unstable_by(|one, other| compare_slots(entries, *one, *other));
+}
+
+/// Compares the keys of two slots. Reads the entries only if the fronts are equal.
+fn compare_slots(entries: &[KeyEntry], one: Fronted, other: Fronted) -> Ordering
+    ensures { result ≡ slot_cmp entries.now one other }
+{
+    match one.front.cmp(&other.front) {
+        Ordering::Equal => {
+            let (kind, text) = number_and_text_of(entries, one.number);
+            let (other_kind, other_text) = number_and_text_of(entries, other.number);
+            compare_keys(kind, text, other_kind, other_text)
+        }
+        unequal => unequal,
+    }
+}
+
+/// The number of the kind of an entry's key, and the key's text.
+fn number_and_text_of(entries: &[KeyEntry], number: u32) -> (u8, &[u8])
+    ensures number { result.0 ≡ kind_number (key_at entries.now number).kind }
+    ensures text { result.1.now ≡ (key_at entries.now number).text }
+{
+    match entries.get(number as usize) {
+        Some(entry) => entry.number_and_text(),
+        // No slot has such a number.
+        None => (Kind::OwnId.number(), &[]),
     }
 }

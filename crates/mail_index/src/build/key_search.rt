@@ -3,7 +3,7 @@ ghost use Rattle.std.specs.Prelude.{◌≡◌, ◌<◌, ◌≤◌, ℕ, suc, len
 ghost use Rattle.std.specs.declared.cmp.Ordering.TheVariants.{Less, Equal, Greater};
 ghost use Rattle.std.specs.List.{AllByRecursion};
 ghost use Rattle.mail_index.specs.Inside.KeyFronts.{IsFrontOfKey, IsFronted};
-ghost use Rattle.mail_index.specs.Inside.KeyMaps.{slot_keys, IsEntryOf, AreBounds, IsGap};
+ghost use Rattle.mail_index.specs.Inside.KeyMaps.{slot_keys, numbers_of_slots, IsAmong, IsEntryOf, AreBounds, IsGap};
 ghost use Rattle.mail_index.specs.KeysRead.{key_at};
 ghost use Rattle.mail_index.specs.LookUps.{lies_to};
 
@@ -28,6 +28,7 @@ pub(crate) fn search(
     requires fronted { AllByRecursion (IsFronted entries.now) slots.now }
     requires front { IsFrontOfKey kind text.now front }
     ensures found { IfOk result (IsEntryOf kind text.now entries.now) }
+    ensures among { IfOk result (λ number. IsAmong number (numbers_of_slots slots.now)) }
     ensures place { IfErr result (IsGap kind text.now (slot_keys entries.now slots.now)) }
 {
     let (mut low, mut high) = bounds(slots, entries, front, kind, text);

@@ -8,13 +8,13 @@ use std::marker::Model;
 
 pub mod compared_keys;
 mod entry;
+mod key_run;
 pub mod keys;
 
 /// The directory of a file with the texts and the postings of its keys, in order.
 ///
 /// Its entries are private to this module and the modules in it. Other code compares a key with another only through
-/// `ComparedKeys`, a step each time, and sees a key's text only through `Keys`, which begin and end at places that were
-/// found by comparing.
+/// `ComparedKeys`, a step each time, and sees a key's text only through `Keys`.
 #[derive(Drop)]
 pub struct Directory<'a> {
     entries: &'a [u8],

@@ -1,7 +1,8 @@
 //! An index file read in place.
-ghost use Rattle.std.specs.Prelude.{◌≡◌, ◌<◌, [], length, map, IsOk, IfOk, IfErr};
+ghost use Rattle.std.specs.Prelude.{◌≡◌, ◌<◌, length, map, IsOk, IfOk, IfErr};
 ghost use Rattle.std.specs.List.{slice_get};
-ghost use Rattle.mail_index.specs.Faults.{IsFileOfTable, IsFirstFaultOfFile};
+ghost use Rattle.mail_index.specs.Faults.{IsFileBy, IsFileOfTable, IsFirstFaultOfFile};
+ghost use Rattle.mail_index.specs.declared.digests.Digests.{Digests};
 ghost use Rattle.mail_index.specs.Steps.{add_steps};
 
 use crate::fields::u32_at;
@@ -14,7 +15,6 @@ use crate::view::archive_list::ArchiveList;
 use crate::view::directory::compared_keys::ComparedKeys;
 use crate::view::directory::keys::Keys;
 use crate::view::fault::{IndexFault, Section};
-use crate::view::key_run::keys_of_run;
 use crate::view::layout::{Layout, signed_version};
 use crate::view::look_up::look_up;
 use crate::view::postings::Postings;
@@ -43,7 +43,7 @@ impl<'a> Model for IndexView<'a> {
 impl<'a> IndexView<'a> {
     ghost use Rattle.mail_index.specs.Layouts.{archive_of};
     ghost use Rattle.mail_index.specs.Tables.{Table, IsWellFormed};
-    ghost use Rattle.mail_index.specs.LookUps.{numbers_at, comparisons, TakesDigits, comparisons_of_run, keys_of, keys_beginning, text_and_numbers};
+    ghost use Rattle.mail_index.specs.LookUps.{numbers_at, comparisons, TakesDigits, keys_of, keys_beginning, text_and_numbers};
 
     /// Opens the index file in these bytes, of version 1 or 2, or returns the first thing that is wrong with them.
     /// Every file of a well-formed table is accepted. Takes no memory.
@@ -79,11 +79,12 @@ impl<'a> IndexView<'a> {
         Ok(IndexView { layout })
     }
 
-    /// Opens bytes that are known to be an index file, such as a file that was just written into memory. Checks neither
-    /// its digest nor its sections. Takes no memory.
+    /// Opens bytes that are known to be an index file, such as a file that was just written into memory, with its digest
+    /// or without. Checks neither its digest nor its sections. Takes no memory.
     pub fn of_file(bytes: &'a [u8]) -> IndexView<'a>
-        requires { (t : Table) × IsFileOfTable bytes.now t }
-        ensures { (t : Table) → IsFileOfTable bytes.entry.now t → result ≡ t }
+        requires { (digests : Digests) × (t : Table) × IsFileBy bytes.now digests t }
+        ensures { (digests : Digests) (t : Table) → IsFileBy bytes.entry.now digests t
+            → result ≡ t }
     {
         // The file of a table has a known version, and its sections' lengths add up to its own.
         let Some(version) = Version::of(u32_at(bytes, VERSION_AT)) else {
@@ -168,23 +169,20 @@ impl<'a> IndexView<'a> {
         ComparedKeys::of(self.layout.directory())
     }
 
-    /// The keys of a kind, in the order of their bytes. Finds them by two binary searches, in which each comparison of
-    /// a key is a step. Takes no memory.
-    pub fn keys(&self, kind: Kind, steps: &mut Steps) -> Keys<'a>
-        ensures keys { result ≡ map text_and_numbers (keys_of kind self.now.keys) }
-        ensures exact { steps.new ≡ add_steps steps.old (comparisons_of_run kind [] self.now.keys) }
+    /// The keys of a kind, in the order of their bytes. Finds them by two binary searches, which look up no key and are
+    /// no steps. Takes no memory.
+    pub fn keys(&self, kind: Kind) -> Keys<'a>
+        ensures { result ≡ map text_and_numbers (keys_of kind self.now.keys) }
     {
-        self.keys_beginning(kind, &[], steps)
+        self.keys_beginning(kind, &[])
     }
 
-    /// The keys of a kind whose texts begin with this one, in the order of their bytes. Finds them by two binary
-    /// searches, in which each comparison of a key is a step. Takes no memory.
-    pub fn keys_beginning(&self, kind: Kind, text: &[u8], steps: &mut Steps) -> Keys<'a>
-        ensures keys { result ≡ map text_and_numbers (keys_beginning kind text.now self.now.keys) }
-        ensures exact { steps.new
-            ≡ add_steps steps.old (comparisons_of_run kind text.now self.now.keys) }
+    /// The keys of a kind whose texts begin with this one, in the order of their bytes. Finds them as `keys` does. Takes
+    /// no memory.
+    pub fn keys_beginning(&self, kind: Kind, text: &[u8]) -> Keys<'a>
+        ensures { result ≡ map text_and_numbers (keys_beginning kind text.now self.now.keys) }
     {
-        keys_of_run(self.compared_keys(), kind, text, steps)
+        Keys::beginning(self.layout.directory(), kind, text)
     }
 
     /// The numbers of the messages that have the key; none if there is no such key. A binary search: each comparison of

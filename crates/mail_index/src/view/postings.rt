@@ -6,6 +6,7 @@ ghost use Rattle.mail_index.specs.PostingReads.{ArePostings, ArePosted};
 ghost use Rattle.mail_index.specs.Limits.{four_byte_limit};
 
 use crate::view::leb128::split_difference;
+use crate::view::short_differences::after_short_differences;
 use crate::view::steps::Steps;
 use std::marker::Model;
 
@@ -79,8 +80,7 @@ impl<'a> Postings<'a> {
 pub(crate) fn are_postings(bytes: &[u8], count: u32) -> bool
     ensures { IsTrue result ↔ ((0 < length bytes.now) × ArePosted count 0 bytes.now) }
 {
-    let mut rest = bytes;
-    let mut low = 0;
+    let (mut rest, mut low) = after_short_differences(bytes, count);
     while !rest.is_empty() {
         let Some((difference, after)) = split_difference(rest) else {
             return false;

@@ -1,7 +1,5 @@
 -- `add_message` adds a message line by line, because the lines that are gathered at its end are its whole text.
-use Rattle.index_job.proofs.Words.{◌∙◌, ℕ, List, Option, false, subst, arith, MatchOption}
-use Rattle.index_job.proofs.Words.{Ended, IsInsideMessage, HasEnded, IsReading, HasReadAll}
-use Rattle.index_job.proofs.Words.{err_from_is_err_and, draft_in_message}
+use Rattle.index_job.proofs.Words.{◌∙◌, ℕ, List, Option, false, subst, arith, MatchOption, Ended, IsInsideMessage, HasEnded, IsReading, HasReadAll, err_from_is_err_and, draft_in_message, with_waiting}
 use Rattle.index_job.proofs.MessageSteps.{message-fault, opens, ready-after, adds-message, own-fault}
 use Rattle.index_job.proofs.SourceReads.{reads-join}
 use Rattle.index_job.proofs.ReadingLines.{still-reading}
@@ -44,7 +42,8 @@ returns-in-Some-clause-ready g c =
     c.in_ok-length.ensures.place in
     ready-after (record { archive = c.args.archive; offset = start; length = ended.length; size = ended.size }) d
     place.offset c.finish_message.result
-    c.next_line.new.text c.next_line.new.builder c.finish_message.new.builder more.0 more.1 c.requires.ready
+    c.next_line.new.text (with_waiting c.next_line.new.room.waiting c.next_line.new.builder)
+    c.finish_message.new.builder more.0 more.1 c.requires.ready
     ends.offset c.finish_message.ensures.ok
 
 pub returns-in-Some-clause-known : goal.returns-in-Some-clause-known
@@ -52,18 +51,18 @@ returns-in-Some-clause-known g c = λ w at comes.
     let d = c.args.builder.now in
     let ended = c.in-Some.field-0 in
     let text = c.next_line.new.text in
-    let builder = c.next_line.new.builder in
+    let gathered = with_waiting c.next_line.new.room.waiting c.next_line.new.builder in
     let coming = c.next_line.new.cutter.coming in
     let open_draft = draft_in_message d in
     let r = c.lines.invariant.comes w (still-earlier _ _ _ _ c.in_ok-length.ensures.reads.stays.known comes) in
-    let all : HasReadAll open_draft w ended text builder coming =
+    let all : HasReadAll open_draft w ended text gathered coming =
     subst (λ (o : Option Ended). MatchOption o
-    ((more left : List (List ℕ)) × IsReading open_draft w more left text builder coming)
-    (λ e. HasReadAll open_draft w e text builder coming)) c.in-Some.is
+    ((more left : List (List ℕ)) × IsReading open_draft w more left text gathered coming)
+    (λ e. HasReadAll open_draft w e text gathered coming)) c.in-Some.is
     (c.in_ok-length.ensures.known open_draft w r.0 r.1 (still-reading _ w _ _ _ _ _ _ _ _ comes r.2)) in
     adds-message (record { archive = c.args.archive; offset = c.args.offset; length = ended.length; size = ended.size })
     d w coming c.finish_message.result
-    text builder c.finish_message.new.builder c.requires.ready.kept c.requires.ready.phase at all
+    text gathered c.finish_message.new.builder c.requires.ready.kept c.requires.ready.phase at all
     c.finish_message.ensures.ok c.finish_message.ensures.err
 
 pub returns-in-Some-clause-own : goal.returns-in-Some-clause-own
@@ -71,8 +70,8 @@ returns-in-Some-clause-own g c =
     let d = draft_in_message c.args.builder.now in
     let gathered = c.lines.invariant.gathers in
     let more = c.in_ok-length.ensures.gathers d gathered.0 gathered.1 in
-    own-fault c.finish_message.result c.next_line.new.text c.next_line.new.builder d more.0
-    more.1 c.finish_message.ensures.err
+    own-fault c.finish_message.result c.next_line.new.text
+    (with_waiting c.next_line.new.room.waiting c.next_line.new.builder) d more.0 more.1 c.finish_message.ensures.err
 
 pub lines-preserved : goal.lines-preserved
 lines-preserved g c =
@@ -80,7 +79,7 @@ lines-preserved g c =
     let e = c.in_ok-length.ensures in
     let start = c.args.offset in
     let text = c.next_line.new.text in
-    let builder = c.next_line.new.builder in
+    let gathered = with_waiting c.next_line.new.room.waiting c.next_line.new.builder in
     let next = c.next_line.new.cutter in
     let inside : IsInsideMessage start next.place =
     subst (λ (o : Option Ended). MatchOption o (IsInsideMessage start next.place) (λ e. HasEnded start e next.place))
@@ -96,7 +95,7 @@ lines-preserved g c =
           let open_draft = draft_in_message c.args.builder.now in
           let r = i.comes w (still-earlier _ _ _ _ e.reads.stays.known comes) in
           subst (λ (o : Option Ended). MatchOption o
-          ((more left : List (List ℕ)) × IsReading open_draft w more left text builder next.coming)
-          (λ e. HasReadAll open_draft w e text builder next.coming)) c.in_default.is
+          ((more left : List (List ℕ)) × IsReading open_draft w more left text gathered next.coming)
+          (λ e. HasReadAll open_draft w e text gathered next.coming)) c.in_default.is
           (e.known open_draft w r.0 r.1 (still-reading _ w _ _ _ _ _ _ _ _ comes r.2));
     }

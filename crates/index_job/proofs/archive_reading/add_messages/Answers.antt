@@ -1,6 +1,5 @@
 -- `add_messages` adds message by message, and stops at the end of the archive or at the first fault.
-use Rattle.index_job.proofs.Words.{◌∙◌, Err, false, ap, subst, arith, err_from_is_err_and, Heads, IsHeading, Awaited}
-use Rattle.index_job.proofs.Words.{is_source_failure}
+use Rattle.index_job.proofs.Words.{◌∙◌, Err, false, ap, subst, arith, err_from_is_err_and, Heads, IsHeading, Awaited, is_source_failure}
 use Rattle.index_job.specs.declared.archive_reading.Heading.{Heading}
 use Rattle.index_job.specs.declared.archive_reading.Heading.TheVariants.{Message, End}
 use Rattle.index_job.proofs.ArchiveSteps.{done-none, between-fault, inside-fault, done-more, archive-done}

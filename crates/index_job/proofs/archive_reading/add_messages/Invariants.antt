@@ -1,6 +1,5 @@
 -- The messages so far are added, and none is open. The loop ends because each message leaves fewer events to come.
-use Rattle.index_job.proofs.Words.{still_known, false, ◌≡◌, ◌≤◌, ℕ, List, Option, Some, Message, CutFault, events_left}
-use Rattle.index_job.proofs.Words.{coming_ahead, HasDone, ReadsSource, IsReadyForMessage}
+use Rattle.index_job.proofs.Words.{still_known, false, ◌≡◌, ◌≤◌, ℕ, List, Option, Some, Message, CutFault, events_left, coming_ahead, HasDone, ReadsSource, IsReadyForMessage}
 use Rattle.mbox_cutter.specs.declared.scan.Phase.TheVariants.{Between}
 use Rattle.index_job.proofs.archive_reading.add_messages.Given as goal
 

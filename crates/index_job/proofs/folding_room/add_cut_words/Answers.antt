@@ -1,8 +1,5 @@
 -- `add_cut_words` adds the words that the lengths cut off the bytes, because each turn cuts off the next one.
-use Rattle.index_job.proofs.Words.{◌≡◌, ◌∙◌, ◌∷◌, ◌++◌, ◌+◌, ℕ, List, arith, drop, get_or, sym, ap, ap₂}
-use Rattle.index_job.proofs.Words.{subst, AllByRecursion, err_from_is_err_and, draft_with_terms, parts_of_lengths}
-use Rattle.index_job.proofs.Words.{HasTermLength}
-use Rattle.index_job.proofs.Words.{word_terms}
+use Rattle.index_job.proofs.Words.{◌≡◌, ◌∙◌, ◌∷◌, ◌++◌, ◌+◌, ℕ, List, arith, drop, get_or, sym, ap, ap₂, subst, AllByRecursion, err_from_is_err_and, draft_with_terms, parts_of_lengths, HasTermLength, word_terms}
 use Rattle.index_job.proofs.FoldedWords.{next-cut, next-sum}
 use Rattle.index_job.proofs.Terms.{fails-first, waits-next}
 use Rattle.index_job.proofs.folding_room.add_cut_words.Goals as goal

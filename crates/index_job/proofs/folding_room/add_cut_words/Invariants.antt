@@ -1,6 +1,5 @@
 -- Each turn puts one word into the batch. With its words and those that are left, the draft becomes the wanted one.
-use Rattle.index_job.proofs.Words.{◌≡◌, ◌≤◌, ◌++◌, drop, length, sum, AllByRecursion, IsInMessage}
-use Rattle.index_job.proofs.Words.{draft_with_terms, parts_of_lengths, HasTermLength, word_terms}
+use Rattle.index_job.proofs.Words.{◌≡◌, ◌≤◌, ◌++◌, drop, length, sum, AllByRecursion, IsInMessage, draft_with_terms, parts_of_lengths, HasTermLength, word_terms}
 use Rattle.index_job.proofs.folding_room.add_cut_words.Given as goal
 
 -- with the words of the batch and those that are left, the draft becomes the wanted one

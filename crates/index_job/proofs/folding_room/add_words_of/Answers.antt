@@ -1,6 +1,5 @@
 -- `add_words_of` adds all words of a folded text, because each turn puts the next one into the batch.
-use Rattle.index_job.proofs.Words.{◌≡◌, ◌∙◌, ◌∷◌, ◌++◌, [], ℕ, List, All, ap, subst, arith, All-tail}
-use Rattle.index_job.proofs.Words.{err_from_is_err_and, HasWordLength, draft_with_terms, word_terms}
+use Rattle.index_job.proofs.Words.{◌≡◌, ◌∙◌, ◌∷◌, ◌++◌, [], ℕ, List, All, ap, subst, arith, All-tail, err_from_is_err_and, HasWordLength, draft_with_terms, word_terms}
 use Rattle.index_job.proofs.Terms.{fails-first, waits-next}
 use Rattle.index_job.proofs.folding_room.add_words_of.Goals as goal
 

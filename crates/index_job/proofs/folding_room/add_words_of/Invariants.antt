@@ -1,6 +1,5 @@
 -- Each turn puts one word into the batch. With its words and those that are left, the draft becomes the wanted one.
-use Rattle.index_job.proofs.Words.{◌≡◌, ◌++◌, All, HasWordLength, words, IsInMessage}
-use Rattle.index_job.proofs.Words.{draft_with_terms, word_terms}
+use Rattle.index_job.proofs.Words.{◌≡◌, ◌++◌, All, HasWordLength, words, IsInMessage, draft_with_terms, word_terms}
 use Rattle.index_job.proofs.folding_room.add_words_of.Given as goal
 
 -- with the words of the batch and those that are left, the draft becomes the wanted one

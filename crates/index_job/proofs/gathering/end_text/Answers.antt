@@ -13,5 +13,6 @@ returns-clause-facts c = IfOk-weaker c.finish.result _ _ (λ facts are ls d g. a
 
 pub returns-clause-ok : goal.returns-clause-ok
 returns-clause-ok c = on_ok_weaker c.finish.result
-    (λ texts ls d g. gathers-end c.args.text.now _ c.finish.new.sink _ texts (λ same. search rules) ls d g)
+    (λ texts ls d g. gathers-end c.args.text.now _ c.finish.new.sink _ texts
+    (λ same same'. search rules) ls d g)
     c.finish.ensures.texts

@@ -10,4 +10,4 @@ returns-clause-err c = line-fails c.line.result c.args.text.now _ c.line.new.sin
 pub returns-clause-ok : goal.returns-clause-ok
 returns-clause-ok c = on_ok_weaker c.line.result
     (λ fed ls d g. gathers-line c.args.text.now c.line.new.self _ c.line.new.sink c.args.line.now _ fed
-    (λ same. search rules) ls d g) c.line.ensures.fed
+    (λ same same'. search rules) ls d g) c.line.ensures.fed

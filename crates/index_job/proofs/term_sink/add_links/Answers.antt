@@ -1,6 +1,5 @@
 -- `add_links` adds id by id, so an id that can't be added means that not all can be added.
-use Rattle.index_job.proofs.Words.{◌≡◌, ◌∙◌, ◌∷◌, ◌+◌, arith, drop, map, sym, ap, subst}
-use Rattle.index_job.proofs.Words.{err_from_is_err_and, LinkId, Draft, draft_with_terms, IsFaultOfAdding, link_terms}
+use Rattle.index_job.proofs.Words.{◌≡◌, ◌∙◌, ◌∷◌, ◌+◌, arith, drop, map, sym, ap, subst, err_from_is_err_and, LinkId, Draft, draft_with_terms, IsFaultOfAdding, link_terms}
 use Rattle.index_job.proofs.Terms.{add-fails, next-link}
 use Rattle.index_job.proofs.term_sink.add_links.Goals as goal
 

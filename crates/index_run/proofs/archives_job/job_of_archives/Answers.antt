@@ -1,15 +1,10 @@
 -- `job_of_archives` indexes archive by archive up to the first faulty one, whatever the bytes are that agree with its
 -- reads.
-use Rattle.index_run.proofs.Words.{arith, ◌≡◌, ◌∙◌, ◌<◌, ◌≤◌, ℕ, List, [], length, map, take, get_or, Some, Ok, sym, ap}
-use Rattle.index_run.proofs.Words.{subst, string_bytes, get_or-map, length-map, take_all, All-get_or, map-set_same}
-use Rattle.index_run.proofs.Words.{IsPath, Mbox, AreSound, mboxes, run_fault_of_job, is_failed_source, IsIndexOf}
-use Rattle.index_run.proofs.Words.{IsAdded}
-use Rattle.index_run.proofs.Words.{IsAddFault}
+use Rattle.index_run.proofs.Words.{arith, ◌≡◌, ◌∙◌, ◌<◌, ◌≤◌, ℕ, List, [], length, map, take, get_or, Some, Ok, sym, ap, subst, string_bytes, get_or-map, length-map, take_all, All-get_or, map-set_same, IsPath, Mbox, AreSound, mboxes, run_fault_of_job, is_failed_source, IsIndexOf, IsAdded, IsAddFault}
 use Rattle.std.proofs.Common.{rules}
 use Rattle.contract_words.proofs.StillKnown.{all-before, known-called, known-still}
 use Rattle.contract_words.proofs.DeviceLists.{same_at, same_after, known_at, known_length, counted_at}
-use Rattle.index_run.proofs.ArchiveLists.{mboxes-length, next-taken, parted-here, taken-so-far, sound-more}
-use Rattle.index_run.proofs.ArchiveLists.{archive-fault, others-run, here-counts}
+use Rattle.index_run.proofs.ArchiveLists.{mboxes-length, next-taken, parted-here, taken-so-far, sound-more, archive-fault, others-run, here-counts}
 use Rattle.index_run.proofs.KeptSources.{stay-self, none-read, next-stays, next-ends, stopped, all-read}
 use Rattle.index_run.proofs.archives_job.job_of_archives.Goals as goal
 
@@ -103,7 +98,8 @@ loop-number-preserved g c =
       ends = next-ends g.S.Source c.loop-number.sources i c.archive.new.source (omega arith)
           c.loop-number.invariant.ends
           (rw is at c.archive.ensures.end);
-      kept = rw is at c.archive.ensures.lost;
+      digests = c.archive.ensures.goes_on.digests ∙ c.loop-number.invariant.digests;
+      kept = rw is at c.archive.ensures.goes_on.kept;
       found = λ archives known.
           let paths = map string_bytes c.args.paths.now in
           let below : i < length c.args.paths.now = omega (arith, c.requires.many) in

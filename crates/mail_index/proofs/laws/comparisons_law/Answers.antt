@@ -1,7 +1,6 @@
 -- The law of comparisons, from lemmas about searches: each comparison halves the keys.
-use Rattle.mail_index.proofs.Words.{arith, length, lies_below, Equal, Greater}
-use Rattle.mail_index.proofs.ViewLaws.Comparisons.{comparisons-few, comparisons-many, comparisons-some, bisections-few}
-use Rattle.mail_index.proofs.ViewLaws.Comparisons.{bisections-many}
+use Rattle.mail_index.proofs.Words.{arith, length}
+use Rattle.mail_index.proofs.ViewLaws.Comparisons.{comparisons-few, comparisons-many, comparisons-some}
 use Rattle.mail_index.proofs.laws.comparisons_law.Goals as goal
 
 pub returns-clause-few : goal.returns-clause-few
@@ -12,19 +11,3 @@ returns-clause-many c kind text ks digits none h = comparisons-many (length ks) 
 
 pub returns-clause-some : goal.returns-clause-some
 returns-clause-some c kind text ks h = comparisons-some kind text ks h
-
-pub returns-clause-run_few : goal.returns-clause-run_few
-returns-clause-run_few c kind text ks digits h =
-    omega (
-      arith,
-      bisections-few (length ks) (lies_below Equal kind text) ks digits h,
-      bisections-few (length ks) (lies_below Greater kind text) ks digits h,
-    )
-
-pub returns-clause-run_many : goal.returns-clause-run_many
-returns-clause-run_many c kind text ks digits h =
-    omega (
-      arith,
-      bisections-many (length ks) (lies_below Equal kind text) ks digits (omega arith) h,
-      bisections-many (length ks) (lies_below Greater kind text) ks digits (omega arith) h,
-    )

@@ -6,22 +6,21 @@ ghost use Rattle.mail_index.specs.KeysRead.{key_at};
 use crate::kind::{Kind, compare_keys};
 use crate::places::KIND_AT;
 use crate::view::directory::Directory;
-use crate::view::directory::entry::Entry;
 use crate::view::postings::Postings;
 use crate::view::steps::Steps;
 use std::cmp::Ordering;
 
-/// The keys of a directory, in order, for a search.
+/// The keys of a directory, in order, for a look-up.
 ///
-/// A search for a key has them only in this form. It can read a key only by a step on its caller's count, and can't
-/// begin another count.
+/// A look-up has them only in this form. It can read a key only by a step on its caller's count, and can't begin another
+/// count.
 #[derive(Drop)]
 pub(crate) struct ComparedKeys<'a> {
     pub(super) directory: Directory<'a>,
 }
 
 impl<'a> ComparedKeys<'a> {
-    ghost use Rattle.mail_index.specs.LookUps.{lies_to, lies_to_run, AreSorted};
+    ghost use Rattle.mail_index.specs.LookUps.{lies_to, AreSorted};
 
     /// The keys of this directory.
     pub(crate) fn of(directory: Directory<'a>) -> Self
@@ -38,16 +37,6 @@ impl<'a> ComparedKeys<'a> {
         self.directory.len()
     }
 
-    /// The entry of the key with this number, to be compared: a step.
-    fn counted_entry(&self, number: u32, steps: &mut Steps) -> Entry<'a>
-        requires { number < length self.now.directory }
-        ensures entry { result ≡ key_at self.now.directory number }
-        ensures steps { steps.new ≡ add_steps steps.old 1 }
-    {
-        steps.tick();
-        self.directory.entry_at(number)
-    }
-
     /// Compares the key with this number with another key: a step.
     pub(crate) fn compare(
         &self,
@@ -60,27 +49,9 @@ impl<'a> ComparedKeys<'a> {
         ensures order { result ≡ lies_to kind text.now (key_at self.now.directory number) }
         ensures steps { steps.new ≡ add_steps steps.old 1 }
     {
-        let entry = self.counted_entry(number, steps);
+        steps.tick();
+        let entry = self.directory.entry_at(number);
         compare_keys(entry.entries[KIND_AT], entry.text(), kind.number(), text)
-    }
-
-    /// Compares the key with this number with the run of keys of a kind that begin with a text: a step.
-    pub(crate) fn compare_to_run(
-        &self,
-        number: u32,
-        kind: Kind,
-        text: &[u8],
-        steps: &mut Steps,
-    ) -> Ordering
-        requires { number < length self.now.directory }
-        ensures order { result ≡ lies_to_run kind text.now (key_at self.now.directory number) }
-        ensures steps { steps.new ≡ add_steps steps.old 1 }
-    {
-        let entry = self.counted_entry(number, steps);
-        let own = entry.text();
-        // Only as much of its own text is compared as the searched text has.
-        let front = own.split_at(own.len().min(text.len())).0;
-        compare_keys(entry.entries[KIND_AT], front, kind.number(), text)
     }
 
     /// The numbers of the messages that have the key with this number.

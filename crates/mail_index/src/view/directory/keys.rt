@@ -1,12 +1,12 @@
 //! The keys of a kind.
-ghost use Rattle.std.specs.Prelude.{◌≡◌, ◌≤◌, [], ◌∷◌, length, map, MatchOption};
-ghost use Rattle.mail_index.specs.LookUps.{text_and_numbers};
-ghost use Rattle.mail_index.specs.Inside.KeyRuns.{keys_between};
+ghost use Rattle.std.specs.Prelude.{◌≡◌, [], ◌∷◌, map, MatchOption};
+ghost use Rattle.mail_index.specs.LookUps.{keys_beginning, text_and_numbers};
 
+use crate::kind::Kind;
 use crate::view::directory::Directory;
-use crate::view::directory::compared_keys::ComparedKeys;
-use crate::view::key_run::Place;
+use crate::view::directory::key_run::first_that_lies;
 use crate::view::postings::Postings;
+use std::cmp::Ordering;
 use std::marker::Model;
 
 /// A key of an index, and the messages that have it.
@@ -39,16 +39,16 @@ impl<'a> Model for Keys<'a> {
 }
 
 impl<'a> Keys<'a> {
-    /// The keys from one place up to another.
-    pub(crate) fn between(keys: ComparedKeys<'a>, next: Place, end: Place) -> Self
-        requires { end ≤ length keys.directory }
-        ensures { result ≡ map text_and_numbers (keys_between next end
-            keys.entry.directory) }
+    /// The keys of a kind whose texts begin with this one.
+    pub(crate) fn beginning(directory: Directory<'a>, kind: Kind, text: &[u8]) -> Self
+        ensures { result ≡ map text_and_numbers (keys_beginning kind text.now directory.entry) }
     {
+        let next = first_that_lies(Ordering::Equal, &directory, kind, text);
+        let end = first_that_lies(Ordering::Greater, &directory, kind, text);
         Keys {
-            directory: keys.directory,
-            next: next.number(),
-            end: end.number(),
+            directory,
+            next,
+            end,
         }
     }
 

@@ -1,6 +1,5 @@
 -- The table agrees with the definition at each of the 256 bytes, by computation.
-use Rattle.mail_words.proofs.Imports.{◌&&◌, nat_lt, get_or, refl, arith, agree_below_at, ucd_category, ucd_derived}
-use Rattle.mail_words.proofs.Imports.{is_word_character, CLASSES}
+use Rattle.mail_words.proofs.Imports.{◌&&◌, nat_lt, get_or, refl, arith, agree_below_at, ucd_category, ucd_derived, is_word_character, CLASSES}
 use Rattle.std.proofs.Common.{◌==◌}
 use Rattle.mail_words.proofs.ascii.is_ascii_word_character.Goals as goal
 

@@ -1,8 +1,7 @@
 -- `fold_evenly` has the folding of what it has read, piece by piece: a piece that folding keeps, then one character.
 use Rattle.mail_words.proofs.Imports.{◌<◌, length, encode_utf8, string_bytes, length-append, arith}
 use Rattle.std.specs.String.{string_capacity}
-use Rattle.mail_words.proofs.EvenTexts.{folds-same, folds-piece, piece_boundary, folds-character, folds-uneven}
-use Rattle.mail_words.proofs.EvenTexts.{folds-even, folds-end}
+use Rattle.mail_words.proofs.EvenTexts.{folds-same, folds-piece, piece_boundary, folds-character, folds-uneven, folds-even, folds-end}
 use Rattle.mail_words.proofs.even_text.fold_evenly.Goals as goal
 
 pub split_at-requires : goal.split_at-requires

@@ -1,12 +1,10 @@
 -- `fold_onto` adds the folding of a word, character by character or, if the word keeps all, as it is. What a failed
 -- call added is taken back.
-use Rattle.mail_words.proofs.Imports.{◌≡◌, ◌+◌, ◌≤◌, ◌++◌, List, ℕ, IsUtf8, length, take, encode_utf8, string_bytes, ap}
-use Rattle.mail_words.proofs.Imports.{sym, subst, ◌∙◌, arith, length-append, folding}
+use Rattle.mail_words.proofs.Imports.{◌≡◌, ◌+◌, ◌≤◌, ◌++◌, List, ℕ, IsUtf8, length, take, encode_utf8, string_bytes, ap, sym, subst, ◌∙◌, arith, length-append, folding}
 use Rattle.std.proofs.Common.{Global, String, string_len}
 use Rattle.std.proofs.lemmas.List.{take_all, take-append-le}
 use Rattle.std.proofs.lemmas.Str.{IsCharBoundary-from_take, IsUtf8-had}
-use Rattle.mail_words.proofs.FoldingLemmas.{length-folding, folding-same, folding_some, folds_from_start, folds_further}
-use Rattle.mail_words.proofs.FoldingLemmas.{folds_to_end, folds_within}
+use Rattle.mail_words.proofs.FoldingLemmas.{length-folding, folding-same, folding_some, folds_from_start, folds_further, folds_to_end, folds_within}
 use Rattle.mail_words.proofs.folding.fold_onto.Goals as goal
 
 -- the text grew by the length of the folding

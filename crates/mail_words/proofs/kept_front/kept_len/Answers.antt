@@ -1,14 +1,11 @@
 -- `kept_len` reads on by loads and by letters, by turns, until the next character isn't kept or the text ends.
-use Rattle.mail_words.proofs.Imports.{◌≡◌, ◌+◌, ◌-◌, ◌<◌, true, false, List, ℕ, length, drop, get_or, subst, refl, sym}
-use Rattle.mail_words.proofs.Imports.{ap}
-use Rattle.mail_words.proofs.Imports.{◌∙◌, arith, nat_tests}
+use Rattle.mail_words.proofs.Imports.{◌≡◌, ◌+◌, ◌-◌, ◌<◌, true, false, List, ℕ, length, drop, get_or, subst, refl, sym, ap, ◌∙◌, arith, nat_tests}
 use Rattle.std.proofs.lemmas.List.{get_or-drop, length-drop}
 use Rattle.mail_words.specs.Inside.Folds.{keeps_itself, is_kept_byte, is_capital_or_first}
 use Rattle.mail_words.proofs.FrontReads.{FrontRead}
 use Rattle.mail_words.proofs.ByteReads.{front_bytes-boundary}
 use Rattle.mail_words.proofs.KeptPairs.{kept_quick}
-use Rattle.mail_words.proofs.KeptRuns.{front_read-chain, kept_letters, letters_boundary, kept_none}
-use Rattle.mail_words.proofs.KeptRuns.{kept_end}
+use Rattle.mail_words.proofs.KeptRuns.{front_read-chain, kept_letters, letters_boundary, kept_none, kept_end}
 use Rattle.mail_words.proofs.kept_front.kept_len.Goals as goal
 
 -- the same read, at the place counted from the end

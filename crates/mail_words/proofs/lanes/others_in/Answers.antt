@@ -1,6 +1,5 @@
 -- The lanes agree with the definition at each of the 256 bytes, by computation.
-use Rattle.mail_words.proofs.Imports.{ℕ, leb, cond, bit_and, refl, arith, zip2_splat, zip2_of_maps, splat_is_map}
-use Rattle.mail_words.proofs.Imports.{ucd_category, ucd_derived, is_word_character, is_no_ascii_word}
+use Rattle.mail_words.proofs.Imports.{ℕ, leb, cond, bit_and, refl, arith, zip2_splat, zip2_of_maps, splat_is_map, ucd_category, ucd_derived, is_word_character, is_no_ascii_word}
 use Rattle.mail_words.proofs.LaneRuns.{lanes_mask}
 use Rattle.mail_words.proofs.lanes.others_in.Goals as goal
 

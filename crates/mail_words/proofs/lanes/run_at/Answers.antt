@@ -1,8 +1,7 @@
 -- `run_at` counts the bits before the first one that is set, because a bit is set if its byte is no word character.
 use lib.Count.{count_trailing_zeros}
 use lib.Lanes.{chunk}
-use Rattle.mail_words.proofs.Imports.{cond, eqb, ◌∙◌, ap, arith, length-chunk, first_set_mask_l, is_ascii_word}
-use Rattle.mail_words.proofs.Imports.{is_no_ascii_word}
+use Rattle.mail_words.proofs.Imports.{cond, eqb, ◌∙◌, ap, arith, length-chunk, first_set_mask_l, is_ascii_word, is_no_ascii_word}
 use Rattle.mail_words.proofs.LaneRuns.{run_of_not}
 use Rattle.mail_words.proofs.lanes.run_at.Goals as goal
 

@@ -2,8 +2,7 @@
 use lib.Lanes.{mask_l, zip2}
 use Rattle.mail_words.proofs.Imports.{◌≡◌, ◌∙◌, ◌&&◌, not, leb, arith}
 use Rattle.mail_words.specs.Inside.Folds.{is_kept_pair, is_stop}
-use Rattle.mail_words.proofs.PairLanes.{marks-or, marks-and, marks-not, marks_mask, none_pass, first_is}
-use Rattle.mail_words.proofs.PairLanes.{first_at_most, first_at_least, second_isnt, second_at_most, second_at_least}
+use Rattle.mail_words.proofs.PairLanes.{marks-or, marks-and, marks-not, marks_mask, none_pass, first_is, first_at_most, first_at_least, second_isnt, second_at_most, second_at_least}
 use Rattle.mail_words.proofs.lanes.stops_in.Goals as goal
 
 pub returns-then-first-eq0 : goal.returns-then-first-eq0

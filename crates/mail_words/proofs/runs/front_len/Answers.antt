@@ -1,8 +1,7 @@
 -- `front_len` counts bytes that are characters of the class by themselves; from a byte beyond ASCII on, it goes by
 -- characters.
 use Rattle.mail_words.proofs.Imports.{arith}
-use Rattle.mail_words.proofs.ByteReads.{class_byte, other_byte, front_bytes-pass, front_bytes-stop, front_bytes-end}
-use Rattle.mail_words.proofs.ByteReads.{front_bytes-boundary, front_bytes-more, length-front}
+use Rattle.mail_words.proofs.ByteReads.{class_byte, other_byte, front_bytes-pass, front_bytes-stop, front_bytes-end, front_bytes-boundary, front_bytes-more, length-front}
 use Rattle.mail_words.proofs.runs.front_len.Goals as goal
 
 pub returns-then-is_ascii : goal.returns-then-is_ascii

@@ -1,6 +1,5 @@
 -- `long_word` returns the plain word with what is joined to it, unless nothing is joined or the whole is too long.
-use Rattle.mail_words.proofs.Imports.{sym, ap, ◌∙◌, arith, is_word_character, front, after_front, joined_front}
-use Rattle.mail_words.proofs.Imports.{joined_on}
+use Rattle.mail_words.proofs.Imports.{sym, ap, ◌∙◌, arith, is_word_character, front, after_front, joined_front, joined_on}
 use Rattle.std.proofs.Common.{chars}
 use Rattle.mail_words.proofs.Seams.{front_seam, seam_boundary, chars_back, nil_from_bytes}
 use Rattle.mail_words.proofs.Kept.{joined_on-long, length-long_front, long_seam, joined_is, long_at-short}

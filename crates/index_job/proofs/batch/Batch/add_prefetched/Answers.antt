@@ -1,8 +1,5 @@
 -- `Batch::add_prefetched` adds word by word, so a word that can't be added means that not all can be added.
-use Rattle.index_job.proofs.Words.{◌≡◌, ◌∙◌, [], ◌∷◌, ◌+◌, ℕ, List, Bor, arith, drop, get_or, sym}
-use Rattle.index_job.proofs.Words.{ap, subst, err_from_is_err_and, Text, Draft, draft_with_terms, IsInMessage}
-use Rattle.index_job.proofs.Words.{IsFaultOfAdding}
-use Rattle.index_job.proofs.Words.{word_terms}
+use Rattle.index_job.proofs.Words.{◌≡◌, ◌∙◌, [], ◌∷◌, ◌+◌, ℕ, List, Bor, arith, drop, get_or, sym, ap, subst, err_from_is_err_and, Text, Draft, draft_with_terms, IsInMessage, IsFaultOfAdding, word_terms}
 use Rattle.index_job.proofs.Terms.{add-fails, next-waiting, waiting-length}
 use Rattle.index_job.proofs.batch.Batch.add_prefetched.Goals as goal
 

@@ -1,8 +1,7 @@
 -- `Batch::push` adds one word to those of batch and builder: a word that the message has adds nothing, and a full batch
 -- goes first.
 use Rattle.std.proofs.Common.{arith}
-use Rattle.index_job.proofs.Words.{◌∙◌, [], ◌∷◌, ◌++◌, ℕ, List, sym, ap, Draft, draft_with_terms}
-use Rattle.index_job.proofs.Words.{word_terms}
+use Rattle.index_job.proofs.Words.{◌∙◌, [], ◌∷◌, ◌++◌, ℕ, List, sym, ap, Draft, draft_with_terms, word_terms}
 use Rattle.index_job.proofs.Terms.{added-first, word-had}
 use Rattle.index_job.proofs.batch.Batch.push.Goals.{then-is_full+in_ok-add, else-is_full}
 use Rattle.index_job.proofs.batch.Batch.push.Goals as goal

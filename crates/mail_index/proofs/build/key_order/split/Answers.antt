@@ -1,6 +1,5 @@
 -- `split` divides a page in two with a head between them, which leaves the whole order the same.
-use Rattle.mail_index.proofs.Words.{rules, set, arith, common_steps, ◌<◌, length, map-set, get_or-map, ◌≡◌, ◌∷◌, get_or}
-use Rattle.mail_index.proofs.Words.{drop}
+use Rattle.mail_index.proofs.Words.{rules, set, arith, common_steps, ◌<◌, length, map-set, get_or-map, ◌≡◌, ◌∷◌, get_or, drop}
 use Rattle.mail_index.specs.declared.build.key_front.Fronted.{Fronted}
 use Rattle.mail_index.proofs.BuildLaws.PageLemmas.{parted, row-is}
 use Rattle.mail_index.proofs.BuildLaws.SigningLemmas.{from-place}

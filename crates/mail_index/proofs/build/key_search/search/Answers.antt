@@ -1,7 +1,7 @@
 -- `search` halves the slots between two bounds, and each comparison keeps the bounds right.
 use Rattle.mail_index.proofs.Words.{◌≡◌, ◌∙◌, ◌+◌, ◌-◌, ◌/◌, ◌<◌, ℕ, length, sym, ap, arith, key_at, lies_to}
 use Rattle.mail_index.specs.Inside.KeyMaps.{slot_keys}
-use Rattle.mail_index.proofs.BuildLaws.KeyMapLemmas.{slots-long, slot-at}
+use Rattle.mail_index.proofs.BuildLaws.KeyMapLemmas.{slots-long, slot-at, among-slot}
 use Rattle.mail_index.proofs.build.key_search.search.Goals as goal
 
 pub loop-low-preserved-in-Less : goal.loop-low-preserved-in-Less
@@ -35,3 +35,10 @@ returns-clause-place c =
           (key_at (slot_keys c.args.entries.now c.args.slots.now) i)) end
           ∙ c.loop-low.invariant.above (omega (arith, lt, end));
     }
+
+pub returns-in-Equal-clause-among : goal.returns-in-Equal-clause-among
+returns-in-Equal-clause-among c =
+    let middle : ℕ = c.loop-low.low + (c.loop-low.high - c.loop-low.low) / 2 in
+    let inside : middle < length c.args.slots.now =
+    omega (arith, slots-long c.args.entries.now c.args.slots.now, c.loop-low.invariant.within) in
+    among-slot c.args.slots.now middle _ inside

@@ -1,9 +1,7 @@
 -- `send_keys` writes one part of all keys as one text, key by key.
-use Rattle.mail_index.proofs.Words.{◌≡◌, ◌∙◌, ℕ, ◌+◌, List, [], ◌∷◌, ◌++◌, length, map, refl, ap, arith, length-append}
-use Rattle.mail_index.proofs.Words.{Key, DirectoryEntry, postings, entry_of_key, texts_of, postings_of}
+use Rattle.mail_index.proofs.Words.{◌≡◌, ◌∙◌, ℕ, ◌+◌, List, [], ◌∷◌, ◌++◌, length, map, refl, ap, arith, length-append, Key, DirectoryEntry, postings, entry_of_key, texts_of, postings_of}
 use Rattle.mail_index.specs.declared.build.key_sections.KeyPart.{KeyPart}
-use Rattle.mail_index.specs.declared.build.key_sections.KeyPart.TheVariants.{Entry as InEntry, Text as InText}
-use Rattle.mail_index.specs.declared.build.key_sections.KeyPart.TheVariants.{Postings as InPostings}
+use Rattle.mail_index.specs.declared.build.key_sections.KeyPart.TheVariants.{Entry as InEntry, Text as InText, Postings as InPostings}
 use Rattle.mail_index.specs.Inside.KeyParts.{key_part, keys_from}
 use Rattle.mail_index.proofs.BuildLaws.SigningLemmas.{signing-start, signing-next, signing-stop}
 use Rattle.mail_index.proofs.build.key_sections.send_keys.Goals as goal

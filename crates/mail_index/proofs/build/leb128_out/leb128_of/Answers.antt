@@ -1,6 +1,5 @@
 -- `leb128_of` makes the shortest bytes, because each turn writes the lowest seven bits.
-use Rattle.mail_index.proofs.Words.{◌≡◌, ℕ, zero, suc, ◌+◌, ◌%◌, ◌/◌, ◌≤◌, List, [], ◌∷◌, ◌++◌, length, refl, arith}
-use Rattle.mail_index.proofs.Words.{length-append, append_assoc, leb128, IsShort}
+use Rattle.mail_index.proofs.Words.{◌≡◌, ℕ, zero, suc, ◌+◌, ◌%◌, ◌/◌, ◌≤◌, List, [], ◌∷◌, ◌++◌, length, refl, arith, length-append, append_assoc, leb128, IsShort}
 use Rattle.mail_index.proofs.build.leb128_out.leb128_of.Goals as goal
 
 -- a byte that others follow

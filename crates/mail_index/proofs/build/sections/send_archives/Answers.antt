@@ -1,6 +1,5 @@
 -- `send_archives` writes all archives as one text, archive by archive.
-use Rattle.mail_index.proofs.Words.{◌≡◌, ℕ, ◌+◌, ◌<◌, List, ◌++◌, length, map, drop, get_or, flat_map, ap, ◌∙◌}
-use Rattle.mail_index.proofs.Words.{archive_bytes}
+use Rattle.mail_index.proofs.Words.{◌≡◌, ℕ, ◌+◌, ◌<◌, List, ◌++◌, length, map, drop, get_or, flat_map, ap, ◌∙◌, archive_bytes}
 use Rattle.mail_index.specs.declared.build.builder.NamedArchive.{NamedArchive}
 use Rattle.mail_index.specs.Inside.Drafts.{kept_archive}
 use Rattle.mail_index.proofs.BuildLaws.SigningLemmas.{signing-next, signing-stop, from-item}

@@ -1,6 +1,5 @@
 -- `look_up` halves the keys between two bounds, because in sorted keys all before a lower one are lower.
-use Rattle.mail_index.proofs.Words.{◌∙◌, ◌+◌, ◌-◌, ◌/◌, ◌<◌, ℕ, List, length, sym, ap, arith, Less, Equal, Greater}
-use Rattle.mail_index.proofs.Words.{add_steps, lies_to, comparisons, comparisons_within, key_at, no_key, Key}
+use Rattle.mail_index.proofs.Words.{◌∙◌, ◌+◌, ◌-◌, ◌/◌, ◌<◌, ℕ, List, length, sym, ap, arith, Less, Equal, Greater, add_steps, lies_to, comparisons, comparisons_within, key_at, no_key, Key}
 use Rattle.mail_index.specs.Inside.KeyRuns.{keys_between}
 use Rattle.mail_index.proofs.ViewLaws.StepLemmas.{add_steps-none, add_steps-more}
 use Rattle.mail_index.proofs.ViewLaws.LookUpLemmas.{before-less, after-greater, numbers_at-met, numbers_at-none}

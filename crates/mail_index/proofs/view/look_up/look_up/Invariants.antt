@@ -1,7 +1,6 @@
 -- The keys before `low` are before the searched one, those from `high` on after it, and the comparisons of those
 -- between are still to come.
-use Rattle.mail_index.proofs.Words.{◌≡◌, ◌-◌, ◌<◌, ◌≤◌, ℕ, length, Less, Greater, add_steps, lies_to, AreSorted}
-use Rattle.mail_index.proofs.Words.{comparisons, comparisons_within, key_at}
+use Rattle.mail_index.proofs.Words.{◌≡◌, ◌-◌, ◌<◌, ◌≤◌, ℕ, length, Less, Greater, add_steps, lies_to, AreSorted, comparisons, comparisons_within, key_at}
 use Rattle.mail_index.specs.Inside.KeyRuns.{keys_between}
 use Rattle.mail_index.proofs.view.look_up.look_up.Given as goal
 

@@ -2,8 +2,7 @@
 use Rattle.mail_index.proofs.Words.{◌<◌, length, ap, arith, false≢true, nat_tests, shown_split}
 use Rattle.mail_index.proofs.ViewLaws.PostingReadLemmas.{posted-refused, posted-front, posted-back, posted-shorter}
 use Rattle.mail_index.proofs.view.postings.are_postings.Goals as goal
-use Rattle.mail_index.proofs.view.postings.are_postings.Goals.{then-difference-eq0-via-then-difference-eq0}
-use Rattle.mail_index.proofs.view.postings.are_postings.Goals.{then-difference-eq0-via-else-difference-eq0+then-low-difference}
+use Rattle.mail_index.proofs.view.postings.are_postings.Goals.{then-difference-eq0-via-then-difference-eq0, then-difference-eq0-via-else-difference-eq0+then-low-difference}
 
 pub returns-in_default : goal.returns-in_default
 returns-in_default c =

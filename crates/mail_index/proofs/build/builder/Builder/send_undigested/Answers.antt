@@ -1,8 +1,9 @@
 -- `Builder::send_undigested` sends all bytes before the digest, because it sends the last gathered bytes at the end.
 use Rattle.mail_index.proofs.Words.{◌≡◌, ℕ, List, ◌++◌, Ok, Err, IfOk, OnOk, OnErr, Appends, body}
-use Rattle.sha2.specs.Hashers.{Holds256}
-use Rattle.sha2.specs.Sha256.{sha256}
 use Rattle.contract_words.specs.Devices.{Sends}
+use Rattle.mail_index.specs.Files.{digest_or_zeros}
+use Rattle.mail_index.specs.declared.digests.Digests.{Digests}
+use Rattle.mail_index.specs.Inside.Signing.{Seals}
 use Rattle.mail_index.proofs.BuildLaws.SigningLemmas.{on-failure, appends-all, sends-all, digests-all}
 use Rattle.mail_index.proofs.build.builder.Builder.send_undigested.Goals as goal
 
@@ -23,10 +24,11 @@ returns-clause-ok g c =
 
 pub returns-clause-digest : goal.returns-clause-digest
 returns-clause-digest g c =
-    (elim c.finish.result as (λ r. IfOk r (λ digest. (m : List ℕ) → Holds256 c.send_sections.new.signer.hasher m
-    → digest ≡ sha256 (m ++ c.send_sections.new.signer.pending))
-    → IfOk r (λ digest. digest ≡ sha256 (body c.args.self.now.table))) [
-      | Ok digest ↦ λ told. digests-all digest c.new-signer.ensures.pending c.new-signer.ensures.digest
+    (elim c.finish.result as (λ r. IfOk r (λ digest. (digests : Digests) (m : List ℕ)
+    → Seals digests c.send_sections.new.signer.seal m
+    → digest ≡ digest_or_zeros digests (m ++ c.send_sections.new.signer.pending))
+    → IfOk r (λ digest. digest ≡ digest_or_zeros c.args.digests (body c.args.self.now.table))) [
+      | Ok digest ↦ λ told. digests-all c.args.digests digest c.new-signer.ensures.pending c.new-signer.ensures.seal
           (rw c.as_slice.ensures at c.in_ok-send_sections.ensures.written) told
       | Err _ ↦ λ _. tt
     ]) c.finish.ensures.digest

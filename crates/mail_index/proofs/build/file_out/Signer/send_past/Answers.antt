@@ -1,8 +1,7 @@
 -- `Signer::send_past` sends the gathered bytes first, so the new bytes come after them.
 use Rattle.std.proofs.Common.{◌≡◌, ℕ, List, [], ◌++◌, ap, sym, append-nil, arith}
 use Rattle.contract_words.proofs.Sending.{sends_more}
-use Rattle.mail_index.proofs.BuildLaws.SigningLemmas.{writes-failed, sends-longer, signs-flushed, signs-at-once}
-use Rattle.mail_index.proofs.BuildLaws.SigningLemmas.{signs-join}
+use Rattle.mail_index.proofs.BuildLaws.SigningLemmas.{writes-failed, sends-longer, signs-flushed, signs-at-once, signs-join}
 use Rattle.mail_index.proofs.build.file_out.Signer.send_past.Goals as goal
 
 pub returns-in_err-flush-clause-written : goal.returns-in_err-flush-clause-written
@@ -19,7 +18,7 @@ returns-in_err-send-clause-written g c =
 
 pub returns-clause-written : goal.returns-clause-written
 returns-clause-written g c =
-    signs-join [] c.args.bytes.now (signs-flushed c.in_ok-flush.ensures.ok c.in_ok-flush.ensures.digest
+    signs-join [] c.args.bytes.now (signs-flushed c.in_ok-flush.ensures.ok c.in_ok-flush.ensures.seal
     c.in_ok-flush.ensures.all)
     (signs-at-once c.in_ok-flush.ensures.all c.in_ok-send.ensures.ok c.update.ensures c.in_ok-flush.ensures.all)
 

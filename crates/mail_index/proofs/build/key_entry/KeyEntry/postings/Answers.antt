@@ -1,6 +1,5 @@
 -- `KeyEntry::postings` returns the bytes after the front, wherever the front is kept.
-use Rattle.mail_index.proofs.Words.{◌≡◌, ◌∙◌, ℕ, List, ◌+◌, ◌++◌, length, drop, ap, sym, arith, length-append, Key}
-use Rattle.mail_index.proofs.Words.{postings}
+use Rattle.mail_index.proofs.Words.{◌≡◌, ◌∙◌, ℕ, List, ◌+◌, ◌++◌, length, drop, ap, sym, arith, length-append, Key, postings}
 use Rattle.mail_index.specs.Inside.KeyMaps.{key_bytes}
 use Rattle.mail_index.proofs.BuildLaws.EntryLemmas.{after-short, after-long}
 use Rattle.mail_index.proofs.build.key_entry.KeyEntry.postings.Goals as goal

@@ -6,8 +6,7 @@ use Rattle.mail_index.proofs.FileLaws.FileLemmas.{these_archives, has_archives, 
 use Rattle.mail_index.specs.declared.view.fault.IndexFault.TheVariants.{BadLayout}
 use Rattle.mail_index.specs.declared.view.fault.Section.TheVariants.{Counts, Archives, Records, Directory, Postings}
 use Rattle.mail_index.proofs.FileLaws.Accepts.{no_fault}
-use Rattle.mail_index.proofs.FileLaws.WholeFile.{laid_out, has_directory, these_entries, has_postings, these_lists}
-use Rattle.mail_index.proofs.FileLaws.WholeFile.{is_file, checked}
+use Rattle.mail_index.proofs.FileLaws.WholeFile.{laid_out, has_directory, these_entries, has_postings, these_lists, is_file, checked}
 use Rattle.mail_index.proofs.view.index_view.IndexView.open.Goals as goal
 
 pub returns-then-not-are_archives-clause-fault : goal.returns-then-not-are_archives-clause-fault

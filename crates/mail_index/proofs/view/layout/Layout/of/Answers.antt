@@ -1,6 +1,5 @@
 -- `Layout::of` divides the file as its counts say, because no sum overflows if the sections fit.
-use Rattle.mail_index.proofs.Words.{rules, ◌≡◌, ◌-◌, ◌^◌, ◌<◌, ◌∙◌, ap, ap₂, arith, slice_range, common_steps}
-use Rattle.mail_index.proofs.Words.{records_start, directory_start, texts_start, postings_start, digest_start}
+use Rattle.mail_index.proofs.Words.{rules, ◌≡◌, ◌-◌, ◌^◌, ◌<◌, ◌∙◌, ap, ap₂, arith, slice_range, common_steps, records_start, directory_start, texts_start, postings_start, digest_start}
 use Rattle.mail_index.proofs.view.layout.Layout.of.Goals as goal
 
 pub returns : goal.returns

@@ -1,6 +1,5 @@
 -- `Postings::next` returns the first number, because the bytes begin with its difference.
-use Rattle.mail_index.proofs.Words.{◌≡◌, ◌∙◌, ◌+◌, ◌-◌, ◌^◌, ◌++◌, ℕ, List, [], ◌∷◌, refl, sym, ap, subst, arith}
-use Rattle.mail_index.proofs.Words.{leb128, IsShort, ArePostings, numbers_read, shown_split}
+use Rattle.mail_index.proofs.Words.{◌≡◌, ◌∙◌, ◌+◌, ◌-◌, ◌^◌, ◌++◌, ℕ, List, [], ◌∷◌, refl, sym, ap, subst, arith, leb128, IsShort, ArePostings, numbers_read, shown_split}
 use Rattle.mail_index.proofs.ViewLaws.PostingReadLemmas.{read-posted, posted-none, posted-front, Front}
 use Rattle.mail_index.proofs.view.postings.Postings.next.Goals as goal
 

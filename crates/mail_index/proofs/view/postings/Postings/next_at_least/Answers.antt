@@ -1,6 +1,5 @@
 -- `Postings::next_at_least` drops the numbers below n one after another, each with a step.
-use Rattle.mail_index.proofs.Words.{◌<◌, ◌≡◌, ◌∙◌, ◌-◌, ◌++◌, ℕ, suc, List, [], ◌∷◌, length, sym, ap, arith}
-use Rattle.mail_index.proofs.Words.{append_assoc, length-append, add_steps}
+use Rattle.mail_index.proofs.Words.{◌<◌, ◌≡◌, ◌∙◌, ◌-◌, ◌++◌, ℕ, suc, List, [], ◌∷◌, length, sym, ap, arith, append_assoc, length-append, add_steps}
 use Rattle.mail_index.proofs.ViewLaws.StepLemmas.{add_steps-none, add_steps-one}
 use Rattle.mail_index.proofs.Items.{all-snoc}
 use Rattle.mail_index.proofs.view.postings.Postings.next_at_least.Goals as goal

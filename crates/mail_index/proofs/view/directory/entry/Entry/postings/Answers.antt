@@ -1,6 +1,5 @@
 -- `Entry::postings` returns the numbers of the entry, because they are between its place and that of the next.
-use Rattle.mail_index.proofs.Words.{rules, ◌≡◌, ◌∙◌, ◌^◌, ℕ, List, sym, ap, subst, Key, read_entry, list_at}
-use Rattle.mail_index.proofs.Words.{ArePostings}
+use Rattle.mail_index.proofs.Words.{rules, ◌≡◌, ◌∙◌, ◌^◌, ℕ, List, sym, ap, subst, Key, read_entry, list_at, ArePostings}
 use Rattle.mail_index.proofs.ViewLaws.PostingReadLemmas.{read-posted}
 use Rattle.mail_index.proofs.view.directory.entry.Entry.postings.Goals as goal
 
