@@ -1,6 +1,5 @@
 -- Laws of the lists that are made of elements one after another.
-use Rattle.std.proofs.Common.{◌≡◌, ℕ, ◌+◌, suc, ◌<◌, length, add-zero, arith, List, [], ◌∷◌, ◌++◌, Option, Result, Ok}
-use Rattle.std.proofs.Common.{Err, refl, ap, sym, ◌∙◌, append_assoc, IfSome}
+use Rattle.std.proofs.Common.{◌≡◌, ℕ, ◌+◌, suc, ◌<◌, length, add-zero, arith, List, [], ◌∷◌, ◌++◌, Option, Result, Ok, Err, refl, ap, sym, ◌∙◌, append_assoc, IfSome}
 use Rattle.contract_words.specs.Answers.{◌>>=◌, with_front, collect_from}
 
 pub with_front-append : {Y E : Type 0} (a b : List Y) (r : Result (List Y) E) → with_front (a ++ b) r

@@ -1,9 +1,7 @@
 -- Laws of a list of devices, of which those from an index on haven't been used yet.
-use Rattle.std.proofs.Common.{arith, ◌≡◌, ◌≢◌, ℕ, zero, ◌+◌, ◌<◌, List, [], length, get_or, map, drop, Bool, false, inl}
-use Rattle.std.proofs.Common.{inr, Option, Some, ap, sym, ◌∙◌, subst, add-zero}
+use Rattle.std.proofs.Common.{arith, ◌≡◌, ◌≢◌, ℕ, zero, ◌+◌, ◌<◌, List, [], length, get_or, map, drop, Bool, false, inl, inr, Option, Some, ap, sym, ◌∙◌, subst, add-zero}
 use Rattle.std.proofs.lemmas.Bool.Decides.{eqb_tells}
-use Rattle.std.proofs.lemmas.List.{get_or-drop, drop-drop, length-map, get_or-map, map-set, get_or-set_same}
-use Rattle.std.proofs.lemmas.List.{get_or-set_other, length-set, drop-set-lt}
+use Rattle.std.proofs.lemmas.List.{get_or-drop, drop-drop, length-map, get_or-map, map-set, get_or-set_same, get_or-set_other, length-set, drop-set-lt}
 use Rattle.std.proofs.Math.ListN.{set}
 use Rattle.contract_words.specs.Devices.{Counted}
 

@@ -1,8 +1,5 @@
 -- Cutting bytes at a byte, and when the byte isn't there.
-use Rattle.header_text.proofs.Words.{◌≡◌, ◌∙◌, ◌<◌, ◌≤◌, ◌-◌, ◌++◌, ◌==◌, ℕ, zero, suc, Bool, true, false, List, []}
-use Rattle.header_text.proofs.Words.{◌∷◌, Option, Some, None, length, take, drop, get_or, slice_index, refl, sym, ap}
-use Rattle.header_text.proofs.Words.{arith, option_map, unwrap_or, not, split_while, eq-eqb, eqb-true, take_rest}
-use Rattle.header_text.proofs.Words.{cut_at}
+use Rattle.header_text.proofs.Words.{◌≡◌, ◌∙◌, ◌<◌, ◌≤◌, ◌-◌, ◌++◌, ◌==◌, ℕ, zero, suc, Bool, true, false, List, [], ◌∷◌, Option, Some, None, length, take, drop, get_or, slice_index, refl, sym, ap, arith, option_map, unwrap_or, not, split_while, eq-eqb, eqb-true, take_rest, cut_at}
 
 -- the byte isn't among the bytes
 abbrev pub Lacks : ℕ → List ℕ → Type 0

@@ -1,8 +1,5 @@
 -- The front of bytes that passes a test, and blanks at both ends.
-use Rattle.header_text.proofs.Words.{◌≡◌, ◌∙◌, ◌++◌, ◌-◌, ◌≤◌, ◌+◌, ℕ, Bool, true, false, List, [], ◌∷◌, length, take}
-use Rattle.header_text.proofs.Words.{drop, reverse, refl, sym, ap, arith, length-append, append_assoc, take_at}
-use Rattle.header_text.proofs.Words.{reverse-append, reverse-reverse, take-append-drop, length-take-le, is_blank}
-use Rattle.header_text.proofs.Words.{split_while, after_blanks, before_blanks}
+use Rattle.header_text.proofs.Words.{◌≡◌, ◌∙◌, ◌++◌, ◌-◌, ◌≤◌, ◌+◌, ℕ, Bool, true, false, List, [], ◌∷◌, length, take, drop, reverse, refl, sym, ap, arith, length-append, append_assoc, take_at, reverse-append, reverse-reverse, take-append-drop, length-take-le, is_blank, split_while, after_blanks, before_blanks}
 
 -- the two parts join to the whole
 pub split_while-joined : (p : ℕ → Bool) (bs : List ℕ) → (split_while p bs).0 ++ (split_while p bs).1 ≡ bs

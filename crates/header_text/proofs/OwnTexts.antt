@@ -1,6 +1,5 @@
 -- The text of some bytes is the bytes themselves.
-use Rattle.header_text.proofs.Words.{◌≡◌, ◌∙◌, ℕ, List, sym, IsAscii, IsUtf8, IsUtf8-from_ascii, lossy_chars-utf8}
-use Rattle.header_text.proofs.Words.{text_of, Charset, Utf8, Latin1, Latin9, Windows1252, Unknown}
+use Rattle.header_text.proofs.Words.{◌≡◌, ◌∙◌, ℕ, List, sym, IsAscii, IsUtf8, IsUtf8-from_ascii, lossy_chars-utf8, text_of, Charset, Utf8, Latin1, Latin9, Windows1252, Unknown}
 use Rattle.header_text.proofs.WordLaws.CharacterLemmas.{lossy-ascii}
 
 -- valid UTF-8

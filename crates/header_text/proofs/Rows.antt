@@ -1,8 +1,6 @@
 -- Worked examples of fields, unfolding, ids, escapes and base64. The values on the right come from a separate reading
 -- of the rules.
-use Rattle.header_text.proofs.Words.{◌≡◌, ℕ, List, [], ◌∷◌, map, refl, codes, is_empty, before_blanks, HeaderField}
-use Rattle.header_text.proofs.Words.{fields_of, lines_within, most_in_header, unfolded_body, ids_of, q_bytes, sextet}
-use Rattle.header_text.proofs.Words.{bytes_of_sextets, base64_bytes}
+use Rattle.header_text.proofs.Words.{◌≡◌, ℕ, List, [], ◌∷◌, map, refl, codes, is_empty, before_blanks, HeaderField, fields_of, lines_within, most_in_header, unfolded_body, ids_of, q_bytes, sextet, bytes_of_sextets, base64_bytes}
 
 abbrev field : List ℕ → List ℕ → HeaderField
 field name body = record { name = name; body = body }

@@ -1,6 +1,5 @@
 -- What a call leaves if it fails: a front of what it was to leave, or what was there before.
-use Rattle.header_text.proofs.Words.{◌≡◌, ℕ, List, [], ◌++◌, length, take, sym, ap, ◌∙◌, append_assoc, append-nil}
-use Rattle.header_text.proofs.Words.{take_at, Extends, IsFront, Ok, OnOk, Result}
+use Rattle.header_text.proofs.Words.{◌≡◌, ℕ, List, [], ◌++◌, length, take, sym, ap, ◌∙◌, append_assoc, append-nil, take_at, Extends, IsFront, Ok, OnOk, Result}
 use Rattle.std.specs.Prelude.{Err, OnErr}
 
 -- a front of a part at the front is a front of the whole

@@ -1,9 +1,5 @@
 -- The days of the calendar are those that the test accepts, and later years have greater numbers.
-use Rattle.mail_dates.proofs.Words.{◌≡◌, ℕ, ◌≤◌, Bool, true, Some, None, refl, ap, sym, ◌∙◌, arith, ℤ, pos, negsuc}
-use Rattle.mail_dates.proofs.Words.{◌≤ℤ◌, ◌<ℤ◌, unsigned_abs, to_z, w8, if◌then◌else◌, nat_tests, ints, days_from_civil}
-use Rattle.mail_dates.proofs.Words.{days_in_month, IsDate, epoch_day, IsYmd, days_in_month_bounds}
-use Rattle.mail_dates.proofs.Words.{days_from_civil-day_count, day_count-lt_year, signed_arith, is_civil_day}
-use Rattle.mail_dates.proofs.Words.{day_number}
+use Rattle.mail_dates.proofs.Words.{◌≡◌, ℕ, ◌≤◌, Bool, true, Some, None, refl, ap, sym, ◌∙◌, arith, ℤ, pos, negsuc, ◌≤ℤ◌, ◌<ℤ◌, unsigned_abs, to_z, w8, if◌then◌else◌, nat_tests, ints, days_from_civil, days_in_month, IsDate, epoch_day, IsYmd, days_in_month_bounds, days_from_civil-day_count, day_count-lt_year, signed_arith, is_civil_day, day_number}
 use Rattle.jiff_core.specs.declared.civil.date.Date.{Date}
 use Rattle.jiff_core.proofs.DateLemmas.{civil}
 

@@ -1,7 +1,5 @@
 -- Cutting lists where a test passes.
-use Rattle.mail_dates.proofs.Words.{◌≡◌, ◌<◌, ◌≤◌, ◌+◌, ℕ, Bool, true, false, cond, List, [], ◌∷◌, length, take, drop}
-use Rattle.mail_dates.proofs.Words.{Some, None, refl, arith, slice_split, onto_first, position, position_or_len}
-use Rattle.mail_dates.proofs.Words.{nat_tests}
+use Rattle.mail_dates.proofs.Words.{◌≡◌, ◌<◌, ◌≤◌, ◌+◌, ℕ, Bool, true, false, cond, List, [], ◌∷◌, length, take, drop, Some, None, refl, arith, slice_split, onto_first, position, position_or_len, nat_tests}
 use Rattle.std.proofs.lemmas.List.Splits.{slice_split_first}
 
 module _ (p : ℕ → Bool) where

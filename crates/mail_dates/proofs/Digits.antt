@@ -1,6 +1,5 @@
 -- A list of digits has a digit at each place.
-use Rattle.mail_dates.proofs.Words.{◌≡◌, ◌<◌, ◌≤◌, ◌-◌, ℕ, zero, suc, Bool, true, ◌&&◌, List, [], ◌∷◌, length, get_or}
-use Rattle.mail_dates.proofs.Words.{arith, list_all, nat_tests}
+use Rattle.mail_dates.proofs.Words.{◌≡◌, ◌<◌, ◌≤◌, ◌-◌, ℕ, zero, suc, Bool, true, ◌&&◌, List, [], ◌∷◌, length, get_or, arith, list_all, nat_tests}
 use Rattle.std.specs.Char.{is_ascii_digit, digit_value}
 
 pub record IsDigit (b : ℕ) : Type 0 where

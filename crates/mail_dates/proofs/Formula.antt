@@ -1,7 +1,5 @@
 -- Day numbers by a formula, with which long tables can be computed.
-use Rattle.mail_dates.proofs.Words.{◌≡◌, ℕ, suc, ◌+◌, ◌≤◌, Bool, true, false, Option, Some, None, refl, arith, ℤ, pos}
-use Rattle.mail_dates.proofs.Words.{◌+ℤ◌, ◌-ℤ◌, unsigned_abs, nat_le, if◌then◌else◌, nat_tests, ints, days_from_civil}
-use Rattle.mail_dates.proofs.Words.{days_from_civil-day_count, signed_arith, is_civil_day, day_number}
+use Rattle.mail_dates.proofs.Words.{◌≡◌, ℕ, suc, ◌+◌, ◌≤◌, Bool, true, false, Option, Some, None, refl, arith, ℤ, pos, ◌+ℤ◌, ◌-ℤ◌, unsigned_abs, nat_le, if◌then◌else◌, nat_tests, ints, days_from_civil, days_from_civil-day_count, signed_arith, is_civil_day, day_number}
 use Rattle.jiff_core.specs.March.{march_days, march_months}
 use Rattle.jiff_core.proofs.MarchLemmas.{day_count-late, day_count-early}
 use Rattle.mail_dates.proofs.CivilDays.{IsCivilDay, civil_parts}

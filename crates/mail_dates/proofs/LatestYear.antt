@@ -1,9 +1,5 @@
 -- The search from a year downwards finds the latest year that passes.
-use Rattle.mail_dates.proofs.Words.{◌≡◌, ℕ, zero, suc, ◌<◌, ◌≤◌, Bool, true, false, Option, Some, None, refl, sym, ap}
-use Rattle.mail_dates.proofs.Words.{◌∙◌, subst, arith, ℤ, pos, negsuc, ◌+ℤ◌, ◌-ℤ◌, ◌≤ℤ◌, ◌<ℤ◌, unsigned_abs, ◌↔◌}
-use Rattle.mail_dates.proofs.Words.{option_map, IsTrue, int_le, ints, ◌>>=◌, day_number, greatest_below, year_at}
-use Rattle.mail_dates.proofs.Words.{latest_year, IsLatestYear, HasNoLater, days_from_to, days_in_by, latest_days_by}
-use Rattle.mail_dates.proofs.Words.{begin_by, fit_by}
+use Rattle.mail_dates.proofs.Words.{◌≡◌, ℕ, zero, suc, ◌<◌, ◌≤◌, Bool, true, false, Option, Some, None, refl, sym, ap, ◌∙◌, subst, arith, ℤ, pos, negsuc, ◌+ℤ◌, ◌-ℤ◌, ◌≤ℤ◌, ◌<ℤ◌, unsigned_abs, ◌↔◌, option_map, IsTrue, int_le, ints, ◌>>=◌, day_number, greatest_below, year_at, latest_year, IsLatestYear, HasNoLater, days_from_to, days_in_by, latest_days_by, begin_by, fit_by}
 use Rattle.mail_dates.specs.declared.days.DaysOfYear.{DaysOfYear}
 use Rattle.mail_dates.specs.declared.days.DaysOfYear.TheVariants as days
 use Rattle.mail_dates.proofs.CivilDays.{year_within, numbered}

@@ -1,8 +1,6 @@
 -- The forms of periods exclude one another, because they differ in the number of digits and of other bytes, and in
 -- whether a digit comes first.
-use Rattle.mail_dates.proofs.Words.{◌≡◌, ℕ, zero, suc, ◌+◌, ◌≤◌, ◌<◌, Bool, true, false, cond, ◌&&◌, ◌==◌, nat_le, List}
-use Rattle.mail_dates.proofs.Words.{[], ◌∷◌, ◌++◌, length, get_or, Option, Some, None, refl, sym, ap, ◌∙◌, arith, ℤ}
-use Rattle.mail_dates.proofs.Words.{list_all, nat_tests, if◌then◌else◌, number_in, month_of, option_map, position}
+use Rattle.mail_dates.proofs.Words.{◌≡◌, ℕ, zero, suc, ◌+◌, ◌≤◌, ◌<◌, Bool, true, false, cond, ◌&&◌, ◌==◌, nat_le, List, [], ◌∷◌, ◌++◌, length, get_or, Option, Some, None, refl, sym, ap, ◌∙◌, arith, ℤ, list_all, nat_tests, if◌then◌else◌, number_in, month_of, option_map, position}
 use Rattle.std.specs.Char.{is_ascii_digit, is_ascii_alphabetic, to_ascii_lowercase}
 use Rattle.std.specs.Str.{str_to_ascii_lowercase, str_eq_ignore_ascii_case}
 use Rattle.std.proofs.Common.{length-append}
@@ -12,9 +10,7 @@ use Rattle.mail_dates.specs.declared.days.Days.{Days}
 use Rattle.mail_dates.specs.declared.period.Unit.{Unit}
 use Rattle.mail_dates.specs.Calendar.{month_names}
 use Rattle.mail_dates.specs.Periods.{unit_of, day_of}
-use Rattle.mail_dates.specs.PeriodGrammar.{Form, DaysAgo, FullDate, WholeYear, NamedMonth, DayThenMonth, MonthThenDay}
-use Rattle.mail_dates.specs.PeriodGrammar.{IsPeriod, CountOfUnits, YearMonthDay, Year, Month, DayMonth, MonthDay}
-use Rattle.mail_dates.specs.PeriodGrammar.{IsLongCount, DigitsAndUnit}
+use Rattle.mail_dates.specs.PeriodGrammar.{Form, DaysAgo, FullDate, WholeYear, NamedMonth, DayThenMonth, MonthThenDay, IsPeriod, CountOfUnits, YearMonthDay, Year, Month, DayMonth, MonthDay, IsLongCount, DigitsAndUnit}
 
 -- ---- digits
 

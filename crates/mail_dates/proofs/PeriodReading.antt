@@ -1,8 +1,5 @@
 -- Periods are read as their grammar says.
-use Rattle.mail_dates.proofs.Words.{◌≡◌, ℕ, ◌-◌, ◌<◌, Bool, true, false, ◌&&◌, ◌==◌, List, [], ◌∷◌, ◌++◌, length, take}
-use Rattle.mail_dates.proofs.Words.{drop, Option, Some, None, Result, Ok, Err, refl, sym, ap, ◌∙◌, subst, arith, ℤ, pos}
-use Rattle.mail_dates.proofs.Words.{list_all, nat_tests, if◌then◌else◌, option_map, number_in, month_of, day_number}
-use Rattle.mail_dates.proofs.Words.{period_of, ◌>>=◌, DateFault, BadDate, BadNumber, ◌↔◌}
+use Rattle.mail_dates.proofs.Words.{◌≡◌, ℕ, ◌-◌, ◌<◌, Bool, true, false, ◌&&◌, ◌==◌, List, [], ◌∷◌, ◌++◌, length, take, drop, Option, Some, None, Result, Ok, Err, refl, sym, ap, ◌∙◌, subst, arith, ℤ, pos, list_all, nat_tests, if◌then◌else◌, option_map, number_in, month_of, day_number, period_of, ◌>>=◌, DateFault, BadDate, BadNumber, ◌↔◌}
 use Rattle.std.specs.Prelude.{slice_get, slice_range, is_some, nat_lt, ok_or}
 use Rattle.contract_words.specs.Answers.{◌>>=◌ as ◌>>=ᵣ◌}
 use Rattle.std.specs.Char.{is_ascii_digit}
@@ -17,12 +14,9 @@ use Rattle.mail_dates.specs.declared.period.Unit.{Unit}
 use Rattle.mail_dates.specs.declared.period.Period.{Period}
 use Rattle.mail_dates.specs.declared.period.Period.TheVariants.{Ago, InYear, Yearly}
 use Rattle.mail_dates.specs.Periods as periods
-use Rattle.mail_dates.specs.Periods.{unit_of, last_unit, before_last_letter, day_of, yearly_day, has_long_count}
-use Rattle.mail_dates.specs.Periods.{period_days_by}
+use Rattle.mail_dates.specs.Periods.{unit_of, last_unit, before_last_letter, day_of, yearly_day, has_long_count, period_days_by}
 use Rattle.mail_dates.specs.Ranges.{named_days_by}
-use Rattle.mail_dates.specs.PeriodGrammar.{NamesDays, Form, DaysAgo, FullDate, WholeYear, NamedMonth, DayThenMonth}
-use Rattle.mail_dates.specs.PeriodGrammar.{MonthThenDay, IsPeriod, CountOfUnits, YearMonthDay, Year, Month, DayMonth}
-use Rattle.mail_dates.specs.PeriodGrammar.{MonthDay, IsLongCount, DigitsAndUnit, IsRefusedPeriod, LongCount, NoPeriod}
+use Rattle.mail_dates.specs.PeriodGrammar.{NamesDays, Form, DaysAgo, FullDate, WholeYear, NamedMonth, DayThenMonth, MonthThenDay, IsPeriod, CountOfUnits, YearMonthDay, Year, Month, DayMonth, MonthDay, IsLongCount, DigitsAndUnit, IsRefusedPeriod, LongCount, NoPeriod}
 use Rattle.mail_dates.proofs.PeriodForms.{number_is, name_is, formed, no_form, same_form}
 
 -- the period that is read from a text of this form

@@ -1,9 +1,5 @@
 -- Ranges of days are read as their grammar says.
-use Rattle.mail_dates.proofs.Words.{◌≡◌, ℕ, Bool, true, false, cond, List, [], ◌∷◌, ◌++◌, Some, None, Result, Ok, Err}
-use Rattle.mail_dates.proofs.Words.{refl, sym, ap, ◌∙◌, subst, arith, ℤ, pos, ◌↔◌, list_all, nat_tests, day_number}
-use Rattle.mail_dates.proofs.Words.{number_in, month_of, period_of, slice_split, onto_first, is_dash, range_at}
-use Rattle.mail_dates.proofs.Words.{range_of_parts_by, DateFault, BadDate, BadNumber, Range, start_of_day, end_of_day}
-use Rattle.mail_dates.proofs.Words.{Option}
+use Rattle.mail_dates.proofs.Words.{◌≡◌, ℕ, Bool, true, false, cond, List, [], ◌∷◌, ◌++◌, Some, None, Result, Ok, Err, refl, sym, ap, ◌∙◌, subst, arith, ℤ, pos, ◌↔◌, list_all, nat_tests, day_number, number_in, month_of, period_of, slice_split, onto_first, is_dash, range_at, range_of_parts_by, DateFault, BadDate, BadNumber, Range, start_of_day, end_of_day, Option}
 use Rattle.contract_words.specs.Answers.{◌>>=◌ as ◌>>=ᵣ◌}
 use Rattle.std.specs.List.{list_any, join_with_byte}
 use Rattle.std.specs.Char.{is_ascii_digit, is_ascii_alphabetic}
@@ -14,10 +10,8 @@ use Rattle.mail_dates.specs.declared.days.Days.{Days}
 use Rattle.mail_dates.specs.declared.period.Unit.{Unit}
 use Rattle.mail_dates.specs.Periods.{unit_of}
 use Rattle.mail_dates.specs.Ranges.{named_days_by, range_of_days, range_of_period_by, range_between_by, range_from_by}
-use Rattle.mail_dates.specs.PeriodGrammar.{NamesDays, Form, IsPeriod, CountOfUnits, YearMonthDay, Year, Month, DayMonth}
-use Rattle.mail_dates.specs.PeriodGrammar.{MonthDay, IsLongCount, DigitsAndUnit}
-use Rattle.mail_dates.specs.RangeGrammar.{day_at, IsRange, InPeriod, Between, Until, Since, IsEnd, NoEnd, NamedEnd}
-use Rattle.mail_dates.specs.RangeGrammar.{HasLongCount, AsPeriod, AsEnd, AsStart, IsFault, TooLong, NoRange}
+use Rattle.mail_dates.specs.PeriodGrammar.{NamesDays, Form, IsPeriod, CountOfUnits, YearMonthDay, Year, Month, DayMonth, MonthDay, IsLongCount, DigitsAndUnit}
+use Rattle.mail_dates.specs.RangeGrammar.{day_at, IsRange, InPeriod, Between, Until, Since, IsEnd, NoEnd, NamedEnd, HasLongCount, AsPeriod, AsEnd, AsStart, IsFault, TooLong, NoRange}
 use Rattle.mail_dates.proofs.Cuts.{split_front}
 use Rattle.mail_dates.proofs.PeriodForms.{number_is, name_is, day_is, unit_letter}
 use Rattle.mail_dates.proofs.PeriodReading.{names_read, read_names, long_read, read_long}

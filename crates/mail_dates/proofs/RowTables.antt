@@ -1,6 +1,5 @@
 -- Tables of worked examples, computed by the formula of day numbers. The expected seconds were computed by other means.
-use Rattle.mail_dates.proofs.Words.{◌≡◌, ℕ, List, map, Option, Some, Result, Ok, ℤ, pos, ap, ◌∙◌, DateFault, Range}
-use Rattle.mail_dates.proofs.Words.{day_number}
+use Rattle.mail_dates.proofs.Words.{◌≡◌, ℕ, List, map, Option, Some, Result, Ok, ℤ, pos, ap, ◌∙◌, DateFault, Range, day_number}
 use Rattle.mail_dates.proofs.Formula.{number_by_formula, day_number-formula}
 
 -- each row has an input and its result

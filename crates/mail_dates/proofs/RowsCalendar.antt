@@ -1,6 +1,5 @@
 -- Worked examples of days, moments and the dates in a range.
-use Rattle.mail_dates.proofs.Words.{◌≡◌, ℕ, true, false, [], ◌∷◌, map, refl, Option, Some, None, ℤ, pos, negsuc, codes}
-use Rattle.mail_dates.proofs.Words.{option_map, day_number, month_of, start_of_day, end_of_day, has_date, Range}
+use Rattle.mail_dates.proofs.Words.{◌≡◌, ℕ, true, false, [], ◌∷◌, map, refl, Option, Some, None, ℤ, pos, negsuc, codes, option_map, day_number, month_of, start_of_day, end_of_day, has_date, Range}
 use Rattle.mail_dates.proofs.RowTables.{Holds, hold}
 
 -- the number of a day, from its year, month and date

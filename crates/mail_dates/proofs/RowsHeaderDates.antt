@@ -1,6 +1,5 @@
 -- Worked examples of header dates: fields, and the second that each says.
-use Rattle.mail_dates.proofs.Words.{ℕ, List, [], ◌∷◌, ◌++◌, map, refl, Option, Some, None, ℤ, pos, negsuc, codes}
-use Rattle.mail_dates.proofs.Words.{month_of, date_of, date_by, date_tokens, time_of, offset_of, hours_west}
+use Rattle.mail_dates.proofs.Words.{ℕ, List, [], ◌∷◌, ◌++◌, map, refl, Option, Some, None, ℤ, pos, negsuc, codes, month_of, date_of, date_by, date_tokens, time_of, offset_of, hours_west}
 use Rattle.mail_dates.proofs.RowTables.{Holds, hold, all_say}
 
 abbrev Dated : List (List ℕ × ℤ) → Type 0

@@ -1,6 +1,5 @@
 -- Worked examples of ranges of ISO 8601 dates.
-use Rattle.mail_dates.proofs.Words.{[], ◌∷◌, ◌++◌, refl, Some, None, Err, pos, negsuc, codes, BadDate, iso_range_of}
-use Rattle.mail_dates.proofs.Words.{iso_range_by, iso_days_by}
+use Rattle.mail_dates.proofs.Words.{[], ◌∷◌, ◌++◌, refl, Some, None, Err, pos, negsuc, codes, BadDate, iso_range_of, iso_range_by, iso_days_by}
 use Rattle.mail_dates.proofs.RowTables.{Holds, hold, all_say, between, days}
 
 rows : Holds iso_range_of ((codes "2003-02", days 1044057600 1046476799) ∷

@@ -1,7 +1,5 @@
 -- Worked examples of ranges of days. A table of tests has many more.
-use Rattle.mail_dates.proofs.Words.{◌≡◌, ℕ, List, [], ◌∷◌, ◌++◌, map, refl, Some, None, Result, Ok, Err, pos, codes}
-use Rattle.mail_dates.proofs.Words.{DateFault, BadDate, BadNumber, Range, month_of, period_of, latest_days_by, range_at}
-use Rattle.mail_dates.proofs.Words.{range_by}
+use Rattle.mail_dates.proofs.Words.{◌≡◌, ℕ, List, [], ◌∷◌, ◌++◌, map, refl, Some, None, Result, Ok, Err, pos, codes, DateFault, BadDate, BadNumber, Range, month_of, period_of, latest_days_by, range_at, range_by}
 use Rattle.std.specs.List.{AllByRecursion}
 use Rattle.mail_dates.specs.RangeGrammar.{IsRange, IsFault}
 use Rattle.mail_dates.proofs.RangeReading.{range_law, fault_law}

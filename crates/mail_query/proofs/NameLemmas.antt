@@ -1,8 +1,5 @@
 -- Names of attachments don't matter to a query that doesn't use them, by induction over the query.
-use Rattle.mail_query.proofs.Words.{◌≡◌, ◌∙◌, Bool, false, not, List, refl, sym, ap, ℕ, ◌&&◌, ◌||◌, or_parts, Kinds}
-use Rattle.mail_query.proofs.Words.{Query, Any, Word, Part, Prefix, Date, Size, HasFlag, Not, Either, Queries, End}
-use Rattle.mail_query.proofs.Words.{More, kinds_sought, kinds_inside, have_names, uses_names, Facts, without_names}
-use Rattle.mail_query.proofs.Words.{some_word, is_true, each_is_true, some_is_true}
+use Rattle.mail_query.proofs.Words.{◌≡◌, ◌∙◌, Bool, false, not, List, refl, sym, ap, ℕ, ◌&&◌, ◌||◌, or_parts, Kinds, Query, Any, Word, Part, Prefix, Date, Size, HasFlag, Not, Either, Queries, End, More, kinds_sought, kinds_inside, have_names, uses_names, Facts, without_names, some_word, is_true, each_is_true, some_is_true}
 use Rattle.std.proofs.lemmas.List.Folds.{list_any-append}
 use Rattle.mail_query.specs.Query.{All}
 

@@ -1,6 +1,5 @@
 -- The query of a node, for each kind of node.
-use Rattle.mail_query.proofs.Words.{◌≡◌, Bool, Box, Global, List, [], ◌∷◌, ◌++◌, refl, ap, rules, Flag, Query, HasFlag}
-use Rattle.mail_query.proofs.Words.{Not, query_of, queries_of}
+use Rattle.mail_query.proofs.Words.{◌≡◌, Bool, Box, Global, List, [], ◌∷◌, ◌++◌, refl, ap, rules, Flag, Query, HasFlag, Not, query_of, queries_of}
 use Rattle.mail_query.specs.declared.node.Node as node
 use Rattle.mail_query.specs.declared.node.Node.{Node, the_lemmas}
 

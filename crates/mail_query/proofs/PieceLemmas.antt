@@ -1,8 +1,5 @@
 -- Laws of cutting a text at a byte.
-use Rattle.mail_query.proofs.Words.{◌≡◌, ◌≢◌, ℕ, suc, ◌-◌, ◌<◌, Bool, true, false, eqb, List, [], ◌∷◌, ◌++◌, length}
-use Rattle.mail_query.proofs.Words.{length-append, take, get_or, Option, Some, None, option_map, MatchOption, refl, sym}
-use Rattle.mail_query.proofs.Words.{ap, ◌∙◌, arith, option_copied, take-append_seam, list_any, or_parts, or_from}
-use Rattle.mail_query.proofs.Words.{nat_tests, is_byte, texts_around, without_first, without_last}
+use Rattle.mail_query.proofs.Words.{◌≡◌, ◌≢◌, ℕ, suc, ◌-◌, ◌<◌, Bool, true, false, eqb, List, [], ◌∷◌, ◌++◌, length, length-append, take, get_or, Option, Some, None, option_map, MatchOption, refl, sym, ap, ◌∙◌, arith, option_copied, take-append_seam, list_any, or_parts, or_from, nat_tests, is_byte, texts_around, without_first, without_last}
 use denote.Ref.{Bor}
 
 pub none_unless : {A : Type 0} (o : Option A) → ((x : A) → o ≡ Some x → ⊥) → o ≡ None

@@ -1,6 +1,5 @@
 -- A small lexicon for rows: a word is 1 to 6 letters, a part of a word has hyphens too, and `ok` names every date.
-use Rattle.mail_query.proofs.Words.{ℕ, Bool, ◌&&◌, ◌||◌, ◌==◌, nat_le, if◌then◌else◌, List, length, bytes_eq, codes}
-use Rattle.mail_query.proofs.Words.{None, Some, list_all, is_ascii_alphabetic, str_to_ascii_lowercase, Range, Lexicon}
+use Rattle.mail_query.proofs.Words.{ℕ, Bool, ◌&&◌, ◌||◌, ◌==◌, nat_le, if◌then◌else◌, List, length, bytes_eq, codes, None, Some, list_all, is_ascii_alphabetic, str_to_ascii_lowercase, Range, Lexicon}
 
 abbrev pub is_short : List ℕ → Bool
 is_short text = nat_le 1 (length text) && nat_le (length text) 6

@@ -1,8 +1,5 @@
 -- Rows of boolean queries, each with the query or the first fault that a second reader finds.
-use Rattle.mail_query.proofs.Words.{◌≡◌, ℕ, List, codes, None, Some, Ok, Err, refl, true, QueryFaultKind, NoPattern}
-use Rattle.mail_query.proofs.Words.{BadPrefix, BadWord, BadDate, NeedsOperator, BadParenthesis, MissingTerm, TooDeep}
-use Rattle.mail_query.proofs.Words.{Phrase, Query, Word, Prefix, Date, Not, Either, End, More, no_kinds, query_tokens}
-use Rattle.mail_query.proofs.Words.{first_fault, tokens_query}
+use Rattle.mail_query.proofs.Words.{◌≡◌, ℕ, List, codes, None, Some, Ok, Err, refl, true, QueryFaultKind, NoPattern, BadPrefix, BadWord, BadDate, NeedsOperator, BadParenthesis, MissingTerm, TooDeep, Phrase, Query, Word, Prefix, Date, Not, Either, End, More, no_kinds, query_tokens, first_fault, tokens_query}
 use Rattle.mail_query.specs.Query.{All}
 use Rattle.mail_query.proofs.RowLexicon.{toy, every_date}
 

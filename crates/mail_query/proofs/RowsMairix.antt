@@ -1,8 +1,5 @@
 -- Rows of mairix patterns, each with the query or the fault that a second reader finds.
-use Rattle.mail_query.proofs.Words.{◌≡◌, ℕ, List, [], ◌∷◌, codes, Some, Ok, Err, refl, true, false, Seen, Replied}
-use Rattle.mail_query.proofs.Words.{QueryFaultKind, NoPattern, BadPrefix, BadWord, Approximate, BadDate, BadSize}
-use Rattle.mail_query.proofs.Words.{BadFlag, Query, Word, Part, Prefix, Date, Size, HasFlag, Not, Either, End, More}
-use Rattle.mail_query.proofs.Words.{no_kinds, size_of, sizes_of, flags_of_text, patterns_query}
+use Rattle.mail_query.proofs.Words.{◌≡◌, ℕ, List, [], ◌∷◌, codes, Some, Ok, Err, refl, true, false, Seen, Replied, QueryFaultKind, NoPattern, BadPrefix, BadWord, Approximate, BadDate, BadSize, BadFlag, Query, Word, Part, Prefix, Date, Size, HasFlag, Not, Either, End, More, no_kinds, size_of, sizes_of, flags_of_text, patterns_query}
 use Rattle.mail_query.specs.Query.{All}
 use Rattle.mail_query.proofs.RowLexicon.{toy, every_date}
 

@@ -1,7 +1,5 @@
 -- Rows of queries, with whether one letter satisfies them.
-use Rattle.mail_query.proofs.Words.{◌≡◌, Bool, List, ℕ, [], ◌∷◌, map, codes, None, Some, refl, true, false, Seen}
-use Rattle.mail_query.proofs.Words.{Replied, Flagged, Kinds, no_kinds, Query, Any, Word, Part, Prefix, Date, Size}
-use Rattle.mail_query.proofs.Words.{HasFlag, Not, Either, End, More, uses_names, Facts, is_true}
+use Rattle.mail_query.proofs.Words.{◌≡◌, Bool, List, ℕ, [], ◌∷◌, map, codes, None, Some, refl, true, false, Seen, Replied, Flagged, Kinds, no_kinds, Query, Any, Word, Part, Prefix, Date, Size, HasFlag, Not, Either, End, More, uses_names, Facts, is_true}
 use Rattle.mail_words.specs.declared.kind.TextKind.{TextKind}
 use Rattle.mail_words.specs.declared.kind.TextKind.TheVariants.{To, Cc, Bcc, From, Subject, Body, Name}
 use Rattle.mail_query.specs.Query.{All}

@@ -1,8 +1,5 @@
 -- Where the first LF is, and how long the first line is.
-use Rattle.mbox_cutter.proofs.Words.{◌≡◌, ℕ, zero, suc, ◌+◌, ◌<◌, ◌≤◌, Bool, true, false, cond, ◌==◌, List, [], ◌∷◌}
-use Rattle.mbox_cutter.proofs.Words.{◌++◌, Some, None, length, take, get_or, refl, ap, arith, min}
-use Rattle.mbox_cutter.proofs.Words.{nat_tests, IsFirstByte, is_byte, length_before_feed, line_end_of}
-use Rattle.mbox_cutter.proofs.Words.{first_length}
+use Rattle.mbox_cutter.proofs.Words.{◌≡◌, ℕ, zero, suc, ◌+◌, ◌<◌, ◌≤◌, Bool, true, false, cond, ◌==◌, List, [], ◌∷◌, ◌++◌, Some, None, length, take, get_or, refl, ap, arith, min, nat_tests, IsFirstByte, is_byte, length_before_feed, line_end_of, first_length}
 use Rattle.std.proofs.lemmas.List.{length-append}
 
 pub not_true : (b : Bool) → (b ≡ true → ⊥) → b ≡ false

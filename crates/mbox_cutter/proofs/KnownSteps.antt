@@ -1,8 +1,5 @@
 -- The steps of a cutter, stated for bytes that may be known or not.
-use Rattle.mbox_cutter.proofs.Words.{still_known, IsSome, ◌≡◌, ℕ, ◌+◌, ◌<◌, List, Option, Some, IfSome, take, arith}
-use Rattle.mbox_cutter.proofs.Words.{option_map, CutFault, ArchiveTooLong, Phase, Between, first_length, ArchiveEvent}
-use Rattle.mbox_cutter.proofs.Words.{coming_of, TakesEvent, TakesKnown, IsRefusalToCome, CutterPlace, FailsFirst}
-use Rattle.mbox_cutter.proofs.Words.{coming_at, resume}
+use Rattle.mbox_cutter.proofs.Words.{still_known, IsSome, ◌≡◌, ℕ, ◌+◌, ◌<◌, List, Option, Some, IfSome, take, arith, option_map, CutFault, ArchiveTooLong, Phase, Between, first_length, ArchiveEvent, coming_of, TakesEvent, TakesKnown, IsRefusalToCome, CutterPlace, FailsFirst, coming_at, resume}
 use Rattle.mbox_cutter.proofs.Steps.{resume-beginning}
 
 -- ---- facts of known values

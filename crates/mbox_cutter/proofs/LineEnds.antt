@@ -1,9 +1,6 @@
 -- The end of a line whose beginning was searched before: the bytes that were searched have no LF.
-use Rattle.mbox_cutter.proofs.Words.{◌≡◌, ◌+◌, ◌<◌, ◌≤◌, ◌==◌, ℕ, zero, suc, true, false, cond, List, [], ◌∷◌}
-use Rattle.mbox_cutter.proofs.Words.{Some, None, length, take, drop, ap, arith, min, nat_lt, nat_tests, length-take}
-use Rattle.mbox_cutter.proofs.Words.{length-drop, IsFirstByte, is_byte, length_before_feed, line_end_of}
-use Rattle.mbox_cutter.proofs.FirstLines.{length_before_feed-le, length_before_feed-take, length_before_feed-found}
-use Rattle.mbox_cutter.proofs.FirstLines.{length_before_feed-not_found}
+use Rattle.mbox_cutter.proofs.Words.{◌≡◌, ◌+◌, ◌<◌, ◌≤◌, ◌==◌, ℕ, zero, suc, true, false, cond, List, [], ◌∷◌, Some, None, length, take, drop, ap, arith, min, nat_lt, nat_tests, length-take, length-drop, IsFirstByte, is_byte, length_before_feed, line_end_of}
+use Rattle.mbox_cutter.proofs.FirstLines.{length_before_feed-le, length_before_feed-take, length_before_feed-found, length_before_feed-not_found}
 
 before_feed-drop : (n : ℕ) (b : List ℕ) → n ≤ length_before_feed b → length_before_feed b
     ≡ n + length_before_feed (drop n b)

@@ -1,6 +1,5 @@
 -- The lines of bytes are the first line and the lines of the bytes after it, however many turns are allowed.
-use Rattle.mbox_cutter.proofs.Words.{◌≡◌, ℕ, zero, suc, ◌<◌, ◌≤◌, List, [], ◌∷◌, length, take, drop, refl, ap, arith}
-use Rattle.mbox_cutter.proofs.Words.{length-drop, lines, first_lines, first_length}
+use Rattle.mbox_cutter.proofs.Words.{◌≡◌, ℕ, zero, suc, ◌<◌, ◌≤◌, List, [], ◌∷◌, length, take, drop, refl, ap, arith, length-drop, lines, first_lines, first_length}
 use Rattle.mbox_cutter.proofs.FirstLines.{first_length-positive}
 
 -- after the first line there are fewer bytes

@@ -1,10 +1,5 @@
 -- How the calls of a reader change the bytes to come.
-use Rattle.mbox_cutter.proofs.Words.{still_known, IsSome, ◌≡◌, ℕ, ◌+◌, ◌-◌, ◌<◌, ◌≤◌, Bool, true, false, Result, List}
-use Rattle.mbox_cutter.proofs.Words.{◌++◌, Option, Some, None, IfSome, IfOk, length, take, drop, append-nil, ap, ◌∙◌}
-use Rattle.mbox_cutter.proofs.Words.{arith, append_assoc, ReadConsumes, IsAtEnd, prepend_known, take-append-add}
-use Rattle.mbox_cutter.proofs.Words.{take-append-le, length-take-le, drop-append-le, Ghosts, line_end_of}
-use Rattle.mbox_cutter.proofs.Words.{first_length, BytesAhead, known_bytes, ReadsAfter, ReadsOn, Extends}
-use Rattle.mbox_cutter.proofs.Words.{TakesFirstLine}
+use Rattle.mbox_cutter.proofs.Words.{still_known, IsSome, ◌≡◌, ℕ, ◌+◌, ◌-◌, ◌<◌, ◌≤◌, Bool, true, false, Result, List, ◌++◌, Option, Some, None, IfSome, IfOk, length, take, drop, append-nil, ap, ◌∙◌, arith, append_assoc, ReadConsumes, IsAtEnd, prepend_known, take-append-add, take-append-le, length-take-le, drop-append-le, Ghosts, line_end_of, first_length, BytesAhead, known_bytes, ReadsAfter, ReadsOn, Extends, TakesFirstLine}
 use Rattle.std.specs.Result.{IsErr, is_err}
 use Rattle.std.proofs.lemmas.List.{length-append}
 use borrow.Rule.Slice.PartMut.{put_mid}

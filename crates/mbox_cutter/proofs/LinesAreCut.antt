@@ -1,10 +1,6 @@
 -- The lines of bytes join to the bytes, and each ends where a line does.
-use Rattle.mbox_cutter.proofs.Words.{◌≡◌, None, Some, ℕ, zero, suc, ◌-◌, ◌<◌, ◌≤◌, ◌==◌, true, false, cond, min, List}
-use Rattle.mbox_cutter.proofs.Words.{[], ◌∷◌, ◌++◌, length, take, drop, refl, ap, ◌∙◌, subst, arith, concat, nat_tests}
-use Rattle.mbox_cutter.proofs.Words.{length-drop, length-take-le, take-append-drop, take_all, line_end_of}
-use Rattle.mbox_cutter.proofs.Words.{length_before_feed, first_length, lines, IsLine, AreCut, AreLines}
-use Rattle.mbox_cutter.proofs.FirstLines.{line_end-within, line_end-whole, length_before_feed-le}
-use Rattle.mbox_cutter.proofs.FirstLines.{length_before_feed-take, first_length-le, first_length-positive}
+use Rattle.mbox_cutter.proofs.Words.{◌≡◌, None, Some, ℕ, zero, suc, ◌-◌, ◌<◌, ◌≤◌, ◌==◌, true, false, cond, min, List, [], ◌∷◌, ◌++◌, length, take, drop, refl, ap, ◌∙◌, subst, arith, concat, nat_tests, length-drop, length-take-le, take-append-drop, take_all, line_end_of, length_before_feed, first_length, lines, IsLine, AreCut, AreLines}
+use Rattle.mbox_cutter.proofs.FirstLines.{line_end-within, line_end-whole, length_before_feed-le, length_before_feed-take, first_length-le, first_length-positive}
 use Rattle.mbox_cutter.proofs.LineLists.{by_lines, lines-cons, lines-nil}
 
 length_before_feed-drop : (k : ℕ) (b : List ℕ) → k ≤ length_before_feed b → length_before_feed (drop k b)

@@ -1,8 +1,5 @@
 -- How the events go on from one line to the next.
-use Rattle.mbox_cutter.proofs.Words.{◌≡◌, ℕ, ◌+◌, ◌-◌, ◌≤◌, Bool, true, false, ◌||◌, ◌⊎◌, inl, inr, List, [], ◌∷◌}
-use Rattle.mbox_cutter.proofs.Words.{length, refl, ap, arith, add_assoc, add-zero, zero-add, is_empty, is_separator}
-use Rattle.mbox_cutter.proofs.Words.{marked_lines, grouped_lines, without_closing, Start, Line, End, events_between}
-use Rattle.mbox_cutter.proofs.Words.{events_inside}
+use Rattle.mbox_cutter.proofs.Words.{◌≡◌, ℕ, ◌+◌, ◌-◌, ◌≤◌, Bool, true, false, ◌||◌, ◌⊎◌, inl, inr, List, [], ◌∷◌, length, refl, ap, arith, add_assoc, add-zero, zero-add, is_empty, is_separator, marked_lines, grouped_lines, without_closing, Start, Line, End, events_between, events_inside}
 use Rattle.std.specs.Str.{bytes_eq}
 use Rattle.std.proofs.lemmas.Slice.Eq.{bytes_eq-Decides}
 use Rattle.mbox_cutter.proofs.FirstLines.{not_true}

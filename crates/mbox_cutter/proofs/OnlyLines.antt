@@ -1,11 +1,7 @@
 -- A list of lines that joins to the bytes is the list of their lines, because each first line is the first line.
-use Rattle.mbox_cutter.proofs.Words.{◌≡◌, ℕ, zero, suc, ◌+◌, ◌<◌, ◌≤◌, ◌⊎◌, inl, inr, true, false, cond, ◌==◌, List, []}
-use Rattle.mbox_cutter.proofs.Words.{◌∷◌, ◌++◌, length, append-nil, refl, ap, sym, ◌∙◌, arith, concat, nat_tests}
-use Rattle.mbox_cutter.proofs.Words.{take-append_seam, drop-append_seam, length_before_feed, first_length, lines}
-use Rattle.mbox_cutter.proofs.Words.{IsLine, AreCut, AreLines}
+use Rattle.mbox_cutter.proofs.Words.{◌≡◌, ℕ, zero, suc, ◌+◌, ◌<◌, ◌≤◌, ◌⊎◌, inl, inr, true, false, cond, ◌==◌, List, [], ◌∷◌, ◌++◌, length, append-nil, refl, ap, sym, ◌∙◌, arith, concat, nat_tests, take-append_seam, drop-append_seam, length_before_feed, first_length, lines, IsLine, AreCut, AreLines}
 use Rattle.std.proofs.lemmas.List.{length-append}
-use Rattle.mbox_cutter.proofs.FirstLines.{length_before_feed-le, length_before_feed-append_in}
-use Rattle.mbox_cutter.proofs.FirstLines.{length_before_feed-append_out}
+use Rattle.mbox_cutter.proofs.FirstLines.{length_before_feed-le, length_before_feed-append_in, length_before_feed-append_out}
 use Rattle.mbox_cutter.proofs.LineLists.{lines-cons, lines-nil}
 
 length_before_feed-append-positive : (a b : List ℕ) → 0 < length_before_feed a → 0 < length_before_feed (a ++ b)

@@ -1,7 +1,5 @@
 -- Worked rows: offset, length and size of the messages of archives.
-use Rattle.mbox_cutter.proofs.Words.{◌≡◌, ℕ, List, [], ◌∷◌, ◌++◌, Option, None, Some, map, refl, codes, option_map}
-use Rattle.mbox_cutter.proofs.Words.{lines, first_length, is_empty, is_separator, without_break, has_form, messages}
-use Rattle.mbox_cutter.proofs.Words.{spans_of, span_length, size}
+use Rattle.mbox_cutter.proofs.Words.{◌≡◌, ℕ, List, [], ◌∷◌, ◌++◌, Option, None, Some, map, refl, codes, option_map, lines, first_length, is_empty, is_separator, without_break, has_form, messages, spans_of, span_length, size}
 use Rattle.mbox_cutter.proofs.RowTables.{Each}
 
 abbrev cut_with_sizes : List ℕ → Option (List (ℕ × ℕ × ℕ))

@@ -1,7 +1,5 @@
 -- Worked rows: the events of archives, and their refusals.
-use Rattle.mbox_cutter.proofs.Words.{ℕ, List, [], ◌∷◌, ◌++◌, Option, None, Some, refl, codes, CutFault, NotAnMbox}
-use Rattle.mbox_cutter.proofs.Words.{ArchiveTooLong, lines, first_length, is_empty, is_separator, without_break}
-use Rattle.mbox_cutter.proofs.Words.{has_form, messages, events, archive_refusal, Start, Line, End, Done}
+use Rattle.mbox_cutter.proofs.Words.{ℕ, List, [], ◌∷◌, ◌++◌, Option, None, Some, refl, codes, CutFault, NotAnMbox, ArchiveTooLong, lines, first_length, is_empty, is_separator, without_break, has_form, messages, events, archive_refusal, Start, Line, End, Done}
 use Rattle.mbox_cutter.proofs.RowTables.{Each}
 
 -- the refusal of an archive, if this many bytes are allowed

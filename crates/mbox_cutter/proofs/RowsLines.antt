@@ -1,6 +1,5 @@
 -- Worked rows: lines, empty lines, and when the end of a line is known.
-use Rattle.mbox_cutter.proofs.Words.{◌≡◌, [], ◌∷◌, None, Some, true, false, map, refl, codes, lines, first_length}
-use Rattle.mbox_cutter.proofs.Words.{is_empty, line_end_of}
+use Rattle.mbox_cutter.proofs.Words.{◌≡◌, [], ◌∷◌, None, Some, true, false, map, refl, codes, lines, first_length, is_empty, line_end_of}
 use Rattle.mbox_cutter.proofs.RowTables.{Each}
 
 rows : Each lines (([], []) ∷ (codes "\n\n", codes "\n" ∷ codes "\n" ∷ [])

@@ -1,6 +1,5 @@
 -- Worked rows: lines that are separators, and lines that aren't.
-use Rattle.mbox_cutter.proofs.Words.{◌≡◌, true, false, [], ◌∷◌, ◌++◌, refl, codes, list_all, list_any, is_separator}
-use Rattle.mbox_cutter.proofs.Words.{without_break, has_form}
+use Rattle.mbox_cutter.proofs.Words.{◌≡◌, true, false, [], ◌∷◌, ◌++◌, refl, codes, list_all, list_any, is_separator, without_break, has_form}
 
 rows : (list_all is_separator (codes "From a@x.org Thu Jan  2 10:00:00 2003\n"
     ∷ codes "From - Sat Jan  4 12:00:00 2003\n" ∷ codes "From MAILER-DAEMON Fri Jul  8 12:08:34 2011\r\n"

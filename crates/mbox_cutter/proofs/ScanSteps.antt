@@ -1,20 +1,11 @@
 -- How the calls in a step change a scan, and each way in which a step can end.
-use Rattle.mbox_cutter.proofs.Words.{still_known, IsSome, MutBor, known_until, ◌≡◌, ℕ, ◌+◌, ◌-◌, ◌<◌, ◌≤◌, Bool, true}
-use Rattle.mbox_cutter.proofs.Words.{false, List, Option, Some, Result, Ok, Err, IfSome, IfOk, length, take, drop, ap}
-use Rattle.mbox_cutter.proofs.Words.{sym, ◌∙◌, subst, arith, IsAtEnd, length-take-le, Ghosts, CutFault, Device}
-use Rattle.mbox_cutter.proofs.Words.{NotAnMbox, ArchiveTooLong, Phase, Between, Inside, Ended, first_length, is_empty}
-use Rattle.mbox_cutter.proofs.Words.{IsLine, is_separator, Line, IsRefusalToCome, TakesEvent, is_device, CutterPlace}
-use Rattle.mbox_cutter.proofs.Words.{Moves, HasLine}
-use Rattle.mbox_cutter.proofs.Words.{known_bytes, ReadsOn, resume, closes_at, coming_events, place_of, event_with_line}
-use Rattle.mbox_cutter.proofs.Words.{IsPlace, IsWithin, ReadsSource}
-use Rattle.mbox_cutter.proofs.Words.{IsScan, IsFresh, FindsLine, Passes, Steps}
+use Rattle.mbox_cutter.proofs.Words.{still_known, IsSome, MutBor, known_until, ◌≡◌, ℕ, ◌+◌, ◌-◌, ◌<◌, ◌≤◌, Bool, true, false, List, Option, Some, Result, Ok, Err, IfSome, IfOk, length, take, drop, ap, sym, ◌∙◌, subst, arith, IsAtEnd, length-take-le, Ghosts, CutFault, Device, NotAnMbox, ArchiveTooLong, Phase, Between, Inside, Ended, first_length, is_empty, IsLine, is_separator, Line, IsRefusalToCome, TakesEvent, is_device, CutterPlace, Moves, HasLine, known_bytes, ReadsOn, resume, closes_at, coming_events, place_of, event_with_line, IsPlace, IsWithin, ReadsSource, IsScan, IsFresh, FindsLine, Passes, Steps}
 use Rattle.mbox_cutter.specs.declared.event.Event.{Event}
 use Rattle.mbox_cutter.specs.declared.event.Event.TheVariants as event
 use Rattle.mbox_cutter.specs.declared.scan.Scan.{Scan}
 use Rattle.mbox_cutter.proofs.KnownSteps.{each_some, at_same, both, still-on, IsFirst, known-step, known-fault}
 use Rattle.mbox_cutter.proofs.Sources.{ReadsSource-none, ReadsSource-join}
-use Rattle.mbox_cutter.proofs.Steps.{step-done, step-start, step-empty, step-refused, step-long, step-end, step-line}
-use Rattle.mbox_cutter.proofs.Steps.{step-open, step-closed, step-long_inside, ended-stays}
+use Rattle.mbox_cutter.proofs.Steps.{step-done, step-start, step-empty, step-refused, step-long, step-end, step-line, step-open, step-closed, step-long_inside, ended-stays}
 use Rattle.mbox_cutter.proofs.LineReaders.{known_taken, line_taken, length-Extends, take-Extends, ReadsOn-join}
 
 -- the place n bytes further, in this phase

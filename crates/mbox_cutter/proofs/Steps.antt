@@ -1,18 +1,8 @@
 -- Each step of a cutter takes the first of what still comes, line by line.
-use Rattle.mbox_cutter.proofs.Words.{◌≡◌, ℕ, zero, suc, ◌+◌, ◌-◌, ◌<◌, ◌≤◌, Bool, true, false, cond, ◌||◌, nat_eq}
-use Rattle.mbox_cutter.proofs.Words.{nat_lt, nat_le, List, [], ◌∷◌, Option, Some, None, length, take, drop, refl, ap}
-use Rattle.mbox_cutter.proofs.Words.{sym, ◌∙◌, arith, add_assoc, add-zero, zero-add, nat_tests, length-drop}
-use Rattle.mbox_cutter.proofs.Words.{length-take-le, option_map_or, CutFault, NotAnMbox, ArchiveTooLong, Between}
-use Rattle.mbox_cutter.proofs.Words.{Inside, Ended, lines, first_length, is_empty, is_separator, Message, messages}
-use Rattle.mbox_cutter.proofs.Words.{marked_lines, grouped_lines, is_refused, total, messages_from, ArchiveEvent, Start}
-use Rattle.mbox_cutter.proofs.Words.{Line, End}
-use Rattle.mbox_cutter.proofs.Words.{Done, events_of, events, first_full_end, archive_refusal, ComingEvents, coming_of}
-use Rattle.mbox_cutter.proofs.Words.{TakesEvent, IsRefusalToCome}
-use Rattle.mbox_cutter.proofs.Words.{closes_at, events_between, events_inside, refusal_between, too_long, resume}
+use Rattle.mbox_cutter.proofs.Words.{◌≡◌, ℕ, zero, suc, ◌+◌, ◌-◌, ◌<◌, ◌≤◌, Bool, true, false, cond, ◌||◌, nat_eq, nat_lt, nat_le, List, [], ◌∷◌, Option, Some, None, length, take, drop, refl, ap, sym, ◌∙◌, arith, add_assoc, add-zero, zero-add, nat_tests, length-drop, length-take-le, option_map_or, CutFault, NotAnMbox, ArchiveTooLong, Between, Inside, Ended, lines, first_length, is_empty, is_separator, Message, messages, marked_lines, grouped_lines, is_refused, total, messages_from, ArchiveEvent, Start, Line, End, Done, events_of, events, first_full_end, archive_refusal, ComingEvents, coming_of, TakesEvent, IsRefusalToCome, closes_at, events_between, events_inside, refusal_between, too_long, resume}
 use Rattle.mbox_cutter.proofs.FirstLines.{first_length-le, first_length-positive}
 use Rattle.mbox_cutter.proofs.LineLists.{lines-cons, lines-nil}
-use Rattle.mbox_cutter.proofs.Machine.{between-empty, between-start, inside-line, inside-closing_last, inside-closing}
-use Rattle.mbox_cutter.proofs.Machine.{inside-empty, inside-nil, separator-full}
+use Rattle.mbox_cutter.proofs.Machine.{between-empty, between-start, inside-line, inside-closing_last, inside-closing, inside-empty, inside-nil, separator-full}
 
 -- ---- refusals
 

@@ -1,8 +1,5 @@
 -- Reading the pieces of a text one after another finds a time and a later year.
-use Rattle.mbox_cutter.proofs.Words.{◌≡◌, ℕ, ◌+◌, Bool, true, false, ◌&&◌, ◌||◌, ◌==◌, List, [], ◌∷◌, Some, None, take}
-use Rattle.mbox_cutter.proofs.Words.{drop, get_or, refl, ap, sym, ◌∙◌, subst, arith, list_any, get_or_default}
-use Rattle.mbox_cutter.proofs.Words.{drop-drop, IsFirstByte, is_byte, separator_tokens, has_time_then_year, is_time}
-use Rattle.mbox_cutter.proofs.Words.{is_year}
+use Rattle.mbox_cutter.proofs.Words.{◌≡◌, ℕ, ◌+◌, Bool, true, false, ◌&&◌, ◌||◌, ◌==◌, List, [], ◌∷◌, Some, None, take, drop, get_or, refl, ap, sym, ◌∙◌, subst, arith, list_any, get_or_default, drop-drop, IsFirstByte, is_byte, separator_tokens, has_time_then_year, is_time, is_year}
 use Rattle.std.proofs.lemmas.List.Sums.{position_or_len_is}
 use Rattle.std.proofs.lemmas.List.Splits.{slice_split_first, slice_split_none}
 use Rattle.mbox_cutter.proofs.FirstLines.{not_true}

@@ -1,8 +1,5 @@
 -- How the lines read and the pairs given grow with each call of MessageText.
-use Rattle.mime_text.proofs.Words.{◌≡◌, ◌∙◌, ◌++◌, ℕ, List, [], ◌∷◌, sym, ap, append_assoc, arith, Result, OnOk, IfErr}
-use Rattle.mime_text.proofs.Words.{TextKind, SinkFault, TextFault, Pair, texts_of_message, PassedPairs, Stopped}
-use Rattle.mime_text.proofs.Words.{PassesPairs}
-use Rattle.mime_text.proofs.Words.{IsOver, Comes, KnowsFacts}
+use Rattle.mime_text.proofs.Words.{◌≡◌, ◌∙◌, ◌++◌, ℕ, List, [], ◌∷◌, sym, ap, append_assoc, arith, Result, OnOk, IfErr, TextKind, SinkFault, TextFault, Pair, texts_of_message, PassedPairs, Stopped, PassesPairs, IsOver, Comes, KnowsFacts}
 use Rattle.std.proofs.lemmas.List.{append-nil}
 use Rattle.mime_text.specs.declared.message_text.MessageText.{MessageText}
 use Rattle.mime_text.specs.Fed.{Feeds, FeedsPart, FinishesTexts, FinishesPart}

@@ -1,7 +1,5 @@
 -- The letters of the Status and X-Status fields, collected field by field.
-use Rattle.mime_text.proofs.Words.{◌≡◌, ◌∙◌, ◌<◌, ◌==◌, ℕ, Bool, true, List, [], ◌∷◌, refl, arith, ◌||◌, reverse}
-use Rattle.mime_text.proofs.Words.{reverse-append, list_any, HeaderField, after_blanks, before_blanks, unfolded_body}
-use Rattle.mime_text.proofs.Words.{is_status, has_letter}
+use Rattle.mime_text.proofs.Words.{◌≡◌, ◌∙◌, ◌<◌, ◌==◌, ℕ, Bool, true, List, [], ◌∷◌, refl, arith, ◌||◌, reverse, reverse-append, list_any, HeaderField, after_blanks, before_blanks, unfolded_body, is_status, has_letter}
 use Rattle.std.proofs.lemmas.List.Folds.{list_any-append}
 use Rattle.header_text.specs.Unfolding.{without_breaks}
 

@@ -1,12 +1,5 @@
 -- Delimiter lines and the open multiparts: what the code finds is what Stream defines.
-use Rattle.mime_text.proofs.Words.{◌≡◌, ◌∙◌, ◌≤◌, ◌<◌, ◌+◌, ◌-◌, ◌++◌, ◌==◌, ℕ, zero, suc, Bool, true, false, cond}
-use Rattle.mime_text.proofs.Words.{List, [], ◌∷◌, Option, Some, None, length, take, drop, refl, sym, ap, arith, add-one}
-use Rattle.mime_text.proofs.Words.{get_or, Bor, slice_get, option_map, MatchOption, IfSome, eqb-true, bytes_eq}
-use Rattle.mime_text.proofs.Words.{without_break, after_blanks, DefaultType, Frame, Delimiter, are_blanks, is_delimiter}
-use Rattle.mime_text.proofs.Words.{is_closing, StreamPlace, Skip, InHeader, or_else, own_hit, place_after_hit}
-use Rattle.mime_text.proofs.Words.{dash_dash, dashes}
-use Rattle.mime_text.proofs.Words.{kind_after, delimiter_of, place_after_delimiter, scan, inside_out, with_frame}
-use Rattle.mime_text.proofs.Words.{AreNested, take_at}
+use Rattle.mime_text.proofs.Words.{◌≡◌, ◌∙◌, ◌≤◌, ◌<◌, ◌+◌, ◌-◌, ◌++◌, ◌==◌, ℕ, zero, suc, Bool, true, false, cond, List, [], ◌∷◌, Option, Some, None, length, take, drop, refl, sym, ap, arith, add-one, get_or, Bor, slice_get, option_map, MatchOption, IfSome, eqb-true, bytes_eq, without_break, after_blanks, DefaultType, Frame, Delimiter, are_blanks, is_delimiter, is_closing, StreamPlace, Skip, InHeader, or_else, own_hit, place_after_hit, dash_dash, dashes, kind_after, delimiter_of, place_after_delimiter, scan, inside_out, with_frame, AreNested, take_at}
 use Rattle.std.proofs.lemmas.Option.{slice_get-get_or}
 use Rattle.header_text.specs.EncodedWords.{after}
 use Rattle.mime_text.specs.Frames.{goes_on_apart, is_apart_from}

@@ -1,9 +1,5 @@
 -- How the texts of fields are given to a sink, one after another.
-use Rattle.mime_text.proofs.Words.{◌≡◌, ◌∙◌, ◌++◌, ℕ, List, [], ◌∷◌, Option, Some, refl, ap, append_assoc, arith}
-use Rattle.mime_text.proofs.Words.{Result, Ok, Err, option_map, cons_option, HeaderField, TextKind, SinkFault}
-use Rattle.mime_text.proofs.Words.{TextFault, Failed, OutOfMemory, Sink, Pair, ComingPairs, Gave, Broke, Hands}
-use Rattle.mime_text.proofs.Words.{Bool, true, false, kind_of_field, text_of_body, texts_of_fields, header_texts}
-use Rattle.mime_text.proofs.Words.{before_blanks, unfolded_body, piece_of, parameter}
+use Rattle.mime_text.proofs.Words.{◌≡◌, ◌∙◌, ◌++◌, ℕ, List, [], ◌∷◌, Option, Some, refl, ap, append_assoc, arith, Result, Ok, Err, option_map, cons_option, HeaderField, TextKind, SinkFault, TextFault, Failed, OutOfMemory, Sink, Pair, ComingPairs, Gave, Broke, Hands, Bool, true, false, kind_of_field, text_of_body, texts_of_fields, header_texts, before_blanks, unfolded_body, piece_of, parameter}
 use Rattle.std.proofs.lemmas.List.{append-nil}
 use Rattle.mime_text.specs.Inside.Showing.{Shows}
 

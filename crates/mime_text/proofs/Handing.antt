@@ -1,8 +1,5 @@
 -- What a sink was given, call by call.
-use Rattle.mime_text.proofs.Words.{◌≡◌, ◌∙◌, ◌++◌, ℕ, List, [], ◌∷◌, refl, sym, ap, subst, append_assoc, arith, Result}
-use Rattle.mime_text.proofs.Words.{Ok, Err, IsErrAnd, TextKind, SinkFault, TextFault, Pair, ComingPairs, TakesAll}
-use Rattle.mime_text.proofs.Words.{Breaks}
-use Rattle.mime_text.proofs.Words.{Gave, Broke, Hands}
+use Rattle.mime_text.proofs.Words.{◌≡◌, ◌∙◌, ◌++◌, ℕ, List, [], ◌∷◌, refl, sym, ap, subst, append_assoc, arith, Result, Ok, Err, IsErrAnd, TextKind, SinkFault, TextFault, Pair, ComingPairs, TakesAll, Breaks, Gave, Broke, Hands}
 
 -- a fault that is returned to the caller
 pub fault-up : {T : Type 0} (result : Result T TextFault) (fault : TextFault) → IsErrAnd result (λ f. f ≡ fault)

@@ -1,7 +1,5 @@
 -- A held line has no LF, and its beginning has none after bytes were added.
-use Rattle.mime_text.proofs.Words.{◌≡◌, ◌∙◌, ◌+◌, ◌<◌, ◌≤◌, ◌++◌, ℕ, List, None, length, take, sym, ap, arith}
-use Rattle.mime_text.proofs.Words.{nat_tests, take-append-le, length_before_feed, line_end_of, length_before_feed-le}
-use Rattle.mime_text.proofs.Words.{length_before_feed-take}
+use Rattle.mime_text.proofs.Words.{◌≡◌, ◌∙◌, ◌+◌, ◌<◌, ◌≤◌, ◌++◌, ℕ, List, None, length, take, sym, ap, arith, nat_tests, take-append-le, length_before_feed, line_end_of, length_before_feed-le, length_before_feed-take}
 
 -- bytes whose line has no end yet have no line feed
 pub held-free : (b : List ℕ) → line_end_of b ≡ None → length_before_feed b ≡ length b

@@ -1,8 +1,5 @@
 -- How many bytes ids have together: never more than the fields in which they are.
-use Rattle.mime_text.proofs.Words.{◌≡◌, ◌+◌, ◌<◌, ◌≤◌, ◌++◌, ℕ, true, All, List, [], ◌∷◌, length, map, refl, sym, ap}
-use Rattle.mime_text.proofs.Words.{subst, arith, Ok, Err, OnOk, Result, append_assoc, Vec, Global, All-append, All-map}
-use Rattle.mime_text.proofs.Words.{HeaderField, fields_size, most_in_header, ids_of, ids_size, IsSizedId, is_linking}
-use Rattle.mime_text.proofs.Words.{ids_of_fields}
+use Rattle.mime_text.proofs.Words.{◌≡◌, ◌+◌, ◌<◌, ◌≤◌, ◌++◌, ℕ, true, All, List, [], ◌∷◌, length, map, refl, sym, ap, subst, arith, Ok, Err, OnOk, Result, append_assoc, Vec, Global, All-append, All-map, HeaderField, fields_size, most_in_header, ids_of, ids_size, IsSizedId, is_linking, ids_of_fields}
 use Rattle.std.specs.Prelude.{OnErr}
 use Rattle.header_text.proofs.HeaderLaws.IdLemmas.{each-kept}
 

@@ -1,13 +1,5 @@
 -- The decoded bytes of a leaf, line by line: each call gives the first lines and keeps the rest.
-use Rattle.mime_text.proofs.Words.{◌≡◌, ◌∙◌, ◌+◌, ◌-◌, ◌<◌, ◌≤◌, ◌==◌, ◌++◌, ℕ, suc, true, false, cond, List, [], ◌∷◌}
-use Rattle.mime_text.proofs.Words.{Some, None, length, take, drop, refl, sym, ap, ap₂, subst, arith, length-append}
-use Rattle.mime_text.proofs.Words.{append-nil, Result, Ok, Err, OnOk, concat, eqb-true, nat_tests, length-drop}
-use Rattle.mime_text.proofs.Words.{drop-drop, take-append-le, drop-append-le, take_all, drop_all, take-append-drop}
-use Rattle.mime_text.proofs.Words.{length_before_feed, line_end_of, lines, line_end-more, line_end-positive}
-use Rattle.mime_text.proofs.Words.{line_end-within, line_end-whole, TextKind, SinkFault, TextFault, OutOfMemory, Sink}
-use Rattle.mime_text.proofs.Words.{Failed, LineTexts, Pair, Gave, Broke, Hands, ends_in, line_text}
-use Rattle.mime_text.proofs.Words.{is_tag_open_after_line}
-use Rattle.mime_text.proofs.Words.{texts_after, body_pairs, pairs_of_lines, pairs_of_bytes}
+use Rattle.mime_text.proofs.Words.{◌≡◌, ◌∙◌, ◌+◌, ◌-◌, ◌<◌, ◌≤◌, ◌==◌, ◌++◌, ℕ, suc, true, false, cond, List, [], ◌∷◌, Some, None, length, take, drop, refl, sym, ap, ap₂, subst, arith, length-append, append-nil, Result, Ok, Err, OnOk, concat, eqb-true, nat_tests, length-drop, drop-drop, take-append-le, drop-append-le, take_all, drop_all, take-append-drop, length_before_feed, line_end_of, lines, line_end-more, line_end-positive, line_end-within, line_end-whole, TextKind, SinkFault, TextFault, OutOfMemory, Sink, Failed, LineTexts, Pair, Gave, Broke, Hands, ends_in, line_text, is_tag_open_after_line, texts_after, body_pairs, pairs_of_lines, pairs_of_bytes}
 use Rattle.std.proofs.lemmas.Slice.Eq.{bytes_eq-Decides}
 use Rattle.mbox_cutter.proofs.LineLists.{lines-cons, lines-nil}
 use Rattle.mail_words.specs.declared.kind.TextKind.TheVariants as kind

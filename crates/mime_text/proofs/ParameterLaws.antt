@@ -1,6 +1,5 @@
 -- The parameters of a value are those of its pieces, and no other list is.
-use Rattle.mime_text.proofs.Words.{◌≡◌, ◌≤◌, ℕ, zero, suc, List, [], ◌∷◌, Option, Some, None, length, refl, sym, subst}
-use Rattle.mime_text.proofs.Words.{arith, Parameter, piece_of, AreParameters, none_left, piece_first, parameters_after}
+use Rattle.mime_text.proofs.Words.{◌≡◌, ◌≤◌, ℕ, zero, suc, List, [], ◌∷◌, Option, Some, None, length, refl, sym, subst, arith, Parameter, piece_of, AreParameters, none_left, piece_first, parameters_after}
 use Rattle.mime_text.proofs.ParameterLemmas.{after-step, later-shorter}
 
 pub only_parameters : (begin : Option (List ℕ)) (ps : List Parameter) → AreParameters begin ps → ps

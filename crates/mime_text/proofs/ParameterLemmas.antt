@@ -1,12 +1,5 @@
 -- Parameters piece by piece: each piece is shorter than the bytes that it begins, so the recursion ends.
-use Rattle.mime_text.proofs.Words.{◌≡◌, ◌∙◌, ◌<◌, ◌≤◌, ◌+◌, ◌++◌, ◌==◌, ℕ, zero, suc, Bool, true, false, List, [], ◌∷◌}
-use Rattle.mime_text.proofs.Words.{Option, Some, None, length, cond, refl, sym, ap, arith, length-append, option_map}
-use Rattle.mime_text.proofs.Words.{unwrap_or, find, option_map_or, option_to_list, split_while, after_blanks}
-use Rattle.mime_text.proofs.Words.{without_outer_blanks}
-use Rattle.mime_text.proofs.Words.{cut_at, length-split_while, split_while-joined, IsCut-from, Parameter, Piece}
-use Rattle.mime_text.proofs.Words.{quoted_and_rest}
-use Rattle.mime_text.proofs.Words.{value_and_rest, is_parameter_name_byte, after_semicolon, piece_of}
-use Rattle.mime_text.proofs.Words.{parameters_within, parameters_after, first_named, parameter}
+use Rattle.mime_text.proofs.Words.{◌≡◌, ◌∙◌, ◌<◌, ◌≤◌, ◌+◌, ◌++◌, ◌==◌, ℕ, zero, suc, Bool, true, false, List, [], ◌∷◌, Option, Some, None, length, cond, refl, sym, ap, arith, length-append, option_map, unwrap_or, find, option_map_or, option_to_list, split_while, after_blanks, without_outer_blanks, cut_at, length-split_while, split_while-joined, IsCut-from, Parameter, Piece, quoted_and_rest, value_and_rest, is_parameter_name_byte, after_semicolon, piece_of, parameters_within, parameters_after, first_named, parameter}
 use Rattle.header_text.specs.Names.{is_named}
 
 -- ---- what follows is shorter

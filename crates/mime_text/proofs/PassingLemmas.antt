@@ -1,15 +1,5 @@
 -- What a part reader's calls give to a sink, and what is known of the facts after them.
-use Rattle.mime_text.proofs.Words.{◌≡◌, ◌∙◌, ◌++◌, ℕ, Bool, true, false, List, [], ◌∷◌, Option, Some, None, refl, sym}
-use Rattle.mime_text.proofs.Words.{ap, subst, append_assoc, arith, if◌then◌else◌, Result, Ok, Err, OnOk, IfErr}
-use Rattle.mime_text.proofs.Words.{is_empty, HeaderField, fields_of, HasLines, taken_of, has_empty, More, Ended}
-use Rattle.mime_text.proofs.Words.{TextKind, SinkFault, TextFault, OutOfMemory, DefaultType, TextPlain, Frame, State}
-use Rattle.mime_text.proofs.Words.{PartReader, Pair, ComingPairs, Gave, Broke, Hands, shape_of, facts_of, pairs_to_come}
-use Rattle.mime_text.proofs.Words.{StreamPlace, Skip, InHeader, InLeaf, place_after_hit, Nest, lead_to}
-use Rattle.mime_text.proofs.Words.{texts_of_message, PassedPairs}
-use Rattle.mime_text.proofs.Words.{Stopped, PassesPairs, IsOver, given_from, header_texts, ending, given_after_header}
-use Rattle.mime_text.proofs.Words.{given_after_delimiter}
-use Rattle.mime_text.proofs.Words.{ComesAt, Comes, ComesAfterHeader, ComesEndingAt, ComesEnding, KnowsAt, KnowsFacts}
-use Rattle.mime_text.proofs.Words.{NotesFacts}
+use Rattle.mime_text.proofs.Words.{◌≡◌, ◌∙◌, ◌++◌, ℕ, Bool, true, false, List, [], ◌∷◌, Option, Some, None, refl, sym, ap, subst, append_assoc, arith, if◌then◌else◌, Result, Ok, Err, OnOk, IfErr, is_empty, HeaderField, fields_of, HasLines, taken_of, has_empty, More, Ended, TextKind, SinkFault, TextFault, OutOfMemory, DefaultType, TextPlain, Frame, State, PartReader, Pair, ComingPairs, Gave, Broke, Hands, shape_of, facts_of, pairs_to_come, StreamPlace, Skip, InHeader, InLeaf, place_after_hit, Nest, lead_to, texts_of_message, PassedPairs, Stopped, PassesPairs, IsOver, given_from, header_texts, ending, given_after_header, given_after_delimiter, ComesAt, Comes, ComesAfterHeader, ComesEndingAt, ComesEnding, KnowsAt, KnowsFacts, NotesFacts}
 use Rattle.std.proofs.lemmas.List.{append-nil}
 use Rattle.std.specs.Result.{result_or}
 use Rattle.header_text.specs.declared.header.Header.{Header}
@@ -17,8 +7,7 @@ use Rattle.mime_text.specs.declared.header.facts.Facts.{Facts}
 use Rattle.mime_text.specs.declared.parts.part_reader.State.TheVariants as state
 use Rattle.mime_text.specs.declared.parts.nesting.Lead.{Lead}
 use Rattle.mime_text.specs.declared.parts.nesting.Lead.TheVariants.{Nowhere, Piece, Epilogue}
-use Rattle.mime_text.proofs.StepLemmas.{value-header, given-hit, given-leaf_line, given-more, given-ended, given-leaf}
-use Rattle.mime_text.proofs.StepLemmas.{empty_ends, fields-on, given-message}
+use Rattle.mime_text.proofs.StepLemmas.{value-header, given-hit, given-leaf_line, given-more, given-ended, given-leaf, empty_ends, fields-on, given-message}
 
 abbrev Line : Type 0
 Line = List ℕ

@@ -1,9 +1,6 @@
 -- Rows of transfer encodings, tags and the texts of leaves. The values on the right were found by reading the rules
 -- separately.
-use Rattle.mime_text.proofs.Words.{◌≡◌, true, false, [], ◌∷◌, refl, codes, is_empty, first_length, lines, without_break}
-use Rattle.mime_text.proofs.Words.{before_blanks, sextet, bytes_of_sextets, base64_bytes, charset_of, text_of, Utf8}
-use Rattle.mime_text.proofs.Words.{Latin1, printable_bytes, decoded_bytes, lines_without_tags, leaf_texts, Identity}
-use Rattle.mime_text.proofs.Words.{QuotedPrintable, Base64}
+use Rattle.mime_text.proofs.Words.{◌≡◌, true, false, [], ◌∷◌, refl, codes, is_empty, first_length, lines, without_break, before_blanks, sextet, bytes_of_sextets, base64_bytes, charset_of, text_of, Utf8, Latin1, printable_bytes, decoded_bytes, lines_without_tags, leaf_texts, Identity, QuotedPrintable, Base64}
 use Rattle.std.specs.Char.{encode_utf8}
 use Rattle.std.specs.Str.{chars}
 use Rattle.header_text.specs.Escapes.{unescaped_bytes}

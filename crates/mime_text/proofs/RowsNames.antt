@@ -1,9 +1,5 @@
 -- Rows of names. The values on the right were found by reading the rules separately.
-use Rattle.mime_text.proofs.Words.{◌≡◌, ℕ, zero, suc, List, [], ◌∷◌, ◌++◌, replicate, Option, None, Some, refl, codes}
-use Rattle.mime_text.proofs.Words.{is_empty, lines, first_length, without_break, before_blanks, fields_of}
-use Rattle.mime_text.proofs.Words.{unfolded_body}
-use Rattle.mime_text.proofs.Words.{piece_of, parameter, shape_of, shape_of_value, name_of, Part, Entity, Counted, Leaf}
-use Rattle.mime_text.proofs.Words.{is_delimiter, parts_of_message}
+use Rattle.mime_text.proofs.Words.{◌≡◌, ℕ, zero, suc, List, [], ◌∷◌, ◌++◌, replicate, Option, None, Some, refl, codes, is_empty, lines, first_length, without_break, before_blanks, fields_of, unfolded_body, piece_of, parameter, shape_of, shape_of_value, name_of, Part, Entity, Counted, Leaf, is_delimiter, parts_of_message}
 use Rattle.mime_text.proofs.RowTables.{Each}
 
 -- the names of the entities, in order, as written

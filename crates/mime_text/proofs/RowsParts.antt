@@ -1,8 +1,5 @@
 -- Rows of the tree of parts. The values on the right were found by reading the rules separately.
-use Rattle.mime_text.proofs.Words.{◌≡◌, ℕ, zero, suc, List, [], ◌∷◌, ◌++◌, length, refl, codes, map, is_empty, lines}
-use Rattle.mime_text.proofs.Words.{first_length, without_break, before_blanks, HeaderField, fields_of, unfolded_body}
-use Rattle.mime_text.proofs.Words.{piece_of, parameter, shape_of, shape_of_value, Part, Entity, Counted, Leaf}
-use Rattle.mime_text.proofs.Words.{is_delimiter, parts_of_message}
+use Rattle.mime_text.proofs.Words.{◌≡◌, ℕ, zero, suc, List, [], ◌∷◌, ◌++◌, length, refl, codes, map, is_empty, lines, first_length, without_break, before_blanks, HeaderField, fields_of, unfolded_body, piece_of, parameter, shape_of, shape_of_value, Part, Entity, Counted, Leaf, is_delimiter, parts_of_message}
 use Rattle.mime_text.proofs.RowTables.{Each}
 
 -- the bodies of the leaves

@@ -1,9 +1,5 @@
 -- Rows of types and parameters. The values on the right were found by reading the rules separately.
-use Rattle.mime_text.proofs.Words.{◌≡◌, ℕ, true, false, List, [], ◌∷◌, ◌++◌, refl, codes, is_empty, before_blanks}
-use Rattle.mime_text.proofs.Words.{HeaderField, fields_of, unfolded_body, charset_of, Utf8, Latin1, Unknown, Parameter}
-use Rattle.mime_text.proofs.Words.{piece_of, parameters, parameter, shape_of, shape_of_value, charset_in}
-use Rattle.mime_text.proofs.Words.{charset_of_value, transfer_in, transfer_named, TextPlain, MessageRfc822, Multipart}
-use Rattle.mime_text.proofs.Words.{Message, Text, Other, Identity, QuotedPrintable, Base64}
+use Rattle.mime_text.proofs.Words.{◌≡◌, ℕ, true, false, List, [], ◌∷◌, ◌++◌, refl, codes, is_empty, before_blanks, HeaderField, fields_of, unfolded_body, charset_of, Utf8, Latin1, Unknown, Parameter, piece_of, parameters, parameter, shape_of, shape_of_value, charset_in, charset_of_value, transfer_in, transfer_named, TextPlain, MessageRfc822, Multipart, Message, Text, Other, Identity, QuotedPrintable, Base64}
 use Rattle.mime_text.proofs.RowTables.{Each}
 
 abbrev typed : List ℕ → List HeaderField

@@ -1,14 +1,5 @@
 -- The place of a reader after one more line.
-use Rattle.mime_text.proofs.Words.{◌≡◌, ◌∙◌, ◌++◌, ℕ, zero, suc, Bool, true, false, ◌||◌, List, [], ◌∷◌, Option, Some}
-use Rattle.mime_text.proofs.Words.{None, refl, sym, ap, append_assoc, arith, flat_map, flat_map-append, is_empty, lines}
-use Rattle.mime_text.proofs.Words.{fields_of, before_blanks, unfolded_body, has_empty, base64_bytes, bytes_of_sextets}
-use Rattle.mime_text.proofs.Words.{Charset, DefaultType, TextPlain, Shape, Multipart, Message, Text, Other, Frame}
-use Rattle.mime_text.proofs.Words.{Identity, QuotedPrintable, Base64, Pair, ComingPairs, texts_of_fields, piece_of}
-use Rattle.mime_text.proofs.Words.{parameter, shape_of, charset_in, transfer_in, name_texts, leaf_texts, body_pairs}
-use Rattle.mime_text.proofs.Words.{body_lines, multipart_pieces, parts, parts_by, is_left, StreamPlace, InHeader}
-use Rattle.mime_text.proofs.Words.{InLeaf, place_after_hit}
-use Rattle.mime_text.proofs.Words.{counted_part, header_parts, value, after_header, inner_step, Nest, part_texts}
-use Rattle.mime_text.proofs.Words.{texts_of_message, given_from, counted_texts, header_texts, given_after_header}
+use Rattle.mime_text.proofs.Words.{◌≡◌, ◌∙◌, ◌++◌, ℕ, zero, suc, Bool, true, false, ◌||◌, List, [], ◌∷◌, Option, Some, None, refl, sym, ap, append_assoc, arith, flat_map, flat_map-append, is_empty, lines, fields_of, before_blanks, unfolded_body, has_empty, base64_bytes, bytes_of_sextets, Charset, DefaultType, TextPlain, Shape, Multipart, Message, Text, Other, Frame, Identity, QuotedPrintable, Base64, Pair, ComingPairs, texts_of_fields, piece_of, parameter, shape_of, charset_in, transfer_in, name_texts, leaf_texts, body_pairs, body_lines, multipart_pieces, parts, parts_by, is_left, StreamPlace, InHeader, InLeaf, place_after_hit, counted_part, header_parts, value, after_header, inner_step, Nest, part_texts, texts_of_message, given_from, counted_texts, header_texts, given_after_header}
 use Rattle.std.proofs.lemmas.List.{append-nil}
 use Rattle.mime_text.specs.declared.leaf.transfer.TransferEncoding.{TransferEncoding}
 use Rattle.mime_text.proofs.StreamLaws.{IsHeader, fields_of-ended, whole_given}

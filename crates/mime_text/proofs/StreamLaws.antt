@@ -1,13 +1,5 @@
 -- Reading one line at a time gives what the parts of the outermost split give: induction over the lines and the depths.
-use Rattle.mime_text.proofs.Words.{◌≡◌, ℕ, zero, suc, Bool, true, false, cond, List, [], ◌∷◌, ◌++◌, Option, Some, None}
-use Rattle.mime_text.proofs.Words.{refl, sym, ap, ◌∙◌, append_assoc, arith, flat_map, AllByRecursion, flat_map-append}
-use Rattle.mime_text.proofs.Words.{is_empty, HeaderField, lines_before_empty, fields_of, DefaultType, Shape, Multipart}
-use Rattle.mime_text.proofs.Words.{Message, Text, Other, Frame, Part, Entity, Counted, body_lines, is_closing}
-use Rattle.mime_text.proofs.Words.{is_delimiter, preamble_and_pieces, multipart_pieces, parts, parts_by, is_left}
-use Rattle.mime_text.proofs.Words.{StreamPlace}
-use Rattle.mime_text.proofs.Words.{Skip, InHeader, InLeaf, or_else, own_hit, place_after_hit, counted_part}
-use Rattle.mime_text.proofs.Words.{header_parts, value}
-use Rattle.mime_text.proofs.Words.{after_header, inner_step, step_by, values_given}
+use Rattle.mime_text.proofs.Words.{◌≡◌, ℕ, zero, suc, Bool, true, false, cond, List, [], ◌∷◌, ◌++◌, Option, Some, None, refl, sym, ap, ◌∙◌, append_assoc, arith, flat_map, AllByRecursion, flat_map-append, is_empty, HeaderField, lines_before_empty, fields_of, DefaultType, Shape, Multipart, Message, Text, Other, Frame, Part, Entity, Counted, body_lines, is_closing, is_delimiter, preamble_and_pieces, multipart_pieces, parts, parts_by, is_left, StreamPlace, Skip, InHeader, InLeaf, or_else, own_hit, place_after_hit, counted_part, header_parts, value, after_header, inner_step, step_by, values_given}
 use Rattle.std.proofs.lemmas.List.{append-nil}
 
 abbrev Line : Type 0

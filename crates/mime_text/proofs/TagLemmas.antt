@@ -1,10 +1,5 @@
 -- Tags line by line give what tags in the whole text give.
-use Rattle.mime_text.proofs.Words.{◌≡◌, ◌∙◌, ◌<◌, ◌==◌, ◌++◌, ℕ, Bool, true, false, List, [], ◌∷◌, map, reverse, refl}
-use Rattle.mime_text.proofs.Words.{ap, ap₂, arith, append_assoc, encode_utf8_all, IsUtf8, eqb-true, reverse-append}
-use Rattle.mime_text.proofs.Words.{encode_ascii, encodes-chars, Lacks, text_of, Charset, is_open, without_tags}
-use Rattle.mime_text.proofs.Words.{lines_without_tags, texts_of_lines, is_tag_open_after, is_tag_open_after_all}
-use Rattle.mime_text.proofs.Words.{blanked_tags}
-use Rattle.mime_text.proofs.Words.{texts_after}
+use Rattle.mime_text.proofs.Words.{◌≡◌, ◌∙◌, ◌<◌, ◌==◌, ◌++◌, ℕ, Bool, true, false, List, [], ◌∷◌, map, reverse, refl, ap, ap₂, arith, append_assoc, encode_utf8_all, IsUtf8, eqb-true, reverse-append, encode_ascii, encodes-chars, Lacks, text_of, Charset, is_open, without_tags, lines_without_tags, texts_of_lines, is_tag_open_after, is_tag_open_after_all, blanked_tags, texts_after}
 use Rattle.std.specs.Char.{encode_utf8}
 use Rattle.std.specs.Str.{chars}
 

@@ -1,13 +1,5 @@
 -- The loop that blanks the tags of a text, one span at a time.
-use Rattle.mime_text.proofs.Words.{◌≡◌, ℕ, zero, suc, ◌+◌, ◌≤◌, ◌<◌, Bool, true, false, List, [], ◌∷◌, ◌++◌, length}
-use Rattle.mime_text.proofs.Words.{drop, get_or, replicate, chars, encode_utf8, encode_utf8_all, IsUtf8, refl, sym, ap}
-use Rattle.mime_text.proofs.Words.{ap₂, ◌∙◌, subst, arith, length-append, append_assoc, not, ◌≢◌, ◌==◌, option_map}
-use Rattle.mime_text.proofs.Words.{Option, eqb-true, false_from_ne_true, IsAscii, take_at, drop_at, get_or_at}
-use Rattle.mime_text.proofs.Words.{length_push, length-replicate, replicate-append-replicate, IsUtf8-take, IsUtf8-drop}
-use Rattle.mime_text.proofs.Words.{IsUtf8-from_ascii, IsCharBoundary-before_ascii, IsCharBoundary-after_ascii}
-use Rattle.mime_text.proofs.Words.{chars-append, chars-IsAscii, encode_ascii, encodes-append, encodes-chars}
-use Rattle.mime_text.proofs.Words.{length-le-encodes, cut_at, Lacks, IsCut, cut_at-none, cut_at-is, is_tag_open_after}
-use Rattle.mime_text.proofs.Words.{is_tag_open_after_all, blanked_tags, span_end, shown_span}
+use Rattle.mime_text.proofs.Words.{◌≡◌, ℕ, zero, suc, ◌+◌, ◌≤◌, ◌<◌, Bool, true, false, List, [], ◌∷◌, ◌++◌, length, drop, get_or, replicate, chars, encode_utf8, encode_utf8_all, IsUtf8, refl, sym, ap, ap₂, ◌∙◌, subst, arith, length-append, append_assoc, not, ◌≢◌, ◌==◌, option_map, Option, eqb-true, false_from_ne_true, IsAscii, take_at, drop_at, get_or_at, length_push, length-replicate, replicate-append-replicate, IsUtf8-take, IsUtf8-drop, IsUtf8-from_ascii, IsCharBoundary-before_ascii, IsCharBoundary-after_ascii, chars-append, chars-IsAscii, encode_ascii, encodes-append, encodes-chars, length-le-encodes, cut_at, Lacks, IsCut, cut_at-none, cut_at-is, is_tag_open_after, is_tag_open_after_all, blanked_tags, span_end, shown_span}
 use denote.Ref.{Bor}
 use Rattle.std.proofs.lemmas.Str.Ascii.{IsAscii-nil, IsAscii-cons}
 use Rattle.std.proofs.lemmas.Str.Pattern.{IsSplitOnceResult, split_parts}

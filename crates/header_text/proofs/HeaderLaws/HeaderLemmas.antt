@@ -1,11 +1,5 @@
 -- The fields of lines with one more line.
-use Rattle.header_text.proofs.Words.{get_or, take, drop, take_rest, eq-eqb, ◌-◌, ◌≡◌, ◌∙◌, ◌+◌, ◌≤◌, ◌<◌, ◌++◌, ℕ, Bool}
-use Rattle.header_text.proofs.Words.{true, false, List, [], ◌∷◌, Option, Some, None, length, refl, sym, ap, arith}
-use Rattle.header_text.proofs.Words.{length-append, append_assoc, append-nil, is_some, HeaderField, is_continuation}
-use Rattle.header_text.proofs.Words.{field_of_line, with_continuations, continued_and_fields, fields_in, fields_size}
-use Rattle.header_text.proofs.Words.{field_of_name, is_field_name_byte, split_while, after_blanks, onto_last}
-use Rattle.header_text.proofs.Words.{is_field_open_after}
-use Rattle.header_text.proofs.Words.{is_field_open_after_lines, fields_with}
+use Rattle.header_text.proofs.Words.{get_or, take, drop, take_rest, eq-eqb, ◌-◌, ◌≡◌, ◌∙◌, ◌+◌, ◌≤◌, ◌<◌, ◌++◌, ℕ, Bool, true, false, List, [], ◌∷◌, Option, Some, None, length, refl, sym, ap, arith, length-append, append_assoc, append-nil, is_some, HeaderField, is_continuation, field_of_line, with_continuations, continued_and_fields, fields_in, fields_size, field_of_name, is_field_name_byte, split_while, after_blanks, onto_last, is_field_open_after, is_field_open_after_lines, fields_with}
 use Rattle.std.specs.Option.{option_to_list}
 use Rattle.header_text.proofs.Fronts.{split_while-joined}
 

@@ -1,9 +1,5 @@
 -- Reading text after text, each up to a `>`, gives the ids of a value.
-use Rattle.header_text.proofs.Words.{◌≡◌, ◌∙◌, ◌+◌, ◌<◌, ◌≤◌, ◌++◌, ◌==◌, ℕ, zero, suc, Bool, true, false, nat_lt, List}
-use Rattle.header_text.proofs.Words.{[], ◌∷◌, Option, Some, None, length, drop, get_or, slice_index, map, refl, sym, ap}
-use Rattle.header_text.proofs.Words.{subst, arith, filter, IfSome, Vec, filter_map, length-map, get_or-map, ltb-true}
-use Rattle.header_text.proofs.Words.{is_id_byte, ids_of, ids_size, onto_first, closed_texts, after_last_open}
-use Rattle.header_text.proofs.Words.{ids_of_texts}
+use Rattle.header_text.proofs.Words.{◌≡◌, ◌∙◌, ◌+◌, ◌<◌, ◌≤◌, ◌++◌, ◌==◌, ℕ, zero, suc, Bool, true, false, nat_lt, List, [], ◌∷◌, Option, Some, None, length, drop, get_or, slice_index, map, refl, sym, ap, subst, arith, filter, IfSome, Vec, filter_map, length-map, get_or-map, ltb-true, is_id_byte, ids_of, ids_size, onto_first, closed_texts, after_last_open, ids_of_texts}
 use Rattle.std.specs.Global.{Global}
 use Rattle.std.specs.Prelude.{All}
 use Rattle.header_text.proofs.HeaderLaws.IdRanges.{ids_of-closed}

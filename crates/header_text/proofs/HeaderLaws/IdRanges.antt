@@ -1,10 +1,5 @@
 -- The ids found by their ranges are those of the texts up to each `>`.
-use Rattle.header_text.proofs.Words.{◌≡◌, ◌∙◌, ◌++◌, ◌&&◌, ◌==◌, ℕ, Bool, true, false, cond, List, [], ◌∷◌, Option}
-use Rattle.header_text.proofs.Words.{Some, None, refl, sym, ap, ap₂, append_assoc, append-nil, inl, inr, ◌⊎◌, nat_lt}
-use Rattle.header_text.proofs.Words.{arith, list_all, map-append, filter-append, filter_map-append, eqb-true, open_sign}
-use Rattle.header_text.proofs.Words.{close_sign, begins_with_byte, is_inside_id, is_id_range, kept_ids, ids_of}
-use Rattle.header_text.proofs.Words.{closed_texts}
-use Rattle.header_text.proofs.Words.{after_last_open, ids_of_texts}
+use Rattle.header_text.proofs.Words.{◌≡◌, ◌∙◌, ◌++◌, ◌&&◌, ◌==◌, ℕ, Bool, true, false, cond, List, [], ◌∷◌, Option, Some, None, refl, sym, ap, ap₂, append_assoc, append-nil, inl, inr, ◌⊎◌, nat_lt, arith, list_all, map-append, filter-append, filter_map-append, eqb-true, open_sign, close_sign, begins_with_byte, is_inside_id, is_id_range, kept_ids, ids_of, closed_texts, after_last_open, ids_of_texts}
 use Rattle.std.proofs.lemmas.List.Folds.{list_all-append}
 use Rattle.contract_words.proofs.RangePlaces.{seen_on, seen_from, if_passes, seen_after-places}
 use Rattle.header_text.proofs.CutLemmas.{Lacks}

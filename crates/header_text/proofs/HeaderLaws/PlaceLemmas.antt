@@ -1,8 +1,5 @@
 -- The fields at places stay the fields of a list as bytes and places are added.
-use Rattle.header_text.proofs.Words.{◌≡◌, ◌∙◌, ◌+◌, ◌-◌, ◌<◌, ◌≤◌, ◌++◌, ℕ, List, [], ◌∷◌, length, take, drop, refl}
-use Rattle.header_text.proofs.Words.{sym, ap, ap₂, arith, length-append, append_assoc, slice_range, take-append-le}
-use Rattle.header_text.proofs.Words.{drop-append-le, take_all, take_at, drop_at, length-take-le, FieldPlace}
-use Rattle.header_text.proofs.Words.{HeaderField, fields_size, most_in_header, onto_last}
+use Rattle.header_text.proofs.Words.{◌≡◌, ◌∙◌, ◌+◌, ◌-◌, ◌<◌, ◌≤◌, ◌++◌, ℕ, List, [], ◌∷◌, length, take, drop, refl, sym, ap, ap₂, arith, length-append, append_assoc, slice_range, take-append-le, drop-append-le, take_all, take_at, drop_at, length-take-le, FieldPlace, HeaderField, fields_size, most_in_header, onto_last}
 use Rattle.std.proofs.lemmas.List.{length-drop}
 use Rattle.header_text.specs.Inside.Places.{next_start, ArePlacesInOrder, AreKept, fields_at}
 

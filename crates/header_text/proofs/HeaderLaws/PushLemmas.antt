@@ -1,10 +1,5 @@
 -- The state of a Header after one more line, for each stage before the line.
-use Rattle.header_text.proofs.Words.{◌≡◌, ◌∙◌, ◌+◌, ◌-◌, ◌≤◌, ◌<◌, ◌++◌, ◌||◌, ◌⊎◌, inl, inr, ℕ, Bool, true, false}
-use Rattle.header_text.proofs.Words.{nat_le, nat_lt, List, [], ◌∷◌, length, refl, sym, ap, ap₂, arith, length-append}
-use Rattle.header_text.proofs.Words.{cases_lt, nat_tests, is_empty, HeaderField, most_in_header, lines_before_empty}
-use Rattle.header_text.proofs.Words.{lines_within, header, fields_in, fields_of, is_field_open_after}
-use Rattle.header_text.proofs.Words.{is_field_open_after_lines}
-use Rattle.header_text.proofs.Words.{fields_with, has_empty, lines_size, stage_of, stage_after, Open, Full, Ended}
+use Rattle.header_text.proofs.Words.{◌≡◌, ◌∙◌, ◌+◌, ◌-◌, ◌≤◌, ◌<◌, ◌++◌, ◌||◌, ◌⊎◌, inl, inr, ℕ, Bool, true, false, nat_le, nat_lt, List, [], ◌∷◌, length, refl, sym, ap, ap₂, arith, length-append, cases_lt, nat_tests, is_empty, HeaderField, most_in_header, lines_before_empty, lines_within, header, fields_in, fields_of, is_field_open_after, is_field_open_after_lines, fields_with, has_empty, lines_size, stage_of, stage_after, Open, Full, Ended}
 use Rattle.header_text.specs.HeldLines.{Holds, taken_of}
 use Rattle.header_text.specs.declared.header.Stage.{Stage}
 use Rattle.header_text.specs.declared.header.Taken.TheVariants.{More, Ended as HeaderEnded}

@@ -1,9 +1,5 @@
 -- Unfolding part by part gives the unfolded body.
-use Rattle.header_text.proofs.Words.{suc, Some, ◌≡◌, ◌+◌, ◌-◌, Bor, Option, MatchOption, unwrap_or, bytes_eq, ◌∙◌, ◌++◌}
-use Rattle.header_text.proofs.Words.{◌&&◌, ℕ, Bool, true, false, nat_lt, List, [], ◌∷◌, None, length, take, drop, refl}
-use Rattle.header_text.proofs.Words.{sym, ap, ap₂, arith, length-append, append_assoc, append-nil, nat_tests, lt-ltb}
-use Rattle.header_text.proofs.Words.{take_at, drop_at, after_blanks, before_blanks, without_breaks, unfolded_body}
-use Rattle.header_text.proofs.Words.{without_final_cr, added_part, cut_at}
+use Rattle.header_text.proofs.Words.{suc, Some, ◌≡◌, ◌+◌, ◌-◌, Bor, Option, MatchOption, unwrap_or, bytes_eq, ◌∙◌, ◌++◌, ◌&&◌, ℕ, Bool, true, false, nat_lt, List, [], ◌∷◌, None, length, take, drop, refl, sym, ap, ap₂, arith, length-append, append_assoc, append-nil, nat_tests, lt-ltb, take_at, drop_at, after_blanks, before_blanks, without_breaks, unfolded_body, without_final_cr, added_part, cut_at}
 use Rattle.header_text.proofs.CutLemmas.{Lacks, IsCut, Lacks-from}
 
 -- ---- a CR at the end

@@ -1,6 +1,5 @@
 -- An unfolded body is no longer than the body, because bytes are only dropped.
-use Rattle.header_text.proofs.Words.{◌≤◌, ◌==◌, ℕ, suc, Bool, true, false, List, [], ◌∷◌, length, ap, arith}
-use Rattle.header_text.proofs.Words.{length-append, after_blanks, before_blanks, without_breaks, unfolded_body}
+use Rattle.header_text.proofs.Words.{◌≤◌, ◌==◌, ℕ, suc, Bool, true, false, List, [], ◌∷◌, length, ap, arith, length-append, after_blanks, before_blanks, without_breaks, unfolded_body}
 use Rattle.header_text.proofs.Fronts.{after_blanks-joined, before_blanks-joined}
 
 -- a byte before others, which is dropped or kept

@@ -1,10 +1,5 @@
 -- The text of bytes in a charset in which each byte is a character.
-use Rattle.header_text.proofs.Words.{◌≡◌, ◌∙◌, ◌<◌, ◌≤◌, ◌+◌, ◌++◌, ℕ, suc, true, nat_lt, List, [], ◌∷◌, map, length}
-use Rattle.header_text.proofs.Words.{slice_index, take, drop, refl, sym, ap, ap₂, subst, arith, encode_utf8_all}
-use Rattle.header_text.proofs.Words.{append_assoc, encode_utf8, IsAscii, ne_eqb, cases_lt, lt-ltb, nat_tests}
-use Rattle.header_text.proofs.Words.{map-append, take-append-drop, drop_more, get_or-take, take_all, encodes-append}
-use Rattle.header_text.proofs.Words.{encodes-IsAscii, IsUtf8-from_ascii, length-encode, lossy_chars, lossy_chars-utf8}
-use Rattle.header_text.proofs.Words.{character, text_of, Charset, Utf8, Latin1, Latin9, Windows1252, Unknown}
+use Rattle.header_text.proofs.Words.{◌≡◌, ◌∙◌, ◌<◌, ◌≤◌, ◌+◌, ◌++◌, ℕ, suc, true, nat_lt, List, [], ◌∷◌, map, length, slice_index, take, drop, refl, sym, ap, ap₂, subst, arith, encode_utf8_all, append_assoc, encode_utf8, IsAscii, ne_eqb, cases_lt, lt-ltb, nat_tests, map-append, take-append-drop, drop_more, get_or-take, take_all, encodes-append, encodes-IsAscii, IsUtf8-from_ascii, length-encode, lossy_chars, lossy_chars-utf8, character, text_of, Charset, Utf8, Latin1, Latin9, Windows1252, Unknown}
 use Rattle.std.proofs.lemmas.List.{length-take}
 use Rattle.std.proofs.lemmas.Str.Ascii.{IsAscii-from_reads}
 

@@ -1,9 +1,6 @@
 -- The charset of a label, found in a table, and the size of a character.
 use Rattle.header_text.proofs.CutLemmas.{split_while-cut, split_while-free}
-use Rattle.header_text.proofs.Words.{◌≡◌, ◌∙◌, Option, Some, None, Bor, sym, option_map, unwrap_or, plain_label, cut_at}
-use Rattle.header_text.proofs.Words.{◌<◌, ℕ, zero, suc, true, nat_lt, List, [], ◌∷◌, get_or, ap, arith, list_all}
-use Rattle.header_text.proofs.Words.{and_parts, ltb-true, charset_named, charset_of, is_named, Bool, refl, length, drop}
-use Rattle.header_text.proofs.Words.{add-one, if◌then◌else◌, ◌+◌, Charset, Utf8, Latin1, Latin9, Windows1252, Unknown}
+use Rattle.header_text.proofs.Words.{◌≡◌, ◌∙◌, Option, Some, None, Bor, sym, option_map, unwrap_or, plain_label, cut_at, ◌<◌, ℕ, zero, suc, true, nat_lt, List, [], ◌∷◌, get_or, ap, arith, list_all, and_parts, ltb-true, charset_named, charset_of, is_named, Bool, refl, length, drop, add-one, if◌then◌else◌, ◌+◌, Charset, Utf8, Latin1, Latin9, Windows1252, Unknown}
 use Rattle.std.specs.Prelude.{slice_index_or}
 use Rattle.std.specs.List.{list_any}
 

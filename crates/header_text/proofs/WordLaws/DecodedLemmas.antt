@@ -1,8 +1,5 @@
 -- The text of a value, word by word.
-use Rattle.header_text.proofs.Words.{◌≡◌, ◌++◌, ℕ, Bool, true, false, List, refl, append_assoc, arith, if◌then◌else◌}
-use Rattle.header_text.proofs.Words.{WordAfter, Pieces, value_pieces, word_text, plain_text, text_between}
-use Rattle.header_text.proofs.Words.{later_words_text}
-use Rattle.header_text.proofs.Words.{words_text, decoded_value, word_first}
+use Rattle.header_text.proofs.Words.{◌≡◌, ◌++◌, ℕ, Bool, true, false, List, refl, append_assoc, arith, if◌then◌else◌, WordAfter, Pieces, value_pieces, word_text, plain_text, text_between, later_words_text, words_text, decoded_value, word_first}
 
 -- the text of words, which follow a word or are at the front
 abbrev pub words_after : Bool → List WordAfter → List ℕ

@@ -1,7 +1,5 @@
 -- Decoding escapes part by part gives the whole text decoded.
-use Rattle.header_text.proofs.Words.{◌≡◌, ◌∙◌, ◌==◌, ◌≤◌, ◌++◌, ℕ, false, List, [], ◌∷◌, Option, Some, None, length}
-use Rattle.header_text.proofs.Words.{refl, sym, ap, arith, append_assoc, append-nil, if◌then◌else◌, escaped_byte}
-use Rattle.header_text.proofs.Words.{unescaped_by, unescaped_bytes, q_bytes, after_equals}
+use Rattle.header_text.proofs.Words.{◌≡◌, ◌∙◌, ◌==◌, ◌≤◌, ◌++◌, ℕ, false, List, [], ◌∷◌, Option, Some, None, length, refl, sym, ap, arith, append_assoc, append-nil, if◌then◌else◌, escaped_byte, unescaped_by, unescaped_bytes, q_bytes, after_equals}
 use Rattle.header_text.proofs.CutLemmas.{Lacks, IsCut}
 
 module _ (other : ℕ → ℕ) where

@@ -1,18 +1,8 @@
 -- The decoder reads whole groups of base64 as the definition does.
-use Rattle.header_text.proofs.Words.{◌≡◌, ◌∙◌, ◌==◌, ◌&&◌, ◌<◌, ◌≤◌, ◌+◌, ◌-◌, ◌*◌, ◌/◌, ◌%◌, ◌++◌, ℕ, zero, suc, Bool}
-use Rattle.header_text.proofs.Words.{true, false, ◌⊎◌, inl, inr, nat_lt, List, [], ◌∷◌, Option, Some, None, length}
-use Rattle.header_text.proofs.Words.{slice_index, slice_set, take, drop, map, refl, sym, ap, subst, arith}
-use Rattle.header_text.proofs.Words.{length-append, append_assoc, append-nil, if◌then◌else◌, not, Ok, Result, OnOk}
-use Rattle.header_text.proofs.Words.{is_none, filter_map, and_parts, eqb-true, ne_eqb, not-true, cases_lt, cases_eq}
-use Rattle.header_text.proofs.Words.{filter_map-append, drop_more, drop_all, map-append, length-map, length-take-le}
-use Rattle.header_text.proofs.Words.{take-append-drop, take_at, take_all, take_more_set, length-set, get_or-set_same}
-use Rattle.header_text.proofs.Words.{get_or-set_other, get_or-take, nat_tests, sextet, bytes_of_sextets}
-use Rattle.header_text.proofs.Words.{bytes_of_symbols, is_symbol}
+use Rattle.header_text.proofs.Words.{◌≡◌, ◌∙◌, ◌==◌, ◌&&◌, ◌<◌, ◌≤◌, ◌+◌, ◌-◌, ◌*◌, ◌/◌, ◌%◌, ◌++◌, ℕ, zero, suc, Bool, true, false, ◌⊎◌, inl, inr, nat_lt, List, [], ◌∷◌, Option, Some, None, length, slice_index, slice_set, take, drop, map, refl, sym, ap, subst, arith, length-append, append_assoc, append-nil, if◌then◌else◌, not, Ok, Result, OnOk, is_none, filter_map, and_parts, eqb-true, ne_eqb, not-true, cases_lt, cases_eq, filter_map-append, drop_more, drop_all, map-append, length-map, length-take-le, take-append-drop, take_at, take_all, take_more_set, length-set, get_or-set_same, get_or-set_other, get_or-take, nat_tests, sextet, bytes_of_sextets, bytes_of_symbols, is_symbol}
 use Rattle.base64.specs.Engines.{standard}
 use Rattle.base64.specs.GeneralPurpose.{decode_slice_of, decoded_bytes_of}
-use Rattle.base64.specs.Decode.{IsWrittenOver, push_leftover, no_leftover, scan, scan_last, suffix_error, suffix_bytes}
-use Rattle.base64.specs.Decode.{decode_group, groups_error, groups_bytes, group_error, group_bytes, groups_before_last}
-use Rattle.base64.specs.Decode.{symbol_error}
+use Rattle.base64.specs.Decode.{IsWrittenOver, push_leftover, no_leftover, scan, scan_last, suffix_error, suffix_bytes, decode_group, groups_error, groups_bytes, group_error, group_bytes, groups_before_last, symbol_error}
 use Rattle.base64.specs.declared.decode.DecodeSliceError.{DecodeSliceError}
 use Rattle.base64.specs.declared.engine.DecodePaddingMode.TheVariants.{RequireCanonical}
 use Rattle.base64.proofs.Decoding.{length-groups_bytes, scan-cons_ok, scan-nil, suffix_error_of, suffix_bytes_of}

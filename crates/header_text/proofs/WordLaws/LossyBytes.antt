@@ -1,7 +1,5 @@
 -- A lossy text has at most three bytes for each byte.
-use Rattle.header_text.proofs.Words.{◌≡◌, ◌≤◌, ◌*◌, ℕ, zero, suc, List, [], ◌∷◌, Option, Some, None, map, drop, length}
-use Rattle.header_text.proofs.Words.{refl, encode_utf8_all, arith, length-drop, length-append, encode_utf8}
-use Rattle.header_text.proofs.Words.{or_replacement, pieces_from, lossy_chars}
+use Rattle.header_text.proofs.Words.{◌≡◌, ◌≤◌, ◌*◌, ℕ, zero, suc, List, [], ◌∷◌, Option, Some, None, map, drop, length, refl, encode_utf8_all, arith, length-drop, length-append, encode_utf8, or_replacement, pieces_from, lossy_chars}
 use Rattle.bstr.specs.Utf8.{decoded}
 use Rattle.bstr.proofs.lemmas.PieceLemmas.{piece-bounds}
 use Rattle.bstr.proofs.lemmas.SoundLemmas.{SpellsChar-decoded}

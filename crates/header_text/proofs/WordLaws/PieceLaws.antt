@@ -1,16 +1,7 @@
 -- The pieces of a value are its leftmost encoded words, and no other words are.
-use Rattle.header_text.proofs.Words.{◌≡◌, ◌∙◌, ◌==◌, ◌&&◌, ◌||◌, ◌≤◌, ◌++◌, ℕ, zero, suc, Bool, true, false, nat_lt}
-use Rattle.header_text.proofs.Words.{nat_le, List, [], ◌∷◌, Option, Some, None, length, refl, sym, ap, subst, arith}
-use Rattle.header_text.proofs.Words.{length-append, append-nil, not, option_map, unwrap_or, list_all, eqb-true}
-use Rattle.header_text.proofs.Words.{and_parts, not-true, ne_eqb, EncodedWord, spelling_of, is_charset_byte}
-use Rattle.header_text.proofs.Words.{is_text_byte}
-use Rattle.header_text.proofs.Words.{is_q, is_b, is_well_formed, question, equals_sign, word_and_later, word_at}
-use Rattle.header_text.proofs.Words.{WordAfter, Pieces, value_pieces, BeginsWord, NoneBegins, AreLeftmost, no_word}
-use Rattle.header_text.proofs.Words.{word_first}
+use Rattle.header_text.proofs.Words.{◌≡◌, ◌∙◌, ◌==◌, ◌&&◌, ◌||◌, ◌≤◌, ◌++◌, ℕ, zero, suc, Bool, true, false, nat_lt, nat_le, List, [], ◌∷◌, Option, Some, None, length, refl, sym, ap, subst, arith, length-append, append-nil, not, option_map, unwrap_or, list_all, eqb-true, and_parts, not-true, ne_eqb, EncodedWord, spelling_of, is_charset_byte, is_text_byte, is_q, is_b, is_well_formed, question, equals_sign, word_and_later, word_at, WordAfter, Pieces, value_pieces, BeginsWord, NoneBegins, AreLeftmost, no_word, word_first}
 use Rattle.header_text.proofs.CutLemmas.{Lacks, cut_at-is}
-use Rattle.header_text.proofs.WordLaws.WordLemmas.{spells, spelled-append, chain, with_charset, with_encoding}
-use Rattle.header_text.proofs.WordLaws.WordLemmas.{with_text, with_front, in_front, pieces-none, pieces-some}
-use Rattle.header_text.proofs.WordLaws.WordLemmas.{word_at-equals, word_at-other, in_front-append}
+use Rattle.header_text.proofs.WordLaws.WordLemmas.{spells, spelled-append, chain, with_charset, with_encoding, with_text, with_front, in_front, pieces-none, pieces-some, word_at-equals, word_at-other, in_front-append}
 
 -- ---- a word that begins is found
 

@@ -1,9 +1,5 @@
 -- Reading base64 piece by piece gives the bytes of the whole text.
-use Rattle.header_text.proofs.Words.{◌≡◌, ◌∙◌, ◌==◌, ◌<◌, ◌≤◌, ◌+◌, ◌-◌, ◌++◌, ℕ, zero, suc, Bool, true, false, List}
-use Rattle.header_text.proofs.Words.{[], ◌∷◌, Some, None, length, slice_index, take, drop, refl, sym, ap, ap₂, arith}
-use Rattle.header_text.proofs.Words.{length-append, append_assoc, append-nil, not, if◌then◌else◌, get_or-take}
-use Rattle.header_text.proofs.Words.{split_while, cut_at, sextet, bytes_of_sextets, bytes_of_symbols, base64_bytes}
-use Rattle.header_text.proofs.Words.{is_symbol, filter_map}
+use Rattle.header_text.proofs.Words.{◌≡◌, ◌∙◌, ◌==◌, ◌<◌, ◌≤◌, ◌+◌, ◌-◌, ◌++◌, ℕ, zero, suc, Bool, true, false, List, [], ◌∷◌, Some, None, length, slice_index, take, drop, refl, sym, ap, ap₂, arith, length-append, append_assoc, append-nil, not, if◌then◌else◌, get_or-take, split_while, cut_at, sextet, bytes_of_sextets, bytes_of_symbols, base64_bytes, is_symbol, filter_map}
 use Rattle.std.proofs.lemmas.List.{length-take}
 use Rattle.header_text.proofs.CutLemmas.{Lacks, IsCut-from, Lacks-from, split_while-lacks}
 use Rattle.header_text.proofs.Fronts.{split_while-joined}

@@ -1,10 +1,5 @@
 -- Searching for encoded words one after another gives the pieces of a value.
-use Rattle.header_text.proofs.Words.{◌≡◌, ◌∙◌, ◌==◌, ◌<◌, ◌+◌, ◌-◌, ◌++◌, ℕ, zero, suc, true, false, List, [], ◌∷◌}
-use Rattle.header_text.proofs.Words.{Option, Some, None, length, take, drop, refl, sym, ap, ap₂, arith, length-append}
-use Rattle.header_text.proofs.Words.{append_assoc, append-nil, option_map, take_at, cut_at, EncodedWord, spelling_of}
-use Rattle.header_text.proofs.Words.{is_well_formed, question, equals_sign, after, word_of, ◌>>=◌, word_and_later}
-use Rattle.header_text.proofs.Words.{word_at, WordAfter, Pieces, onto_front, pieces_after, value_pieces, no_word}
-use Rattle.header_text.proofs.Words.{word_first}
+use Rattle.header_text.proofs.Words.{◌≡◌, ◌∙◌, ◌==◌, ◌<◌, ◌+◌, ◌-◌, ◌++◌, ℕ, zero, suc, true, false, List, [], ◌∷◌, Option, Some, None, length, take, drop, refl, sym, ap, ap₂, arith, length-append, append_assoc, append-nil, option_map, take_at, cut_at, EncodedWord, spelling_of, is_well_formed, question, equals_sign, after, word_of, ◌>>=◌, word_and_later, word_at, WordAfter, Pieces, onto_front, pieces_after, value_pieces, no_word, word_first}
 use Rattle.header_text.proofs.CutLemmas.{Lacks, IsCut-from, Lacks-from}
 
 -- ---- the bytes of a word

@@ -1,7 +1,5 @@
 -- Worked examples of encoded words and charsets. The values on the right come from a separate reading of the rules.
-use Rattle.header_text.proofs.Words.{ℕ, List, [], ◌∷◌, refl, codes, encode_utf8, pieces_from, q_bytes, sextet}
-use Rattle.header_text.proofs.Words.{bytes_of_sextets, base64_bytes, charset_of, text_of, word_and_later, word_at}
-use Rattle.header_text.proofs.Words.{decoded_value, Charset, Utf8, Latin1, Latin9, Windows1252, Unknown}
+use Rattle.header_text.proofs.Words.{ℕ, List, [], ◌∷◌, refl, codes, encode_utf8, pieces_from, q_bytes, sextet, bytes_of_sextets, base64_bytes, charset_of, text_of, word_and_later, word_at, decoded_value, Charset, Utf8, Latin1, Latin9, Windows1252, Unknown}
 use Rattle.header_text.proofs.Rows.{Each}
 
 rows : Each decoded_value ((codes "=?utf-8*en?q?a_b?=", codes "a b")

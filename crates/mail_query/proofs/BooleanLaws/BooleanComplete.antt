@@ -1,19 +1,5 @@
 -- The reader returns each query that the grammar gives, by its steps over the tokens of a tree.
-use Rattle.mail_query.proofs.Words.{◌≡◌, ℕ, suc, ◌+◌, ◌<◌, Bool, true, false, not, cond, ltb, ltb-true, List, [], ◌∷◌}
-use Rattle.mail_query.proofs.Words.{◌++◌, length, map, Option, None, Some, Result, Ok, Err, refl, sym, ap, ◌∙◌}
-use Rattle.mail_query.proofs.Words.{append_assoc, append-nil, add-one, arith, ◌&&◌, is_ok, option_and_then, not-true}
-use Rattle.mail_query.proofs.Words.{◌>>=◌, fault_as, Field, Fields, QueryFault, QueryFaultKind, Phrase, Lexicon, Query}
-use Rattle.mail_query.proofs.Words.{Not, all_of, either_of, Token, Close, AndSign, OrSign, TermParts, parts_of}
-use Rattle.mail_query.proofs.Words.{no_fields}
-use Rattle.mail_query.proofs.Words.{has_field, is_phrase, parts_query, cut_query, Link, Beside, ByAnd, ByOr, Item}
-use Rattle.mail_query.proofs.Words.{NotOf, Group, Leaf, Chain, Last, Then, link_tokens, item_tokens, chain_tokens}
-use Rattle.mail_query.proofs.Words.{into_first, query_or_any, term_prefix, plain_prefix, item_query, chain_queries}
-use Rattle.mail_query.proofs.Words.{tree_query, is_fine_item, is_fine_chain, Reads, Level, Waiting, ForNot, ForClose}
-use Rattle.mail_query.proofs.Words.{State, start, empty_level, with_member, level_with_prefix, run_ended, each_ended}
-use Rattle.mail_query.proofs.Words.{level_query}
-use Rattle.mail_query.proofs.Words.{is_negated, state_after_operand, query_at_end, cut_term_step, parts_step, term_step}
-use Rattle.mail_query.proofs.Words.{step, run_from}
-use Rattle.mail_query.proofs.Words.{tokens_query}
+use Rattle.mail_query.proofs.Words.{◌≡◌, ℕ, suc, ◌+◌, ◌<◌, Bool, true, false, not, cond, ltb, ltb-true, List, [], ◌∷◌, ◌++◌, length, map, Option, None, Some, Result, Ok, Err, refl, sym, ap, ◌∙◌, append_assoc, append-nil, add-one, arith, ◌&&◌, is_ok, option_and_then, not-true, ◌>>=◌, fault_as, Field, Fields, QueryFault, QueryFaultKind, Phrase, Lexicon, Query, Not, all_of, either_of, Token, Close, AndSign, OrSign, TermParts, parts_of, no_fields, has_field, is_phrase, parts_query, cut_query, Link, Beside, ByAnd, ByOr, Item, NotOf, Group, Leaf, Chain, Last, Then, link_tokens, item_tokens, chain_tokens, into_first, query_or_any, term_prefix, plain_prefix, item_query, chain_queries, tree_query, is_fine_item, is_fine_chain, Reads, Level, Waiting, ForNot, ForClose, State, start, empty_level, with_member, level_with_prefix, run_ended, each_ended, level_query, is_negated, state_after_operand, query_at_end, cut_term_step, parts_step, term_step, step, run_from, tokens_query}
 use Rattle.mail_query.specs.BooleanTerms.{boolean_term_query}
 use Rattle.mail_query.proofs.BooleanLaws.StackLemmas.{placed-settled, deeper-room}
 

@@ -1,10 +1,5 @@
 -- The queries of the boolean language have at most 63 levels, because at most 30 `(` and `not` are open.
-use Rattle.mail_query.proofs.Words.{◌≡◌, ℕ, suc, ◌+◌, ◌*◌, ◌-◌, ◌<◌, ◌≤◌, Bool, true, cond, ltb, ltb-true, List, []}
-use Rattle.mail_query.proofs.Words.{◌∷◌, map, Option, Result, Err, subst, arith, Fields, QueryFaultKind, Phrase, Query}
-use Rattle.mail_query.proofs.Words.{depth, all_of, either_of, Lexicon, Token, TermParts, parts_of, no_fields, is_phrase}
-use Rattle.mail_query.proofs.Words.{cut_query, Link, Beside, ByAnd, ByOr, Item, NotOf, Group, Leaf, Chain, Last, Then}
-use Rattle.mail_query.proofs.Words.{with_link, query_or_any, seen_after, item_query, chain_queries, is_fine_item}
-use Rattle.mail_query.proofs.Words.{is_fine_chain, Reads}
+use Rattle.mail_query.proofs.Words.{◌≡◌, ℕ, suc, ◌+◌, ◌*◌, ◌-◌, ◌<◌, ◌≤◌, Bool, true, cond, ltb, ltb-true, List, [], ◌∷◌, map, Option, Result, Err, subst, arith, Fields, QueryFaultKind, Phrase, Query, depth, all_of, either_of, Lexicon, Token, TermParts, parts_of, no_fields, is_phrase, cut_query, Link, Beside, ByAnd, ByOr, Item, NotOf, Group, Leaf, Chain, Last, Then, with_link, query_or_any, seen_after, item_query, chain_queries, is_fine_item, is_fine_chain, Reads}
 use Rattle.mail_query.specs.BooleanTerms.{boolean_term_query}
 use Rattle.mail_query.proofs.BooleanLaws.BooleanComplete.{and_left, and_right}
 use Rattle.mail_query.proofs.MairixLaws.DepthLemmas.{AreShallow, depth-all_of, depth-either_of}

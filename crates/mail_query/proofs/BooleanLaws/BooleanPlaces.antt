@@ -1,23 +1,7 @@
 -- The reader's fault is the first fault, because the tokens before a place determine the state there.
-use Rattle.mail_query.proofs.Words.{◌≡◌, ℕ, zero, suc, ◌+◌, Bool, true, false, not, cond, eqb, List, [], ◌∷◌, ◌++◌}
-use Rattle.mail_query.proofs.Words.{length, Option, None, Some, Result, Ok, Err, refl, sym, ap, subst, ◌∙◌, append-nil}
-use Rattle.mail_query.proofs.Words.{arith, is_none, ◌>>=◌, fault_as, Field, Fields, QueryFault, QueryFaultKind}
-use Rattle.mail_query.proofs.Words.{NeedsOperator, MissingTerm, Lexicon, Query, Token, Open, Close, AndSign, OrSign}
-use Rattle.mail_query.proofs.Words.{NotSign, no_fields, with_field, parts_query, Link, Beside, ByAnd, ByOr, Item, NotOf}
-use Rattle.mail_query.proofs.Words.{Group, Leaf, Chain, Last, Then, link_tokens, item_tokens, chain_tokens}
-use Rattle.mail_query.proofs.Words.{plain_prefix, seen_after, Reads, is_wanted, open_count, waiting_count, is_not}
-use Rattle.mail_query.proofs.Words.{fields_before, needs_operator, err_of, deep_fault, operator_fault, close_fault}
-use Rattle.mail_query.proofs.Words.{end_fault, first_some, term_fault, token_fault, first_fault_from, first_fault}
-use Rattle.mail_query.proofs.Words.{Level, Waiting, State, is_negated, has_open, deeper, state_after_close}
-use Rattle.mail_query.proofs.Words.{query_at_end, cut_term_step}
-use Rattle.mail_query.proofs.Words.{term_step, step, run_from, tokens_query}
+use Rattle.mail_query.proofs.Words.{◌≡◌, ℕ, zero, suc, ◌+◌, Bool, true, false, not, cond, eqb, List, [], ◌∷◌, ◌++◌, length, Option, None, Some, Result, Ok, Err, refl, sym, ap, subst, ◌∙◌, append-nil, arith, is_none, ◌>>=◌, fault_as, Field, Fields, QueryFault, QueryFaultKind, NeedsOperator, MissingTerm, Lexicon, Query, Token, Open, Close, AndSign, OrSign, NotSign, no_fields, with_field, parts_query, Link, Beside, ByAnd, ByOr, Item, NotOf, Group, Leaf, Chain, Last, Then, link_tokens, item_tokens, chain_tokens, plain_prefix, seen_after, Reads, is_wanted, open_count, waiting_count, is_not, fields_before, needs_operator, err_of, deep_fault, operator_fault, close_fault, end_fault, first_some, term_fault, token_fault, first_fault_from, first_fault, Level, Waiting, State, is_negated, has_open, deeper, state_after_close, query_at_end, cut_term_step, term_step, step, run_from, tokens_query}
 use Rattle.mail_query.proofs.BooleanLaws.BooleanComplete.{reading_answered}
-use Rattle.mail_query.proofs.BooleanLaws.BooleanTrees.{Front, Nothing, After, Part, Wait, WaitNot, WaitClose}
-use Rattle.mail_query.proofs.BooleanLaws.BooleanTrees.{nothing_read, front_tokens, last_tokens, part_tokens, spelled}
-use Rattle.mail_query.proofs.BooleanLaws.BooleanTrees.{seen_front, last_prefix, seen_of, wanted_of, waits_not}
-use Rattle.mail_query.proofs.BooleanLaws.BooleanTrees.{wanted_after, front_wanted, is_closed, level_of, waiting_of}
-use Rattle.mail_query.proofs.BooleanLaws.BooleanTrees.{state_of, length-waiting_of, negated-waiting_of, Fine, reach}
-use Rattle.mail_query.proofs.BooleanLaws.BooleanTrees.{answer_read}
+use Rattle.mail_query.proofs.BooleanLaws.BooleanTrees.{Front, Nothing, After, Part, Wait, WaitNot, WaitClose, nothing_read, front_tokens, last_tokens, part_tokens, spelled, seen_front, last_prefix, seen_of, wanted_of, waits_not, wanted_after, front_wanted, is_closed, level_of, waiting_of, state_of, length-waiting_of, negated-waiting_of, Fine, reach, answer_read}
 
 -- tokens after those before them, the nearest first
 abbrev back_after : List Token → List Token → List Token

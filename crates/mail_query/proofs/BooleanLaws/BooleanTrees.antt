@@ -1,24 +1,7 @@
 -- The grammar gives each query that the reader returns, because after each token its state is that of a partial tree.
-use Rattle.mail_query.proofs.Words.{◌≡◌, ℕ, suc, ◌+◌, ◌<◌, Bool, true, false, not, cond, leb, List, [], ◌∷◌, ◌++◌}
-use Rattle.mail_query.proofs.Words.{length, map, Option, None, Some, Result, Ok, Err, refl, sym, ap, subst, ◌∙◌}
-use Rattle.mail_query.proofs.Words.{append_assoc, append-nil, arith, add-one, ◌&&◌, ◌||◌, is_ok, is_none}
-use Rattle.mail_query.proofs.Words.{option_and_then, and_from, or_parts, or_right, leb-false, lt-ltb, ◌>>=◌, fault_as}
-use Rattle.mail_query.proofs.Words.{Field, Fields, QueryFault, QueryFaultKind, Phrase, NeedsOperator, TooDeep}
-use Rattle.mail_query.proofs.Words.{MissingTerm, BadParenthesis, Lexicon, Query, all_of, either_of, Token, Open, Close}
-use Rattle.mail_query.proofs.Words.{AndSign, OrSign, NotSign, Term, TermParts, parts_of, no_fields, has_field}
-use Rattle.mail_query.proofs.Words.{with_field}
-use Rattle.mail_query.proofs.Words.{is_phrase, cut_query, Link, Beside, ByAnd, ByOr, Item, NotOf, Group, Leaf, Chain}
-use Rattle.mail_query.proofs.Words.{Last, Then, link_tokens, item_tokens, chain_tokens, term_prefix, plain_prefix}
-use Rattle.mail_query.proofs.Words.{seen_after, item_query, chain_queries, tree_query, is_fine_item, is_fine_chain}
-use Rattle.mail_query.proofs.Words.{Reads, Level, Waiting, ForNot, ForClose, State, start, empty_level, with_member}
-use Rattle.mail_query.proofs.Words.{level_with_prefix, run_ended, each_ended, level_query, is_negated, has_open}
-use Rattle.mail_query.proofs.Words.{state_after_operand, deeper}
-use Rattle.mail_query.proofs.Words.{state_after_and, state_after_or, state_after_group, state_after_close, query_at_end}
-use Rattle.mail_query.proofs.Words.{parts_step, term_step, step, run_from}
-use Rattle.mail_query.proofs.Words.{tokens_query}
+use Rattle.mail_query.proofs.Words.{◌≡◌, ℕ, suc, ◌+◌, ◌<◌, Bool, true, false, not, cond, leb, List, [], ◌∷◌, ◌++◌, length, map, Option, None, Some, Result, Ok, Err, refl, sym, ap, subst, ◌∙◌, append_assoc, append-nil, arith, add-one, ◌&&◌, ◌||◌, is_ok, is_none, option_and_then, and_from, or_parts, or_right, leb-false, lt-ltb, ◌>>=◌, fault_as, Field, Fields, QueryFault, QueryFaultKind, Phrase, NeedsOperator, TooDeep, MissingTerm, BadParenthesis, Lexicon, Query, all_of, either_of, Token, Open, Close, AndSign, OrSign, NotSign, Term, TermParts, parts_of, no_fields, has_field, with_field, is_phrase, cut_query, Link, Beside, ByAnd, ByOr, Item, NotOf, Group, Leaf, Chain, Last, Then, link_tokens, item_tokens, chain_tokens, term_prefix, plain_prefix, seen_after, item_query, chain_queries, tree_query, is_fine_item, is_fine_chain, Reads, Level, Waiting, ForNot, ForClose, State, start, empty_level, with_member, level_with_prefix, run_ended, each_ended, level_query, is_negated, has_open, state_after_operand, deeper, state_after_and, state_after_or, state_after_group, state_after_close, query_at_end, parts_step, term_step, step, run_from, tokens_query}
 use Rattle.mail_query.specs.BooleanTerms.{boolean_term_query}
-use Rattle.mail_query.proofs.BooleanLaws.BooleanComplete.{noted-none, state, seen_at, term_fine, with_first}
-use Rattle.mail_query.proofs.BooleanLaws.BooleanComplete.{with_first-one, with_first-none}
+use Rattle.mail_query.proofs.BooleanLaws.BooleanComplete.{noted-none, state, seen_at, term_fine, with_first, with_first-one, with_first-none}
 
 -- ---- partial trees
 

@@ -1,10 +1,5 @@
 -- Laws of what is open, the innermost first.
-use Rattle.mail_query.proofs.Words.{◌≡◌, ℕ, ◌+◌, ◌-◌, ◌<◌, ◌≤◌, Bool, true, false, ◌||◌, Ok, Err, List, [], ◌∷◌, ◌++◌}
-use Rattle.mail_query.proofs.Words.{length, take, drop, get_or, drop-cons, refl, sym, ap, ◌∙◌, arith, IsLastAndRest}
-use Rattle.mail_query.proofs.Words.{drop_all, or-false, or_right, le-leb, lt-leb, TooDeep, BadParenthesis, Query, Not}
-use Rattle.mail_query.proofs.Words.{shown_level, shown_waiting, nearest_first, shown_stack, Level, Waiting, ForNot}
-use Rattle.mail_query.proofs.Words.{ForClose, with_member, is_negated, has_open, state_after_operand, deeper}
-use Rattle.mail_query.proofs.Words.{state_after_group, level_query}
+use Rattle.mail_query.proofs.Words.{◌≡◌, ℕ, ◌+◌, ◌-◌, ◌<◌, ◌≤◌, Bool, true, false, ◌||◌, Ok, Err, List, [], ◌∷◌, ◌++◌, length, take, drop, get_or, drop-cons, refl, sym, ap, ◌∙◌, arith, IsLastAndRest, drop_all, or-false, or_right, le-leb, lt-leb, TooDeep, BadParenthesis, Query, Not, shown_level, shown_waiting, nearest_first, shown_stack, Level, Waiting, ForNot, ForClose, with_member, is_negated, has_open, state_after_operand, deeper, state_after_group, level_query}
 use Rattle.mail_query.specs.declared.boolean.reader.Level.{Level as CodeLevel}
 use Rattle.mail_query.specs.declared.boolean.reader.Waiting.{Waiting as CodeWaiting}
 use Rattle.mail_query.specs.declared.boolean.reader.Waiting.TheVariants as code_waiting

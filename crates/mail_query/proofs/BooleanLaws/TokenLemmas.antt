@@ -1,13 +1,11 @@
 -- Taking one token after another from the front of a text gives its tokens.
-use Rattle.std.proofs.Common.{◌≡◌, ℕ, zero, suc, ◌<◌, ◌≤◌, Bool, true, false, not, ◌||◌, cond, eqb, List, [], ◌∷◌}
-use Rattle.std.proofs.Common.{length, take, drop, get_or, None, Some, refl, sym, ap, subst, ◌∙◌, arith, add-one}
+use Rattle.std.proofs.Common.{◌≡◌, ℕ, zero, suc, ◌<◌, ◌≤◌, Bool, true, false, not, ◌||◌, cond, eqb, List, [], ◌∷◌, length, take, drop, get_or, None, Some, refl, sym, ap, subst, ◌∙◌, arith, add-one}
 use Rattle.std.proofs.lemmas.Bool.Decides.{nat_tests}
 use Rattle.std.proofs.lemmas.Option.{cond_some}
 use Rattle.std.specs.List.{prefix_len}
 use Rattle.std.specs.Str.{IsUtf8, IsCharBoundary}
 use Rattle.std.proofs.lemmas.Str.{IsCharBoundary-start, IsCharBoundary-after_ascii}
-use Rattle.mail_query.specs.Tokens.{Open, Close, Cut, token_of, is_blank_or_feed, closed_run, all_tokens, cut_tokens}
-use Rattle.mail_query.specs.Tokens.{query_tokens}
+use Rattle.mail_query.specs.Tokens.{Open, Close, Cut, token_of, is_blank_or_feed, closed_run, all_tokens, cut_tokens, query_tokens}
 use Rattle.mail_query.specs.Pieces.{without_first}
 use Rattle.mail_query.specs.Inside.Shown.{blank_count, ends_run, run_length}
 

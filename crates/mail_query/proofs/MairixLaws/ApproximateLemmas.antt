@@ -1,7 +1,5 @@
 -- The test for approximate matching is right after each byte of a text, so it is right at the end.
-use Rattle.mail_query.proofs.Words.{◌≡◌, ℕ, suc, ◌≤◌, Bool, true, false, ◌||◌, ◌&&◌, eqb, List, [], ◌∷◌, ◌++◌, length}
-use Rattle.mail_query.proofs.Words.{refl, sym, subst, arith, list_all, is_ascii_digit, eqb-true, and_parts, and_from}
-use Rattle.mail_query.proofs.Words.{or_left, or_right, is_nonempty, is_approximate, IsApproximate, Digits}
+use Rattle.mail_query.proofs.Words.{◌≡◌, ℕ, suc, ◌≤◌, Bool, true, false, ◌||◌, ◌&&◌, eqb, List, [], ◌∷◌, ◌++◌, length, refl, sym, subst, arith, list_all, is_ascii_digit, eqb-true, and_parts, and_from, or_left, or_right, is_nonempty, is_approximate, IsApproximate, Digits}
 
 -- What the test says of the whole text, given the rest. `marked`: only digits came since the last `=`. `counted`: at
 -- least one of them did.

@@ -1,8 +1,5 @@
 -- The queries of patterns have at most five levels, counted production by production.
-use Rattle.mail_query.proofs.Words.{ℕ, suc, ◌≤◌, List, [], ◌∷◌, arith, Query, depth, deepest, members_of, all_of}
-use Rattle.mail_query.proofs.Words.{either_of, IsSizes, Between, AreFlags, IsFlags, EachFlag, Lexicon, Forms, Separated}
-use Rattle.mail_query.proofs.Words.{Alone, Before, IsAtom, IsTerm, IsAll, EachTerm, IsRest, SomeAll, IsPattern}
-use Rattle.mail_query.proofs.Words.{ArePatterns, Only, AndAlso, IsAsked, EachPattern}
+use Rattle.mail_query.proofs.Words.{ℕ, suc, ◌≤◌, List, [], ◌∷◌, arith, Query, depth, deepest, members_of, all_of, either_of, IsSizes, Between, AreFlags, IsFlags, EachFlag, Lexicon, Forms, Separated, Alone, Before, IsAtom, IsTerm, IsAll, EachTerm, IsRest, SomeAll, IsPattern, ArePatterns, Only, AndAlso, IsAsked, EachPattern}
 use Rattle.mail_query.specs.FlagGrammar as flags
 
 -- each query has at most n levels

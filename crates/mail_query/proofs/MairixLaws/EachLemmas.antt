@@ -1,11 +1,5 @@
 -- Reading texts, or patterns, one after another: the queries so far and those of the rest make the whole.
-use Rattle.mail_query.proofs.Words.{◌≡◌, ℕ, ◌+◌, ◌<◌, List, [], ◌∷◌, ◌++◌, length, get_or, drop, Option, Result, Ok}
-use Rattle.mail_query.proofs.Words.{Err, IfSome, refl, sym, ap, ◌∙◌, arith, add-one, drop-cons, append-nil, map, String}
-use Rattle.mail_query.proofs.Words.{Global, string_bytes, IsUtf8, drop_all, get_or-map, length-map, ◌>>=◌, with_front}
-use Rattle.mail_query.proofs.Words.{fault_as, with_front-append, with_front-nil, if_some_map, QueryFault}
-use Rattle.mail_query.proofs.Words.{QueryFaultKind, Query, all_of, Lexicon, each_read, pattern_query, patterns_from}
-use Rattle.mail_query.proofs.Words.{patterns_query, All, All-map, IsUtf8-string_bytes, OrMemory, refusal}
-use Rattle.mail_query.proofs.Words.{fault_with_number}
+use Rattle.mail_query.proofs.Words.{◌≡◌, ℕ, ◌+◌, ◌<◌, List, [], ◌∷◌, ◌++◌, length, get_or, drop, Option, Result, Ok, Err, IfSome, refl, sym, ap, ◌∙◌, arith, add-one, drop-cons, append-nil, map, String, Global, string_bytes, IsUtf8, drop_all, get_or-map, length-map, ◌>>=◌, with_front, fault_as, with_front-append, with_front-nil, if_some_map, QueryFault, QueryFaultKind, Query, all_of, Lexicon, each_read, pattern_query, patterns_from, patterns_query, All, All-map, IsUtf8-string_bytes, OrMemory, refusal, fault_with_number}
 
 -- the texts from a place on are the text there and those after it
 drop-next : (texts : List (List ℕ)) (n : ℕ) (text : List ℕ) → (n < length texts) × (text ≡ get_or texts n text)

@@ -1,10 +1,5 @@
 -- Flags are read as their grammar says, by induction over the letters.
-use Rattle.mail_query.proofs.Words.{◌≡◌, ℕ, ◌+◌, ◌<◌, Bool, true, false, eqb, List, [], ◌∷◌, ◌++◌, length, get_or, drop}
-use Rattle.mail_query.proofs.Words.{Option, None, Some, Ok, Err, option_map, refl, sym, ap, ◌∙◌, append_assoc}
-use Rattle.mail_query.proofs.Words.{append-nil, arith, add-one, drop-cons, inl, inr, not, cond, subst, option_and_then}
-use Rattle.mail_query.proofs.Words.{◌⊎◌, drop_all, Flag, BadFlag, Query, HasFlag, all_of, flag_of, with_flag}
-use Rattle.mail_query.proofs.Words.{flags_after, flags_of_text, some_of, flags_query, eqb-true, false_from_ne_true}
-use Rattle.mail_query.proofs.Words.{none-some, option_and_then_some, AreFlags, NoFlag, IsFlags, EachFlag}
+use Rattle.mail_query.proofs.Words.{◌≡◌, ℕ, ◌+◌, ◌<◌, Bool, true, false, eqb, List, [], ◌∷◌, ◌++◌, length, get_or, drop, Option, None, Some, Ok, Err, option_map, refl, sym, ap, ◌∙◌, append_assoc, append-nil, arith, add-one, drop-cons, inl, inr, not, cond, subst, option_and_then, ◌⊎◌, drop_all, Flag, BadFlag, Query, HasFlag, all_of, flag_of, with_flag, flags_after, flags_of_text, some_of, flags_query, eqb-true, false_from_ne_true, none-some, option_and_then_some, AreFlags, NoFlag, IsFlags, EachFlag}
 use Rattle.mail_query.proofs.MairixLaws.SignLemmas.{map_some}
 use Rattle.mail_query.specs.FlagGrammar.{Wanted, Unwanted}
 

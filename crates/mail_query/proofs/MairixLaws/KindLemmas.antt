@@ -1,8 +1,5 @@
 -- The letters of a prefix name the kinds that the grammar says, letter by letter.
-use Rattle.mail_query.proofs.Words.{◌≡◌, ℕ, Bool, true, false, cond, List, [], ◌∷◌, None, Some, refl, sym, ap, ◌∙◌}
-use Rattle.mail_query.proofs.Words.{arith, ◌||◌, ◌&&◌, codes, option_and_then, list_all, or-false, eqb_tells, cond_some}
-use Rattle.mail_query.proofs.Words.{Kinds, no_kinds, union, kinds_of_letter, kinds_with, kinds_of, is_letter_among}
-use Rattle.mail_query.proofs.Words.{kinds_named, AreLetters}
+use Rattle.mail_query.proofs.Words.{◌≡◌, ℕ, Bool, true, false, cond, List, [], ◌∷◌, None, Some, refl, sym, ap, ◌∙◌, arith, ◌||◌, ◌&&◌, codes, option_and_then, list_all, or-false, eqb_tells, cond_some, Kinds, no_kinds, union, kinds_of_letter, kinds_with, kinds_of, is_letter_among, kinds_named, AreLetters}
 
 abbrev are_letters : List ℕ → Bool
 are_letters letters = list_all (is_letter_among (codes "tcfsban")) letters

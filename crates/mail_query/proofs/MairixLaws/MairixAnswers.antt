@@ -1,36 +1,16 @@
 -- The result of reading patterns: a query is one that the grammar gives, and a fault is the first fault.
-use Rattle.mail_query.proofs.Words.{◌≡◌, ℕ, suc, ◌+◌, ◌<◌, true, false, List, [], ◌∷◌, ◌++◌, length, Option, None, Some}
-use Rattle.mail_query.proofs.Words.{option_map, Result, Ok, Err, inl, inr, refl, sym, ap, subst, ◌∙◌, arith, IsUtf8}
-use Rattle.mail_query.proofs.Words.{◌⊎◌, bytes_eq, codes, ok_or, option_or, MatchResult, All, slice_split}
-use Rattle.mail_query.proofs.Words.{join_with_byte, both_ways, cond_both, All-nil, All-cons, All-head, All-tail}
-use Rattle.mail_query.proofs.Words.{none-some, option_and_then_some, MatchResult-weaker, bytes_eq-Decides, ◌>>=◌}
-use Rattle.mail_query.proofs.Words.{with_front, fault_as, QueryFault, QueryFaultKind, BadWord, BadPrefix, BadDate}
-use Rattle.mail_query.proofs.Words.{BadSize, BadFlag, Approximate, Kinds, is_byte, texts_around, without_first}
-use Rattle.mail_query.proofs.Words.{without_last}
-use Rattle.mail_query.proofs.Words.{Lexicon, Query, Word, Part, Prefix, Date, Not, all_of, either_of, sizes_of}
-use Rattle.mail_query.proofs.Words.{flags_of_text, Forms, plain_kinds, kinds_of, is_approximate, id_forms, word_forms}
-use Rattle.mail_query.proofs.Words.{each_read, part_query, prefix_query, marked_query, found_query, atom_query}
-use Rattle.mail_query.proofs.Words.{term_query, all_query, rest_query, prefixed_query, pattern_query, patterns_from}
-use Rattle.mail_query.proofs.Words.{patterns_query, Separated, Alone, Before, IsAtom, WholeWord, PartOfWord}
-use Rattle.mail_query.proofs.Words.{FrontOfWord, IsTerm, Wanted, Unwanted, IsAll, EachTerm, IsRest, SomeAll, IsPattern}
-use Rattle.mail_query.proofs.Words.{Plain, InKinds, ArePatterns, Only, AndAlso, IsAsked, EachPattern, HasNoSigns}
-use Rattle.mail_query.proofs.Words.{IsFirstOf, After, IsAtomFault, AsksApproximately, HasNoForm, IsTermFault, InWanted}
-use Rattle.mail_query.proofs.Words.{InUnwanted, IsAllFault, InTerm, IsRestFault, InAll, IsPatternPrefix, OfKinds}
-use Rattle.mail_query.proofs.Words.{IsPatternFault, HasNoPrefix, InPlain, InWords, InId, HasNoDate, HasNoSize}
-use Rattle.mail_query.proofs.Words.{HasNoFlags, IsFirstFault, HasNone, InPattern}
+use Rattle.mail_query.proofs.Words.{◌≡◌, ℕ, suc, ◌+◌, ◌<◌, true, false, List, [], ◌∷◌, ◌++◌, length, Option, None, Some, option_map, Result, Ok, Err, inl, inr, refl, sym, ap, subst, ◌∙◌, arith, IsUtf8, ◌⊎◌, bytes_eq, codes, ok_or, option_or, MatchResult, All, slice_split, join_with_byte, both_ways, cond_both, All-nil, All-cons, All-head, All-tail, none-some, option_and_then_some, MatchResult-weaker, bytes_eq-Decides, ◌>>=◌, with_front, fault_as, QueryFault, QueryFaultKind, BadWord, BadPrefix, BadDate, BadSize, BadFlag, Approximate, Kinds, is_byte, texts_around, without_first, without_last, Lexicon, Query, Word, Part, Prefix, Date, Not, all_of, either_of, sizes_of, flags_of_text, Forms, plain_kinds, kinds_of, is_approximate, id_forms, word_forms, each_read, part_query, prefix_query, marked_query, found_query, atom_query, term_query, all_query, rest_query, prefixed_query, pattern_query, patterns_from, patterns_query, Separated, Alone, Before, IsAtom, WholeWord, PartOfWord, FrontOfWord, IsTerm, Wanted, Unwanted, IsAll, EachTerm, IsRest, SomeAll, IsPattern, Plain, InKinds, ArePatterns, Only, AndAlso, IsAsked, EachPattern, HasNoSigns, IsFirstOf, After, IsAtomFault, AsksApproximately, HasNoForm, IsTermFault, InWanted, InUnwanted, IsAllFault, InTerm, IsRestFault, InAll, IsPatternPrefix, OfKinds, IsPatternFault, HasNoPrefix, InPlain, InWords, InId, HasNoDate, HasNoSize, HasNoFlags, IsFirstFault, HasNone, InPattern}
 use Rattle.std.proofs.lemmas.List.Splits.{length-slice_split, join_with_byte-slice_split}
 use Rattle.mail_query.specs.Mairix.{word_query}
 use Rattle.mail_query.specs.MairixGrammar as grammar
 use Rattle.mail_query.specs.MairixFaults.{OfId, OfDate, OfSize, OfFlags}
 use Rattle.mail_query.proofs.PieceLemmas.{without_first-same, Free}
 use Rattle.mail_query.proofs.MairixLaws.ApproximateLemmas.{approximate_is, is_marked}
-use Rattle.mail_query.proofs.MairixLaws.EachLemmas.{at_number, unnumbered, numbered_read, each_numbered}
-use Rattle.mail_query.proofs.MairixLaws.EachLemmas.{patterns_numbered}
+use Rattle.mail_query.proofs.MairixLaws.EachLemmas.{at_number, unnumbered, numbered_read, each_numbered, patterns_numbered}
 use Rattle.mail_query.proofs.MairixLaws.KindLemmas.{letters_read, read_letters}
 use Rattle.mail_query.proofs.MairixLaws.FlagLemmas.{flags_read, read_flags}
 use Rattle.mail_query.proofs.MairixLaws.SizeLemmas.{sizes_read, read_sizes}
-use Rattle.mail_query.proofs.MairixLaws.SignLemmas.{map_some, last_is, first_is, cut_parts, uncut_free, utf8_before}
-use Rattle.mail_query.proofs.MairixLaws.SignLemmas.{utf8_after}
+use Rattle.mail_query.proofs.MairixLaws.SignLemmas.{map_some, last_is, first_is, cut_parts, uncut_free, utf8_before, utf8_after}
 use Rattle.mail_query.proofs.MairixLaws.MairixComplete.{PlainForms, id_plain, word_plain, atom_read}
 
 -- ---- results of steps

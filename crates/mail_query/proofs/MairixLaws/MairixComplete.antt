@@ -1,25 +1,11 @@
 -- The reader returns each query that the grammar of patterns gives, by induction over the productions.
-use Rattle.mail_query.proofs.Words.{◌≡◌, ℕ, ◌+◌, ◌<◌, true, false, eqb, List, [], ◌∷◌, ◌++◌, Option, None, Some, Result}
-use Rattle.mail_query.proofs.Words.{Ok, ap, refl, ◌∙◌, arith, IsUtf8, bytes_eq, codes, ok_or, list_any, list_all}
-use Rattle.mail_query.proofs.Words.{slice_split, All, and_parts, or_from, not-true, both_ways, false_from_ne_true}
-use Rattle.mail_query.proofs.Words.{All-head, All-tail, cond_some, none-some, bytes_eq-Decides, ◌>>=◌, with_front}
-use Rattle.mail_query.proofs.Words.{fault_as, QueryFaultKind, BadSize, BadFlag, Kinds, is_byte, is_nonempty, Lexicon}
-use Rattle.mail_query.proofs.Words.{Query, Not, all_of, Forms, plain_kinds, kinds_of, is_sign, may_be_id, id_forms}
-use Rattle.mail_query.proofs.Words.{word_forms, each_read, atom_query, term_query, all_query, rest_query}
-use Rattle.mail_query.proofs.Words.{prefixed_query, pattern_query, patterns_from, patterns_query, is_letter_among}
-use Rattle.mail_query.proofs.Words.{kinds_named}
-use Rattle.mail_query.proofs.Words.{Separated, Alone, Before, IsAtom, WholeWord, PartOfWord, FrontOfWord, IsTerm}
-use Rattle.mail_query.proofs.Words.{Wanted, Unwanted, IsAll, EachTerm, IsRest, SomeAll, IsPattern, Plain, InKinds, OfId}
-use Rattle.mail_query.proofs.Words.{OfDate, OfSize, OfFlags, ArePatterns, Only, AndAlso, IsAsked, EachPattern}
-use Rattle.mail_query.proofs.Words.{HasNoSigns}
+use Rattle.mail_query.proofs.Words.{◌≡◌, ℕ, ◌+◌, ◌<◌, true, false, eqb, List, [], ◌∷◌, ◌++◌, Option, None, Some, Result, Ok, ap, refl, ◌∙◌, arith, IsUtf8, bytes_eq, codes, ok_or, list_any, list_all, slice_split, All, and_parts, or_from, not-true, both_ways, false_from_ne_true, All-head, All-tail, cond_some, none-some, bytes_eq-Decides, ◌>>=◌, with_front, fault_as, QueryFaultKind, BadSize, BadFlag, Kinds, is_byte, is_nonempty, Lexicon, Query, Not, all_of, Forms, plain_kinds, kinds_of, is_sign, may_be_id, id_forms, word_forms, each_read, atom_query, term_query, all_query, rest_query, prefixed_query, pattern_query, patterns_from, patterns_query, is_letter_among, kinds_named, Separated, Alone, Before, IsAtom, WholeWord, PartOfWord, FrontOfWord, IsTerm, Wanted, Unwanted, IsAll, EachTerm, IsRest, SomeAll, IsPattern, Plain, InKinds, OfId, OfDate, OfSize, OfFlags, ArePatterns, Only, AndAlso, IsAsked, EachPattern, HasNoSigns}
 use Rattle.mail_query.proofs.PieceLemmas.{other_byte, without_last-same, none_unless, Free, cut_none, cut_at}
 use Rattle.mail_query.proofs.MairixLaws.EachLemmas.{at_number}
 use Rattle.mail_query.proofs.MairixLaws.KindLemmas.{letters_read}
 use Rattle.mail_query.proofs.MairixLaws.FlagLemmas.{flags_read}
 use Rattle.mail_query.proofs.MairixLaws.SizeLemmas.{sizes_read}
-use Rattle.mail_query.proofs.MairixLaws.SignLemmas.{any-append, any-after, free_of, not_approximate}
-use Rattle.mail_query.proofs.MairixLaws.SignLemmas.{not_approximate-marked, split_none, split_at, first_free}
-use Rattle.mail_query.proofs.MairixLaws.SignLemmas.{utf8_before, utf8_after}
+use Rattle.mail_query.proofs.MairixLaws.SignLemmas.{any-append, any-after, free_of, not_approximate, not_approximate-marked, split_none, split_at, first_free, utf8_before, utf8_after}
 
 -- ---- texts between signs
 

@@ -1,30 +1,16 @@
 -- The reader of patterns agrees with their grammar, and its faults are the first faults, both in both directions.
-use Rattle.mail_query.proofs.Words.{◌≡◌, ℕ, ◌+◌, false, List, [], ◌∷◌, ◌++◌, length, Option, None, option_map, Result}
-use Rattle.mail_query.proofs.Words.{Ok, Err, refl, sym, ap, ◌∙◌, arith, IsUtf8, ◌↔◌, bytes_eq, codes, ok_or, result_ok}
-use Rattle.mail_query.proofs.Words.{All, slice_split, false_from_ne_true, All-head, All-tail, MatchResult-at_ok}
-use Rattle.mail_query.proofs.Words.{MatchResult-at_err, bytes_eq-Decides, ◌>>=◌, with_front, fault_as, Range}
-use Rattle.mail_query.proofs.Words.{QueryFault, QueryFaultKind, BadPrefix, BadDate, BadSize, BadFlag, Kinds, is_byte}
-use Rattle.mail_query.proofs.Words.{Lexicon, Query, Date, Not, all_of, sizes_of, flags_of_text, pattern_lexicon}
-use Rattle.mail_query.proofs.Words.{mairix_query, Forms, kinds_of, is_approximate, id_forms, word_forms, each_read}
-use Rattle.mail_query.proofs.Words.{found_query, atom_query, term_query, all_query, rest_query, prefixed_query}
-use Rattle.mail_query.proofs.Words.{pattern_query, patterns_from, patterns_query, kinds_named, IsTerm, IsPattern}
-use Rattle.mail_query.proofs.Words.{IsAsked, AskNothing, HasNoSigns, IsFirstOf, After, IsAtomFault, AsksApproximately}
-use Rattle.mail_query.proofs.Words.{HasNoForm, IsTermFault, InWanted, InUnwanted, IsAllFault, InTerm, IsRestFault}
-use Rattle.mail_query.proofs.Words.{InAll, IsPatternPrefix, OfKinds, IsPatternFault, HasNoPrefix, InPlain, InWords}
-use Rattle.mail_query.proofs.Words.{InId, HasNoDate, HasNoSize, HasNoFlags, IsFirstFault, HasNone, InPattern}
+use Rattle.mail_query.proofs.Words.{◌≡◌, ℕ, ◌+◌, false, List, [], ◌∷◌, ◌++◌, length, Option, None, option_map, Result, Ok, Err, refl, sym, ap, ◌∙◌, arith, IsUtf8, ◌↔◌, bytes_eq, codes, ok_or, result_ok, All, slice_split, false_from_ne_true, All-head, All-tail, MatchResult-at_ok, MatchResult-at_err, bytes_eq-Decides, ◌>>=◌, with_front, fault_as, Range, QueryFault, QueryFaultKind, BadPrefix, BadDate, BadSize, BadFlag, Kinds, is_byte, Lexicon, Query, Date, Not, all_of, sizes_of, flags_of_text, pattern_lexicon, mairix_query, Forms, kinds_of, is_approximate, id_forms, word_forms, each_read, found_query, atom_query, term_query, all_query, rest_query, prefixed_query, pattern_query, patterns_from, patterns_query, kinds_named, IsTerm, IsPattern, IsAsked, AskNothing, HasNoSigns, IsFirstOf, After, IsAtomFault, AsksApproximately, HasNoForm, IsTermFault, InWanted, InUnwanted, IsAllFault, InTerm, IsRestFault, InAll, IsPatternPrefix, OfKinds, IsPatternFault, HasNoPrefix, InPlain, InWords, InId, HasNoDate, HasNoSize, HasNoFlags, IsFirstFault, HasNone, InPattern}
 use Rattle.mail_dates.specs.Ranges.{range_at}
 use Rattle.mail_query.specs.MairixFaults.{OfId, OfDate, OfSize, OfFlags}
 use Rattle.mail_query.proofs.PieceLemmas.{without_first-other, none_unless, cut_none, cut_at}
 use Rattle.mail_query.proofs.MairixLaws.ApproximateLemmas.{approximate_is, is_marked}
-use Rattle.mail_query.proofs.MairixLaws.EachLemmas.{at_number, unnumbered, numbered_read, each_numbered}
-use Rattle.mail_query.proofs.MairixLaws.EachLemmas.{patterns_numbered}
+use Rattle.mail_query.proofs.MairixLaws.EachLemmas.{at_number, unnumbered, numbered_read, each_numbered, patterns_numbered}
 use Rattle.mail_query.proofs.MairixLaws.KindLemmas.{letters_read, read_letters}
 use Rattle.mail_query.proofs.MairixLaws.FlagLemmas.{read_flags}
 use Rattle.mail_query.proofs.MairixLaws.SizeLemmas.{read_sizes}
 use Rattle.mail_query.proofs.MairixLaws.SignLemmas.{utf8_after}
 use Rattle.mail_query.proofs.MairixLaws.MairixAnswers.{split_utf8, found_asks, pattern_answers, patterns_answer}
-use Rattle.mail_query.proofs.MairixLaws.MairixComplete.{PlainForms, id_plain, word_plain, term_read, all_read}
-use Rattle.mail_query.proofs.MairixLaws.MairixComplete.{letters_free, prefixed_letters, pattern_read, patterns_read}
+use Rattle.mail_query.proofs.MairixLaws.MairixComplete.{PlainForms, id_plain, word_plain, term_read, all_read, letters_free, prefixed_letters, pattern_read, patterns_read}
 use Rattle.mail_query.proofs.MairixLaws.PlainWords.{mail_plain}
 
 -- ---- the first of several texts

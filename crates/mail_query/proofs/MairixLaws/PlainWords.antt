@@ -1,9 +1,5 @@
 -- No word of mail, and no part of one, has a sign of the grammar of patterns, because no character of words is a sign.
-use Rattle.mail_query.proofs.Words.{◌≡◌, ℕ, ◌<◌, ◌≤◌, true, false, List, [], ◌∷◌, length, get_or, chars, IsUtf8, Option}
-use Rattle.mail_query.proofs.Words.{inl, inr, refl, sym, ap, ◌∙◌, arith, ◌&&◌, ◌||◌, nat_le, is_ascii_alphanumeric}
-use Rattle.mail_query.proofs.Words.{list_all, list_any, NonePass, NoCharPasses, and_parts, and_from, both_ways}
-use Rattle.mail_query.proofs.Words.{false_from_ne_true, agree_below_at, cases_lt, nat_tests, encodes-chars}
-use Rattle.mail_query.proofs.Words.{NoCharPasses-byte, Range, is_sign, HasNoSigns, mail_lexicon}
+use Rattle.mail_query.proofs.Words.{◌≡◌, ℕ, ◌<◌, ◌≤◌, true, false, List, [], ◌∷◌, length, get_or, chars, IsUtf8, Option, inl, inr, refl, sym, ap, ◌∙◌, arith, ◌&&◌, ◌||◌, nat_le, is_ascii_alphanumeric, list_all, list_any, NonePass, NoCharPasses, and_parts, and_from, both_ways, false_from_ne_true, agree_below_at, cases_lt, nat_tests, encodes-chars, NoCharPasses-byte, Range, is_sign, HasNoSigns, mail_lexicon}
 use Rattle.mail_words.specs.Words.{is_joiner, is_one_word, is_part_of_word, word_limit}
 use Rattle.mail_words.proofs.Characters.{is_word_character-ascii}
 use Rattle.mail_words.proofs.OneWord.{is_one_word-parts}

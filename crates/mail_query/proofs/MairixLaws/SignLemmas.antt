@@ -1,12 +1,5 @@
 -- Texts without a byte, and texts that a byte cuts in two.
-use Rattle.mail_query.proofs.Words.{◌≡◌, ℕ, ◌+◌, ◌<◌, Bool, true, false, cond, eqb, List, [], ◌∷◌, ◌++◌, length, get_or}
-use Rattle.mail_query.proofs.Words.{Option, None, Some, refl, ap, subst, ◌∙◌, arith, length-append, IsUtf8, option_map}
-use Rattle.mail_query.proofs.Words.{list_any, slice_split, onto_first, get_or-append_seam, take-append_seam}
-use Rattle.mail_query.proofs.Words.{drop-append-add, eqb-true, or_parts, or_from, or_left, or_right, both_ways}
-use Rattle.mail_query.proofs.Words.{false_from_ne_true, cond_some, IsCharBoundary-before_ascii}
-use Rattle.mail_query.proofs.Words.{IsCharBoundary-after_ascii, IsUtf8-take, IsUtf8-drop, is_byte, texts_around}
-use Rattle.mail_query.proofs.Words.{without_first}
-use Rattle.mail_query.proofs.Words.{without_last, is_sign, is_approximate}
+use Rattle.mail_query.proofs.Words.{◌≡◌, ℕ, ◌+◌, ◌<◌, Bool, true, false, cond, eqb, List, [], ◌∷◌, ◌++◌, length, get_or, Option, None, Some, refl, ap, subst, ◌∙◌, arith, length-append, IsUtf8, option_map, list_any, slice_split, onto_first, get_or-append_seam, take-append_seam, drop-append-add, eqb-true, or_parts, or_from, or_left, or_right, both_ways, false_from_ne_true, cond_some, IsCharBoundary-before_ascii, IsCharBoundary-after_ascii, IsUtf8-take, IsUtf8-drop, is_byte, texts_around, without_first, without_last, is_sign, is_approximate}
 use Rattle.mail_query.proofs.PieceLemmas.{same_byte, Free}
 
 pub any-append : (p : ℕ → Bool) (xs ys : List ℕ) → list_any p xs ≡ false → list_any p ys ≡ false → list_any p (xs ++ ys)

@@ -1,14 +1,5 @@
 -- Sizes are read as their grammar says.
-use Rattle.mail_query.proofs.Words.{◌≡◌, ℕ, ◌-◌, ◌<◌, List, [], ◌∷◌, ◌++◌, length, Option, Some, None, refl, sym, ap}
-use Rattle.mail_query.proofs.Words.{◌∙◌, arith, length-append, ◌*◌, ◌≤◌, true, false, eqb, option_map, subst, slice_get}
-use Rattle.mail_query.proofs.Words.{option_and_then, ◌&&◌, IsLastAndRest, list_all, list_any, get_or-append_seam}
-use Rattle.mail_query.proofs.Words.{slice_get-get_or, cond_some, option_and_then_some, last_byte, before_last_byte}
-use Rattle.mail_query.proofs.Words.{factor_of, scaled_size, size_with, size_of, size_limit, low_of, high_of}
-use Rattle.mail_query.proofs.Words.{sizes_between}
-use Rattle.mail_query.proofs.Words.{sizes_of, is_ascii_digit, leb-true, le-leb, and_parts, and_from, or_from, Query}
-use Rattle.mail_query.proofs.Words.{Size, is_byte, texts_around, IsNumber, IsSize, InBytes, InUnits, IsLow, FromZero}
-use Rattle.mail_query.proofs.Words.{FromSize}
-use Rattle.mail_query.proofs.Words.{IsHigh, Unbounded, ToSize, IsSizes, Between}
+use Rattle.mail_query.proofs.Words.{◌≡◌, ℕ, ◌-◌, ◌<◌, List, [], ◌∷◌, ◌++◌, length, Option, Some, None, refl, sym, ap, ◌∙◌, arith, length-append, ◌*◌, ◌≤◌, true, false, eqb, option_map, subst, slice_get, option_and_then, ◌&&◌, IsLastAndRest, list_all, list_any, get_or-append_seam, slice_get-get_or, cond_some, option_and_then_some, last_byte, before_last_byte, factor_of, scaled_size, size_with, size_of, size_limit, low_of, high_of, sizes_between, sizes_of, is_ascii_digit, leb-true, le-leb, and_parts, and_from, or_from, Query, Size, is_byte, texts_around, IsNumber, IsSize, InBytes, InUnits, IsLow, FromZero, FromSize, IsHigh, Unbounded, ToSize, IsSizes, Between}
 use Rattle.std.specs.Str.Parse.{digits_value}
 use Rattle.mail_query.proofs.PieceLemmas.{last_of, before_last, other_byte, Free, cut_at}
 use Rattle.mail_query.proofs.MairixLaws.SignLemmas.{any-append, cut_parts, map_some}

@@ -1,6 +1,5 @@
 -- `decode_text` decodes whole groups at once and other symbols one by one. Each step only adds at the end.
-use Rattle.header_text.proofs.Words.{◌∙◌, ◌++◌, ℕ, List, sym, ap, arith, take_rest, Extends-refl, Extends-trans}
-use Rattle.header_text.proofs.Words.{symbols_of}
+use Rattle.header_text.proofs.Words.{◌∙◌, ◌++◌, ℕ, List, sym, ap, arith, take_rest, Extends-refl, Extends-trans, symbols_of}
 use Rattle.header_text.proofs.WordLaws.GroupLemmas.{text-groups, text-other, sextet-other}
 use Rattle.header_text.proofs.base64_reader.decode_text.Goals as goal
 

@@ -1,7 +1,6 @@
 -- `cut_at` cuts at the first such byte, because the search finds a place with none before it, or finds that there is
 -- none.
-use Rattle.header_text.proofs.Words.{◌≡◌, ◌∙◌, ◌+◌, ◌-◌, ◌==◌, ℕ, List, Some, length, take, drop, slice_index, suc}
-use Rattle.header_text.proofs.Words.{refl, sym, ap, arith, add-one, take_rest, false_from_ne_true}
+use Rattle.header_text.proofs.Words.{◌≡◌, ◌∙◌, ◌+◌, ◌-◌, ◌==◌, ℕ, List, Some, length, take, drop, slice_index, suc, refl, sym, ap, arith, add-one, take_rest, false_from_ne_true}
 use Rattle.header_text.proofs.CutLemmas.{cut_at-begins, cut_at-first, cut_at-none}
 use Rattle.header_text.proofs.cut.cut_at.Goals as goal
 

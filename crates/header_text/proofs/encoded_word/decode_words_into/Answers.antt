@@ -1,7 +1,6 @@
 -- `decode_words_into` adds the text of a value word by word. A fault leaves a front of it, because each step adds at
 -- the end.
-use Rattle.header_text.proofs.Words.{◌∙◌, ◌++◌, true, refl, arith, append_assoc, string_bytes, Extends-refl}
-use Rattle.header_text.proofs.Words.{Extends-trans, value_pieces, word_text, shown_found}
+use Rattle.header_text.proofs.Words.{◌∙◌, ◌++◌, true, refl, arith, append_assoc, string_bytes, Extends-refl, Extends-trans, value_pieces, word_text, shown_found}
 use Rattle.header_text.proofs.WordLaws.DecodedLemmas.{rest_text, decoded-start, decoded-step}
 use Rattle.header_text.proofs.TextFronts.{front-more}
 use Rattle.header_text.proofs.encoded_word.decode_words_into.Goals as goal

@@ -1,6 +1,5 @@
 -- What was added, with what the rest still gives, is the whole. The loop ends because each word makes the rest shorter.
-use Rattle.header_text.proofs.Words.{◌≡◌, ◌≤◌, ◌+◌, ◌*◌, ◌++◌, length, string_bytes, Extends, value_pieces, plain_text}
-use Rattle.header_text.proofs.Words.{decoded_value}
+use Rattle.header_text.proofs.Words.{◌≡◌, ◌≤◌, ◌+◌, ◌*◌, ◌++◌, length, string_bytes, Extends, value_pieces, plain_text, decoded_value}
 use Rattle.header_text.proofs.WordLaws.DecodedLemmas.{words_after}
 use Rattle.header_text.proofs.encoded_word.decode_words_into.Given as goal
 

@@ -1,6 +1,5 @@
 -- `add_unescaped` adds the bytes up to each `=` as they are, and then what the `=` and the bytes after it mean.
-use Rattle.header_text.proofs.Words.{◌≡◌, ◌∙◌, ◌≤◌, ◌++◌, ℕ, List, [], ◌∷◌, length, sym, ap, arith, length-append}
-use Rattle.header_text.proofs.Words.{Extends-append, Extends-trans, unescaped_bytes, after_equals}
+use Rattle.header_text.proofs.Words.{◌≡◌, ◌∙◌, ◌≤◌, ◌++◌, ℕ, List, [], ◌∷◌, length, sym, ap, arith, length-append, Extends-append, Extends-trans, unescaped_bytes, after_equals}
 use Rattle.header_text.proofs.CutLemmas.{IsCut, IsCut-from, Lacks-from}
 use Rattle.header_text.proofs.WordLaws.EscapeLemmas.{unescaped-step, unescaped-rest, written, length-after_equals}
 use Rattle.header_text.proofs.escape.add_unescaped.Goals as goal

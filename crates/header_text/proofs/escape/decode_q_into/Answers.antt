@@ -1,7 +1,5 @@
 -- `decode_q_into` adds the text between two `_` unescaped, and a space for each `_`, because no escape has a `_` in it.
-use Rattle.header_text.proofs.Words.{◌∙◌, ◌++◌, ℕ, List, [], ◌∷◌, length, sym, ap, arith, length-append}
-use Rattle.header_text.proofs.Words.{unescaped_bytes}
-use Rattle.header_text.proofs.Words.{q_bytes}
+use Rattle.header_text.proofs.Words.{◌∙◌, ◌++◌, ℕ, List, [], ◌∷◌, length, sym, ap, arith, length-append, unescaped_bytes, q_bytes}
 use Rattle.header_text.proofs.CutLemmas.{IsCut, IsCut-from, Lacks-from}
 use Rattle.header_text.proofs.WordLaws.EscapeLemmas.{q_bytes-space, q_bytes-free, written, length-q_bytes}
 use Rattle.header_text.proofs.escape.decode_q_into.Goals as goal

@@ -1,6 +1,5 @@
 -- `push_each` adds the ids of a value text by text, because the text before each `>` has at most one.
-use Rattle.header_text.proofs.Words.{◌≡◌, ◌∙◌, ◌++◌, ℕ, List, [], ◌∷◌, length, map, sym, ap, arith, length-append}
-use Rattle.header_text.proofs.Words.{append_assoc, append-nil, ids_of_texts, closed_texts}
+use Rattle.header_text.proofs.Words.{◌≡◌, ◌∙◌, ◌++◌, ℕ, List, [], ◌∷◌, length, map, sym, ap, arith, length-append, append_assoc, append-nil, ids_of_texts, closed_texts}
 use Rattle.header_text.proofs.CutLemmas.{IsCut, IsCut-from, Lacks-from}
 use Rattle.header_text.proofs.HeaderLaws.IdLemmas.{closed_texts-cut, closed_texts-free}
 use Rattle.header_text.proofs.TextFronts.{front-refl, front-trans}

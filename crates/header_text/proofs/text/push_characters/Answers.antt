@@ -1,10 +1,6 @@
 -- `push_characters` adds ASCII as it is and a character for each other byte. A fault leaves a front of the text.
-use Rattle.header_text.proofs.Words.{◌≡◌, ◌∙◌, ◌≤◌, ◌+◌, ◌-◌, ◌++◌, ℕ, map, length, take, drop, slice_index}
-use Rattle.header_text.proofs.Words.{encode_utf8_all, ap, sym, refl, arith, append_assoc, length-append, length-drop}
-use Rattle.header_text.proofs.Words.{length-take, string_bytes, encode_utf8, take_rest, lossy_chars, Extends-trans}
-use Rattle.header_text.proofs.Words.{Extends-append, Extends-tried, character}
-use Rattle.header_text.proofs.WordLaws.CharacterLemmas.{characters-step, IsAscii-before, IsAscii-all}
-use Rattle.header_text.proofs.WordLaws.CharacterLemmas.{length-encode_small, lossy-ascii}
+use Rattle.header_text.proofs.Words.{◌≡◌, ◌∙◌, ◌≤◌, ◌+◌, ◌-◌, ◌++◌, ℕ, map, length, take, drop, slice_index, encode_utf8_all, ap, sym, refl, arith, append_assoc, length-append, length-drop, length-take, string_bytes, encode_utf8, take_rest, lossy_chars, Extends-trans, Extends-append, Extends-tried, character}
+use Rattle.header_text.proofs.WordLaws.CharacterLemmas.{characters-step, IsAscii-before, IsAscii-all, length-encode_small, lossy-ascii}
 use Rattle.header_text.proofs.TextFronts.{front-more}
 use Rattle.header_text.proofs.text.push_characters.Goals as goal
 

@@ -1,7 +1,6 @@
 -- What was added, with the characters of the rest, is the whole. The loop ends because each turn makes the rest
 -- shorter.
-use Rattle.header_text.proofs.Words.{◌≡◌, ◌≤◌, ◌+◌, ◌*◌, ◌++◌, map, length, encode_utf8_all, string_bytes, Extends}
-use Rattle.header_text.proofs.Words.{character}
+use Rattle.header_text.proofs.Words.{◌≡◌, ◌≤◌, ◌+◌, ◌*◌, ◌++◌, map, length, encode_utf8_all, string_bytes, Extends, character}
 use Rattle.header_text.proofs.text.push_characters.Given as goal
 
 -- what was written, and what the rest still gives

@@ -1,9 +1,7 @@
 -- `add_lines` adds a body line by line without its breaks, and nothing before the first byte that isn't a blank.
-use Rattle.header_text.proofs.Words.{◌≡◌, Bor, ◌∙◌, ◌++◌, ℕ, List, ◌∷◌, length, nat_lt, sym, ap, ap₂, arith}
-use Rattle.header_text.proofs.Words.{length-append, Extends-refl, Extends-trans, added_part, without_final_cr}
+use Rattle.header_text.proofs.Words.{◌≡◌, Bor, ◌∙◌, ◌++◌, ℕ, List, ◌∷◌, length, nat_lt, sym, ap, ap₂, arith, length-append, Extends-refl, Extends-trans, added_part, without_final_cr}
 use Rattle.header_text.proofs.CutLemmas.{IsCut, IsCut-from}
-use Rattle.header_text.proofs.HeaderLaws.UnfoldLemmas.{without_final_cr-stripped, unfolds-start, unfolds-line}
-use Rattle.header_text.proofs.HeaderLaws.UnfoldLemmas.{unfolds-rest}
+use Rattle.header_text.proofs.HeaderLaws.UnfoldLemmas.{without_final_cr-stripped, unfolds-start, unfolds-line, unfolds-rest}
 use Rattle.header_text.proofs.unfolding.add_lines.Goals as goal
 use Rattle.header_text.proofs.unfolding.add_lines.Goals.{In_ok-add_part}
 

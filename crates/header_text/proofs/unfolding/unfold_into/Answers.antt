@@ -1,7 +1,6 @@
 -- `unfold_into` adds the unfolded body, because the blanks at its end are cut off last. What a failed call added is
 -- taken back.
-use Rattle.header_text.proofs.Words.{◌≤◌, ◌≡◌, take_rest, ◌∙◌, ◌++◌, ℕ, length, take, drop, ap, arith, length-append}
-use Rattle.header_text.proofs.Words.{before_blanks}
+use Rattle.header_text.proofs.Words.{◌≤◌, ◌≡◌, take_rest, ◌∙◌, ◌++◌, ℕ, length, take, drop, ap, arith, length-append, before_blanks}
 use Rattle.header_text.proofs.Fronts.{take-before_blanks}
 use Rattle.header_text.proofs.HeaderLaws.UnfoldSizes.{length-unfolded}
 use Rattle.header_text.proofs.HeaderLaws.UnfoldLemmas.{unfolded-trimmed}

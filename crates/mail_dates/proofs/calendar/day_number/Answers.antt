@@ -1,11 +1,9 @@
 -- `day_number` returns the number of a day, because jiff accepts exactly the days of the calendar and numbers them
 -- likewise.
-use Rattle.mail_dates.proofs.Words.{◌≡◌, ap, ◌∙◌, arith, rules, refl, w8, w16, w32, to_z, of_z, FitsSigned, to_z-of_z}
-use Rattle.mail_dates.proofs.Words.{IsDate, IsYmd, epoch_day, days_in_month_bounds}
+use Rattle.mail_dates.proofs.Words.{◌≡◌, ap, ◌∙◌, arith, rules, refl, w8, w16, w32, to_z, of_z, FitsSigned, to_z-of_z, IsDate, IsYmd, epoch_day, days_in_month_bounds}
 use Rattle.mail_dates.proofs.CivilDays.{civil_date, date_civil, day_number_none, day_number_at}
 use Rattle.mail_dates.proofs.calendar.day_number.Goals as goal
-use Rattle.mail_dates.proofs.calendar.day_number.Goals.{then-month-gt12-via-then-month-gt12}
-use Rattle.mail_dates.proofs.calendar.day_number.Goals.{then-month-gt12-via-else-month-gt12+then-day-gt31}
+use Rattle.mail_dates.proofs.calendar.day_number.Goals.{then-month-gt12-via-then-month-gt12, then-month-gt12-via-else-month-gt12+then-day-gt31}
 
 pub returns-then-month-gt12-clause-value : goal.returns-then-month-gt12-clause-value
 returns-then-month-gt12-clause-value c =

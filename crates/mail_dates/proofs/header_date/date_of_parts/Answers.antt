@@ -1,7 +1,5 @@
 -- `date_of_parts` returns the second that the parts say, because each step of its sum fits into 64 bits.
-use Rattle.mail_dates.proofs.Words.{◌≡◌, ◌<◌, ◌^◌, ℕ, ℤ, pos, ◌+ℤ◌, ◌-ℤ◌, ◌*ℤ◌, of_z, to_z, w16, w32, w64, FitsSigned}
-use Rattle.mail_dates.proofs.Words.{arith, rules, refl, sym, ◌∙◌, ap, List, Some, ints, IsEpochDay, day_number}
-use Rattle.mail_dates.proofs.Words.{month_of, start_of_day, number_in, year_of, time_of, date_of_parts_by}
+use Rattle.mail_dates.proofs.Words.{◌≡◌, ◌<◌, ◌^◌, ℕ, ℤ, pos, ◌+ℤ◌, ◌-ℤ◌, ◌*ℤ◌, of_z, to_z, w16, w32, w64, FitsSigned, arith, rules, refl, sym, ◌∙◌, ap, List, Some, ints, IsEpochDay, day_number, month_of, start_of_day, number_in, year_of, time_of, date_of_parts_by}
 use Rattle.mail_dates.proofs.header_date.date_of_parts.Goals as goal
 
 -- the date of parts that can be read

@@ -1,7 +1,6 @@
 -- `day_token` passes the name of a day as the definition does: if the first token is letters alone, the next one comes
 -- first.
-use Rattle.mail_dates.proofs.Words.{◌≡◌, ℕ, List, [], ◌∷◌, true, refl, sym, ◌∙◌, ap, list_all, date_tokens, with_first}
-use Rattle.mail_dates.proofs.Words.{without_day_name}
+use Rattle.mail_dates.proofs.Words.{◌≡◌, ℕ, List, [], ◌∷◌, true, refl, sym, ◌∙◌, ap, list_all, date_tokens, with_first, without_day_name}
 use Rattle.std.specs.Char.{is_ascii_alphabetic}
 use Rattle.mail_dates.proofs.header_date.day_token.Goals as goal
 

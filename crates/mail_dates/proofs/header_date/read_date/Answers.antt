@@ -1,9 +1,6 @@
 -- `read_date` reads the tokens as the definition does, because a missing token is read as an empty one, which says
 -- nothing.
-use Rattle.mail_dates.proofs.Words.{◌≡◌, ◌∙◌, ℕ, pos, List, [], ◌∷◌, Option, Some, None, w32, FitsSigned, to_z-of_z}
-use Rattle.mail_dates.proofs.Words.{rules, refl, sym, ap, date_tokens, with_first, without_day_name, number_in, ◌>>=◌}
-use Rattle.mail_dates.proofs.Words.{day_number, month_of, year_of, time_of, offset_of, hours_west, date_of_parts_by}
-use Rattle.mail_dates.proofs.Words.{date_of_tokens_by, date_of}
+use Rattle.mail_dates.proofs.Words.{◌≡◌, ◌∙◌, ℕ, pos, List, [], ◌∷◌, Option, Some, None, w32, FitsSigned, to_z-of_z, rules, refl, sym, ap, date_tokens, with_first, without_day_name, number_in, ◌>>=◌, day_number, month_of, year_of, time_of, offset_of, hours_west, date_of_parts_by, date_of_tokens_by, date_of}
 use Rattle.mail_dates.specs.HeaderDates.{without_comments}
 use Rattle.mail_dates.proofs.header_date.read_date.Goals as goal
 

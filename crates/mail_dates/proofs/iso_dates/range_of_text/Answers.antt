@@ -1,6 +1,5 @@
 -- `range_of_text` refuses four or more parts between dots, because the definition has no form for them.
-use Rattle.mail_dates.proofs.Words.{◌≡◌, ℕ, List, ◌∷◌, None, sym, ap, ◌∙◌, arith, day_number, is_dot}
-use Rattle.mail_dates.proofs.Words.{iso_range_of_parts_by}
+use Rattle.mail_dates.proofs.Words.{◌≡◌, ℕ, List, ◌∷◌, None, sym, ap, ◌∙◌, arith, day_number, is_dot, iso_range_of_parts_by}
 use Rattle.mail_dates.proofs.Cuts.{split_four}
 use Rattle.mail_dates.proofs.iso_dates.range_of_text.Goals as goal
 

@@ -1,6 +1,5 @@
 -- `full_date` returns the period of its three numbers, because four digits fit into a signed year.
-use Rattle.mail_dates.proofs.Words.{◌≡◌, ℕ, List, length, take, drop, Some, pos, to_z, w16, arith, ints, refl}
-use Rattle.mail_dates.proofs.Words.{take_rest, number_in}
+use Rattle.mail_dates.proofs.Words.{◌≡◌, ℕ, List, length, take, drop, Some, pos, to_z, w16, arith, ints, refl, take_rest, number_in}
 use Rattle.std.specs.Prelude.{slice_range}
 use Rattle.mail_dates.specs.declared.days.DaysOfYear.TheVariants as days
 use Rattle.mail_dates.specs.declared.period.Period.TheVariants.{InYear}

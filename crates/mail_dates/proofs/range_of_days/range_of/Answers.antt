@@ -1,7 +1,6 @@
 -- `range_of` returns the defined range, by the number of parts between dashes. The grammar's clauses follow by its
 -- laws.
-use Rattle.mail_dates.proofs.Words.{ℕ, List, ◌∷◌, sym, ◌∙◌, ap, day_number, range_at, range_by, range_of_parts_by}
-use Rattle.mail_dates.proofs.Words.{is_dash}
+use Rattle.mail_dates.proofs.Words.{ℕ, List, ◌∷◌, sym, ◌∙◌, ap, day_number, range_at, range_by, range_of_parts_by, is_dash}
 use Rattle.mail_dates.proofs.Cuts.{split_front}
 use Rattle.mail_dates.proofs.RangeReading.{range_answered, fault_answered}
 use Rattle.mail_dates.proofs.range_of_days.range_of.Goals as goal

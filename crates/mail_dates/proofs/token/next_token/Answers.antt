@@ -1,6 +1,5 @@
 -- `next_token` returns the first part that isn't empty, because an empty part between two gaps isn't a token.
-use Rattle.mail_dates.proofs.Words.{◌≡◌, ◌==◌, ℕ, List, [], ◌∷◌, true, false, length, refl, sym, ◌∙◌, arith, nat_tests}
-use Rattle.mail_dates.proofs.Words.{slice_split, date_tokens, is_gap, with_first}
+use Rattle.mail_dates.proofs.Words.{◌≡◌, ◌==◌, ℕ, List, [], ◌∷◌, true, false, length, refl, sym, ◌∙◌, arith, nat_tests, slice_split, date_tokens, is_gap, with_first}
 use Rattle.mail_dates.proofs.token.next_token.Goals as goal
 
 -- an empty part isn't a token

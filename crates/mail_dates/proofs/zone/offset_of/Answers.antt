@@ -1,6 +1,5 @@
 -- `offset_of` returns the offset in digits or that of a name, because both are numbers of 32 bits.
-use Rattle.mail_dates.proofs.Words.{◌≡◌, ◌<◌, ◌*◌, ℕ, ℤ, pos, neg_ℤ, ◌-ℤ◌, ◌*ℤ◌, of_z, to_z, w32, FitsSigned, arith}
-use Rattle.mail_dates.proofs.Words.{rules, ◌∙◌, ap, Option, unwrap_or, ints, to_z-of_z, offset_of, hours_west}
+use Rattle.mail_dates.proofs.Words.{◌≡◌, ◌<◌, ◌*◌, ℕ, ℤ, pos, neg_ℤ, ◌-ℤ◌, ◌*ℤ◌, of_z, to_z, w32, FitsSigned, arith, rules, ◌∙◌, ap, Option, unwrap_or, ints, to_z-of_z, offset_of, hours_west}
 use Rattle.mail_dates.proofs.zone.offset_of.Goals as goal
 
 west : (hours : ℕ) (z : ℤ) → hours < 9 → z ≡ pos hours

@@ -1,13 +1,9 @@
 -- `read_flags` reads letters as the definition does, letter by letter: a dash negates only the letter after it.
 use Rattle.mail_query.proofs.Words.{arith, nat_tests, length-map}
 use Rattle.mail_query.proofs.NodeLemmas.{query_of-Flag}
-use Rattle.mail_query.proofs.MairixLaws.FlagLemmas.{reads_letter, dash_read, dash_refused, no_letter, refused}
-use Rattle.mail_query.proofs.MairixLaws.FlagLemmas.{refused_at_end, asked_all}
+use Rattle.mail_query.proofs.MairixLaws.FlagLemmas.{reads_letter, dash_read, dash_refused, no_letter, refused, refused_at_end, asked_all}
 use Rattle.mail_query.proofs.flags.read_flags.Goals as goal
-use Rattle.mail_query.proofs.flags.read_flags.Goals.{then-letter-eq45+else-not-wanted}
-use Rattle.mail_query.proofs.flags.read_flags.Goals.{else-letter-eq45+in-Some+in_ok-add}
-use Rattle.mail_query.proofs.flags.read_flags.Goals.{then-not-wanted-2-via-then-not-wanted-2}
-use Rattle.mail_query.proofs.flags.read_flags.Goals.{then-not-wanted-2-via-else-not-wanted-2+then-is_empty}
+use Rattle.mail_query.proofs.flags.read_flags.Goals.{then-letter-eq45+else-not-wanted, else-letter-eq45+in-Some+in_ok-add, then-not-wanted-2-via-then-not-wanted-2, then-not-wanted-2-via-else-not-wanted-2+then-is_empty}
 
 pub returns-then-not-wanted : goal.returns-then-not-wanted
 returns-then-not-wanted c = grind (arith, dash_refused)

@@ -1,9 +1,6 @@
 -- `read_patterns` reads pattern by pattern and stops at the first fault; the grammar bounds how deep the query is.
-use Rattle.mail_query.proofs.Words.{◌≡◌, ◌≤◌, ◌<◌, length, map, string_bytes, Ok, OrMemory, QueryFaultKind, arith}
-use Rattle.mail_query.proofs.Words.{nat_tests, MatchResult-at_ok, depth, queries_of, all_of, pattern_query, IsAsked}
-use Rattle.mail_query.proofs.Words.{IsFirstFault, length-map, pattern_lexicon}
-use Rattle.mail_query.proofs.MairixLaws.EachLemmas.{at_number, reads_none, reads_all, patterns_made, reads_more}
-use Rattle.mail_query.proofs.MairixLaws.EachLemmas.{pattern_refused, pattern_here, texts_utf8}
+use Rattle.mail_query.proofs.Words.{◌≡◌, ◌≤◌, ◌<◌, length, map, string_bytes, Ok, OrMemory, QueryFaultKind, arith, nat_tests, MatchResult-at_ok, depth, queries_of, all_of, pattern_query, IsAsked, IsFirstFault, length-map, pattern_lexicon}
+use Rattle.mail_query.proofs.MairixLaws.EachLemmas.{at_number, reads_none, reads_all, patterns_made, reads_more, pattern_refused, pattern_here, texts_utf8}
 use Rattle.mail_query.proofs.MairixLaws.DepthLemmas.{asked_depth}
 use Rattle.mail_query.proofs.MairixLaws.MairixAnswers.{patterns_answer}
 use Rattle.mail_query.proofs.MairixLaws.MairixExact.{dates_plain}

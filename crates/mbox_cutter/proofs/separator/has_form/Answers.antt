@@ -1,6 +1,5 @@
 -- `has_form` compares a text with a form sign by sign, because a text of another length doesn't have the form.
-use Rattle.mbox_cutter.proofs.Words.{◌≡◌, ◌∙◌, ◌&&◌, ℕ, Bool, nat_eq, List, [], ◌∷◌, length, refl, sym, ap, arith}
-use Rattle.mbox_cutter.proofs.Words.{rules, tests, nat_tests, list_all, zip, has_form, stands_for}
+use Rattle.mbox_cutter.proofs.Words.{◌≡◌, ◌∙◌, ◌&&◌, ℕ, Bool, nat_eq, List, [], ◌∷◌, length, refl, sym, ap, arith, rules, tests, nat_tests, list_all, zip, has_form, stands_for}
 use lib.Pointwise.{pointwise_long}
 use Rattle.std.proofs.lemmas.Bool.{eqb-true}
 use Rattle.std.proofs.lemmas.Iterator.{YieldsList-from_slice, YieldsList-from_zip}

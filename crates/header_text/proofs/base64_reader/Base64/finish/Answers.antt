@@ -1,6 +1,5 @@
 -- `Base64::finish` adds the bytes of two or three symbols, because these come first in the group that `A` fills up.
-use Rattle.header_text.proofs.Words.{◌≡◌, ◌++◌, ℕ, List, [], ◌∷◌, length, drop, sym, ap₂, subst, arith, append-nil}
-use Rattle.header_text.proofs.Words.{take_all, symbols_of}
+use Rattle.header_text.proofs.Words.{◌≡◌, ◌++◌, ℕ, List, [], ◌∷◌, length, drop, sym, ap₂, subst, arith, append-nil, take_all, symbols_of}
 use Rattle.std.proofs.lemmas.List.{length-take}
 use Rattle.header_text.proofs.WordLaws.GroupLemmas.{AreSymbols}
 use Rattle.header_text.proofs.WordLaws.ReaderLemmas.{short-bytes, kept, to_come-end, filled-symbols, held-symbols}

@@ -1,6 +1,5 @@
 -- `FieldList::extend_last` makes only the last body longer, because only this one ends at the end of all bytes.
-use Rattle.header_text.proofs.Words.{◌≡◌, ◌∙◌, ◌++◌, ◌+◌, ◌<◌, ◌≤◌, ◌==◌, ℕ, Bool, true, false, List, length, sym}
-use Rattle.header_text.proofs.Words.{subst, arith, FieldPlace, fields_size, most_in_header}
+use Rattle.header_text.proofs.Words.{◌≡◌, ◌∙◌, ◌++◌, ◌+◌, ◌<◌, ◌≤◌, ◌==◌, ℕ, Bool, true, false, List, length, sym, subst, arith, FieldPlace, fields_size, most_in_header}
 use Rattle.std.specs.Prelude.{if◌then◌else◌}
 use Rattle.header_text.specs.Inside.Places.{AreKept, fields_at}
 use Rattle.header_text.proofs.HeaderLaws.PlaceLemmas.{AreKept-more, fields_at-append}

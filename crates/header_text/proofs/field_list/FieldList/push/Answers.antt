@@ -1,6 +1,5 @@
 -- `FieldList::push` adds one field after the others, because its name and its body are added at the end of all bytes.
-use Rattle.header_text.proofs.Words.{◌≡◌, ◌∙◌, ◌++◌, ℕ, List, [], ◌∷◌, ap, arith, length-append, append_assoc}
-use Rattle.header_text.proofs.Words.{FieldPlace, HeaderField}
+use Rattle.header_text.proofs.Words.{◌≡◌, ◌∙◌, ◌++◌, ℕ, List, [], ◌∷◌, ap, arith, length-append, append_assoc, FieldPlace, HeaderField}
 use Rattle.header_text.proofs.HeaderLaws.PlaceLemmas.{HoldsPushed, pushed}
 use Rattle.header_text.proofs.field_list.FieldList.push.Goals as goal
 use Rattle.header_text.proofs.field_list.FieldList.push.Goals.{After-unwrap-3}

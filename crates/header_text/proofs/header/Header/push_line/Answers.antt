@@ -1,8 +1,7 @@
 -- `Header::push_line` reads a line as the definition does, by the stage after it: open, full or ended.
 use Rattle.header_text.proofs.Words.{◌≡◌, refl, sym, arith, stage_after, Open, Full, Ended}
 use Rattle.header_text.proofs.HeaderLaws.HeaderLemmas.{fields_size-with}
-use Rattle.header_text.proofs.HeaderLaws.PushLemmas.{holds-counted, holds-skipped, holds-ended, has_empty-ended}
-use Rattle.header_text.proofs.HeaderLaws.PushLemmas.{never_ended, taken-next_ended, taken-next_more}
+use Rattle.header_text.proofs.HeaderLaws.PushLemmas.{holds-counted, holds-skipped, holds-ended, has_empty-ended, never_ended, taken-next_ended, taken-next_more}
 use Rattle.header_text.proofs.header.Header.push_line.Goals as goal
 
 pub returns-in-Ended-clause-lines : goal.returns-in-Ended-clause-lines

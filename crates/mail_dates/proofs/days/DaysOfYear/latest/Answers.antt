@@ -1,7 +1,6 @@
 -- `DaysOfYear::latest` returns the latest year that fits, because it goes down year by year from one after which none
 -- fits.
-use Rattle.mail_dates.proofs.Words.{◌≡◌, ℤ, negsuc, ◌≤ℤ◌, ◌<ℤ◌, true, false, of_z, to_z, w16, w32, arith, sym, ap, ◌∙◌}
-use Rattle.mail_dates.proofs.Words.{ints, to_z-of_z, day_number, days_in_by, begin_by}
+use Rattle.mail_dates.proofs.Words.{◌≡◌, ℤ, negsuc, ◌≤ℤ◌, ◌<ℤ◌, true, false, of_z, to_z, w16, w32, arith, sym, ap, ◌∙◌, ints, to_z-of_z, day_number, days_in_by, begin_by}
 use Rattle.mail_dates.proofs.LatestYear.{search_start, search_next, search_found, search_over}
 use Rattle.mail_dates.proofs.days.DaysOfYear.latest.Goals as goal
 use lib.Signed.{le_z}

@@ -1,6 +1,5 @@
 -- `field_of` finds the first row with the name, because a row with another name changes nothing.
-use Rattle.mail_query.proofs.Words.{◌≡◌, ◌<◌, ◌+◌, ◌∙◌, ℕ, List, length, drop, drop-cons, add-one, get_or, false}
-use Rattle.mail_query.proofs.Words.{bytes_eq, refl, sym, Field}
+use Rattle.mail_query.proofs.Words.{◌≡◌, ◌<◌, ◌+◌, ◌∙◌, ℕ, List, length, drop, drop-cons, add-one, get_or, false, bytes_eq, refl, sym, Field}
 use Rattle.std.specs.Borrow.{Bor}
 use Rattle.mail_query.proofs.boolean.field.field_of.Invariants.{field_in}
 use Rattle.mail_query.proofs.boolean.field.field_of.Goals as goal

@@ -1,8 +1,7 @@
 -- `next_token` returns the first token and the rest, by how the text begins: a parenthesis, nothing, or a run.
 use Rattle.std.proofs.Common.{arith}
 use Rattle.std.proofs.lemmas.Bool.Decides.{nat_tests}
-use Rattle.mail_query.proofs.BooleanLaws.TokenLemmas.{tokens-open, tokens-close, tokens-nothing, tokens-run}
-use Rattle.mail_query.proofs.BooleanLaws.TokenLemmas.{run_counted, begins_run, run_end}
+use Rattle.mail_query.proofs.BooleanLaws.TokenLemmas.{tokens-open, tokens-close, tokens-nothing, tokens-run, run_counted, begins_run, run_end}
 use Rattle.mail_query.proofs.boolean.token.next_token.Goals as goal
 
 pub returns-in-Some-clause-token : goal.returns-in-Some-clause-token

@@ -1,7 +1,5 @@
 -- `read_all` reads term by term and stops at the first fault, because it is given all parts between commas.
-use Rattle.mail_query.proofs.Words.{length, arith, lit<, Ok, ap, sym, ◌∙◌, slice_split, length_push, YieldsList-turn}
-use Rattle.mail_query.proofs.Words.{YieldsList-end, YieldsList-from_str_split, all_of, queries_of, refusal}
-use Rattle.mail_query.proofs.Words.{is_byte, forms_of, term_query}
+use Rattle.mail_query.proofs.Words.{length, arith, lit<, Ok, ap, sym, ◌∙◌, slice_split, length_push, YieldsList-turn, YieldsList-end, YieldsList-from_str_split, all_of, queries_of, refusal, is_byte, forms_of, term_query}
 use Rattle.mail_query.proofs.MairixLaws.EachLemmas.{reads_more, part_refused, parts_read}
 use Rattle.mail_query.proofs.mairix.terms.read_all.Goals as goal
 

@@ -1,8 +1,6 @@
 -- `read_rest` reads alternative by alternative and stops at the first fault, because it is given all parts between
 -- slashes.
-use Rattle.mail_query.proofs.Words.{length, arith, lit<, Ok, ap, sym, ◌∙◌, slice_split, length_push, YieldsList-turn}
-use Rattle.mail_query.proofs.Words.{YieldsList-end, YieldsList-from_str_split, either_of, queries_of, refusal}
-use Rattle.mail_query.proofs.Words.{is_byte, forms_of, all_query}
+use Rattle.mail_query.proofs.Words.{length, arith, lit<, Ok, ap, sym, ◌∙◌, slice_split, length_push, YieldsList-turn, YieldsList-end, YieldsList-from_str_split, either_of, queries_of, refusal, is_byte, forms_of, all_query}
 use Rattle.mail_query.proofs.MairixLaws.EachLemmas.{reads_more, part_refused, parts_read}
 use Rattle.mail_query.proofs.mairix.terms.read_rest.Goals as goal
 

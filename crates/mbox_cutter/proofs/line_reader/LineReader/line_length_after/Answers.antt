@@ -1,8 +1,6 @@
 -- `LineReader::line_length_after` returns the length of the next line, because it reads on until nothing to come can
 -- change it.
-use Rattle.mbox_cutter.proofs.Words.{ℕ, List, ◌<◌, length, take, ap, ◌∙◌, subst, sym, arith, IsAtEnd, take_all}
-use Rattle.mbox_cutter.proofs.Words.{BytesAhead}
-use Rattle.mbox_cutter.proofs.Words.{IsLine, line_end_of}
+use Rattle.mbox_cutter.proofs.Words.{ℕ, List, ◌<◌, length, take, ap, ◌∙◌, subst, sym, arith, IsAtEnd, take_all, BytesAhead, IsLine, line_end_of}
 use Rattle.mbox_cutter.proofs.FirstLines.{line_end-positive, line_end-within, line_end-open}
 use Rattle.mbox_cutter.proofs.LinesAreCut.{line_end-IsLine, open_end-IsLine}
 use Rattle.mbox_cutter.proofs.LineReaders.{at_some, at_end, ReadsOn-join, ReadsOn-failed}

@@ -2,8 +2,7 @@
 -- or not.
 use Rattle.mbox_cutter.proofs.Words.{◌≡◌, ◌<◌, true, false, arith, is_empty}
 use Rattle.mbox_cutter.proofs.Machine.{empty-short}
-use Rattle.mbox_cutter.proofs.ScanSteps.{found, found-on, closes-known, taken, end-steps, line-steps, open-steps}
-use Rattle.mbox_cutter.proofs.ScanSteps.{closed-steps, fault_inside-steps, unread-steps}
+use Rattle.mbox_cutter.proofs.ScanSteps.{found, found-on, closes-known, taken, end-steps, line-steps, open-steps, closed-steps, fault_inside-steps, unread-steps}
 use Rattle.mbox_cutter.proofs.scan.Scan.go_on.Goals as goal
 
 pub returns-in_err-n : goal.returns-in_err-n

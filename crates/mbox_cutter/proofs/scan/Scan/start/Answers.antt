@@ -1,8 +1,7 @@
 -- `Scan::start` takes the step between messages that the first line says which isn't empty, because it passes empty
 -- ones.
 use Rattle.mbox_cutter.proofs.Words.{◌≡◌, ◌<◌, true, false, ap, arith, is_empty, is_separator}
-use Rattle.mbox_cutter.proofs.ScanSteps.{found, taken, done-steps, start-steps, refused-steps, fault-steps}
-use Rattle.mbox_cutter.proofs.ScanSteps.{skipped-none, skipped-one, skipped-steps}
+use Rattle.mbox_cutter.proofs.ScanSteps.{found, taken, done-steps, start-steps, refused-steps, fault-steps, skipped-none, skipped-one, skipped-steps}
 use Rattle.mbox_cutter.proofs.scan.Scan.start.Goals as goal
 
 pub empties-init : goal.empties-init

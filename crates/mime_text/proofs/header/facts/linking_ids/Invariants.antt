@@ -1,6 +1,5 @@
 -- The ids so far, with those of the fields left, are all ids, and there is room for them.
-use Rattle.mime_text.proofs.Words.{fields_size, most_in_header, ids_size, ◌≡◌, ◌+◌, ◌≤◌, All, ◌++◌, ids_of_fields}
-use Rattle.mime_text.proofs.Words.{IsSizedId}
+use Rattle.mime_text.proofs.Words.{fields_size, most_in_header, ids_size, ◌≡◌, ◌+◌, ◌≤◌, All, ◌++◌, ids_of_fields, IsSizedId}
 use Rattle.mime_text.proofs.header.facts.linking_ids.Given as goal
 
 -- the ids so far, and those of the fields that are left; there is room for both

@@ -1,6 +1,5 @@
 -- `give_counted` gives the texts of all fields in order, field by field, and stops at the first fault.
-use Rattle.mime_text.proofs.Words.{◌≡◌, ◌∙◌, ◌≤◌, ◌++◌, List, [], ◌∷◌, true, ap, arith, rules, HeaderField, fields_size}
-use Rattle.mime_text.proofs.Words.{most_in_header, texts_of_fields, ComingPairs}
+use Rattle.mime_text.proofs.Words.{◌≡◌, ◌∙◌, ◌≤◌, ◌++◌, List, [], ◌∷◌, true, ap, arith, rules, HeaderField, fields_size, most_in_header, texts_of_fields, ComingPairs}
 use Rattle.mime_text.proofs.GivingLemmas.{texts-cons, gave-front, gave-after, broke-front}
 use Rattle.mime_text.proofs.Handing.{fault-up, gave-more, broke-later}
 use Rattle.mime_text.proofs.header.giving.give_counted.Goals as goal

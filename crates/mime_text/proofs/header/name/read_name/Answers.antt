@@ -1,6 +1,5 @@
 -- `read_name` reads the second parameter only if the first is empty or missing, and so does the definition.
-use Rattle.mime_text.proofs.Words.{◌≡◌, ◌==◌, true, length, [], ℕ, List, Option, Some, Result, OnOk, unwrap_or, arith}
-use Rattle.mime_text.proofs.Words.{rules}
+use Rattle.mime_text.proofs.Words.{◌≡◌, ◌==◌, true, length, [], ℕ, List, Option, Some, Result, OnOk, unwrap_or, arith, rules}
 use Rattle.std.specs.Option.{option_or}
 use Rattle.mime_text.proofs.LineSteps.{no_bytes}
 use Rattle.mime_text.specs.Names.{unless_empty}

@@ -1,6 +1,5 @@
 -- `give_lines` gives each whole line in order and stops at the first fault. A line has at most 65,537 bytes.
-use Rattle.mime_text.proofs.Words.{◌++◌, ℕ, List, arith, concat, line_end-positive, line_end-within, line_end-short}
-use Rattle.mime_text.proofs.Words.{pairs_of_bytes}
+use Rattle.mime_text.proofs.Words.{◌++◌, ℕ, List, arith, concat, line_end-positive, line_end-within, line_end-short, pairs_of_bytes}
 use Rattle.mime_text.proofs.Handing.{fault-up, gave-nothing, gave-more, broke-later}
 use Rattle.mime_text.proofs.LineSteps.{rest-start, rest-step, gave-line, broke-line}
 use Rattle.mime_text.proofs.leaf.held_line.give_lines.Goals as goal

@@ -1,6 +1,5 @@
 -- `give_rest` gives the whole lines and then the last one, which is short enough because it has no end.
-use Rattle.mime_text.proofs.Words.{◌∙◌, List, ℕ, [], ◌∷◌, refl, sym, arith, line_end-open, pairs_of_lines}
-use Rattle.mime_text.proofs.Words.{pairs_of_bytes}
+use Rattle.mime_text.proofs.Words.{◌∙◌, List, ℕ, [], ◌∷◌, refl, sym, arith, line_end-open, pairs_of_lines, pairs_of_bytes}
 use Rattle.mime_text.proofs.Handing.{fault-up, hands-later, hands-along}
 use Rattle.mime_text.proofs.LineSteps.{no_bytes, some_bytes, gave-all, gave-front, broke-front}
 use Rattle.mime_text.proofs.leaf.held_line.give_rest.Goals as goal

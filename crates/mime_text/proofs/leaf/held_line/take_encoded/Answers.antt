@@ -1,6 +1,5 @@
 -- `take_encoded` gives the lines that are whole now. It may skip the bytes held before, because they have no LF.
-use Rattle.mime_text.proofs.Words.{◌∙◌, ◌++◌, ℕ, List, [], ◌∷◌, sym, ap, arith, concat, still_decoded, pairs_of_bytes}
-use Rattle.mime_text.proofs.Words.{line_end-open}
+use Rattle.mime_text.proofs.Words.{◌∙◌, ◌++◌, ℕ, List, [], ◌∷◌, sym, ap, arith, concat, still_decoded, pairs_of_bytes, line_end-open}
 use Rattle.mime_text.proofs.Handing.{hands-along}
 use Rattle.mime_text.proofs.HeldLines.{held-free, still-free}
 use Rattle.mime_text.proofs.LineSteps.{concat-one}

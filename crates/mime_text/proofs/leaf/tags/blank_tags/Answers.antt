@@ -1,6 +1,5 @@
 -- `blank_tags` blanks a text span by span, because a tag begins at the next `<` and ends at the next `>`.
-use Rattle.mime_text.proofs.Words.{Some, None, ◌∷◌, sym, ap, length, length-append, arith, rules, IsCut, IsCut-from}
-use Rattle.mime_text.proofs.Words.{Lacks-from, span_end}
+use Rattle.mime_text.proofs.Words.{Some, None, ◌∷◌, sym, ap, length, length-append, arith, rules, IsCut, IsCut-from, Lacks-from, span_end}
 use Rattle.mime_text.proofs.TagReads.{cut_from_split, tags_read-start, tags_read-step, tags_read-end}
 use Rattle.mime_text.proofs.leaf.tags.blank_tags.Goals as goal
 use Rattle.mime_text.proofs.leaf.tags.blank_tags.Goals.{In_ok-push}

@@ -1,6 +1,5 @@
 -- `push_spaces` adds at most 64 spaces in a turn. It cuts between characters, because a space is one byte.
-use Rattle.mime_text.proofs.Words.{◌≡◌, ◌∙◌, ◌-◌, ℕ, take, replicate, ap, arith, string_bytes, take-replicate}
-use Rattle.mime_text.proofs.Words.{IsCharBoundary-from_ascii}
+use Rattle.mime_text.proofs.Words.{◌≡◌, ◌∙◌, ◌-◌, ℕ, take, replicate, ap, arith, string_bytes, take-replicate, IsCharBoundary-from_ascii}
 use Rattle.mime_text.proofs.TagReads.{spaces-ascii, spaces-more}
 use Rattle.mime_text.proofs.leaf.tags.push_spaces.Goals as goal
 

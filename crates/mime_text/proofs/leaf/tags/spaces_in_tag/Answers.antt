@@ -1,6 +1,5 @@
 -- `spaces_in_tag` returns a space for each byte, because in ASCII each byte is a character.
-use Rattle.mime_text.proofs.Words.{◌≡◌, ◌∙◌, ◌-◌, ℕ, take, length, replicate, ap, arith, take-replicate, Lacks}
-use Rattle.mime_text.proofs.Words.{Lacks-from, IsCharBoundary-from_ascii, IsAscii}
+use Rattle.mime_text.proofs.Words.{◌≡◌, ◌∙◌, ◌-◌, ℕ, take, length, replicate, ap, arith, take-replicate, Lacks, Lacks-from, IsCharBoundary-from_ascii, IsAscii}
 use Rattle.mime_text.proofs.TagReads.{spaces-ascii, blank-line}
 use Rattle.mime_text.proofs.leaf.tags.spaces_in_tag.Goals as goal
 

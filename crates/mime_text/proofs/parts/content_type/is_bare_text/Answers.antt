@@ -1,8 +1,5 @@
 -- `is_bare_text` looks for fields, because an entity without them has the default type, charset and encoding.
-use Rattle.mime_text.proofs.Words.{◌≡◌, ◌∙◌, List, [], Bool, true, false, not, refl, sym, HeaderField}
-use Rattle.mime_text.proofs.Words.{before_blanks, unfolded_body, piece_of, parameter, shape_of_value, charset_of_value}
-use Rattle.mime_text.proofs.Words.{charset_of, transfer_named, shape_of, charset_in, transfer_in, TextPlain, Text}
-use Rattle.mime_text.proofs.Words.{Utf8, Identity}
+use Rattle.mime_text.proofs.Words.{◌≡◌, ◌∙◌, List, [], Bool, true, false, not, refl, sym, HeaderField, before_blanks, unfolded_body, piece_of, parameter, shape_of_value, charset_of_value, charset_of, transfer_named, shape_of, charset_in, transfer_in, TextPlain, Text, Utf8, Identity}
 use Rattle.mime_text.proofs.parts.content_type.is_bare_text.Goals as goal
 
 shape-bare : (fields : List HeaderField) → fields ≡ [] → shape_of TextPlain fields ≡ Text false

@@ -1,7 +1,5 @@
 -- `media_type` returns the text before the first semicolon if it has a slash, and the default if not, as defined.
-use Rattle.mime_text.proofs.Words.{◌≡◌, ◌∙◌, ◌==◌, ℕ, Bool, true, false, List, Bor, Option, Some, None, refl, sym, ap}
-use Rattle.mime_text.proofs.Words.{rules, not, if◌then◌else◌, option_map, unwrap_or, without_outer_blanks, split_while}
-use Rattle.mime_text.proofs.Words.{split_while-cut, split_while-free, cut_at, DefaultType}
+use Rattle.mime_text.proofs.Words.{◌≡◌, ◌∙◌, ◌==◌, ℕ, Bool, true, false, List, Bor, Option, Some, None, refl, sym, ap, rules, not, if◌then◌else◌, option_map, unwrap_or, without_outer_blanks, split_while, split_while-cut, split_while-free, cut_at, DefaultType}
 use Rattle.mime_text.specs.Types.{type_text, has_slash, default_type, media_type}
 use Rattle.mime_text.specs.declared.parts.shape.DefaultType.TheVariants.{TextPlain, MessageRfc822}
 use Rattle.mime_text.proofs.parts.content_type.media_type.Goals as goal

@@ -1,6 +1,5 @@
 -- `outermost` returns the first frame that the line delimits, because frames go from the outermost to the innermost.
-use Rattle.mime_text.proofs.Words.{◌≡◌, ◌∙◌, suc, [], Option, Some, None, take, drop, ap, arith, add-one, slice_get}
-use Rattle.mime_text.proofs.Words.{Delimiter, Pair, or_else, scan, place_after_delimiter, inside_out, delimiter_of}
+use Rattle.mime_text.proofs.Words.{◌≡◌, ◌∙◌, suc, [], Option, Some, None, take, drop, ap, arith, add-one, slice_get, Delimiter, Pair, or_else, scan, place_after_delimiter, inside_out, delimiter_of}
 use Rattle.mime_text.proofs.FrameLemmas.{scan-at, got-at, or_else-led}
 use Rattle.mime_text.proofs.parts.nesting.outermost.Goals as goal
 

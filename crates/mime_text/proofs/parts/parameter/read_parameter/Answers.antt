@@ -1,12 +1,10 @@
 -- `read_parameter` writes the value of the first parameter with the name, because a piece with another name changes
 -- nothing.
-use Rattle.mime_text.proofs.Words.{false, option_map_or, ◌≡◌, ◌∙◌, List, ℕ, Option, Some, sym, ap, unwrap_or}
-use Rattle.mime_text.proofs.Words.{option_map, first_named, parameters_after, parameter, [], rules}
+use Rattle.mime_text.proofs.Words.{false, option_map_or, ◌≡◌, ◌∙◌, List, ℕ, Option, Some, sym, ap, unwrap_or, option_map, first_named, parameters_after, parameter, [], rules}
 use Rattle.header_text.specs.Names.{is_named}
 use Rattle.mime_text.proofs.ParameterLemmas.{piece-other, piece-found, later-measure, parameter-size}
 use Rattle.mime_text.proofs.parts.parameter.read_parameter.Goals as goal
-use Rattle.mime_text.proofs.parts.parameter.read_parameter.Goals.{Then-is_named, in_default-via-in-None-1}
-use Rattle.mime_text.proofs.parts.parameter.read_parameter.Goals.{in_default-via-in-Some-name+else-is_named}
+use Rattle.mime_text.proofs.parts.parameter.read_parameter.Goals.{Then-is_named, in_default-via-in-None-1, in_default-via-in-Some-name+else-is_named}
 
 pub loop-rest-init : goal.loop-rest-init
 unfolding parameter

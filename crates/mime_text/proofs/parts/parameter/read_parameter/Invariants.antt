@@ -1,7 +1,6 @@
 -- No parameter so far has the name, so those that are left decide. The loop ends because each piece makes the rest
 -- shorter.
-use Rattle.mime_text.proofs.Words.{◌≡◌, suc, length, option_map, option_map_or, first_named, parameters_after}
-use Rattle.mime_text.proofs.Words.{parameter}
+use Rattle.mime_text.proofs.Words.{◌≡◌, suc, length, option_map, option_map_or, first_named, parameters_after, parameter}
 use Rattle.mime_text.proofs.parts.parameter.read_parameter.Given as goal
 
 -- no parameter so far had the name, so those that are left decide

@@ -1,7 +1,5 @@
 -- `read_piece` reads a name and, after a `=`, its value, because the name is all of the text before the bytes after it.
-use Rattle.mime_text.proofs.Words.{◌≡◌, ◌∙◌, ◌-◌, ◌++◌, ℕ, List, Some, length, take, sym, ap, ap₂, eq-eqb, split_while}
-use Rattle.mime_text.proofs.Words.{after_blanks, without_outer_blanks, length-split_while, take-split_while, Parameter}
-use Rattle.mime_text.proofs.Words.{is_parameter_name_byte, value_and_rest}
+use Rattle.mime_text.proofs.Words.{◌≡◌, ◌∙◌, ◌-◌, ◌++◌, ℕ, List, Some, length, take, sym, ap, ap₂, eq-eqb, split_while, after_blanks, without_outer_blanks, length-split_while, take-split_while, Parameter, is_parameter_name_byte, value_and_rest}
 use Rattle.mime_text.proofs.ParameterLemmas.{piece-parameter}
 use Rattle.mime_text.proofs.parts.parameter.read_piece.Goals as goal
 

@@ -1,7 +1,5 @@
 -- `Reader::close` ends the innermost group as the definition does, by what was opened last: a `(`, a `not`, or nothing.
-use Rattle.mail_query.proofs.Words.{◌≡◌, ◌∙◌, Ok, Result, sym, subst, arith, Gives, query_of, refusal, shown_level}
-use Rattle.mail_query.proofs.Words.{shown_stack, State, state_after_operand, state_after_close, level_query}
-use Rattle.mail_query.proofs.Words.{QueryFaultKind}
+use Rattle.mail_query.proofs.Words.{◌≡◌, ◌∙◌, Ok, Result, sym, subst, arith, Gives, query_of, refusal, shown_level, shown_stack, State, state_after_operand, state_after_close, level_query, QueryFaultKind}
 use Rattle.mail_query.specs.Inside.Shown.{state_of_reader}
 use Rattle.mail_query.proofs.BooleanLaws.StackLemmas.{pops-close, pops-not}
 use Rattle.mail_query.proofs.boolean.reader.Reader.close.Goals as goal

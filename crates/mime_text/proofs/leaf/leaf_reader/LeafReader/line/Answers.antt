@@ -1,6 +1,5 @@
 -- `LeafReader::line` may give a line at once if nothing is encoded or held, because the line is then whole by itself.
-use Rattle.mime_text.proofs.Words.{◌≡◌, ◌++◌, ℕ, List, [], ◌∷◌, Some, length, refl, ap, concat, lines, line_end_of}
-use Rattle.mime_text.proofs.Words.{still_decoded, pairs_of_lines, pairs_of_bytes, LineTexts}
+use Rattle.mime_text.proofs.Words.{◌≡◌, ◌++◌, ℕ, List, [], ◌∷◌, Some, length, refl, ap, concat, lines, line_end_of, still_decoded, pairs_of_lines, pairs_of_bytes, LineTexts}
 use Rattle.mime_text.specs.declared.leaf.decoder.Decoder.{Decoder}
 use Rattle.mime_text.specs.declared.leaf.decoder.Decoder.TheVariants.{Identity}
 use Rattle.mime_text.proofs.Handing.{hands-along}

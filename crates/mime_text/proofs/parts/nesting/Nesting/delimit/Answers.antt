@@ -1,8 +1,6 @@
 -- `Nesting::delimit` leads where the definition does, because the outermost multipart that the line delimits counts.
-use Rattle.mime_text.proofs.Words.{◌≡◌, ◌∙◌, ◌<◌, ℕ, List, Option, Some, length, sym, ap, arith, Bor, slice_get}
-use Rattle.mime_text.proofs.Words.{option_map, length-take, Nest, dashes}
-use Rattle.mime_text.proofs.FrameLemmas.{no_dashes, scanned, closing-leads, next-leads, AreNested-take, AreNested-at}
-use Rattle.mime_text.proofs.FrameLemmas.{got-at}
+use Rattle.mime_text.proofs.Words.{◌≡◌, ◌∙◌, ◌<◌, ℕ, List, Option, Some, length, sym, ap, arith, Bor, slice_get, option_map, length-take, Nest, dashes}
+use Rattle.mime_text.proofs.FrameLemmas.{no_dashes, scanned, closing-leads, next-leads, AreNested-take, AreNested-at, got-at}
 use Rattle.mime_text.proofs.parts.nesting.Nesting.delimit.Goals as goal
 
 abbrev bytes_of : Option (Bor (List ℕ)) → Option (List ℕ)

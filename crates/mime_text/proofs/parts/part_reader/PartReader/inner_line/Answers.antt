@@ -1,6 +1,5 @@
 -- `PartReader::inner_line` reads a line of a leaf or of a header, by the state; one that ends a header begins a body.
-use Rattle.mime_text.proofs.Words.{◌≡◌, ◌∙◌, ◌++◌, ◌∷◌, ℕ, List, [], refl, sym, arith, HasLines, taken_of, More, Ended}
-use Rattle.mime_text.proofs.Words.{PartReader, Comes, ComesAfterHeader}
+use Rattle.mime_text.proofs.Words.{◌≡◌, ◌∙◌, ◌++◌, ◌∷◌, ℕ, List, [], refl, sym, arith, HasLines, taken_of, More, Ended, PartReader, Comes, ComesAfterHeader}
 use Rattle.mime_text.proofs.PassingLemmas.{passes-from, leaf-passes, more-passed, ended-comes, facts-ended}
 use Rattle.mime_text.proofs.parts.part_reader.PartReader.inner_line.Goals as goal
 
