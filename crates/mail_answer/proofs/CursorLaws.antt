@@ -5,6 +5,7 @@ pub mod Groups
 pub mod Lists
 pub mod LookUpSteps
 pub mod MarkedLists
+pub mod MarkedNumbers
 pub mod MemberLemmas
 pub mod Members
 pub mod NodeQueries
@@ -15,3 +16,4 @@ pub mod Texts
 pub mod TruthLists
 pub mod TruthReads
 pub mod Turns
+pub mod WindowMarks

@@ -10,6 +10,7 @@ pub mod Endings
 pub mod EveryAnswer
 pub mod HeaderReading
 pub mod MessageLines
+pub mod PartReads
 pub mod ReadingLemmas
 pub mod SentLemmas
 pub mod Separated

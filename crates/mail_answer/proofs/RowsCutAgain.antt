@@ -1,7 +1,5 @@
 -- Rows: messages that are closed and joined, and how they are cut again.
-use Rattle.mail_answer.proofs.Words.{◌≡◌, ℕ, List, [], ◌∷◌, Some, map, refl, codes, concat, spans_of, messages, lines}
-use Rattle.mail_answer.proofs.Words.{first_length, is_empty, is_separator, without_break, has_form, places_from}
-use Rattle.mail_answer.proofs.Words.{closed_text}
+use Rattle.mail_answer.proofs.Words.{◌≡◌, ℕ, List, [], ◌∷◌, Some, map, refl, codes, concat, spans_of, messages, lines, first_length, is_empty, is_separator, without_break, has_form, places_from, closed_text}
 
 -- texts that end without LF, in one LF, and in an empty line
 abbrev three : List (List ℕ)

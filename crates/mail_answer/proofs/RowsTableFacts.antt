@@ -1,8 +1,5 @@
 -- Rows: what a table of two messages says about them, and which of them each query chooses.
-use Rattle.mail_answer.proofs.Words.{◌≡◌, ℕ, true, false, List, [], ◌∷◌, map, replicate, None, Some, codes, refl, pos}
-use Rattle.mail_answer.proofs.Words.{Subject, Body, Name, Text, OwnId, LinkId, newest, Table, Kinds, no_kinds, Query}
-use Rattle.mail_answer.proofs.Words.{Any, Word, Part, Prefix, Date, Size, HasFlag, Not, All, Either, End, texts_with}
-use Rattle.mail_answer.proofs.Words.{facts_at, truths, chosen_numbers}
+use Rattle.mail_answer.proofs.Words.{◌≡◌, ℕ, true, false, List, [], ◌∷◌, map, replicate, None, Some, codes, refl, pos, Subject, Body, Name, Text, OwnId, LinkId, newest, Table, Kinds, no_kinds, Query, Any, Word, Part, Prefix, Date, Size, HasFlag, Not, All, Either, End, texts_with, facts_at, truths, chosen_numbers}
 use Rattle.mail_words.specs.declared.flags.Flag.TheVariants.{Seen}
 use Rattle.mail_query.specs.Query.{More}
 

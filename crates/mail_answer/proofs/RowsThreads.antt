@@ -1,6 +1,5 @@
 -- Rows: threads of a table of six messages, whose keys are link ids alone.
-use Rattle.mail_answer.proofs.Words.{◌≡◌, true, false, [], ◌∷◌, replicate, Some, codes, refl, OwnId, LinkId, newest}
-use Rattle.mail_answer.proofs.Words.{Table, no_record, are_linked, IsInThread, IsInThreadOfSome}
+use Rattle.mail_answer.proofs.Words.{◌≡◌, true, false, [], ◌∷◌, replicate, Some, codes, refl, OwnId, LinkId, newest, Table, no_record, are_linked, IsInThread, IsInThreadOfSome}
 
 -- The second message refers to the first, and the third answers the second. The fourth has no id. The fifth and the
 -- sixth refer to 0@x, which no message has.

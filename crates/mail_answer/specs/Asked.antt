@@ -7,6 +7,7 @@ use Rattle.mail_index.specs.Tables.{Archive, Table}
 use Rattle.mail_answer.specs.Answers.{fails_by}
 use Rattle.mail_answer.specs.Faults.{is_of_archives, is_stale, IfStale}
 use Rattle.mail_answer.specs.Mail.{Search, AreChosen}
+use Rattle.mail_answer.specs.MessageReads.{ReadsChosen}
 use Rattle.mail_answer.specs.Stale.{length_in_table}
 use Rattle.mail_answer.specs.TableAnswers.{mail_of_table}
 use Rattle.mail_answer.specs.TableFacts.{is_number_among, record_at}
@@ -89,6 +90,9 @@ pub record GoesOnAfter {A : Type 0} (g : Ghosts A) (t : Table) (s : Search) (fou
       × (fails_by is_stale result ≡ false)
   -- an archive that a read finds to end early is that of a message of the answer
   pub stale : IfErr result (λ fault. IfStale fault.kind (IsArchiveOfChosen t s))
+  -- Each message of the answer was read from its offset on, all of it for an mbox, and no read found that its archive
+  -- had ended. If one does, nothing more is read, and this archive is reported.
+  pub messages : ReadsChosen g t s found new result
 
 -- Another length or a failure is the result, and no byte is sent.
 abbrev pub GoesOnWith : {A : Type 0} → Ghosts A → Table → Search → Result (Unit {0}) AnswerFaultKind → A → A

@@ -4,7 +4,7 @@ use Rattle.std.specs.Prelude.{filter}
 use Rattle.mail_index.specs.declared.kind.Kind.{Kind}
 use Rattle.mail_index.specs.declared.kind.Kind.TheVariants.{Text, OwnId, LinkId}
 use Rattle.mail_index.specs.Tables.{Key, Table}
-use Rattle.mail_index.specs.LookUps.{keys_of, comparisons, comparisons_of_run}
+use Rattle.mail_index.specs.LookUps.{keys_of, comparisons}
 use Rattle.mail_query.specs.declared.kinds.Kinds.{Kinds}
 use Rattle.mail_query.specs.Kinds.{has_kind}
 use Rattle.mail_query.specs.Query.{Query, Word, Part, Prefix, Not, All, Either, Queries, End, More}
@@ -31,6 +31,10 @@ kinds_in kinds = filter (is_in kinds) (map Text text_kinds ++ OwnId ∷ [])
 abbrev pub numbers_of_keys : List Key → ℕ
 numbers_of_keys [] = 0
 numbers_of_keys (k ∷ ks) = length k.numbers + numbers_of_keys ks
+
+-- how many numbers all link ids have together
+abbrev pub link_numbers : Table → ℕ
+link_numbers t = numbers_of_keys (keys_of LinkId t.keys)
 
 -- how many numbers the keys of these kinds have together whose texts pass
 abbrev pub numbers_named : (List ℕ → Bool) → List Key → List Kind → ℕ
@@ -88,23 +92,9 @@ abbrev mutual
   look_up_steps_of_all keys End = 0
   look_up_steps_of_all keys (More q qs) = look_up_steps keys q + look_up_steps_of_all keys qs
 
--- how many comparisons find the runs of keys of a query: those for its text in each kind of each Prefix, and for all
--- keys in each kind of each Part
-abbrev mutual
-  pub run_finding_steps : List Key → Query → ℕ
-  run_finding_steps keys (Part kinds text) =
-      compared_in_all (λ kind. comparisons_of_run kind [] keys) (kinds_in kinds)
-  run_finding_steps keys (Prefix kinds text) =
-      compared_in_all (λ kind. comparisons_of_run kind text keys) (kinds_in kinds)
-  run_finding_steps keys (Not q) = run_finding_steps keys q
-  run_finding_steps keys (All qs) = run_finding_steps_of_all keys qs
-  run_finding_steps keys (Either qs) = run_finding_steps_of_all keys qs
-  run_finding_steps keys _ = 0
-
-  -- the same for the queries of a list together
-  pub run_finding_steps_of_all : List Key → Queries → ℕ
-  run_finding_steps_of_all keys End = 0
-  run_finding_steps_of_all keys (More q qs) = run_finding_steps keys q + run_finding_steps_of_all keys qs
+-- how many steps a search takes at most: those of its look-ups, and then those of a walk
+abbrev pub most_steps : Table → Query → ℕ
+most_steps t q = look_up_steps t.keys q + most_left t q
 
 -- each of the look-ups takes at most as many steps as the number of keys has binary digits
 pub record LooksUp (keys many old new : ℕ) : Type 0 where

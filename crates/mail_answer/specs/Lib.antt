@@ -2,6 +2,7 @@
 pub mod TableFacts
 pub mod Marks
 pub mod Mail
+pub mod MessageReads
 pub mod Threads
 pub mod CursorAhead
 pub mod Cursors

@@ -1,6 +1,6 @@
 -- What is read of an archive, piece after piece.
 use Rattle.std.specs.Prelude.{◌≡◌, ℕ, ◌+◌, ◌<◌, List, [], ◌∷◌, length, take, IfSome, Result, Ok}
-use Rattle.std.specs.List.{concat}
+use Rattle.std.specs.List.{concat, AllByRecursion}
 use Rattle.contract_words.specs.Archives.{archive_at}
 use Rattle.contract_words.specs.Knowledge.{WasKnown}
 use Rattle.mbox_cutter.specs.declared.device.DeviceFault.{DeviceFault}
@@ -30,3 +30,18 @@ pub record StopsWithin {A : Type 0} (g : Ghosts A) (n count : ℕ) (answer : Res
   pub last : g.reads before n (length bytes) answer new
   -- what is known after that read was known before it
   pub held : WasKnown (g.held before) (g.held new)
+
+-- These bytes of an archive were read from an offset on, in pieces, none of which is empty.
+pub record ReadsBytes {A : Type 0} (g : Ghosts A) (n offset : ℕ) (bytes : List ℕ) (old new : A) : Type 0 where
+  pub pieces : List (List ℕ)
+  pub joined : concat pieces ≡ bytes
+  pub some : AllByRecursion (λ piece. 0 < length piece) pieces
+  pub told : TellPieces g n offset pieces old new
+
+-- Fewer than `count` bytes of an archive were read in this way, and then a read of those after them gave none.
+pub record EndsWithin {A : Type 0} (g : Ghosts A) (n offset count : ℕ) (old new : A) : Type 0 where
+  pub bytes : List ℕ
+  pub before : A
+  pub front : ReadsBytes g n offset bytes old before
+  pub few : length bytes < count
+  pub last : g.reads before n (offset + length bytes) (Ok []) new

@@ -60,7 +60,9 @@ pub fn answer<A: Archives, O: Out>(
     // archive.
     ensures unsent { LeavesOutput (search_of query.now threads format) out.old out.new result }
     // If the number of archives isn't the one that was indexed, none is read. If it is, the length of each is read
-    // before anything else, once and in order. A raw answer reads nothing more of the archives.
+    // before anything else, once and in order. A raw answer reads nothing more of the archives. For the others each
+    // message is read from its offset on, for an mbox to its end. If a read finds that its archive has ended, that was
+    // the last one, and this archive is stale.
     ensures order { ReadsInOrder A.Archives index.now (search_of query.now threads format)
         archives.old archives.new result }
     // Each device's count of failures rises by one exactly if its failure is returned.

@@ -7,6 +7,7 @@ ghost use Rattle.mail_query.specs.Meaning.{meaning};
 ghost use Rattle.mail_answer.specs.TableFacts.{chosen_numbers};
 ghost use Rattle.mail_answer.specs.CursorAhead.{CountsPostings, Spends};
 ghost use Rattle.mail_answer.specs.CursorNumbers.{TakesFirst, TakesFrom};
+ghost use Rattle.mail_answer.specs.Cursors.{most_steps};
 
 mod begin;
 mod head;
@@ -15,6 +16,7 @@ mod marked;
 mod scanned;
 mod texts;
 mod walk;
+mod window;
 
 use crate::cursor::begin::walk_of;
 use crate::cursor::walk::Walk;
@@ -22,7 +24,6 @@ use mail_index::{CountedIndex, IndexView, Steps};
 use mail_query::Query;
 use std::alloc::{AllocError, Global};
 use std::marker::Model;
-use std::mem;
 
 /// The rising numbers that still come, of the messages of an index that satisfy a query. No list of them is kept.
 #[derive(Drop)]
@@ -47,16 +48,17 @@ impl<'a> Model for Cursor<'a> {
 
 impl<'a> Cursor<'a> {
     ghost use Rattle.mail_index.specs.Steps.{add_steps};
-    ghost use Rattle.mail_answer.specs.Cursors.{most_left, look_ups, look_up_steps, run_finding_steps, LooksUp};
+    ghost use Rattle.mail_answer.specs.Cursors.{most_left, look_ups, look_up_steps, LooksUp};
 
-    /// Begins a cursor over the messages of an index that satisfy a query, and counts the steps of its look-ups.
+    /// Begins a cursor over the messages of an index that satisfy a query.
     ///
-    /// It does what `over` does. The steps that find the keys of a Part or a Prefix aren't counted, because they look
-    /// up no key.
+    /// Takes all the memory that the cursor needs. Each Word looks up its text once in each of its kinds, and a look-up
+    /// takes at most as many steps as the number of keys has binary digits. A Part also reads each key of its kinds,
+    /// and a Prefix each key that begins with its text. To find these isn't counted, because it looks up no key.
     ///
     /// # Errors
     ///
-    /// `AllocError` if the memory of the cursor is refused.
+    /// `AllocError` if that memory is refused.
     pub fn new(
         alloc: Global,
         index: &IndexView<'a>,
@@ -71,42 +73,9 @@ impl<'a> Cursor<'a> {
         ensures steps { LooksUp (length index.now.keys) (look_ups (meaning query.now))
             steps.old steps.new }
     {
-        let so_far = mem::replace(steps, Steps::new(alloc, index));
-        let mut counted = CountedIndex::of(index, so_far, Steps::new(alloc, index));
-        let begun = Cursor::over(alloc, &mut counted, query);
-        let (taken, _run_steps) = counted.into_steps();
-        *steps = taken;
-        begun
-    }
-
-    /// Begins a cursor over the messages of an index that satisfy a query, with the counts of its caller.
-    ///
-    /// Takes all the memory that the cursor needs. Each Word looks up its text once in each of its kinds, and a look-up
-    /// takes at most as many steps as the number of keys has binary digits. A Part also reads each key of its kinds,
-    /// and a Prefix each key that begins with its text. The steps that find the keys of a Part or a Prefix have a count
-    /// of their own, because they look up no key.
-    ///
-    /// # Errors
-    ///
-    /// `AllocError` if that memory is refused.
-    pub fn over(
-        alloc: Global,
-        index: &mut CountedIndex<'a>,
-        query: &Query,
-    ) -> Result<Cursor<'a>, AllocError>
-        ensures numbers { IfOk result (λ c. c.numbers ≡ chosen_numbers index.old.table
-            (meaning query.now)) }
-        ensures left { IfOk result (λ c. c.left ≤ most_left index.old.table (meaning query.now)) }
-        ensures exact { IfOk result (λ _. index.new.steps ≡ add_steps index.old.steps
-            (look_up_steps index.old.table.keys (meaning query.now))) }
-        ensures steps { LooksUp (length index.old.table.keys) (look_ups (meaning query.now))
-            index.old.steps index.new.steps }
-        ensures runs { IfOk result (λ _. index.new.run_steps ≡ add_steps index.old.run_steps
-            (run_finding_steps index.old.table.keys (meaning query.now))) }
-        ensures table { index.new.table ≡ index.old.table }
-    {
+        let index = CountedIndex::of(index);
         let count = index.message_count();
-        let walk = walk_of(alloc, index, query.root())?;
+        let walk = walk_of(alloc, &index, query.root(), steps)?;
         Ok(Cursor {
             walk,
             low: 0,
@@ -146,13 +115,30 @@ fn numbers_of(
     cursor: &mut Cursor<'_>,
     steps: &mut Steps,
 ) -> Result<Vec<u32>, AllocError>
-    ensures { IfOk result (λ v. v.items ≡ cursor.old.numbers) }
+    ensures numbers { IfOk result (λ v. v.items ≡ cursor.old.numbers) }
+    ensures steps { Spends cursor.old.left cursor.new.left steps.old steps.new }
 {
     let mut numbers = Vec::new(alloc);
     while let Some(number) = cursor.next(steps) {
         numbers.push(number)?;
     }
     Ok(numbers)
+}
+
+/// The rising numbers, from 0, of the messages that satisfy the query: those of its cursor, with its steps on this
+/// count.
+pub(crate) fn matching(
+    alloc: Global,
+    index: &IndexView<'_>,
+    query: &Query,
+    steps: &mut Steps,
+) -> Result<Vec<u32>, AllocError>
+    ensures numbers { IfOk result (λ v. v.items ≡ chosen_numbers index.now (meaning query.now)) }
+    ensures steps { IfOk result (λ _. Spends (most_steps index.now (meaning query.now)) 0
+        steps.old steps.new) }
+{
+    let mut cursor = Cursor::new(alloc, index, query, steps)?;
+    numbers_of(alloc, &mut cursor, steps)
 }
 
 /// The rising numbers, from 0, of the messages that satisfy the query: those of its cursor.
@@ -163,8 +149,5 @@ fn numbers_of(
 pub fn matches(alloc: Global, index: &IndexView<'_>, query: &Query) -> Result<Vec<u32>, AllocError>
     ensures { IfOk result (λ v. v.items ≡ chosen_numbers index.now (meaning query.now)) }
 {
-    let mut counted = CountedIndex::of(index, Steps::new(alloc, index), Steps::new(alloc, index));
-    let mut cursor = Cursor::over(alloc, &mut counted, query)?;
-    let (mut steps, _run_steps) = counted.into_steps();
-    numbers_of(alloc, &mut cursor, &mut steps)
+    matching(alloc, index, query, &mut Steps::new(alloc, index))
 }

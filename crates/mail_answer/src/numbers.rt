@@ -6,8 +6,8 @@ ghost use Rattle.mail_answer.specs.CursorNumbers.{TakesFirst};
 ghost use Rattle.mail_answer.specs.Mail.{AreChosenBy};
 ghost use Rattle.mail_answer.specs.TableAnswers.{mail_of_table};
 
-use crate::cursor::{Cursor, matches};
-use crate::threads::with_threads;
+use crate::cursor::{Cursor, matching};
+use crate::threads::threads_of;
 use mail_index::{CountedIndex, IndexView, Steps};
 use mail_query::Query;
 use std::alloc::{AllocError, Global};
@@ -53,20 +53,16 @@ impl<'a> Numbers<'a> {
             (meaning query.now) numbers) }
         ensures numbers { IfOk result (λ numbers. AreNumbers (length index.now.messages) numbers) }
     {
-        let mut counted = CountedIndex::of(
-            index,
-            Steps::new(alloc, index),
-            Steps::new(alloc, index),
-        );
+        let mut steps = Steps::new(alloc, index);
         let source = if threads {
-            let satisfying = matches(alloc, index, query)?;
-            let numbers = with_threads(alloc, index, satisfying.as_slice())?;
+            let satisfying = matching(alloc, index, query, &mut steps)?;
+            let counted = CountedIndex::of(index);
+            let numbers = threads_of(alloc, &counted, satisfying.as_slice(), &mut steps)?;
             Source::Listed(numbers.into_iter())
         } else {
-            let cursor = Cursor::over(alloc, &mut counted, query)?;
+            let cursor = Cursor::new(alloc, index, query, &mut steps)?;
             Source::Walked(cursor)
         };
-        let (steps, _run_steps) = counted.into_steps();
         Ok(Numbers { source, steps })
     }
 

@@ -4,7 +4,10 @@
 //! message to its ids (decision 73 in docs/DECISIONS.md).
 ghost use Rattle.std.specs.Prelude.{◌≡◌, ◌<◌, ◌^◌, ℕ, nat_eq, length, filter, slice_index, IfOk};
 ghost use Rattle.std.specs.List.{All, AllByRecursion, list_any, range_with_len};
-ghost use Rattle.mail_index.specs.Tables.{IsWellFormed, RisesFrom};
+ghost use Rattle.mail_index.specs.Steps.{add_steps};
+ghost use Rattle.mail_index.specs.Tables.{RisesFrom};
+ghost use Rattle.mail_answer.specs.CursorAhead.{Spends};
+ghost use Rattle.mail_answer.specs.Cursors.{link_numbers};
 ghost use Rattle.mail_answer.specs.Marks.{truth_at, each_number};
 ghost use Rattle.mail_answer.specs.Threads.{AreThreads};
 ghost use Rattle.mail_answer.specs.Inside.Forests.{AreThreadRoots};
@@ -12,17 +15,18 @@ ghost use Rattle.mail_answer.specs.Inside.Forests.{AreThreadRoots};
 mod forest;
 
 use crate::threads::forest::{flatten, unite_by_keys};
-use mail_index::{IndexView, Kind, Steps};
+use mail_index::{CountedIndex, IndexView, Kind, Steps};
 use std::alloc::{AllocError, Global};
 
 /// Returns for each message the root of its thread: a message of the thread, the same for all of them.
 fn thread_roots(
     alloc: Global,
-    index: &IndexView<'_>,
+    index: &CountedIndex<'_>,
     steps: &mut Steps,
 ) -> Result<Vec<u32>, AllocError>
-    requires { IsWellFormed index.now }
-    ensures { IfOk result (λ v. AreThreadRoots index.now v.items) }
+    ensures roots { IfOk result (λ v. AreThreadRoots index.now v.items) }
+    ensures few { IfOk result (λ v. length v.items < 2 ^ 32) }
+    ensures steps { IfOk result (λ _. steps.new ≡ add_steps steps.old (link_numbers index.now)) }
 {
     // At first each message is the root of a tree of its own.
     let count = index.message_count();
@@ -30,7 +34,7 @@ fn thread_roots(
     for number in 0..count {
         roots.push(number)?;
     }
-    let keys = index.keys(Kind::LinkId, steps);
+    let keys = index.keys(Kind::LinkId);
     unite_by_keys(roots.as_mut_slice(), keys, steps);
     flatten(roots.as_mut_slice());
     Ok(roots)
@@ -68,6 +72,26 @@ fn with_same_root(alloc: Global, numbers: &[u32], roots: &[u32]) -> Result<Vec<u
     with_marked_root(alloc, roots, marks.as_slice())
 }
 
+/// Returns the numbers of all messages in the threads of these ones, as `with_threads` does, with its steps on this
+/// count.
+pub(crate) fn threads_of(
+    alloc: Global,
+    index: &CountedIndex<'_>,
+    numbers: &[u32],
+    steps: &mut Steps,
+) -> Result<Vec<u32>, AllocError>
+    requires rises { RisesFrom 0 numbers.now }
+    requires within { AllByRecursion (λ n. n < length index.now.messages) numbers.now }
+    ensures threads { IfOk result (λ v. AreThreads index.now numbers.now v.items) }
+    ensures steps { IfOk result (λ _. Spends (link_numbers index.now) 0 steps.old steps.new) }
+{
+    if numbers.is_empty() || index.keys(Kind::LinkId).next().is_none() {
+        return Vec::from_slice(alloc, numbers);
+    }
+    let roots = thread_roots(alloc, index, steps)?;
+    with_same_root(alloc, numbers, roots.as_slice())
+}
+
 /// Returns the numbers of all messages in the threads of these ones, rising, each once.
 ///
 /// Two messages are linked if they share a link id, even one that no message has as its own. The thread of a message is
@@ -88,11 +112,6 @@ pub fn with_threads(
     requires within { AllByRecursion (λ n. n < length index.now.messages) numbers.now }
     ensures { IfOk result (λ v. AreThreads index.now numbers.now v.items) }
 {
-    let index = index.again();
-    let mut steps = Steps::new(alloc, &index);
-    if numbers.is_empty() || index.keys(Kind::LinkId, &mut steps).next().is_none() {
-        return Vec::from_slice(alloc, numbers);
-    }
-    let roots = thread_roots(alloc, &index, &mut steps)?;
-    with_same_root(alloc, numbers, roots.as_slice())
+    let mut steps = Steps::new(alloc, index);
+    threads_of(alloc, &CountedIndex::of(index), numbers, &mut steps)
 }

@@ -1,10 +1,5 @@
 -- Rows: whole runs that were worked out by hand, checked by computation.
-use Rattle.mairix_tool.proofs.Words.{◌≡◌, ◌<◌, ℕ, zero, suc, Bool, true, false, nat_le, All, List, [], ◌∷◌, ◌++◌, map}
-use Rattle.mairix_tool.proofs.Words.{length, None, Ok, Err, refl, sym, subst, arith, inl, inr, All-cons, All-nil}
-use Rattle.mairix_tool.proofs.Words.{AreSound, table, mboxes, AreThreadsOf, AreChosen, IsLedToBySome, Fault, Wanted}
-use Rattle.mairix_tool.proofs.Words.{mail_in, shape, answer_of_text, answer_of_fault, IsReply, Query as Asked, Word}
-use Rattle.mairix_tool.proofs.Words.{Size, Not, End}
-use Rattle.mairix_tool.proofs.Words.{More, Format, Raw, Excerpt, is_number_among}
+use Rattle.mairix_tool.proofs.Words.{◌≡◌, ◌<◌, ℕ, zero, suc, Bool, true, false, nat_le, All, List, [], ◌∷◌, ◌++◌, map, length, None, Ok, Err, refl, sym, subst, arith, inl, inr, All-cons, All-nil, AreSound, table, mboxes, AreThreadsOf, AreChosen, IsLedToBySome, Fault, Wanted, mail_in, shape, answer_of_text, answer_of_fault, IsReply, Query as Asked, Word, Size, Not, End, More, Format, Raw, Excerpt, is_number_among}
 use Rattle.std.specs.Char.{encode_utf8}
 use Rattle.std.specs.Fmt.{digits}
 use Rattle.std.specs.Prelude.{codes}

@@ -1,4 +1,5 @@
 -- The laws of the table of archives, which says about messages what these say themselves.
+pub mod Alike
 pub mod Formed
 pub mod MailSame
 pub mod Messages

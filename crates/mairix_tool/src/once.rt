@@ -84,7 +84,8 @@ pub fn once_run<S: Source, A: Archives, O: Out>(
 
     // Whatever bytes sources and archives have: after the sources are indexed, the archives' lengths are read, before
     // anything else, and a raw answer reads nothing more. The reply is what that finds. An mbox answer has the bytes of
-    // each message, each closed.
+    // each message, each closed. If a read finds that an archive has ended within a message, that was the last read, and
+    // this archive is reported.
     ensures searched { (w : Asked) → asks words.now rc.now now ≡ Ok w
         → IndexesAndSearches A.Archives O.Out w (map S.rest sources.old)
         (map S.rest sources.new) archives.old archives.new out.old out.new result }

@@ -79,7 +79,8 @@ pub fn search_run<A: Archives, O: Out>(
 
     // Whatever bytes the archives have: with `--verify` they are verified first. Then their lengths are read before
     // anything else, and a raw answer reads nothing more. The reply is what that finds. An mbox answer has the bytes of
-    // each message, each closed.
+    // each message, each closed. If a read finds that an archive has ended within a message, that was the last read, and
+    // this archive is reported.
     ensures searched { (w : Asked) (t : Table) → asks words.now rc.now now ≡ Ok w
         → IsFileOfTable index.now t
         → SearchesStored A.Archives O.Out w t archives.old archives.new out.old out.new result }

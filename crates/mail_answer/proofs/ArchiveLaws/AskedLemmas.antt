@@ -1,8 +1,5 @@
 -- Archives whose lengths are read in order agree with the index, one archive after another.
-use Rattle.mail_answer.proofs.Words.{◌≡◌, ℕ, ◌+◌, ◌<◌, List, [], ◌∷◌, ◌++◌, map, length, length-take, take, take-add}
-use Rattle.mail_answer.proofs.Words.{drop, drop-cons, Option, IfSome, Ok, ap, sym, ◌∙◌, subst, arith, length-map}
-use Rattle.mail_answer.proofs.Words.{map-append, WasKnown, Archive, archive_at, TellLengths, indexed_lengths, Agree}
-use Rattle.mail_answer.proofs.Words.{Ghosts}
+use Rattle.mail_answer.proofs.Words.{◌≡◌, ℕ, ◌+◌, ◌<◌, List, [], ◌∷◌, ◌++◌, map, length, length-take, take, take-add, drop, drop-cons, Option, IfSome, Ok, ap, sym, ◌∙◌, subst, arith, length-map, map-append, WasKnown, Archive, archive_at, TellLengths, indexed_lengths, Agree, Ghosts}
 use Rattle.mail_answer.proofs.ArchiveLaws.KnowledgeLemmas.{some_later}
 
 -- the length of one more archive was read

@@ -1,9 +1,5 @@
 -- The digest of an archive that is read piece by piece is that of all its bytes, because the pieces are its front.
-use Rattle.mail_answer.proofs.Words.{◌≡◌, ℕ, ◌+◌, List, [], ◌∷◌, ◌++◌, append-nil, length, length-append, take}
-use Rattle.mail_answer.proofs.Words.{take-add, take_all, Option, Some, IfSome, Ok, ap, ap₂, sym, ◌∙◌, le-leb, subst}
-use Rattle.mail_answer.proofs.Words.{arith, concat-append, concat, sha256, WasKnown, archive_at, IsReadFromArchive}
-use Rattle.mail_answer.proofs.Words.{front_digest}
-use Rattle.mail_answer.proofs.Words.{AbsorbsPart, ReadsDigest, TellPieces, ReadsFront, Ghosts}
+use Rattle.mail_answer.proofs.Words.{◌≡◌, ℕ, ◌+◌, List, [], ◌∷◌, ◌++◌, append-nil, length, length-append, take, take-add, take_all, Option, Some, IfSome, Ok, ap, ap₂, sym, ◌∙◌, le-leb, subst, arith, concat-append, concat, sha256, WasKnown, archive_at, IsReadFromArchive, front_digest, AbsorbsPart, ReadsDigest, TellPieces, ReadsFront, Ghosts}
 use Rattle.sha2.specs.Hashers.{Holds256}
 use Rattle.sha2.specs.declared.Sha256.{Sha256}
 use Rattle.mail_answer.proofs.ArchiveLaws.KnowledgeLemmas.{some_later}

@@ -1,8 +1,5 @@
 -- The messages of an index are within archives that are as they were indexed, because these have the indexed lengths.
-use Rattle.mail_answer.proofs.Words.{◌≡◌, ℕ, zero, suc, ◌+◌, ◌<◌, ◌≤◌, ◌^◌, List, [], ◌∷◌, length, Option, None, Some}
-use Rattle.mail_answer.proofs.Words.{IfSome, arith, eqb-true, AllByRecursion, Record, Archive, Table, IsArchive}
-use Rattle.mail_answer.proofs.Words.{IsMessage, IsWellFormed, archive_length, archive_at, IsInsideArchive, span_reading}
-use Rattle.mail_answer.proofs.Words.{first_changed, stale_archive, record_at}
+use Rattle.mail_answer.proofs.Words.{◌≡◌, ℕ, zero, suc, ◌+◌, ◌<◌, ◌≤◌, ◌^◌, List, [], ◌∷◌, length, Option, None, Some, IfSome, arith, eqb-true, AllByRecursion, Record, Archive, Table, IsArchive, IsMessage, IsWellFormed, archive_length, archive_at, IsInsideArchive, span_reading, first_changed, stale_archive, record_at}
 
 -- the first archive hasn't changed, nor those after it
 head_unchanged : (n : ℕ) (a : Archive) (named : List Archive) (bytes : List ℕ) (archives : List (List ℕ))

@@ -1,7 +1,5 @@
 -- What is known after some calls was known before them. So what held of the known bytes then still holds.
-use Rattle.mail_answer.proofs.Words.{◌≡◌, ℕ, List, ◌++◌, Option, None, Some, IfSome, refl, subst, option_map, WasKnown}
-use Rattle.mail_answer.proofs.Words.{Raw, Excerpt, Mbox, Table, Reading, bytes_left, known_answer, joined_texts}
-use Rattle.mail_answer.proofs.Words.{IsInsideArchive}
+use Rattle.mail_answer.proofs.Words.{◌≡◌, ℕ, List, ◌++◌, Option, None, Some, IfSome, refl, subst, option_map, WasKnown, Raw, Excerpt, Mbox, Table, Reading, bytes_left, known_answer, joined_texts, IsInsideArchive}
 use Rattle.mail_answer.specs.declared.format.Format.{Format}
 
 -- what holds of what was known, and of nothing, holds of what is still known

@@ -1,6 +1,5 @@
 -- Archives that are passed one after another are those of the index, in order.
-use Rattle.mail_answer.proofs.Words.{◌≡◌, ℕ, zero, suc, ◌+◌, List, [], ◌∷◌, drop, ap, arith, Archive, ArePassed}
-use Rattle.mail_answer.proofs.Words.{path_at}
+use Rattle.mail_answer.proofs.Words.{◌≡◌, ℕ, zero, suc, ◌+◌, List, [], ◌∷◌, drop, ap, arith, Archive, ArePassed, path_at}
 use Rattle.mail_answer.proofs.ArchiveLaws.StaleLemmas.{next_named}
 
 next_path : (archives : List Archive) (n : ℕ) (a : Archive) (rest : List Archive) → drop n archives ≡ a ∷ rest

@@ -1,7 +1,5 @@
 -- The first changed archive is found by going from one archive to the next.
-use Rattle.mail_answer.proofs.Words.{◌≡◌, ℕ, ◌+◌, suc, ◌<◌, ◌≤◌, ◌==◌, cond, min, List, [], ◌∷◌, length, length-drop}
-use Rattle.mail_answer.proofs.Words.{drop, drop-cons, get_or, Option, None, Some, IfSome, zero, refl, ap, add-one}
-use Rattle.mail_answer.proofs.Words.{arith, ne_eqb, Archive, archive_at, first_changed, stale_archive, length_in_table}
+use Rattle.mail_answer.proofs.Words.{◌≡◌, ℕ, ◌+◌, suc, ◌<◌, ◌≤◌, ◌==◌, cond, min, List, [], ◌∷◌, length, length-drop, drop, drop-cons, get_or, Option, None, Some, IfSome, zero, refl, ap, add-one, arith, ne_eqb, Archive, archive_at, first_changed, stale_archive, length_in_table}
 use Rattle.std.proofs.lemmas.Bool.{eq-eqb}
 
 no_archive : Archive

@@ -1,14 +1,6 @@
 -- Archives are verified exactly if they are those that were indexed, because each digest is compared with the indexed
 -- one.
-use Rattle.mail_answer.proofs.Words.{◌≡◌, ℕ, zero, suc, ◌+◌, ◌<◌, Bool, true, false, ◌==◌, cond, List, [], ◌∷◌, ◌++◌}
-use Rattle.mail_answer.proofs.Words.{map, length, length-take, take, take-add, take_all, drop, drop-cons, Option, None}
-use Rattle.mail_answer.proofs.Words.{Some, IfSome, bytes_eq, refl, ap, ap₂, sym, ◌∙◌, subst, inl, inr, add-one, Result}
-use Rattle.mail_answer.proofs.Words.{Ok, Err, OnOk, arith, eqb-true, length-map, map-append, bytes_eq-Decides}
-use Rattle.mail_answer.proofs.Words.{AllByRecursion, option_map_or, option_or, sha256, WasKnown, Archive, IsArchive}
-use Rattle.mail_answer.proofs.Words.{archive_length, archive_at, front_digest, ReadsDigest, ReadsFront, first_changed}
-use Rattle.mail_answer.proofs.Words.{stale_archive, ReportsStale, has_digest, first_altered, unverified_archive}
-use Rattle.mail_answer.proofs.Words.{AreVerified, ReportsVerified, ReadEach, AreReadOnce, FindsDigests, Ghosts}
-use Rattle.mail_answer.proofs.Words.{AnswerFaultKind, Stale, Device, OutOfMemory, OutFailed}
+use Rattle.mail_answer.proofs.Words.{◌≡◌, ℕ, zero, suc, ◌+◌, ◌<◌, Bool, true, false, ◌==◌, cond, List, [], ◌∷◌, ◌++◌, map, length, length-take, take, take-add, take_all, drop, drop-cons, Option, None, Some, IfSome, bytes_eq, refl, ap, ap₂, sym, ◌∙◌, subst, inl, inr, add-one, Result, Ok, Err, OnOk, arith, eqb-true, length-map, map-append, bytes_eq-Decides, AllByRecursion, option_map_or, option_or, sha256, WasKnown, Archive, IsArchive, archive_length, archive_at, front_digest, ReadsDigest, ReadsFront, first_changed, stale_archive, ReportsStale, has_digest, first_altered, unverified_archive, AreVerified, ReportsVerified, ReadEach, AreReadOnce, FindsDigests, Ghosts, AnswerFaultKind, Stale, Device, OutOfMemory, OutFailed}
 use Rattle.std.proofs.lemmas.Bool.{eq-eqb}
 use Rattle.std.specs.Option.{option_eq}
 use Rattle.std.specs.Prelude.{IfErr}

@@ -1,13 +1,5 @@
 -- The walk of a query gives exactly the messages that satisfy it, by the walks of its members.
-use Rattle.mail_answer.proofs.Words.{◌≡◌, ◌∙◌, ◌+◌, ◌*◌, ◌^◌, ◌<◌, ◌≤◌, ℕ, Bool, false, not, ◌&&◌, ◌||◌, List, [], ◌∷◌}
-use Rattle.mail_answer.proofs.Words.{◌++◌, length, map, range_with_len, append_assoc, refl, sym, ap, subst, arith}
-use Rattle.mail_answer.proofs.Words.{Result, Ok, Err, IfOk, Vec, Global, rules, eqb, Option, add-mul, cases_order}
-use Rattle.mail_answer.proofs.Words.{eqb-false, get_or_past, Table, Node, the_lemmas, Query, Date, Size, Not, All}
-use Rattle.mail_answer.proofs.Words.{Either, query_of, queries_of, members_of, is_true, each_is_true, some_is_true}
-use Rattle.mail_answer.proofs.Words.{facts_at, truths, chosen_numbers, truth_at, most_left, most_left_of_all, look_ups}
-use Rattle.mail_answer.proofs.Words.{look_ups_of_all, LooksUp, WalkAhead, common, union_of, others, steps_left_in}
-use Rattle.mail_answer.proofs.Words.{some_has}
-use Rattle.mail_answer.proofs.Words.{numbers_to_come}
+use Rattle.mail_answer.proofs.Words.{◌≡◌, ◌∙◌, ◌+◌, ◌*◌, ◌^◌, ◌<◌, ◌≤◌, ℕ, Bool, false, not, ◌&&◌, ◌||◌, List, [], ◌∷◌, ◌++◌, length, map, range_with_len, append_assoc, refl, sym, ap, subst, arith, Result, Ok, Err, IfOk, Vec, Global, rules, eqb, Option, add-mul, cases_order, eqb-false, get_or_past, Table, Node, the_lemmas, Query, Date, Size, Not, All, Either, query_of, queries_of, members_of, is_true, each_is_true, some_is_true, facts_at, truths, chosen_numbers, truth_at, most_left, most_left_of_all, look_ups, look_ups_of_all, LooksUp, WalkAhead, common, union_of, others, steps_left_in, some_has, numbers_to_come}
 use Rattle.std.proofs.lemmas.Bool.{le-leb}
 use Rattle.std.proofs.lemmas.List.{append-nil}
 use Rattle.mail_dates.specs.declared.range.Range.{Range}

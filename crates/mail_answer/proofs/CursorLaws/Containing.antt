@@ -1,8 +1,5 @@
 -- A search for a text within another finds it exactly if it begins at some place, byte by byte.
-use Rattle.mail_answer.proofs.Words.{◌≡◌, ◌∙◌, ◌+◌, ◌<◌, ◌≤◌, ℕ, zero, suc, true, false, List, [], ◌∷◌, length, take}
-use Rattle.mail_answer.proofs.Words.{Option, Some, None, sym, ap, arith, nat_eq, is_some, starts_with, slice_index}
-use Rattle.mail_answer.proofs.Words.{ext_get_or, get_or-take, false_from_ne_true, or_left, or_right, or_from}
-use Rattle.mail_answer.proofs.Words.{bytes_eq-Decides, contains_text}
+use Rattle.mail_answer.proofs.Words.{◌≡◌, ◌∙◌, ◌+◌, ◌<◌, ◌≤◌, ℕ, zero, suc, true, false, List, [], ◌∷◌, length, take, Option, Some, None, sym, ap, arith, nat_eq, is_some, starts_with, slice_index, ext_get_or, get_or-take, false_from_ne_true, or_left, or_right, or_from, bytes_eq-Decides, contains_text}
 use Rattle.std.proofs.lemmas.List.{length-take-le, length-take}
 use Rattle.memchr.specs.Find.{OccursAt, FindsNeedle}
 

@@ -1,7 +1,5 @@
 -- Walks that are joined group by group have the messages of all of them, and each round leaves fewer walks.
-use Rattle.mail_answer.proofs.Words.{◌≡◌, ◌∙◌, ◌+◌, ◌-◌, ◌*◌, ◌<◌, ◌≤◌, ℕ, Bool, ◌||◌, List, [], ◌∷◌, ◌++◌, length}
-use Rattle.mail_answer.proofs.Words.{take, drop, refl, sym, ap, arith, length-append, take-append-drop, or_assoc}
-use Rattle.mail_answer.proofs.Words.{truth_at, WalkAhead, union_of, steps_left_in, some_has}
+use Rattle.mail_answer.proofs.Words.{◌≡◌, ◌∙◌, ◌+◌, ◌-◌, ◌*◌, ◌<◌, ◌≤◌, ℕ, Bool, ◌||◌, List, [], ◌∷◌, ◌++◌, length, take, drop, refl, sym, ap, arith, length-append, take-append-drop, or_assoc, truth_at, WalkAhead, union_of, steps_left_in, some_has}
 use Rattle.std.proofs.lemmas.List.{length-take-le}
 use Rattle.mail_answer.proofs.CursorLaws.Members.{united-at, some-append}
 use Rattle.mail_answer.proofs.CursorLaws.Texts.{left-append}

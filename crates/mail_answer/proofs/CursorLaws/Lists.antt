@@ -1,9 +1,5 @@
 -- A posting list whose first numbers are dropped still has all others, because its numbers rise.
-use Rattle.mail_answer.proofs.Words.{◌≡◌, ◌∙◌, ◌<◌, ◌≤◌, ℕ, suc, true, false, List, [], ◌∷◌, ◌++◌, append_assoc, Option}
-use Rattle.mail_answer.proofs.Words.{Some, None, refl, sym, ap, subst, arith, MatchOption, AllByRecursion}
-use Rattle.mail_answer.proofs.Words.{option_to_list, ltb-true, ltb-false, cases_lt, ne_eqb, RisesFrom, is_number_among}
-use Rattle.mail_answer.proofs.Words.{truth_at, Drops, IsFirst, numbers_ahead, truths_among, AreNumbers, is_before}
-use Rattle.mail_answer.proofs.Words.{slice_get}
+use Rattle.mail_answer.proofs.Words.{◌≡◌, ◌∙◌, ◌<◌, ◌≤◌, ℕ, suc, true, false, List, [], ◌∷◌, ◌++◌, append_assoc, Option, Some, None, refl, sym, ap, subst, arith, MatchOption, AllByRecursion, option_to_list, ltb-true, cases_lt, ne_eqb, RisesFrom, is_number_among, truth_at, Drops, IsFirst, numbers_ahead, truths_among, AreNumbers, is_before, Bool, slice_get, Adds, IfNone, ◌+◌, ◌||◌}
 use Rattle.std.proofs.lemmas.List.{append-nil}
 use Rattle.std.proofs.lemmas.Bool.{eq-eqb}
 use Rattle.mail_answer.specs.Inside.CursorLists.{AreDroppedBelow}
@@ -23,14 +19,14 @@ all_after : (P : ℕ → Type 0) (front rest : List ℕ) → AllByRecursion P (f
 all_after P [] rest all = all
 all_after P (n ∷ ns) rest all = all_after P ns rest all.1
 
-all_joined : (P : ℕ → Type 0) (front rest : List ℕ) → AllByRecursion P front → AllByRecursion P rest
+pub all_joined : (P : ℕ → Type 0) (front rest : List ℕ) → AllByRecursion P front → AllByRecursion P rest
     → AllByRecursion P (front ++ rest)
 all_joined P [] rest all more = more
 all_joined P (n ∷ ns) rest all more = (all.0, all_joined P ns rest all.1 more)
 
 -- ---- which numbers are among them
 
-not_below : (low m : ℕ) (ns : List ℕ) → m < low → RisesFrom low ns → is_number_among m ns ≡ false
+pub not_below : (low m : ℕ) (ns : List ℕ) → m < low → RisesFrom low ns → is_number_among m ns ≡ false
 not_below low m [] lt rises = refl
 not_below low m (n ∷ ns) lt rises = grind (arith, ne_eqb, not_below (suc n) m ns (omega (arith, rises.0)) rises.1)
 
@@ -49,10 +45,6 @@ pub among-at : (count m : ℕ) (ns : List ℕ) → AreNumbers count ns → truth
 among-at count m ns are = grind (arith, cases_lt, each-at, each-past, past_all)
 
 -- ---- the first numbers are dropped
-
-pub cut_none : (first : Option ℕ) (n : ℕ) (ns : List ℕ) → is_before first n ≡ false
-    → RisesFrom 0 (numbers_ahead first ns) → AreDroppedBelow n (numbers_ahead first ns) (numbers_ahead first ns)
-cut_none first n ns h h2 = grind (arith, ltb-false)
 
 before_all : (first : Option ℕ) (n : ℕ) → is_before first n ≡ true → AllByRecursion (λ m. m < n) (option_to_list first)
 before_all first n h = grind (arith, ltb-true)
@@ -101,26 +93,22 @@ pub first_among : (count : ℕ) (ns : List ℕ) → AreNumbers count ns → IsFi
 first_among count [] h = grind (arith, among-at)
 first_among count (n ∷ ns) h = grind (arith, among-at, eq-eqb, not_below)
 
--- a first number that isn't below n stays
-pub stays_first : (count n : ℕ) (first : Option ℕ) (ns : List ℕ) → is_before first n ≡ false
-    → AreNumbers count (numbers_ahead first ns) → IsFirst (truths_among count (numbers_ahead first ns)) first
-stays_first count n None ns far are = absurd cc
-stays_first count n (Some m) ns far are = first_among count (m ∷ ns) are
+-- what is left of the numbers has its first number in hand, unless none is left
+pub cut_first : (count n : ℕ) (old : List ℕ) (first : Option ℕ) (after : List ℕ) → AreNumbers count old
+    → AreDroppedBelow n old (numbers_ahead first after) → IfNone first (after ≡ [])
+    → IsFirst (truths_among count (numbers_ahead first after)) first
+cut_first count n old None after are cut ended =
+    subst (IsFirst (truths_among count after)) (ap (λ (ns : List ℕ). slice_get ns 0) ended)
+    (first_among count after (cut_numbers count n old after are cut))
+cut_first count n old (Some m) after are cut ended =
+    first_among count (m ∷ after) (cut_numbers count n old (m ∷ after) are cut)
 
-gave_first : (count n : ℕ) (old new : List ℕ) (number : Option ℕ) → Gave n old new number
-    → AreNumbers count (numbers_ahead number new) → IsFirst (truths_among count (numbers_ahead number new)) number
-gave_first count n old new None gave are =
-    subst (IsFirst (truths_among count new)) (ap (λ (ns : List ℕ). slice_get ns 0) gave.1) (first_among count new are)
-gave_first count n old new (Some m) gave are = first_among count (m ∷ new) are
-
--- otherwise the list gives the first number
-pub goes_on : (count n : ℕ) (first : Option ℕ) (old new : List ℕ) (number : Option ℕ) → is_before first n ≡ true
-    → AreNumbers count (numbers_ahead first old) → Gave n old new number
-    → AreNumbers count (numbers_ahead number new) × IsFirst (truths_among count (numbers_ahead number new)) number
-goes_on count n first old new number before are gave =
-    let then : AreNumbers count (numbers_ahead number new) =
-    cut_numbers count n (numbers_ahead first old) (numbers_ahead number new) are
-    (cut_more first n old new number before are.rises gave) in (
-      then,
-      gave_first count n old new number gave then,
-    )
+-- the numbers that are marked are those of the messages that still come
+pub cut_marks : (count start : ℕ) (numbers : List ℕ) (marks now : List Bool) → AreNumbers count numbers
+    → Adds (λ k. is_number_among (start + k) numbers) marks now
+    → Adds (λ k. truth_at (truths_among count numbers) (start + k)) marks now
+cut_marks count start numbers marks now are adds = record {
+  long = adds.long;
+  each = λ k lt. adds.each k lt
+      ∙ ap (λ (b : Bool). truth_at marks k || b) (sym (among-at count (start + k) numbers are));
+}

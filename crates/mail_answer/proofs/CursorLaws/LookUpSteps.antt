@@ -1,7 +1,5 @@
 -- The steps of look-ups are exactly the comparisons of their binary searches, kind by kind and member by member.
-use Rattle.mail_answer.proofs.Words.{◌≡◌, ◌∙◌, ◌+◌, ◌<◌, ◌≤◌, ℕ, true, false, List, [], ◌∷◌, ◌++◌, length, map, drop}
-use Rattle.mail_answer.proofs.Words.{get_or, sym, ap, arith, Result, Ok, Err, IfOk, filter, Kind, Text, OwnId}
-use Rattle.mail_answer.proofs.Words.{text_kinds, Query, members_of, Kinds, is_in, compared_in_all, add_steps}
+use Rattle.mail_answer.proofs.Words.{◌≡◌, ◌∙◌, ◌+◌, ◌<◌, ◌≤◌, ℕ, true, false, List, [], ◌∷◌, ◌++◌, length, map, drop, get_or, sym, ap, arith, Result, Ok, Err, IfOk, filter, Kind, Text, OwnId, text_kinds, Query, members_of, Kinds, is_in, compared_in_all, add_steps}
 use Rattle.mail_query.specs.Query.{Queries, End, More}
 use Rattle.mail_index.proofs.ViewLaws.StepLemmas.{add_steps-none, add_steps-both}
 use Rattle.mail_answer.proofs.CursorLaws.Texts.{coming_at}

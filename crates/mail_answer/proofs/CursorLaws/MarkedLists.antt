@@ -1,14 +1,5 @@
 -- The marks of a window and the rest of the lists have the same messages as the lists had, list by list.
-use Rattle.mail_answer.proofs.Words.{◌≡◌, ◌∙◌, ◌+◌, ◌-◌, ◌^◌, ◌<◌, ◌≤◌, ℕ, zero, suc, Bool, true, false, ◌||◌, max}
-use Rattle.mail_answer.proofs.Words.{List, [], ◌∷◌, ◌++◌, length, take, replicate, get_or, Option, Some, None, Result}
-use Rattle.mail_answer.proofs.Words.{IfOk, refl, sym, ap, subst, arith, inl, inr, list_any, sum_by, swap_remove, set}
-use Rattle.mail_answer.proofs.Words.{length-set, length-replicate, get_or-set_same, get_or-replicate, get_or_past}
-use Rattle.mail_answer.proofs.Words.{get_or_append_left, get_or-append-add, take-set, take-take, take_more_set}
-use Rattle.mail_answer.proofs.Words.{cases_lt, both_ways, or_left, or_right, or_from, lt-leb, or_assoc, or_comm}
-use Rattle.mail_answer.proofs.Words.{add_steps, truth_at, Adds, WalkAhead, CountsSteps, Drops, IsFirst, steps_left_in}
-use Rattle.mail_answer.proofs.Words.{union_of}
-use Rattle.mail_answer.proofs.Words.{lesser_of, AreFew, HaveMarks, IsFirstMark, marked_or_listed, those_from}
-use Rattle.mail_answer.proofs.Words.{truths_marked, some_has}
+use Rattle.mail_answer.proofs.Words.{◌≡◌, ◌∙◌, ◌+◌, ◌-◌, ◌^◌, ◌<◌, ◌≤◌, ℕ, zero, suc, Bool, true, false, ◌||◌, max, List, [], ◌∷◌, ◌++◌, length, take, replicate, get_or, Option, Some, None, Result, IfOk, refl, sym, ap, subst, arith, inl, inr, list_any, sum_by, swap_remove, set, length-set, length-replicate, get_or-set_same, get_or-replicate, get_or_past, get_or_append_left, get_or-append-add, take-set, take-take, take_more_set, cases_lt, both_ways, or_left, or_from, lt-leb, or_assoc, or_comm, add_steps, truth_at, Adds, WalkAhead, CountsSteps, Drops, IsFirst, steps_left_in, union_of, lesser_of, AreFew, HaveMarks, IsFirstMark, marked_or_listed, those_from, truths_marked, some_has, marks_in}
 use Rattle.std.proofs.lemmas.List.{take_all}
 use Rattle.std.proofs.lemmas.List.Sorted.{IsPermutation-swap_remove, list_any-IsPermutation}
 use Rattle.std.proofs.lemmas.List.Sums.{sum_by-swap_remove, sum_by-cons}
@@ -18,6 +9,7 @@ use Rattle.mail_answer.specs.declared.cursor.head.Head.TheVariants.{Unasked, Ask
 use Rattle.mail_answer.proofs.CursorLaws.Groups.{swap_last}
 use Rattle.mail_answer.proofs.CursorLaws.Members.{Firsts, some-append, united-at, left-set, firsts_same, firsts_lesser}
 use Rattle.mail_answer.proofs.CursorLaws.TruthReads.{each-at, each-past, one_or_other-at}
+use Rattle.mail_answer.proofs.CursorLaws.WindowMarks.{blank-long, unmarked-in}
 
 -- ---- truths
 
@@ -87,34 +79,11 @@ pub turn_counts : (ws : List WalkAhead) (i left0 steps0 steps steps1 : ℕ) (w v
     → CountsSteps left0 (steps_left_in (set ws i v)) steps0 steps1
 turn_counts ws i left0 steps0 steps steps1 w v lt is earlier here = grind (arith, counts_more, set, left-set)
 
--- ---- the messages of one list
-
--- messages of the list in the window are marked or still come, and those before it are dropped
-pub record HasMarked (start : ℕ) (list marks rest now : List Bool) : Type 0 where
-  pub long : length now ≡ length marks
-  pub moved : (k : ℕ) → k < length marks → (truth_at now k || truth_at rest (start + k))
-      ≡ (truth_at marks k || truth_at list (start + k))
-  pub after : (m : ℕ) → start + length marks ≤ m → truth_at rest m ≡ truth_at list m
-  pub before : (m : ℕ) → m < start → truth_at rest m ≡ false
-  pub were : (m : ℕ) → truth_at rest m ≡ true → truth_at list m ≡ true
-
--- how many numbers may still follow the first
-abbrev pub room_after : Option ℕ → ℕ
-room_after None = 0
-room_after (Some n) = 2 ^ 32 - n
+-- ---- the messages of all lists
 
 -- what dropping leaves was there before
 kept : (n : ℕ) (xs ys : List Bool) → Drops n xs ys → (m : ℕ) → truth_at ys m ≡ true → truth_at xs m ≡ true
 kept n xs ys drops m here = grind (arith, cases_lt, both_ways)
-
-module _ (start : ℕ) (list marks rest now : List Bool) (has : HasMarked start list marks rest now) where
-  passed : ((m : ℕ) → m < start + length marks → truth_at rest m ≡ false) → Drops (start + length marks) list rest
-  passed none = record { rest = has.after; below = none }
-
-  pub ended_drops : IsFirst rest None → Drops (start + length marks) list rest
-  ended_drops none = passed (λ m lt. none m)
-
--- ---- the messages of all lists
 
 -- messages of the lists in the window are marked or still come; those of the first lists up to its end are dropped
 pub record HaveMarked (start : ℕ) (lists : List WalkAhead) (marks : List Bool) (place : ℕ) (now_lists : List WalkAhead)
@@ -130,16 +99,6 @@ pub record HaveMarked (start : ℕ) (lists : List WalkAhead) (marks : List Bool)
 module _ (start : ℕ) (lists : List WalkAhead) (marks : List Bool) (place : ℕ) (ws : List WalkAhead) (now : List Bool)
     (least : Option ℕ) (have : HaveMarked start lists marks place ws now least) (w : WalkAhead) (lt : place < length ws)
     (is : w ≡ get_or ws place w) where
-  pub list_few : (m : ℕ) → truth_at w.truths m ≡ true → m + 1 < 2 ^ 32
-  list_few m here = have.few m (has_some ws place lt is)
-    where
-      has_some : (vs : List WalkAhead) (i : ℕ) → i < length vs → w ≡ get_or vs i w → some_has m vs ≡ true
-      has_some [] i less same = absurd (omega (arith, less))
-      has_some (x ∷ vs) zero less same = or_left (truth_at x.truths m) (some_has m vs)
-          (sym (ap (λ (a : WalkAhead). truth_at a.truths m) same) ∙ here)
-      has_some (x ∷ vs) (suc i) less same = or_right (truth_at x.truths m) (some_has m vs)
-          (has_some vs i (omega (arith, less)) same)
-
   module _ (v : WalkAhead) (now' : List Bool) (dropped : Drops (start + length now) w.truths v.truths)
       (adds : Adds (λ k. truth_at w.truths (start + k)) now now') where
     drops : Drops (start + length marks) w.truths v.truths
@@ -282,12 +241,6 @@ unmarked-at start low marks lists none m le = grind (arith, both-at, cases_lt, p
 
 -- ---- a window begins anew
 
-none_at : (marks : List Bool) → marks ≡ replicate 4096 false → (k : ℕ) → truth_at marks k ≡ false
-none_at marks none k = ap (λ (xs : List Bool). truth_at xs k) none ∙ elim (cases_lt k 4096) [
-  | inl lt ↦ get_or-replicate 4096 k false false lt
-  | inr past ↦ get_or_past (replicate 4096 false) k false (omega (arith, past, length-replicate 4096 false))
-]
-
 -- a window without messages
 pub drops_at_once : (n : ℕ) (old new : List Bool) → Drops (n + 0) old new → Drops n old new
 drops_at_once n old new drops = let same : n + 0 ≡ n = omega arith in subst (λ (k : ℕ). Drops k old new) same drops
@@ -296,13 +249,16 @@ few_kept : (n : ℕ) (old new : List WalkAhead) → AreFew old → Drops n (unio
 few_kept n old new few drops = λ m here. few m
     (sym (united-at m old) ∙ kept n (union_of old) (union_of new) drops m (united-at m new ∙ here))
 
-module _ (n start : ℕ) (cleared : List Bool) (lists cut : List WalkAhead) (few : AreFew lists)
-    (drops : Drops n (union_of lists) (union_of cut)) (clear : cleared ≡ replicate 4096 false) where
-  unmarked : (k : ℕ) → truth_at cleared k ≡ false
-  unmarked = none_at cleared clear
+module _ (n start : ℕ) (words : List ℕ) (lists cut : List WalkAhead) (few : AreFew lists)
+    (drops : Drops n (union_of lists) (union_of cut)) (clear : words ≡ replicate 512 0) where
+  abbrev pub cleared : List Bool
+  cleared = marks_in words
 
-  long : length cleared ≡ 4096
-  long = ap length clear ∙ length-replicate 4096 false
+  unmarked : (k : ℕ) → truth_at cleared k ≡ false
+  unmarked k = ap (λ (ws : List ℕ). truth_at (marks_in ws) k) clear ∙ unmarked-in 512 k
+
+  long : length cleared ≡ 32768
+  long = ap (λ (ws : List ℕ). length (marks_in ws)) clear ∙ blank-long 512
 
   pub few_cut : AreFew cut
   few_cut = few_kept n lists cut few drops
@@ -417,16 +373,26 @@ module _ (n low low' start : ℕ) (marks : List Bool) (lists : List WalkAhead) (
 
 -- ---- a walk begins
 
-pub begins_marked : (lists : List WalkAhead) (marks : List Bool) → marks ≡ replicate 4096 false → (m : ℕ)
-    → truth_at (truths_marked 0 0 marks lists) m ≡ some_has m lists
-begins_marked lists marks none m =
-    those-from 0 (marked_or_listed 0 marks lists) m (omega arith)
-    ∙ unmarked-at 0 0 marks lists (λ k le. none_at marks none k) m (omega arith)
+pub begins_marked : (lists : List WalkAhead) (words : List ℕ) → words ≡ replicate 512 0 → (m : ℕ)
+    → truth_at (truths_marked 0 0 (marks_in words) lists) m ≡ some_has m lists
+begins_marked lists words clear m =
+    those-from 0 (marked_or_listed 0 (marks_in words) lists) m (omega arith)
+    ∙ unmarked-at 0 0 (marks_in words) lists
+    (λ k le. ap (λ (ws : List ℕ). truth_at (marks_in ws) k) clear ∙ unmarked-in 512 k) m (omega arith)
     ∙ united-at m lists
 
-pub begins_window : (lists : List WalkAhead) (marks : List Bool) → marks ≡ replicate 4096 false → AreFew lists
-    → HaveMarks 0 marks lists Unasked
-begins_window lists marks none few = grind (arith, length-replicate, both_ways, none_at)
+pub begins_window : (lists : List WalkAhead) (words : List ℕ) → words ≡ replicate 512 0 → AreFew lists
+    → HaveMarks 0 (marks_in words) lists Unasked
+begins_window lists words clear few =
+    let unmarked : (k : ℕ) → truth_at (marks_in words) k ≡ false =
+    λ k. ap (λ (ws : List ℕ). truth_at (marks_in ws) k) clear ∙ unmarked-in 512 k in
+    record {
+      window = ap (λ (ws : List ℕ). length (marks_in ws)) clear ∙ blank-long 512;
+      listed = few;
+      next = tt;
+      marked = λ k here. absurd (both_ways (truth_at (marks_in words) k) (unmarked k) here);
+      before = λ k m here there. absurd (both_ways (truth_at (marks_in words) k) (unmarked k) here);
+    }
 
 pub if_marked : {E : Type 0} (r : Result WalkAhead E) (xs : List Bool) (ws : List WalkAhead)
     → ((m : ℕ) → truth_at xs m ≡ some_has m ws) → IfOk r (λ w. w.truths ≡ xs)

@@ -1,8 +1,5 @@
 -- The truths of the members of a query, number by number and member by member.
-use Rattle.mail_answer.proofs.Words.{◌≡◌, ◌∙◌, ◌+◌, ◌<◌, ◌≤◌, ℕ, zero, suc, Bool, false, cond, List, [], ◌∷◌, length}
-use Rattle.mail_answer.proofs.Words.{drop, get_or, refl, sym, ap, arith, filter, range_with_len, drop_more, drop_all}
-use Rattle.mail_answer.proofs.Words.{length-map-range_with_len, get_or-map-range_with_len, Table, Node, Query, query_of}
-use Rattle.mail_answer.proofs.Words.{queries_of, is_true, facts_at, truths, truth_at}
+use Rattle.mail_answer.proofs.Words.{◌≡◌, ◌∙◌, ◌+◌, ◌<◌, ◌≤◌, ℕ, zero, suc, Bool, false, cond, List, [], ◌∷◌, length, drop, get_or, refl, sym, ap, arith, filter, range_with_len, drop_more, drop_all, length-map-range_with_len, get_or-map-range_with_len, Table, Node, Query, query_of, queries_of, is_true, facts_at, truths, truth_at}
 
 -- the truth in the list is that of the query for the message
 pub truths_at : (t : Table) (q : Query) (n : ℕ) → n < length t.messages → truth_at (truths t q) n

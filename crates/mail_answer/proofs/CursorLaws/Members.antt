@@ -1,12 +1,5 @@
 -- The members of a node go on one after another, and together they drop exactly what the node drops.
-use Rattle.mail_answer.proofs.Words.{◌≡◌, ◌∙◌, ◌+◌, ◌<◌, ◌≤◌, ℕ, zero, suc, Bool, true, false, ◌&&◌, ◌||◌, max, List}
-use Rattle.mail_answer.proofs.Words.{[], ◌∷◌, ◌++◌, length, take, get_or, Option, Some, None, refl, sym, ap, arith, inl}
-use Rattle.mail_answer.proofs.Words.{inr, MatchOption, set, cases_lt, or_left, or_right, or_from, and_left, and_right}
-use Rattle.mail_answer.proofs.Words.{and_from, take_more, take_more_set, length-set, get_or-set_same, get_or-set_other}
-use Rattle.mail_answer.proofs.Words.{and-true, and_assoc, or-false, or_assoc, truth_at, WalkAhead, common, union_of}
-use Rattle.mail_answer.proofs.Words.{steps_left_in}
-use Rattle.mail_answer.proofs.Words.{postings_in, levels, CountsPostings, Drops, IsFirst, Reaches, Spends, lesser_of}
-use Rattle.mail_answer.proofs.Words.{some_has}
+use Rattle.mail_answer.proofs.Words.{◌≡◌, ◌∙◌, ◌+◌, ◌<◌, ◌≤◌, ℕ, zero, suc, Bool, true, false, ◌&&◌, ◌||◌, max, List, [], ◌∷◌, ◌++◌, length, take, get_or, Option, Some, None, refl, sym, ap, arith, inl, inr, MatchOption, set, cases_lt, or_left, or_right, or_from, and_left, and_right, and_from, take_more, take_more_set, length-set, get_or-set_same, get_or-set_other, and-true, and_assoc, or-false, or_assoc, truth_at, WalkAhead, common, union_of, steps_left_in, postings_in, levels, CountsPostings, Drops, IsFirst, Reaches, Spends, lesser_of, some_has}
 use Rattle.std.proofs.lemmas.List.{take_all}
 use Rattle.mail_answer.proofs.CursorLaws.TruthReads.{both-at, one_or_other-at}
 use Rattle.mail_answer.proofs.CursorLaws.Turns.{first_from}

@@ -1,6 +1,5 @@
 -- The query of a node, by its kind.
-use Rattle.mail_answer.proofs.Words.{◌≡◌, ℕ, List, Vec, Global, rules, Kinds, Node, the_lemmas, Any, Word, Part, Prefix}
-use Rattle.mail_answer.proofs.Words.{Either, query_of, queries_of, members_of}
+use Rattle.mail_answer.proofs.Words.{◌≡◌, ℕ, List, Vec, Global, rules, Kinds, Node, the_lemmas, Any, Word, Part, Prefix, Either, query_of, queries_of, members_of}
 use Rattle.mail_query.specs.declared.node.Node as node
 
 pub query_of-Any : query_of node.Any ≡ Any

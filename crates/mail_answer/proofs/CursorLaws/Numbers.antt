@@ -1,8 +1,5 @@
 -- A cursor returns the numbers of its walk in order, because it goes on past each number that it returned.
-use Rattle.mail_answer.proofs.Words.{◌≡◌, ◌∙◌, ◌+◌, ◌<◌, ◌≤◌, ℕ, zero, suc, Bool, true, false, cond, ◌&&◌, max, List}
-use Rattle.mail_answer.proofs.Words.{[], ◌∷◌, ◌++◌, Option, Some, None, refl, sym, ap, subst, arith, inl, inr, nat_le}
-use Rattle.mail_answer.proofs.Words.{filter, range_with_len, AllByRecursion, cases_lt, lt-leb, both_ways, truth_at}
-use Rattle.mail_answer.proofs.Words.{Drops, IsFirst, numbers_to_come, AreWithin, TakesFirst, TakesFrom}
+use Rattle.mail_answer.proofs.Words.{◌≡◌, ◌∙◌, ◌+◌, ◌<◌, ◌≤◌, ℕ, zero, suc, Bool, true, false, cond, ◌&&◌, max, List, [], ◌∷◌, ◌++◌, Option, Some, None, refl, sym, ap, subst, arith, inl, inr, nat_le, filter, range_with_len, AllByRecursion, cases_lt, lt-leb, both_ways, truth_at, Drops, IsFirst, numbers_to_come, AreWithin, TakesFirst, TakesFrom}
 use Rattle.std.proofs.lemmas.List.{append-nil}
 use Rattle.std.proofs.lemmas.Bool.{le-leb}
 use Rattle.mail_answer.proofs.CursorLaws.Turns.{first_from}

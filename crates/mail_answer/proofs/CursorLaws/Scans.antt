@@ -1,7 +1,5 @@
 -- A walk along records gives exactly those that pass the test, because it reads each record once, in order.
-use Rattle.mail_answer.proofs.Words.{◌≡◌, ◌≢◌, ◌∙◌, ◌<◌, ◌≤◌, ℕ, Bool, true, false, ◌&&◌, max, Option, Some, None, sym}
-use Rattle.mail_answer.proofs.Words.{ap, arith, ltb-true, ltb-false, cases_lt, cases_order, ne_eqb, lt-leb, truth_at}
-use Rattle.mail_answer.proofs.Words.{Drops, IsFirst, is_before, is_ahead, truths_scanned, IsFound, Scans}
+use Rattle.mail_answer.proofs.Words.{◌≡◌, ◌≢◌, ◌∙◌, ◌<◌, ◌≤◌, ℕ, Bool, true, false, ◌&&◌, max, Option, Some, None, sym, ap, arith, ltb-true, ltb-false, cases_lt, cases_order, ne_eqb, lt-leb, truth_at, Drops, IsFirst, is_before, is_ahead, truths_scanned, IsFound, Scans}
 use Rattle.std.proofs.lemmas.Bool.{eq-eqb, le-leb}
 use Rattle.mail_answer.proofs.CursorLaws.TruthReads.{each-at, each-past}
 

@@ -1,9 +1,5 @@
 -- The numbers of a look-up are those of the messages that have the text, because sorted keys have it only once.
-use Rattle.mail_answer.proofs.Words.{◌≡◌, ◌∙◌, ℕ, Bool, true, false, ◌&&◌, List, [], ◌∷◌, map, refl, sym, ap, arith}
-use Rattle.mail_answer.proofs.Words.{bytes_eq, list_any, filter, AllByRecursion, and_left, and_right, and_from}
-use Rattle.mail_answer.proofs.Words.{and-false, and-true, Kind, Key, KeyBefore, AllNext, is_key, lies_to, numbers_at}
-use Rattle.mail_answer.proofs.Words.{AreSorted, text_and_numbers, bytes_turned, is_number_among, texts_with, some_key}
-use Rattle.mail_answer.proofs.Words.{any_text}
+use Rattle.mail_answer.proofs.Words.{◌≡◌, ◌∙◌, ℕ, Bool, true, false, ◌&&◌, List, [], ◌∷◌, map, refl, sym, ap, arith, bytes_eq, list_any, filter, AllByRecursion, and_left, and_right, and_from, and-false, and-true, Kind, Key, KeyBefore, AllNext, is_key, lies_to, numbers_at, AreSorted, text_and_numbers, bytes_turned, is_number_among, texts_with, some_key, any_text}
 use Rattle.std.specs.declared.cmp.Ordering.{Ordering}
 use Rattle.std.specs.declared.cmp.Ordering.TheVariants.{Less, Equal, Greater}
 use Rattle.std.specs.Ordering.{nat_cmp, is_eq, ordering_reverse}

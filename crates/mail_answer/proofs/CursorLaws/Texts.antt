@@ -1,15 +1,5 @@
 -- The walks along the posting lists of a text have the messages with this text, kind by kind and list by list.
-use Rattle.mail_answer.proofs.Words.{◌≡◌, ◌∙◌, ◌+◌, ◌*◌, ◌^◌, ◌<◌, ◌≤◌, ℕ, suc, Bool, true, false, cond, ◌&&◌, ◌||◌}
-use Rattle.mail_answer.proofs.Words.{List, [], ◌∷◌, ◌++◌, length, map, drop, get_or, refl, sym, ap, subst, arith}
-use Rattle.mail_answer.proofs.Words.{Result, IfOk, bytes_eq, list_any, filter, AllByRecursion, add-mul, suc-mul}
-use Rattle.mail_answer.proofs.Words.{drop_more, or-false, or_assoc, Kind, Text, OwnId, Key, Table, IsKey, IsWellFormed}
-use Rattle.mail_answer.proofs.Words.{numbers_at, keys_of, keys_beginning, text_and_numbers, TakesDigits, bytes_turned}
-use Rattle.mail_answer.proofs.Words.{Kinds, has_kind, some_word, word_begins_with, text_kinds, is_number_among}
-use Rattle.mail_answer.proofs.Words.{texts_with}
-use Rattle.mail_answer.proofs.Words.{facts_at, is_in, kinds_in, numbers_of_keys, numbers_named, LooksUp, WalkAhead}
-use Rattle.mail_answer.proofs.Words.{steps_left_in}
-use Rattle.mail_answer.proofs.Words.{AreNumbers, truths_among, some_has, HaveNumbers, numbers_passing, numbers_fitting}
-use Rattle.mail_answer.proofs.Words.{some_of_kinds, any_text}
+use Rattle.mail_answer.proofs.Words.{◌≡◌, ◌∙◌, ◌+◌, ◌*◌, ◌^◌, ◌<◌, ◌≤◌, ℕ, suc, Bool, true, false, cond, ◌&&◌, ◌||◌, List, [], ◌∷◌, ◌++◌, length, map, drop, get_or, refl, sym, ap, subst, arith, Result, IfOk, bytes_eq, list_any, filter, AllByRecursion, add-mul, suc-mul, drop_more, or-false, or_assoc, Kind, Text, OwnId, Key, Table, IsKey, IsWellFormed, numbers_at, keys_of, keys_beginning, text_and_numbers, TakesDigits, bytes_turned, Kinds, has_kind, some_word, word_begins_with, text_kinds, is_number_among, texts_with, facts_at, is_in, kinds_in, numbers_of_keys, numbers_named, LooksUp, WalkAhead, steps_left_in, AreNumbers, truths_among, some_has, HaveNumbers, numbers_passing, numbers_fitting, some_of_kinds, any_text}
 use Rattle.mail_words.specs.declared.kind.TextKind.{TextKind}
 use Rattle.mail_answer.specs.Inside.CursorTexts.{AddsMatches}
 use Rattle.mail_answer.proofs.CursorLaws.Lists.{among-at, past_all}

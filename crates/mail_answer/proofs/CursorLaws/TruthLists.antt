@@ -1,9 +1,5 @@
 -- Lists with a truth for each message, and the numbers of those that are true.
-use Rattle.mail_answer.proofs.Words.{◌≡◌, ◌∙◌, ◌+◌, ◌<◌, ℕ, zero, suc, Bool, true, false, cond, not, List, [], ◌∷◌}
-use Rattle.mail_answer.proofs.Words.{◌++◌, length, map, Some, refl, sym, ap, arith, filter, range_with_len, slice_get}
-use Rattle.mail_answer.proofs.Words.{map-id, ext_get_or, length-map, get_or-map, filter_of_map_range_with_len_more}
-use Rattle.mail_answer.proofs.Words.{fill_by_all, Record, record_at, truth_at, each_number, replicate, get_or-replicate}
-use Rattle.mail_answer.proofs.Words.{length-replicate, Adds}
+use Rattle.mail_answer.proofs.Words.{◌≡◌, ◌∙◌, ◌+◌, ◌<◌, ℕ, zero, suc, Bool, true, false, cond, not, List, [], ◌∷◌, ◌++◌, length, map, Some, refl, sym, ap, arith, filter, range_with_len, slice_get, map-id, ext_get_or, length-map, get_or-map, filter_of_map_range_with_len_more, fill_by_all, Record, record_at, truth_at, each_number, replicate, get_or-replicate, length-replicate, Adds}
 use Rattle.std.proofs.lemmas.List.{append-nil}
 
 -- the record that a list has at a number

@@ -1,7 +1,5 @@
 -- The truth of a number in lists that were made from others.
-use Rattle.mail_answer.proofs.Words.{◌≡◌, ◌<◌, ◌≤◌, ℕ, zero, suc, Bool, false, ◌&&◌, ◌||◌, List, [], ◌∷◌, refl, sym}
-use Rattle.mail_answer.proofs.Words.{arith, get_or_past, length-map-range_with_len, get_or-map-range_with_len}
-use Rattle.mail_answer.proofs.Words.{and-false, or-false, truth_at, each_number, both, one_or_other}
+use Rattle.mail_answer.proofs.Words.{◌≡◌, ◌<◌, ◌≤◌, ℕ, zero, suc, Bool, false, ◌&&◌, ◌||◌, List, [], ◌∷◌, refl, sym, arith, get_or_past, length-map-range_with_len, get_or-map-range_with_len, and-false, or-false, truth_at, each_number, both, one_or_other}
 
 pub each-at : (count : ℕ) (test : ℕ → Bool) (n : ℕ) → n < count → truth_at (each_number count test) n ≡ test n
 each-at count test n lt = get_or-map-range_with_len test 0 count n n false lt (omega arith)

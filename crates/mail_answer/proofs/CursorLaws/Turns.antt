@@ -1,7 +1,5 @@
 -- The walk through all other messages passes each number that the inner walk has, one after another.
-use Rattle.mail_answer.proofs.Words.{◌≡◌, ◌≢◌, ◌∙◌, ◌+◌, ◌<◌, ◌≤◌, ℕ, Bool, true, false, not, ◌&&◌, List, Option, Some}
-use Rattle.mail_answer.proofs.Words.{None, ap, arith, nat_le, cases_lt, both_ways, lt-leb, truth_at, others, Drops}
-use Rattle.mail_answer.proofs.Words.{IsFirst}
+use Rattle.mail_answer.proofs.Words.{◌≡◌, ◌≢◌, ◌∙◌, ◌+◌, ◌<◌, ◌≤◌, ℕ, Bool, true, false, not, ◌&&◌, List, Option, Some, None, ap, arith, nat_le, cases_lt, both_ways, lt-leb, truth_at, others, Drops, IsFirst}
 use Rattle.std.proofs.lemmas.Bool.{le-leb}
 use Rattle.mail_answer.proofs.CursorLaws.TruthReads.{each-at, each-past}
 

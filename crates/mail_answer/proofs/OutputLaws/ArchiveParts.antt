@@ -1,17 +1,16 @@
 -- A part of an archive gives the archive's bytes, and its reads leave of the archives what reads of these leave.
-use Rattle.mail_answer.proofs.Words.{◌≡◌, ℕ, ◌+◌, ◌-◌, ◌<◌, ◌≤◌, Bool, true, false, List, ◌++◌, Option, None, Some}
-use Rattle.mail_answer.proofs.Words.{IfSome, Result, Err, length, take, drop, refl, ap, sym, ◌∙◌, subst, arith}
-use Rattle.mail_answer.proofs.Words.{take-append-le, length-drop, length-take-le, WasKnown, archive_at, span}
-use Rattle.mail_answer.proofs.Words.{IsReadFromArchive, Reading, bytes_left, span_reading, Record, Ghosts}
-use Rattle.mail_answer.proofs.Words.{AnswerFaultKind, Stale, reading}
+use Rattle.mail_answer.proofs.Words.{◌≡◌, ℕ, zero, suc, ◌+◌, ◌-◌, ◌<◌, ◌≤◌, Bool, true, false, List, ◌++◌, Option, None, Some, IfSome, Result, Err, length, take, drop, refl, ap, sym, ◌∙◌, subst, arith, take-append-le, length-drop, length-take-le, WasKnown, archive_at, span, IsReadFromArchive, Reading, IsInsideArchive, bytes_left, span_reading, Record, Ghosts, AnswerFaultKind, Stale, reading}
 use Rattle.std.specs.Io.KnownBytes.{Consumes}
 use Rattle.contract_words.specs.Devices.{Counted}
 use Rattle.contract_words.specs.Knowledge.{still_known}
 use Rattle.mail_answer.specs.Faults.{has_fault, is_of_archives, is_stale}
 use Rattle.mail_answer.specs.Inside.ArchiveParts.{ReadsPart}
 use Rattle.mail_answer.specs.Inside.Calls.{ReadsArchives}
+use Rattle.mail_answer.specs.Inside.Readings.{ReadsUntil}
+use Rattle.mail_answer.specs.Pieces.{EndsWithin}
 use Rattle.mail_answer.specs.declared.output.archive_part.ArchivePart.{ArchivePart}
 use Rattle.mail_answer.proofs.ArchiveLaws.CallLemmas.{keeps_self}
+use Rattle.mail_answer.proofs.OutputLaws.PartReads.{until_self}
 use Rattle.mail_answer.proofs.OutputLaws.ReadingLemmas.{piece_first}
 
 -- an archive whose bytes are known doesn't end before its part does
@@ -21,6 +20,18 @@ pub ends_early : (held : Option (List (List ℕ))) (archive next left : ℕ) (by
 ends_early None archive next left bytes some none read within = refl
 ends_early (Some archives) archive next left bytes some none read within =
     absurd (omega (arith, ap length (read.1 none), length-drop next (archive_at archives archive)))
+
+-- where a part is within an archive, so is no byte of it
+pub none_inside : (number : ℕ) (held : Option (List (List ℕ))) (archive next left : ℕ)
+    → IsInsideArchive number held (reading archive next left) → IsInsideArchive number held (reading archive next 0)
+none_inside number None archive next left h = record { exists = h.exists; fits = omega (arith, h.fits); within = tt }
+none_inside number (Some archives) archive next left h =
+    record { exists = h.exists; fits = omega (arith, h.fits); within = omega (arith, h.within) }
+
+-- while bytes are left, the archive hasn't ended early since the first read
+pub fresh_yet : (now first left : ℕ) → 0 < left → first ≤ now → (0 < now → left ≡ 0) → now ≡ first
+fresh_yet zero first left some since ended = omega (arith, since)
+fresh_yet (suc now) first left some since ended = absurd (omega (arith, ended (omega arith), some))
 
 -- a read gives the bytes that come first, and leaves those after them
 pub gives_part : (old new : Option (List (List ℕ))) (archive next left n : ℕ) (into more : List ℕ) → 0 < n → n ≤ left
@@ -69,11 +80,19 @@ module _ {A : Type 0} (g : Ghosts A) where
     keeps = keeps_self g part.archives.now;
     failures = omega arith;
     early_ends = omega arith;
+    read = λ same none. until_self g part.archives.now (reading part.archive part.next part.left);
+    ended = λ same some. absurd (omega (arith, some));
   }
 
   module _ (first now : ArchivePart A g) (reads : ReadsPart g first now) (none : first.early_ends ≡ 0) (failed : Bool)
       (count : Counted failed (g.failures first.archives.now + first.early_ends)
       (g.failures now.archives.now + now.early_ends)) where
+    -- the archive ended early, and nothing was read after that
+    pub part_ended : 0 < now.early_ends
+        → EndsWithin g first.archive first.next first.left first.archives.now now.archives.now
+    part_ended some =
+        reads.ended (counted_early failed _ _ _ _ none some reads.failures count) (omega (arith, none, some))
+
     -- no archive ended early
     pub part_reads : {T : Type 0} (result : Result T AnswerFaultKind) → now.early_ends ≡ 0
         → has_fault is_of_archives result ≡ failed → has_fault is_stale result ≡ false
@@ -96,3 +115,12 @@ module _ {A : Type 0} (g : Ghosts A) where
       count = counted_early failed _ _ _ _ none some reads.failures count;
       fresh = rw (now.fresh some) tt;
     }
+
+  -- no read failed
+  pub part_read : (first now : ArchivePart A g) → ReadsPart g first now → first.early_ends ≡ 0
+      → Counted false (g.failures first.archives.now + first.early_ends) (g.failures now.archives.now + now.early_ends)
+      → now.early_ends ≡ 0
+      → ReadsUntil g first.archives.now now.archives.now (reading first.archive first.next first.left)
+      (reading now.archive now.next now.left)
+  part_read first now reads none count none' =
+      reads.read (counted_same false _ _ _ _ none none' count) (omega (arith, none, none'))

@@ -1,8 +1,6 @@
 -- Chosen numbers are numbers of messages: by a query because it is tested for each message, and with threads because of
 -- their definition.
-use Rattle.mail_answer.proofs.Words.{◌≡◌, ℕ, zero, suc, ◌<◌, true, nat_eq, List, [], ◌∷◌, length, refl, arith, eq-eqb}
-use Rattle.mail_answer.proofs.Words.{slice_index_or, or_left, or_right, Table, Query, is_true, chosen_numbers, facts_at}
-use Rattle.mail_answer.proofs.Words.{is_number_among, AreThreads, ◌++◌}
+use Rattle.mail_answer.proofs.Words.{◌≡◌, ℕ, zero, suc, ◌<◌, true, nat_eq, List, [], ◌∷◌, length, refl, arith, eq-eqb, slice_index_or, or_left, or_right, Table, Query, is_true, chosen_numbers, facts_at, is_number_among, AreThreads, ◌++◌}
 use Rattle.std.specs.List.{All}
 use Rattle.mail_answer.proofs.ThreadLaws.ChosenThreads.{from_passed}
 

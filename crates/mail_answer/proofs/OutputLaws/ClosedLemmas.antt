@@ -1,12 +1,5 @@
 -- A span is closed by what closes its last line, because the lines before it stay the same.
-use Rattle.mail_answer.proofs.Words.{◌≡◌, ℕ, ◌+◌, ◌<◌, ◌≤◌, Bool, true, false, cond, ◌||◌, ◌&&◌, ◌==◌, nat_lt, nat_eq}
-use Rattle.mail_answer.proofs.Words.{List, [], ◌∷◌, ◌++◌, Some, length, take, drop, refl, ap, sym, ◌∙◌, append_assoc}
-use Rattle.mail_answer.proofs.Words.{append-nil, arith, nat_tests, drop-append-le, drop_all, take-append-drop, is_empty}
-use Rattle.mail_answer.proofs.Words.{lines, first_length, line_end_of, length_before_feed, line_end-more}
-use Rattle.mail_answer.proofs.Words.{first_length-le, length_before_feed-le, length_before_feed-append_out, lines-cons}
-use Rattle.mail_answer.proofs.Words.{lines-nil, feed, has_feed, feeds_after, next_text, after_next, closed_text}
-use Rattle.mail_answer.proofs.Words.{is_closed}
-use Rattle.mail_answer.proofs.Words.{last_line_of}
+use Rattle.mail_answer.proofs.Words.{◌≡◌, ℕ, ◌+◌, ◌<◌, ◌≤◌, Bool, true, false, cond, ◌||◌, ◌&&◌, ◌==◌, nat_lt, nat_eq, List, [], ◌∷◌, ◌++◌, Some, length, take, drop, refl, ap, sym, ◌∙◌, append_assoc, append-nil, arith, nat_tests, drop-append-le, drop_all, take-append-drop, is_empty, lines, first_length, line_end_of, length_before_feed, line_end-more, first_length-le, length_before_feed-le, length_before_feed-append_out, lines-cons, lines-nil, feed, has_feed, feeds_after, next_text, after_next, closed_text, is_closed, last_line_of}
 use Rattle.std.specs.Str.{bytes_eq}
 use Rattle.std.proofs.lemmas.List.{length-append, length-drop, take_all}
 

@@ -1,11 +1,6 @@
 -- A closed message, without CR as its last byte, is still a message: its last line gets an LF if it has none, and an
 -- empty line follows it.
-use Rattle.mail_answer.proofs.Words.{◌≡◌, ◌∙◌, ℕ, ◌+◌, ◌<◌, Bool, true, false, cond, ◌&&◌, ◌||◌, nat_eq, List, [], ◌∷◌}
-use Rattle.mail_answer.proofs.Words.{◌++◌, length, take, drop, refl, ap, sym, subst, arith, append_assoc, append-nil}
-use Rattle.mail_answer.proofs.Words.{length-append, concat, take-append_seam, drop-append_seam, nat_tests, lines}
-use Rattle.mail_answer.proofs.Words.{is_empty, first_length, length_before_feed, IsLine, AreCut, is_separator}
-use Rattle.mail_answer.proofs.Words.{length_before_feed-append_out, length_before_feed-le, first_length-le, lines-cons}
-use Rattle.mail_answer.proofs.Words.{feed, has_feed, next_text, after_next, ends_in_return, closed_text}
+use Rattle.mail_answer.proofs.Words.{◌≡◌, ◌∙◌, ℕ, ◌+◌, ◌<◌, Bool, true, false, cond, ◌&&◌, ◌||◌, nat_eq, List, [], ◌∷◌, ◌++◌, length, take, drop, refl, ap, sym, subst, arith, append_assoc, append-nil, length-append, concat, take-append_seam, drop-append_seam, nat_tests, lines, is_empty, first_length, length_before_feed, IsLine, AreCut, is_separator, length_before_feed-append_out, length_before_feed-le, first_length-le, lines-cons, feed, has_feed, next_text, after_next, ends_in_return, closed_text}
 use Rattle.std.specs.Str.{bytes_eq}
 use Rattle.std.proofs.lemmas.List.{length-take-le}
 use Rattle.mail_answer.proofs.OutputLaws.ClosedLemmas.{closed_more, cr_line, has_feed-is, one_line}

@@ -1,15 +1,5 @@
 -- A span that is copied piece by piece is copied whole and closed, because its last line decides what closes it.
-use Rattle.mail_answer.proofs.Words.{◌≡◌, ◌∙◌, ℕ, zero, suc, ◌+◌, ◌-◌, ◌<◌, ◌≤◌, Bool, true, false, cond, List, [], ◌∷◌}
-use Rattle.mail_answer.proofs.Words.{◌++◌, Option, None, Some, Result, IsErr, length, take, drop, refl, ap, sym}
-use Rattle.mail_answer.proofs.Words.{append_assoc, append-nil, arith, inl, inr, option_map, cases_lt, drop-append-le}
-use Rattle.mail_answer.proofs.Words.{drop_all, take-append-drop, take_rest, lines, first_length, first_length-le}
-use Rattle.mail_answer.proofs.Words.{first_length-positive, archive_at, feed, feeds_after, after_next, ending_of_bytes}
-use Rattle.mail_answer.proofs.Words.{feeds_of, Reading, bytes_left, IsInsideArchive, AppendsRead}
-use Rattle.mail_answer.proofs.Words.{closed_text}
-use Rattle.mail_answer.proofs.Words.{is_closed}
-use Rattle.mail_answer.proofs.Words.{last_line_of, IsIfKnown, JoinsFront, Ending, AnswerFaultKind, Sheet, Table}
-use Rattle.mail_answer.proofs.Words.{reading, span_reading}
-use Rattle.mail_answer.proofs.Words.{record_at, known_message, Mbox}
+use Rattle.mail_answer.proofs.Words.{◌≡◌, ◌∙◌, ℕ, zero, suc, ◌+◌, ◌-◌, ◌<◌, ◌≤◌, Bool, true, false, cond, List, [], ◌∷◌, ◌++◌, Option, None, Some, Result, IsErr, length, take, drop, refl, ap, sym, append_assoc, append-nil, arith, inl, inr, option_map, cases_lt, drop-append-le, drop_all, take-append-drop, take_rest, lines, first_length, first_length-le, first_length-positive, archive_at, feed, feeds_after, after_next, ending_of_bytes, feeds_of, Reading, bytes_left, IsInsideArchive, AppendsRead, closed_text, is_closed, last_line_of, IsIfKnown, JoinsFront, Ending, AnswerFaultKind, Sheet, Table, reading, span_reading, record_at, known_message, Mbox}
 use Rattle.std.proofs.lemmas.List.{length-drop}
 use Rattle.mail_answer.specs.Inside.Copies.{Copies}
 use Rattle.mail_answer.proofs.OutputLaws.ClosedLemmas.{closed_more, next_front, last_after, one_line}

@@ -1,13 +1,10 @@
 -- Messages that were cut out of archives, closed and joined, are cut again into these, because no other line starts a
 -- message.
-use Rattle.mail_answer.proofs.Words.{◌≡◌, ℕ, suc, false, List, [], ◌∷◌, map, refl, arith, flat_map, concat_is}
-use Rattle.mail_answer.proofs.Words.{flat_map-map, AreCut, IsCutOut, IsCutInto, ends_in_return, closed_text}
+use Rattle.mail_answer.proofs.Words.{◌≡◌, ℕ, suc, false, List, [], ◌∷◌, map, refl, arith, flat_map, concat_is, flat_map-map, AreCut, IsCutOut, IsCutInto, ends_in_return, closed_text}
 use Rattle.std.specs.List.{All}
-use Rattle.mail_answer.proofs.OutputLaws.ClosedMessages.{closed_first, closed_rest, text-closed, cut-closed}
-use Rattle.mail_answer.proofs.OutputLaws.ClosedMessages.{separator-same, inside-closed, is-closed}
+use Rattle.mail_answer.proofs.OutputLaws.ClosedMessages.{closed_first, closed_rest, text-closed, cut-closed, separator-same, inside-closed, is-closed}
 use Rattle.mail_answer.proofs.OutputLaws.CutMessages.{IsText, cut-out}
-use Rattle.mail_answer.proofs.OutputLaws.MessageLines.{Each, Group, IsMessage, IsClosed, lines_of, text_of}
-use Rattle.mail_answer.proofs.OutputLaws.MessageLines.{messages-cut}
+use Rattle.mail_answer.proofs.OutputLaws.MessageLines.{Each, Group, IsMessage, IsClosed, lines_of, text_of, messages-cut}
 
 -- the closed texts are those of closed messages
 record AreMessages (gs : List Group) (texts : List (List ℕ)) : Type 0 where

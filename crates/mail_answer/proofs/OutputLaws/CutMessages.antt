@@ -1,13 +1,7 @@
 -- Each text that is cut out of an archive is a message: its first line starts a message, and no other line does.
-use Rattle.mail_answer.proofs.Words.{◌≡◌, ◌∙◌, ℕ, ◌+◌, Bool, true, cond, ◌&&◌, List, [], ◌∷◌, ◌++◌, Option, None, Some}
-use Rattle.mail_answer.proofs.Words.{length, take, drop, map, refl, ap, sym, subst, arith, concat, option_map}
-use Rattle.mail_answer.proofs.Words.{take-append_seam, drop-append_seam, drop-drop, concat-append, Message, messages}
-use Rattle.mail_answer.proofs.Words.{messages_from, marked_lines, grouped_lines, is_refused, total, span_length, lines}
-use Rattle.mail_answer.proofs.Words.{is_empty}
-use Rattle.mail_answer.proofs.Words.{AreCut, AreLines, IsCutOut}
+use Rattle.mail_answer.proofs.Words.{◌≡◌, ◌∙◌, ℕ, ◌+◌, Bool, true, cond, ◌&&◌, List, [], ◌∷◌, ◌++◌, Option, None, Some, length, take, drop, map, refl, ap, sym, subst, arith, concat, option_map, take-append_seam, drop-append_seam, drop-drop, concat-append, Message, messages, messages_from, marked_lines, grouped_lines, is_refused, total, span_length, lines, is_empty, AreCut, AreLines, IsCutOut}
 use Rattle.mbox_cutter.proofs.LinesAreCut.{lines-AreLines}
-use Rattle.mail_answer.proofs.OutputLaws.MessageLines.{Each, StartsNowhere, Group, IsMessage, lines_of, all_lines}
-use Rattle.mail_answer.proofs.OutputLaws.MessageLines.{text_of, span_of, total-length}
+use Rattle.mail_answer.proofs.OutputLaws.MessageLines.{Each, StartsNowhere, Group, IsMessage, lines_of, all_lines, text_of, span_of, total-length}
 
 -- the text is that of a message
 pub record IsText (g : Group) (text : List ℕ) : Type 0 where

@@ -1,17 +1,8 @@
 -- The ending of bytes after one more byte is known from the ending before it, by the cases of the last line.
-use Rattle.mail_answer.proofs.Words.{◌≡◌, ◌∙◌, ℕ, zero, suc, ◌+◌, ◌<◌, ◌≤◌, Bool, true, false, cond, ◌||◌, ◌&&◌, ◌==◌}
-use Rattle.mail_answer.proofs.Words.{nat_lt, List, [], ◌∷◌, ◌++◌, length, refl, ap, sym, append_assoc, append-nil}
-use Rattle.mail_answer.proofs.Words.{arith, inl, inr, cases_lt, eqb-true, nat_tests, drop-append-le, drop_all, is_empty}
-use Rattle.mail_answer.proofs.Words.{lines, first_length, length_before_feed, line_end-more, first_length-le}
-use Rattle.mail_answer.proofs.Words.{first_length-positive, length_before_feed-le, length_before_feed-append_out}
-use Rattle.mail_answer.proofs.Words.{lines-cons, lines-nil, feed, has_feed, feeds_after, after_next, ending_of_line}
-use Rattle.mail_answer.proofs.Words.{ending_of_bytes, line_of, with_byte, feeds_of, last_line_of, Ending, Empty, Ended}
-use Rattle.mail_answer.proofs.Words.{Return}
-use Rattle.mail_answer.proofs.Words.{Open}
+use Rattle.mail_answer.proofs.Words.{◌≡◌, ◌∙◌, ℕ, zero, suc, ◌+◌, ◌<◌, ◌≤◌, Bool, true, false, cond, ◌||◌, ◌&&◌, ◌==◌, nat_lt, List, [], ◌∷◌, ◌++◌, length, refl, ap, sym, append_assoc, append-nil, arith, inl, inr, cases_lt, eqb-true, nat_tests, drop-append-le, drop_all, is_empty, lines, first_length, length_before_feed, line_end-more, first_length-le, first_length-positive, length_before_feed-le, length_before_feed-append_out, lines-cons, lines-nil, feed, has_feed, feeds_after, after_next, ending_of_line, ending_of_bytes, line_of, with_byte, feeds_of, last_line_of, Ending, Empty, Ended, Return, Open}
 use Rattle.std.specs.Str.{bytes_eq}
 use Rattle.std.proofs.lemmas.List.{length-append, length-drop, take_all}
-use Rattle.mail_answer.proofs.OutputLaws.ClosedLemmas.{last_after, last-cons, whole_end, whole_feed, has_feed-is}
-use Rattle.mail_answer.proofs.OutputLaws.ClosedLemmas.{cr_line}
+use Rattle.mail_answer.proofs.OutputLaws.ClosedLemmas.{last_after, last-cons, whole_end, whole_feed, has_feed-is, cr_line}
 
 -- ---- single lines
 

@@ -1,7 +1,5 @@
 -- Every table has exactly one answer to each search, because its threads and its texts are determined.
-use Rattle.mail_answer.proofs.Words.{◌≡◌, ◌∙◌, ℕ, Bool, true, false, List, length, Option, refl, sym, ap, LinkId, Table}
-use Rattle.mail_answer.proofs.Words.{keys_of, Query, Search, AreChosenBy, satisfying, mail_of_table, TableAnswer}
-use Rattle.mail_answer.proofs.Words.{IsTableAnswer, answer_of_numbers}
+use Rattle.mail_answer.proofs.Words.{◌≡◌, ◌∙◌, ℕ, Bool, true, false, List, length, Option, refl, sym, ap, LinkId, Table, keys_of, Query, Search, AreChosenBy, satisfying, mail_of_table, TableAnswer, IsTableAnswer, answer_of_numbers}
 use Rattle.mail_answer.proofs.ThreadLaws.EveryThread.{threads_by_keys}
 use Rattle.mail_answer.proofs.ThreadLaws.OneThreadList.{one_thread_list}
 

@@ -1,11 +1,5 @@
 -- A header that is read line by line has the fields of the message, because lines after the empty line don't count.
-use Rattle.mail_answer.proofs.Words.{◌≡◌, ℕ, zero, suc, ◌<◌, ◌≤◌, true, List, [], ◌∷◌, ◌++◌, Option, None, Some, IfSome}
-use Rattle.mail_answer.proofs.Words.{length, drop, refl, ap, sym, ◌∙◌, subst, append_assoc, append-nil, arith, lines}
-use Rattle.mail_answer.proofs.Words.{length-drop, first_length, first_length-le, first_length-positive, lines-cons}
-use Rattle.mail_answer.proofs.Words.{lines-nil, HeaderField, fields_of, lines_before_empty, lines_within, fields_in}
-use Rattle.mail_answer.proofs.Words.{most_in_header, HasFields, WillHaveFields, HasFieldsAfter, Record}
-use Rattle.mail_answer.proofs.Words.{TakesFirstLine, Table, excerpt, excerpt_lines}
-use Rattle.mail_answer.proofs.Words.{known_message, path_at, span, IsIfKnown, record_at, Excerpt}
+use Rattle.mail_answer.proofs.Words.{◌≡◌, ℕ, zero, suc, ◌<◌, ◌≤◌, true, List, [], ◌∷◌, ◌++◌, Option, None, Some, IfSome, length, drop, refl, ap, sym, ◌∙◌, subst, append_assoc, append-nil, arith, lines, length-drop, first_length, first_length-le, first_length-positive, lines-cons, lines-nil, HeaderField, fields_of, lines_before_empty, lines_within, fields_in, most_in_header, HasFields, WillHaveFields, HasFieldsAfter, Record, TakesFirstLine, Table, excerpt, excerpt_lines, known_message, path_at, span, IsIfKnown, record_at, Excerpt}
 use Rattle.std.specs.Io.KnownBytes.{prepend_known}
 use Rattle.contract_words.specs.Knowledge.{still_known}
 use Rattle.header_text.specs.HeldLines.{HasLines, taken_of}

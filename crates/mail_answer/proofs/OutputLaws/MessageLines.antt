@@ -1,10 +1,5 @@
 -- Messages with a closing line that follow one another are cut into these messages, line by line.
-use Rattle.mail_answer.proofs.Words.{◌≡◌, ◌∙◌, ℕ, ◌+◌, Bool, true, false, cond, ◌&&◌, ◌||◌, ◌==◌, suc, List, [], ◌∷◌}
-use Rattle.mail_answer.proofs.Words.{◌++◌, Some, length, map, refl, ap, sym, arith, append-nil, length-append, concat}
-use Rattle.mail_answer.proofs.Words.{eqb-true, concat-append, Message, spans_of, messages, messages_from, marked_lines}
-use Rattle.mail_answer.proofs.Words.{grouped_lines}
-use Rattle.mail_answer.proofs.Words.{is_refused, total, span_length, lines, is_empty, length_before_feed, AreCut}
-use Rattle.mail_answer.proofs.Words.{is_separator, places_from}
+use Rattle.mail_answer.proofs.Words.{◌≡◌, ◌∙◌, ℕ, ◌+◌, Bool, true, false, cond, ◌&&◌, ◌||◌, ◌==◌, suc, List, [], ◌∷◌, ◌++◌, Some, length, map, refl, ap, sym, arith, append-nil, length-append, concat, eqb-true, concat-append, Message, spans_of, messages, messages_from, marked_lines, grouped_lines, is_refused, total, span_length, lines, is_empty, length_before_feed, AreCut, is_separator, places_from}
 use Rattle.mbox_cutter.proofs.OnlyLines.{only_lines}
 
 -- each element has the property

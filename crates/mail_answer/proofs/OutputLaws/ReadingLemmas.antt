@@ -1,11 +1,8 @@
 -- A read of an archive gives the bytes of a part that come first, and leaves those after them.
-use Rattle.mail_answer.proofs.Words.{◌≡◌, ℕ, ◌+◌, ◌-◌, ◌<◌, ◌≤◌, List, ◌++◌, Option, Some, Result, IfOk}
-use Rattle.mail_answer.proofs.Words.{length, take, drop, ap, ◌∙◌, arith}
-use Rattle.mail_answer.proofs.Words.{take-append-add, take-append-le, drop-drop, DeviceFault}
-use Rattle.mail_answer.proofs.Words.{archive_at, IsReadFromArchive, Reading}
-use Rattle.mail_answer.proofs.Words.{ReadsTail, IsInsideArchive}
+use Rattle.mail_answer.proofs.Words.{◌≡◌, ℕ, ◌+◌, ◌-◌, ◌<◌, ◌≤◌, List, [], ◌∷◌, ◌++◌, Some, Result, Ok, Err, IfOk, length, take, drop, refl, subst, ap, ◌∙◌, arith, take-append-add, take-append-le, drop-drop, DeviceFault, archive_at, IsReadFromArchive, Reading, ReadsTail, IsInsideArchive, Ghosts}
 use Rattle.std.proofs.Math.Seq.{take-add}
 use Rattle.std.proofs.lemmas.List.{length-take-le, length-drop}
+use Rattle.mail_answer.specs.Archives.{bytes_of_read}
 use borrow.Rule.Slice.PartMut.{put_mid}
 
 take_after : (front into post : List ℕ) (held n : ℕ) → length front ≡ held → n ≤ length into
@@ -13,16 +10,33 @@ take_after : (front into post : List ℕ) (held n : ℕ) → length front ≡ he
 take_after front into post held n e h =
     rw (← e) (take-append-add front (into ++ post) n ∙ ap (λ (s : List ℕ). front ++ s) (take-append-le n into post h))
 
-pub tail_read : (archive offset from n k : ℕ) (held : Option (List (List ℕ))) (old into : List ℕ) → from < length old
-    → n ≤ length into → IsReadFromArchive archive offset (take n into) held
-    → ReadsTail archive offset from n held old (put_mid from k old into)
-tail_read archive offset from n k held old into room bound r = grind (arith, take_after, length-take-le)
+pub tail_read : {A : Type 0} (g : Ghosts A) (archive offset from n k : ℕ) (before after : A) (old into : List ℕ)
+    → from < length old → n ≤ length into → IsReadFromArchive archive offset (take n into) (g.held after)
+    → g.reads before archive offset (Ok (take n into)) after
+    → ReadsTail g archive offset from n before after old (put_mid from k old into)
+tail_read g archive offset from n k before after old into room bound r told =
+    grind (arith, take_after, length-take-le)
 
-pub tail_result : (archive offset from k : ℕ) (held : Option (List (List ℕ))) (old into : List ℕ)
+pub tail_result : {A : Type 0} (g : Ghosts A) (archive offset from k : ℕ) (before after : A) (old into : List ℕ)
     (r : Result ℕ DeviceFault) → from < length old → IfOk r (λ n. n ≤ length into)
-    → IfOk r (λ n. IsReadFromArchive archive offset (take n into) held)
-    → IfOk r (λ n. ReadsTail archive offset from n held old (put_mid from k old into))
-tail_result archive offset from k held old into r h h2 h3 = grind (arith, tail_read)
+    → IfOk r (λ n. IsReadFromArchive archive offset (take n into) (g.held after))
+    → g.reads before archive offset (bytes_of_read r into) after
+    → IfOk r (λ n. ReadsTail g archive offset from n before after old (put_mid from k old into))
+tail_result g archive offset from k before after old into (Ok n) room bound r told =
+    tail_read g archive offset from n k before after old into room bound r told
+tail_result g archive offset from k before after old into (Err fault) room bound r told = tt
+
+-- a read of no bytes gave none
+pub tail_none : {A : Type 0} (g : Ghosts A) (archive offset from count : ℕ) (before after : A) (old new : List ℕ)
+    → ReadsTail g archive offset from count before after old new → count ≡ 0
+    → g.reads before archive offset (Ok []) after
+tail_none g archive offset from count before after old new tail none =
+    subst (λ (bytes : List ℕ). g.reads before archive offset (Ok bytes) after)
+    (empty tail.bytes (tail.number ∙ none)) tail.told
+  where
+    empty : (l : List ℕ) → length l ≡ 0 → l ≡ []
+    empty [] long = refl
+    empty (x ∷ xs) long = absurd (omega (arith, long))
 
 -- the bytes of a part are those of its first piece and those after them
 pub piece_first : (bytes : List ℕ) (next left n : ℕ) → n ≤ left

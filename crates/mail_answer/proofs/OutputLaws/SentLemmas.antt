@@ -1,14 +1,12 @@
 -- What was sent of an answer is what the table answers, or a front of it: by the result of each call.
-use Rattle.mail_answer.proofs.Words.{◌≡◌, ℕ, List, [], Option, Result, Ok, Err, length, refl, subst, arith, flat_map}
-use Rattle.mail_answer.proofs.Words.{appends-nil, Table, SendsKnown, SendsSpans, Search, AreChosen, known_answer}
-use Rattle.mail_answer.proofs.Words.{closed_text, mail_of_table, TableAnswer, IsTableAnswer, SendsTableAnswer}
-use Rattle.mail_answer.proofs.Words.{KeepsArchives, IsReadyToWrite}
-use Rattle.mail_answer.proofs.Words.{IsSameAnswer, Ghosts}
+use Rattle.mail_answer.proofs.Words.{◌≡◌, ℕ, List, [], Option, Result, Ok, Err, length, refl, sym, subst, arith, flat_map, appends-nil, Table, SendsKnown, SendsSpans, Search, AreChosen, known_answer, closed_text, mail_of_table, TableAnswer, IsTableAnswer, SendsTableAnswer, KeepsArchives, IsReadyToWrite, IsSameAnswer, AnswerFaultKind, OutOfMemory, Ghosts}
 use Rattle.std.specs.Result.{IsErrAnd}
+use Rattle.mail_answer.specs.Faults.{IfStale}
+use Rattle.mail_answer.specs.MessageReads.{EndsAmong, ReadsChosen}
 use Rattle.mail_answer.specs.declared.fault.AnswerFault.{AnswerFault}
 use Rattle.mail_answer.specs.declared.output.answer_writer.AnswerWriter.{AnswerWriter}
 use Rattle.mail_answer.proofs.ArchiveLaws.KnowledgeLemmas.{some_later}
-use Rattle.mail_answer.proofs.OutputLaws.EveryAnswer.{one-choice}
+use Rattle.mail_answer.proofs.OutputLaws.EveryAnswer.{one-choice, some-chosen}
 use Rattle.mail_answer.proofs.OutputLaws.SheetLemmas.{some_text}
 use Rattle.mail_answer.proofs.OutputLaws.SpanWrites.{some_spans}
 use Rattle.mbox_cutter.specs.declared.device.Out.{Ghosts as OutGhosts}
@@ -67,3 +65,15 @@ pub still_ready : {A O : Type 0} (g : Ghosts A) (h : OutGhosts O) (w w' : Answer
     → IsReadyToWrite g h w a o → IsSameAnswer w w' → KeepsArchives g a a'
     → g.failures a' ≡ g.failures a → h.failures o' ≡ h.failures o → IsReadyToWrite g h w' a' o'
 still_ready g h w w' a a' o o' ready same keeps archives_count out_count = grind (arith, some_later)
+
+-- memory ran out before any message was read
+pub none_read_yet : {A : Type 0} (g : Ghosts A) (t : Table) (s : Search) (a : A) (fault : AnswerFault)
+    → fault.kind ≡ OutOfMemory → ReadsChosen g t s a a (Err fault)
+none_read_yet g t s a fault is =
+    let some = some-chosen t s.threads s.query in (
+      some.0,
+      some.1,
+      subst (λ (kind : AnswerFaultKind). IfStale kind (λ archive. EndsAmong g s.format t.messages some.0 archive a a))
+          (sym is)
+          tt,
+    )

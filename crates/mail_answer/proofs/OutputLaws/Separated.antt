@@ -1,10 +1,5 @@
 -- A line without LF, whose last byte isn't CR, is a separator with an LF exactly if it is one without: byte by byte.
-use Rattle.mail_answer.proofs.Words.{◌≡◌, ◌∙◌, ℕ, zero, suc, ◌+◌, ◌-◌, ◌<◌, Bool, true, false, ◌&&◌, ◌==◌, List, []}
-use Rattle.mail_answer.proofs.Words.{◌∷◌, ◌++◌, length, take, drop, refl, ap, sym, arith, length-append, codes}
-use Rattle.mail_answer.proofs.Words.{take-append_seam, drop-append_seam, and_right, or_parts, false_from_ne_true}
-use Rattle.mail_answer.proofs.Words.{drop-append-le, bytes_eq-Decides, is_empty, is_separator, without_break}
-use Rattle.mail_answer.proofs.Words.{separator_tokens}
-use Rattle.mail_answer.proofs.Words.{has_time_then_year, feed, has_feed, ends_in_return}
+use Rattle.mail_answer.proofs.Words.{◌≡◌, ◌∙◌, ℕ, zero, suc, ◌+◌, ◌-◌, ◌<◌, Bool, true, false, ◌&&◌, ◌==◌, List, [], ◌∷◌, ◌++◌, length, take, drop, refl, ap, sym, arith, length-append, codes, take-append_seam, drop-append_seam, and_right, or_parts, false_from_ne_true, drop-append-le, bytes_eq-Decides, is_empty, is_separator, without_break, separator_tokens, has_time_then_year, feed, has_feed, ends_in_return}
 use Rattle.std.specs.Str.{bytes_eq}
 
 pub feed_is_empty : is_empty feed ≡ true

@@ -1,9 +1,5 @@
 -- Texts that are added to an answer one after another are added as one text, whether they are gathered or sent.
-use Rattle.mail_answer.proofs.Words.{◌≡◌, ℕ, ◌+◌, ◌-◌, ◌^◌, min, List, [], ◌++◌, length, Option, None, Some, Result, Ok}
-use Rattle.mail_answer.proofs.Words.{Err, IsErr, refl, ap, sym, ◌∙◌, append_assoc, append-nil, length-append, take}
-use Rattle.mail_answer.proofs.Words.{drop, ◌≤◌, arith, take-append-drop, take_rest, Appends, Keeps, appends_join}
-use Rattle.mail_answer.proofs.Words.{appends-nil, Sheet, count_after, AddsBytes, JoinsFront, joined_texts, IsIfKnown}
-use Rattle.mail_answer.proofs.Words.{WritesText}
+use Rattle.mail_answer.proofs.Words.{◌≡◌, ℕ, ◌+◌, ◌-◌, ◌^◌, min, List, [], ◌++◌, length, Option, None, Some, Result, Ok, Err, IsErr, refl, ap, sym, ◌∙◌, append_assoc, append-nil, length-append, take, drop, ◌≤◌, arith, take-append-drop, take_rest, Appends, Keeps, appends_join, appends-nil, Sheet, count_after, AddsBytes, JoinsFront, joined_texts, IsIfKnown, WritesText}
 use Rattle.std.proofs.lemmas.List.{length-take}
 use Rattle.std.proofs.Math.Seq.{take-add}
 

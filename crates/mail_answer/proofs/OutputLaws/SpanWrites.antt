@@ -1,7 +1,5 @@
 -- Closed spans are added to an answer message by message, and together they are the spans of the numbers.
-use Rattle.mail_answer.proofs.Words.{◌≡◌, ◌∙◌, ℕ, List, [], ◌∷◌, ◌++◌, length, Option, Some, Result, IsErr, refl, ap}
-use Rattle.mail_answer.proofs.Words.{ap₂, sym, subst, append-nil, arith, map-append, flat_map-append, flat_map, Table}
-use Rattle.mail_answer.proofs.Words.{closed_text, AreSpansOf, AddsBytes, JoinsFront, WritesText, record_at, Sheet}
+use Rattle.mail_answer.proofs.Words.{◌≡◌, ◌∙◌, ℕ, List, [], ◌∷◌, ◌++◌, length, Option, Some, Result, IsErr, refl, ap, ap₂, sym, subst, append-nil, arith, map-append, flat_map-append, flat_map, Table, closed_text, AreSpansOf, AddsBytes, JoinsFront, WritesText, record_at, Sheet}
 use Rattle.mail_answer.specs.Inside.Spans.{WritesSpans}
 use Rattle.mail_answer.proofs.OutputLaws.CopiedPieces.{some_bytes}
 use Rattle.mail_answer.proofs.OutputLaws.SheetLemmas.{joins_more, writes_next, writes_stop}

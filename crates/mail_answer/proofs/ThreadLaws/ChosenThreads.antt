@@ -1,11 +1,5 @@
 -- The messages whose tree has a chosen message are exactly those of the threads, because the trees are the threads.
-use Rattle.mail_answer.proofs.Words.{◌≡◌, ◌∙◌, ◌+◌, ◌<◌, ◌≤◌, ℕ, zero, suc, Bool, true, false, cond, nat_eq, ◌⊎◌, List}
-use Rattle.mail_answer.proofs.Words.{[], ◌∷◌, length, get_or, inl, inr, refl, sym, ap, subst, arith, eq-eqb, add-one}
-use Rattle.mail_answer.proofs.Words.{Result, IfOk, AllByRecursion, filter, list_any, range_with_len}
-use Rattle.mail_answer.proofs.Words.{get_or-map-range_with_len, eqb-true, or_cases, or_left, or_right, eqb_tells}
-use Rattle.mail_answer.proofs.Words.{LinkId, Table, Key, RisesFrom, keys_of, is_number_among, truth_at, each_number}
-use Rattle.mail_answer.proofs.Words.{IsPathOfLinks}
-use Rattle.mail_answer.proofs.Words.{IsInThreadOfSome, AreThreads, AreThreadRoots}
+use Rattle.mail_answer.proofs.Words.{◌≡◌, ◌∙◌, ◌+◌, ◌<◌, ◌≤◌, ℕ, zero, suc, Bool, true, false, cond, nat_eq, ◌⊎◌, List, [], ◌∷◌, length, get_or, inl, inr, refl, sym, ap, subst, arith, eq-eqb, add-one, Result, IfOk, AllByRecursion, filter, list_any, range_with_len, get_or-map-range_with_len, eqb-true, or_cases, or_left, or_right, eqb_tells, LinkId, Table, Key, RisesFrom, keys_of, is_number_among, truth_at, each_number, IsPathOfLinks, IsInThreadOfSome, AreThreads, AreThreadRoots}
 use Rattle.mail_answer.proofs.ThreadLaws.ThreadLemmas.{itself}
 
 -- ---- membership

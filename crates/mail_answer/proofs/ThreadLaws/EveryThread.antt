@@ -1,9 +1,5 @@
 -- There are threads of any messages, however keys link them: the messages that the keys join, key by key.
-use Rattle.mail_answer.proofs.Words.{◌≡◌, ◌∙◌, ◌+◌, ◌<◌, ℕ, Bool, true, nat_eq, ◌&&◌, ◌||◌, List, [], ◌∷◌, ◌++◌, inl}
-use Rattle.mail_answer.proofs.Words.{inr, refl, sym, ap, subst, arith, eq-eqb, list_any, filter, range_with_len}
-use Rattle.mail_answer.proofs.Words.{eqb-true, or_cases, or_left, or_right, and_parts, and_from, Key, is_number_among}
-use Rattle.mail_answer.proofs.Words.{IsChain}
-use Rattle.mail_answer.proofs.Words.{IsLedTo, IsLedToBySome, AreThreadsOf}
+use Rattle.mail_answer.proofs.Words.{◌≡◌, ◌∙◌, ◌+◌, ◌<◌, ℕ, Bool, true, nat_eq, ◌&&◌, ◌||◌, List, [], ◌∷◌, ◌++◌, inl, inr, refl, sym, ap, subst, arith, eq-eqb, list_any, filter, range_with_len, eqb-true, or_cases, or_left, or_right, and_parts, and_from, Key, is_number_among, IsChain, IsLedTo, IsLedToBySome, AreThreadsOf}
 use Rattle.mail_answer.proofs.ThreadLaws.ChosenThreads.{passed_rise, from_passed, to_passed}
 
 -- ---- an element of a list

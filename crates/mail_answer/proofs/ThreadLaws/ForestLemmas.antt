@@ -1,7 +1,5 @@
 -- Trees whose paths are made shorter have the same roots, because each step leads from a message to one of its tree.
-use Rattle.mail_answer.proofs.Words.{◌≡◌, ◌≢◌, ◌∙◌, ◌+◌, ◌<◌, ◌≤◌, ℕ, List, length, get_or, inl, inr, sym, ap, subst}
-use Rattle.mail_answer.proofs.Words.{arith, set, get_or-set_same, get_or-set_other, eqb_tells, Table, IsInThread}
-use Rattle.mail_answer.proofs.Words.{LeadsBack, StaysInThreads, LabelsTrees, Shortens}
+use Rattle.mail_answer.proofs.Words.{◌≡◌, ◌≢◌, ◌∙◌, ◌+◌, ◌<◌, ◌≤◌, ℕ, List, length, get_or, inl, inr, sym, ap, subst, arith, set, get_or-set_same, get_or-set_other, eqb_tells, Table, IsInThread, LeadsBack, StaysInThreads, LabelsTrees, Shortens}
 use Rattle.std.proofs.Math.ListN.{length-set}
 use Rattle.mail_answer.proofs.ThreadLaws.ThreadLemmas.{through}
 

@@ -1,9 +1,5 @@
 -- Trees are joined by hanging a root at an earlier root, message by message and key by key.
-use Rattle.mail_answer.proofs.Words.{◌≡◌, ◌∙◌, ◌<◌, ◌≤◌, ℕ, true, nat_eq, ◌&&◌, List, [], ◌∷◌, length, get_or, inl, inr}
-use Rattle.mail_answer.proofs.Words.{refl, sym, ap, eq-eqb, arith, list_any, set, eqb-true, or_cases, or_left, or_right}
-use Rattle.mail_answer.proofs.Words.{and_parts, and_from, Table, is_number_among, IsInThread, StaysInThreads}
-use Rattle.mail_answer.proofs.Words.{LabelsTrees}
-use Rattle.mail_answer.proofs.Words.{Shortens, Unites, AreBothAmong, ShareKey}
+use Rattle.mail_answer.proofs.Words.{◌≡◌, ◌∙◌, ◌<◌, ◌≤◌, ℕ, true, nat_eq, ◌&&◌, List, [], ◌∷◌, length, get_or, inl, inr, refl, sym, ap, eq-eqb, arith, list_any, set, eqb-true, or_cases, or_left, or_right, and_parts, and_from, Table, is_number_among, IsInThread, StaysInThreads, LabelsTrees, Shortens, Unites, AreBothAmong, ShareKey}
 use Rattle.std.proofs.Math.ListN.{length-set}
 use Rattle.mail_answer.proofs.ThreadLaws.ThreadLemmas.{through, back_again}
 use Rattle.mail_answer.proofs.ThreadLaws.ForestLemmas.{still_back, still_threads, still_labels, label_there}

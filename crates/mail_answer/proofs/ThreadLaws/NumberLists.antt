@@ -1,8 +1,5 @@
 -- Lists of rising numbers of messages, and the text of an answer, number by number.
-use Rattle.mail_answer.proofs.Words.{◌≡◌, ℕ, suc, ◌+◌, ◌<◌, ◌≤◌, List, [], ◌∷◌, ◌++◌, length, Option, arith}
-use Rattle.mail_answer.proofs.Words.{AllByRecursion, flat_map-cons, Table, RisesFrom, Query, AreNumbers, known_answer}
-use Rattle.mail_answer.proofs.Words.{known_message, answer_text, message_text, joined_texts, IsIfKnown, record_at}
-use Rattle.mail_answer.proofs.Words.{chosen_numbers}
+use Rattle.mail_answer.proofs.Words.{◌≡◌, ℕ, suc, ◌+◌, ◌<◌, ◌≤◌, List, [], ◌∷◌, ◌++◌, length, Option, arith, AllByRecursion, flat_map-cons, Table, RisesFrom, Query, AreNumbers, known_answer, known_message, answer_text, message_text, joined_texts, IsIfKnown, record_at, chosen_numbers}
 use Rattle.mail_answer.specs.declared.format.Format.{Format}
 use Rattle.mail_answer.proofs.ThreadLaws.ChosenThreads.{passed_rise, passed_below, lower}
 

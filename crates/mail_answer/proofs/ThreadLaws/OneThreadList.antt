@@ -1,8 +1,5 @@
 -- Messages have only one list of threads, because rising lists with the same members are the same.
-use Rattle.mail_answer.proofs.Words.{◌≡◌, ◌∙◌, ◌≤◌, ℕ, suc, true, nat_eq, List, [], ◌∷◌, inl, inr, refl, ap, subst}
-use Rattle.mail_answer.proofs.Words.{arith, eq-eqb, eqb-true, or_cases, or_left, or_right, Table, RisesFrom}
-use Rattle.mail_answer.proofs.Words.{is_number_among}
-use Rattle.mail_answer.proofs.Words.{AreThreads}
+use Rattle.mail_answer.proofs.Words.{◌≡◌, ◌∙◌, ◌≤◌, ℕ, suc, true, nat_eq, List, [], ◌∷◌, inl, inr, refl, ap, subst, arith, eq-eqb, eqb-true, or_cases, or_left, or_right, Table, RisesFrom, is_number_among, AreThreads}
 
 not_before : (low : ℕ) (ns : List ℕ) (n : ℕ) → RisesFrom low ns → is_number_among n ns ≡ true → low ≤ n
 not_before low [] n rises among = absurd (cc among)

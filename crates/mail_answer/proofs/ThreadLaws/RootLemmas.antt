@@ -1,12 +1,5 @@
 -- Trees that are joined by all link ids are threads, because a path of links never leaves a tree.
-use Rattle.mail_answer.proofs.Words.{◌≡◌, ◌∙◌, ◌<◌, ℕ, Bool, true, ◌&&◌, ◌||◌, List, [], ◌∷◌, ◌++◌, length, map, take}
-use Rattle.mail_answer.proofs.Words.{take_all, take-append-le, get_or, refl, sym, ap, subst, arith, AllByRecursion}
-use Rattle.mail_answer.proofs.Words.{list_any, range_with_len, get_or-range_with_len, length-range_with_len, LinkId}
-use Rattle.mail_answer.proofs.Words.{Table, Key, IsKey, IsWellFormed, keys_of, text_and_numbers, is_number_among}
-use Rattle.mail_answer.proofs.Words.{are_linked}
-use Rattle.mail_answer.proofs.Words.{IsPathOfLinks, IsInThread, LeadsBack, StaysInThreads, LabelsTrees, Shortens}
-use Rattle.mail_answer.proofs.Words.{Unites}
-use Rattle.mail_answer.proofs.Words.{ShareKey, AreThreadRoots}
+use Rattle.mail_answer.proofs.Words.{◌≡◌, ◌∙◌, ◌<◌, ℕ, Bool, true, ◌&&◌, ◌||◌, List, [], ◌∷◌, ◌++◌, length, map, take, take_all, take-append-le, get_or, refl, sym, ap, subst, arith, AllByRecursion, list_any, range_with_len, get_or-range_with_len, length-range_with_len, LinkId, Table, Key, IsKey, IsWellFormed, keys_of, text_and_numbers, is_number_among, are_linked, IsPathOfLinks, IsInThread, LeadsBack, StaysInThreads, LabelsTrees, Shortens, Unites, ShareKey, AreThreadRoots}
 use Rattle.mail_answer.proofs.ThreadLaws.ThreadLemmas.{itself, by_link, through, back_again}
 
 -- ---- single messages, and the keys of an index

@@ -1,7 +1,5 @@
 -- Paths of links can be joined and turned around, so a thread is the same from each of its messages.
-use Rattle.mail_answer.proofs.Words.{◌≡◌, ◌∙◌, ℕ, true, ◌&&◌, List, [], ◌∷◌, ◌++◌, refl, sym, subst, arith, list_any}
-use Rattle.mail_answer.proofs.Words.{and_comm, LinkId, Key, Table, keys_of, is_number_among, are_linked, IsPathOfLinks}
-use Rattle.mail_answer.proofs.Words.{IsInThread}
+use Rattle.mail_answer.proofs.Words.{◌≡◌, ◌∙◌, ℕ, true, ◌&&◌, List, [], ◌∷◌, ◌++◌, refl, sym, subst, arith, list_any, and_comm, LinkId, Key, Table, keys_of, is_number_among, are_linked, IsPathOfLinks, IsInThread}
 
 -- a key has both numbers, whichever is named first
 both_turned : (m n : ℕ) (ks : List Key) → list_any

@@ -4,7 +4,7 @@ use Rattle.std.specs.List.{list_any, AllByRecursion}
 use Rattle.mail_index.specs.declared.kind.Kind.{Kind}
 use Rattle.mail_index.specs.Tables.{Key}
 use Rattle.mail_answer.specs.TableFacts.{texts_with}
-use Rattle.mail_index.specs.LookUps.{comparisons, comparisons_of_run, keys_of}
+use Rattle.mail_index.specs.LookUps.{comparisons, keys_of}
 use Rattle.mail_answer.specs.declared.cursor.texts.Fit.{Fit}
 use Rattle.mail_answer.specs.declared.cursor.texts.Fit.TheVariants.{Whole, Within, Front}
 use Rattle.mail_answer.specs.Marks.{truth_at}
@@ -50,12 +50,6 @@ abbrev pub compared_by : Fit → List ℕ → List Key → Kind → ℕ
 compared_by Whole text keys kind = comparisons kind text keys
 compared_by Within text keys kind = 0
 compared_by Front text keys kind = 0
-
--- how many comparisons find the run of keys in a kind
-abbrev pub run_compared_by : Fit → List ℕ → List Key → Kind → ℕ
-run_compared_by Whole text keys kind = 0
-run_compared_by Within text keys kind = comparisons_of_run kind [] keys
-run_compared_by Front text keys kind = comparisons_of_run kind text keys
 
 -- how many keys are looked up in each kind
 abbrev pub looked_up_by : Fit → ℕ

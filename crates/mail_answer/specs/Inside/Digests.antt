@@ -1,9 +1,9 @@
 -- What is read of an archive for its digest.
-use Rattle.std.specs.Prelude.{◌≡◌, ℕ, List, [], length, take, Option, None, Some, Ok, nat_le, if◌then◌else◌}
+use Rattle.std.specs.Prelude.{◌≡◌, ℕ, List, [], ◌++◌, length, take, Option, None, Some, Ok, nat_le, if◌then◌else◌}
 use Rattle.contract_words.specs.Archives.{IsReadFromArchive}
+use Rattle.sha2.specs.Hashers.{Holds256}
 use Rattle.sha2.specs.Sha256.{sha256}
 use Rattle.sha2.specs.declared.Sha256.{Sha256}
-use Rattle.mail_index.specs.Inside.Signing.{Absorbs}
 use Rattle.mail_answer.specs.Pieces.{ReadsFront, StopsWithin}
 use Rattle.mail_answer.specs.declared.archives.Archives.{Ghosts}
 
@@ -23,6 +23,6 @@ pub record AbsorbsPart {A : Type 0} (g : Ghosts A) (archive offset count : ℕ) 
     (before after : A) (old new : Sha256) : Type 0 where
   pub bytes : List ℕ
   pub number : length bytes ≡ count
-  pub part : Absorbs old new bytes
+  pub part : (m : List ℕ) → Holds256 old m → Holds256 new (m ++ bytes)
   pub read : IsReadFromArchive archive offset bytes held
   pub told : g.reads before archive offset (Ok bytes) after

@@ -2,19 +2,17 @@
 //!
 //! A union of many lists marks the messages of a window, and walks along the marks. Going from list to list at each
 //! number would be slowed down by memory at nearly every step (decision 74 in docs/DECISIONS.md).
-ghost use Rattle.std.specs.Prelude.{◌≡◌, ◌<◌, ◌^◌, ◌+◌, ℕ, true, length, IfNone};
+ghost use Rattle.std.specs.Prelude.{◌≡◌, ◌+◌, ℕ, length};
 ghost use Rattle.mail_answer.specs.CursorAhead.{CountsSteps, Drops, IsFirst, steps_left_in, union_of};
-ghost use Rattle.mail_answer.specs.Inside.CursorMarks.{AreFew, HaveMarks, IsFirstMark, IsHead, marked_or_listed, truths_marked};
+ghost use Rattle.mail_answer.specs.Inside.CursorMarks.{AreFew, HaveMarks, IsHead, marked_or_listed, marks_in};
 ghost use Rattle.mail_answer.specs.Inside.CursorTexts.{some_has};
 ghost use Rattle.mail_answer.specs.Marks.{Adds, truth_at};
 
 use crate::cursor::head::{Head, is_none_below, lesser_of};
 use crate::cursor::listed::Listed;
+use crate::cursor::window::{WORDS, first_mark};
 use mail_index::Steps;
 use std::marker::Model;
-
-/// How many messages a window covers.
-const WINDOW: usize = 4096;
 
 /// The messages that are in at least one of many posting lists. Those in the window are marked. Once no mark is left,
 /// the window begins anew at the least number of the lists.
@@ -24,8 +22,8 @@ pub(crate) struct Marked<'a> {
     lists: Vec<Listed<'a>>,
     // The least number of the lists.
     ahead: Head,
-    // Whether each message of the window is in a list.
-    marks: [bool; WINDOW],
+    // Whether each message of the window is in a list: a bit for each.
+    words: [u64; WORDS],
     // The first message of the window.
     start: u32,
     // All messages below this number are dropped.
@@ -34,35 +32,13 @@ pub(crate) struct Marked<'a> {
 
 impl<'a> Model for Marked<'a> {
     ghost use Rattle.mail_answer.specs.CursorAhead.{WalkAhead};
-    ghost use Rattle.mail_answer.specs.Inside.CursorMarks.{HaveMarks, marks_ahead};
+    ghost use Rattle.mail_answer.specs.Inside.CursorMarks.{HaveMarks, marks_ahead, marks_in};
 
     ghost Value = { WalkAhead };
 
-    ghost view = { λ s. marks_ahead s.low s.start s.marks s.lists.items };
+    ghost view = { λ s. marks_ahead s.low s.start (marks_in s.words) s.lists.items };
 
-    ghost invariant = { λ s. HaveMarks s.start s.marks s.lists.items s.ahead };
-}
-
-/// Marks the messages of a list that are in the window from `start` on. Drops them and all before them, and returns the
-/// first of the others.
-fn mark(list: &mut Listed<'_>, start: u32, marks: &mut [bool], steps: &mut Steps) -> Option<u32>
-    requires { (m : ℕ) → truth_at list.old.truths m ≡ true → m + 1 < 2 ^ 32 }
-    ensures rest { Drops (start + length marks.old) list.old.truths list.new.truths }
-    ensures number { IsFirst list.new.truths result }
-    ensures marks { Adds (λ k. truth_at list.old.truths (start + k)) marks.old marks.new }
-    ensures steps { CountsSteps list.old.left list.new.left steps.old steps.new }
-    ensures ended { IfNone result (list.new.left ≡ 0) }
-{
-    let mut least = list.least_from(start, steps);
-    while let Some(number) = least {
-        let place = (number - start) as usize;
-        if place >= marks.len() {
-            return least;
-        }
-        marks[place] = true;
-        least = list.least_from(number + 1, steps);
-    }
-    None
+    ghost invariant = { λ s. HaveMarks s.start (marks_in s.words) s.lists.items s.ahead };
 }
 
 /// Marks the messages of all lists that are in the window from `start` on. Drops them and all before them, and returns
@@ -70,22 +46,22 @@ fn mark(list: &mut Listed<'_>, start: u32, marks: &mut [bool], steps: &mut Steps
 fn mark_all(
     lists: &mut Vec<Listed<'_>>,
     start: u32,
-    marks: &mut [bool],
+    words: &mut [u64],
     steps: &mut Steps,
 ) -> Option<u32>
     requires { AreFew lists.old.items }
-    ensures rest { Drops (start + length marks.old) (union_of lists.old.items)
+    ensures rest { Drops (start + length (marks_in words.old)) (union_of lists.old.items)
         (union_of lists.new.items) }
     ensures number { IsFirst (union_of lists.new.items) result }
-    ensures marks { Adds (λ k. truth_at (union_of lists.old.items)
-        (start + k)) marks.old marks.new }
+    ensures marks { Adds (λ k. truth_at (union_of lists.old.items) (start + k))
+        (marks_in words.old) (marks_in words.new) }
     ensures steps { CountsSteps (steps_left_in lists.old.items)
         (steps_left_in lists.new.items) steps.old steps.new }
 {
     let mut least = None;
     let mut place = 0;
     while place < lists.len() {
-        match mark(&mut lists[place], start, marks, steps) {
+        match lists[place].mark_from(start, words, steps) {
             Some(number) => {
                 least = lesser_of(least, Some(number));
                 place += 1;
@@ -121,42 +97,28 @@ fn least_ahead(lists: &mut Vec<Listed<'_>>, ahead: Head, n: u32, steps: &mut Ste
 fn begin_window(
     lists: &mut Vec<Listed<'_>>,
     ahead: &mut Head,
-    marks: &mut [bool; WINDOW],
+    words: &mut [u64; WORDS],
     start: &mut u32,
     n: u32,
     steps: &mut Steps,
 ) -> Option<u32>
-    requires { HaveMarks start.old marks.old lists.old.items ahead.old }
-    ensures marks { HaveMarks start.new marks.new lists.new.items ahead.new }
+    requires { HaveMarks start.old (marks_in words.old) lists.old.items ahead.old }
+    ensures marks { HaveMarks start.new (marks_in words.new) lists.new.items ahead.new }
     ensures rest { Drops n (union_of lists.old.items)
-        (marked_or_listed start.new marks.new lists.new.items) }
-    ensures number { IsFirst (marked_or_listed start.new marks.new lists.new.items) result }
+        (marked_or_listed start.new (marks_in words.new) lists.new.items) }
+    ensures number { IsFirst (marked_or_listed start.new (marks_in words.new) lists.new.items)
+        result }
     ensures steps { CountsSteps (steps_left_in lists.old.items)
         (steps_left_in lists.new.items) steps.old steps.new }
 {
     let number = least_ahead(lists, *ahead, n, steps);
     *ahead = Head::Asked(number);
-    *marks = [false; WINDOW];
+    *words = [0; WORDS];
     if let Some(first) = number {
         *start = first;
-        *ahead = Head::Asked(mark_all(lists, first, marks.as_mut_slice(), steps));
+        *ahead = Head::Asked(mark_all(lists, first, words.as_mut_slice(), steps));
     }
     number
-}
-
-/// The number of the first mark that isn't below `low`.
-fn first_mark(marks: &[bool], start: u32, low: u32) -> Option<u32>
-    requires { (k : ℕ) → truth_at marks.now k ≡ true → start + k < 2 ^ 32 }
-    ensures { IsFirstMark start low marks.now result }
-{
-    let mut place = low.saturating_sub(start) as usize;
-    while place < marks.len() {
-        if marks[place] {
-            return Some(start + place as u32);
-        }
-        place += 1;
-    }
-    None
 }
 
 impl<'a> Marked<'a> {
@@ -169,7 +131,7 @@ impl<'a> Marked<'a> {
         Marked {
             lists,
             ahead: Head::Unasked,
-            marks: [false; WINDOW],
+            words: [0; WORDS],
             start: 0,
             low: 0,
         }
@@ -183,13 +145,13 @@ impl<'a> Marked<'a> {
         ensures below { self.new.below ≡ self.old.below }
     {
         self.low = n.max(self.low);
-        if let Some(number) = first_mark(self.marks.as_slice(), self.start, self.low) {
+        if let Some(number) = first_mark(self.words.as_slice(), self.start, self.low) {
             return Some(number);
         }
         begin_window(
             &mut self.lists,
             &mut self.ahead,
-            &mut self.marks,
+            &mut self.words,
             &mut self.start,
             self.low,
             steps,

@@ -8,14 +8,14 @@ ghost use Rattle.mail_answer.specs.TableFacts.{texts_with, is_number_among, fact
 ghost use Rattle.mail_answer.specs.Marks.{fits, some_key, truth_at};
 ghost use Rattle.mail_answer.specs.Cursors.{numbers_named, kinds_in, is_in, compared_in_all, LooksUp};
 ghost use Rattle.mail_answer.specs.Inside.CursorLists.{AreNumbers};
-ghost use Rattle.mail_answer.specs.Inside.CursorTexts.{any_text, AddsMatches, HaveNumbers, numbers_passing, numbers_fitting, looked_up_by, compared_by, run_compared_by};
+ghost use Rattle.mail_answer.specs.Inside.CursorTexts.{any_text, AddsMatches, HaveNumbers, numbers_passing, numbers_fitting, looked_up_by, compared_by};
 
 use crate::cursor::listed::Listed;
 use crate::cursor::walk::Walk;
-use mail_index::{CountedIndex, Keys, Kind, Postings};
+use mail_index::{CountedIndex, Keys, Kind, Postings, Steps};
 use mail_query::{Kinds, QueryText};
 use mail_words::TextKind;
-use memchr::memmem;
+use memchr::memmem::Finder;
 use std::alloc::{AllocError, Global};
 
 /// How a word or an id must contain the text of a query.
@@ -95,8 +95,9 @@ fn push_containing<'a>(
     ensures { IfOk result (λ _. AddsMatches (λ n. some_key (contains_text text.now) n keys.entry)
         (numbers_passing (contains_text text.now) keys.entry) members.old.items members.new.items) }
 {
+    let finder = Finder::new(text);
     while let Some(key) = keys.next() {
-        if memmem::find(key.text, text).is_some() {
+        if finder.find(key.text).is_some() {
             push_list(members, count, key.postings)?;
         }
     }
@@ -106,26 +107,22 @@ fn push_containing<'a>(
 /// Adds the lists of the keys of this kind that fit the text.
 fn push_kind<'a>(
     members: &mut Vec<Listed<'a>>,
-    index: &mut CountedIndex<'a>,
+    index: &CountedIndex<'a>,
     kind: Kind,
     fit: Fit,
     text: &[u8],
+    steps: &mut Steps,
 ) -> Result<(), AllocError>
-    requires { IsWellFormed index.old.table }
+    requires { IsWellFormed index.now }
     ensures joins { IfOk result (λ _. AddsMatches (λ n. list_any (fits fit text.now)
-        (texts_with kind n index.old.table.keys)) (numbers_fitting (fits fit text.now)
-        index.old.table.keys kind) members.old.items members.new.items) }
-    ensures exact { index.new.steps ≡ add_steps index.old.steps
-        (compared_by fit text.now index.old.table.keys kind) }
-    ensures steps { LooksUp (length index.old.table.keys) (looked_up_by fit)
-        index.old.steps index.new.steps }
-    ensures runs { index.new.run_steps ≡ add_steps index.old.run_steps
-        (run_compared_by fit text.now index.old.table.keys kind) }
-    ensures table { index.new.table ≡ index.old.table }
+        (texts_with kind n index.now.keys)) (numbers_fitting (fits fit text.now)
+        index.now.keys kind) members.old.items members.new.items) }
+    ensures exact { steps.new ≡ add_steps steps.old (compared_by fit text.now index.now.keys kind) }
+    ensures steps { LooksUp (length index.now.keys) (looked_up_by fit) steps.old steps.new }
 {
     let count = index.message_count();
     match fit {
-        Fit::Whole => push_list(members, count, index.look_up(kind, text)),
+        Fit::Whole => push_list(members, count, index.look_up(kind, text, steps)),
         Fit::Within => push_containing(members, count, index.keys(kind), text),
         Fit::Front => push_all(members, count, index.keys_beginning(kind, text)),
     }
@@ -135,28 +132,26 @@ fn push_kind<'a>(
 /// the text.
 pub(crate) fn with_text<'a>(
     alloc: Global,
-    index: &mut CountedIndex<'a>,
+    index: &CountedIndex<'a>,
     kinds: Kinds,
     fit: Fit,
     text: &QueryText,
+    steps: &mut Steps,
 ) -> Result<Walk<'a>, AllocError>
-    requires { IsWellFormed index.old.table }
+    requires { IsWellFormed index.now }
     ensures truths { IfOk result (λ w. (m : ℕ) → truth_at w.truths m
-        ≡ some_word (fits fit text.now) kinds (facts_at index.old.table m)) }
+        ≡ some_word (fits fit text.now) kinds (facts_at index.now m)) }
     ensures left { IfOk result (λ w. w.left ≤ numbers_named (fits fit text.now)
-        index.old.table.keys (kinds_in kinds)) }
-    ensures exact { IfOk result (λ _. index.new.steps ≡ add_steps index.old.steps
-        (compared_in_all (compared_by fit text.now index.old.table.keys) (kinds_in kinds))) }
-    ensures steps { LooksUp (length index.old.table.keys)
-        (length (kinds_in kinds) * looked_up_by fit) index.old.steps index.new.steps }
-    ensures runs { IfOk result (λ _. index.new.run_steps ≡ add_steps index.old.run_steps
-        (compared_in_all (run_compared_by fit text.now index.old.table.keys) (kinds_in kinds))) }
-    ensures table { index.new.table ≡ index.old.table }
+        index.now.keys (kinds_in kinds)) }
+    ensures exact { IfOk result (λ _. steps.new ≡ add_steps steps.old
+        (compared_in_all (compared_by fit text.now index.now.keys) (kinds_in kinds))) }
+    ensures steps { LooksUp (length index.now.keys) (length (kinds_in kinds) * looked_up_by fit)
+        steps.old steps.new }
 {
     let mut members = Vec::new(alloc);
     for kind in &KINDS {
         if is_in(kinds, *kind) {
-            push_kind(&mut members, index, *kind, fit, text.as_bytes())?;
+            push_kind(&mut members, index, *kind, fit, text.as_bytes(), steps)?;
         }
     }
     Walk::along_some(alloc, members)

@@ -3,11 +3,13 @@ ghost use Rattle.std.specs.Prelude.{◌≡◌, ◌<◌, [], length, IfOk, IfErr}
 ghost use Rattle.std.specs.Bool.{OnTrue};
 ghost use Rattle.contract_words.specs.Devices.{Counted};
 ghost use Rattle.mail_index.specs.Tables.{IsWellFormed};
-ghost use Rattle.mail_answer.specs.Answers.{fails_by};
+ghost use Rattle.mail_answer.specs.Answers.{fails_by, kind_of};
 ghost use Rattle.mail_answer.specs.Asked.{IsArchiveOfSome};
 ghost use Rattle.mail_answer.specs.Faults.{is_of_output, IfStale};
 ghost use Rattle.mail_answer.specs.Inside.Calls.{ReadsArchives, WritesOut};
 ghost use Rattle.mail_answer.specs.Inside.CursorLists.{AreNumbers};
+ghost use Rattle.mail_answer.specs.Inside.Readings.{ReadsOrEnds};
+ghost use Rattle.mail_answer.specs.MessageReads.{ReadsMessages};
 ghost use Rattle.mail_answer.specs.TableAnswers.{is_unwritten};
 ghost use Rattle.mail_answer.specs.TableFacts.{record_at};
 
@@ -76,6 +78,8 @@ impl<'a> AnswerWriter<'a> {
         ensures out { WritesOut O.Out self.new.sheet.sent out.old out.new result }
         ensures stale { IfErr result (λ kind. IfStale kind
             (λ a. a ≡ (record_at self.old.places.table.messages n).archive)) }
+        ensures read { ReadsOrEnds A.Archives self.old.format
+            (record_at self.old.places.table.messages n) archives.old archives.new result }
     {
         match self.format {
             Format::Raw => push_raw(self.alloc, &mut self.places, n, &mut self.sheet, out),
@@ -113,6 +117,8 @@ impl<'a> AnswerWriter<'a> {
             (λ a. a < length self.old.places.table.archives)) }
         ensures stale { IfErr result (λ kind. IfStale kind
             (IsArchiveOfSome self.old.places.table numbers.old)) }
+        ensures read { ReadsMessages A.Archives self.old.format self.old.places.table.messages
+            numbers.old archives.old archives.new result }
     {
         let mut count: u64 = 0;
         while let Some(n) = numbers.next() {
@@ -145,6 +151,8 @@ impl<'a> AnswerWriter<'a> {
             (λ a. a < length self.old.places.table.archives)) }
         ensures stale { IfErr result (λ fault. IfStale fault.kind
             (IsArchiveOfSome self.old.places.table numbers.old)) }
+        ensures read { ReadsMessages A.Archives self.old.format self.old.places.table.messages
+            numbers.old archives.old archives.new (kind_of result) }
     {
         match self.push_all(numbers, archives, out) {
             Ok(count) => Ok(count),

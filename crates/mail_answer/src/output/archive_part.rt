@@ -18,11 +18,12 @@ pub(crate) struct ArchivePart<'a, A: Archives> {
     // The offset of the next byte, and the number of bytes left.
     pub(crate) next: u64,
     pub(crate) left: u64,
-    // The number of reads that failed because the archive had ended.
+    // The number of reads that failed because the archive had ended. After such a read no byte is left.
     pub(crate) early_ends: u64,
     ghost inside: { IsInsideArchive (A.number archives.now) (A.held archives.now)
         (reading archive next left) } by { Prim.hlevel props },
     ghost fresh: { 0 < early_ends → A.held archives.now ≡ None },
+    ghost ended: { 0 < early_ends → left ≡ 0 },
 }
 
 impl<'a, A: Archives> Source for ArchivePart<'a, A> {
@@ -47,6 +48,7 @@ impl<'a, A: Archives> Source for ArchivePart<'a, A> {
             .read_at(self.archive, self.next, &mut into[..most])?;
         if n == 0 {
             self.early_ends += 1;
+            self.left = 0;
             return Err(DeviceFault);
         }
         self.next += n as u64;

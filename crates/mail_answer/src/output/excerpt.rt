@@ -5,6 +5,7 @@ ghost use Rattle.header_text.specs.Headers.{fields_of};
 ghost use Rattle.mail_answer.specs.Excerpts.{without_controls, text_after_space, field_line, excerpt_lines};
 ghost use Rattle.mail_answer.specs.Faults.{IfStale};
 ghost use Rattle.mail_answer.specs.Inside.Calls.{AreAsIndexed, ReadsArchives, WritesOut};
+ghost use Rattle.mail_answer.specs.Inside.Readings.{ReadsOrEnds};
 ghost use Rattle.mail_answer.specs.Shapes.{known_message};
 ghost use Rattle.mail_answer.specs.Sheets.{WritesText};
 ghost use Rattle.mail_answer.specs.TableFacts.{record_at};
@@ -105,6 +106,8 @@ pub(crate) fn push_excerpt<A: Archives, O: Out>(
     ensures out { WritesOut O.Out sheet.new.sent out.old out.new result }
     ensures stale { IfErr result (λ kind. IfStale kind
         (λ archive. archive ≡ (record_at places.old.table.messages n).archive)) }
+    ensures read { ReadsOrEnds A.Archives Excerpt (record_at places.old.table.messages n)
+        archives.old archives.new result }
 {
     let message = places.index().message(n);
     let header = read_header(alloc, message, kept, archives)?;

@@ -10,8 +10,9 @@ ghost use Rattle.contract_words.specs.Knowledge.{still_known};
 ghost use Rattle.mail_answer.specs.Faults.{has_fault, is_of_archives, is_of_output, is_stale, IfStale};
 ghost use Rattle.mail_answer.specs.Inside.Calls.{ReadsArchives};
 ghost use Rattle.mail_answer.specs.Inside.HeaderReads.{HasFields, WillHaveFields, HasFieldsAfter, IsShorter};
-ghost use Rattle.mail_answer.specs.Inside.Readings.{span_reading, IsInsideArchive};
+ghost use Rattle.mail_answer.specs.Inside.Readings.{span_reading, IsInsideArchive, ReadsOrEnds};
 ghost use Rattle.mail_answer.specs.Shapes.{span};
+ghost use Rattle.mail_answer.specs.declared.format.Format.TheVariants.{Excerpt};
 
 use crate::archives::Archives;
 use crate::fault::AnswerFaultKind;
@@ -136,6 +137,7 @@ pub(crate) fn read_header<A: Archives>(
     ensures kept { OnOk result (IsSome kept.new) }
     ensures own { has_fault is_of_output result ≡ false }
     ensures stale { IfErr result (λ kind. IfStale kind (λ n. n ≡ message.archive)) }
+    ensures read { ReadsOrEnds A.Archives Excerpt message archives.old archives.new result }
 {
     let mut part = ArchivePart {
         archives,

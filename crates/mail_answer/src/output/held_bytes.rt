@@ -4,7 +4,7 @@ ghost use Rattle.contract_words.specs.Archives.{archive_at};
 ghost use Rattle.contract_words.specs.Devices.{Counted, Counts};
 ghost use Rattle.mail_answer.specs.Faults.{has_fault, is_of_output, is_of_archives, is_stale, IfStale};
 ghost use Rattle.mail_answer.specs.Inside.Calls.{KeepsArchives};
-ghost use Rattle.mail_answer.specs.Inside.Readings.{AppendsRead, ReadsTail};
+ghost use Rattle.mail_answer.specs.Inside.Readings.{AppendsRead, ReadsAppended, ReadsTail};
 
 use crate::archives::Archives;
 use crate::fault::AnswerFaultKind;
@@ -91,6 +91,8 @@ impl HeldBytes {
         ensures bound { IfOk result (λ n. n ≤ most) }
         ensures bytes { IfOk result (λ n. AppendsRead archive offset n (A.held archives.new)
             self.old self.new) }
+        ensures read { ReadsAppended A.Archives archive offset archives.old archives.new
+            self.old self.new result }
         ensures refused { OnErr result (self.new ≡ self.old) }
         ensures count { Counted (has_fault is_of_archives result) (A.failures archives.old)
             (A.failures archives.new) }
@@ -146,8 +148,8 @@ fn read_after<A: Archives>(
     ensures bound { IfOk result (λ n. n ≤ most) }
     ensures room { length room.new ≡ length room.old }
     ensures same { take held room.new ≡ take held room.old }
-    ensures bytes { IfOk result (λ n. ReadsTail archive offset held n (A.held archives.new)
-        room.old room.new) }
+    ensures bytes { IfOk result (λ n. ReadsTail A.Archives archive offset held n
+        archives.old archives.new room.old room.new) }
     ensures count { Counts result (A.failures archives.old) (A.failures archives.new) }
 {
     archives.read_at(archive, offset, &mut room[held..held + most])

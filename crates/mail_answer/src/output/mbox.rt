@@ -4,7 +4,7 @@ ghost use Rattle.mail_index.specs.Tables.{IsWellFormed};
 ghost use Rattle.mail_answer.specs.Faults.{IfStale};
 ghost use Rattle.mail_answer.specs.Inside.Calls.{AreAsIndexed, ReadsArchives, WritesOut};
 ghost use Rattle.mail_answer.specs.Inside.Copies.{Copies};
-ghost use Rattle.mail_answer.specs.Inside.Readings.{bytes_left, span_reading, IsInsideArchive};
+ghost use Rattle.mail_answer.specs.Inside.Readings.{bytes_left, span_reading, IsInsideArchive, ReadsOrEnds, ReadsPiece};
 ghost use Rattle.mail_answer.specs.Inside.Spans.{WritesSpan};
 ghost use Rattle.mail_answer.specs.Shapes.{known_message};
 ghost use Rattle.mail_answer.specs.Sheets.{WritesText};
@@ -74,6 +74,7 @@ impl Part {
         ensures less { OnOk result (self.new.left < self.old.left) }
         ensures out { WritesOut O.Out sheet.new.sent out.old out.new result }
         ensures stale { IfErr result (λ kind. IfStale kind (λ n. n ≡ self.old.archive)) }
+        ensures read { ReadsPiece A.Archives archives.old archives.new self.old self.new result }
     {
         let gathered = sheet.text.len();
         let most = self.left.min(PIECE) as usize;
@@ -109,6 +110,8 @@ pub(crate) fn push_mbox<A: Archives, O: Out>(
     ensures out { WritesOut O.Out sheet.new.sent out.old out.new result }
     ensures stale { IfErr result (λ kind. IfStale kind
         (λ archive. archive ≡ (record_at index.now.messages n).archive)) }
+    ensures read { ReadsOrEnds A.Archives Mbox (record_at index.now.messages n)
+        archives.old archives.new result }
 {
     let mut part = Part::of(index.message(n));
     let mut ending = Ending::new();

@@ -4,8 +4,10 @@
 //! halved each time it is walked, which keeps the joining nearly linear without ranks.
 ghost use Rattle.std.specs.Prelude.{◌≡◌, ℕ, ◌<◌, ◌≤◌, length, slice_index, slice_set};
 ghost use Rattle.std.specs.List.{AllByRecursion};
+ghost use Rattle.mail_index.specs.Steps.{add_steps};
 ghost use Rattle.mail_index.specs.Tables.{Table};
 ghost use Rattle.mail_answer.specs.Threads.{IsInThread};
+ghost use Rattle.mail_answer.specs.Inside.CursorTexts.{any_text, numbers_passing};
 ghost use Rattle.mail_answer.specs.Inside.Forests.{LeadsBack, StaysInThreads, AreInOneTree, Shortens, Unites, AreBothAmong, ShareKey};
 
 use mail_index::{Keys, Postings, Steps};
@@ -60,7 +62,8 @@ fn unite(parents: &mut [u32], number: u32, other: u32)
 fn unite_all(parents: &mut [u32], mut numbers: Postings<'_>, steps: &mut Steps)
     requires back { LeadsBack parents.old }
     requires within { AllByRecursion (λ n. n < length parents.old) numbers }
-    ensures { Unites (AreBothAmong numbers.entry) parents.old parents.new }
+    ensures unites { Unites (AreBothAmong numbers.entry) parents.old parents.new }
+    ensures steps { steps.new ≡ add_steps steps.old (length numbers.entry) }
 {
     if let Some(first) = numbers.next(steps) {
         while let Some(number) = numbers.next(steps) {
@@ -73,7 +76,8 @@ fn unite_all(parents: &mut [u32], mut numbers: Postings<'_>, steps: &mut Steps)
 pub(crate) fn unite_by_keys(parents: &mut [u32], mut keys: Keys<'_>, steps: &mut Steps)
     requires back { LeadsBack parents.old }
     requires within { AllByRecursion (λ k. AllByRecursion (λ n. n < length parents.old) k.1) keys }
-    ensures { Unites (ShareKey keys.entry) parents.old parents.new }
+    ensures unites { Unites (ShareKey keys.entry) parents.old parents.new }
+    ensures steps { steps.new ≡ add_steps steps.old (numbers_passing any_text keys.entry) }
 {
     while let Some(key) = keys.next() {
         unite_all(parents, key.postings, steps);

@@ -1,7 +1,5 @@
 -- The paths that a run reads are valid paths, as many as the rcfile has, because the rcfile's reader checks them.
-use Rattle.mairix_tool.proofs.Words.{◌≡◌, ◌++◌, ℕ, List, [], ◌∷◌, length, map, append-nil, All, IfOk, Result, Ok, refl}
-use Rattle.mairix_tool.proofs.Words.{sym, ap, subst, arith, join_by, join_with_byte, IsPath, Query, Fault, Wanted}
-use Rattle.mairix_tool.proofs.Words.{wanted_of_words, wanted_of_plan, asked_rc, query_asked, wanted_by}
+use Rattle.mairix_tool.proofs.Words.{◌≡◌, ◌++◌, ℕ, List, [], ◌∷◌, length, map, append-nil, All, IfOk, Result, Ok, refl, sym, ap, subst, arith, join_by, join_with_byte, IsPath, Query, Fault, Wanted, wanted_of_words, wanted_of_plan, asked_rc, query_asked, wanted_by}
 use Rattle.contract_words.specs.Answers.{◌>>=◌, fault_as}
 use Rattle.mail_query.specs.declared.fault.QueryFault.{QueryFault}
 use Rattle.run_faults.specs.declared.fault.Fault.TheVariants as of

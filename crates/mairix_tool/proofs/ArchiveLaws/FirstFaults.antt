@@ -1,9 +1,5 @@
 -- Bytes have only one first fault, because all rules before a first fault are kept and its own is broken.
-use Rattle.mairix_tool.proofs.Words.{◌≡◌, ◌∙◌, ℕ, zero, suc, ◌<◌, ◌≤◌, ◌^◌, ◌+◌, List, length, take, flat_map, sym, ap}
-use Rattle.mairix_tool.proofs.Words.{subst, arith, inl, inr, ◌⊎◌, ⊤, leb_tells, eqb_tells, IndexFault, TooShort}
-use Rattle.mairix_tool.proofs.Words.{BadMagic, BadVersion, BadDigest, BadLayout, Record, IsFirstFaultOfFile, HasDigest}
-use Rattle.mairix_tool.proofs.Words.{IsSigned, HasCounts, HasArchives, HasRecords, HasDirectory, digest_start}
-use Rattle.mairix_tool.proofs.Words.{version_told, IsVersion, magic, record_bytes, DirectoryEntry, Archive, AreBytes}
+use Rattle.mairix_tool.proofs.Words.{◌≡◌, ◌∙◌, ℕ, zero, suc, ◌<◌, ◌≤◌, ◌^◌, ◌+◌, List, length, take, flat_map, sym, ap, subst, arith, inl, inr, ◌⊎◌, ⊤, leb_tells, eqb_tells, IndexFault, TooShort, BadMagic, BadVersion, BadDigest, BadLayout, Record, IsFirstFaultOfFile, HasDigest, IsSigned, HasCounts, HasArchives, HasRecords, HasDirectory, digest_start, version_told, IsVersion, magic, record_bytes, DirectoryEntry, Archive, AreBytes}
 use Rattle.mail_index.specs.declared.view.fault.Section.TheVariants.{Counts, Archives, Records, Directory, Postings}
 use Rattle.mail_index.specs.Records.{read_records}
 use Rattle.mail_index.proofs.ViewLaws.ArchiveReads.{archives_back}

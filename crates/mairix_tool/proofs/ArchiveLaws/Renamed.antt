@@ -1,6 +1,5 @@
 -- The first archive with another path than was indexed is found by going from one archive to the next.
-use Rattle.mairix_tool.proofs.Words.{◌≡◌, ◌∙◌, ◌+◌, ◌<◌, ℕ, zero, suc, cond, List, [], ◌∷◌, length, drop, drop-cons}
-use Rattle.mairix_tool.proofs.Words.{get_or, Some, ap, arith, add-one, Archive, first_renamed}
+use Rattle.mairix_tool.proofs.Words.{◌≡◌, ◌∙◌, ◌+◌, ◌<◌, ℕ, zero, suc, cond, List, [], ◌∷◌, length, drop, drop-cons, get_or, Some, ap, arith, add-one, Archive, first_renamed}
 use Rattle.std.specs.Str.{bytes_eq}
 use Rattle.std.proofs.lemmas.List.{length-drop}
 

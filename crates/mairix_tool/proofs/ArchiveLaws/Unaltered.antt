@@ -1,11 +1,6 @@
 -- Archives that aren't altered hold what was indexed, by their paths and by digests, if no two of these are the same
 -- for different bytes.
-use Rattle.mairix_tool.proofs.Words.{◌≡◌, ◌∙◌, ◌+◌, ◌++◌, ℕ, suc, Bool, true, cond, List, [], ◌∷◌, map, length}
-use Rattle.mairix_tool.proofs.Words.{bytes_eq, Option, None, Some, refl, sym, ap, ap₂, arith, Contains, option_or}
-use Rattle.mairix_tool.proofs.Words.{eqb-true, length-map, Contains-append_left, Contains-append_right}
-use Rattle.mairix_tool.proofs.Words.{bytes_eq-Decides, Mbox, table, entry_of_archive, unverified_archive, Archive}
-use Rattle.mairix_tool.proofs.Words.{HaveDistinctDigests}
-use Rattle.mairix_tool.proofs.Words.{altered_archive, mboxes, first_renamed, renamed_archive}
+use Rattle.mairix_tool.proofs.Words.{◌≡◌, ◌∙◌, ◌+◌, ◌++◌, ℕ, suc, Bool, true, cond, List, [], ◌∷◌, map, length, bytes_eq, Option, None, Some, refl, sym, ap, ap₂, arith, Contains, option_or, eqb-true, length-map, Contains-append_left, Contains-append_right, bytes_eq-Decides, Mbox, table, entry_of_archive, unverified_archive, Archive, HaveDistinctDigests, altered_archive, mboxes, first_renamed, renamed_archive}
 use Rattle.sha2.specs.Sha256.{sha256}
 use Rattle.mail_answer.proofs.ArchiveLaws.VerifiedLemmas.{verified_are, are_verified}
 

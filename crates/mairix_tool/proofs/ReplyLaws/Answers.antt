@@ -1,12 +1,5 @@
 -- What a run replies is what its table says, by the result of the search.
-use Rattle.mairix_tool.proofs.Words.{◌≡◌, ◌∙◌, ℕ, List, [], length, Option, None, Some, Result, Ok, Err, refl, sym, ap}
-use Rattle.mairix_tool.proofs.Words.{subst, append-nil, arith, Appends, Keeps, Sends, Table, Format, Raw, Excerpt}
-use Rattle.mairix_tool.proofs.Words.{AnswersStale, Search, answer_text, known_answer, stale_archive, TableAnswer}
-use Rattle.mairix_tool.proofs.Words.{IsTableAnswer, SendsTableAnswer, answer_of_numbers, some-chosen, Fault, Answer}
-use Rattle.mairix_tool.proofs.Words.{status_of_count, answer_of_text, IsStaleOr, IsAnswerFrom, IsAnswerOrStale}
-use Rattle.mairix_tool.proofs.Words.{RepliesBy}
-use Rattle.mairix_tool.proofs.Words.{reply_of}
-use Rattle.mairix_tool.proofs.Words.{fault_of_answer_kind, IsCountedWhere}
+use Rattle.mairix_tool.proofs.Words.{◌≡◌, ◌∙◌, ℕ, List, [], length, Option, None, Some, Result, Ok, Err, refl, sym, ap, subst, append-nil, arith, Appends, Keeps, Sends, Table, Format, Raw, Excerpt, AnswersStale, Search, answer_text, known_answer, stale_archive, TableAnswer, IsTableAnswer, SendsTableAnswer, answer_of_numbers, some-chosen, Fault, Answer, status_of_count, answer_of_text, IsStaleOr, IsAnswerFrom, IsAnswerOrStale, RepliesBy, reply_of, fault_of_answer_kind, IsCountedWhere}
 use Rattle.std.specs.Result.{IsErrAnd, MatchResult}
 use Rattle.mail_answer.specs.declared.format.Format.TheVariants.{Mbox}
 use Rattle.mail_answer.specs.declared.fault.AnswerFault.{AnswerFault}

@@ -1,12 +1,6 @@
 -- An mbox answer over the table of its archives is cut again into its messages, because each was cut out of an archive.
 use Rattle.contract_words.specs.Archives.{archive_at}
-use Rattle.mairix_tool.proofs.Words.{◌≡◌, ◌∙◌, ℕ, zero, suc, ◌<◌, false, List, [], ◌∷◌, ◌++◌, Option, Some, None}
-use Rattle.mairix_tool.proofs.Words.{length, map, take, drop, unwrap_or, refl, sym, ap, subst, arith, append_assoc}
-use Rattle.mairix_tool.proofs.Words.{slice_index_or, option_map, map-append, length-map, length_push, get_or_at}
-use Rattle.mairix_tool.proofs.Words.{All-map, flat_map-map, Record, Message, spans_of, messages, span_length}
-use Rattle.mairix_tool.proofs.Words.{closed_text, span}
-use Rattle.mairix_tool.proofs.Words.{answer_text, record_at, no_record, Mbox, messages_in, record_of, records_from}
-use Rattle.mairix_tool.proofs.Words.{table}
+use Rattle.mairix_tool.proofs.Words.{◌≡◌, ◌∙◌, ℕ, zero, suc, ◌<◌, false, List, [], ◌∷◌, ◌++◌, Option, Some, None, length, map, take, drop, unwrap_or, refl, sym, ap, subst, arith, append_assoc, slice_index_or, option_map, map-append, length-map, length_push, get_or_at, All-map, flat_map-map, Record, Message, spans_of, messages, span_length, closed_text, span, answer_text, record_at, no_record, Mbox, messages_in, record_of, records_from, table}
 use Rattle.std.specs.List.{All}
 use Rattle.mail_answer.specs.declared.format.Format.TheVariants as format
 use Rattle.mail_answer.specs.CutAgain.{IsCutOut, IsCutInto, ends_in_return}

@@ -1,16 +1,10 @@
 -- A run that searches the archives that it indexed replies what their own messages say, because its table says the
 -- same.
-use Rattle.mairix_tool.proofs.Words.{◌≡◌, ℕ, false, append-nil, List, [], ◌∷◌, map, length, None, Some, Option, Result}
-use Rattle.mairix_tool.proofs.Words.{Ok, Err, IfOk, IfSome, refl, ap, subst, arith, inl, inr, Appends, Sends, Table}
-use Rattle.mairix_tool.proofs.Words.{Search, answer_text, stale_archive, some-chosen, Fault, Reply, Mbox, table}
-use Rattle.mairix_tool.proofs.Words.{AreSound, mboxes, RefusesArchives, IsArchivesFault, Wanted, is_failure}
-use Rattle.mairix_tool.proofs.Words.{refusal_of_fault, Answer}
-use Rattle.mairix_tool.proofs.Words.{answer_of_fault, IsAnswer, IsAnswerOrStale, IsStaleOr, IsAnswerFrom, IsReply}
-use Rattle.mairix_tool.proofs.Words.{IsOnceReply}
-use Rattle.mairix_tool.proofs.Words.{IsThisOrMemory, IsUnindexed, RepliesBy, reply_of, answer_of_text}
-use Rattle.mairix_tool.proofs.Words.{sound-not-refused}
+use Rattle.mairix_tool.proofs.Words.{◌≡◌, ℕ, false, append-nil, List, [], ◌∷◌, map, length, None, Some, Option, Result, Ok, Err, IfOk, IfSome, refl, ap, subst, arith, inl, inr, Appends, Sends, Table, Search, answer_text, stale_archive, some-chosen, Fault, Reply, Mbox, table, AreSound, mboxes, RefusesArchives, IsArchivesFault, Wanted, is_failure, refusal_of_fault, Answer, answer_of_fault, IsAnswer, IsAnswerOrStale, IsStaleOr, IsAnswerFrom, IsReply, IsOnceReply, IsThisOrMemory, IsUnindexed, RepliesBy, reply_of, answer_of_text, sound-not-refused}
 use Rattle.run_faults.specs.Faults.{IsEarly}
 use Rattle.run_faults.specs.declared.fault.Fault.TheVariants.{Stale}
+use Rattle.mairix_tool.proofs.Words.{but_digests}
+use Rattle.mairix_tool.proofs.TableLaws.OldTables.{told-same, same-told}
 use Rattle.mairix_tool.proofs.TableLaws.MailSame.{chosen-same, chosen-back, shape-same, not-stale}
 use Rattle.index_run.proofs.ArchivesDecided.{decided, none-sound}
 
@@ -128,6 +122,17 @@ pub sound-once : (w : Wanted) (bytes held : List (List ℕ)) (t : Table) (reply 
     → t ≡ table (mboxes w.paths bytes) → RepliesBy (IsAnswerOrStale t w.search held) reply old new
     → RepliesBy (IsOnceReply (Ok w) bytes held) reply old new
 sound-once w bytes held t reply old new sound same given = grind (arith, replies-as, sound-not-refused)
+
+-- the same of a table that differs only in its digests
+pub alike-once : (w : Wanted) (bytes held : List (List ℕ)) (t : Table) (reply : Reply) (old new : Option (List ℕ))
+    → AreSound (mboxes w.paths bytes) → but_digests t ≡ but_digests (table (mboxes w.paths bytes))
+    → RepliesBy (IsAnswerOrStale t w.search held) reply old new
+    → RepliesBy (IsOnceReply (Ok w) bytes held) reply old new
+alike-once w bytes held t reply old new sound same given =
+    let whole = table (mboxes w.paths bytes) in
+    sound-once w bytes held whole reply old new sound refl
+    (replies-as (IsAnswerOrStale t w.search held) (IsAnswerOrStale whole w.search held)
+    (told-same t whole same w.search held) (same-told t whole same w.search held) reply old new given)
 
 -- by the messages themselves
 pub same-bytes : (asked : Result Wanted Fault) (bytes : List (List ℕ)) (reply : Reply) (old new : Option (List ℕ))

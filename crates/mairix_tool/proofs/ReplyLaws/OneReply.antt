@@ -1,16 +1,6 @@
 -- Two replies of one run are the same, unless an archive is refused twice, because the first faulty archive is
 -- determined.
-use Rattle.mairix_tool.proofs.Words.{◌≡◌, ◌∙◌, ◌^◌, ◌<◌, ◌++◌, ◌&&◌, ◌⊎◌, ℕ, Bool, true, false, cond, nat_le, List, []}
-use Rattle.mairix_tool.proofs.Words.{◌∷◌, map, length, Some, None, Option, Result, Ok, Err, unwrap_or, refl, sym, ap}
-use Rattle.mairix_tool.proofs.Words.{ap₂, subst, arith, inl, inr, append-nil, length-append, length-map, IndexFault}
-use Rattle.mairix_tool.proofs.Words.{AreBytes, Table, Search, answer_text, AreSound, Mbox, table, all_messages}
-use Rattle.mairix_tool.proofs.Words.{messages_in, with_messages, RefusesArchives, mboxes, Fault, Wanted, Answer}
-use Rattle.mairix_tool.proofs.Words.{answer_of_fault}
-use Rattle.mairix_tool.proofs.Words.{answer_of_text, IsAnswer, IsAnswerFrom, IsAnswerOrStale, IsStoredAnswer}
-use Rattle.mairix_tool.proofs.Words.{IsVerifiedAnswer}
-use Rattle.mairix_tool.proofs.Words.{IsStaleOr}
-use Rattle.mairix_tool.proofs.Words.{IsOldOr, IsReply, IsOnceReply, IsStoredReply, stale_archive, renamed_archive}
-use Rattle.mairix_tool.proofs.Words.{unproved_archive, is_too_old, sound-not-refused}
+use Rattle.mairix_tool.proofs.Words.{◌≡◌, ◌∙◌, ◌^◌, ◌<◌, ◌++◌, ◌&&◌, ◌⊎◌, ℕ, Bool, true, false, cond, nat_le, List, [], ◌∷◌, map, length, Some, None, Option, Result, Ok, Err, unwrap_or, refl, sym, ap, ap₂, subst, arith, inl, inr, append-nil, length-append, length-map, IndexFault, AreBytes, Table, Search, answer_text, AreSound, Mbox, table, all_messages, messages_in, with_messages, RefusesArchives, mboxes, Fault, Wanted, Answer, answer_of_fault, answer_of_text, IsAnswer, IsAnswerFrom, IsAnswerOrStale, IsStoredAnswer, IsVerifiedAnswer, IsStaleOr, IsOldOr, IsReply, IsOnceReply, IsStoredReply, stale_archive, renamed_archive, unproved_archive, is_too_old, sound-not-refused}
 use Rattle.std.proofs.lemmas.Grind.{flat_map-append}
 use Rattle.std.specs.Prelude.{nat_lt}
 use Rattle.index_job.specs.ArchiveRefusals.{IsCutOff, IsOneTooMany}

@@ -1,17 +1,19 @@
 -- A run verifies and then searches, so what it does to archives and output is what these two steps do.
-use Rattle.mairix_tool.proofs.Words.{AreStillKnown, ◌≡◌, ◌^◌, ◌<◌, ℕ, Bool, true, false, List, Option, None, Result, Ok}
-use Rattle.mairix_tool.proofs.Words.{Err, IfSome, refl, sym, ap, subst, arith, inr, length, IsFileOfTable, Table, table}
-use Rattle.mairix_tool.proofs.Words.{mboxes, Fault, Reply, Wanted, IsIndexRefusal, is_too_old, renamed_archive}
-use Rattle.mairix_tool.proofs.Words.{refusal_of_fault, reply_of, Search, false≢true, IsWellFormed}
+use Rattle.mairix_tool.proofs.Words.{AreStillKnown, ◌≡◌, ◌^◌, ◌<◌, ℕ, Bool, true, false, List, Option, None, Result, Ok, Err, IfSome, refl, sym, ap, subst, arith, inr, length, IsFileOfTable, Table, table, mboxes, Fault, Reply, Wanted, IsIndexRefusal, is_too_old, renamed_archive, refusal_of_fault, reply_of, Search, false≢true, IsWellFormed, All, IsPath, AreSound, All-nil, All-cons, All-head, All-tail, Some, map, [], ◌∷◌, ◌∙◌, ◌⊎◌, inl, but_digests}
+use Rattle.std.specs.Prelude.{IsSome}
+use Rattle.index_job.proofs.SoundTables.Whole.{sound-table}
+use Rattle.index_job.specs.ArchiveTables.{table_by}
+use Rattle.mail_index.specs.declared.digests.Digests.TheVariants.{LeftOut}
 use Rattle.mail_answer.specs.declared.archives.Archives.{Ghosts}
 use Rattle.mbox_cutter.specs.declared.device.Out.{Ghosts as OutGhosts}
 use Rattle.mail_index.proofs.FileLaws.Accepts.{no_fault}
 use Rattle.mail_index.proofs.FileLaws.SameTable.{same-table}
 use Rattle.run_faults.specs.Faults.{IsEarly}
 use Rattle.run_faults.specs.declared.fault.Fault.TheVariants as of
-use Rattle.mairix_tool.specs.Searching.{AsksNothing, IsIndexedTable, Searches, SearchesFor, SearchesStored}
-use Rattle.mairix_tool.specs.Searching.{VerifiesAndSearches, VerifiesWhere}
+use Rattle.mairix_tool.specs.Searching.{AsksNothing, IsIndexedTable, Searches, SearchesFor, SearchesStored, VerifiesAndSearches, VerifiesWhere}
 use Rattle.std.specs.Bool.{MatchBool}
+use Rattle.mairix_tool.proofs.TableLaws.Alike.{same-but-digests}
+use Rattle.mairix_tool.proofs.TableLaws.Formed.{named-paths}
 
 -- the reply to a fault of the verification
 abbrev verified-reply : Result (Unit {0}) Fault → Reply
@@ -71,12 +73,89 @@ asks-nothing IsCause fault archives out cause =
 pub same-asked : (asked : Result Wanted Fault) (v w : Wanted) → asked ≡ Ok v → asked ≡ Ok w → v ≡ w
 same-asked asked v w h h2 = grind arith
 
--- the table of a file in memory that is known to be the index of the sources' archives
-pub indexed-table : (paths : List (List ℕ)) (unread read : List (Option (List ℕ))) (file : List ℕ) (view : Table)
-    → ((t : Table) → IsFileOfTable file t → view ≡ t) → ((t : Table) × IsFileOfTable file t)
-    → ((bytes : List (List ℕ)) → AreStillKnown unread read bytes → IsFileOfTable file (table (mboxes paths bytes)))
-    → IsIndexedTable paths unread read view
-indexed-table paths unread read file view same (t, formed) known = record {
-  formed = subst (λ (u : Table). IsWellFormed u) (sym (same t formed)) formed.0;
-  known = λ bytes are. same (table (mboxes paths bytes)) (known bytes are);
-}
+-- ---- the table that was indexed
+
+-- what is known of all sources before they are read
+all-known : (old : List (Option (List ℕ))) → ((bytes : List (List ℕ)) × (old ≡ map Some bytes))
+    ⊎ ((bytes : List (List ℕ)) → old ≡ map Some bytes → ⊥)
+all-known [] = inl ([], refl)
+all-known (None ∷ old) = inr unknown
+  where
+    unknown : (bytes : List (List ℕ)) → None ∷ old ≡ map Some bytes → ⊥
+    unknown [] e = cc
+    unknown (b ∷ bytes) e = cc
+all-known (Some b ∷ old) = go (all-known old)
+  where
+    later : ((bytes : List (List ℕ)) → old ≡ map Some bytes → ⊥) → (bytes : List (List ℕ))
+        → Some b ∷ old ≡ map Some bytes → ⊥
+    later none [] e = cc
+    later none (c ∷ bytes) e = let rest : old ≡ map Some bytes = cc in none bytes rest
+
+    go : ((bytes : List (List ℕ)) × (old ≡ map Some bytes)) ⊎ ((bytes : List (List ℕ)) → old ≡ map Some bytes → ⊥)
+        → ((bytes : List (List ℕ)) × (Some b ∷ old ≡ map Some bytes))
+        ⊎ ((bytes : List (List ℕ)) → Some b ∷ old ≡ map Some bytes → ⊥)
+    go (inl (bytes, is)) = inl (b ∷ bytes, ap (λ (l : List (Option (List ℕ))). Some b ∷ l) is)
+    go (inr none) = inr (later none)
+
+-- whether something is still known of each source
+each-known : (new : List (Option (List ℕ))) → All IsSome new ⊎ (All IsSome new → ⊥)
+each-known [] = inl (All-nil IsSome)
+each-known (None ∷ new) = inr (λ all. false≢true (All-head IsSome None new all))
+each-known (Some b ∷ new) =
+    elim (each-known new) [
+      | inl all ↦ inl (All-cons IsSome (Some b) new refl all)
+      | inr none ↦ inr (λ all. none (All-tail IsSome (Some b) new all))
+    ]
+
+known-or-not : (old new : List (Option (List ℕ))) → ((bytes : List (List ℕ)) × AreStillKnown old new bytes)
+    ⊎ ((bytes : List (List ℕ)) → AreStillKnown old new bytes → ⊥)
+known-or-not old new = go (all-known old) (each-known new)
+  where
+    go : ((bytes : List (List ℕ)) × (old ≡ map Some bytes)) ⊎ ((bytes : List (List ℕ)) → old ≡ map Some bytes → ⊥)
+        → All IsSome new ⊎ (All IsSome new → ⊥)
+        → ((bytes : List (List ℕ)) × AreStillKnown old new bytes)
+        ⊎ ((bytes : List (List ℕ)) → AreStillKnown old new bytes → ⊥)
+    go (inl (bytes, is)) (inl all) = inl (bytes, (is, all))
+    go (inr none) each = inr (λ bytes known. none bytes known.0)
+    go (inl (bytes, is)) (inr none) = inr (λ more known. none known.1)
+
+same-known : (xs ys : List (List ℕ)) → map Some xs ≡ map Some ys → xs ≡ ys
+same-known [] [] e = refl
+same-known [] (y ∷ ys) e = absurd cc
+same-known (x ∷ xs) [] e = absurd cc
+same-known (x ∷ xs) (y ∷ ys) e =
+    let first : x ≡ y = cc in
+    let rest : map Some xs ≡ map Some ys = cc in
+    λ i. first i ∷ same-known xs ys rest i
+
+-- A view of what was indexed without digests has the table of the sources' archives, if their bytes are known, but for
+-- its digests.
+module _ (paths : List (List ℕ)) (unread read : List (Option (List ℕ))) (are : All IsPath paths) (view : Table)
+    (formed : IsWellFormed view)
+    (known : (bytes : List (List ℕ)) → AreStillKnown unread read bytes
+    → AreSound (mboxes paths bytes) × (view ≡ table_by LeftOut (mboxes paths bytes))) where
+  abbrev IsIndexed : Type 0
+  IsIndexed = (t : Table) × IsIndexedTable paths unread read t × (but_digests view ≡ but_digests t)
+
+  by-bytes : (bytes : List (List ℕ)) → AreStillKnown unread read bytes → IsIndexed
+  by-bytes bytes still =
+      let archives = mboxes paths bytes in
+      let found = known bytes still in (
+        table archives,
+        record {
+          formed = sound-table archives (named-paths paths bytes are) found.0;
+          known = λ others again. ap (λ (b : List (List ℕ)). table (mboxes paths b))
+              (same-known bytes others (sym still.0 ∙ again.0));
+        },
+        ap but_digests found.1 ∙ same-but-digests LeftOut archives,
+      )
+
+  unknown-bytes : ((bytes : List (List ℕ)) → AreStillKnown unread read bytes → ⊥) → IsIndexed
+  unknown-bytes none =
+      (view, record { formed = formed; known = λ bytes still. absurd (none bytes still) }, refl)
+
+  pub indexed-table : (t : Table) × IsIndexedTable paths unread read t × (but_digests view ≡ but_digests t)
+  indexed-table = elim (known-or-not unread read) [
+    | inl still ↦ by-bytes still.0 still.1
+    | inr none ↦ unknown-bytes none
+  ]

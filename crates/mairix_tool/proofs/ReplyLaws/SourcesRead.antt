@@ -3,8 +3,7 @@ use Rattle.mairix_tool.proofs.Words.{◌≡◌, ℕ, List, length, None, Some, R
 use Rattle.std.specs.Io.KnownBytes.{IsAtEnd}
 use Rattle.mbox_cutter.specs.declared.device.Source.{Ghosts}
 use Rattle.run_faults.specs.Faults.{IsEarly, IsOfAnswer, fault_in}
-use Rattle.run_faults.specs.declared.fault.Fault.TheVariants.{Usage, Rc, Query, Archive, Index, OldIndex, Stale, Device}
-use Rattle.run_faults.specs.declared.fault.Fault.TheVariants.{Out, Memory, TooMany}
+use Rattle.run_faults.specs.declared.fault.Fault.TheVariants.{Usage, Rc, Query, Archive, Index, OldIndex, Stale, Device, Out, Memory, TooMany}
 use Rattle.index_run.specs.SourcesStay.{AreReadToEnd, SourcesStay}
 use Rattle.index_run.proofs.KeptSources.{stay-self}
 

@@ -1,21 +1,5 @@
 -- A run over a stored index replies what its table says; over the indexed archives this is what their own messages say.
-use Rattle.mairix_tool.proofs.Words.{◌≡◌, ◌∙◌, ◌<◌, ◌^◌, ◌+◌, ◌++◌, ℕ, Bool, true, false, cond, All, IfSome, IfOk}
-use Rattle.mairix_tool.proofs.Words.{IfErr, List, [], ◌∷◌, map, length, None, Some, Option, Result, Ok, Err, refl, sym}
-use Rattle.mairix_tool.proofs.Words.{ap, subst, arith, inl, inr, eq-eqb, ◌||◌, false≢true, length-map, bytes_eq-Decides}
-use Rattle.mairix_tool.proofs.Words.{option_map, option_or, stale_archive, unverified_archive, IndexFault}
-use Rattle.mairix_tool.proofs.Words.{IsFileOfTable}
-use Rattle.mairix_tool.proofs.Words.{IsFirstFaultOfFile, AreBytes, Archive, IsPath, Table, IsVersion, uses_names}
-use Rattle.mairix_tool.proofs.Words.{AreSound}
-use Rattle.mairix_tool.proofs.Words.{Mbox, table, entry_of_archive, Fault, Reply, mboxes, Wanted, refusal_of_fault}
-use Rattle.mairix_tool.proofs.Words.{is_failure}
-use Rattle.mairix_tool.proofs.Words.{IsOfAnswer, HaveDistinctDigests, altered_archive, ServesFor, but_digests}
-use Rattle.mairix_tool.proofs.Words.{old_table}
-use Rattle.mairix_tool.proofs.Words.{Answer, answer_of_fault, IsAnswerOrStale, IsStoredAnswer, IsVerifiedAnswer}
-use Rattle.mairix_tool.proofs.Words.{unproved_archive}
-use Rattle.mairix_tool.proofs.Words.{ReportsProved}
-use Rattle.mairix_tool.proofs.Words.{IsStaleOr, IsOldOr, is_too_old, IsReply, IsStoredReply, IsForNoOtherCause}
-use Rattle.mairix_tool.proofs.Words.{IsIndexRefusal, IsRefusedAs, RepliesBy, reply_of, renamed_archive, first_renamed}
-use Rattle.mairix_tool.proofs.Words.{WereVerified, sound-not-refused}
+use Rattle.mairix_tool.proofs.Words.{◌≡◌, ◌∙◌, ◌<◌, ◌^◌, ◌+◌, ◌++◌, ℕ, Bool, true, false, cond, All, IfSome, IfOk, IfErr, List, [], ◌∷◌, map, length, None, Some, Option, Result, Ok, Err, refl, sym, ap, subst, arith, inl, inr, eq-eqb, ◌||◌, false≢true, length-map, bytes_eq-Decides, option_map, option_or, stale_archive, unverified_archive, IndexFault, IsFileOfTable, IsFirstFaultOfFile, AreBytes, Archive, IsPath, Table, IsVersion, uses_names, AreSound, Mbox, table, entry_of_archive, Fault, Reply, mboxes, Wanted, refusal_of_fault, is_failure, IsOfAnswer, HaveDistinctDigests, altered_archive, ServesFor, but_digests, old_table, Answer, answer_of_fault, IsAnswerOrStale, IsStoredAnswer, IsVerifiedAnswer, unproved_archive, ReportsProved, IsStaleOr, IsOldOr, is_too_old, IsReply, IsStoredReply, IsForNoOtherCause, IsIndexRefusal, IsRefusedAs, RepliesBy, reply_of, renamed_archive, first_renamed, WereVerified, sound-not-refused}
 use Rattle.mairix_tool.specs.StoredRuns.{CountsVerified, RepliesByMessages}
 use Rattle.mail_index.proofs.FileLaws.Accepts.{no_fault}
 use Rattle.mail_index.proofs.FileLaws.SameTable.{same-table}
@@ -27,8 +11,7 @@ use Rattle.mairix_tool.proofs.TableLaws.Formed.{before-file, indexed-file, other
 use Rattle.mairix_tool.proofs.TableLaws.OldTables.{told-old, old-told, told-same, same-told, renamed-old}
 use Rattle.mairix_tool.proofs.ArchiveLaws.Unaltered.{own-verified, the-same}
 use Rattle.mairix_tool.proofs.ArchiveLaws.FirstFaults.{one-first-fault}
-use Rattle.mairix_tool.proofs.ReplyLaws.Once.{replies-as, some-told, unanswered, once-reply, reply-once}
-use Rattle.mairix_tool.proofs.ReplyLaws.Once.{bytes-of-mboxes}
+use Rattle.mairix_tool.proofs.ReplyLaws.Once.{replies-as, some-told, unanswered, once-reply, reply-once, bytes-of-mboxes}
 
 -- ---- the table of archives has their paths
 

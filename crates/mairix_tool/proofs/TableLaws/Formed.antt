@@ -1,12 +1,6 @@
 -- The tables that an index of sound archives may have are well-formed: theirs, one with other digests, and that of
 -- version 1.
-use Rattle.mairix_tool.proofs.Words.{◌≡◌, ◌∙◌, ℕ, zero, suc, ◌+◌, ◌<◌, ◌≤◌, Bool, true, false, not, cond, All, List, []}
-use Rattle.mairix_tool.proofs.Words.{◌∷◌, length, map, refl, sym, ap, subst, arith, inl, inr, AllByRecursion, nat_tests}
-use Rattle.mairix_tool.proofs.Words.{length-map, All-nil, All-cons, All-head, All-tail, recursion_from_All, Name, Text}
-use Rattle.mairix_tool.proofs.Words.{Record, IsFileOfTable, index_file, is_of_kind, Archive, Key, Table, archive_length}
-use Rattle.mairix_tool.proofs.Words.{IsPath, IsArchive, IsMessage, IsKey, IsWellFormed, Follows, KeyBefore, AllNext}
-use Rattle.mairix_tool.proofs.Words.{newest, IsDigest, AreSound, Mbox, table, mboxes, without_digest, keys_but_names}
-use Rattle.mairix_tool.proofs.Words.{but_digests, old_table, HasDigests}
+use Rattle.mairix_tool.proofs.Words.{◌≡◌, ◌∙◌, ℕ, zero, suc, ◌+◌, ◌<◌, ◌≤◌, Bool, true, false, not, cond, All, List, [], ◌∷◌, length, map, refl, sym, ap, subst, arith, inl, inr, AllByRecursion, nat_tests, length-map, All-nil, All-cons, All-head, All-tail, recursion_from_All, Name, Text, Record, IsFileOfTable, index_file, is_of_kind, Archive, Key, Table, archive_length, IsPath, IsArchive, IsMessage, IsKey, IsWellFormed, Follows, KeyBefore, AllNext, newest, IsDigest, AreSound, Mbox, table, mboxes, without_digest, keys_but_names, but_digests, old_table, HasDigests}
 use Rattle.mail_index.specs.Limits.{most_in_archive}
 use Rattle.mail_index.proofs.BuildLaws.DraftLemmas.{all-weaker}
 use Rattle.index_job.proofs.SoundTables.Whole.{sound-table}
@@ -163,7 +157,8 @@ module _ (archives : List Mbox) (paths : All (λ (a : Mbox). IsPath a.path) arch
 -- ---- the files
 
 -- archives that were indexed by paths have these paths
-named-paths : (paths bytes : List (List ℕ)) → All IsPath paths → All (λ (a : Mbox). IsPath a.path) (mboxes paths bytes)
+pub named-paths : (paths bytes : List (List ℕ)) → All IsPath paths
+    → All (λ (a : Mbox). IsPath a.path) (mboxes paths bytes)
 named-paths [] bytes all = All-nil (λ (a : Mbox). IsPath a.path)
 named-paths (p ∷ paths) [] all = All-nil (λ (a : Mbox). IsPath a.path)
 named-paths (p ∷ paths) (b ∷ bytes) all =

@@ -1,16 +1,5 @@
 -- The table of archives says about their messages, threads and texts what these say themselves, number by number.
-use Rattle.mairix_tool.proofs.Words.{◌≡◌, ◌∙◌, ℕ, zero, suc, ◌+◌, ◌<◌, Bool, true, false, cond, nat_eq, ◌&&◌, ◌||◌}
-use Rattle.mairix_tool.proofs.Words.{List, [], ◌∷◌, ◌++◌, map, flat_map, length, Option, None, Some, refl, sym, ap}
-use Rattle.mairix_tool.proofs.Words.{subst, arith, eq-eqb, append_assoc, min, list_any, range_with_len, length-map}
-use Rattle.mairix_tool.proofs.Words.{length_push, get_or_at, fields_of, Message, text, facts_of, texts_of_message, Pair}
-use Rattle.mairix_tool.proofs.Words.{Facts, TextKind, words, folding, Text, LinkId, Record, kind_number, keys_of}
-use Rattle.mairix_tool.proofs.Words.{Archive, Key, Table, Query, is_true, Format, Raw, Excerpt, Search, IsChain}
-use Rattle.mairix_tool.proofs.Words.{IsLedToBySome, AreThreadsOf, AreChosen, AreChosenBy, satisfying, message_text}
-use Rattle.mairix_tool.proofs.Words.{answer_text, first_changed, stale_archive, mail_of_table, facts_at, record_at}
-use Rattle.mairix_tool.proofs.Words.{texts_with, is_number_among, are_linked, table, entry_of_archive, with_messages}
-use Rattle.mairix_tool.proofs.Words.{Term, text_terms}
-use Rattle.mairix_tool.proofs.Words.{own_id_terms, link_terms, Numbered, numbered_messages, numbered_at, nobody}
-use Rattle.mairix_tool.proofs.Words.{link_ids, share_id, mail_in, shape, text_in_form}
+use Rattle.mairix_tool.proofs.Words.{◌≡◌, ◌∙◌, ℕ, zero, suc, ◌+◌, ◌<◌, Bool, true, false, cond, nat_eq, ◌&&◌, ◌||◌, List, [], ◌∷◌, ◌++◌, map, flat_map, length, Option, None, Some, refl, sym, ap, subst, arith, eq-eqb, append_assoc, min, list_any, range_with_len, length-map, length_push, get_or_at, fields_of, Message, text, facts_of, texts_of_message, Pair, Facts, TextKind, words, folding, Text, LinkId, Record, kind_number, keys_of, Archive, Key, Table, Query, is_true, Format, Raw, Excerpt, Search, IsChain, IsLedToBySome, AreThreadsOf, AreChosen, AreChosenBy, satisfying, message_text, answer_text, first_changed, stale_archive, mail_of_table, facts_at, record_at, texts_with, is_number_among, are_linked, table, entry_of_archive, with_messages, Term, text_terms, own_id_terms, link_terms, Numbered, numbered_messages, numbered_at, nobody, link_ids, share_id, mail_in, shape, text_in_form}
 use Rattle.std.specs.List.{filter}
 use Rattle.std.specs.Str.{bytes_eq}
 use Rattle.mail_answer.specs.declared.format.Format.TheVariants.{Mbox}
@@ -19,8 +8,7 @@ use Rattle.index_job.proofs.SoundTables.Keys.{messages-sorted}
 use Rattle.mairix_tool.proofs.TableLaws.Truth.{any-same}
 use Rattle.mairix_tool.proofs.TableLaws.Terms.{term_says, parts-say}
 use Rattle.mairix_tool.proofs.TableLaws.Messages.{keys-at, terms_at}
-use Rattle.mairix_tool.proofs.TableLaws.Numbers.{messages-numbered, records-numbered, message_in, record_in, passes_in}
-use Rattle.mairix_tool.proofs.TableLaws.Numbers.{AllTell, tells-from}
+use Rattle.mairix_tool.proofs.TableLaws.Numbers.{messages-numbered, records-numbered, message_in, record_in, passes_in, AllTell, tells-from}
 use Rattle.mairix_tool.proofs.TableLaws.ThreadLinks.{linked-by-texts}
 
 -- ---- the link ids of a message are those among its terms

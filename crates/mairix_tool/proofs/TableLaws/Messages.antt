@@ -1,8 +1,5 @@
 -- The keys of a table say about a message what its own terms say, because each term was added with its number.
-use Rattle.mairix_tool.proofs.Words.{◌≡◌, ◌∙◌, ℕ, zero, suc, ◌+◌, ◌<◌, Bool, true, false, cond, List, [], ◌∷◌, ◌++◌}
-use Rattle.mairix_tool.proofs.Words.{length, map, filter, refl, ap, arith, ◌&&◌, ◌||◌, list_any, bytes_eq}
-use Rattle.mairix_tool.proofs.Words.{bytes_eq-Decides, nat_tests, Kind, Key, KeyBefore, AllNext, is_of_kind, keys_of}
-use Rattle.mairix_tool.proofs.Words.{is_number_among, texts_with, Message, text, Term, message_terms, with_messages}
+use Rattle.mairix_tool.proofs.Words.{◌≡◌, ◌∙◌, ℕ, zero, suc, ◌+◌, ◌<◌, Bool, true, false, cond, List, [], ◌∷◌, ◌++◌, length, map, filter, refl, ap, arith, ◌&&◌, ◌||◌, list_any, bytes_eq, bytes_eq-Decides, nat_tests, Kind, Key, KeyBefore, AllNext, is_of_kind, keys_of, is_number_among, texts_with, Message, text, Term, message_terms, with_messages}
 use Rattle.std.specs.Cmp.{both_ways}
 use Rattle.mail_index.specs.LookUps.{is_key, numbers_at}
 use Rattle.index_job.specs.MessageTerms.{has_term}

@@ -1,10 +1,5 @@
 -- The table of archives and the messages themselves give the same numbers for a query, message by message.
-use Rattle.mairix_tool.proofs.Words.{◌≡◌, ◌∙◌, ℕ, suc, ◌+◌, Bool, List, [], ◌∷◌, ◌++◌, length, map, refl, sym, ap}
-use Rattle.mairix_tool.proofs.Words.{append_assoc, list_any, map-append, length-map, length_push, get_or_at, fields_of}
-use Rattle.mairix_tool.proofs.Words.{Message, text, Text, OwnId, Record, Key, Table, texts_with, facts_at, record_at}
-use Rattle.mairix_tool.proofs.Words.{no_record, Query, is_true, facts_of, texts_of_message, Mbox, messages_in}
-use Rattle.mairix_tool.proofs.Words.{all_messages, record_of, records_from, with_messages, Numbered, numbered_messages}
-use Rattle.mairix_tool.proofs.Words.{facts_of_message}
+use Rattle.mairix_tool.proofs.Words.{◌≡◌, ◌∙◌, ℕ, suc, ◌+◌, Bool, List, [], ◌∷◌, ◌++◌, length, map, refl, sym, ap, append_assoc, list_any, map-append, length-map, length_push, get_or_at, fields_of, Message, text, Text, OwnId, Record, Key, Table, texts_with, facts_at, record_at, no_record, Query, is_true, facts_of, texts_of_message, Mbox, messages_in, all_messages, record_of, records_from, with_messages, Numbered, numbered_messages, facts_of_message}
 use Rattle.mairix_tool.proofs.TableLaws.Truth.{SaysTheSame, truth-same}
 use Rattle.mairix_tool.proofs.TableLaws.Terms.{terms-say-words, terms-say-own}
 use Rattle.mairix_tool.proofs.TableLaws.Messages.{keys-say}

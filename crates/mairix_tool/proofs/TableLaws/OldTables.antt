@@ -1,16 +1,6 @@
 -- A table without digests answers as the whole table; so does that of version 1 if the query uses no names of
 -- attachments.
-use Rattle.mairix_tool.proofs.Words.{◌≡◌, ◌∙◌, ℕ, ◌+◌, Bool, false, not, cond, List, [], ◌∷◌, map, flat_map, length}
-use Rattle.mairix_tool.proofs.Words.{Option, Some, refl, sym, ap, inl, inr, min, unwrap_or, arith, ◌&&◌, ◌==◌, nat_eq}
-use Rattle.mairix_tool.proofs.Words.{filter, list_any, range_with_len, slice_get, option_map, eqb_tells, length-map}
-use Rattle.mairix_tool.proofs.Words.{TextKind, Name, Kind, Text, OwnId, LinkId, kind_number, is_of_kind, keys_of}
-use Rattle.mairix_tool.proofs.Words.{Archive, Key, Table, Query, uses_names, is_true, words_but_names, without_names}
-use Rattle.mairix_tool.proofs.Words.{Format, Raw, Excerpt, Search, AreChosen, AreChosenBy, satisfying, path_at}
-use Rattle.mairix_tool.proofs.Words.{answer_text, first_changed, stale_archive, mail_of_table, is_number_among}
-use Rattle.mairix_tool.proofs.Words.{texts_with}
-use Rattle.mairix_tool.proofs.Words.{facts_at, record_at, are_linked, without_digest, keys_but_names, but_digests}
-use Rattle.mairix_tool.proofs.Words.{old_table, Answer, IsAnswerOrStale, IsStaleOr, answer_of_text, first_renamed}
-use Rattle.mairix_tool.proofs.Words.{renamed_archive}
+use Rattle.mairix_tool.proofs.Words.{◌≡◌, ◌∙◌, ℕ, ◌+◌, Bool, false, not, cond, List, [], ◌∷◌, map, flat_map, length, Option, Some, refl, sym, ap, inl, inr, min, unwrap_or, arith, ◌&&◌, ◌==◌, nat_eq, filter, list_any, range_with_len, slice_get, option_map, eqb_tells, length-map, TextKind, Name, Kind, Text, OwnId, LinkId, kind_number, is_of_kind, keys_of, Archive, Key, Table, Query, uses_names, is_true, words_but_names, without_names, Format, Raw, Excerpt, Search, AreChosen, AreChosenBy, satisfying, path_at, answer_text, first_changed, stale_archive, mail_of_table, is_number_among, texts_with, facts_at, record_at, are_linked, without_digest, keys_but_names, but_digests, old_table, Answer, IsAnswerOrStale, IsStaleOr, answer_of_text, first_renamed, renamed_archive}
 use Rattle.std.specs.Str.{bytes_eq}
 use Rattle.mail_answer.specs.declared.format.Format.TheVariants.{Mbox}
 use Rattle.std.proofs.Math.Path.{transport, transport⁻¹}
@@ -93,7 +83,7 @@ path-old named n = ap (λ (o : Option Archive). unwrap_or (option_map (λ a. a.p
         ≡ unwrap_or (option_map (λ a. a.path) o) []
     go o = grind arith
 
-text-undigested : (t : Table) (format : Format) (held : List (List ℕ)) (numbers : List ℕ)
+pub text-undigested : (t : Table) (format : Format) (held : List (List ℕ)) (numbers : List ℕ)
     → answer_text format (but_digests t) held numbers ≡ answer_text format t held numbers
 text-undigested t format held numbers = grind (arith, flat_map, path-old)
 
@@ -113,7 +103,7 @@ changed-old n (a ∷ named) [] = refl
 changed-old n (a ∷ named) (bytes ∷ held) =
     ap (λ (o : Option ℕ). cond (length bytes == a.length) o (Some n)) (changed-old (n + 1) named held)
 
-stale-old : (named : List Archive) (held : List (List ℕ)) → stale_archive (map without_digest named) held
+pub stale-old : (named : List Archive) (held : List (List ℕ)) → stale_archive (map without_digest named) held
     ≡ stale_archive named held
 stale-old named held =
     ap (λ (o : Option ℕ). cond (length held == length (map without_digest named)) o

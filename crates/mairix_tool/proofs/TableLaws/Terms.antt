@@ -1,9 +1,5 @@
 -- The terms of a message say what its texts and its own id say, kind by kind.
-use Rattle.mairix_tool.proofs.Words.{◌≡◌, ◌∙◌, ℕ, Bool, true, false, if◌then◌else◌, List, [], ◌∷◌, ◌++◌, map, flat_map}
-use Rattle.mairix_tool.proofs.Words.{Option, refl, sym, ap, arith, ◌&&◌, ◌||◌, nat_eq, list_any, or-false}
-use Rattle.mairix_tool.proofs.Words.{list_any-append, TextKind, words, folding, Kind, Text, OwnId, LinkId, kind_number}
-use Rattle.mairix_tool.proofs.Words.{Facts, Pair, Term, text_terms, own_id_terms, link_terms, id_terms, is_kind}
-use Rattle.mairix_tool.proofs.Words.{words_of, id_list}
+use Rattle.mairix_tool.proofs.Words.{◌≡◌, ◌∙◌, ℕ, Bool, true, false, if◌then◌else◌, List, [], ◌∷◌, ◌++◌, map, flat_map, Option, refl, sym, ap, arith, ◌&&◌, ◌||◌, nat_eq, list_any, or-false, list_any-append, TextKind, words, folding, Kind, Text, OwnId, LinkId, kind_number, Facts, Pair, Term, text_terms, own_id_terms, link_terms, id_terms, is_kind, words_of, id_list}
 
 -- the term is of this kind, and its text passes
 abbrev pub term_says : Kind → (List ℕ → Bool) → Term → Bool

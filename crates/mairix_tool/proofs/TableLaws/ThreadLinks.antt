@@ -1,8 +1,5 @@
 -- The table of archives links two messages exactly if they share a link id, because no two keys have the same id.
-use Rattle.mairix_tool.proofs.Words.{◌≡◌, ◌∙◌, ℕ, Bool, true, false, cond, ◌&&◌, ◌||◌, List, [], ◌∷◌, map, filter, refl}
-use Rattle.mairix_tool.proofs.Words.{sym, ap, subst, arith, list_any, Less, Equal, eqb-true, bytes_eq-Decides, Kind}
-use Rattle.mairix_tool.proofs.Words.{LinkId, kind_number, Key, KeyBefore, AllNext, is_of_kind, keys_of, is_number_among}
-use Rattle.mairix_tool.proofs.Words.{texts_with, share_id}
+use Rattle.mairix_tool.proofs.Words.{◌≡◌, ◌∙◌, ℕ, Bool, true, false, cond, ◌&&◌, ◌||◌, List, [], ◌∷◌, map, filter, refl, sym, ap, subst, arith, list_any, Less, Equal, eqb-true, bytes_eq-Decides, Kind, LinkId, kind_number, Key, KeyBefore, AllNext, is_of_kind, keys_of, is_number_among, texts_with, share_id}
 use Rattle.std.specs.Str.{bytes_eq}
 use Rattle.std.proofs.lemmas.Cmp.{nat_list_cmp_total, tied_itself}
 use Rattle.mail_index.specs.OrderOfKeys.{key_cmp}

@@ -1,9 +1,6 @@
 -- The truth of a query depends only on which tests the words and ids of a message pass, and on its date, size and
 -- flags.
-use Rattle.mairix_tool.proofs.Words.{◌≡◌, ◌∙◌, ℕ, Bool, true, not, List, [], ◌∷◌, refl, ap, arith, ◌&&◌, ◌||◌, nat_le}
-use Rattle.mairix_tool.proofs.Words.{bytes_eq, list_any, option_map_or, TextKind, Query, Any, Word, Part, Prefix, Date}
-use Rattle.mairix_tool.proofs.Words.{Size, HasFlag, Not, Either, Queries, End, More, some_word, contains_text}
-use Rattle.mairix_tool.proofs.Words.{word_begins_with, has_flag, is_same, is_true, each_is_true, some_is_true}
+use Rattle.mairix_tool.proofs.Words.{◌≡◌, ◌∙◌, ℕ, Bool, true, not, List, [], ◌∷◌, refl, ap, arith, ◌&&◌, ◌||◌, nat_le, bytes_eq, list_any, option_map_or, TextKind, Query, Any, Word, Part, Prefix, Date, Size, HasFlag, Not, Either, Queries, End, More, some_word, contains_text, word_begins_with, has_flag, is_same, is_true, each_is_true, some_is_true}
 use Rattle.mail_words.specs.declared.flags.Flags.{Flags}
 use Rattle.mail_dates.specs.Ranges.{has_date}
 use Rattle.mail_query.specs.declared.kinds.Kinds.{Kinds}

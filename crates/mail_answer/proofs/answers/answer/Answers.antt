@@ -1,6 +1,7 @@
 -- `answer` sends what the table answers, or a front of it, because each of its steps does.
 use Rattle.mail_answer.proofs.Words.{◌∙◌, Err, arith, search_of}
-use Rattle.mail_answer.proofs.OutputLaws.SentLemmas.{nothing_sent, answered_sent, no_spans_sent, spans_sent}
+use Rattle.mail_answer.proofs.ArchiveLaws.KnowledgeLemmas.{was_known_self}
+use Rattle.mail_answer.proofs.OutputLaws.SentLemmas.{nothing_sent, answered_sent, no_spans_sent, none_read_yet, spans_sent}
 use Rattle.mail_answer.proofs.answers.answer.Goals as goal
 
 pub returns-in-Err-clause-answered : goal.returns-in-Err-clause-answered
@@ -29,3 +30,10 @@ pub returns-in_default-chosen-clause-spans : goal.returns-in_default-chosen-clau
 returns-in_default-chosen-clause-spans g c =
     λ mbox numbers chosen. no_spans_sent _ c.args.index.now numbers (Err c.unsent-in_default-chosen.result)
     (grind arith)
+
+pub returns-in_default-chosen-clause-order : goal.returns-in_default-chosen-clause-order
+returns-in_default-chosen-clause-order g c =
+    let told = none_read_yet g.A.Archives c.args.index.now
+    (search_of c.args.query.now c.args.threads c.args.format) c.check_archives.new.archives
+    c.unsent-in_default-chosen.result (grind arith) in
+    grind (arith, told, was_known_self)

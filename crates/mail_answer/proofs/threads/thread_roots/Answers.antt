@@ -1,6 +1,6 @@
 -- `thread_roots` gives a root for each message, and messages in one thread have the same one.
-use Rattle.mail_answer.proofs.Words.{◌≡◌, ◌∙◌, ◌+◌, ◌<◌, ℕ, List, [], ◌∷◌, ◌++◌, length, sym, ap, subst, arith}
-use Rattle.mail_answer.proofs.Words.{range_with_len, map-id, map-range_with_len_more, AllByRecursion, LeadsBack}
+use Rattle.mail_answer.proofs.Words.{◌≡◌, ◌∙◌, ◌+◌, ◌<◌, ℕ, List, [], ◌∷◌, ◌++◌, length, sym, ap, subst, arith, range_with_len, map-id, map-range_with_len_more, AllByRecursion, LeadsBack, LinkId, keys_of, add_steps, any_text, numbers_passing}
+use Rattle.mail_answer.proofs.CursorLaws.Texts.{all_left}
 use Rattle.mail_answer.proofs.ThreadLaws.RootLemmas.{single_back, link_keys_below, threads_told, written_over}
 use Rattle.mail_answer.proofs.threads.thread_roots.Goals as goal
 
@@ -21,31 +21,40 @@ pub unite_by_keys-requires-clause-within : goal.unite_by_keys-requires-clause-wi
 unite_by_keys-requires-clause-within c =
     let single : c.as_mut_slice.result.now ≡ range_with_len 0 (length c.args.index.now.messages) =
     c.as_mut_slice.ensures.value ∙ c.loop-number.invariant ∙ ap (range_with_len 0) (omega arith)
-    ∙ ap (range_with_len 0) c.message_count-count.ensures in
+    ∙ ap (range_with_len 0) c.message_count-count.ensures.count in
     subst (λ (ks : List (List ℕ × List ℕ)). AllByRecursion
     (λ (k : List ℕ × List ℕ). AllByRecursion (λ n. n < length c.as_mut_slice.result.now) k.1) ks)
-    (sym c.keys-keys.ensures.keys)
-    (link_keys_below c.args.index.now c.as_mut_slice.result.now c.requires single)
+    (sym c.keys-keys.ensures)
+    (link_keys_below c.args.index.now c.as_mut_slice.result.now c.message_count-count.ensures.formed single)
 
 pub flatten-requires : goal.flatten-requires
 flatten-requires c =
     let written = written_over c.loop-number.roots.len c.unite_by_keys.new.parents _
-    (c.unite_by_keys.ensures.long ∙ c.as_mut_slice.ensures.len) in
+    (c.unite_by_keys.ensures.unites.long ∙ c.as_mut_slice.ensures.len) in
     subst LeadsBack (sym (c.as_mut_slice-2.ensures.value ∙ written))
-    (c.unite_by_keys.ensures.back (single_back c.as_mut_slice.result.now c.message_count-count.result
+    (c.unite_by_keys.ensures.unites.back (single_back c.as_mut_slice.result.now c.message_count-count.result
     (c.as_mut_slice.ensures.value ∙ c.loop-number.invariant ∙ ap (range_with_len 0) (omega arith))))
 
-pub returns : goal.returns
-returns c =
+pub returns-clause-roots : goal.returns-clause-roots
+returns-clause-roots c =
     let t = c.args.index.now in
     let single : c.as_mut_slice.result.now ≡ range_with_len 0 (length t.messages) = c.as_mut_slice.ensures.value
     ∙ c.loop-number.invariant ∙ ap (range_with_len 0) (omega arith)
-    ∙ ap (range_with_len 0) c.message_count-count.ensures in
+    ∙ ap (range_with_len 0) c.message_count-count.ensures.count in
     let joined : c.as_mut_slice-2.result.now ≡ c.unite_by_keys.new.parents = c.as_mut_slice-2.ensures.value
     ∙ written_over c.loop-number.roots.len c.unite_by_keys.new.parents _
-    (c.unite_by_keys.ensures.long ∙ c.as_mut_slice.ensures.len) in
+    (c.unite_by_keys.ensures.unites.long ∙ c.as_mut_slice.ensures.len) in
     rw (written_over c.loop-number.roots.len c.flatten.new.parents _
     (c.flatten.ensures.shortened.long ∙ c.as_mut_slice-2.ensures.len))
     (threads_told t c.as_mut_slice.result.now c.as_mut_slice-2.result.now c.flatten.new.parents single
-    (rw joined (rw c.keys-keys.ensures.keys at c.unite_by_keys.ensures)) c.flatten.ensures.shortened
+    (rw joined (rw c.keys-keys.ensures at c.unite_by_keys.ensures.unites)) c.flatten.ensures.shortened
     c.flatten.ensures.flat)
+
+pub returns-clause-steps : goal.returns-clause-steps
+returns-clause-steps c =
+    c.unite_by_keys.ensures.steps
+    ∙ ap (λ (ks : List (List ℕ × List ℕ)). add_steps c.args.steps.now (numbers_passing any_text ks)) c.keys-keys.ensures
+    ∙ ap (add_steps c.args.steps.now) (all_left (keys_of LinkId c.args.index.now.keys))
+
+pub returns-clause-few : goal.returns-clause-few
+returns-clause-few c = omega (arith, (returns-clause-roots c).long, c.message_count-count.ensures.count)

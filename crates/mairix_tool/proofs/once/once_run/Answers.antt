@@ -1,6 +1,5 @@
 -- `once_run` replies as the definition says, by the cases of its first fault.
-use Rattle.mairix_tool.proofs.Words.{◌≡◌, ℕ, map, length, IfOk, sym, subst, string_bytes, arith, Result, Fault, Wanted}
-use Rattle.mairix_tool.proofs.Words.{shown_wanted, wanted_of_words, inl}
+use Rattle.mairix_tool.proofs.Words.{◌≡◌, ℕ, map, length, IfOk, sym, subst, string_bytes, arith, Result, Fault, Wanted, shown_wanted, wanted_of_words, inl}
 use Rattle.contract_words.proofs.DeviceLists.{known_length}
 use Rattle.mairix_tool.proofs.ArchiveLaws.AskedPaths.{asked-many, asked-paths}
 use Rattle.run_faults.specs.Faults.{IsOfIndexing}

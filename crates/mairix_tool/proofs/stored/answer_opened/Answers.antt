@@ -1,7 +1,5 @@
 -- `answer_opened` replies what the table says, by the results of verification and search.
-use Rattle.mairix_tool.proofs.Words.{◌≡◌, ℕ, List, Option, None, Some, Err, IfSome, sym, subst, shown_wanted}
-use Rattle.mairix_tool.proofs.Words.{IsStaleOr}
-use Rattle.mairix_tool.proofs.Words.{IsAnswerOrStale, RepliesBy, ReportsProved, unproved_archive, reply_of}
+use Rattle.mairix_tool.proofs.Words.{◌≡◌, ℕ, List, Option, None, Some, Err, IfSome, sym, subst, shown_wanted, IsStaleOr, IsAnswerOrStale, RepliesBy, ReportsProved, unproved_archive, reply_of}
 use Rattle.std.proofs.lemmas.Result.{err_from_is_err_and}
 use Rattle.mairix_tool.proofs.ReplyLaws.Searching.{unverified-searched, verified-searched}
 use Rattle.mairix_tool.proofs.ReplyLaws.Stored.{unproved-replied, still-verified}

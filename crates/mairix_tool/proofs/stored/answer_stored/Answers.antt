@@ -1,7 +1,6 @@
 -- `answer_stored` replies what the index says, by the results of opening and of searching it.
 use Rattle.mairix_tool.proofs.Words.{◌^◌, ◌<◌, length, arith, Wanted, shown_wanted, reply_of}
-use Rattle.mairix_tool.proofs.ReplyLaws.Stored.{answered-for, refused-for, refused-stored, has-digests, stored-told}
-use Rattle.mairix_tool.proofs.ReplyLaws.Stored.{stored-counted}
+use Rattle.mairix_tool.proofs.ReplyLaws.Stored.{answered-for, refused-for, refused-stored, has-digests, stored-told, stored-counted}
 use Rattle.mairix_tool.proofs.ReplyLaws.Searching.{opened-searched, refused-searched}
 use Rattle.mail_answer.proofs.ArchiveLaws.CallLemmas.{holds_self}
 use Rattle.mairix_tool.proofs.stored.answer_stored.Goals as goal

@@ -1,6 +1,5 @@
 -- `answer_view` replies what the table says, by the result of the search.
-use Rattle.mairix_tool.proofs.Words.{ℕ, List, Option, arith, subst, AnswersStale, stale_archive, TableAnswer}
-use Rattle.mairix_tool.proofs.Words.{IsTableAnswer, SendsTableAnswer, IfSome, shown_wanted, ap, reply_of}
+use Rattle.mairix_tool.proofs.Words.{ℕ, List, Option, arith, subst, AnswersStale, stale_archive, TableAnswer, IsTableAnswer, SendsTableAnswer, IfSome, shown_wanted, ap, reply_of}
 use Rattle.mairix_tool.proofs.ReplyLaws.Answers.{told-so, told-by, counted-by}
 use Rattle.mairix_tool.proofs.view_answer.answer_view.Goals as goal
 

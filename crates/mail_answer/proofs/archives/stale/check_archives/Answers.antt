@@ -1,6 +1,5 @@
 -- `check_archives` finds the first changed archive, because it compares one length after another.
-use Rattle.mail_answer.proofs.Words.{◌≡◌, ◌∙◌, Ok, IfSome, length, drop, subst, sym, arith, Agree, Archive, archive_of}
-use Rattle.mail_answer.proofs.Words.{archive_at, first_changed}
+use Rattle.mail_answer.proofs.Words.{◌≡◌, ◌∙◌, Ok, IfSome, length, drop, subst, sym, arith, Agree, Archive, archive_of, archive_at, first_changed}
 use Rattle.mail_answer.proofs.ArchiveLaws.AskedLemmas.{agree_more}
 use Rattle.mail_answer.proofs.ArchiveLaws.KnowledgeLemmas.{some_later, was_known_join}
 use Rattle.mail_answer.proofs.ArchiveLaws.StaleLemmas.{goes_on, named_here, next_named, none_left}

@@ -1,7 +1,5 @@
 -- `check_digests` finds the first altered archive, because it compares one digest after another.
-use Rattle.mail_answer.proofs.Words.{◌≡◌, ◌∙◌, true, false, subst, bytes_eq, sym, arith, drop, None, AreReadOnce}
-use Rattle.mail_answer.proofs.Words.{Archive}
-use Rattle.mail_answer.proofs.Words.{archive_of, stale_archive}
+use Rattle.mail_answer.proofs.Words.{◌≡◌, ◌∙◌, true, false, subst, bytes_eq, sym, arith, drop, None, AreReadOnce, Archive, archive_of, stale_archive}
 use Rattle.mail_answer.proofs.ArchiveLaws.StaleLemmas.{named_here, next_named, none_left}
 use Rattle.mail_answer.proofs.ArchiveLaws.VerifiedLemmas.{UnalteredTo, told_next, other_read, more_read}
 use Rattle.mail_answer.proofs.ArchiveLaws.CallLemmas.{keeps_join}

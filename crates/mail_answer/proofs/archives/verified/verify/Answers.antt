@@ -1,12 +1,10 @@
 -- `verify` finds the first altered archive, because it compares digests only if no length has changed.
-use Rattle.mail_answer.proofs.Words.{◌≡◌, ◌∙◌, ◌<◌, ℕ, List, None, Ok, length, ap, subst, arith, stale_archive}
-use Rattle.mail_answer.proofs.Words.{AreVerified}
+use Rattle.mail_answer.proofs.Words.{◌≡◌, ◌∙◌, ◌<◌, ℕ, List, None, Ok, length, ap, subst, arith, stale_archive, AreVerified}
 use Rattle.mail_answer.specs.Faults.{has_fault, is_of_archives, IfStale}
 use Rattle.mail_answer.specs.Verified.{LooksThrough}
 use Rattle.mail_answer.proofs.ArchiveLaws.CallLemmas.{holds_join}
 use Rattle.mail_answer.proofs.ArchiveLaws.KnowledgeLemmas.{some_later}
-use Rattle.mail_answer.proofs.ArchiveLaws.VerifiedLemmas.{told_by_digests, read_of_all, unsent_kind, unsent_ok}
-use Rattle.mail_answer.proofs.ArchiveLaws.VerifiedLemmas.{unsent_err, unsent_written, unsent_fails, always_ok}
+use Rattle.mail_answer.proofs.ArchiveLaws.VerifiedLemmas.{told_by_digests, read_of_all, unsent_kind, unsent_ok, unsent_err, unsent_written, unsent_fails, always_ok}
 use Rattle.mail_answer.proofs.archives.verified.verify.Goals as goal
 
 pub check_digests-requires-clause-indexed : goal.check_digests-requires-clause-indexed

@@ -1,106 +1,98 @@
 -- `walk_of` makes the walk of a node, by the kind of the node and from the walks of its members.
-use Rattle.mail_answer.proofs.Words.{◌≡◌, ◌∙◌, ◌+◌, ◌≤◌, ℕ, add_steps, kinds_in, look_up_steps, look_up_steps_of_all}
-use Rattle.mail_answer.proofs.Words.{run_finding_steps, run_finding_steps_of_all, List, length, drop, refl, sym, ap}
-use Rattle.mail_answer.proofs.Words.{subst, arith, IfOk, eqb-true, Node, Query, query_of, queries_of, members_of, fits}
-use Rattle.mail_answer.proofs.Words.{Whole, Within, Front, most_left, look_ups, LooksUp, Table, IsWellFormed}
+use Rattle.mail_answer.proofs.Words.{◌≡◌, ◌∙◌, ◌+◌, ◌≤◌, ℕ, add_steps, kinds_in, look_up_steps, look_up_steps_of_all, List, length, drop, refl, sym, ap, subst, arith, IfOk, eqb-true, Node, Query, query_of, queries_of, members_of, fits, Whole, Within, Front, most_left}
 use Rattle.std.specs.Vec.{vec_len}
 use Rattle.mail_answer.specs.declared.cursor.scanned.Asked.TheVariants as asked
 use Rattle.mail_query.specs.Query as query
 use Rattle.mail_query.proofs.NodeLemmas.{query_of-Flag, query_of-Not}
-use Rattle.mail_answer.proofs.CursorLaws.NodeQueries.{query_of-Any, query_of-Word, query_of-Part, query_of-Prefix}
-use Rattle.mail_answer.proofs.CursorLaws.NodeQueries.{query_of-Either}
-use Rattle.mail_answer.specs.Inside.CursorBegins.{AreTruthsOf}
+use Rattle.mail_answer.proofs.CursorLaws.NodeQueries.{query_of-Any, query_of-Word, query_of-Part, query_of-Prefix, query_of-Either}
 use Rattle.mail_answer.proofs.CursorLaws.MemberLemmas.{next_member, no_member}
 use Rattle.mail_answer.proofs.CursorLaws.Texts.{word_past}
-use Rattle.mail_answer.proofs.CursorLaws.Begins.{some_walk, query_of-Date, query_of-Size, query_of-All, tells_scanned}
-use Rattle.mail_answer.proofs.CursorLaws.Begins.{left_scanned, tells_text, tells_not, tells_grouped, tells_common}
-use Rattle.mail_answer.proofs.CursorLaws.Begins.{tells_none, walks_more, walks_steps, walks_told}
-use Rattle.mail_answer.proofs.CursorLaws.LookUpSteps.{if_always, none_taken, none_compared, steps_of, member_more}
-use Rattle.mail_answer.proofs.CursorLaws.LookUpSteps.{no_member_more}
+use Rattle.mail_answer.proofs.CursorLaws.Begins.{some_walk, query_of-Date, query_of-Size, query_of-All, tells_scanned, left_scanned, tells_text, tells_not, tells_grouped, tells_common, tells_none, walks_more, walks_steps, walks_told}
+use Rattle.mail_answer.proofs.CursorLaws.LookUpSteps.{if_always, none_taken, none_compared, steps_of, member_more, no_member_more}
 use Rattle.mail_answer.proofs.cursor.begin.+begin.Goals as goal
 
 pub walk_of-returns-in-Any-clause-truths : goal.walk_of-returns-in-Any-clause-truths
 walk_of-returns-in-Any-clause-truths t c =
-    tells_scanned c.args.index.now.table (query_of c.args.node.now) query.Any c.records.result asked.Any
+    tells_scanned c.args.index.now (query_of c.args.node.now) query.Any c.records.result asked.Any
     c.scanned.result (ap query_of c.in-Any.is ∙ query_of-Any) refl c.records.ensures
     c.scanned.ensures.truths
 
 pub walk_of-returns-in-Date-clause-truths : goal.walk_of-returns-in-Date-clause-truths
 walk_of-returns-in-Date-clause-truths t c =
-    tells_scanned c.args.index.now.table (query_of c.args.node.now) (query.Date c.in-Date.range)
+    tells_scanned c.args.index.now (query_of c.args.node.now) (query.Date c.in-Date.range)
     c.records-in-Date.result (asked.Date c.in-Date.range) c.scanned-in-Date.result
     (ap query_of c.in-Date.is ∙ query_of-Date c.in-Date.range) refl c.records-in-Date.ensures
     c.scanned-in-Date.ensures.truths
 
 pub walk_of-returns-in-Size-clause-truths : goal.walk_of-returns-in-Size-clause-truths
 walk_of-returns-in-Size-clause-truths t c =
-    tells_scanned c.args.index.now.table (query_of c.args.node.now) (query.Size c.in-Size.low c.in-Size.high)
+    tells_scanned c.args.index.now (query_of c.args.node.now) (query.Size c.in-Size.low c.in-Size.high)
     c.records-in-Size.result (asked.Size c.in-Size.low c.in-Size.high) c.scanned-in-Size.result
     (ap query_of c.in-Size.is ∙ query_of-Size c.in-Size.low c.in-Size.high) refl c.records-in-Size.ensures
     c.scanned-in-Size.ensures.truths
 
 pub walk_of-returns-in-Flag-clause-truths : goal.walk_of-returns-in-Flag-clause-truths
 walk_of-returns-in-Flag-clause-truths t c =
-    tells_scanned c.args.index.now.table (query_of c.args.node.now) (query.HasFlag c.in-Flag.flag c.in-Flag.wanted)
+    tells_scanned c.args.index.now (query_of c.args.node.now) (query.HasFlag c.in-Flag.flag c.in-Flag.wanted)
     c.records-in-Flag.result (asked.Flag c.in-Flag.flag c.in-Flag.wanted) c.scanned-in-Flag.result
     (ap query_of c.in-Flag.is ∙ query_of-Flag c.in-Flag.flag c.in-Flag.wanted) refl c.records-in-Flag.ensures
     c.scanned-in-Flag.ensures.truths
 
 pub walk_of-returns-in-Any-clause-left : goal.walk_of-returns-in-Any-clause-left
 walk_of-returns-in-Any-clause-left t c =
-    left_scanned c.args.index.now.table (query_of c.args.node.now) query.Any c.records.result c.scanned.result
+    left_scanned c.args.index.now (query_of c.args.node.now) query.Any c.records.result c.scanned.result
     (ap query_of c.in-Any.is ∙ query_of-Any) refl c.records.ensures c.scanned.ensures.left
 
 pub walk_of-returns-in-Date-clause-left : goal.walk_of-returns-in-Date-clause-left
 walk_of-returns-in-Date-clause-left t c =
-    left_scanned c.args.index.now.table (query_of c.args.node.now) (query.Date c.in-Date.range) c.records-in-Date.result
+    left_scanned c.args.index.now (query_of c.args.node.now) (query.Date c.in-Date.range) c.records-in-Date.result
     c.scanned-in-Date.result (ap query_of c.in-Date.is ∙ query_of-Date c.in-Date.range) refl
     c.records-in-Date.ensures
     c.scanned-in-Date.ensures.left
 
 pub walk_of-returns-in-Size-clause-left : goal.walk_of-returns-in-Size-clause-left
 walk_of-returns-in-Size-clause-left t c =
-    left_scanned c.args.index.now.table (query_of c.args.node.now) (query.Size c.in-Size.low c.in-Size.high)
+    left_scanned c.args.index.now (query_of c.args.node.now) (query.Size c.in-Size.low c.in-Size.high)
     c.records-in-Size.result c.scanned-in-Size.result
     (ap query_of c.in-Size.is ∙ query_of-Size c.in-Size.low c.in-Size.high) refl c.records-in-Size.ensures
     c.scanned-in-Size.ensures.left
 
 pub walk_of-returns-in-Flag-clause-left : goal.walk_of-returns-in-Flag-clause-left
 walk_of-returns-in-Flag-clause-left t c =
-    left_scanned c.args.index.now.table (query_of c.args.node.now) (query.HasFlag c.in-Flag.flag c.in-Flag.wanted)
+    left_scanned c.args.index.now (query_of c.args.node.now) (query.HasFlag c.in-Flag.flag c.in-Flag.wanted)
     c.records-in-Flag.result c.scanned-in-Flag.result
     (ap query_of c.in-Flag.is ∙ query_of-Flag c.in-Flag.flag c.in-Flag.wanted) refl c.records-in-Flag.ensures
     c.scanned-in-Flag.ensures.left
 
 pub walk_of-returns-in-Word-clause-truths : goal.walk_of-returns-in-Word-clause-truths
 walk_of-returns-in-Word-clause-truths t c =
-    tells_text c.args.index.now.table (query_of c.args.node.now) (query.Word c.in-Word.kinds c.in-Word.text)
+    tells_text c.args.index.now (query_of c.args.node.now) (query.Word c.in-Word.kinds c.in-Word.text)
     c.with_text.result (ap query_of c.in-Word.is ∙ query_of-Word c.in-Word.kinds c.in-Word.text)
-    (λ m le. word_past c.in-Word.kinds (fits Whole c.in-Word.text) c.args.index.now.table m c.requires le)
+    (λ m le. word_past c.in-Word.kinds (fits Whole c.in-Word.text) c.args.index.now m c.requires le)
     c.with_text.ensures.truths
 
 pub walk_of-returns-in-Part-clause-truths : goal.walk_of-returns-in-Part-clause-truths
 walk_of-returns-in-Part-clause-truths t c =
-    tells_text c.args.index.now.table (query_of c.args.node.now) (query.Part c.in-Part.kinds c.in-Part.text)
+    tells_text c.args.index.now (query_of c.args.node.now) (query.Part c.in-Part.kinds c.in-Part.text)
     c.with_text-in-Part.result (ap query_of c.in-Part.is ∙ query_of-Part c.in-Part.kinds c.in-Part.text)
-    (λ m le. word_past c.in-Part.kinds (fits Within c.in-Part.text) c.args.index.now.table m c.requires le)
+    (λ m le. word_past c.in-Part.kinds (fits Within c.in-Part.text) c.args.index.now m c.requires le)
     c.with_text-in-Part.ensures.truths
 
 pub walk_of-returns-in-Part-clause-left : goal.walk_of-returns-in-Part-clause-left
 walk_of-returns-in-Part-clause-left t c =
-    subst (λ (q : Query). IfOk c.with_text-in-Part.result (λ w. w.left ≤ most_left c.args.index.now.table q))
+    subst (λ (q : Query). IfOk c.with_text-in-Part.result (λ w. w.left ≤ most_left c.args.index.now q))
     (sym (ap query_of c.in-Part.is ∙ query_of-Part c.in-Part.kinds c.in-Part.text)) c.with_text-in-Part.ensures.left
 
 pub walk_of-returns-in-Prefix-clause-truths : goal.walk_of-returns-in-Prefix-clause-truths
 walk_of-returns-in-Prefix-clause-truths t c =
-    tells_text c.args.index.now.table (query_of c.args.node.now) (query.Prefix c.in-Prefix.kinds c.in-Prefix.text)
+    tells_text c.args.index.now (query_of c.args.node.now) (query.Prefix c.in-Prefix.kinds c.in-Prefix.text)
     c.with_text-in-Prefix.result (ap query_of c.in-Prefix.is ∙ query_of-Prefix c.in-Prefix.kinds c.in-Prefix.text)
-    (λ m le. word_past c.in-Prefix.kinds (fits Front c.in-Prefix.text) c.args.index.now.table m c.requires le)
+    (λ m le. word_past c.in-Prefix.kinds (fits Front c.in-Prefix.text) c.args.index.now m c.requires le)
     c.with_text-in-Prefix.ensures.truths
 
 pub walk_of-returns-in_ok-inner-in-Not-clause-truths : goal.walk_of-returns-in_ok-inner-in-Not-clause-truths
 walk_of-returns-in_ok-inner-in-Not-clause-truths t c =
-    tells_not c.args.index.now.table (query_of c.args.node.now) (query_of c.deref.result.now)
+    tells_not c.args.index.now (query_of c.args.node.now) (query_of c.deref.result.now)
     c.message_count-count.result c.in_ok-inner-in-Not.inner.truths c.others.result
     (ap query_of c.in-Not.is ∙ query_of-Not c.in-Not.inner ∙ ap (λ (n : Node). query.Not (query_of n))
     (sym c.deref.ensures)) c.message_count-count.ensures.count c.in_ok-inner-in-Not.ensures.truths
@@ -108,7 +100,7 @@ walk_of-returns-in_ok-inner-in-Not-clause-truths t c =
 
 pub walk_of-returns-then-is_empty-clause-truths : goal.walk_of-returns-then-is_empty-clause-truths
 walk_of-returns-then-is_empty-clause-truths t c =
-    tells_none c.args.index.now.table (query_of c.args.node.now) (queries_of c.as_slice.result.now)
+    tells_none c.args.index.now (query_of c.args.node.now) (queries_of c.as_slice.result.now)
     c.in_ok-walks-in-All.walks.items c.message_count-count.result c.united.result.truths
     c.others-then-is_empty.result
     (ap query_of c.in-All.is ∙ query_of-All c.in-All.members
@@ -123,7 +115,7 @@ walk_of-returns-then-is_empty-clause-truths t c =
 
 pub walk_of-returns-else-is_empty-clause-truths : goal.walk_of-returns-else-is_empty-clause-truths
 walk_of-returns-else-is_empty-clause-truths t c =
-    tells_common c.args.index.now.table (query_of c.args.node.now) (queries_of c.as_slice.result.now)
+    tells_common c.args.index.now (query_of c.args.node.now) (queries_of c.as_slice.result.now)
     c.in_ok-walks-in-All.walks.items c.common.result.truths
     (ap query_of c.in-All.is ∙ query_of-All c.in-All.members
     ∙ ap (λ (ns : List Node). query.All (members_of (queries_of ns))) (sym c.as_slice.ensures.value))
@@ -133,7 +125,7 @@ walk_of-returns-else-is_empty-clause-truths t c =
 
 pub walk_of-returns-in_ok-walks-in-Either-clause-truths : goal.walk_of-returns-in_ok-walks-in-Either-clause-truths
 walk_of-returns-in_ok-walks-in-Either-clause-truths t c =
-    tells_grouped c.args.index.now.table (query_of c.args.node.now) (queries_of c.as_slice-in-Either.result.now)
+    tells_grouped c.args.index.now (query_of c.args.node.now) (queries_of c.as_slice-in-Either.result.now)
     c.in_ok-walks-in-Either.walks.items c.united_in_groups.result
     (ap query_of c.in-Either.is ∙ query_of-Either c.in-Either.members
     ∙ ap (λ (ns : List Node). query.Either (members_of (queries_of ns))) (sym c.as_slice-in-Either.ensures.value))
@@ -141,63 +133,63 @@ walk_of-returns-in_ok-walks-in-Either-clause-truths t c =
 
 pub walk_of-returns-in-Any-clause-exact : goal.walk_of-returns-in-Any-clause-exact
 walk_of-returns-in-Any-clause-exact t c =
-    steps_of c.scanned.result (look_up_steps c.args.index.now.table.keys) (query_of c.args.node.now) query.Any
-    c.args.index.now.steps c.args.index.now.steps 0 (ap query_of c.in-Any.is ∙ query_of-Any) refl
-    (if_always c.scanned.result (none_taken c.args.index.now.steps c.args.index.now.steps refl))
+    steps_of c.scanned.result (look_up_steps c.args.index.now.keys) (query_of c.args.node.now) query.Any
+    c.args.steps.now c.args.steps.now 0 (ap query_of c.in-Any.is ∙ query_of-Any) refl
+    (if_always c.scanned.result (none_taken c.args.steps.now c.args.steps.now refl))
 
 pub walk_of-returns-in-Date-clause-exact : goal.walk_of-returns-in-Date-clause-exact
 walk_of-returns-in-Date-clause-exact t c =
-    steps_of c.scanned-in-Date.result (look_up_steps c.args.index.now.table.keys) (query_of c.args.node.now)
-    (query.Date c.in-Date.range) c.args.index.now.steps c.args.index.now.steps 0
+    steps_of c.scanned-in-Date.result (look_up_steps c.args.index.now.keys) (query_of c.args.node.now)
+    (query.Date c.in-Date.range) c.args.steps.now c.args.steps.now 0
     (ap query_of c.in-Date.is ∙ query_of-Date c.in-Date.range) refl
-    (if_always c.scanned-in-Date.result (none_taken c.args.index.now.steps c.args.index.now.steps refl))
+    (if_always c.scanned-in-Date.result (none_taken c.args.steps.now c.args.steps.now refl))
 
 pub walk_of-returns-in-Size-clause-exact : goal.walk_of-returns-in-Size-clause-exact
 walk_of-returns-in-Size-clause-exact t c =
-    steps_of c.scanned-in-Size.result (look_up_steps c.args.index.now.table.keys) (query_of c.args.node.now)
-    (query.Size c.in-Size.low c.in-Size.high) c.args.index.now.steps c.args.index.now.steps 0
+    steps_of c.scanned-in-Size.result (look_up_steps c.args.index.now.keys) (query_of c.args.node.now)
+    (query.Size c.in-Size.low c.in-Size.high) c.args.steps.now c.args.steps.now 0
     (ap query_of c.in-Size.is ∙ query_of-Size c.in-Size.low c.in-Size.high) refl
-    (if_always c.scanned-in-Size.result (none_taken c.args.index.now.steps c.args.index.now.steps refl))
+    (if_always c.scanned-in-Size.result (none_taken c.args.steps.now c.args.steps.now refl))
 
 pub walk_of-returns-in-Flag-clause-exact : goal.walk_of-returns-in-Flag-clause-exact
 walk_of-returns-in-Flag-clause-exact t c =
-    steps_of c.scanned-in-Flag.result (look_up_steps c.args.index.now.table.keys) (query_of c.args.node.now)
-    (query.HasFlag c.in-Flag.flag c.in-Flag.wanted) c.args.index.now.steps c.args.index.now.steps 0
+    steps_of c.scanned-in-Flag.result (look_up_steps c.args.index.now.keys) (query_of c.args.node.now)
+    (query.HasFlag c.in-Flag.flag c.in-Flag.wanted) c.args.steps.now c.args.steps.now 0
     (ap query_of c.in-Flag.is ∙ query_of-Flag c.in-Flag.flag c.in-Flag.wanted) refl
-    (if_always c.scanned-in-Flag.result (none_taken c.args.index.now.steps c.args.index.now.steps refl))
+    (if_always c.scanned-in-Flag.result (none_taken c.args.steps.now c.args.steps.now refl))
 
 pub walk_of-returns-in-Word-clause-exact : goal.walk_of-returns-in-Word-clause-exact
 walk_of-returns-in-Word-clause-exact t c =
-    steps_of c.with_text.result (look_up_steps c.args.index.now.table.keys) (query_of c.args.node.now)
-    (query.Word c.in-Word.kinds c.in-Word.text) c.args.index.now.steps _ _
+    steps_of c.with_text.result (look_up_steps c.args.index.now.keys) (query_of c.args.node.now)
+    (query.Word c.in-Word.kinds c.in-Word.text) c.args.steps.now _ _
     (ap query_of c.in-Word.is ∙ query_of-Word c.in-Word.kinds c.in-Word.text) refl c.with_text.ensures.exact
 
 pub walk_of-returns-in-Part-clause-exact : goal.walk_of-returns-in-Part-clause-exact
 walk_of-returns-in-Part-clause-exact t c =
-    steps_of c.with_text-in-Part.result (look_up_steps c.args.index.now.table.keys) (query_of c.args.node.now)
-    (query.Part c.in-Part.kinds c.in-Part.text) c.args.index.now.steps _ _
+    steps_of c.with_text-in-Part.result (look_up_steps c.args.index.now.keys) (query_of c.args.node.now)
+    (query.Part c.in-Part.kinds c.in-Part.text) c.args.steps.now _ _
     (ap query_of c.in-Part.is ∙ query_of-Part c.in-Part.kinds c.in-Part.text) (none_compared (kinds_in c.in-Part.kinds))
     c.with_text-in-Part.ensures.exact
 
 pub walk_of-returns-in-Prefix-clause-exact : goal.walk_of-returns-in-Prefix-clause-exact
 walk_of-returns-in-Prefix-clause-exact t c =
-    steps_of c.with_text-in-Prefix.result (look_up_steps c.args.index.now.table.keys) (query_of c.args.node.now)
-    (query.Prefix c.in-Prefix.kinds c.in-Prefix.text) c.args.index.now.steps _ _
+    steps_of c.with_text-in-Prefix.result (look_up_steps c.args.index.now.keys) (query_of c.args.node.now)
+    (query.Prefix c.in-Prefix.kinds c.in-Prefix.text) c.args.steps.now _ _
     (ap query_of c.in-Prefix.is ∙ query_of-Prefix c.in-Prefix.kinds c.in-Prefix.text)
     (none_compared (kinds_in c.in-Prefix.kinds)) c.with_text-in-Prefix.ensures.exact
 
 pub walk_of-returns-in_ok-inner-in-Not-clause-exact : goal.walk_of-returns-in_ok-inner-in-Not-clause-exact
 walk_of-returns-in_ok-inner-in-Not-clause-exact t c =
-    steps_of c.others.result (look_up_steps c.args.index.now.table.keys) (query_of c.args.node.now)
-    (query.Not (query_of c.deref.result.now)) c.args.index.now.steps _ _
+    steps_of c.others.result (look_up_steps c.args.index.now.keys) (query_of c.args.node.now)
+    (query.Not (query_of c.deref.result.now)) c.args.steps.now _ _
     (ap query_of c.in-Not.is ∙ query_of-Not c.in-Not.inner ∙ ap (λ (n : Node). query.Not (query_of n))
     (sym c.deref.ensures)) refl
     (if_always c.others.result c.in_ok-inner-in-Not.ensures.exact)
 
 pub walk_of-returns-then-is_empty-clause-exact : goal.walk_of-returns-then-is_empty-clause-exact
 walk_of-returns-then-is_empty-clause-exact t c =
-    steps_of c.others-then-is_empty.result (look_up_steps c.args.index.now.table.keys) (query_of c.args.node.now)
-    (query.All (members_of (queries_of c.as_slice.result.now))) c.args.index.now.steps _ _
+    steps_of c.others-then-is_empty.result (look_up_steps c.args.index.now.keys) (query_of c.args.node.now)
+    (query.All (members_of (queries_of c.as_slice.result.now))) c.args.steps.now _ _
     (ap query_of c.in-All.is ∙ query_of-All c.in-All.members ∙ ap
     (λ (ns : List Node). query.All (members_of (queries_of ns))) (sym c.as_slice.ensures.value)) refl
     (if_always c.others-then-is_empty.result c.in_ok-walks-in-All.ensures.exact)
@@ -205,14 +197,14 @@ walk_of-returns-then-is_empty-clause-exact t c =
 pub walk_of-returns-else-is_empty-clause-exact : goal.walk_of-returns-else-is_empty-clause-exact
 walk_of-returns-else-is_empty-clause-exact t c =
     c.in_ok-walks-in-All.ensures.exact ∙ ap
-    (λ (x : Query). add_steps c.args.index.now.steps (look_up_steps c.args.index.now.table.keys x))
+    (λ (x : Query). add_steps c.args.steps.now (look_up_steps c.args.index.now.keys x))
     (sym (ap query_of c.in-All.is ∙ query_of-All c.in-All.members
     ∙ ap (λ (ns : List Node). query.All (members_of (queries_of ns))) (sym c.as_slice.ensures.value)))
 
 pub walk_of-returns-in_ok-walks-in-Either-clause-exact : goal.walk_of-returns-in_ok-walks-in-Either-clause-exact
 walk_of-returns-in_ok-walks-in-Either-clause-exact t c =
-    steps_of c.united_in_groups.result (look_up_steps c.args.index.now.table.keys) (query_of c.args.node.now)
-    (query.Either (members_of (queries_of c.as_slice-in-Either.result.now))) c.args.index.now.steps _ _
+    steps_of c.united_in_groups.result (look_up_steps c.args.index.now.keys) (query_of c.args.node.now)
+    (query.Either (members_of (queries_of c.as_slice-in-Either.result.now))) c.args.steps.now _ _
     (ap query_of c.in-Either.is ∙ query_of-Either c.in-Either.members
     ∙ ap (λ (ns : List Node). query.Either (members_of (queries_of ns))) (sym c.as_slice-in-Either.ensures.value))
     refl
@@ -223,34 +215,19 @@ walks_of-loop-node-preserved t c =
     let nodes : List Node = c.args.nodes.now in
     let i : ℕ = c.loop-node.node-index in
     let q : Query = query_of c.node-item.result in
-    let same = c.loop-node.invariant.table in
     record {
       walks =
-          walks_more c.args.index.now.table (queries_of nodes) c.args.index.now.steps q (queries_of (drop i nodes))
+          walks_more c.args.index.now (queries_of nodes) c.args.steps.now q (queries_of (drop i nodes))
           (queries_of (drop (i + 1) nodes)) c.loop-node.walks.items c.push.new.self.items c.in_ok-walk.walk
-          c.loop-node.index.steps c.walk_of.new.index.steps c.loop-node.invariant.walks
+          c.loop-node.steps c.walk_of.new.steps c.loop-node.invariant.walks
           (next_member nodes i c.node-item.result c.loop-node-test.true c.node-item.is) c.in_ok-push.ensures.items
-          (subst (λ (u : Table). AreTruthsOf u q c.in_ok-walk.walk.truths) same c.in_ok-walk.ensures.truths)
-          (subst (λ (u : Table). c.in_ok-walk.walk.left ≤ most_left u q) same c.in_ok-walk.ensures.left)
-          (subst (λ (u : Table). LooksUp (length u.keys) (look_ups q) c.loop-node.index.steps c.walk_of.new.index.steps)
-          same c.walk_of.ensures.steps);
+          c.in_ok-walk.ensures.truths c.in_ok-walk.ensures.left c.walk_of.ensures.steps;
       exact =
-          member_more (look_up_steps c.args.index.now.table.keys) (look_up_steps_of_all c.args.index.now.table.keys)
-          c.args.index.now.steps c.loop-node.index.steps _ (λ _ _. refl) q (queries_of (drop i nodes))
-          (queries_of (drop (i + 1) nodes)) c.walk_of.new.index.steps
+          member_more (look_up_steps c.args.index.now.keys) (look_up_steps_of_all c.args.index.now.keys)
+          c.args.steps.now c.loop-node.steps _ (λ _ _. refl) q (queries_of (drop i nodes))
+          (queries_of (drop (i + 1) nodes)) c.walk_of.new.steps
           (next_member nodes i c.node-item.result c.loop-node-test.true c.node-item.is)
-          (subst (λ (u : Table). c.walk_of.new.index.steps ≡ add_steps c.loop-node.index.steps (look_up_steps u.keys q))
-          same c.in_ok-walk.ensures.exact) c.loop-node.invariant.exact;
-      runs =
-          member_more (run_finding_steps c.args.index.now.table.keys)
-          (run_finding_steps_of_all c.args.index.now.table.keys)
-          c.args.index.now.run_steps c.loop-node.index.run_steps _ (λ _ _. refl) q (queries_of (drop i nodes))
-          (queries_of (drop (i + 1) nodes)) c.walk_of.new.index.run_steps
-          (next_member nodes i c.node-item.result c.loop-node-test.true c.node-item.is)
-          (subst (λ (u : Table). c.walk_of.new.index.run_steps ≡ add_steps c.loop-node.index.run_steps
-          (run_finding_steps u.keys q)) same c.in_ok-walk.ensures.runs) c.loop-node.invariant.runs;
-      formed = subst IsWellFormed (sym c.walk_of.ensures.table) c.loop-node.invariant.formed;
-      table = c.walk_of.ensures.table ∙ same;
+          c.in_ok-walk.ensures.exact c.loop-node.invariant.exact;
     }
 
 pub walks_of-returns-in_err-walk-clause-steps : goal.walks_of-returns-in_err-walk-clause-steps
@@ -258,120 +235,32 @@ walks_of-returns-in_err-walk-clause-steps t c =
     let nodes : List Node = c.args.nodes.now in
     let i : ℕ = c.loop-node.node-index in
     let q : Query = query_of c.node-item.result in
-    walks_steps c.args.index.now.table (queries_of nodes) c.args.index.now.steps q (queries_of (drop i nodes))
-    (queries_of (drop (i + 1) nodes)) c.loop-node.walks.items c.loop-node.index.steps c.walk_of.new.index.steps
+    walks_steps c.args.index.now (queries_of nodes) c.args.steps.now q (queries_of (drop i nodes))
+    (queries_of (drop (i + 1) nodes)) c.loop-node.walks.items c.loop-node.steps c.walk_of.new.steps
     c.loop-node.invariant.walks (next_member nodes i c.node-item.result c.loop-node-test.true c.node-item.is)
-    (subst (λ (u : Table). LooksUp (length u.keys) (look_ups q) c.loop-node.index.steps c.walk_of.new.index.steps)
-    c.loop-node.invariant.table c.walk_of.ensures.steps)
+    c.walk_of.ensures.steps
 
 pub walks_of-returns-in_err-push-clause-steps : goal.walks_of-returns-in_err-push-clause-steps
 walks_of-returns-in_err-push-clause-steps t c =
     let nodes : List Node = c.args.nodes.now in
     let i : ℕ = c.loop-node.node-index in
     let q : Query = query_of c.node-item.result in
-    walks_steps c.args.index.now.table (queries_of nodes) c.args.index.now.steps q (queries_of (drop i nodes))
-    (queries_of (drop (i + 1) nodes)) c.loop-node.walks.items c.loop-node.index.steps c.walk_of.new.index.steps
+    walks_steps c.args.index.now (queries_of nodes) c.args.steps.now q (queries_of (drop i nodes))
+    (queries_of (drop (i + 1) nodes)) c.loop-node.walks.items c.loop-node.steps c.walk_of.new.steps
     c.loop-node.invariant.walks (next_member nodes i c.node-item.result c.loop-node-test.true c.node-item.is)
-    (subst (λ (u : Table). LooksUp (length u.keys) (look_ups q) c.loop-node.index.steps c.walk_of.new.index.steps)
-    c.loop-node.invariant.table c.walk_of.ensures.steps)
+    c.walk_of.ensures.steps
 
 pub walks_of-returns-clause-truths : goal.walks_of-returns-clause-truths
 walks_of-returns-clause-truths t c =
     let nodes : List Node = c.args.nodes.now in
     let i : ℕ = c.loop-node.node-index in
-    walks_told c.args.index.now.table (queries_of nodes) c.args.index.now.steps (queries_of (drop i nodes))
-    c.loop-node.walks.items c.loop-node.index.steps c.loop-node.invariant.walks
+    walks_told c.args.index.now (queries_of nodes) c.args.steps.now (queries_of (drop i nodes))
+    c.loop-node.walks.items c.loop-node.steps c.loop-node.invariant.walks
     (no_member nodes i (omega (arith, c.loop-node-test.false)))
 
 pub walks_of-returns-clause-exact : goal.walks_of-returns-clause-exact
 walks_of-returns-clause-exact t c =
     let i : ℕ = c.loop-node.node-index in
-    no_member_more (look_up_steps c.args.index.now.table.keys) (look_up_steps_of_all c.args.index.now.table.keys)
-    c.args.index.now.steps c.loop-node.index.steps _ refl (queries_of (drop i c.args.nodes.now))
+    no_member_more (look_up_steps c.args.index.now.keys) (look_up_steps_of_all c.args.index.now.keys)
+    c.args.steps.now c.loop-node.steps _ refl (queries_of (drop i c.args.nodes.now))
     (no_member c.args.nodes.now i (omega (arith, c.loop-node-test.false))) c.loop-node.invariant.exact
-
-pub walk_of-returns-in-Any-clause-runs : goal.walk_of-returns-in-Any-clause-runs
-walk_of-returns-in-Any-clause-runs t c =
-    steps_of c.scanned.result (run_finding_steps c.args.index.now.table.keys) (query_of c.args.node.now) query.Any
-    c.args.index.now.run_steps c.args.index.now.run_steps 0 (ap query_of c.in-Any.is ∙ query_of-Any) refl
-    (if_always c.scanned.result (none_taken c.args.index.now.run_steps c.args.index.now.run_steps refl))
-
-pub walk_of-returns-in-Date-clause-runs : goal.walk_of-returns-in-Date-clause-runs
-walk_of-returns-in-Date-clause-runs t c =
-    steps_of c.scanned-in-Date.result (run_finding_steps c.args.index.now.table.keys) (query_of c.args.node.now)
-    (query.Date c.in-Date.range) c.args.index.now.run_steps c.args.index.now.run_steps 0
-    (ap query_of c.in-Date.is ∙ query_of-Date c.in-Date.range) refl
-    (if_always c.scanned-in-Date.result (none_taken c.args.index.now.run_steps c.args.index.now.run_steps refl))
-
-pub walk_of-returns-in-Size-clause-runs : goal.walk_of-returns-in-Size-clause-runs
-walk_of-returns-in-Size-clause-runs t c =
-    steps_of c.scanned-in-Size.result (run_finding_steps c.args.index.now.table.keys) (query_of c.args.node.now)
-    (query.Size c.in-Size.low c.in-Size.high) c.args.index.now.run_steps c.args.index.now.run_steps 0
-    (ap query_of c.in-Size.is ∙ query_of-Size c.in-Size.low c.in-Size.high) refl
-    (if_always c.scanned-in-Size.result (none_taken c.args.index.now.run_steps c.args.index.now.run_steps refl))
-
-pub walk_of-returns-in-Flag-clause-runs : goal.walk_of-returns-in-Flag-clause-runs
-walk_of-returns-in-Flag-clause-runs t c =
-    steps_of c.scanned-in-Flag.result (run_finding_steps c.args.index.now.table.keys) (query_of c.args.node.now)
-    (query.HasFlag c.in-Flag.flag c.in-Flag.wanted) c.args.index.now.run_steps c.args.index.now.run_steps 0
-    (ap query_of c.in-Flag.is ∙ query_of-Flag c.in-Flag.flag c.in-Flag.wanted) refl
-    (if_always c.scanned-in-Flag.result (none_taken c.args.index.now.run_steps c.args.index.now.run_steps refl))
-
-pub walk_of-returns-in-Word-clause-runs : goal.walk_of-returns-in-Word-clause-runs
-walk_of-returns-in-Word-clause-runs t c =
-    steps_of c.with_text.result (run_finding_steps c.args.index.now.table.keys) (query_of c.args.node.now)
-    (query.Word c.in-Word.kinds c.in-Word.text) c.args.index.now.run_steps _ _
-    (ap query_of c.in-Word.is ∙ query_of-Word c.in-Word.kinds c.in-Word.text) (none_compared (kinds_in c.in-Word.kinds))
-    c.with_text.ensures.runs
-
-pub walk_of-returns-in-Part-clause-runs : goal.walk_of-returns-in-Part-clause-runs
-walk_of-returns-in-Part-clause-runs t c =
-    steps_of c.with_text-in-Part.result (run_finding_steps c.args.index.now.table.keys) (query_of c.args.node.now)
-    (query.Part c.in-Part.kinds c.in-Part.text) c.args.index.now.run_steps _ _
-    (ap query_of c.in-Part.is ∙ query_of-Part c.in-Part.kinds c.in-Part.text) refl c.with_text-in-Part.ensures.runs
-
-pub walk_of-returns-in-Prefix-clause-runs : goal.walk_of-returns-in-Prefix-clause-runs
-walk_of-returns-in-Prefix-clause-runs t c =
-    steps_of c.with_text-in-Prefix.result (run_finding_steps c.args.index.now.table.keys) (query_of c.args.node.now)
-    (query.Prefix c.in-Prefix.kinds c.in-Prefix.text) c.args.index.now.run_steps _ _
-    (ap query_of c.in-Prefix.is ∙ query_of-Prefix c.in-Prefix.kinds c.in-Prefix.text) refl
-    c.with_text-in-Prefix.ensures.runs
-
-pub walk_of-returns-in_ok-inner-in-Not-clause-runs : goal.walk_of-returns-in_ok-inner-in-Not-clause-runs
-walk_of-returns-in_ok-inner-in-Not-clause-runs t c =
-    steps_of c.others.result (run_finding_steps c.args.index.now.table.keys) (query_of c.args.node.now)
-    (query.Not (query_of c.deref.result.now)) c.args.index.now.run_steps _ _
-    (ap query_of c.in-Not.is ∙ query_of-Not c.in-Not.inner ∙ ap (λ (n : Node). query.Not (query_of n))
-    (sym c.deref.ensures)) refl
-    (if_always c.others.result c.in_ok-inner-in-Not.ensures.runs)
-
-pub walk_of-returns-then-is_empty-clause-runs : goal.walk_of-returns-then-is_empty-clause-runs
-walk_of-returns-then-is_empty-clause-runs t c =
-    steps_of c.others-then-is_empty.result (run_finding_steps c.args.index.now.table.keys) (query_of c.args.node.now)
-    (query.All (members_of (queries_of c.as_slice.result.now))) c.args.index.now.run_steps _ _
-    (ap query_of c.in-All.is ∙ query_of-All c.in-All.members ∙ ap
-    (λ (ns : List Node). query.All (members_of (queries_of ns))) (sym c.as_slice.ensures.value)) refl
-    (if_always c.others-then-is_empty.result c.in_ok-walks-in-All.ensures.runs)
-
-pub walk_of-returns-else-is_empty-clause-runs : goal.walk_of-returns-else-is_empty-clause-runs
-walk_of-returns-else-is_empty-clause-runs t c =
-    c.in_ok-walks-in-All.ensures.runs ∙ ap
-    (λ (x : Query). add_steps c.args.index.now.run_steps (run_finding_steps c.args.index.now.table.keys x))
-    (sym (ap query_of c.in-All.is ∙ query_of-All c.in-All.members ∙ ap
-    (λ (ns : List Node). query.All (members_of (queries_of ns))) (sym c.as_slice.ensures.value)))
-
-pub walk_of-returns-in_ok-walks-in-Either-clause-runs : goal.walk_of-returns-in_ok-walks-in-Either-clause-runs
-walk_of-returns-in_ok-walks-in-Either-clause-runs t c =
-    steps_of c.united_in_groups.result (run_finding_steps c.args.index.now.table.keys) (query_of c.args.node.now)
-    (query.Either (members_of (queries_of c.as_slice-in-Either.result.now))) c.args.index.now.run_steps _ _
-    (ap query_of c.in-Either.is ∙ query_of-Either c.in-Either.members ∙ ap
-    (λ (ns : List Node). query.Either (members_of (queries_of ns))) (sym c.as_slice-in-Either.ensures.value)) refl
-    (if_always c.united_in_groups.result c.in_ok-walks-in-Either.ensures.runs)
-
-pub walks_of-returns-clause-runs : goal.walks_of-returns-clause-runs
-walks_of-returns-clause-runs t c =
-    let i : ℕ = c.loop-node.node-index in
-    no_member_more (run_finding_steps c.args.index.now.table.keys)
-    (run_finding_steps_of_all c.args.index.now.table.keys)
-    c.args.index.now.run_steps c.loop-node.index.run_steps _ refl (queries_of (drop i c.args.nodes.now))
-    (no_member c.args.nodes.now i (omega (arith, c.loop-node-test.false))) c.loop-node.invariant.runs

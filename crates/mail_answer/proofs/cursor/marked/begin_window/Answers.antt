@@ -1,7 +1,6 @@
 -- `begin_window` keeps all messages from n on, because each is marked or still in its list.
-use Rattle.mail_answer.proofs.Words.{subst, refl, IsFirst, union_of}
-use Rattle.mail_answer.proofs.CursorLaws.MarkedLists.{few_cut, none_marks, none_drops, none_first, begun_marks}
-use Rattle.mail_answer.proofs.CursorLaws.MarkedLists.{begun_drops, begun_first}
+use Rattle.mail_answer.proofs.Words.{subst, refl, IsFirst, marks_in, union_of}
+use Rattle.mail_answer.proofs.CursorLaws.MarkedLists.{few_cut, none_marks, none_drops, none_first, begun_marks, begun_drops, begun_first}
 use Rattle.mail_answer.proofs.cursor.marked.begin_window.Goals as goal
 
 pub mark_all-requires : goal.mark_all-requires
@@ -26,7 +25,7 @@ pub returns-in-Some-clause-marks : goal.returns-in-Some-clause-marks
 returns-in-Some-clause-marks c =
     begun_marks c.args.n c.args.start.now c.as_mut_slice.result.now c.args.lists.now.items
     c.least_ahead-number.new.lists.items c.requires.listed c.least_ahead-number.ensures.rest
-    c.as_mut_slice.ensures.value c.in-Some.first c.mark_all.new.marks c.mark_all.new.lists.items
+    c.as_mut_slice.ensures.value c.in-Some.first (marks_in c.mark_all.new.words) c.mark_all.new.lists.items
     (subst (IsFirst (union_of c.least_ahead-number.new.lists.items)) c.in-Some.is c.least_ahead-number.ensures.number)
     c.mark_all.ensures.rest c.mark_all.ensures.marks c.mark_all.result c.mark_all.ensures.number
 
@@ -34,7 +33,7 @@ pub returns-in-Some-clause-rest : goal.returns-in-Some-clause-rest
 returns-in-Some-clause-rest c =
     begun_drops c.args.n c.args.start.now c.as_mut_slice.result.now c.args.lists.now.items
     c.least_ahead-number.new.lists.items c.requires.listed c.least_ahead-number.ensures.rest
-    c.as_mut_slice.ensures.value c.in-Some.first c.mark_all.new.marks c.mark_all.new.lists.items
+    c.as_mut_slice.ensures.value c.in-Some.first (marks_in c.mark_all.new.words) c.mark_all.new.lists.items
     (subst (IsFirst (union_of c.least_ahead-number.new.lists.items)) c.in-Some.is c.least_ahead-number.ensures.number)
     c.mark_all.ensures.rest c.mark_all.ensures.marks
 
@@ -42,6 +41,6 @@ pub returns-in-Some-clause-number : goal.returns-in-Some-clause-number
 returns-in-Some-clause-number c =
     begun_first c.args.n c.args.start.now c.as_mut_slice.result.now c.args.lists.now.items
     c.least_ahead-number.new.lists.items c.requires.listed c.least_ahead-number.ensures.rest
-    c.as_mut_slice.ensures.value c.in-Some.first c.mark_all.new.marks c.mark_all.new.lists.items
+    c.as_mut_slice.ensures.value c.in-Some.first (marks_in c.mark_all.new.words) c.mark_all.new.lists.items
     (subst (IsFirst (union_of c.least_ahead-number.new.lists.items)) c.in-Some.is c.least_ahead-number.ensures.number)
     c.mark_all.ensures.rest c.mark_all.ensures.marks

@@ -1,6 +1,5 @@
 -- The walks so far, and those of the keys that still come.
-use Rattle.mail_answer.proofs.Words.{◌≡◌, ◌≤◌, ◌+◌, ◌||◌, ℕ, length, some_key, steps_left_in, some_has, HaveNumbers}
-use Rattle.mail_answer.proofs.Words.{numbers_passing, any_text}
+use Rattle.mail_answer.proofs.Words.{◌≡◌, ◌≤◌, ◌+◌, ◌||◌, ℕ, length, some_key, steps_left_in, some_has, HaveNumbers, numbers_passing, any_text}
 use Rattle.mail_answer.proofs.cursor.texts.push_all.Given as goal
 
 abbrev pub invariant-loop-key : goal.invariant-loop-key

@@ -1,6 +1,5 @@
 -- The walks so far, and those of the keys that still come.
-use Rattle.mail_answer.proofs.Words.{◌≡◌, ◌≤◌, ◌+◌, ◌||◌, ℕ, length, contains_text, some_key, steps_left_in, some_has}
-use Rattle.mail_answer.proofs.Words.{HaveNumbers, numbers_passing}
+use Rattle.mail_answer.proofs.Words.{◌≡◌, ◌≤◌, ◌+◌, ◌||◌, ℕ, length, contains_text, some_key, steps_left_in, some_has, HaveNumbers, numbers_passing}
 use Rattle.mail_answer.proofs.cursor.texts.push_containing.Given as goal
 
 abbrev pub invariant-loop-key : goal.invariant-loop-key

@@ -1,17 +1,14 @@
 -- `push_kind` adds the lists of the keys that fit, because their numbers are those of messages.
-use Rattle.mail_answer.proofs.Words.{◌≡◌, ◌∙◌, ℕ, Bool, List, length, sym, ap, subst, arith, list_any, keys_of}
-use Rattle.mail_answer.proofs.Words.{keys_beginning, word_begins_with, texts_with, some_key, AreNumbers, any_text}
-use Rattle.mail_answer.proofs.Words.{numbers_passing, numbers_fitting}
+use Rattle.mail_answer.proofs.Words.{◌≡◌, ◌∙◌, ℕ, Bool, List, length, refl, sym, ap, subst, arith, list_any, keys_of, keys_beginning, word_begins_with, texts_with, some_key, AreNumbers, any_text, numbers_passing, numbers_fitting}
 use Rattle.mail_answer.proofs.CursorLaws.TextLemmas.{looked_up, sorted_keys, fitting_keys, kept_keys}
-use Rattle.mail_answer.proofs.CursorLaws.Texts.{keys_numbers, beginning_numbers, list_numbers, found_left, fitting_left}
-use Rattle.mail_answer.proofs.CursorLaws.Texts.{all_left, looks_up_digits, looks_up_none, if_joins}
+use Rattle.mail_answer.proofs.CursorLaws.Texts.{keys_numbers, beginning_numbers, list_numbers, found_left, fitting_left, all_left, looks_up_digits, looks_up_none, if_joins}
 use Rattle.mail_answer.proofs.CursorLaws.LookUpSteps.{none_taken}
 use Rattle.mail_answer.proofs.cursor.texts.push_kind.Goals as goal
 
 pub push_list-requires : goal.push_list-requires
 push_list-requires c =
     subst (λ (n : ℕ). AreNumbers n c.look_up.result) (sym c.message_count-count.ensures.count)
-    (list_numbers c.args.index.now.table c.args.kind c.args.text.now c.look_up.result c.requires
+    (list_numbers c.args.index.now c.args.kind c.args.text.now c.look_up.result c.requires
     c.look_up.ensures.numbers)
 
 pub push_containing-requires : goal.push_containing-requires
@@ -29,9 +26,6 @@ returns-in-Whole-clause-steps c = grind (arith, looks_up_digits)
 pub returns-in-Whole-clause-exact : goal.returns-in-Whole-clause-exact
 returns-in-Whole-clause-exact c = rw c.in-Whole.is c.look_up.ensures.exact
 
-pub returns-in-Whole-clause-runs : goal.returns-in-Whole-clause-runs
-returns-in-Whole-clause-runs c = rw c.in-Whole.is (none_taken c.args.index.now.run_steps _ c.look_up.ensures.runs)
-
 pub returns-in-Within : goal.returns-in-Within
 returns-in-Within c = grind (arith, if_joins, fitting_keys, fitting_left, looks_up_none, none_taken)
 
@@ -42,21 +36,18 @@ returns-in-Front c =
     (record {
       joins =
           if_joins c.push_all.result (λ n. some_key any_text n c.keys_beginning.result)
-          (λ n. list_any passes (texts_with c.args.kind n c.args.index.now.table.keys))
+          (λ n. list_any passes (texts_with c.args.kind n c.args.index.now.keys))
           (numbers_passing any_text c.keys_beginning.result)
-          (numbers_fitting passes c.args.index.now.table.keys c.args.kind) c.args.members.now.items
+          (numbers_fitting passes c.args.index.now.keys c.args.kind) c.args.members.now.items
           c.push_all.new.members.items c.push_all.ensures
-          (λ n. fitting_keys passes n (keys_of c.args.kind c.args.index.now.table.keys)
-          ∙ kept_keys passes n (keys_of c.args.kind c.args.index.now.table.keys)
-          ∙ sym (ap (some_key any_text n) c.keys_beginning.ensures.keys))
+          (λ n. fitting_keys passes n (keys_of c.args.kind c.args.index.now.keys)
+          ∙ kept_keys passes n (keys_of c.args.kind c.args.index.now.keys)
+          ∙ sym (ap (some_key any_text n) c.keys_beginning.ensures))
           (let same : numbers_passing any_text c.keys_beginning.result
-          ≡ numbers_fitting passes c.args.index.now.table.keys c.args.kind =
-          ap (numbers_passing any_text) c.keys_beginning.ensures.keys
-          ∙ all_left (keys_beginning c.args.kind c.args.text.now c.args.index.now.table.keys)
+          ≡ numbers_fitting passes c.args.index.now.keys c.args.kind =
+          ap (numbers_passing any_text) c.keys_beginning.ensures
+          ∙ all_left (keys_beginning c.args.kind c.args.text.now c.args.index.now.keys)
           in omega (arith, same));
-      steps = looks_up_none (length c.args.index.now.table.keys) c.args.index.now.steps _
-          c.keys_beginning.ensures.steps;
-      exact = none_taken c.args.index.now.steps _ c.keys_beginning.ensures.steps;
-      runs = c.keys_beginning.ensures.runs;
-      table = c.keys_beginning.ensures.table;
+      steps = looks_up_none (length c.args.index.now.keys) c.args.steps.now c.args.steps.now refl;
+      exact = none_taken c.args.steps.now c.args.steps.now refl;
     })

@@ -1,11 +1,7 @@
 -- The walks of a tree return the least number from n on, each by the numbers that its members return.
-use Rattle.mail_answer.proofs.Words.{◌≡◌, ◌∙◌, ◌<◌, ℕ, List, length, get_or, arith, eq-eqb, get_or_default, WalkAhead}
-use Rattle.mail_answer.proofs.Words.{steps_left_in, postings_in}
+use Rattle.mail_answer.proofs.Words.{◌≡◌, ◌∙◌, ◌<◌, ℕ, List, length, get_or, arith, eq-eqb, get_or_default, WalkAhead, steps_left_in, postings_in}
 use Rattle.mail_answer.proofs.CursorLaws.Turns.{passed_drops, passed_first, passed_all}
-use Rattle.mail_answer.proofs.CursorLaws.Members.{below-levels, turn_steps, turn_postings, none_counted, levels-set}
-use Rattle.mail_answer.proofs.CursorLaws.Members.{dropped_more, dropped_drops, dropped_first, reached_none}
-use Rattle.mail_answer.proofs.CursorLaws.Members.{reached_more, reached_drops, reached_number, ended_none, ended_drops}
-use Rattle.mail_answer.proofs.CursorLaws.Members.{unvisited_more, whole_dropped, whole_reached}
+use Rattle.mail_answer.proofs.CursorLaws.Members.{below-levels, turn_steps, turn_postings, none_counted, levels-set, dropped_more, dropped_drops, dropped_first, reached_none, reached_more, reached_drops, reached_number, ended_none, ended_drops, unvisited_more, whole_dropped, whole_reached}
 use Rattle.mail_answer.proofs.cursor.walk.+least.Goals as goal
 
 pub least_other-returns-then-ne-clause-rest : goal.least_other-returns-then-ne-clause-rest

@@ -1,6 +1,5 @@
 -- What the members have passed so far is what the node drops; the calls end, because members are on lower levels.
-use Rattle.mail_answer.proofs.Words.{◌-◌, ◌^◌, ◌≡◌, ◌+◌, ◌*◌, ◌<◌, length, take, CountsPostings, Spends, common}
-use Rattle.mail_answer.proofs.Words.{steps_left_in, postings_in, levels}
+use Rattle.mail_answer.proofs.Words.{◌-◌, ◌^◌, ◌≡◌, ◌+◌, ◌*◌, ◌<◌, length, take, CountsPostings, Spends, common, steps_left_in, postings_in, levels}
 use Rattle.mail_answer.specs.Inside.CursorWalks.{ahead_of_node}
 use Rattle.mail_answer.proofs.CursorLaws.Turns.{HasPassed}
 use Rattle.mail_answer.proofs.CursorLaws.Members.{Unvisited, HaveDropped, HaveReached, HasRisen}

@@ -1,6 +1,5 @@
 -- `with_each` returns the ending after more bytes, byte by byte.
-use Rattle.mail_answer.proofs.Words.{◌≡◌, ◌∙◌, ◌+◌, ℕ, List, [], ◌∷◌, ◌++◌, get_or, take, ap, sym, append_assoc, arith}
-use Rattle.mail_answer.proofs.Words.{take_more, ending_of_bytes, with_byte, Ending}
+use Rattle.mail_answer.proofs.Words.{◌≡◌, ◌∙◌, ◌+◌, ℕ, List, [], ◌∷◌, ◌++◌, get_or, take, ap, sym, append_assoc, arith, take_more, ending_of_bytes, with_byte, Ending}
 use Rattle.mail_answer.proofs.OutputLaws.Endings.{ending_more}
 use Rattle.mail_answer.proofs.output.ending.with_each.Goals as goal
 

@@ -1,8 +1,8 @@
 -- `push_excerpt` adds the excerpt of a message, because the header that it read has the message's fields.
-use Rattle.mail_answer.proofs.Words.{◌≡◌, ◌<◌, ℕ, List, Option, length, arith, known_message, IsIfKnown, record_at}
-use Rattle.mail_answer.proofs.Words.{Excerpt}
+use Rattle.mail_answer.proofs.Words.{◌≡◌, ◌<◌, ℕ, List, Option, length, arith, known_message, IsIfKnown, record_at, Excerpt}
 use Rattle.mail_answer.proofs.OutputLaws.HeaderReading.{excerpt_told}
 use Rattle.mail_answer.proofs.ArchiveLaws.IndexedLemmas.{message_inside}
+use Rattle.mail_answer.proofs.OutputLaws.PartReads.{read_fresh}
 use Rattle.mail_answer.proofs.OutputLaws.SheetLemmas.{writes_nothing, writes_less}
 use Rattle.mail_answer.proofs.CursorLaws.TruthLists.{record_known}
 use Rattle.mail_answer.proofs.output.excerpt.push_excerpt.Goals as goal
@@ -44,3 +44,11 @@ returns-clause-writes g c =
     (rw c.new-text.ensures.items at c.in_ok-push_lines.ensures)) in
     writes_less (g.O.Out.taken c.args.out.now) (g.O.Out.taken c.push.new.out) c.args.sheet.now c.push.new.self
     (known_message Excerpt t held c.args.n) c.as_slice.result.now c.push.result told c.push.ensures.writes
+
+pub returns-clause-read : goal.returns-clause-read
+returns-clause-read g c =
+    let t = c.args.places.now.table in
+    let is : c.message-message.result ≡ record_at t.messages c.args.n =
+    cc (c.message-message.ensures, c.index.ensures, record_known t.messages c.args.n c.requires.below) in
+    read_fresh g.A.Archives Excerpt (record_at t.messages c.args.n) c.args.archives.now c.read_header.new.archives
+    c.push.result c.push.ensures.own.1 (rw is at c.in_ok-header.ensures.read)

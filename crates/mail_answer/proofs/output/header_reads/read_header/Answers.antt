@@ -1,9 +1,11 @@
 -- `read_header` reads the fields of a message, because the part of the archive gives the bytes of the message.
-use Rattle.mail_answer.proofs.Words.{◌≡◌, ℕ, Ok, Err, List, IfSome, Stale, drop, refl, arith, lines, span}
-use Rattle.mail_answer.proofs.Words.{fields_of, HasFields, reading}
+use Rattle.mail_answer.proofs.Words.{◌≡◌, ℕ, Ok, Err, List, IfSome, Stale, drop, refl, arith, lines, span, fields_of, HasFields, reading, Excerpt}
 use Rattle.header_text.specs.declared.header.Header.{Header}
 use Rattle.mail_answer.specs.Inside.Calls.{ReadsArchives}
-use Rattle.mail_answer.proofs.OutputLaws.ArchiveParts.{part_self, part_reads, part_ends_early, part_told}
+use Rattle.mail_answer.specs.MessageReads.{ReadsMessage}
+use Rattle.mail_answer.specs.Pieces.{EndsWithin}
+use Rattle.mail_answer.proofs.OutputLaws.ArchiveParts.{part_self, part_read, part_reads, part_ended, part_ends_early, part_told}
+use Rattle.mail_answer.proofs.OutputLaws.PartReads.{front_read}
 use Rattle.mail_answer.proofs.output.header_reads.read_header.Goals as goal
 
 pub returns-then-part-gt0-clause-archives : goal.returns-then-part-gt0-clause-archives
@@ -42,4 +44,23 @@ returns-in_err-read-clause-archives g c =
     let told : ReadsArchives {T = Header} g.A.Archives c.args.archives.now c.read_source-read.new.source.archives.now
     (Err c.in_err-read.field-0.0) =
     part_reads g.A.Archives _ _ reads refl _ c.in_err-read.ensures.count _ none refl c.in_err-read.ensures.fresh in
+    grind (arith, told)
+
+pub returns-then-part-gt0-clause-read : goal.returns-then-part-gt0-clause-read
+returns-then-part-gt0-clause-read g c =
+    let call = c.read_source-read.ensures in
+    let reads = call.stays.was _ (part_self g.A.Archives _) in
+    let told : EndsWithin g.A.Archives c.args.message.archive c.args.message.offset c.args.message.length
+    c.args.archives.now c.read_source-read.new.source.archives.now =
+    part_ended g.A.Archives _ _ reads refl _ call.count c.if-part-gt0.true in
+    grind (arith, told)
+
+pub returns-clause-read : goal.returns-clause-read
+returns-clause-read g c =
+    let call = c.in_ok-read.ensures in
+    let reads = call.stays.was _ (part_self g.A.Archives _) in
+    let none : c.read_source-read.new.source.early_ends ≡ 0 = omega (arith, c.if-part-gt0.false) in
+    let told : ReadsMessage g.A.Archives Excerpt c.args.message c.args.archives.now
+    c.read_source-read.new.source.archives.now =
+    front_read g.A.Archives c.args.message _ _ _ (part_read g.A.Archives _ _ reads refl call.count none) in
     grind (arith, told)

@@ -1,14 +1,8 @@
 -- `push_mbox` adds a closed span, piece by piece, because the ending decides what closes it.
-use Rattle.mail_answer.proofs.Words.{◌≡◌, ◌∙◌, ℕ, record_at, List, ◌++◌, length, length-append, Option, None, Some, ap}
-use Rattle.mail_answer.proofs.Words.{sym, refl, append-nil, arith, nat_tests, err_from_is_err_and, option_map}
-use Rattle.mail_answer.proofs.Words.{ending_of_bytes, feeds_of, Reading, bytes_left, span_reading}
-use Rattle.mail_answer.proofs.Words.{closed_text}
-use Rattle.mail_answer.proofs.Words.{stale_archive, IsIfKnown}
-use Rattle.mail_answer.proofs.OutputLaws.CopiedPieces.{known_closed, pieces_more, front_told, closed_told}
-use Rattle.mail_answer.proofs.OutputLaws.CopiedPieces.{closed_begins, closed_by_last}
-use Rattle.mail_answer.proofs.OutputLaws.SheetLemmas.{joins_gathered, joins_more, joins_front, front_more, writes_next}
-use Rattle.mail_answer.proofs.OutputLaws.SheetLemmas.{writes_less, writes_err, unsent_before, unsent_before_front}
-use Rattle.mail_answer.proofs.OutputLaws.SheetLemmas.{unsent_before_writes}
+use Rattle.mail_answer.proofs.Words.{◌≡◌, ◌<◌, ◌∙◌, ℕ, Mbox, record_at, List, ◌++◌, length, length-append, Option, None, Some, ap, sym, refl, append-nil, arith, nat_tests, err_from_is_err_and, option_map, ending_of_bytes, feeds_of, Reading, bytes_left, span_reading, closed_text, stale_archive, IsIfKnown}
+use Rattle.mail_answer.proofs.OutputLaws.CopiedPieces.{known_closed, pieces_more, front_told, closed_told, closed_begins, closed_by_last}
+use Rattle.mail_answer.proofs.OutputLaws.PartReads.{ends_read, read_fresh, until_self, until_join, whole_read}
+use Rattle.mail_answer.proofs.OutputLaws.SheetLemmas.{joins_gathered, joins_more, joins_front, front_more, writes_next, writes_less, writes_err, unsent_before, unsent_before_front, unsent_before_writes}
 use Rattle.mail_answer.proofs.ArchiveLaws.CallLemmas.{keeps_self, keeps_join}
 use Rattle.mail_answer.proofs.ArchiveLaws.IndexedLemmas.{message_inside, message_some}
 use Rattle.mail_answer.proofs.ArchiveLaws.KnowledgeLemmas.{copied_later, some_later}
@@ -23,7 +17,7 @@ pieces-init g c =
     let part : c.of-part.result ≡ span_reading m = c.of-part.ensures ∙ ap span_reading is in
     let inside = message_inside t (g.A.Archives.held c.args.archives.now) (g.A.Archives.number c.args.archives.now)
     c.args.n c.requires.table c.requires.below c.requires.indexed.number c.requires.indexed.fresh in
-    rw part (grind (arith, keeps_self, joins_gathered, append-nil, inside))
+    rw part (grind (arith, keeps_self, joins_gathered, append-nil, inside, until_self))
 
 pub copy_piece-requires-clause-some : goal.copy_piece-requires-clause-some
 copy_piece-requires-clause-some g c = grind (arith, nat_tests)
@@ -50,6 +44,8 @@ pieces-preserved g c =
         joins_more j.3 w.2,
         omega (arith, j.4, w.4, length-append j.0 w.0),
       );
+      read = until_join g.A.Archives span c.pieces.part c.copy_piece.new.self c.args.archives.now c.pieces.archives
+          c.copy_piece.new.archives i.read c.in_ok-ending.ensures.read;
       kept = λ unsent. c.in_ok-ending.ensures.out.kept unsent refl ∙ i.kept (unsent_before w.2 unsent);
       out_count = c.in_ok-ending.ensures.out.count ∙ i.out_count;
       archives_count = c.in_ok-ending.ensures.archives.count ∙ i.archives_count;
@@ -138,3 +134,19 @@ returns-clause-span g c =
 
 pub returns-clause-out : goal.returns-clause-out
 returns-clause-out g c = grind (arith, unsent_before_writes)
+
+pub returns-in_err-ending-clause-read : goal.returns-in_err-ending-clause-read
+returns-in_err-ending-clause-read g c =
+    let i = c.pieces.invariant in
+    let some : 0 < c.pieces.part.left = grind (arith, nat_tests) in
+    ends_read g.A.Archives Mbox (record_at c.args.index.now.messages c.args.n) c.pieces.part c.args.archives.now
+    c.pieces.archives c.copy_piece.new.archives c.in_err-ending.field-0.0 c.from_residual.result
+    (grind (arith, err_from_is_err_and)) i.read some i.archive c.in_err-ending.ensures.stale
+    c.in_err-ending.ensures.read
+
+pub returns-clause-read : goal.returns-clause-read
+returns-clause-read g c =
+    let m = record_at c.args.index.now.messages c.args.n in
+    let none : c.pieces.part.left ≡ 0 = grind (arith, nat_tests) in
+    read_fresh g.A.Archives Mbox m c.args.archives.now c.pieces.archives c.push.result c.push.ensures.own.1
+    (whole_read g.A.Archives m c.pieces.part c.args.archives.now c.pieces.archives c.pieces.invariant.read none)

@@ -1,7 +1,6 @@
 -- Some pieces were added to the answer; they and the rest are the span.
-use Rattle.mail_answer.proofs.Words.{◌≡◌, ◌+◌, ℕ, List, ◌++◌, length, option_map, record_at, ending_of_bytes}
-use Rattle.mail_answer.proofs.Words.{bytes_left}
-use Rattle.mail_answer.proofs.Words.{span_reading, IsInsideArchive, AddsBytes, KeepsArchives}
+use Rattle.mail_answer.proofs.Words.{◌≡◌, ◌+◌, ℕ, List, ◌++◌, length, option_map, record_at, ending_of_bytes, bytes_left, span_reading, IsInsideArchive, AddsBytes, KeepsArchives}
+use Rattle.mail_answer.specs.Inside.Readings.{ReadsUntil}
 use Rattle.mail_answer.proofs.output.mbox.push_mbox.Given as goal
 
 abbrev pub invariant-pieces : goal.invariant-pieces
@@ -15,6 +14,7 @@ invariant-pieces g l = record {
       × (l.ending ≡ ending_of_bytes text) × AddsBytes (g.O.Out.taken l.fn.out) (g.O.Out.taken l.out) l.fn.sheet l.sheet
       text
       × ((record_at l.fn.index.messages l.fn.n).length ≡ length text + l.part.left);
+  read : ReadsUntil g.A.Archives l.fn.archives l.archives (span_reading (record_at l.fn.index.messages l.fn.n)) l.part;
   kept : l.sheet.sent ≡ 0 → l.out ≡ l.fn.out;
   out_count : g.O.Out.failures l.out ≡ g.O.Out.failures l.fn.out;
   archives_count : g.A.Archives.failures l.archives ≡ g.A.Archives.failures l.fn.archives;

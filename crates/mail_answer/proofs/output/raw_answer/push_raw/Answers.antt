@@ -1,7 +1,6 @@
 -- `push_raw` adds the line of a message, from its record and the path of its archive.
 use Rattle.std.specs.String.{string_bytes}
-use Rattle.mail_answer.proofs.Words.{◌≡◌, ◌∙◌, ℕ, List, [], append_assoc, ap, arith, Record, Raw, message_text}
-use Rattle.mail_answer.proofs.Words.{raw_line, record_at}
+use Rattle.mail_answer.proofs.Words.{◌≡◌, ◌∙◌, ℕ, List, [], append_assoc, ap, arith, Record, Raw, message_text, raw_line, record_at}
 use Rattle.mail_answer.proofs.OutputLaws.SheetLemmas.{writes_nothing}
 use Rattle.mail_answer.proofs.CursorLaws.TruthLists.{record_known}
 use Rattle.mail_answer.proofs.output.raw_answer.push_raw.Goals as goal

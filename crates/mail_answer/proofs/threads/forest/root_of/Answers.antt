@@ -1,8 +1,7 @@
 -- `root_of` finds the root of a message, because each step leads to an earlier message of its tree.
 use Rattle.mail_answer.proofs.Words.{◌∙◌, ◌<◌, ◌≤◌, ℕ, List, length, get_or, arith, LeadsBack, Shortens}
 use Rattle.mail_answer.proofs.ThreadLaws.ThreadLemmas.{through}
-use Rattle.mail_answer.proofs.ThreadLaws.ForestLemmas.{shorter_still, lifted_to, lifted_before, lifted_label}
-use Rattle.mail_answer.proofs.ThreadLaws.ForestLemmas.{lifted_thread}
+use Rattle.mail_answer.proofs.ThreadLaws.ForestLemmas.{shorter_still, lifted_to, lifted_before, lifted_label, lifted_thread}
 use Rattle.mail_answer.proofs.threads.forest.root_of.Goals as goal
 
 pub loop-parents-preserved : goal.loop-parents-preserved

@@ -1,6 +1,6 @@
 -- `unite_all` joins the trees of all these messages, message by message.
-use Rattle.mail_answer.proofs.Words.{◌≡◌, ◌<◌, ℕ, List, [], ◌∷◌, length, sym, subst, AllByRecursion, Unites}
-use Rattle.mail_answer.proofs.Words.{AreBothAmong}
+use Rattle.mail_answer.proofs.Words.{◌≡◌, ◌∙◌, ◌<◌, ℕ, List, [], ◌∷◌, length, sym, ap, subst, add_steps, AllByRecursion, Unites, AreBothAmong}
+use Rattle.mail_index.proofs.ViewLaws.StepLemmas.{add_steps-more}
 use Rattle.mail_answer.proofs.ThreadLaws.JoinLemmas.{united_one, united_more}
 use Rattle.mail_answer.proofs.threads.forest.unite_all.Goals as goal
 
@@ -22,10 +22,15 @@ loop-number-preserved c =
           c.loop-number.invariant.united later
           (subst (λ (ns : List ℕ). Unites (AreBothAmong (first ∷ ns)) p later) (sym split)
           (united_more p c.unite.new.parents later first n rest c.unite.ensures given));
+      counted =
+          ap (λ (s : ℕ). add_steps s (length rest)) c.in-Some-next.ensures.1
+          ∙ add_steps-more c.loop-number.steps (length rest)
+          ∙ ap (λ (ns : List ℕ). add_steps c.loop-number.steps (length ns)) (sym split)
+          ∙ c.loop-number.invariant.counted;
     }
 
-pub returns-in_default-next : goal.returns-in_default-next
-returns-in_default-next c =
+pub returns-in_default-next-clause-unites : goal.returns-in_default-next-clause-unites
+returns-in_default-next-clause-unites c =
     let p : List ℕ = c.loop-number.parents in
     let first : ℕ = c.in-Some.first in
     let none : c.loop-number.numbers ≡ [] = c.in_default-next.ensures.0 in

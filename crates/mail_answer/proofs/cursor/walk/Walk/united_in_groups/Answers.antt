@@ -1,7 +1,5 @@
 -- `Walk::united_in_groups` has the messages of all walks, group by group, and each round leaves fewer walks.
-use Rattle.mail_answer.proofs.Words.{◌≡◌, ◌∙◌, Bool, ℕ, List, length, drop, sym, ap, arith, truth_at, WalkAhead}
-use Rattle.mail_answer.proofs.Words.{union_of}
-use Rattle.mail_answer.proofs.Words.{steps_left_in}
+use Rattle.mail_answer.proofs.Words.{◌≡◌, ◌∙◌, Bool, ℕ, List, length, drop, sym, ap, arith, truth_at, WalkAhead, union_of, steps_left_in}
 use Rattle.std.specs.Vec.{vec_len}
 use Rattle.mail_answer.proofs.CursorLaws.Groups.{grouped_more}
 use Rattle.mail_answer.proofs.CursorLaws.Begins.{some_walk}

@@ -1,12 +1,9 @@
 -- `AnswerWriter::push_all` adds the messages to the answer, message by message.
-use Rattle.mail_answer.proofs.Words.{◌≡◌, ℕ, List, [], ◌∷◌, ◌++◌, length, Option, Some, Result, Ok, refl, ap, subst}
-use Rattle.mail_answer.proofs.Words.{sym, ◌∙◌, append_assoc, append-nil, arith, err_from_is_err_and, AreNumbers}
-use Rattle.mail_answer.proofs.Words.{known_answer, known_message, joined_texts, IsIfKnown, WritesText}
+use Rattle.mail_answer.proofs.Words.{◌≡◌, ℕ, List, [], ◌∷◌, ◌++◌, length, Option, Some, Result, Ok, refl, ap, subst, sym, ◌∙◌, append_assoc, append-nil, arith, err_from_is_err_and, AreNumbers, known_answer, known_message, joined_texts, IsIfKnown, WritesText}
 use Rattle.mail_answer.proofs.ThreadLaws.NumberLists.{numbers_next, few_numbers, known_first, known_none}
-use Rattle.mail_answer.proofs.OutputLaws.SheetLemmas.{joins_gathered, writes_next, writes_stop, writes_less, writes_err}
-use Rattle.mail_answer.proofs.OutputLaws.SheetLemmas.{tells-joined, joins_more, unsent_before, joined-nothing}
-use Rattle.mail_answer.proofs.OutputLaws.SheetLemmas.{joined-assoc}
+use Rattle.mail_answer.proofs.OutputLaws.SheetLemmas.{joins_gathered, writes_next, writes_stop, writes_less, writes_err, tells-joined, joins_more, unsent_before, joined-nothing, joined-assoc}
 use Rattle.mail_answer.proofs.OutputLaws.ChosenBelow.{is_among_after}
+use Rattle.mail_answer.proofs.OutputLaws.PartReads.{each_more}
 use Rattle.mail_answer.proofs.OutputLaws.SpanWrites.{spans_more, spans_stop, spans_end}
 use Rattle.mail_answer.proofs.OutputLaws.SentLemmas.{still_ready}
 use Rattle.mail_answer.proofs.ArchiveLaws.CallLemmas.{keeps_self, keeps_join}
@@ -39,6 +36,7 @@ loop-n-init g c = record {
       joins_gathered (g.O.Out.taken c.args.out.now) c.args.self.now.sheet
           c.args.self.now.sheet [] (sym (append-nil c.args.self.now.sheet.text)) refl,
     ),
+    refl,
   );
   unasked = λ raw. refl;
   archives_count = refl;
@@ -123,6 +121,9 @@ loop-n-preserved g c =
             ∙ sym (append_assoc i.passed.0 (c.in-Some.n ∷ []) c.next.new.self),
         λ mbox. spans_more t i.passed.0 c.in-Some.n (i.passed.2 mbox)
             (rw i.same.table at (c.in_ok-push.ensures.message.span (i.same.format ∙ mbox))),
+        each_more g.A.Archives c.args.self.now.format t.messages i.passed.0 c.in-Some.n c.args.archives.now
+            c.loop-n.archives c.push.new.archives i.passed.3
+            (rw (i.same.table, i.same.format) at c.in_ok-push.ensures.read),
       );
       unasked = λ raw. (c.in_ok-push.ensures.raw (i.same.format ∙ raw)).2 ∙ i.unasked raw;
       archives_count = c.in_ok-push.ensures.archives.count ∙ i.archives_count;

@@ -1,7 +1,6 @@
 -- The messages so far were added to the answer and counted.
-use Rattle.mail_answer.proofs.Words.{◌≡◌, ◌+◌, ◌++◌, ℕ, List, length, Option, flat_map, AreNumbers, known_answer}
-use Rattle.mail_answer.proofs.Words.{closed_text, AreSpansOf, joined_texts, IsIfKnown, AddsBytes, Raw, Mbox}
-use Rattle.mail_answer.proofs.Words.{KeepsArchives, IsSameAnswer}
+use Rattle.mail_answer.proofs.Words.{◌≡◌, ◌+◌, ◌++◌, ℕ, List, length, Option, flat_map, AreNumbers, known_answer, closed_text, AreSpansOf, joined_texts, IsIfKnown, AddsBytes, Raw, Mbox, KeepsArchives, IsSameAnswer}
+use Rattle.mail_answer.specs.MessageReads.{ReadsEach}
 use Rattle.mail_answer.proofs.output.answer_writer.AnswerWriter.push_all.Given as goal
 
 abbrev pub invariant-loop-n : goal.invariant-loop-n
@@ -21,7 +20,8 @@ invariant-loop-n g l = record {
   passed : (done : List ℕ) × (l.fn.numbers ≡ done ++ l.numbers)
       × (l.fn.self.format ≡ Mbox → (spans : List (List ℕ)) × AreSpansOf l.fn.self.places.table done spans
       × AddsBytes (g.O.Out.taken l.fn.out) (g.O.Out.taken l.out) l.fn.self.sheet l.self.sheet
-      (flat_map closed_text spans));
+      (flat_map closed_text spans))
+      × ReadsEach g.A.Archives l.fn.self.format l.fn.self.places.table.messages done l.fn.archives l.archives;
   unasked : l.fn.self.format ≡ Raw → l.archives ≡ l.fn.archives;
   archives_count : g.A.Archives.failures l.archives ≡ g.A.Archives.failures l.fn.archives;
 }

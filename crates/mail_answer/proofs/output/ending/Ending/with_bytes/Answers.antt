@@ -1,8 +1,6 @@
 -- `Ending::with_bytes` reads only the bytes after the last LF that isn't the last byte, because those before make no
 -- difference.
-use Rattle.mail_answer.proofs.Words.{◌≡◌, ◌∙◌, ◌+◌, ◌-◌, ◌<◌, ◌≤◌, ◌==◌, true, ℕ, List, [], ◌∷◌, ◌++◌, length, get_or}
-use Rattle.mail_answer.proofs.Words.{take, drop, drop-cons, add-one, append_assoc, ap, sym, arith, eqb-true}
-use Rattle.mail_answer.proofs.Words.{take-append-drop, take_rest, get_or-take, ending_of_bytes}
+use Rattle.mail_answer.proofs.Words.{◌≡◌, ◌∙◌, ◌+◌, ◌-◌, ◌<◌, ◌≤◌, ◌==◌, true, ℕ, List, [], ◌∷◌, ◌++◌, length, get_or, take, drop, drop-cons, add-one, append_assoc, ap, sym, arith, eqb-true, take-append-drop, take_rest, get_or-take, ending_of_bytes}
 use Rattle.std.proofs.lemmas.List.{length-take, length-drop}
 use Rattle.mail_answer.proofs.OutputLaws.Endings.{ending_after}
 use Rattle.mail_answer.proofs.output.ending.Ending.with_bytes.Goals as goal

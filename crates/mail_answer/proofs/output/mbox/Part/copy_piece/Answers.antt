@@ -1,11 +1,9 @@
 -- `Part::copy_piece` adds one piece of a span and keeps its ending, by the result of each call.
-use Rattle.mail_answer.proofs.Words.{◌≡◌, ◌∙◌, ℕ, List, ◌++◌, ◌+◌, ◌-◌, ◌≤◌, length-append, Option, Result, Ok, Err}
-use Rattle.mail_answer.proofs.Words.{refl, ap, sym, subst, arith, option_map, ending_of_bytes, Reading}
-use Rattle.mail_answer.proofs.Words.{bytes_left, reading}
-use Rattle.mail_answer.proofs.Words.{IsInsideArchive, AddsBytes, JoinsFront, AnswerFaultKind}
+use Rattle.mail_answer.proofs.Words.{◌≡◌, ◌∙◌, ℕ, List, ◌++◌, ◌+◌, ◌-◌, ◌≤◌, length, drop, length-append, length-drop, Option, Result, Ok, Err, refl, ap, sym, subst, arith, option_map, ending_of_bytes, Reading, bytes_left, reading, IsInsideArchive, AddsBytes, JoinsFront, AnswerFaultKind}
 use Rattle.mail_answer.proofs.ArchiveLaws.KnowledgeLemmas.{inside_later}
-use Rattle.mail_answer.proofs.OutputLaws.CopiedPieces.{copies_err, piece_read, after_gathered, tells_after}
-use Rattle.mail_answer.proofs.OutputLaws.CopiedPieces.{some_coming, inside_after}
+use Rattle.mail_answer.proofs.OutputLaws.CopiedPieces.{copies_err, piece_read, after_gathered, tells_after, some_coming, inside_after}
+use Rattle.mail_answer.specs.Inside.Readings.{ReadsUntil}
+use Rattle.mail_answer.proofs.OutputLaws.PartReads.{until_piece}
 use Rattle.mail_answer.proofs.OutputLaws.SheetLemmas.{nothing_went, gathered_went, front_more}
 use Rattle.mail_answer.proofs.output.mbox.Part.copy_piece.Goals as goal
 
@@ -76,3 +74,22 @@ returns-clause-copies g c =
           (c.as_slice.ensures ∙ reads.after) (omega arith)),
       omega (arith, reads.number, c.in_ok-n.ensures.bound, ap (λ (r : Reading). r.left) c.self.view_is),
     )
+
+pub returns-clause-read : goal.returns-clause-read
+returns-clause-read g c =
+    let s = c.self.inside in
+    let reads = c.in_ok-n.ensures.bytes in
+    let few : c.in_ok-n.n ≤ s.left = omega (arith, c.in_ok-n.ensures.bound) in
+    let piece : List ℕ = drop (length c.args.sheet.now.text) c.read.new.self in
+    let long : length piece ≡ c.in_ok-n.n =
+    omega (
+      arith,
+      length-drop (length c.args.sheet.now.text) c.read.new.self,
+      ap length reads.after,
+      length-append c.args.sheet.now.text reads.bytes,
+      reads.number,
+    ) in
+    subst (λ (r : Reading). ReadsUntil g.A.Archives c.args.archives.now c.read.new.archives r
+    (reading s.archive (s.next + c.in_ok-n.n) (s.left - c.in_ok-n.n))) c.self.view_is
+    (until_piece g.A.Archives s.archive s.next s.left c.in_ok-n.n piece c.args.archives.now c.read.new.archives
+    c.in_ok-n.ensures.read long reads.some few)

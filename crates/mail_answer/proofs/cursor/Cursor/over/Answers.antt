@@ -1,7 +1,0 @@
--- `Cursor::over` begins with the chosen numbers, because its walk gives exactly the messages that satisfy the query.
-use Rattle.mail_answer.proofs.Words.{arith}
-use Rattle.mail_answer.proofs.CursorLaws.Begins.{tells_chosen}
-use Rattle.mail_answer.proofs.cursor.Cursor.over.Goals as goal
-
-pub returns-clause-numbers : goal.returns-clause-numbers
-returns-clause-numbers c = grind (arith, tells_chosen)
