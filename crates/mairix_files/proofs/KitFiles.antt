@@ -1,6 +1,5 @@
 -- What a noted call says of the bytes of the only file.
-use Rattle.std.proofs.Common.{◌≡◌, ◌≤◌, ℕ, List, [], ◌∷◌, Option, None, Some, IfSome, Result, Ok, Err, length}
-use Rattle.std.proofs.Common.{take, subst, sym, rules}
+use Rattle.std.proofs.Common.{◌≡◌, ◌≤◌, ℕ, List, [], ◌∷◌, Option, None, Some, IfSome, Result, Ok, Err, length, take, subst, sym, rules}
 use Rattle.std.specs.Option.{option_map}
 use Rattle.call_record.specs.declared.record.Record.{Record}
 use Rattle.contract_words.specs.Archives.{archive_at}

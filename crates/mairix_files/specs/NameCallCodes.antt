@@ -4,8 +4,8 @@ use Rattle.std.specs.Coded.{Coded, code_by, coded×, coded_ℕ, coded_bool, code
 use Rattle.mairix_files.specs.NameCalls.{NameCall, Made, Renamed, Kept, Discarded, Cleared}
 
 -- The call of these two numbers, this name and these bytes. The numbers are its kind (0 makes a file, 1 renames it, 2
--- brings
--- a name to the disk, 3 removes a file that was made, any other removes what was left), and 1 for a file on the disk.
+-- brings a name to the disk, 3 removes a file that was made, any other removes what was left), and 1 for a file on the
+-- disk.
 abbrev pub name_call_of : List ℕ → List ℕ → List ℕ → NameCall
 name_call_of numbers name bytes =
     if slice_index numbers 0 == 0 then Made name

@@ -1,9 +1,10 @@
 //! Whether a file has changed.
 //!
 //! A search sees each archive in one state, or fails (decision 95 in docs/DECISIONS.md).
+ghost use Rattle.std.specs.Prelude.{◌≡◌};
+ghost use Rattle.mairix_files.specs.FileStates.{state_by_look};
 
-use std::fs::Metadata;
-use std::os::unix::fs::MetadataExt;
+use system::Found;
 
 /// What the system reports of a file: which file it is, its length, and when its bytes and its other properties were
 /// changed last.
@@ -22,14 +23,16 @@ pub struct FileState {
 }
 
 impl FileState {
-    /// Returns the state that these data of the system are.
-    pub(crate) fn of(found: &Metadata) -> FileState {
+    /// Returns the state in which a file was found.
+    pub(crate) fn of(found: &Found) -> FileState
+        ensures { result ≡ state_by_look found.now }
+    {
         FileState {
-            device: found.dev(),
-            inode: found.ino(),
-            length: found.len(),
-            written: (found.mtime(), found.mtime_nsec()),
-            changed: (found.ctime(), found.ctime_nsec()),
+            device: found.device,
+            inode: found.inode,
+            length: found.length,
+            written: (found.written.seconds, found.written.nanoseconds),
+            changed: (found.changed.seconds, found.changed.nanoseconds),
         }
     }
 }

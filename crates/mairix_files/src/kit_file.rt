@@ -11,6 +11,7 @@ ghost use Rattle.mairix_files.specs.KitFiles.{GivesOn, NotesIf, bytes_held, file
 use crate::file_state::FileState;
 use crate::retried_reader::RetriedReader;
 use call_record::{NumberedFiles, Record, length_noted, read_at_noted, read_noted};
+use kit_system::found_of;
 use mbox_cutter::{DeviceFault, Source};
 use named_files::KeptFile;
 use std::fs::OpenFile;
@@ -191,7 +192,7 @@ impl<F: Read + OpenFile + FileExt + Drop> KeptFile for KitFile<F> {
         ensures file { self.new.opened ≡ self.old.opened }
     {
         if let Some(opened) = &self.opened {
-            if let Ok(found) = opened.file.reader.metadata() {
+            if let Ok(found) = found_of(opened.file.reader.metadata()) {
                 let state = FileState::of(&found);
                 self.state = Some(state);
                 return Ok(state);

@@ -2,6 +2,7 @@
 ghost use Rattle.std.specs.Prelude.{◌≡◌, [], ⊤, ℕ, List, true, Some, None, length, IfOk, IfSome};
 ghost use Rattle.std.specs.Option.{option_map};
 ghost use Rattle.std.specs.String.{string_bytes};
+ghost use Rattle.named_files.specs.Entries.{bytes_of};
 ghost use Rattle.named_files.specs.Logs.{held_after_changes, MayLeave, MayHaveLeft, left_now, only_left};
 ghost use Rattle.mairix_files.specs.NameCalls.{Made, Renamed, Kept, Discarded, Cleared, NotesIfDone, are_apart, changes_by, supposed_first, supposed_now};
 
@@ -11,18 +12,18 @@ use crate::kit_calls::{
 use crate::kit_file::KitFile;
 use crate::kit_new::{KitNew, gathering_room};
 use crate::kit_reports::{KitReports, note_apart, note_file, note_more, note_told};
-use crate::leftover::lock_leftover;
-use crate::names::{Place, leads_to_processes};
-use crate::new_file::{make_marked, remove_named, rename_named, set_mode, sync_folder};
+use crate::looks::refusal_of;
+use crate::new_file::NamedFile;
+use crate::recorded_calls::RecordedCalls;
 use crate::supposed_names::SupposedNames;
 use call_record::Record;
-use mbox_cutter::Out;
-use named_files::{Folder, Look, Refusal};
+use kit_system::KitOpened;
+use mbox_cutter::{DeviceFault, Out, Source};
+use named_files::{FileName, Folder, KeptFile, Look, MadeNames, PlainName, Refusal};
 use std::alloc::{AllocError, Global};
 use std::fs::File;
-use std::io::ErrorKind;
 use std::rt::Files;
-use std::{fs, io};
+use system::Found;
 
 /// The system's files, by their names, with a record of the calls that were done.
 ///
@@ -36,9 +37,13 @@ use std::{fs, io};
 /// supposed, the calls are the same.
 #[derive(Drop)]
 pub struct KitFolder<'r, R: Files<File = File>> {
-    rt: &'r R,
+    system: RecordedCalls<'r, R>,
+    /// The file that is the standard output, which no run may read: its answer would go into what it reads.
+    output: Option<Found>,
     /// The name under which a file is made.
-    passing: Option<String>,
+    temporary: Option<String>,
+    /// The file that got its name last, until that is brought to the disk.
+    named: Option<NamedFile<KitOpened>>,
     calls: KitCalls,
     supposed: SupposedNames,
 }
@@ -46,7 +51,7 @@ pub struct KitFolder<'r, R: Files<File = File>> {
 /// A file of the system that a killed run left. It is locked.
 #[derive(Drop)]
 pub struct KitLeft {
-    file: File,
+    file: KitOpened,
     name: String,
 }
 
@@ -57,20 +62,31 @@ impl<'r, R: Files<File = File>> KitFolder<'r, R> {
         ensures calls { result.calls.done ≡ [] }
         ensures supposed { result.supposed ≡ supposed }
     {
+        let system = RecordedCalls::new(rt);
+        let output = system.output();
         KitFolder {
-            rt,
-            passing: None,
+            system,
+            output,
+            temporary: None,
+            named: None,
             calls: KitCalls::new(),
             supposed,
         }
     }
-}
 
-/// Returns why the system refused a call.
-fn refusal_of(error: io::Error) -> Refusal {
-    match error.kind() {
-        ErrorKind::OutOfMemory => Refusal::Memory,
-        _ => Refusal::Refused,
+    /// Returns a file that was opened under a name. Its bytes are supposed to be those to which the name leads.
+    fn file_of(&self, file: KitOpened, name: &str) -> KitFile<File>
+        ensures rest { ⟦<KitFile<File> as Source>⟧.rest result
+            ≡ bytes_of (supposed_now self.now.supposed self.now.calls.done name.now) }
+        ensures bytes { ⟦<KitFile<File> as KeptFile>⟧.bytes result
+            ≡ bytes_of (supposed_now self.now.supposed self.now.calls.done name.now) }
+        ensures whole { IfSome (bytes_of
+            (supposed_now self.now.supposed self.now.calls.done name.now))
+            (⟦<KitFile<File> as Source>⟧.whole result) }
+        ensures fresh { ⟦<KitFile<File> as Source>⟧.failures result ≡ 0 }
+    {
+        let record = supposing(&self.calls, &self.supposed, name.as_bytes());
+        KitFile::new(file.into_file(), record)
     }
 }
 
@@ -82,45 +98,15 @@ fn supposing(_calls: &KitCalls, _supposed: &SupposedNames, _name: &[u8]) -> Reco
     Record::new()
 }
 
-/// Looks at what a name leads to. A link to what a process has open, such as `/dev/stdout`, is neither a file nor a folder,
-/// whatever that is: no run replaces it (decision 58 in docs/DECISIONS.md).
-fn look_at<R: Files<File = File>>(rt: &R, alloc: Global, name: &str) -> Result<Look, Refusal> {
-    match leads_to_processes(rt, alloc, name) {
-        Ok(true) => return Ok(Look::Other),
-        Ok(false) => {}
-        Err(AllocError) => return Err(Refusal::Memory),
-    }
-    match fs::metadata(rt, name) {
-        Ok(found) if found.is_file() => Ok(Look::File(found.len())),
-        Ok(found) if found.is_dir() => Ok(Look::Folder),
-        Ok(_) => Ok(Look::Other),
-        Err(error) => match error.kind() {
-            ErrorKind::NotFound => Ok(Look::Nothing),
-            _ => Err(refusal_of(error)),
-        },
-    }
-}
-
-/// Whether two names lead to different files.
-fn differ<R: Files<File = File>>(
-    rt: &R,
-    alloc: Global,
-    name: &str,
-    other: &str,
-) -> Result<bool, AllocError> {
-    let place = Place::of(rt, alloc, name)?;
-    Ok(!place.is_of(rt, alloc, other)?)
-}
-
 /// Finds what a killed run left under a name, and locks it. Returns None if nothing has the name.
 fn leftover_at<R: Files<File = File>>(
-    rt: &R,
+    system: &RecordedCalls<'_, R>,
     alloc: Global,
     name: &str,
 ) -> Result<Option<KitLeft>, Refusal>
     ensures { IfOk result (λ found. IfSome found (λ left. string_bytes left.name ≡ name.now)) }
 {
-    match lock_leftover(rt, alloc, name) {
+    match system.lock_leftover(alloc, name) {
         Ok(Some(file)) => match String::from_str(alloc, name) {
             Ok(name) => Ok(Some(KitLeft { file, name })),
             Err(AllocError) => Err(Refusal::Memory),
@@ -131,13 +117,21 @@ fn leftover_at<R: Files<File = File>>(
 }
 
 /// Makes a new and empty file under a name, with the mark of a new file. Without memory none is made.
-fn make_new<R: Files<File = File>>(rt: &R, alloc: Global, name: &str) -> io::Result<KitNew>
+fn make_new<R: Files<File = File>>(
+    system: &RecordedCalls<'_, R>,
+    alloc: Global,
+    name: &str,
+) -> Result<KitNew, Refusal>
     ensures taken { IfOk result (λ new. ⟦<KitNew as Out>⟧.taken new ≡ Some []) }
     ensures fresh { IfOk result (λ new. ⟦<KitNew as Out>⟧.failures new ≡ 0) }
 {
-    let room = gathering_room(alloc)?;
-    let file = make_marked(rt, name)?;
-    Ok(KitNew::new(file, room))
+    let Ok(room) = gathering_room(alloc) else {
+        return Err(Refusal::Memory);
+    };
+    match system.make(name) {
+        Ok(file) => Ok(KitNew::new(file, room)),
+        Err(error) => Err(refusal_of(error)),
+    }
 }
 
 impl<'r, R: Files<File = File>> Folder for KitFolder<'r, R> {
@@ -149,13 +143,19 @@ impl<'r, R: Files<File = File>> Folder for KitFolder<'r, R> {
 
     type Reports = KitReports;
 
+    type Name = PlainName;
+
+    type Names = MadeNames;
+
     ghost agree = { λ reports. reports.agree };
+
+    ghost made = { λ names. names.notes.made };
 
     ghost holds = { λ f n. supposed_now f.supposed f.calls.done n };
 
     ghost apart = { λ f a b. are_apart f.supposed.links a b };
 
-    ghost making = { λ f. option_map string_bytes f.passing };
+    ghost making = { λ f. option_map string_bytes f.temporary };
 
     ghost is_on_disk = { λ f n.
         (held_after_changes (supposed_first f.supposed) (changes_by f.calls.done) n).is_on_disk };
@@ -214,21 +214,28 @@ impl<'r, R: Files<File = File>> Folder for KitFolder<'r, R> {
         note_more(reports, &more);
     }
 
-    fn open(&self, _alloc: Global, name: &str) -> Result<KitFile<File>, Refusal> {
-        match fs::open(self.rt, name) {
-            Ok(file) => {
-                let record = supposing(&self.calls, &self.supposed, name.as_bytes());
-                Ok(KitFile::new(file, record))
-            }
-            Err(error) => Err(refusal_of(error)),
+    fn name(
+        &self,
+        alloc: Global,
+        names: &mut MadeNames,
+        reports: &KitReports,
+        text: &str,
+    ) -> Result<PlainName, AllocError> {
+        names.note(text.as_bytes(), reports);
+        PlainName::new(alloc, text)
+    }
+
+    fn open(&self, _alloc: Global, name: &PlainName) -> Result<KitFile<File>, Refusal> {
+        match self.system.open(&self.output, name.as_str()) {
+            Ok(file) => Ok(self.file_of(file, name.as_str())),
+            Err(why) => Err(why),
         }
     }
 
-    fn open_plain(&self, alloc: Global, name: &str) -> Result<KitFile<File>, Refusal> {
-        match fs::metadata(self.rt, name) {
-            Ok(found) if found.is_file() => self.open(alloc, name),
-            Ok(_) => Err(Refusal::Refused),
-            Err(error) => Err(refusal_of(error)),
+    fn open_plain(&self, _alloc: Global, name: &PlainName) -> Result<KitFile<File>, Refusal> {
+        match self.system.open_plain(&self.output, name.as_str()) {
+            Ok(file) => Ok(self.file_of(file, name.as_str())),
+            Err(why) => Err(why),
         }
     }
 
@@ -236,8 +243,14 @@ impl<'r, R: Files<File = File>> Folder for KitFolder<'r, R> {
         note_file(reports, &file);
     }
 
-    fn look(&self, alloc: Global, reports: &mut KitReports, name: &str) -> Result<Look, Refusal> {
-        let look = look_at(self.rt, alloc, name);
+    fn look(
+        &self,
+        alloc: Global,
+        reports: &mut KitReports,
+        name: &PlainName,
+    ) -> Result<Look, Refusal> {
+        let name = name.as_str();
+        let look = self.system.look(alloc, name);
         note_told(reports, &self.calls, &self.supposed, name.as_bytes(), &look);
         look
     }
@@ -246,10 +259,11 @@ impl<'r, R: Files<File = File>> Folder for KitFolder<'r, R> {
         &self,
         alloc: Global,
         reports: &mut KitReports,
-        name: &str,
-        other: &str,
+        name: &PlainName,
+        other: &PlainName,
     ) -> Result<bool, AllocError> {
-        let is_apart = differ(self.rt, alloc, name, other);
+        let (name, other) = (name.as_str(), other.as_str());
+        let is_apart = self.system.are_apart(alloc, name, other);
         note_apart(
             reports,
             &self.supposed,
@@ -264,9 +278,10 @@ impl<'r, R: Files<File = File>> Folder for KitFolder<'r, R> {
         &self,
         alloc: Global,
         reports: &mut KitReports,
-        name: &str,
+        name: &PlainName,
     ) -> Result<Option<KitLeft>, Refusal> {
-        let left = leftover_at(self.rt, alloc, name);
+        let name = name.as_str();
+        let left = leftover_at(&self.system, alloc, name);
         note_told(reports, &self.calls, &self.supposed, name.as_bytes(), &left);
         left
     }
@@ -274,7 +289,7 @@ impl<'r, R: Files<File = File>> Folder for KitFolder<'r, R> {
     fn remove_leftover(&mut self, _alloc: Global, left: KitLeft) -> Result<(), Refusal> {
         // With the lock, which is held until the name is gone.
         let KitLeft { file: _file, name } = left;
-        if let Err(error) = fs::remove_file(self.rt, name.as_str()) {
+        if let Err(error) = self.system.remove(name.as_str()) {
             return Err(refusal_of(error));
         }
         note_cleared(&mut self.calls, name.as_bytes());
@@ -285,43 +300,54 @@ impl<'r, R: Files<File = File>> Folder for KitFolder<'r, R> {
         &mut self,
         alloc: Global,
         reports: &mut KitReports,
-        name: &str,
+        name: &PlainName,
     ) -> Result<KitNew, Refusal> {
-        let Ok(passing) = String::from_str(alloc, name) else {
+        let name = name.as_str();
+        let Ok(temporary) = String::from_str(alloc, name) else {
             return Err(Refusal::Memory);
         };
-        match make_new(self.rt, alloc, name) {
+        match make_new(&self.system, alloc, name) {
             Ok(new) => {
                 note_told(reports, &self.calls, &self.supposed, name.as_bytes(), &new);
                 note_made(&mut self.calls, name.as_bytes());
-                self.passing = Some(passing);
+                self.temporary = Some(temporary);
                 Ok(new)
             }
-            Err(error) => Err(refusal_of(error)),
+            Err(why) => Err(why),
         }
     }
 
-    fn rename(&mut self, _alloc: Global, new: KitNew, name: &str) -> Result<(), (Refusal, KitNew)> {
+    fn sync_new(&self, new: &mut KitNew, name: &PlainName) -> Result<(), DeviceFault> {
+        self.system.sync_new(new, name.as_str())
+    }
+
+    fn rename(
+        &mut self,
+        _alloc: Global,
+        new: KitNew,
+        name: &PlainName,
+    ) -> Result<(), (Refusal, KitNew)> {
+        let name = name.as_str();
         if !new.is_written() {
             return Err((Refusal::Refused, new));
         }
-        let Some(passing) = &self.passing else {
+        let Some(temporary) = &self.temporary else {
             unreachable!();
         };
-        match rename_named(self.rt, &new.file, passing.as_str(), name) {
-            Ok(mode) => {
-                let _ = set_mode(&new.file, mode);
-            }
-            Err(error) => return Err((refusal_of(error), new)),
+        if let Err(error) = self.system.rename(&new.file, temporary.as_str(), name) {
+            return Err((refusal_of(error), new));
         }
-        let (written, is_kept) = new.into_written();
+        let (named, written, is_kept) = new.into_written();
         note_renamed(&mut self.calls, name.as_bytes(), &written, is_kept);
-        self.passing = None;
+        self.named = Some(named);
+        self.temporary = None;
         Ok(())
     }
 
-    fn sync_folder(&mut self, _alloc: Global, name: &str) -> Result<(), Refusal> {
-        match sync_folder(self.rt, name) {
+    fn sync_name(&mut self, _alloc: Global, name: &PlainName) -> Result<(), Refusal> {
+        let name = name.as_str();
+        let named = self.named.take();
+        match self.system.settle(named, name) {
             Ok(()) => {
                 note_kept(&mut self.calls, name.as_bytes());
                 Ok(())
@@ -331,12 +357,12 @@ impl<'r, R: Files<File = File>> Folder for KitFolder<'r, R> {
     }
 
     fn discard(&mut self, new: KitNew) {
-        let Some(passing) = &self.passing else {
+        let Some(temporary) = &self.temporary else {
             unreachable!();
         };
-        remove_named(self.rt, &new.file, passing.as_str());
+        self.system.discard(&new.file, temporary.as_str());
         new.close();
         note_discarded(&mut self.calls);
-        self.passing = None;
+        self.temporary = None;
     }
 }

@@ -1,17 +1,24 @@
 //! A file of the system that is made.
-ghost use Rattle.std.specs.Prelude.{◌≡◌, ◌≤◌, ◌<◌, ◌+◌, ◌++◌, [], true, false, Some, IfOk, IsTrue, OnOk, length, take, drop, vec_len, vec_capacity};
+ghost use Rattle.std.specs.Prelude.{◌≡◌, ◌≤◌, ◌<◌, ◌+◌, ◌-◌, ◌^◌, ◌++◌, [], true, false, Some, IfOk, IsTrue, OnErr, OnOk, ◌⊎◌, length, take, drop, vec_len, vec_capacity};
 ghost use Rattle.std.specs.Io.KnownBytes.{WriteAppends};
 ghost use Rattle.call_record.specs.Calls.{taken_after};
+ghost use Rattle.contract_words.specs.Devices.{Counts};
 ghost use Rattle.call_record.specs.Noted.{Notes, call_of_write};
 ghost use Rattle.mairix_files.specs.KitNews.{bytes_put};
+ghost use Rattle.mairix_files.specs.NewFileChains.{SyncsMarked, SyncsNotMarked};
+ghost use Rattle.system.specs.declared.call_error.CallError.{CallError};
 
+use crate::answers::PRIVATE;
+use crate::new_file::{NamedFile, keep_marked};
 use crate::retried::Retried;
 use call_record::{Record, write_noted};
+use kit_system::KitOpened;
 use mbox_cutter::{DeviceFault, Out};
 use named_files::NewFile;
 use std::alloc::{AllocError, Global};
 use std::fs::File;
 use std::io;
+use system::System;
 
 /// How many bytes are gathered before they are written.
 const GATHERED: usize = 65_536;
@@ -19,14 +26,16 @@ const GATHERED: usize = 65_536;
 /// A file of the system that is made, with a record of what was written to it. What is put into it is gathered first. It
 /// has one descriptor.
 pub struct KitNew {
-    pub(crate) file: File,
+    pub(crate) file: KitOpened,
     /// What was put into it and isn't written yet. It never grows beyond its room.
     gathered: Vec<u8>,
     /// The writes to the file.
     noted: Record,
+    /// The mode that it is to have under its own name.
+    mode: u32,
     /// Whether all of it is on the disk.
-    is_kept: bool,
-    failures: u64,
+    pub(crate) is_kept: bool,
+    pub(crate) failures: u64,
     // What is on the disk was written.
     ghost written: { is_kept ≡ true → gathered.items ≡ [] },
 }
@@ -40,7 +49,7 @@ pub(crate) fn gathering_room(alloc: Global) -> Result<Vec<u8>, AllocError>
 
 impl KitNew {
     /// Returns a new and empty file, which gathers in this memory what is put into it.
-    pub(crate) fn new(file: File, room: Vec<u8>) -> KitNew
+    pub(crate) fn new(file: KitOpened, room: Vec<u8>) -> KitNew
         requires { room.items ≡ [] }
         ensures taken { ⟦<KitNew as Out>⟧.taken result ≡ Some [] }
         ensures fresh { ⟦<KitNew as Out>⟧.failures result ≡ 0 }
@@ -49,6 +58,7 @@ impl KitNew {
             file,
             gathered: room,
             noted: Record::new(),
+            mode: PRIVATE,
             is_kept: false,
             failures: 0,
         }
@@ -61,20 +71,21 @@ impl KitNew {
         self.gathered.is_empty()
     }
 
-    /// Closes the file, all of which was written. Returns the writes to it, and whether all of it is on the disk.
-    pub(crate) fn into_written(self) -> (Record, bool)
+    /// Returns the file, all of which was written, the writes to it, and whether all of it is on the disk.
+    pub(crate) fn into_written(self) -> (NamedFile<KitOpened>, Record, bool)
         requires { self.gathered.items ≡ [] }
-        ensures bytes { taken_after result.0.calls ≡ bytes_put self.noted self.gathered.items }
-        ensures kept { result.1 ≡ self.is_kept }
+        ensures bytes { taken_after result.1.calls ≡ bytes_put self.noted self.gathered.items }
+        ensures kept { result.2 ≡ self.is_kept }
     {
         let KitNew {
-            file: _,
+            file,
             gathered: _,
             noted,
+            mode,
             is_kept,
             failures: _,
         } = self;
-        (noted, is_kept)
+        (NamedFile::new(file, mode), noted, is_kept)
     }
 
     /// Closes the file. What is gathered isn't written.
@@ -83,9 +94,39 @@ impl KitNew {
             file: _,
             gathered: _,
             noted: _,
+            mode: _,
             is_kept: _,
             failures: _,
         } = self;
+    }
+
+    /// Brings all that was put into it to the disk, with the mode that it is to have under its own name, and the mark.
+    pub(crate) fn sync<S: System<File = KitOpened>>(
+        &mut self,
+        system: &S,
+        log: &mut S::Log,
+        mode: u32,
+    ) -> Result<(), DeviceFault>
+        requires { self.old.failures < 2 ^ 64 - 1 }
+        ensures taken { ⟦<KitNew as Out>⟧.taken self.new ≡ ⟦<KitNew as Out>⟧.taken self.old }
+        ensures kept { OnOk result (self.new.is_kept ≡ true) }
+        ensures count { Counts result self.old.failures self.new.failures }
+        ensures on_disk { OnOk result (SyncsMarked (S.number self.old.file) mode
+            (S.calls log.old) (S.calls log.new)) }
+        ensures not_on_disk { OnErr result ((S.calls log.new ≡ S.calls log.old)
+            ⊎ ((error : CallError) × SyncsNotMarked (S.number self.old.file) mode error
+            (S.calls log.old) (S.calls log.new))) }
+        ensures file { self.new.file ≡ self.old.file }
+    {
+        self.is_kept = false;
+        self.mode = mode;
+        let written = self.write_gathered();
+        if written.is_ok() && keep_marked(system, log, &self.file, mode).is_ok() {
+            self.is_kept = true;
+            return Ok(());
+        }
+        self.failures += 1;
+        Err(DeviceFault)
     }
 
     /// Takes bytes from the front of a slice. They are gathered, unless they would fill the whole room: then they are
@@ -102,7 +143,7 @@ impl KitNew {
             self.write_gathered()?;
         }
         if bytes.len() >= self.gathered.capacity() {
-            return write_once(&self.file, &mut self.noted, bytes);
+            return write_once(self.file.as_file(), &mut self.noted, bytes);
         }
         append(&mut self.gathered, bytes);
         Ok(bytes.len())
@@ -116,8 +157,13 @@ impl KitNew {
             ≡ bytes_put self.old.noted self.old.gathered.items }
         ensures all { OnOk result (self.new.gathered.items ≡ []) }
         ensures same { (self.new.failures ≡ self.old.failures) × (self.new.is_kept ≡ false) }
+        ensures file { self.new.file ≡ self.old.file }
     {
-        let (count, result) = write_front(&self.file, &mut self.noted, self.gathered.as_slice());
+        let (count, result) = write_front(
+            self.file.as_file(),
+            &mut self.noted,
+            self.gathered.as_slice(),
+        );
         remove_front(&mut self.gathered, count);
         result
     }
@@ -193,15 +239,4 @@ impl NewFile for KitNew {
     ghost may_hold = { λ new c. new.is_kept ≡ true → c ≡ bytes_put new.noted new.gathered.items };
 
     ghost kept_whole = { λ _ _ kept may. may kept };
-
-    fn sync(&mut self) -> Result<(), DeviceFault> {
-        self.is_kept = false;
-        let written = self.write_gathered();
-        if written.is_ok() && self.file.sync_all().is_ok() {
-            self.is_kept = true;
-            return Ok(());
-        }
-        self.failures += 1;
-        Err(DeviceFault)
-    }
 }

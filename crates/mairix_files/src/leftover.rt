@@ -1,21 +1,13 @@
 //! What a killed run has left under the name of a new file.
 //!
 //! A run removes only such files (decision 93 in docs/DECISIONS.md).
-ghost use Rattle.std.specs.Prelude.{◌≡◌, IsTrue, bit_and};
-ghost use Rattle.std.specs.Fs.{IsFile, file_type, metadata_mode};
+ghost use Rattle.std.specs.Prelude.{◌≡◌, IfErr, IfOk, MatchOption, OnOk, length};
+ghost use Rattle.mairix_files.specs.LeftoverChains.{FindsNothing, LocksFound, LocksLeftover, LocksNoLeftover, LocksNotFound, OpensLeftover, OpensNoLeftover};
 
-use crate::names::is_one_node;
-use crate::new_file::{MARKED, lock};
+use crate::answers::{is_left, is_one_node};
+use crate::new_file::lock;
 use std::alloc::Global;
-use std::fs::{File, Metadata, OpenOptions};
-use std::io::ErrorKind;
-use std::os::fd::AsRawFd;
-use std::os::unix::fs::MetadataExt;
-use std::rt::Files;
-use std::{fs, io};
-
-/// The bits of a mode that say who may do what with a file, and as whom it runs.
-const MODE_BITS: u32 = 0o7777;
+use system::{CallError, Found, System};
 
 /// A path whose owner is that of the files that this process makes.
 const THIS_PROCESS: &str = "/proc/self";
@@ -26,50 +18,73 @@ const THIS_PROCESS: &str = "/proc/self";
 /// # Errors
 ///
 /// If anything else has the name; otherwise what the system refused.
-pub(crate) fn lock_leftover<R: Files<File = File>>(
-    rt: &R,
+#[tactic(auto, unfolding(crate::specs::LeftoverChains::LocksLeftover, crate::specs::LeftoverChains::FindsNothing, crate::specs::LeftoverChains::LocksNoLeftover))]
+pub(crate) fn lock_leftover<S: System>(
+    system: &S,
+    log: &mut S::Log,
     alloc: Global,
     name: &str,
-) -> io::Result<Option<File>> {
-    match fs::symlink_metadata(rt, name) {
-        Ok(found) => lock_found(rt, alloc, name, &found).map(Some),
-        Err(error) => match error.kind() {
-            ErrorKind::NotFound => Ok(None),
-            _ => Err(error),
+) -> Result<Option<S::File>, CallError>
+    ensures found { IfOk result (λ found. MatchOption found
+        (FindsNothing name.now (S.calls log.old) (S.calls log.new))
+        (λ left. LocksLeftover name.now (S.number left) (S.calls log.old) (S.calls log.new))) }
+    ensures not_found { IfErr result (λ error.
+        LocksNoLeftover name.now error (S.calls log.old) (S.calls log.new)) }
+{
+    match system.look_at_link(log, name) {
+        Ok(found) => match lock_found(system, log, alloc, name, &found) {
+            Ok(left) => Ok(Some(left)),
+            Err(error) => Err(error),
         },
+        Err(CallError::NotFound) => Ok(None),
+        Err(error) => Err(error),
     }
 }
 
 /// Locks the file that was found under a name, if a killed run left it.
-fn lock_found<R: Files<File = File>>(
-    rt: &R,
+#[tactic(auto, unfolding(crate::specs::LeftoverChains::LocksFound, crate::specs::LeftoverChains::LocksNotFound))]
+fn lock_found<S: System>(
+    system: &S,
+    log: &mut S::Log,
     alloc: Global,
     name: &str,
-    found: &Metadata,
-) -> io::Result<File> {
-    let process = fs::metadata(rt, THIS_PROCESS)?;
-    if !is_left(found, &process) {
-        return Err(ErrorKind::AlreadyExists.into());
-    }
-    // The name may be a link by now, and what a link leads to mustn't be opened for writing.
-    let seen = fs::open(rt, name)?;
-    let opened = seen.metadata()?;
-    if !is_one_node(found, &opened) {
-        return Err(ErrorKind::AlreadyExists.into());
-    }
+    found: &Found,
+) -> Result<S::File, CallError>
+    ensures locked { IfOk result (λ left. LocksFound found.now name.now (S.number left)
+        (S.calls log.old) (S.calls log.new)) }
+    ensures not_locked { IfErr result (λ error. LocksNotFound found.now name.now error
+        (S.calls log.old) (S.calls log.new)) }
+{
+    let seen = open_found(system, log, name, found)?;
     // Some file systems lock a file only if it is open for writing.
-    let path = format!(in alloc; "{THIS_PROCESS}/fd/{}", seen.as_raw_fd())?;
-    let left = OpenOptions::new()
-        .read(true)
-        .write(true)
-        .open(rt, path.as_str())?;
-    lock(rt, &left, name).and(Ok(left))
+    let left = system.reopen(log, alloc, &seen)?;
+    lock(system, log, &left, name)?;
+    Ok(left)
 }
 
-/// Whether a file is one that a run makes, and of this process's owner.
-fn is_left(found: &Metadata, process: &Metadata) -> bool
-    ensures file { IsTrue result → IsFile (file_type found.now) }
-    ensures mode { IsTrue result → bit_and (metadata_mode found.now) 0o7777 ≡ 0o1600 }
+/// Opens the file that was found under a name, if a killed run left it. The name may be a link by now, and what a link
+/// leads to mustn't be opened for writing.
+#[tactic(auto, unfolding(crate::specs::LeftoverChains::OpensLeftover, crate::specs::LeftoverChains::OpensNoLeftover))]
+fn open_found<S: System>(
+    system: &S,
+    log: &mut S::Log,
+    name: &str,
+    found: &Found,
+) -> Result<S::File, CallError>
+    ensures opened { IfOk result (λ seen. OpensLeftover found.now name.now (S.number seen)
+        (S.calls log.old) (S.calls log.new)) }
+    ensures not_opened { IfErr result (λ error. OpensNoLeftover found.now name.now error
+        (S.calls log.old) (S.calls log.new)) }
 {
-    found.is_file() && found.uid() == process.uid() && found.mode() & MODE_BITS == MARKED
+    let process = system.look(log, THIS_PROCESS)?;
+    if !is_left(found, &process) {
+        return Err(CallError::Other);
+    }
+    let seen = system.open(log, name)?;
+    let opened = system.look_at_file(log, &seen)?;
+    if is_one_node(found, &opened) {
+        Ok(seen)
+    } else {
+        Err(CallError::Other)
+    }
 }

@@ -2,6 +2,7 @@
 //! names lead.
 #![tactic(auto)]
 
+mod answers;
 mod file_state;
 mod kit_calls;
 mod kit_file;
@@ -10,8 +11,12 @@ mod kit_new;
 mod kit_reports;
 mod laws;
 mod leftover;
+mod links;
+mod looks;
 mod names;
 mod new_file;
+mod opening;
+mod recorded_calls;
 mod retried;
 mod retried_reader;
 mod supposed_names;

@@ -1,9 +1,5 @@
 -- What a line sets, by what a reader finds in it.
-use Rattle.mairix_options.proofs.Words.{◌≡◌, ℕ, ◌+◌, ◌≤◌, ◌==◌, Option, List, [], length, Err, refl, sym, ap, ◌∙◌}
-use Rattle.mairix_options.proofs.Words.{arith, before_first, after_first, position_or_len, IsUtf8, or_right}
-use Rattle.mairix_options.proofs.Words.{false_from_ne_true, drop_all, is_utf8-from_IsUtf8, IsUtf8-from_is_utf8}
-use Rattle.mairix_options.proofs.Words.{text_without_blanks}
-use Rattle.mairix_options.proofs.Words.{entry, assignment, BadLine}
+use Rattle.mairix_options.proofs.Words.{◌≡◌, ℕ, ◌+◌, ◌≤◌, ◌==◌, Option, List, [], length, Err, refl, sym, ap, ◌∙◌, arith, before_first, after_first, position_or_len, IsUtf8, or_right, false_from_ne_true, drop_all, is_utf8-from_IsUtf8, IsUtf8-from_is_utf8, text_without_blanks, entry, assignment, BadLine}
 
 pub entry-not_utf8 : (base : Option (List ℕ)) (n : ℕ) (text : List ℕ) → ¬ (IsUtf8 text) → entry base n text
     ≡ Err (BadLine n)

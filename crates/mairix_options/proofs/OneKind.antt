@@ -1,20 +1,12 @@
 -- A command without subcommands refuses any words with at most one kind of error.
-use Rattle.mairix_options.proofs.Words.{◌≡◌, ◌&&◌, ℕ, zero, suc, Bool, true, false, List, [], ◌∷◌, Option, Some, None}
-use Rattle.mairix_options.proofs.Words.{length, drop, slice_get, encode_utf8, sym, subst, arith, if◌then◌else◌, is_some}
-use Rattle.mairix_options.proofs.Words.{option_map_or, chars, bytes_eq}
+use Rattle.mairix_options.proofs.Words.{◌≡◌, ◌&&◌, ℕ, zero, suc, Bool, true, false, List, [], ◌∷◌, Option, Some, None, length, drop, slice_get, encode_utf8, sym, subst, arith, if◌then◌else◌, is_some, option_map_or, chars, bytes_eq}
 use Rattle.clap.specs.Lexer.{long_of, short_of}
 use Rattle.clap.specs.Values.{refused_kind}
 use Rattle.clap.specs.ValueTests.{accepts}
-use Rattle.clap.specs.Walk.{Held, Row, Rule, Step, Text, Waiting, Walk, arg_by_index, arg_by_long, attached_value}
-use Rattle.clap.specs.Walk.{is_pending, reacted, settled, subcommand_met, takes_several, takes_values, walk, walk_from}
-use Rattle.clap.specs.Walk.{walked, with_default}
-use Rattle.clap.specs.Walk.{next, trailing, subcommand, value}
+use Rattle.clap.specs.Walk.{Held, Row, Rule, Step, Text, Waiting, Walk, arg_by_index, arg_by_long, attached_value, is_pending, reacted, settled, subcommand_met, takes_several, takes_values, walk, walk_from, walked, with_default, next, trailing, subcommand, value}
 use Rattle.clap.specs.Simple.{App, Shape, built}
 use Rattle.clap.specs.Kinds.{Kinds, check_kinds, or_else, range_kinds, value_kinds, values_kinds}
-use Rattle.clap.specs.Faults.{count_fault, set_fault, action_fault, use_fault, settle_fault, react_fault, option_fault}
-use Rattle.clap.specs.Faults.{long_fault, short_fault, bundle_step_fault, flags_fault, bundle_fault, flag_word_fault}
-use Rattle.clap.specs.Faults.{other_fault, word_fault, positional_fault, stray_fault, step_fault, turn_fault}
-use Rattle.clap.specs.Faults.{walk_fault, default_fault, defaults_fault, level_fault, fault_of}
+use Rattle.clap.specs.Faults.{count_fault, set_fault, action_fault, use_fault, settle_fault, react_fault, option_fault, long_fault, short_fault, bundle_step_fault, flags_fault, bundle_fault, flag_word_fault, other_fault, word_fault, positional_fault, stray_fault, step_fault, turn_fault, walk_fault, default_fault, defaults_fault, level_fault, fault_of}
 use Rattle.clap.specs.declared.builder.action.ArgAction.{ArgAction}
 use Rattle.clap.specs.declared.builder.value_parser.ValueParser.{ValueParser}
 use Rattle.clap.specs.declared.error.kind.ErrorKind.TheVariants as kind

@@ -1,10 +1,5 @@
 -- The plan is what the parser finds in the words, or its refusal.
-use Rattle.mairix_options.proofs.Words.{◌≡◌, ◌⊎◌, true, List, [], Result, Ok, Err, IfOk, IfSome, refl, sym, subst, ap}
-use Rattle.mairix_options.proofs.Words.{arith, FailsBy, Text, HasMatchesOf, fault_of, matches_of, is_simple}
-use Rattle.mairix_options.proofs.Words.{is_simple_and_free, rows_of, found_of, kind_of, Error, ErrorKind, ArgMatches}
-use Rattle.mairix_options.proofs.Words.{if_some_map, Gives, ◌>>=◌, command, parse, parse_by, plan, plan_of_rows}
-use Rattle.mairix_options.proofs.Words.{plan_in, one_format, refusal_of_kind, kind_refusal, error_refusal}
-use Rattle.mairix_options.proofs.Words.{fault_of_kind, refusal, Plan, UsageFault, OrMemory}
+use Rattle.mairix_options.proofs.Words.{◌≡◌, ◌⊎◌, true, List, [], Result, Ok, Err, IfOk, IfSome, refl, sym, subst, ap, arith, FailsBy, Text, HasMatchesOf, fault_of, matches_of, is_simple, is_simple_and_free, rows_of, found_of, kind_of, Error, ErrorKind, ArgMatches, if_some_map, Gives, ◌>>=◌, command, parse, parse_by, plan, plan_of_rows, plan_in, one_format, refusal_of_kind, kind_refusal, error_refusal, fault_of_kind, refusal, Plan, UsageFault, OrMemory}
 use Rattle.clap.specs.Words.{Kinds, IsAmong, Row, built}
 use Rattle.clap.specs.declared.error.kind.ErrorKind.TheVariants as kind
 use Rattle.mairix_options.proofs.OneKind.{One, one_fault}

@@ -1,7 +1,5 @@
 -- A text that can name a file in an rcfile can name an archive in an index.
-use Rattle.mairix_options.proofs.Words.{◌≡◌, ◌≢◌, ℕ, ◌==◌, true, false, ◌||◌, List, [], ◌∷◌, refl, arith}
-use Rattle.mairix_options.proofs.Words.{AllByRecursion, list_any, IsUtf8, and_parts, or_parts, not-true, nat_tests}
-use Rattle.mairix_options.proofs.Words.{IsPath, is_path}
+use Rattle.mairix_options.proofs.Words.{◌≡◌, ◌≢◌, ℕ, ◌==◌, true, false, ◌||◌, List, [], ◌∷◌, refl, arith, AllByRecursion, list_any, IsUtf8, and_parts, or_parts, not-true, nat_tests, IsPath, is_path}
 
 all-clear : (text : List ℕ) → list_any (λ b. b == 10 || b == 0) text ≡ false
     → AllByRecursion (λ b. (b ≢ 0x0A) × (b ≢ 0)) text

@@ -1,25 +1,5 @@
 -- All paths that an accepted rcfile names can be paths in an index, line by line and then under the base that counts.
-use Rattle.mairix_options.proofs.Words.{◌≡◌, ℕ, zero, suc, ◌+◌, ◌-◌, ◌<◌, ◌==◌, Bool, true, false, not, nat_eq, nat_lt}
-use Rattle.mairix_options.proofs.Words.{◌||◌, ◌&&◌, if◌then◌else◌, lit<, List, [], ◌∷◌, ◌++◌, length, map, drop, get_or}
-use Rattle.mairix_options.proofs.Words.{codes, Option, None, Some, unwrap_or, Result, Ok, Err, IfOk, IfSome, refl, sym}
-use Rattle.mairix_options.proofs.Words.{ap, ◌∙◌, subst, arith, ⊎_elim, All, list_all, filter_map, cons_option, last_or}
-use Rattle.mairix_options.proofs.Words.{slice_index, starts_with, prefix_len, suffix_len, position_or_len, before_first}
-use Rattle.mairix_options.proofs.Words.{after_first, slice_split, option_and_then, IsUtf8, is_utf8, cases_lt, and_parts}
-use Rattle.mairix_options.proofs.Words.{or_parts, not-false, nat_tests, drop_all, length-drop, All-nil, All-cons}
-use Rattle.mairix_options.proofs.Words.{All-head, All-tail, All-append, All-filter, passes_at_first, IsUtf8-nil}
-use Rattle.mairix_options.proofs.Words.{IsUtf8-append, IsUtf8-take, IsUtf8-drop, IsUtf8-from_is_utf8, IsUtf8-from_ascii}
-use Rattle.mairix_options.proofs.Words.{IsCharBoundary-before_ascii, IsCharBoundary-after_ascii, Gives, ◌>>=◌, IsPath}
-use Rattle.mairix_options.proofs.Words.{is_blank, text_without_blanks, is_path, under, archive_path, mfolder_path}
-use Rattle.mairix_options.proofs.Words.{keyword_of}
-use Rattle.mairix_options.proofs.Words.{archives_of, names_in_value, paths_in, format_of, setting_of, supported_setting}
-use Rattle.mairix_options.proofs.Words.{assignment}
-use Rattle.mairix_options.proofs.Words.{entry, is_skipped, text_settings, line_settings, base_in, archives_in}
-use Rattle.mairix_options.proofs.Words.{database_in, mfolder_in, format_in, last_value_of, lines_in, settings_from}
-use Rattle.mairix_options.proofs.Words.{archives_misfit, mfolder_misfit, earlier, first_misfit, all_fit, required_value}
-use Rattle.mairix_options.proofs.Words.{paths_if_any, all_paths, rc_fitting, rc_with, rc_from, rc_of, refusal}
-use Rattle.mairix_options.proofs.Words.{ArchivesLine}
-use Rattle.mairix_options.proofs.Words.{MailFormat, MfolderLine, OrMemory, Rc, RcFault, BadLine, NotSupported}
-use Rattle.mairix_options.proofs.Words.{BadFormat, Setting, Base, Archives, Database, Mfolder, Format}
+use Rattle.mairix_options.proofs.Words.{◌≡◌, ℕ, zero, suc, ◌+◌, ◌-◌, ◌<◌, ◌==◌, Bool, true, false, not, nat_eq, nat_lt, ◌||◌, ◌&&◌, if◌then◌else◌, lit<, List, [], ◌∷◌, ◌++◌, length, map, drop, get_or, codes, Option, None, Some, unwrap_or, Result, Ok, Err, IfOk, IfSome, refl, sym, ap, ◌∙◌, subst, arith, ⊎_elim, All, list_all, filter_map, cons_option, last_or, slice_index, starts_with, prefix_len, suffix_len, position_or_len, before_first, after_first, slice_split, option_and_then, IsUtf8, is_utf8, cases_lt, and_parts, or_parts, not-false, nat_tests, drop_all, length-drop, All-nil, All-cons, All-head, All-tail, All-append, All-filter, passes_at_first, IsUtf8-nil, IsUtf8-append, IsUtf8-take, IsUtf8-drop, IsUtf8-from_is_utf8, IsUtf8-from_ascii, IsCharBoundary-before_ascii, IsCharBoundary-after_ascii, Gives, ◌>>=◌, IsPath, is_blank, text_without_blanks, is_path, under, archive_path, mfolder_path, keyword_of, archives_of, names_in_value, paths_in, format_of, setting_of, supported_setting, assignment, entry, is_skipped, text_settings, line_settings, base_in, archives_in, database_in, mfolder_in, format_in, last_value_of, lines_in, settings_from, archives_misfit, mfolder_misfit, earlier, first_misfit, all_fit, required_value, paths_if_any, all_paths, rc_fitting, rc_with, rc_from, rc_of, refusal, ArchivesLine, MailFormat, MfolderLine, OrMemory, Rc, RcFault, BadLine, NotSupported, BadFormat, Setting, Base, Archives, Database, Mfolder, Format}
 use Rattle.std.specs.List.{slice_get}
 use Rattle.std.proofs.lemmas.List.Splits.{slice_split_first}
 use Rattle.mail_dates.proofs.Cuts.{split_none}

@@ -1,6 +1,5 @@
 -- Rows of command lines, each with its plan or its refusal.
-use Rattle.mairix_options.proofs.Words.{◌≡◌, ℕ, ◌==◌, codes, refl, List, [], ◌∷◌, map, true, false, None, Some, Ok, Err}
-use Rattle.mairix_options.proofs.Words.{slice_split, parse, plan, Plan, UsageFault}
+use Rattle.mairix_options.proofs.Words.{◌≡◌, ℕ, ◌==◌, codes, refl, List, [], ◌∷◌, map, true, false, None, Some, Ok, Err, slice_split, parse, plan, Plan, UsageFault}
 use Rattle.clap.proofs.OnLiterals.{clap_on_literals}
 use Rattle.mairix_options.specs.declared.command_line.UsageFault.TheVariants.{Parse, TwoFormats, Help, Version}
 

@@ -1,8 +1,5 @@
 -- Rows of rcfiles, each with what it says or its fault.
-use Rattle.mairix_options.proofs.Words.{◌≡◌, ℕ, codes, refl, List, [], ◌∷◌, ◌++◌, None, Some, Ok, Err, replicate, true}
-use Rattle.mairix_options.proofs.Words.{false, map, chars, text_without_blanks, is_path, rc_of, RcFault, BadLine}
-use Rattle.mairix_options.proofs.Words.{NotSupported}
-use Rattle.mairix_options.proofs.Words.{Wildcard, Expansion, Missing, BadFormat, Rc}
+use Rattle.mairix_options.proofs.Words.{◌≡◌, ℕ, codes, refl, List, [], ◌∷◌, ◌++◌, None, Some, Ok, Err, replicate, true, false, map, chars, text_without_blanks, is_path, rc_of, RcFault, BadLine, NotSupported, Wildcard, Expansion, Missing, BadFormat, Rc}
 use Rattle.bstr.proofs.Computing.{computing}
 use Rattle.std.specs.Char.{encode_utf8}
 use Rattle.mairix_options.specs.declared.rcfile.Name.TheVariants as name

@@ -1,9 +1,5 @@
 -- What the result of a search for bytes says of the whole text.
-use Rattle.mairix_options.proofs.Words.{◌≡◌, ◌↔◌, ℕ, Bool, true, List, [], ◌∷◌, ◌++◌, map, ◌&&◌, ◌||◌, ◌≤◌, length}
-use Rattle.mairix_options.proofs.Words.{take, drop, codes, nat_eq, Option, refl, sym, ap, ◌∙◌, arith, is_some, ⊎_elim}
-use Rattle.mairix_options.proofs.Words.{list_any, list_all, starts_with, HasSubslice, or_cases, or_right}
-use Rattle.mairix_options.proofs.Words.{false_from_ne_true, false≢true, Decides-eqb, same_from_decides, take_all}
-use Rattle.mairix_options.proofs.Words.{has_three_dots}
+use Rattle.mairix_options.proofs.Words.{◌≡◌, ◌↔◌, ℕ, Bool, true, List, [], ◌∷◌, ◌++◌, map, ◌&&◌, ◌||◌, ◌≤◌, length, take, drop, codes, nat_eq, Option, refl, sym, ap, ◌∙◌, arith, is_some, ⊎_elim, list_any, list_all, starts_with, HasSubslice, or_cases, or_right, false_from_ne_true, false≢true, Decides-eqb, same_from_decides, take_all, has_three_dots}
 use Rattle.std.proofs.lemmas.List.Folds.{list_any_none, list_any_at}
 use Rattle.std.proofs.lemmas.Grind.{get_or_default_zero}
 use Rattle.std.proofs.lemmas.Slice.Eq.{starts_is}

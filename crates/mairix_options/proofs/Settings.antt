@@ -1,8 +1,5 @@
 -- One more setting changes what its option says, and no other option.
-use Rattle.mairix_options.proofs.Words.{◌≡◌, ℕ, List, [], ◌∷◌, ◌++◌, Option, Some, None, refl, ap, ◌∙◌, arith}
-use Rattle.mairix_options.proofs.Words.{filter_map, last_or, filter_map-append, base_in, archives_in, database_in}
-use Rattle.mairix_options.proofs.Words.{mfolder_in, format_in, last_value_of, ArchivesLine, MailFormat, MfolderLine}
-use Rattle.mairix_options.proofs.Words.{Setting}
+use Rattle.mairix_options.proofs.Words.{◌≡◌, ℕ, List, [], ◌∷◌, ◌++◌, Option, Some, None, refl, ap, ◌∙◌, arith, filter_map, last_or, filter_map-append, base_in, archives_in, database_in, mfolder_in, format_in, last_value_of, ArchivesLine, MailFormat, MfolderLine, Setting}
 
 last_or-append : {X : Type 0} (o : Option X) (xs ys : List X) → last_or o (xs ++ ys) ≡ last_or (last_or o xs) ys
 last_or-append o [] ys = refl

@@ -1,10 +1,5 @@
 -- Cutting the blanks off the ends of a text leaves a text, because the cuts are at boundaries of characters.
-use Rattle.mairix_options.proofs.Words.{◌≡◌, ℕ, ◌-◌, ◌<◌, ◌≤◌, true, List, length, take, drop, reverse, get_or, ap, ◌∙◌}
-use Rattle.mairix_options.proofs.Words.{subst, arith, ⊎_elim, prefix_len, suffix_len, IsUtf8, IsCharBoundary, cases_lt}
-use Rattle.mairix_options.proofs.Words.{nat_tests, get_or-reverse, prefix_len_passes, prefix_len-le-length}
-use Rattle.mairix_options.proofs.Words.{suffix_len-le-length, IsCharBoundary-start, IsCharBoundary-end}
-use Rattle.mairix_options.proofs.Words.{IsCharBoundary-after_ascii, IsCharBoundary-before_ascii, is_blank}
-use Rattle.mairix_options.proofs.Words.{text_without_blanks}
+use Rattle.mairix_options.proofs.Words.{◌≡◌, ℕ, ◌-◌, ◌<◌, ◌≤◌, true, List, length, take, drop, reverse, get_or, ap, ◌∙◌, subst, arith, ⊎_elim, prefix_len, suffix_len, IsUtf8, IsCharBoundary, cases_lt, nat_tests, get_or-reverse, prefix_len_passes, prefix_len-le-length, suffix_len-le-length, IsCharBoundary-start, IsCharBoundary-end, IsCharBoundary-after_ascii, IsCharBoundary-before_ascii, is_blank, text_without_blanks}
 
 pub trimmed-parts : (text rest kept : List ℕ) (front end : ℕ) → front ≡ prefix_len is_blank text → rest
     ≡ drop front text

@@ -9,14 +9,14 @@ use Rattle.named_files.specs.declared.refusal.Refusal.TheVariants.{Refused}
 abbrev pub AreAllTaken : Option (List ℕ) → List ℕ → Type 0
 AreAllTaken taken bytes = IfSome taken (λ all. bytes ≡ all)
 
--- While a file is made for a name, under a passing name, a crash leaves under each name that is apart from both what it
--- might have left before. Under the name itself, if it is apart from the passing name, it leaves that or the whole new
--- file.
+-- While a file is made for a name, under a temporary name, a crash leaves under each name that is apart from both what
+-- it might have left before. Under the name itself, if it is apart from the temporary name, it leaves that or the whole
+-- new file.
 abbrev pub Replaces : (List ℕ → List ℕ → Bool) → (List ℕ → Entry → Type 0) → List ℕ → List ℕ → Option (List ℕ) → List ℕ
     → Entry → Type 0
-Replaces apart may_leave passing name taken n c =
-    ((apart n passing && apart n name) ≡ true → may_leave n c)
-    × (n ≡ name → apart name passing ≡ true → may_leave name c ⊎ IsFileOf (AreAllTaken taken) c)
+Replaces apart may_leave temporary name taken n c =
+    ((apart n temporary && apart n name) ≡ true → may_leave n c)
+    × (n ≡ name → apart name temporary ≡ true → may_leave name c ⊎ IsFileOf (AreAllTaken taken) c)
 
 -- The calls by which a file takes its name. It is on the disk when it is renamed, and then its name is brought to the
 -- disk. A file is removed if it couldn't be brought to the disk, which is never for lack of memory, or if it couldn't

@@ -1,15 +1,18 @@
 //! Files by their names.
-ghost use Rattle.std.specs.Prelude.{◌≡◌, ◌≢◌, ◌⊎◌, ◌<◌, ◌≤◌, ◌&&◌, ℕ, Bool, true, false, List, [], Option, None, Some, is_some, is_ok, IfOk, IfErr, IfSome, IsSome, OnOk, OnErr};
+ghost use Rattle.std.specs.Prelude.{◌≡◌, ◌≢◌, ◌⊎◌, ◌<◌, ◌≤◌, ◌-◌, ◌^◌, ◌&&◌, ◌∷◌, ℕ, Bool, true, false, List, [], Option, None, Some, is_some, is_ok, IfOk, IfErr, IfSome, IsSome, OnOk, OnErr};
 ghost use Rattle.std.specs.Result.{MatchResult};
+ghost use Rattle.contract_words.specs.Devices.{Counts};
 ghost use Rattle.named_files.specs.Entries.{Entry, Nothing, IsFileOf, bytes_of, Leads};
 ghost use Rattle.named_files.specs.OtherNames.{LeavesAlone};
 ghost use Rattle.named_files.specs.Reported.{AddsReport, look_agrees, apart_agrees, leftover_agrees, creation_agrees};
 ghost use Rattle.named_files.specs.Refusals.{HasCause};
 
+use crate::file_name::FileName;
 use crate::kept_file::KeptFile;
 use crate::look::Look;
 use crate::new_file::NewFile;
 use crate::refusal::Refusal;
+use mbox_cutter::DeviceFault;
 use std::alloc::{AllocError, Global};
 
 /// Files by their names. Those that are read borrow it; at most one at a time is made.
@@ -34,8 +37,17 @@ pub trait Folder {
     /// What was reported of these files.
     type Reports: Drop;
 
+    /// The name of a file. Only `name` makes one.
+    type Name: FileName;
+
+    /// The names that were made. A record of them can't be made or dropped here.
+    type Names;
+
     /// Whether all of it agrees with what is so, or is supposed to be so.
     ghost agree: { Self.Reports → Bool };
+
+    /// The names that were made, the newest first; each with whether all that had been reported by then agreed.
+    ghost made: { Self.Names → List (List ℕ × Bool) };
 
     /// What each name leads to.
     ghost holds: { Self → List ℕ → Entry };
@@ -85,8 +97,7 @@ pub trait Folder {
     /// it was done, the folder after it.
     ghost renames: { Self → List ℕ → Bool → Bool → Self → Type 0 };
 
-    /// What a call of `sync_folder` makes of it: the folder before it, the name, whether it was done, the folder after
-    /// it.
+    /// What a call of `sync_name` makes of it: the folder before it, the name, whether it was done, the folder after it.
     ghost syncs: { Self → List ℕ → Bool → Self → Type 0 };
 
     /// What a call of `discard` makes of it.
@@ -104,30 +115,43 @@ pub trait Folder {
     fn add_reports(&self, reports: &mut Self::Reports, more: Self::Reports)
         ensures { agree reports.new ≡ (agree reports.old && agree more) };
 
+    /// Makes a name of a text, and notes that.
+    fn name(
+        &self,
+        alloc: Global,
+        names: &mut Self::Names,
+        reports: &Self::Reports,
+        text: &str,
+    ) -> Result<Self::Name, AllocError>
+        ensures text { IfOk result (λ name. Self.Name.text name ≡ text.now) }
+        ensures noted { made names.new ≡ (text.now, agree reports.now) ∷ made names.old };
+
     /// Opens a file, which is read from its front.
-    fn open(&self, alloc: Global, name: &str) -> Result<Self::File, Refusal>
+    fn open(&self, alloc: Global, name: &Self::Name) -> Result<Self::File, Refusal>
         ensures rest { IfOk result (λ file.
-            Self.File.rest file ≡ bytes_of (holds self.now name.now)) }
+            Self.File.rest file ≡ bytes_of (holds self.now (Self.Name.text name.now))) }
         ensures bytes { IfOk result (λ file.
-            Self.File.bytes file ≡ bytes_of (holds self.now name.now)) }
-        ensures whole { IfOk result (λ file. IfSome (bytes_of (holds self.now name.now))
+            Self.File.bytes file ≡ bytes_of (holds self.now (Self.Name.text name.now))) }
+        ensures whole { IfOk result (λ file. IfSome
+            (bytes_of (holds self.now (Self.Name.text name.now)))
             (Self.File.whole file)) }
         ensures fresh { IfOk result (λ file. Self.File.failures file ≡ 0) }
         ensures refused { IfErr result (λ why. HasCause why
-            ((bytes_of (holds self.now name.now) ≡ None) ⊎ can_refuse)) };
+            ((bytes_of (holds self.now (Self.Name.text name.now)) ≡ None) ⊎ can_refuse)) };
 
     /// Opens a plain file, as `open` does. Anything else may be refused before it is opened, because a pipe isn't open
     /// before something writes to it.
-    fn open_plain(&self, alloc: Global, name: &str) -> Result<Self::File, Refusal>
+    fn open_plain(&self, alloc: Global, name: &Self::Name) -> Result<Self::File, Refusal>
         ensures rest { IfOk result (λ file.
-            Self.File.rest file ≡ bytes_of (holds self.now name.now)) }
+            Self.File.rest file ≡ bytes_of (holds self.now (Self.Name.text name.now))) }
         ensures bytes { IfOk result (λ file.
-            Self.File.bytes file ≡ bytes_of (holds self.now name.now)) }
-        ensures whole { IfOk result (λ file. IfSome (bytes_of (holds self.now name.now))
+            Self.File.bytes file ≡ bytes_of (holds self.now (Self.Name.text name.now))) }
+        ensures whole { IfOk result (λ file. IfSome
+            (bytes_of (holds self.now (Self.Name.text name.now)))
             (Self.File.whole file)) }
         ensures fresh { IfOk result (λ file. Self.File.failures file ≡ 0) }
         ensures refused { IfErr result (λ why. HasCause why
-            ((bytes_of (holds self.now name.now) ≡ None) ⊎ can_refuse)) }
+            ((bytes_of (holds self.now (Self.Name.text name.now)) ≡ None) ⊎ can_refuse)) }
     {
         self.open(alloc, name)
     }
@@ -138,8 +162,14 @@ pub trait Folder {
             && is_some (Self.File.rest file) && is_some (Self.File.bytes file)) };
 
     /// Looks at what a name leads to: its kind, and the length of a plain file.
-    fn look(&self, alloc: Global, reports: &mut Self::Reports, name: &str) -> Result<Look, Refusal>
-        ensures noted { AddsReport reports_are_right (look_agrees result (holds self.now name.now))
+    fn look(
+        &self,
+        alloc: Global,
+        reports: &mut Self::Reports,
+        name: &Self::Name,
+    ) -> Result<Look, Refusal>
+        ensures noted { AddsReport reports_are_right
+            (look_agrees result (holds self.now (Self.Name.text name.now)))
             (agree reports.old) (agree reports.new) }
         ensures refused { IfErr result (λ why. HasCause why can_refuse) };
 
@@ -149,11 +179,12 @@ pub trait Folder {
         &self,
         alloc: Global,
         reports: &mut Self::Reports,
-        name: &str,
-        other: &str,
+        name: &Self::Name,
+        other: &Self::Name,
     ) -> Result<bool, AllocError>
         ensures noted { AddsReport reports_are_right
-            (apart_agrees result (apart self.now name.now other.now))
+            (apart_agrees result (apart self.now (Self.Name.text name.now)
+            (Self.Name.text other.now)))
             (agree reports.old) (agree reports.new) };
 
     /// Finds what a killed run left under a name, and locks it. Returns None if nothing has the name, and is refused if
@@ -162,15 +193,17 @@ pub trait Folder {
         &self,
         alloc: Global,
         reports: &mut Self::Reports,
-        name: &str,
+        name: &Self::Name,
     ) -> Result<Option<Self::Left>, Refusal>
         ensures left { IfOk result (λ found. IfSome found (λ left.
-            (name_left left ≡ name.now) × (is_leftover self.now name.now ≡ true))) }
+            (name_left left ≡ (Self.Name.text name.now))
+            × (is_leftover self.now (Self.Name.text name.now) ≡ true))) }
         ensures noted { AddsReport reports_are_right
-            (leftover_agrees result (holds self.now name.now))
+            (leftover_agrees result (holds self.now (Self.Name.text name.now)))
             (agree reports.old) (agree reports.new) }
         ensures refused { IfErr result (λ why. HasCause why
-            (((holds self.now name.now ≢ Nothing) × (is_leftover self.now name.now ≡ false))
+            (((holds self.now (Self.Name.text name.now) ≢ Nothing)
+            × (is_leftover self.now (Self.Name.text name.now) ≡ false))
             ⊎ can_refuse)) };
 
     /// Removes what a killed run left.
@@ -190,22 +223,29 @@ pub trait Folder {
         &mut self,
         alloc: Global,
         reports: &mut Self::Reports,
-        name: &str,
+        name: &Self::Name,
     ) -> Result<Self::New, Refusal>
         requires { making self.old ≡ None }
         ensures noted { AddsReport reports_are_right
-            (creation_agrees (is_ok result) (holds self.old name.now))
+            (creation_agrees (is_ok result) (holds self.old (Self.Name.text name.now)))
             (agree reports.old) (agree reports.new) }
         ensures empty { IfOk result (λ new. (Self.New.taken new ≡ Some [])
             × (Self.New.failures new ≡ 0)) }
-        ensures making { MatchResult result (λ _. making self.new ≡ Some name.now)
+        ensures making { MatchResult result (λ _. making self.new ≡ Some (Self.Name.text name.now))
             (λ _. making self.new ≡ None) }
         ensures others { LeavesAlone apart holds may_leave moment left_since
-            (λ n. apart self.old n name.now) self.old self.new }
+            (λ n. apart self.old n (Self.Name.text name.now)) self.old self.new }
         ensures stays { OnErr result ((n : List ℕ) → holds self.new n ≡ holds self.old n) }
         ensures refused { IfErr result (λ why. HasCause why
-            ((holds self.old name.now ≢ Nothing) ⊎ can_refuse)) }
-        ensures call { creates self.old name.now (is_ok result) self.new };
+            ((holds self.old (Self.Name.text name.now) ≢ Nothing) ⊎ can_refuse)) }
+        ensures call { creates self.old (Self.Name.text name.now) (is_ok result) self.new };
+
+    /// Brings all that the file that is made took to the disk, with the rights that it is to have under a name.
+    fn sync_new(&self, new: &mut Self::New, name: &Self::Name) -> Result<(), DeviceFault>
+        requires { Self.New.failures new.old < 2 ^ 64 - 1 }
+        ensures taken { Self.New.taken new.new ≡ Self.New.taken new.old }
+        ensures kept { OnOk result (Self.New.is_kept new.new ≡ true) }
+        ensures count { Counts result (Self.New.failures new.old) (Self.New.failures new.new) };
 
     /// Gives the file that is made another name, in place of what had it. If that fails, nothing changes, and the file
     /// is given back.
@@ -213,42 +253,47 @@ pub trait Folder {
         &mut self,
         alloc: Global,
         new: Self::New,
-        name: &str,
+        name: &Self::Name,
     ) -> Result<(), (Refusal, Self::New)>
         requires { IsSome (making self.old) }
-        ensures named { OnOk result (Leads (holds self.new name.now) (Self.New.taken new)
-            × (Self.New.is_kept new ≡ true → is_on_disk self.new name.now ≡ true)) }
+        ensures named { OnOk result (Leads (holds self.new (Self.Name.text name.now))
+            (Self.New.taken new)
+            × (Self.New.is_kept new ≡ true
+            → is_on_disk self.new (Self.Name.text name.now) ≡ true)) }
         ensures none { OnOk result (making self.new ≡ None) }
-        ensures others { IfSome (making self.old) (λ passing.
+        ensures others { IfSome (making self.old) (λ temporary.
             LeavesAlone apart holds may_leave moment left_since
-            (λ n. apart self.old n passing && apart self.old n name.now) self.old self.new) }
+            (λ n. apart self.old n temporary && apart self.old n (Self.Name.text name.now)) self.old
+            self.new) }
         ensures stays { OnErr result (((n : List ℕ) → holds self.new n ≡ holds self.old n)
             × (making self.new ≡ making self.old)) }
         ensures back { IfErr result (λ e. e.1 ≡ new) }
-        ensures crash_named { (c : Entry) → may_leave self.new name.now c
-            → may_leave self.old name.now c
+        ensures crash_named { (c : Entry) → may_leave self.new (Self.Name.text name.now) c
+            → may_leave self.old (Self.Name.text name.now) c
             ⊎ IsFileOf (Self.New.may_hold new) c }
         ensures refused { IfErr result (λ e. HasCause e.0 can_refuse) }
-        ensures call { renames self.old name.now (Self.New.is_kept new) (is_ok result) self.new };
+        ensures call { renames self.old (Self.Name.text name.now) (Self.New.is_kept new)
+            (is_ok result) self.new };
 
     /// Brings a name to the disk. After that a crash leaves what it leads to now, and nothing older, if the bytes of
-    /// that are on the disk.
-    fn sync_folder(&mut self, alloc: Global, name: &str) -> Result<(), Refusal>
-        ensures kept { OnOk result (is_on_disk self.old name.now ≡ true
-            → (c : Entry) → may_leave self.new name.now c → c ≡ holds self.old name.now) }
+    /// that are on the disk. It may be refused if the name leads to another file than the one that got it last.
+    fn sync_name(&mut self, alloc: Global, name: &Self::Name) -> Result<(), Refusal>
+        ensures kept { OnOk result (is_on_disk self.old (Self.Name.text name.now) ≡ true
+            → (c : Entry) → may_leave self.new (Self.Name.text name.now) c → c
+            ≡ holds self.old (Self.Name.text name.now)) }
         ensures others { LeavesAlone apart holds may_leave moment left_since (λ _. true) self.old
             self.new }
         ensures stays { (n : List ℕ) → holds self.new n ≡ holds self.old n }
         ensures making { making self.new ≡ making self.old }
         ensures refused { IfErr result (λ why. HasCause why (can_refuse ⊎ writes_can_fail)) }
-        ensures call { syncs self.old name.now (is_ok result) self.new };
+        ensures call { syncs self.old (Self.Name.text name.now) (is_ok result) self.new };
 
     /// Removes the file that is made, if the system does that.
     fn discard(&mut self, new: Self::New)
         requires { IsSome (making self.old) }
         ensures none { making self.new ≡ None }
-        ensures others { IfSome (making self.old) (λ passing.
-            LeavesAlone apart holds may_leave moment left_since (λ n. apart self.old n passing)
+        ensures others { IfSome (making self.old) (λ temporary.
+            LeavesAlone apart holds may_leave moment left_since (λ n. apart self.old n temporary)
             self.old self.new) }
         ensures call { discards self.old self.new };
 

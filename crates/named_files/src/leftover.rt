@@ -19,24 +19,26 @@ pub fn clear_leftover<F: Folder>(
     folder: &mut F,
     alloc: Global,
     reports: &mut F::Reports,
-    name: &str,
+    name: &F::Name,
 ) -> Result<(), Refusal>
     ensures free { OnOk result (F.agree reports.new ≡ true
-        → F.holds folder.new name.now ≡ Nothing) }
+        → F.holds folder.new (F.Name.text name.now) ≡ Nothing) }
     ensures reports { AddsReports F.reports_are_right (F.agree reports.old) (F.agree reports.new) }
     // What is removed was left by a killed run.
-    ensures only_leftover { F.is_leftover folder.old name.now ≡ false → folder.new ≡ folder.old }
+    ensures only_leftover { F.is_leftover folder.old (F.Name.text name.now) ≡ false → folder.new
+        ≡ folder.old }
     // A crash at any moment of the call leaves under each other name what it might have left before.
     ensures others { LeavesAloneThroughout F.apart F.holds F.may_leave F.moment F.left_since
-        (λ n. F.apart folder.old n name.now) folder.old folder.new }
+        (λ n. F.apart folder.old n (F.Name.text name.now)) folder.old folder.new }
     ensures stays { OnErr result ((n : List ℕ) → F.holds folder.new n ≡ F.holds folder.old n) }
     ensures making { F.making folder.new ≡ F.making folder.old }
     // One call removes it, and no other call changes anything.
     ensures calls { (folder.new ≡ folder.old)
-        ⊎ F.removes folder.old name.now (is_ok result) folder.new }
+        ⊎ F.removes folder.old (F.Name.text name.now) (is_ok result) folder.new }
     // It doesn't give up by itself.
     ensures refused { IfErr result (λ why. HasCause why
-        (((F.holds folder.old name.now ≢ Nothing) × (F.is_leftover folder.old name.now ≡ false))
+        (((F.holds folder.old (F.Name.text name.now) ≢ Nothing)
+        × (F.is_leftover folder.old (F.Name.text name.now) ≡ false))
         ⊎ F.can_refuse)) }
 {
     match folder.find_leftover(alloc, reports, name)? {

@@ -13,13 +13,17 @@ pub mod memory_file;
 pub mod memory_new;
 mod step;
 
+use crate::file_name::FileName;
 use crate::folder::Folder;
 use crate::look::Look;
+use crate::made_names::MadeNames;
 use crate::memory_folder::item::Item;
 use crate::memory_folder::memory_file::MemoryFile;
 use crate::memory_folder::memory_new::MemoryNew;
 use crate::memory_folder::step::{Found, Step};
+use crate::plain_name::PlainName;
 use crate::refusal::Refusal;
+use mbox_cutter::DeviceFault;
 use std::alloc::{AllocError, Global};
 
 /// A folder in memory. A crash undoes some of its newest changes, up to the last one that brought the name to the disk.
@@ -170,7 +174,13 @@ impl Folder for MemoryFolder {
 
     type Reports = MemoryReports;
 
+    type Name = PlainName;
+
+    type Names = MadeNames;
+
     ghost agree = { λ _. true };
+
+    ghost made = { λ names. names.notes.made };
 
     ghost holds = { λ m n. (held_in m n).entry };
 
@@ -225,8 +235,19 @@ impl Folder for MemoryFolder {
 
     fn add_reports(&self, _reports: &mut MemoryReports, _more: MemoryReports) {}
 
-    fn open(&self, alloc: Global, name: &str) -> Result<MemoryFile, Refusal> {
-        let Some(bytes) = self.bytes(name) else {
+    fn name(
+        &self,
+        alloc: Global,
+        names: &mut MadeNames,
+        reports: &MemoryReports,
+        text: &str,
+    ) -> Result<PlainName, AllocError> {
+        names.note(text.as_bytes(), reports);
+        PlainName::new(alloc, text)
+    }
+
+    fn open(&self, alloc: Global, name: &PlainName) -> Result<MemoryFile, Refusal> {
+        let Some(bytes) = self.bytes(name.as_str()) else {
             return Err(Refusal::Refused);
         };
         match bytes.to_vec(alloc) {
@@ -241,9 +262,9 @@ impl Folder for MemoryFolder {
         &self,
         _alloc: Global,
         _reports: &mut MemoryReports,
-        name: &str,
+        name: &PlainName,
     ) -> Result<Look, Refusal> {
-        let Some(found) = self.found(name) else {
+        let Some(found) = self.found(name.as_str()) else {
             return Ok(Look::Nothing);
         };
         match &found.item {
@@ -258,24 +279,24 @@ impl Folder for MemoryFolder {
         &self,
         _alloc: Global,
         _reports: &mut MemoryReports,
-        name: &str,
-        other: &str,
+        name: &PlainName,
+        other: &PlainName,
     ) -> Result<bool, AllocError> {
-        Ok(name != other)
+        Ok(name.as_str() != other.as_str())
     }
 
     fn find_leftover(
         &self,
         alloc: Global,
         _reports: &mut MemoryReports,
-        name: &str,
+        name: &PlainName,
     ) -> Result<Option<MemoryLeft>, Refusal> {
-        match self.found(name) {
+        match self.found(name.as_str()) {
             Some(found) if !matches!(found.item, Item::Nothing) => {
                 if !found.is_left {
                     return Err(Refusal::Refused);
                 }
-                match String::from_str(alloc, name) {
+                match String::from_str(alloc, name.as_str()) {
                     Ok(name) => Ok(Some(MemoryLeft { name })),
                     Err(AllocError) => Err(Refusal::Memory),
                 }
@@ -300,12 +321,12 @@ impl Folder for MemoryFolder {
         &mut self,
         alloc: Global,
         _reports: &mut MemoryReports,
-        name: &str,
+        name: &PlainName,
     ) -> Result<MemoryNew, Refusal> {
-        if !self.is_free(name) {
+        if !self.is_free(name.as_str()) {
             return Err(Refusal::Refused);
         }
-        match String::from_str(alloc, name) {
+        match String::from_str(alloc, name.as_str()) {
             Ok(name) => {
                 self.making = Some(name);
                 Ok(MemoryNew::new(alloc))
@@ -314,13 +335,18 @@ impl Folder for MemoryFolder {
         }
     }
 
+    fn sync_new(&self, new: &mut MemoryNew, _name: &PlainName) -> Result<(), DeviceFault> {
+        new.is_kept = true;
+        Ok(())
+    }
+
     fn rename(
         &mut self,
         alloc: Global,
         new: MemoryNew,
-        name: &str,
+        name: &PlainName,
     ) -> Result<(), (Refusal, MemoryNew)> {
-        let Ok(name) = String::from_str(alloc, name) else {
+        let Ok(name) = String::from_str(alloc, name.as_str()) else {
             return Err((Refusal::Memory, new));
         };
         if self.steps.reserve(1).is_err() {
@@ -331,8 +357,8 @@ impl Folder for MemoryFolder {
         Ok(())
     }
 
-    fn sync_folder(&mut self, alloc: Global, name: &str) -> Result<(), Refusal> {
-        let Ok(name) = String::from_str(alloc, name) else {
+    fn sync_name(&mut self, alloc: Global, name: &PlainName) -> Result<(), Refusal> {
+        let Ok(name) = String::from_str(alloc, name.as_str()) else {
             return Err(Refusal::Memory);
         };
         match self.add(Step::Synced(name)) {

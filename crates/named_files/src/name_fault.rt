@@ -6,7 +6,7 @@ use thiserror::Error;
 /// Why a file didn't take its name for good.
 #[derive(Clone, Copy, Debug, Error)]
 pub enum NameFault {
-    /// The file doesn't have the name, and was removed. A name that is apart from the passing name leads to what it led to
+    /// The file doesn't have the name, and was removed. A name that is apart from the temporary name leads to what it led to
     /// before.
     #[error("the file was not made: {0}")]
     NotNamed(Refusal),

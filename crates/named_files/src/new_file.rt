@@ -1,8 +1,7 @@
 //! A file that is made.
-ghost use Rattle.std.specs.Prelude.{◌≡◌, ◌<◌, ◌-◌, ◌^◌, ℕ, Bool, true, List, OnOk, IfSome};
-ghost use Rattle.contract_words.specs.Devices.{Counts};
+ghost use Rattle.std.specs.Prelude.{◌≡◌, ℕ, Bool, true, List, IfSome};
 
-use mbox_cutter::{DeviceFault, Out};
+use mbox_cutter::Out;
 
 /// A file that is being made. What is put into it goes after what it has.
 pub trait NewFile: Out {
@@ -11,13 +10,6 @@ pub trait NewFile: Out {
 
     /// What a crash may leave of its bytes.
     ghost may_hold: { Self → List ℕ → Type 0 };
-
-    /// Brings all that it took to the disk.
-    fn sync(&mut self) -> Result<(), DeviceFault>
-        requires { Self.failures self.old < 2 ^ 64 - 1 }
-        ensures taken { Self.taken self.new ≡ Self.taken self.old }
-        ensures kept { OnOk result (is_kept self.new ≡ true) }
-        ensures count { Counts result (Self.failures self.old) (Self.failures self.new) };
 
     /// A crash leaves all that it took, if that is on the disk.
     ghost kept_whole: { (new : Self) (c : List ℕ) → is_kept new ≡ true → may_hold new c

@@ -8,9 +8,6 @@ use std::alloc::{AllocError, Global};
 use std::error::Error;
 use std::fmt;
 
-/// The text before the path of a file that can't be opened, read or made.
-pub const CANNOT_OPEN: &str = "cannot open";
-
 /// The text for lack of memory, in every layer.
 pub const OUT_OF_MEMORY: &str = "out of memory";
 

@@ -4,5 +4,5 @@
 mod explanation;
 mod fault;
 
-pub use explanation::{CANNOT_OPEN, OUT_OF_MEMORY, fault_text};
+pub use explanation::{OUT_OF_MEMORY, fault_text};
 pub use fault::{DONE, FAILED, Fault, NO_MESSAGE, NO_ROOM, REFUSED, WRONG_INDEX};

@@ -71,9 +71,4 @@ impl NewFile for MemoryNew {
     ghost may_hold = { λ new c. new.is_kept ≡ true → c ≡ new.bytes.items };
 
     ghost kept_whole = { λ _ _ kept may. may kept };
-
-    fn sync(&mut self) -> Result<(), DeviceFault> {
-        self.is_kept = true;
-        Ok(())
-    }
 }

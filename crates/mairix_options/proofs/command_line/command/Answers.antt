@@ -1,6 +1,5 @@
 -- `command` has the rules of all arguments, because adding the next argument leaves the rows after it.
-use Rattle.mairix_options.proofs.Words.{◌≡◌, ◌<◌, ◌+◌, ◌∙◌, ◌∷◌, ℕ, suc, List, refl, ap, length, map, drop, get_or}
-use Rattle.mairix_options.proofs.Words.{false, app_of, with_rule, command}
+use Rattle.mairix_options.proofs.Words.{◌≡◌, ◌<◌, ◌+◌, ◌∙◌, ◌∷◌, ℕ, suc, List, refl, ap, length, map, drop, get_or, false, app_of, with_rule, command}
 use Rattle.std.specs.Prelude.{fold}
 use Rattle.std.proofs.Common.{add-one, drop-cons}
 use Rattle.clap.specs.Words.{AddsArg, rule_of}

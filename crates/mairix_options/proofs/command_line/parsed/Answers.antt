@@ -1,7 +1,6 @@
 -- `parsed` gives what the definition does for the words, because its command is that of the definition, which clap
 -- follows.
-use Rattle.mairix_options.proofs.Words.{◌≡◌, subst, map, string_bytes, List, IfOk, true, Text, FailsBy, HasMatchesOf}
-use Rattle.mairix_options.proofs.Words.{fault_of, is_simple_and_free}
+use Rattle.mairix_options.proofs.Words.{◌≡◌, subst, map, string_bytes, List, IfOk, true, Text, FailsBy, HasMatchesOf, fault_of, is_simple_and_free}
 use Rattle.clap.specs.Words.{App}
 use Rattle.mairix_options.proofs.Parses.{Gives-parsed, free}
 use Rattle.mairix_options.proofs.command_line.parsed.Goals as goal

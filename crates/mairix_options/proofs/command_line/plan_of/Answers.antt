@@ -1,6 +1,5 @@
 -- `plan_of` returns the plan or the refusal that the definition gives, by the two results of the parser.
-use Rattle.mairix_options.proofs.Words.{◌∙◌, ap, subst, map, string_bytes, Result, kind_of, Error, ArgMatches, Gives}
-use Rattle.mairix_options.proofs.Words.{parse, plan_in, error_refusal}
+use Rattle.mairix_options.proofs.Words.{◌∙◌, ap, subst, map, string_bytes, Result, kind_of, Error, ArgMatches, Gives, parse, plan_in, error_refusal}
 use Rattle.mairix_options.proofs.Parses.{Gives-planned, Gives-refused}
 use Rattle.mairix_options.proofs.command_line.plan_of.Goals as goal
 

@@ -1,7 +1,6 @@
 -- `archives_of` returns the names that aren't empty, because at its end the loop was given all pieces between the
 -- colons.
-use Rattle.mairix_options.proofs.Words.{◌∙◌, ap, filter, length, nat_lt, lit<, split_text, split_has_more}
-use Rattle.mairix_options.proofs.Words.{split_pattern}
+use Rattle.mairix_options.proofs.Words.{◌∙◌, ap, filter, length, nat_lt, lit<, split_text, split_has_more, split_pattern}
 use Rattle.std.proofs.lemmas.Iterator.Consumers.{YieldsList-end}
 use Rattle.std.proofs.lemmas.Iterator.Splits.{YieldsList-from_str_split}
 use Rattle.mairix_options.proofs.setting.archives_of.Goals as goal

@@ -1,6 +1,5 @@
 -- `entry` reads a line as the definition does, by its three cases: it isn't UTF-8, it has an `=`, or it has none.
-use Rattle.mairix_options.proofs.Words.{◌==◌, ◌∙◌, sym, ap, subst, lit<, Result, Some, None, before_first, after_first}
-use Rattle.mairix_options.proofs.Words.{split_once_first, Gives, text_without_blanks, refusal, RcFault, Setting}
+use Rattle.mairix_options.proofs.Words.{◌==◌, ◌∙◌, sym, ap, subst, lit<, Result, Some, None, before_first, after_first, split_once_first, Gives, text_without_blanks, refusal, RcFault, Setting}
 use Rattle.mairix_options.proofs.Entries.{entry-not_utf8, entry-assigned, entry-no_value}
 use Rattle.mairix_options.proofs.setting.entry.Goals as goal
 

@@ -1,6 +1,5 @@
 -- No row so far has this name, so the keyword is that of the first row left that has it.
-use Rattle.mairix_options.proofs.Words.{◌≡◌, ℕ, List, [], ◌∷◌, drop, if◌then◌else◌, Option, None, Some, bytes_eq}
-use Rattle.mairix_options.proofs.Words.{keyword_of}
+use Rattle.mairix_options.proofs.Words.{◌≡◌, ℕ, List, [], ◌∷◌, drop, if◌then◌else◌, Option, None, Some, bytes_eq, keyword_of}
 use Rattle.std.specs.Borrow.{Bor}
 use Rattle.mairix_options.specs.declared.setting.Keyword.{Keyword}
 use Rattle.mairix_options.proofs.setting.Keyword.of.Given as goal

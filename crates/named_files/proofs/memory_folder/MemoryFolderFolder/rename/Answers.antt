@@ -5,8 +5,7 @@ use Rattle.std.specs.Str.{bytes_eq}
 use Rattle.std.specs.String.{string_bytes}
 use Rattle.named_files.specs.Logs.{Held, Named}
 use Rattle.named_files.specs.MemoryFolders.{changes_of, nothing_first}
-use Rattle.named_files.proofs.Logs.{file_of, if_any, is_named, left_of_new, no_more_others, same_others, second}
-use Rattle.named_files.proofs.Logs.{time_goes_on}
+use Rattle.named_files.proofs.Logs.{file_of, if_any, is_named, left_of_new, no_more_others, same_others, second, time_goes_on}
 use Rattle.named_files.proofs.memory_folder.MemoryFolderFolder.rename.Goals as goal
 
 -- what the name leads to after the rename
@@ -16,30 +15,31 @@ taken c = file_of c.args.new.bytes.items c.args.new.is_kept false
 abbrev IsNewest : goal.Joined-self → Type 0
 IsNewest c =
     changes_of c.add_reserved.new.self.steps.items
-    ≡ Named c.args.name.now (taken c) ∷ changes_of c.args.self.now.steps.items
+    ≡ Named (string_bytes c.args.name.now.text) (taken c) ∷ changes_of c.args.self.now.steps.items
 
 newest : (c : goal.Joined-self) → IsNewest c
 newest c =
     c.add_reserved.ensures.changes
-    ∙ ap₂ (λ m (h : Held). Named m h ∷ changes_of c.reserve.new.self.items) c.in-Ok.ensures.ok c.into_found.ensures
-    ∙ ap (λ steps. Named c.args.name.now (taken c) ∷ changes_of steps) c.reserve.ensures.items
+    ∙ ap₂ (λ m (h : Held). Named m h ∷ changes_of c.reserve.new.self.items) (c.in-Ok.ensures.ok ∙ c.as_str.ensures)
+    c.into_found.ensures
+    ∙ ap (λ steps. Named (string_bytes c.args.name.now.text) (taken c) ∷ changes_of steps) c.reserve.ensures.items
 
 pub returns-clause-named : goal.returns-clause-named
 returns-clause-named c =
     let is = is_named nothing_first (changes_of c.args.self.now.steps.items)
-    (changes_of c.add_reserved.new.self.steps.items) c.args.name.now (taken c) (newest c) in
+    (changes_of c.add_reserved.new.self.steps.items) (string_bytes c.args.name.now.text) (taken c) (newest c) in
     (ap (λ (h : Held). h.entry) is, λ kept. ap (λ (h : Held). h.is_on_disk) is ∙ kept)
 
 pub returns-clause-others : goal.returns-clause-others
 returns-clause-others c =
     let old = changes_of c.args.self.now.steps.items in
     let new = changes_of c.add_reserved.new.self.steps.items in
-    let name = c.args.name.now in
-    if_any (option_map string_bytes c.args.self.now.making) (λ passing. record {
+    let name = string_bytes c.args.name.now.text in
+    if_any (option_map string_bytes c.args.self.now.making) (λ temporary. record {
       others = λ n both. same_others nothing_first old new name (taken c) (newest c) n
-          (second (not (bytes_eq n passing)) (not (bytes_eq n name)) both);
+          (second (not (bytes_eq n temporary)) (not (bytes_eq n name)) both);
       crash = λ n e both. no_more_others nothing_first old new name (taken c) (newest c) n e
-          (second (not (bytes_eq n passing)) (not (bytes_eq n name)) both);
+          (second (not (bytes_eq n temporary)) (not (bytes_eq n name)) both);
       still_apart = λ a b. refl;
       time = time_goes_on nothing_first old new (Named name (taken c)) (newest c);
     })
@@ -47,4 +47,4 @@ returns-clause-others c =
 pub returns-clause-crash_named : goal.returns-clause-crash_named
 returns-clause-crash_named c =
     left_of_new nothing_first (changes_of c.args.self.now.steps.items) (changes_of c.add_reserved.new.self.steps.items)
-    c.args.name.now c.args.new.bytes.items c.args.new.is_kept false (newest c)
+    (string_bytes c.args.name.now.text) c.args.new.bytes.items c.args.new.is_kept false (newest c)
