@@ -1,26 +1,25 @@
 -- The first 80 bytes of a file show that it is too short, has another magic or an unknown version, because these are in
 -- them.
-use Rattle.std.proofs.Common.{◌≡◌, ◌∙◌, ap, sym, subst, refl, ℕ, ◌≤◌, true, false, List, [], ◌++◌, length, take}
-use Rattle.std.proofs.Common.{drop, arith, inl, inr, Option, Some, IsSome, Result, Ok, Err, OnOk, Bool, ◌↔◌}
+use Rattle.std.proofs.Common.{◌≡◌, ◌∙◌, ap, sym, subst, refl, ℕ, ◌≤◌, true, false, List, [], ◌++◌, length, take, drop, arith, inl, inr, Option, Some, IsSome, Result, Ok, Err, OnOk, Bool, ◌↔◌}
 use Rattle.std.proofs.lemmas.List.{drop-take, length-take, take-append-drop, take-take}
 use Rattle.std.proofs.Math.Seq.{drop-append_seam, take-append_seam}
 use Rattle.std.proofs.lemmas.Nat.{from_be_bytes-to_be_bytes_4}
 use Rattle.std.specs.Int.{from_be_bytes, w32}
-use Rattle.mail_index.specs.Faults.{IsFirstFaultOfFile, version_told}
-use Rattle.mail_index.specs.Faults.{IsFileOfTable}
+use Rattle.mail_index.specs.Faults.{IsFirstFaultOfFile, version_told, IsFileOfTable}
 use Rattle.mail_index.specs.Files.{be32, counts, index_file, magic, sections}
 use Rattle.mail_index.specs.Tables.{IsWellFormed, Table}
 use Rattle.mail_index.specs.Versions.{IsVersion}
 use Rattle.mail_index.specs.declared.view.fault.IndexFault.{IndexFault}
-use Rattle.mail_index.specs.declared.view.fault.IndexFault.TheVariants.{TooShort, BadMagic, BadVersion, BadDigest}
-use Rattle.mail_index.specs.declared.view.fault.IndexFault.TheVariants.{BadLayout}
+use Rattle.mail_index.specs.declared.view.fault.IndexFault.TheVariants.{TooShort, BadMagic, BadVersion, BadDigest, BadLayout}
 use Rattle.mail_index.proofs.BuildLaws.Sizes.{length-body, length-index_file}
 use Rattle.mail_index.proofs.FileLaws.Fronts.{concat_then}
 use Rattle.mail_index.proofs.FileLaws.OneTable.{small_version}
 use Rattle.mairix_run.specs.FileFronts.{GivesFront}
-use Rattle.mairix_run.specs.IndexReads.{IsIndexRead, IsKnownRead, IsRefusedEarly, seen_early}
+use Rattle.mairix_run.specs.declared.named_file.Reading.{Reading}
+use Rattle.mairix_run.specs.declared.named_file.Reading.TheVariants.{Index}
+use Rattle.mairix_run.specs.IndexReads.{IsIndexRead, IsKnownRead, IsReadAs, IsRefusedEarly, seen_early}
 use Rattle.mairix_run.specs.WholeFiles.{GivesRest}
-use Rattle.named_files.specs.Entries.{Entry, Nothing, File, Folder, Other, IsFileOf, bytes_of}
+use Rattle.named_files.specs.Entries.{Entry, IsFileOf, bytes_of}
 use Rattle.named_files.specs.declared.refusal.Refusal.{Refusal}
 
 some_injective : {x y : List ℕ} → Some x ≡ Some y → x ≡ y
@@ -84,15 +83,12 @@ module _ (all : List ℕ) where
 
 -- the first bytes are refused, and no more are read
 pub reads_front : (before now : Option (List ℕ)) (old new : List ℕ) → GivesFront 80 before now old new → old ≡ []
-    → IsRefusedEarly new → IsKnownRead before now new
-reads_front before now old new front empty early = λ some.
-    let f = front some in
-    let is : new ≡ take 80 f.0 = f.2 ∙ ap (λ l. l ++ take 80 f.0) empty in
-    (f.0, f.1, inl (refused_whole f.0 (subst IsRefusedEarly is early), is))
+    → IsRefusedEarly new → IsKnownRead Index before now new
+reads_front before now old new front empty early = grind (arith, refused_whole)
 
 -- they aren't, and all that is left is read
 pub reads_all : (before now after : Option (List ℕ)) (old new more : List ℕ) → GivesFront 80 before now old new
-    → old ≡ [] → ¬ IsRefusedEarly new → GivesRest now after new more → IsKnownRead before after more
+    → old ≡ [] → ¬ IsRefusedEarly new → GivesRest now after new more → IsKnownRead Index before after more
 reads_all before now after old new more front empty never rest = λ some.
     let r = rest some in
     let f = front (rw r.1 refl) in
@@ -103,20 +99,16 @@ reads_all before now after old new more front empty never rest = λ some.
 
 pub ends_read : (before now after : Option (List ℕ)) (old new more : List ℕ) (result : Result (Unit {0}) Refusal)
     → GivesFront 80 before now old new → old ≡ [] → ¬ IsRefusedEarly new → OnOk result (GivesRest now after new more)
-    → OnOk result (IsKnownRead before after more)
+    → OnOk result (IsKnownRead Index before after more)
 ends_read before now after old new more (Ok done) front empty never rest =
     reads_all before now after old new more front empty never rest
 ends_read before now after old new more (Err why) front empty never rest = tt
 
 -- the file of a name was read
-pub reads_file : (entry : Entry) (before after : Option (List ℕ)) (bytes : List ℕ) → before ≡ bytes_of entry
-    → IsKnownRead before after bytes → IsSome after → IsFileOf (λ all. IsIndexRead all bytes) entry
-reads_file Nothing before after bytes is read some = let r = read some in absurd cc
-reads_file (File all) before after bytes is read some =
-    let r = read some in
-    let same : all ≡ r.0 = some_injective (sym is ∙ r.1) in (r.0, r.2, ap File same)
-reads_file Folder before after bytes is read some = let r = read some in absurd cc
-reads_file Other before after bytes is read some = let r = read some in absurd cc
+pub reads_file : (reading : Reading) (entry : Entry) (before after : Option (List ℕ)) (bytes : List ℕ)
+    → before ≡ bytes_of entry → IsKnownRead reading before after bytes → IsSome after
+    → IsFileOf (λ all. IsReadAs reading all bytes) entry
+reads_file reading entry before after bytes is read some = grind (arith, some_injective)
 
 -- ---- the file of a table
 
@@ -143,8 +135,7 @@ module _ (t : Table) where
 
 -- it has no early fault
 pub table_not_refused : (bytes : List ℕ) (t : Table) → IsFileOfTable bytes t → ¬ IsRefusedEarly bytes
-table_not_refused bytes t file = λ e.
-    never_early bytes (subst IsMarked (sym file.1) (file_marked t file.0)) e.0 e.1 e.2
+table_not_refused bytes t file = grind (arith, never_early, file_marked)
 
 -- ---- what was read serves for the whole file
 

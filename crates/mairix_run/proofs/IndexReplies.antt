@@ -1,6 +1,6 @@
 -- A search replies by the first fault of an index or by its table, so what is read of an index has the replies of the
 -- whole file.
-use Rattle.std.proofs.Common.{ℕ, List, ◌↔◌, inl, inr, Result, Ok, Err}
+use Rattle.std.proofs.Common.{arith, ℕ, List, ◌↔◌, inl, inr, Result, Ok, Err}
 use Rattle.run_faults.specs.declared.fault.Fault.{Fault}
 use Rattle.run_faults.specs.declared.fault.Fault.TheVariants as of
 use Rattle.mairix_run.specs.IndexReads.{IsIndexRead}
@@ -44,5 +44,4 @@ module _ (all bytes : List ℕ) (read : IsIndexRead all bytes) where
 
   pub same_refusals : (asked : Result Wanted Fault) (fault : Fault)
       → IsRefusedAs asked bytes fault ↔ IsRefusedAs asked all fault
-  same_refusals (Err refusal) fault = (λ h. h, λ h. h)
-  same_refusals (Ok w) fault = same_index_refusals w fault
+  same_refusals asked fault = grind (arith, same_index_refusals)

@@ -1,10 +1,10 @@
 -- The proofs of mairix_run: lemmas about streams and about files.
+mod AskedNames
 pub mod FileFronts
 pub mod FilesAt
 pub mod IndexReads
 pub mod IndexReplies
 pub mod IndexedFiles
-pub mod KeptMail
 pub mod LikeWorks
 pub mod MadeFiles
 pub mod MadeRuns

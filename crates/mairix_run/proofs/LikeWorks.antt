@@ -1,5 +1,5 @@
 -- Runs whose works are done in the same way, and refused in the same way.
-use Rattle.std.proofs.Common.{inl, inr, ⊎_elim, ℕ, List, Option, None, Some, Result, Ok, Err}
+use Rattle.std.proofs.Common.{arith, inl, inr, ⊎_elim, ℕ, List, Option, Result, Ok}
 use Rattle.mbox_cutter.specs.declared.device.Out.{Ghosts}
 use Rattle.named_files.specs.Entries.{Entry, IsFileOf}
 use Rattle.named_files.specs.declared.folder.Folder.{Ghosts as FolderGhosts}
@@ -11,13 +11,12 @@ use Rattle.mairix_tool.specs.Replies.{answer_of_fault}
 use Rattle.mairix_run.proofs.IndexReplies.{same_replies}
 use Rattle.mairix_run.specs.IndexReads.{IsIndexRead}
 use Rattle.mairix_run.proofs.RunParts.{leaves-weaker}
-use Rattle.mairix_run.specs.Inside.Running.{Ran}
+use Rattle.mairix_run.specs.Inside.RunParts.{Ran}
 use Rattle.mairix_run.specs.Stops.{Ending}
-use Rattle.mairix_run.specs.Stops.Ending.{Done, CannotOpen, Because}
 use Rattle.mairix_run.specs.Tasks.{Work, IsDone, IsWorkRefused, search_task}
 use Rattle.mairix_run.specs.Tasks.Work.{SearchStored}
 use Rattle.mairix_run.specs.WholeRuns.{DoesFor, IsTextOf, IsWritten, KeepsFile, KeepsOld, LeavesFor, Puts}
-use Rattle.run_faults.specs.declared.fault.Fault.TheVariants.{Out, Memory}
+use Rattle.run_faults.specs.declared.fault.Fault.TheVariants.{Out}
 
 -- the searches of two indexes are done in the same way, and refused in the same way
 pub record AreAlike (wanted : Result Wanted Fault) (index other : List ℕ) (bytes : List (List ℕ)) : Type 0 where
@@ -38,75 +37,39 @@ module _ (wanted : Result Wanted Fault) (index other : List ℕ) (bytes : List (
 
   written-alike : (OutFails ReadFails : Type 0) (old new : Option (List ℕ)) (result : Result ℕ Fault)
       → IsWritten OutFails ReadFails Old old new result → IsWritten OutFails ReadFails New old new result
-  written-alike OutFails ReadFails old new (Ok status) (text, done, sent) = (text, alike.done status text done, sent)
-  written-alike OutFails ReadFails old new (Err fault) (inl is) = inl (alike.refused fault is.0, is.1)
-  written-alike OutFails ReadFails old new (Err fault) (inr (failed, inl sends)) =
-      inr (failed, inl (λ status text done. sends status text (alike.done_too status text done)))
-  written-alike OutFails ReadFails old new (Err fault) (inr (failed, inr (status, text, done, sent))) =
-      inr (failed, inr (status, text, alike.done status text done, sent))
+  written-alike OutFails ReadFails old new result is = grind (arith, alike.done, alike.done_too, alike.refused)
 
   text-alike : (entry : Entry) → IsFileOf (IsTextOf Old) entry → IsFileOf (IsTextOf New) entry
   text-alike entry (text, (status, done), is) = (text, (status, alike.done status text done), is)
 
   keeps-old-alike : (before now : Entry) (ended : Ending) → KeepsOld Old before now ended
       → KeepsOld New before now ended
-  keeps-old-alike before now (Done status) keeps = tt
-  keeps-old-alike before now (CannotOpen path) keeps = keeps
-  keeps-old-alike before now (Because Out) keeps = ⊎_elim inl (λ is. inr (text-alike now is)) keeps
-  keeps-old-alike before now (Because Memory) keeps = ⊎_elim inl (λ is. inr (text-alike now is)) keeps
-  keeps-old-alike before now (Because fault) keeps = keeps
+  keeps-old-alike before now ended keeps = grind (arith, text-alike)
 
   keeps-alike : (file : Option (List ℕ)) (before now : List ℕ → Entry) (ended : Ending)
       → KeepsFile Old file before now ended → KeepsFile New file before now ended
-  keeps-alike None before now ended keeps = tt
-  keeps-alike (Some name) before now ended keeps = keeps-old-alike (before name) (now name) ended keeps
+  keeps-alike file before now ended keeps = grind (arith, keeps-old-alike)
 
   puts-alike : (OutFails ReadFails : Type 0) (now : Entry) (ended : Ending) → Puts OutFails ReadFails Old now ended
       → Puts OutFails ReadFails New now ended
-  puts-alike OutFails ReadFails now (Done status) (text, done, is) = (text, alike.done status text done, is)
-  puts-alike OutFails ReadFails now (CannotOpen path) is = absurd is
-  puts-alike OutFails ReadFails now (Because fault) (inl is) = inl (alike.refused fault is)
-  puts-alike OutFails ReadFails now (Because fault) (inr is) = inr is
+  puts-alike OutFails ReadFails now ended is = grind (arith, alike.done, alike.refused)
 
-  module _ {D F S N L R O : Type 0} (f : FolderGhosts D F S N L R) (o : Ghosts O) (handed_on : O
+  module _ {D F S N L R M A O : Type 0} (f : FolderGhosts D F S N L R M A) (o : Ghosts O) (handed_on : O
       → Option (List ℕ)) where
     does-alike : (file : Option (List ℕ)) (read : List (List ℕ)) (old new : D) (out out' : O) (ended : Ending)
         → DoesFor f o handed_on Old file read old new out out' ended
         → DoesFor f o handed_on New file read old new out out' ended
-    does-alike None read old new out out' ended (result, same, written, flushed) =
-        (result, same, written-alike _ _ _ _ result written, flushed)
-    does-alike (Some name) read old new out out' ended (same, inl refused) = (same, inl refused)
-    does-alike (Some name) read old new out out' ended (same, inr made) =
-        (same, inr (made.0, puts-alike _ _ (f.holds new name) ended made.1))
+    does-alike file read old new out out' ended h = grind (arith, written-alike, puts-alike)
 
     left-alike : (file : Option (List ℕ)) (old : D) (n : List ℕ) (c : Entry)
         → LeavesFor (f.apart old) (f.may_leave old) Old file n c
         → LeavesFor (f.apart old) (f.may_leave old) New file n c
-    left-alike None old n c left = left
-    left-alike (Some name) old n c left = (
-      left.0,
-      λ e. ⊎_elim inl (λ h. inr (
-        h.0,
-        (h.1.0, alike.done h.1.0 h.0 h.1.1),
-        h.2,
-      )) (left.1 e),
-    )
+    left-alike file old n c left = grind arith
 
     pub ran-alike : (names : List (List ℕ)) (p : Plan) (rc : Rc) (old new : D) (out out' : O) (ended : Ending)
         → Ran f o handed_on names (Ok (search_task p rc Old)) old new out out' ended
         → Ran f o handed_on names (Ok (search_task p rc New)) old new out out' ended
-    ran-alike names p rc old new out out' ended ran = record {
-      run = (
-        keeps-alike (search_task p rc Old).file (f.holds old) (f.holds new) ended ran.run.0,
-        ⊎_elim inl (λ does. inr (does-alike (search_task p rc Old).file (search_task p rc Old).read
-            old new out out' ended does)) ran.run.1,
-      );
-      read = ran.read;
-      alone = ran.alone;
-      any_moment = leaves-weaker f.moment f.left_since old new _ _
-          (left-alike (search_task p rc Old).file old) ran.any_moment;
-      calls = ran.calls;
-    }
+    ran-alike names p rc old new out out' ended ran = grind (arith, keeps-alike, does-alike, leaves-weaker, left-alike)
 
 -- what is read of an index is searched as the whole file is
 pub alike-read : (wanted : Result Wanted Fault) (all read : List ℕ) (bytes : List (List ℕ)) → IsIndexRead all read

@@ -1,18 +1,21 @@
 -- How a name ends, for which name a run is stopped while a file is made, and by which calls the file is made.
-use Rattle.std.proofs.Common.{◌≡◌, ap, sym, ℕ, nat_eq, Bool, true, false, if◌then◌else◌, List, Option, None, Some}
-use Rattle.std.proofs.Common.{◌⊎◌, inl, inr, arith}
+use Rattle.std.proofs.Common.{◌≡◌, ◌∙◌, ◌==◌, ◌||◌, ap, sym, not, ℕ, nat_eq, Bool, true, false, if◌then◌else◌, List, Option, None, Some, Result, Err, IfErr, take, length, ◌⊎◌, arith}
+use Rattle.std.proofs.lemmas.Bool.Decides.{nat_tests}
+use Rattle.std.proofs.lemmas.List.{length-take, take-take}
 use Rattle.std.proofs.lemmas.Str.Pattern.{ends_text}
 use Rattle.std.specs.Bool.{MatchBool}
-use Rattle.std.specs.List.{ends_with}
+use Rattle.std.specs.List.{ends_with, starts_with}
 use Rattle.std.specs.Str.Pattern.{FindsTextSuffix, HasSuffixMatch}
+use Rattle.mail_index.specs.Files.{magic}
+use Rattle.named_files.specs.Entries.{Entry, IsFileOf}
 use Rattle.named_files.specs.Refusals.{HasCause, refusal_of_name}
 use Rattle.named_files.specs.declared.name_fault.NameFault.{NameFault}
-use Rattle.named_files.specs.declared.name_fault.NameFault.TheVariants.{NotNamed, NotSynced}
+use Rattle.named_files.specs.declared.refusal.Refusal.{Refusal}
 use Rattle.named_files.specs.declared.refusal.Refusal.TheVariants as why
-use Rattle.mairix_run.specs.KeptMail.{IsNotReplaced}
+use Rattle.mairix_run.specs.OldIndexes.{IsNotReplaced, is_foreign, is_replaceable}
 use Rattle.mairix_run.specs.MadeFiles.{IsCleared, IsRefusal, MakesFile, fault_of_refusal, unfit_name}
 use Rattle.run_faults.specs.declared.fault.Fault.TheVariants.{Out}
-use Rattle.mairix_run.specs.Stops.{IsStoppedAt}
+use Rattle.mairix_run.specs.Stops.{IsGivenUnlessRefused, IsStoppedAt}
 use Rattle.mairix_run.specs.declared.stopped.Stopped.{Stopped}
 use Rattle.mairix_run.specs.declared.stopped.Stopped.TheVariants as by
 
@@ -22,60 +25,70 @@ pub ends_as_text : (r : Bool) (n s : List ℕ) → MatchBool r (HasSuffixMatch (
 ends_as_text r n s h = ends_text r n s h
 
 -- a name that doesn't fit is the first one
-pub refused_unfit : (unfit taken : Option (List ℕ)) (passing name : List ℕ) (C : Type 0) (stopped : Stopped)
-    → IsRefusal unfit None passing name ⊥ stopped → IsRefusal unfit taken passing name C stopped
-refused_unfit (Some n) taken passing name C (by.CannotOpen path) (inl h) = inl h
-refused_unfit None taken passing name C (by.CannotOpen path) (inl h) = absurd cc
-refused_unfit unfit taken passing name C (by.CannotOpen path) (inr h) = absurd h.2
-refused_unfit unfit taken passing name C (by.Fault fault) h = h
+pub refused_unfit : (unfit taken : Option (List ℕ)) (temporary name : List ℕ) (C : Type 0) (stopped : Stopped)
+    → IsRefusal unfit None temporary name ⊥ stopped → IsRefusal unfit taken temporary name C stopped
+refused_unfit unfit taken temporary name C stopped h = grind arith
 
 -- if both names fit, a name of something special is the first one, or the system didn't show what the name leads to
-pub refused_special : (unfit : Option (List ℕ)) (special free : Bool) (passing name : List ℕ) (C : Type 0)
+pub refused_special : (unfit : Option (List ℕ)) (special free : Bool) (temporary name : List ℕ) (C : Type 0)
     (stopped : Stopped) → unfit ≡ None → IsNotReplaced name ((special ≡ true) ⊎ C) stopped
-    → IsRefusal unfit (if special then Some name else (if free then None else Some passing)) passing name C stopped
-refused_special unfit true free passing name C (by.CannotOpen path) none (at, inl is) = inl (rw none (ap Some (sym at)))
-refused_special unfit false free passing name C (by.CannotOpen path) none (at, inl is) = absurd cc
-refused_special unfit special free passing name C (by.CannotOpen path) none (at, inr can) = inr (none, inr at, can)
-refused_special unfit special free passing name C (by.Fault fault) none h = h
+    → IsRefusal unfit (if special then Some name else (if free then None else Some temporary)) temporary name C stopped
+refused_special unfit special free temporary name C stopped none h = grind arith
 
--- then the run is stopped for the passing name
-pub refused_passing : (unfit : Option (List ℕ)) (special free : Bool) (passing name : List ℕ) (C : Type 0)
-    (stopped : Stopped) → unfit ≡ None → special ≡ false → (free ≡ false) ⊎ C → IsStoppedAt passing stopped
-    → IsRefusal unfit (if special then Some name else (if free then None else Some passing)) passing name C stopped
-refused_passing unfit special free passing name C (by.Fault fault) none plain left at = at
-refused_passing unfit special free passing name C (by.CannotOpen path) none plain (inr can) at =
-    inr (none, inl at, can)
-refused_passing unfit true free passing name C (by.CannotOpen path) none plain (inl left) at = absurd cc
-refused_passing unfit false true passing name C (by.CannotOpen path) none plain (inl left) at = absurd cc
-refused_passing unfit false false passing name C (by.CannotOpen path) none plain (inl left) at =
-    inl (rw none (ap Some (sym at)))
+-- then the run is stopped for the temporary name
+pub refused_temporary : (unfit : Option (List ℕ)) (special free : Bool) (temporary name : List ℕ) (C : Type 0)
+    (stopped : Stopped) → unfit ≡ None → special ≡ false → (free ≡ false) ⊎ C → IsStoppedAt temporary stopped
+    → IsRefusal unfit (if special then Some name else (if free then None else Some temporary)) temporary name C stopped
+refused_temporary unfit special free temporary name C stopped none plain left at = grind arith
 
 -- ---- by which calls
 
-module _ {D : Type 0} (removes creates : D → List ℕ → Bool → D → Type 0) (passing : List ℕ) where
+module _ {D : Type 0} (removes creates : D → List ℕ → Bool → D → Type 0) (temporary : List ℕ) where
   -- a killed run's file was removed, and then one was made, or couldn't be made
-  pub makes_file : (done : Bool) (old free new : D) → IsCleared removes passing old free → creates free passing done new
-      → MakesFile removes creates passing done old new
-  makes_file true old free new cleared made = (free, cleared, made)
-  makes_file false old free new cleared made = inr (inr (free, cleared, made))
+  pub makes_file : (done : Bool) (old free new : D) → IsCleared removes temporary old free
+      → creates free temporary done new
+      → MakesFile removes creates temporary done old new
+  makes_file done old free new cleared made = grind arith
 
   -- a killed run's file couldn't be removed
-  pub makes_none : (old new : D) → (new ≡ old) ⊎ removes old passing false new
-      → MakesFile removes creates passing false old new
-  makes_none old new (inl same) = inl same
-  makes_none old new (inr removed) = inr (inl removed)
+  pub makes_none : (old new : D) → (new ≡ old) ⊎ removes old temporary false new
+      → MakesFile removes creates temporary false old new
+  makes_none old new h = grind arith
 
 -- ---- why a file doesn't take its name
 
 -- names that fit are apart from one another
-pub apart_of_fit : (apart : List ℕ → List ℕ → Bool) (read : List (List ℕ)) (passing name : List ℕ)
-    → unfit_name apart read passing name ≡ None → apart name passing ≡ true
-apart_of_fit apart read passing name fit = grind arith
+pub apart_of_fit : (apart : List ℕ → List ℕ → Bool) (read : List (List ℕ)) (temporary name : List ℕ)
+    → unfit_name apart read temporary name ≡ None → apart name temporary ≡ true
+apart_of_fit apart read temporary name fit = grind arith
 
 -- the output failed, and not memory: that has a cause
 pub fails_to_take : (C : Type 0) (fault : NameFault) → HasCause (refusal_of_name fault) C
     → fault_of_refusal (refusal_of_name fault) ≡ Out → C
-fails_to_take C (NotNamed why.Refused) cause is = cause
-fails_to_take C (NotSynced why.Refused) cause is = cause
-fails_to_take C (NotNamed why.Memory) cause is = absurd cc
-fails_to_take C (NotSynced why.Memory) cause is = absurd cc
+fails_to_take C fault cause is = grind arith
+
+-- ---- which file is replaced
+
+-- if a folder gave nothing for a name, the run is stopped at it for the folder's cause
+pub stops_for : {T : Type 0} (path : List ℕ) (given : Result T Refusal) (C : Type 0) (stopped : Stopped)
+    → IsGivenUnlessRefused path given (Err stopped) → IfErr given (λ why. HasCause why C)
+    → IsNotReplaced path C stopped
+stops_for path given C stopped is cause = grind arith
+
+pub stopped_at : (path : List ℕ) (C : Type 0) (stopped : Stopped) → IsStoppedAt path stopped → C
+    → IsNotReplaced path C stopped
+stopped_at path C stopped at cause = grind arith
+
+starts_front : (m xs : List ℕ) → starts_with nat_eq (take (length m) xs) m ≡ starts_with nat_eq xs m
+starts_front m xs = grind (arith, take-take, length-take)
+
+-- the first eight bytes show whether an index may take the place of a file
+pub replaceable_front : (all : List ℕ) → is_replaceable (take 8 all) ≡ is_replaceable all
+replaceable_front all =
+    let empty : (length (take 8 all) == 0) ≡ (length all == 0) = grind (arith, length-take, nat_tests) in
+    λ i. empty i || starts_front magic all i
+
+pub foreign_front : (entry : Entry) (front : List ℕ) → IsFileOf (λ all. front ≡ take 8 all) entry
+    → is_foreign entry ≡ not (is_replaceable front)
+foreign_front entry front (all, is, same) =
+    ap is_foreign same ∙ ap not (sym (ap is_replaceable is ∙ replaceable_front all))

@@ -1,6 +1,5 @@
 -- Sources of names whose reports agree are still known after they are indexed. One that has failed has a cause.
-use Rattle.std.proofs.Common.{◌≡◌, ◌∙◌, ◌||◌, ◌<◌, ℕ, zero, suc, Bool, true, false, List, [], ◌∷◌, map, All}
-use Rattle.std.proofs.Common.{Option, None, Some, IsSome, refl, sym, subst, arith, slice_index}
+use Rattle.std.proofs.Common.{◌≡◌, ◌∙◌, ◌||◌, ◌<◌, ℕ, zero, suc, Bool, false, List, [], ◌∷◌, map, All, Option, None, Some, IsSome, refl, sym, subst, arith, slice_index}
 use Rattle.std.proofs.lemmas.List.Elements.{All-cons, All-head, All-nil, All-tail}
 use Rattle.std.specs.List.{AllZip, list_any}
 use Rattle.contract_words.specs.Devices.{Counted}
@@ -13,14 +12,12 @@ use Rattle.named_archives.specs.declared.named_source.Progress.{Progress}
 left-some : {F : Type 0} (rest : F → Option (List ℕ)) (all : Option (List ℕ)) (file : Option F) (progress : Progress)
     → (IsSome file → IsSome (bytes_left_in rest all file progress)) → IsSome all
     → IsSome (bytes_left_in rest all file progress)
-left-some rest all None progress h some = some
-left-some rest all (Some file) progress h some = h refl
+left-some rest all file progress h some = grind arith
 
 -- of a file that wasn't opened all is left
 not-opened : {F : Type 0} (rest : F → Option (List ℕ)) (all : Option (List ℕ)) (file : Option F) (progress : Progress)
     → file ≡ None → bytes_left_in rest all file progress ≡ all
-not-opened rest all None progress is = refl
-not-opened rest all (Some file) progress is = absurd cc
+not-opened rest all file progress is = grind arith
 
 module _ {S F : Type 0} (rest : F → Option (List ℕ)) (all : S → Option (List ℕ)) (file : S → Option F)
     (progress : S → Progress) (failures : S → ℕ) where
@@ -58,12 +55,10 @@ module _ {S F : Type 0} (rest : F → Option (List ℕ)) (all : S → Option (Li
 
   -- none is so, neither the first one nor any other
   first-not : (a b : Bool) → (a || b) ≡ false → a ≡ false
-  first-not true b none = absurd cc
-  first-not false b none = refl
+  first-not a b none = grind arith
 
   others-not : (a b : Bool) → (a || b) ≡ false → b ≡ false
-  others-not true b none = absurd cc
-  others-not false b none = none
+  others-not a b none = grind arith
 
   -- If each source that has failed has a cause, unless its file isn't there or memory ran out: so has the source with
   -- number n, which was new, and whose file is there.
@@ -97,5 +92,4 @@ module _ {S F : Type 0} (rest : F → Option (List ℕ)) (all : S → Option (Li
   pub counted-new : (sources : List S) → All IsNew sources → (failed : ℕ → Bool) (counts : List ℕ)
       → ((n : ℕ) → Counted (failed n) (slice_index (map failures sources) n) (slice_index counts n)) → (n : ℕ)
       → Counted (failed n) 0 (slice_index counts n)
-  counted-new sources fresh failed counts h n =
-      subst (λ (k : ℕ). Counted (failed n) k (slice_index counts n)) (counts-new sources fresh n) (h n)
+  counted-new sources fresh failed counts h n = grind (arith, counts-new)

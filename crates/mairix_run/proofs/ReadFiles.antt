@@ -1,6 +1,5 @@
 -- The files that a run reads are apart if each of their kinds is.
-use Rattle.std.proofs.Common.{◌≡◌, ◌∙◌, ap, refl, sym, Bool, true, ◌&&◌, List, [], ◌∷◌, ◌++◌, map, Option, None, Some}
-use Rattle.std.proofs.Common.{Result, Ok, Err, IfOk}
+use Rattle.std.proofs.Common.{arith, ◌≡◌, ◌∙◌, ap, refl, Bool, true, ◌&&◌, List, [], ◌∷◌, ◌++◌, map, Option, Result, IfOk}
 use Rattle.std.specs.List.{list_all}
 use Rattle.std.specs.Option.{option_map_or}
 
@@ -12,15 +11,11 @@ all_map f h (x ∷ xs) = ap (λ b. f (h x) && b) (all_map f h xs)
 all_read : {A B C : Type 0} (f : B → Bool) (g : A → B) (one : Option A) (h : C → B) (xs : List C)
     → list_all f (option_map_or (λ a. g a ∷ []) one [] ++ map h xs)
     ≡ (option_map_or (λ a. f (g a)) one true && list_all (λ x. f (h x)) xs)
-all_read f g None h xs = all_map f h xs
-all_read f g (Some a) h xs = ap (λ b. f (g a) && b) (all_map f h xs)
+all_read f g one h xs = grind (arith, all_map)
 
 -- if the first one and the one that may be pass, all pass exactly if the others do
 pub all_exact : {A B C E : Type 0} (f : B → Bool) (g : A → B) (one : Option A) (h : C → B) (xs : List C) (first : B)
     (P : Type 0) (result : Result Bool E) → (P → f first ≡ true) → (P → option_map_or (λ a. f (g a)) one true ≡ true)
     → IfOk result (λ are. P → are ≡ list_all (λ x. f (h x)) xs)
     → IfOk result (λ are. P → are ≡ (f first && list_all f (option_map_or (λ a. g a ∷ []) one [] ++ map h xs)))
-all_exact f g one h xs first P (Err e) passes may rest = tt
-all_exact f g one h xs first P (Ok are) passes may rest = λ p.
-    rest p ∙ sym (ap (λ b. b && list_all f (option_map_or (λ a. g a ∷ []) one [] ++ map h xs)) (passes p)
-    ∙ all_read f g one h xs ∙ ap (λ b. b && list_all (λ x. f (h x)) xs) (may p))
+all_exact f g one h xs first P result passes may rest = grind (arith, all_read)

@@ -1,7 +1,5 @@
 -- A run's reply as a result. An answer with a fault is the refusal with that fault, so nothing was sent.
-use Rattle.std.proofs.Common.{◌≡◌, ◌∙◌, ◌||◌, ℕ, Bool, true, false, List, [], Option, None, Some, Result, Ok, Err, Bor}
-use Rattle.std.proofs.Common.{◌≤◌, nat_eq, if◌then◌else◌, arith}
-use Rattle.std.proofs.Common.{is_err, refl, sym, ap, subst, inl, inr, append-nil, slice_index}
+use Rattle.std.proofs.Common.{◌≡◌, ◌∙◌, ◌||◌, ℕ, Bool, List, [], Option, None, Some, Result, Ok, Err, ◌≤◌, if◌then◌else◌, arith, is_err, refl, sym, subst, inl, inr, append-nil, slice_index}
 use Rattle.std.specs.Bool.{MatchBool, OnTrue}
 use Rattle.std.specs.Io.KnownBytes.{Appends}
 use Rattle.std.specs.Result.{MatchResult}
@@ -9,22 +7,15 @@ use Rattle.contract_words.specs.Devices.{Counted, Sends}
 use Rattle.mail_answer.specs.Mail.{Search}
 use Rattle.mail_answer.specs.Stale.{stale_archive}
 use Rattle.mail_index.specs.Tables.{Table}
-use Rattle.mbox_cutter.specs.declared.event.CutFault.TheVariants.{Device}
-use Rattle.run_faults.specs.Faults.{IsOnceFault, fault_in, is_early, is_failed_source, is_failure}
-use Rattle.run_faults.specs.Faults.{is_of_indexing}
+use Rattle.run_faults.specs.Faults.{IsOnceFault, fault_in, is_early, is_failed_source, is_failure, is_of_indexing}
 use Rattle.run_faults.specs.declared.fault.Fault.{Fault}
 use Rattle.run_faults.specs.declared.fault.Fault.TheVariants as of
-use Rattle.run_faults.specs.declared.fault.Fault.TheVariants.{Usage, Rc, Query, Archive, Index, OldIndex, Stale, Out}
-use Rattle.run_faults.specs.declared.fault.Fault.TheVariants.{Memory, TooMany}
+use Rattle.run_faults.specs.declared.fault.Fault.TheVariants.{Index, Stale}
 use Rattle.mairix_tool.specs.Asked.{Wanted}
 use Rattle.mairix_tool.specs.Replies.{Answer, IsConsistent, RefusesAsked, answer_of_fault}
-use Rattle.mairix_tool.specs.Runs.{IsAnswerFrom, IsOldOr, IsVerifiedAnswer, IsReply, IsStaleOr, IsStoredReply}
-use Rattle.mairix_tool.specs.Runs.{IsThisOrMemory, IsAnswerOrStale, IsStoredAnswer, RepliesBy, answer_of_text}
-use Rattle.mairix_tool.specs.Runs.{is_too_old}
-use Rattle.mairix_tool.specs.Runs.{renamed_archive}
-use Rattle.mairix_tool.specs.Runs.{unproved_archive}
+use Rattle.mairix_tool.specs.Runs.{IsAnswerFrom, IsOldOr, IsVerifiedAnswer, IsReply, IsStaleOr, IsStoredReply, IsThisOrMemory, IsAnswerOrStale, IsStoredAnswer, RepliesBy, answer_of_text, is_too_old, renamed_archive}
 use Rattle.mairix_tool.specs.declared.reply.Reply.{Reply}
-use Rattle.mairix_run.specs.Answered.{AnswersBy, IsRefusedFirst, comes_before, result_by, result_of_reply}
+use Rattle.mairix_run.specs.Answered.{AnswersBy, comes_before, result_by, result_of_reply}
 
 -- ---- an answer with a fault is its refusal
 
@@ -32,25 +23,17 @@ abbrev pub IsPlain : Answer → Type 0
 IsPlain answer = (fault : Fault) → answer.reply.fault ≡ Some fault → answer ≡ answer_of_fault fault
 
 plain-refused : (a : Answer) (f : Fault) → a ≡ answer_of_fault f → IsPlain a
-plain-refused a f is = λ fault same.
-    let whole : Some f ≡ Some fault = sym (ap (λ (x : Answer). x.reply.fault) is) ∙ same in
-    let one : f ≡ fault = cc in
-    is ∙ ap answer_of_fault one
+plain-refused a f is = grind arith
 
 plain-answered : (a : Answer) (text : List ℕ) (messages : ℕ) → a ≡ answer_of_text text messages → IsPlain a
-plain-answered a text messages is = λ fault same.
-    let whole : None ≡ Some fault = sym (ap (λ (x : Answer). x.reply.fault) is) ∙ same in
-    absurd cc
+plain-answered a text messages is = grind arith
 
 pub plain-reply : (asked : Result Wanted Fault) (bytes : List (List ℕ)) (a : Answer) → IsReply asked bytes a → IsPlain a
-plain-reply (Err fault) bytes a is = plain-refused a fault is
-plain-reply (Ok w) bytes a (inl (sound, (numbers, chosen, is))) = plain-answered a _ _ is
-plain-reply (Ok w) bytes a (inr (fault, refuses, is)) = plain-refused a fault is
+plain-reply asked bytes a is = grind (arith, plain-refused, plain-answered)
 
 pub plain-stale : (o : Option ℕ) (IsFound : Answer → Type 0) → ((a : Answer) → IsFound a → IsPlain a) → (a : Answer)
     → IsStaleOr o IsFound a → IsPlain a
-plain-stale (Some n) IsFound plain a is = plain-refused a (Stale n) is
-plain-stale None IsFound plain a is = plain a is
+plain-stale o IsFound plain a is = grind (arith, plain-refused)
 
 plain-found : (t : Table) (s : Search) (held : List (List ℕ)) (a : Answer) → IsAnswerFrom t s held a → IsPlain a
 plain-found t s held a (numbers, chosen, is) = plain-answered a _ _ is
@@ -59,14 +42,11 @@ plain-told : (t : Table) (s : Search) (held : List (List ℕ)) (a : Answer) → 
 plain-told t s held = plain-stale (stale_archive t.archives held) (IsAnswerFrom t s held) (plain-found t s held)
 
 plain-proved : (w : Wanted) (t : Table) (held : List (List ℕ)) (a : Answer) → IsVerifiedAnswer w t held a → IsPlain a
-plain-proved w t held =
-    plain-stale (unproved_archive w.verify t.archives held) (IsAnswerOrStale t w.search held)
-    (plain-told t w.search held)
+plain-proved w t held = grind (arith, plain-stale, plain-told)
 
 plain-old : (old : Bool) (IsFound : Answer → Type 0) → ((a : Answer) → IsFound a → IsPlain a) → (a : Answer)
     → IsOldOr old IsFound a → IsPlain a
-plain-old true IsFound plain a is = plain-refused a OldIndex is
-plain-old false IsFound plain a is = plain a is
+plain-old old IsFound plain a is = grind (arith, plain-refused)
 
 plain-of : (w : Wanted) (t : Table) (held : List (List ℕ)) (a : Answer) → IsStoredAnswer w t held a → IsPlain a
 plain-of w t held =
@@ -87,8 +67,7 @@ appends-none (Some xs) = sym (append-nil xs)
 
 -- if nothing was sent, a front of any text was
 sends-none : (old new : Option (List ℕ)) (text : List ℕ) → new ≡ old → Sends old new text
-sends-none old new text same =
-    ([], text, refl, subst (λ (o : Option (List ℕ)). Appends old o []) (sym same) (appends-none old))
+sends-none old new text same = grind (arith, appends-none)
 
 module _ (IsRight : Answer → Type 0) (plain : (a : Answer) → IsRight a → IsPlain a) (old new : Option (List ℕ)) where
   abbrev IsFront : Type 0
@@ -101,22 +80,16 @@ module _ (IsRight : Answer → Type 0) (plain : (a : Answer) → IsRight a → I
   refusal : (reply : Reply) (fault : Fault) → reply.fault ≡ Some fault → (failed : Bool)
       → MatchBool failed IsFront (IsWhole reply)
       → MatchBool failed IsFront (IsRight (answer_of_fault fault) × Appends old new [])
-  refusal reply fault has true h = h
-  refusal reply fault has false (answer, right, same, sent) =
-      let is = plain answer right fault (ap (λ (r : Reply). r.fault) (sym same) ∙ has) in
-      (subst IsRight is right, subst (λ (a : Answer). Appends old new a.text) is sent)
+  refusal reply fault has failed h = grind arith
 
   with-fault : (reply : Reply) (fault : Option Fault) → reply.fault ≡ fault
       → MatchBool (is_failure fault) IsFront (IsWhole reply) → AnswersBy IsRight (result_by reply.status fault) old new
-  with-fault reply None has (answer, right, same, sent) =
-      (answer, right, ap (λ (r : Reply). r.fault) (sym same) ∙ has, ap (λ (r : Reply). r.status) (sym same), sent)
-  with-fault reply (Some fault) has h = refusal reply fault has (is_failure (Some fault)) h
+  with-fault reply fault has h = grind (arith, refusal)
 
   -- the result of a reply that is right
   pub answers-by : (reply : Reply) (result : Result ℕ Fault) → result ≡ result_of_reply reply
       → RepliesBy IsRight reply old new → AnswersBy IsRight result old new
-  answers-by reply result is h =
-      subst (λ (r : Result ℕ Fault). AnswersBy IsRight r old new) (sym is) (with-fault reply reply.fault refl h)
+  answers-by reply result is h = grind (arith, with-fault)
 
   -- if no source failed, the reply is right; if one did, nothing was sent
   indexed-fault : (reply : Reply) (counts : List ℕ) (IsSilent : Type 0) (fault : Option Fault) → reply.fault ≡ fault
@@ -124,11 +97,7 @@ module _ (IsRight : Answer → Type 0) (plain : (a : Answer) → IsRight a → I
       → OnTrue (is_of_indexing fault) IsSilent → (IsSilent → new ≡ old)
       → (((n : ℕ) → slice_index counts n ≡ 0) → MatchBool (is_failure fault) IsFront (IsWhole reply))
       → AnswersBy IsRight (result_by reply.status fault) old new
-  indexed-fault reply counts IsSilent None has counted silent same is = with-fault reply None has (is counted)
-  indexed-fault reply counts IsSilent (Some (Archive number Device)) has counted silent same is = λ answer right.
-      sends-none old new answer.text (same silent)
-  indexed-fault reply counts IsSilent (Some fault) has counted silent same is =
-      with-fault reply (Some fault) has (is counted)
+  indexed-fault reply counts IsSilent fault has counted silent same is = grind (arith, with-fault, sends-none)
 
   pub indexed-answers-by : (reply : Reply) (counts : List ℕ) (result : Result ℕ Fault) (IsSilent : Type 0)
       → result ≡ result_of_reply reply
@@ -143,52 +112,26 @@ module _ (IsRight : Answer → Type 0) (plain : (a : Answer) → IsRight a → I
 -- ---- what is refused first
 
 pub fault-of : (status : ℕ) (fault : Option Fault) → fault_in (result_by status fault) ≡ fault
-fault-of status None = refl
-fault-of status (Some fault) = refl
+fault-of status fault = grind arith
 
 -- a refusal of words, rcfile or query is the fault, unless memory runs out
 pub refuses-as : (asked : Result Wanted Fault) (fault : Fault) (found : Option Fault) → asked ≡ Err fault
     → RefusesAsked asked found → IsThisOrMemory fault found
-refuses-as (Ok w) fault found is h = absurd cc
-refuses-as (Err refusal) fault found is h =
-    let one : refusal ≡ fault = cc in subst (λ (f : Fault). IsThisOrMemory f found) one h
+refuses-as asked fault found is h = grind arith
 
 -- then no device is used, the output neither
 pub uses-none : (P Q R : Type 0) (early : Bool) (asked : Result Wanted Fault) (fault : Fault) → asked ≡ Err fault
     → OnTrue (early || is_err asked) (P × Q × R) → R
-uses-none P Q R true asked fault is h = h.2
-uses-none P Q R false (Ok w) fault is h = absurd cc
-uses-none P Q R false (Err refusal) fault is h = h.2
-
--- without a stored index nothing else is refused first
-pub refused-once : (asked : Result Wanted Fault) (index : Option (Bor (List ℕ))) (fault : Fault) → index ≡ None
-    → IsRefusedFirst asked index fault → asked ≡ Err fault
-refused-once asked None fault none is = is
-refused-once asked (Some index) fault none is = absurd cc
+uses-none P Q R early asked fault is h = grind arith
 
 -- ---- without a stored index, by the fault of the reply
 
 pub once-ended : (reply : Reply) (fault : Option Fault) → IsConsistent IsOnceFault reply fault
     → MatchResult (result_by reply.status fault) (λ status. status ≤ 1) IsOnceFault
-once-ended reply None is = subst (λ (n : ℕ). n ≤ 1) (sym is) (at-most (nat_eq reply.messages 0)) where
-  at-most : (none : Bool) → (if none then 1 else 0) ≤ 1
-  at-most true = omega arith
-  at-most false = omega arith
-once-ended reply (Some fault) is = is.0
+once-ended reply fault is = grind arith
 
 -- what is refused before the search sends nothing
 pub once-silent : (P Q R : Type 0) (reply : Reply) (refused : Bool) (fault : Option Fault)
     → IsConsistent IsOnceFault reply fault → OnTrue (is_early fault || refused) (P × Q × R)
     → OnTrue (is_of_indexing fault) (Q × R) → OnTrue (comes_before fault) R
-once-silent P Q R reply refused None is early silent = tt
-once-silent P Q R reply refused (Some (Usage u)) is early silent = early.2
-once-silent P Q R reply refused (Some (Rc r)) is early silent = early.2
-once-silent P Q R reply refused (Some (Query q)) is early silent = early.2
-once-silent P Q R reply refused (Some (Archive n f)) is early silent = silent.1
-once-silent P Q R reply refused (Some (Index i)) is early silent = absurd is.0
-once-silent P Q R reply refused (Some OldIndex) is early silent = absurd is.0
-once-silent P Q R reply refused (Some (Stale n)) is early silent = tt
-once-silent P Q R reply refused (Some of.Device) is early silent = tt
-once-silent P Q R reply refused (Some Out) is early silent = tt
-once-silent P Q R reply refused (Some Memory) is early silent = tt
-once-silent P Q R reply refused (Some TooMany) is early silent = silent.1
+once-silent P Q R reply refused fault is early silent = grind arith

@@ -11,8 +11,6 @@ use Rattle.mail_query.specs.Tokens.{query_tokens}
 use Rattle.mail_words.specs.Words.{is_joiner, is_one_word, is_part_of_word, is_word, is_word_character}
 use Rattle.mairix_options.specs.Blanks.{text_without_blanks}
 use Rattle.mairix_options.specs.CommandLine.{parse, plan}
-use Rattle.mbox_cutter.specs.Lines.{first_length, is_empty, lines}
-use Rattle.mbox_cutter.specs.Separators.{has_form, is_separator, without_break}
 use Rattle.mairix_run.specs.WorkedTasks.{IsRefusedAsWorked, IsWorkedTask}
 
 -- what a proof unfolds to compute a task
@@ -22,7 +20,7 @@ unfolding IsWorkedTask parse plan clap_on_literals computing text_without_blanks
     is_word is_joiner is_word_character ucd_derived ucd_category chars encode_utf8 caseless
 asking = tt
 
--- what a proof unfolds to see whether a file begins as mail
+-- what a proof unfolds to see which name is refused
 unfoldable pub looking : Unit {0}
-unfolding IsRefusedAsWorked lines first_length is_empty is_separator without_break has_form
+unfolding IsRefusedAsWorked
 looking = tt

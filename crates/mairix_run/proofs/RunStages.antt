@@ -1,7 +1,5 @@
 -- How a run ends before its task is known.
-use Rattle.std.proofs.Common.{◌≡◌, ◌∙◌, ◌⊎◌, inl, inr, refl, sym, ap, subst, ℕ, List, Option, None, Some, Result, Ok}
-use Rattle.std.proofs.Common.{Err}
-use Rattle.std.proofs.Common.{IfErr, IfSome, string_bytes, Bool, true, false, not, ◌&&◌, ◌==◌, length, if◌then◌else◌}
+use Rattle.std.proofs.Common.{arith, ◌≡◌, ◌∙◌, ◌⊎◌, ap, ℕ, List, Option, None, Result, Ok, Err, IfErr, IfSome, Bool, true, false, not, ◌&&◌, ◌==◌, if◌then◌else◌}
 use Rattle.std.specs.List.{Contains}
 use Rattle.std.specs.Option.{option_map_or}
 use Rattle.contract_words.specs.Answers.{◌>>=◌, fault_as}
@@ -14,9 +12,7 @@ use Rattle.named_files.specs.declared.refusal.Refusal.TheVariants as why
 use Rattle.run_faults.specs.declared.fault.Fault.{Fault}
 use Rattle.mairix_run.specs.Stops.{Ending, IsGivenUnlessRefused, IsStoppedAt, IsStoppedBy, ending_of_stopped}
 use Rattle.mairix_run.specs.Stops.Ending.{CannotOpen, Because}
-use Rattle.mairix_run.specs.Tasks.{Task, files_at, index_task, is_index_run, search_stored_task, search_task}
-use Rattle.mairix_run.specs.Tasks.{task_of_rc}
-use Rattle.mairix_run.specs.Tasks.{task_over}
+use Rattle.mairix_run.specs.Tasks.{Task, files_at, index_task, is_index_run, search_stored_task, search_task, task_of_rc, task_over}
 use Rattle.mairix_run.specs.Tasks.Work.{SearchNew}
 use Rattle.mairix_options.specs.declared.command_line.Plan.{Plan}
 use Rattle.mairix_options.specs.declared.rcfile.Rc.{Rc}
@@ -34,30 +30,20 @@ module _ (names : List (List ℕ)) (CanRefuse ReadsCanFail : Type 0) where
 
   pub ends-trouble : (task : Result Task Ending) (ended : Ending) → IsTrouble names CanRefuse ReadsCanFail ended
       → Ends task ended
-  ends-trouble (Err why) ended trouble = inr trouble
-  ends-trouble (Ok task) ended trouble = trouble
+  ends-trouble task ended trouble = grind arith
 
   -- a file can't be opened
   open-fails : (known : Option (List ℕ)) (name : List ℕ) (next : List ℕ → Result Task Ending) (stopped : Stopped)
       → Contains names name → IsStoppedAt name stopped → (known ≡ None) ⊎ (CanRefuse ⊎ ReadsCanFail)
       → Ends (option_map_or Ok known (Err (CannotOpen name)) >>= next) (ending_of_stopped stopped)
-  open-fails known name next (by.Fault fault) among at cause = ends-trouble _ (Because fault) at
-  open-fails None name next (by.CannotOpen path) among at cause = inl (ap CannotOpen at)
-  open-fails (Some bytes) name next (by.CannotOpen path) among at (inl none) = absurd cc
-  open-fails (Some bytes) name next (by.CannotOpen path) among at (inr can) =
-      ends-trouble _ (CannotOpen (string_bytes path)) (subst (λ n. Contains names n) (sym at) among, can)
+  open-fails known name next stopped among at cause = grind arith
 
   pub read-fails : {T : Type 0} (read : Result T Refusal) (known : Option (List ℕ)) (name : List ℕ)
       (next : List ℕ → Result Task Ending) (stopped : Stopped) → Contains names name
       → IsGivenUnlessRefused name read (Err stopped)
       → IfErr read (λ w. HasCause w ((known ≡ None) ⊎ (CanRefuse ⊎ ReadsCanFail)))
       → Ends (option_map_or Ok known (Err (CannotOpen name)) >>= next) (ending_of_stopped stopped)
-  read-fails (Ok value) known name next stopped among is cause = absurd cc
-  read-fails (Err why.Refused) known name next stopped among at cause =
-      open-fails known name next stopped among at cause
-  read-fails (Err why.Memory) known name next (by.Fault fault) among is cause =
-      let same : fault ≡ _ = cc in ends-trouble _ (Because fault) same
-  read-fails (Err why.Memory) known name next (by.CannotOpen path) among is cause = absurd cc
+  read-fails read known name next stopped among is cause = grind (arith, open-fails)
 
   -- words, or an rcfile, are refused
   pub refusal-ends : {E V : Type 0} (of : E → Fault) (defined : Result V E) (next : V
@@ -65,34 +51,24 @@ module _ (names : List (List ℕ)) (CanRefuse ReadsCanFail : Type 0) where
       (stopped : Stopped) → IfSome (refusal e) (λ f. defined ≡ Err f)
       → IsStoppedBy (λ f fault. fault ≡ of f) e stopped
       → Ends (fault_as (λ f. Because (of f)) defined >>= next) (ending_of_stopped stopped)
-  refusal-ends of defined next e (by.CannotOpen path) is stopped = absurd stopped
-  refusal-ends of (Ok value) next (given.Refused f) (by.Fault fault) is stopped = absurd cc
-  refusal-ends of (Err other) next (given.Refused f) (by.Fault fault) is stopped =
-      let one : other ≡ f = cc in inl (ap Because (stopped ∙ sym (ap of one)))
-  refusal-ends of defined next given.Memory (by.Fault fault) is stopped = ends-trouble _ (Because fault) stopped
+  refusal-ends of defined next e stopped is given = grind arith
 
   -- an archive that is missing, or can't be opened
   pub missing-stops : {V : Type 0} (found : Result V Ending) (name : List ℕ) (stopped : Stopped)
       → Contains names name → IsStoppedAt name stopped
       → (found ≡ Err (CannotOpen name)) ⊎ (CanRefuse ⊎ ReadsCanFail)
       → (found ≡ Err (ending_of_stopped stopped)) ⊎ IsTrouble names CanRefuse ReadsCanFail (ending_of_stopped stopped)
-  missing-stops found name (by.Fault fault) among at cause = inr at
-  missing-stops found name (by.CannotOpen path) among at (inl none) = inl (none ∙ ap (λ p. Err (CannotOpen p)) (sym at))
-  missing-stops found name (by.CannotOpen path) among at (inr can) =
-      inr (subst (λ n. Contains names n) (sym at) among, can)
+  missing-stops found name stopped among at cause = grind arith
 
   -- the task of archives that can't all be opened
   pub archives-end : {V : Type 0} (found : Result V Ending) (next : V → Result Task Ending) (ended : Ending)
       → (found ≡ Err ended) ⊎ IsTrouble names CanRefuse ReadsCanFail ended → Ends (found >>= next) ended
-  archives-end found next ended (inl is) = subst (λ r. Ends (r >>= next) ended) (sym is) (inl refl)
-  archives-end found next ended (inr trouble) = ends-trouble (found >>= next) ended trouble
+  archives-end found next ended h = grind (arith, ends-trouble)
 
 -- what was given, if it wasn't refused
 pub given-ok : {T : Type 0} (path : List ℕ) (read : Result T Refusal) (value : T)
     → IsGivenUnlessRefused path read (Ok value) → read ≡ Ok value
-given-ok path (Ok other) value is = let one : value ≡ other = cc in ap Ok (sym one)
-given-ok path (Err why.Refused) value is = absurd is
-given-ok path (Err why.Memory) value is = absurd cc
+given-ok path read value is = grind arith
 
 -- ---- the task, once its archives are known
 
@@ -103,29 +79,22 @@ module _ (holds : List ℕ → Entry) (wanted : Result Wanted Fault) (p : Plan) 
 
   by-index : (is : Bool) → is ≡ true → (other : Result Task Ending) (one : Result Task Ending)
       → (if is then one else other) ≡ one
-  by-index true so other one = refl
-  by-index false so other one = absurd cc
+  by-index is so other one = grind arith
 
   pub task-index : is_index_run p ≡ true → task_of_rc holds wanted p rc ≡ Ok (index_task p rc bytes)
   task-index is = over-found ∙ by-index (is_index_run p) is _ (Ok (index_task p rc bytes))
 
   by-once : (empty once : Bool) → once ≡ true → (index other new : Result Task Ending)
       → (if empty && not once then index else (if once then new else other)) ≡ new
-  by-once true true is index other new = refl
-  by-once false true is index other new = refl
-  by-once empty false is index other new = absurd cc
+  by-once empty once is index other new = grind arith
 
   pub task-once : p.once ≡ true → task_of_rc holds wanted p rc ≡ Ok (search_task p rc (SearchNew wanted bytes))
-  task-once is = over-found ∙ by-once (length p.patterns == 0) p.once is _ _ (Ok (search_task p rc (SearchNew wanted
-      bytes)))
+  task-once is = grind (arith, over-found, by-once)
 
   by-stored : (index once : Bool) → index ≡ false → once ≡ false → (one new other : Result Task Ending)
       → (if index then one else (if once then new else other)) ≡ other
-  by-stored true once is not one new other = absurd cc
-  by-stored false true is not one new other = absurd cc
-  by-stored false false is not one new other = refl
+  by-stored index once is not one new other = grind arith
 
   pub task-stored : is_index_run p ≡ false → p.once ≡ false
       → task_of_rc holds wanted p rc ≡ search_stored_task holds wanted p rc bytes
-  task-stored is not = over-found ∙ by-stored (is_index_run p) p.once is not _ _ (search_stored_task holds wanted p rc
-      bytes)
+  task-stored is not = grind (arith, over-found, by-stored)

@@ -1,6 +1,5 @@
 -- What was read of a file, a piece at a time: each piece comes after the bytes before it.
-use Rattle.std.proofs.Common.{◌≡◌, ◌∙◌, ap, sym, refl, List, [], ℕ, ◌≤◌, ◌-◌, ◌+◌, ◌++◌, append_assoc, Option, None}
-use Rattle.std.proofs.Common.{Some, IfSome, IsSome, length, take, drop, arith, Bool, true, if◌then◌else◌, replicate}
+use Rattle.std.proofs.Common.{◌≡◌, ◌∙◌, ap, sym, List, [], ℕ, ◌≤◌, ◌-◌, ◌+◌, ◌++◌, append_assoc, Option, Some, IfSome, IsSome, length, take, arith, Bool, true, if◌then◌else◌, replicate}
 use Rattle.std.proofs.lemmas.List.{length-take-le, take-append-drop, take-append-le, take_all, take_at, take-take}
 use Rattle.std.proofs.Math.Seq.{take-append-add}
 use Rattle.std.specs.Io.KnownBytes.{Consumes}
@@ -19,18 +18,7 @@ HasFilled before now at into = IfSome now (λ left. before ≡ Some (take at int
 -- one piece more
 pub reads_on : (before now next : Option (List ℕ)) (most : ℕ) (old new more : List ℕ) → HasRead before now old new
     → GivesFront most now next new more → HasRead before next old more
-reads_on before now None most old new more h front = tt
-reads_on before None (Some y) most old new more h front = let f = front refl in absurd cc
-reads_on before (Some x) (Some y) most old new more h front =
-    let f = front refl in
-    let whole : x ≡ f.0 = cc in
-    let left : y ≡ drop most f.0 = cc in
-    let got = take most f.0 in
-    let parts : x ≡ got ++ y = whole ∙ sym (take-append-drop most f.0) ∙ ap (λ l. got ++ l) (sym left) in (
-      h.0 ++ got,
-      f.2 ∙ ap (λ l. l ++ got) h.1 ∙ append_assoc old h.0 got,
-      h.2 ∙ ap Some (ap (λ l. h.0 ++ l) parts ∙ sym (append_assoc h.0 got y)),
-    )
+reads_on before now next most old new more h front = grind (arith, append_assoc, take-append-drop)
 
 -- after a slice in the middle was filled
 take-mid : (at n : ℕ) (into part : List ℕ) → at ≤ length into → n ≤ length part
@@ -41,20 +29,12 @@ take-mid at n into part within bound = grind (arith, take-append-add, take-appen
 pub fills_on : (before now next : Option (List ℕ)) (at n : ℕ) (into part : List ℕ) → HasFilled before now at into
     → (IsSome next → IsSome now) → Consumes (still_known now next) next (take n part) → at ≤ length into
     → n ≤ length part → HasFilled before next (at + n) (put_mid at (length into - at) into part)
-fills_on before now None at n into part h known c within bound = tt
-fills_on before None (Some y) at n into part h known c within bound = let no = known refl in absurd cc
-fills_on before (Some x) (Some y) at n into part h known c within bound =
-    let front : take (at + n) (put_mid at (length into - at) into part) ≡ take at into ++ take n part =
-    take-mid at n into part within bound in
-    rw front (h ∙ ap Some (ap (λ l. take at into ++ l) c ∙ sym (append_assoc (take at into) (take n part) y)))
+fills_on before now next at n into part h known c within bound = grind (arith, append_assoc, take-mid)
 
 -- a vector that was resized has zeros after the old bytes
 pub grows : (ok : Bool) (start most end : ℕ) (old long : List ℕ) → ok ≡ true → start ≡ length old → end ≡ start + most
     → long ≡ (if ok then take end old ++ replicate (end - start) 0 else old) → long ≡ old ++ replicate most 0
-grows ok start most end old long done at sum is =
-    let all : take end old ≡ old = take_all end old (omega arith) in
-    let more : end - start ≡ most = omega arith in
-    rw (done, all, more) at is
+grows ok start most end old long done at sum is = grind (arith, take_all)
 
 -- what was read comes after the old bytes
 pub put_after : (start n room : ℕ) (old zeros long part post rest : List ℕ) → start ≡ length old → long ≡ old ++ zeros
@@ -73,5 +53,4 @@ put_after start n room old zeros long part post rest at grown bound within =
 pub gives_after : (before after : Option (List ℕ)) (room most n : ℕ) (old part new : List ℕ)
     → GivesFront room before after [] (take n part) → room ≡ most → new ≡ old ++ take n part
     → GivesFront most before after old new
-gives_after before after room most n old part new front same is = λ some.
-    let f = rw same at front some in (f.0, f.1, is ∙ ap (λ l. old ++ l) f.2, f.3)
+gives_after before after room most n old part new front same is = grind arith

@@ -1,8 +1,5 @@
 -- What an output took for the work of a run, by what its parts say.
-use Rattle.std.proofs.Common.{◌≡◌, ◌∙◌, ◌⊎◌, ◌≤◌, ◌<◌, ◌^◌, inl, inr, refl, sym, ap, subst, ℕ, Bool, true, false}
-use Rattle.std.proofs.Common.{List, []}
-use Rattle.std.proofs.Common.{append-nil, Option, None, Some, Result, Ok, Err, length, IfErr, IfSome, OnOk, ◌+◌}
-use Rattle.std.proofs.Common.{nat_lt, arith}
+use Rattle.std.proofs.Common.{◌≡◌, ◌∙◌, ◌⊎◌, ◌≤◌, ◌<◌, ◌^◌, inl, inr, refl, sym, ℕ, Bool, true, false, List, [], append-nil, Option, None, Some, Result, Ok, Err, length, IfErr, OnOk, ◌+◌, arith}
 use Rattle.std.proofs.lemmas.Bool.Decides.{nat_tests}
 use Rattle.std.specs.Bool.{MatchBool, OnFalse, OnTrue}
 use Rattle.std.specs.Borrow.{Bor}
@@ -15,14 +12,12 @@ use Rattle.mairix_tool.specs.Asked.{Wanted}
 use Rattle.mairix_tool.specs.Replies.{Answer, answer_of_fault}
 use Rattle.mairix_tool.specs.Runs.{IsReply, IsStoredReply}
 use Rattle.mbox_cutter.specs.declared.device.Out.{Ghosts}
-use Rattle.mbox_cutter.specs.declared.event.CutFault.TheVariants.{Device as Unread, NotAnMbox, ArchiveTooLong, Failed}
+use Rattle.mbox_cutter.specs.declared.event.CutFault.TheVariants.{Device as Unread}
 use Rattle.run_faults.specs.Faults.{fault_in, is_failed_out, is_failure}
 use Rattle.run_faults.specs.declared.fault.Fault.{Fault}
-use Rattle.run_faults.specs.declared.fault.Fault.TheVariants.{Usage, Rc, Query, Archive, Index, OldIndex, Stale}
-use Rattle.run_faults.specs.declared.fault.Fault.TheVariants.{Device, Out}
-use Rattle.run_faults.specs.declared.fault.Fault.TheVariants.{Memory, TooMany}
-use Rattle.mairix_run.specs.Answered.{AnswersBy, is_unread}
-use Rattle.mairix_run.specs.Flushing.{IsFlushed}
+use Rattle.run_faults.specs.declared.fault.Fault.TheVariants.{Index, Device, Out, TooMany}
+use Rattle.mairix_run.specs.Answered.{AnswersBy, IsReplyBy, is_unread}
+use Rattle.mairix_run.specs.LastFlush.{IsFlushed}
 use Rattle.mairix_run.specs.Indexed.{IsIndexRunResult}
 use Rattle.mairix_run.specs.Tasks.{Work, IsAnswered, IsDone, IsRefusedSearch, IsWorkRefused, search_work}
 use Rattle.mairix_run.specs.Tasks.Work.{Index as IndexWork}
@@ -39,20 +34,21 @@ sends-nothing t text = ([], text, refl, appends-nothing t)
 -- a failure of a device or of memory, in which output and archives failed only with their causes
 failure-of : (fault : Fault) (OutFails ReadFails : Type 0) → (is_failed_out (Some fault) ≡ true → OutFails)
     → OnTrue (is_unread (Some fault)) ReadFails → is_failure (Some fault) ≡ true → IsFailure OutFails ReadFails fault
-failure-of (Usage u) OutFails ReadFails cause read is = absurd cc
-failure-of (Rc r) OutFails ReadFails cause read is = absurd cc
-failure-of (Query q) OutFails ReadFails cause read is = absurd cc
-failure-of (Archive n Unread) OutFails ReadFails cause read is = read
-failure-of (Archive n NotAnMbox) OutFails ReadFails cause read is = absurd cc
-failure-of (Archive n ArchiveTooLong) OutFails ReadFails cause read is = absurd cc
-failure-of (Archive n Failed) OutFails ReadFails cause read is = absurd cc
-failure-of (Index i) OutFails ReadFails cause read is = absurd cc
-failure-of OldIndex OutFails ReadFails cause read is = absurd cc
-failure-of (Stale n) OutFails ReadFails cause read is = absurd cc
-failure-of Device OutFails ReadFails cause read is = read
-failure-of Out OutFails ReadFails cause read is = cause refl
-failure-of Memory OutFails ReadFails cause read is = tt
-failure-of TooMany OutFails ReadFails cause read is = absurd cc
+failure-of fault OutFails ReadFails cause read is = grind arith
+
+-- a failure that has one cause has another that follows from it
+failure-weaker : (A B ReadFails : Type 0) (fault : Fault) → (A → B) → IsFailure A ReadFails fault
+    → IsFailure B ReadFails fault
+failure-weaker A B ReadFails fault follows is = grind arith
+
+-- so has what was written
+pub written-weaker : (A B ReadFails : Type 0) (work : Work) (old new : Option (List ℕ)) (result : Result ℕ Fault)
+    → (A → B) → IsWritten A ReadFails work old new result → IsWritten B ReadFails work old new result
+written-weaker A B ReadFails work old new result follows is = grind (arith, failure-weaker)
+
+-- a device of which one more call has failed has failed
+pub once-failed : (before after : ℕ) → after ≡ before + 1 → 0 < after
+once-failed before after is = omega (arith, is)
 
 -- ---- an answer
 
@@ -69,48 +65,30 @@ module _ (Is : Answer → Type 0) (bytes : List (List ℕ)) (OutFails ReadFails 
       → (is_failed_out (Some fault) ≡ true → OutFails) → OnTrue (is_unread (Some fault)) ReadFails
       → MatchBool failed ((answer : Answer) → Is answer → Sends old new answer.text)
       (Is (answer_of_fault fault) × Appends old new []) → IsAnswerWritten (Err fault)
-  by-failure true fault is cause read sends = inr (
-    failure-of fault OutFails ReadFails cause read is,
-    inl (λ status text answered. subst (λ t. Sends old new t) answered.4 (sends answered.0 answered.1)),
-  )
-  by-failure false fault is cause read right = inl (inl right.0, right.1)
+  by-failure failed fault is cause read sends = grind (arith, failure-of)
 
   answer-written : (result : Result ℕ Fault) → (is_failed_out (fault_in result) ≡ true → OutFails)
       → OnTrue (is_unread (fault_in result)) ReadFails → AnswersBy Is result old new → IsAnswerWritten result
-  answer-written (Ok status) cause read (answer, is, none, same, sent) =
-      (answer.text, (answer, is, none, same, refl), sent)
-  answer-written (Err fault) cause read answers =
-      by-failure (is_failure (Some fault)) fault refl cause read answers
+  answer-written result cause read h = grind (arith, by-failure)
 
   too-many-written : 2 ^ 32 ≤ length bytes → Appends old new [] → IsAnswerWritten (Err TooMany)
   too-many-written many sent = inl (inr (many, refl), sent)
 
 -- what a search wrote, with or without a stored index, if it isn't of too many archives
 pub searched-written : (wanted : Result Wanted Fault) (index : Option (Bor (List ℕ))) (bytes : List (List ℕ))
-    (Few Agree : Type 0) (Files : List (List ℕ) → Type 0) (OutFails ReadFails : Type 0) (old new : Option (List ℕ))
-    (result : Result ℕ Fault) → Few → Files bytes → Agree → (is_failed_out (fault_in result) ≡ true → OutFails)
-    → OnTrue (is_unread (fault_in result)) ReadFails
-    → (index ≡ None → Few → (b : List (List ℕ)) → Files b → Agree → AnswersBy (IsReply wanted b) result old new)
-    → IfSome index (λ i. Few → (b : List (List ℕ)) → Files b → Agree
-    → AnswersBy (IsStoredReply wanted i.now b) result old new)
+    (OutFails ReadFails : Type 0) (old new : Option (List ℕ)) (result : Result ℕ Fault)
+    → (is_failed_out (fault_in result) ≡ true → OutFails) → OnTrue (is_unread (fault_in result)) ReadFails
+    → AnswersBy (IsReplyBy wanted index bytes) result old new
     → IsWritten OutFails ReadFails (search_work wanted (option_map (λ i. i.now) index) bytes) old new result
 unfolding IsDone IsWorkRefused
-searched-written wanted None bytes Few Agree Files OutFails ReadFails old new (Ok status) few files agree cause read
-    once stored =
-    answer-written (IsReply wanted bytes) bytes OutFails ReadFails old new (Ok status) cause read
-    (once refl few bytes files agree)
-searched-written wanted None bytes Few Agree Files OutFails ReadFails old new (Err fault) few files agree cause read
-    once stored =
-    answer-written (IsReply wanted bytes) bytes OutFails ReadFails old new (Err fault) cause read
-    (once refl few bytes files agree)
-searched-written wanted (Some i) bytes Few Agree Files OutFails ReadFails old new (Ok status) few files agree cause read
-    once stored =
-    answer-written (IsStoredReply wanted i.now bytes) bytes OutFails ReadFails old new (Ok status) cause read
-    (stored few bytes files agree)
-searched-written wanted (Some i) bytes Few Agree Files OutFails ReadFails old new (Err fault) few files agree cause read
-    once stored =
-    answer-written (IsStoredReply wanted i.now bytes) bytes OutFails ReadFails old new (Err fault) cause read
-    (stored few bytes files agree)
+searched-written wanted None bytes OutFails ReadFails old new (Ok status) =
+    answer-written (IsReply wanted bytes) bytes OutFails ReadFails old new (Ok status)
+searched-written wanted None bytes OutFails ReadFails old new (Err fault) =
+    answer-written (IsReply wanted bytes) bytes OutFails ReadFails old new (Err fault)
+searched-written wanted (Some i) bytes OutFails ReadFails old new (Ok status) =
+    answer-written (IsStoredReply wanted i.now bytes) bytes OutFails ReadFails old new (Ok status)
+searched-written wanted (Some i) bytes OutFails ReadFails old new (Err fault) =
+    answer-written (IsStoredReply wanted i.now bytes) bytes OutFails ReadFails old new (Err fault)
 
 -- there were too many archives
 pub too-many-searched : (wanted : Result Wanted Fault) (index : Option (Bor (List ℕ))) (bytes : List (List ℕ))
@@ -131,15 +109,7 @@ too-many-searched wanted index bytes OutFails ReadFails t (Err fault) many is = 
 pub silent-of : {O : Type 0} (taken : O → Option (List ℕ)) (old new : O) (result : Result ℕ Fault)
     → IfErr result (λ fault. OnFalse (is_failed_out (Some fault)) (new ≡ old))
     → (fault : Fault) → result ≡ Err fault → is_failed_out (Some fault) ≡ false → taken new ≡ taken old
-silent-of taken old new (Ok status) silent fault is not = absurd cc
-silent-of taken old new (Err other) silent fault is not =
-    let one : other ≡ fault = cc in
-    ap taken (when (is_failed_out (Some fault)) not (subst (λ f. OnFalse (is_failed_out (Some f)) (new ≡ old)) one
-    silent))
-  where
-    when : (b : Bool) → b ≡ false → OnFalse b (new ≡ old) → new ≡ old
-    when true is same = absurd cc
-    when false is same = same
+silent-of taken old new result silent fault is not = grind arith
 
 -- what an index run wrote: a fault that isn't of the output comes before anything is sent
 pub indexed-written : (archives : List Mbox) (OutFails ReadFails : Type 0) (old new : Option (List ℕ))
@@ -148,61 +118,25 @@ pub indexed-written : (archives : List Mbox) (OutFails ReadFails : Type 0) (old 
     → ((fault : Fault) → result ≡ Err fault → is_failed_out (Some fault) ≡ false → new ≡ old)
     → IsIndexRunResult archives old new result → IsWritten OutFails ReadFails (IndexWork archives) old new result
 unfolding IsDone IsWorkRefused
-indexed-written archives OutFails ReadFails old new (Ok status) cause read silent (done, sound, sent) =
-    (index_file (table archives), (done, sound, refl), sent)
-indexed-written archives OutFails ReadFails old new (Err (Archive n Unread)) cause read silent is = inr (
-  read,
-  inl (λ status text done. rw (silent (Archive n Unread) refl refl) (sends-nothing old text)),
-)
-indexed-written archives OutFails ReadFails old new (Err (Archive n NotAnMbox)) cause read silent is =
-    inl (is, rw (silent (Archive n NotAnMbox) refl refl) (appends-nothing old))
-indexed-written archives OutFails ReadFails old new (Err (Archive n ArchiveTooLong)) cause read silent is =
-    inl (is, rw (silent (Archive n ArchiveTooLong) refl refl) (appends-nothing old))
-indexed-written archives OutFails ReadFails old new (Err (Archive n Failed)) cause read silent is = absurd is
-indexed-written archives OutFails ReadFails old new (Err TooMany) cause read silent is =
-    inl (is, rw (silent TooMany refl refl) (appends-nothing old))
-indexed-written archives OutFails ReadFails old new (Err Memory) cause read silent is = inr (
-  tt,
-  inl (λ status text done. rw (silent Memory refl refl) (sends-nothing old text)),
-)
-indexed-written archives OutFails ReadFails old new (Err Out) cause read silent (sound, sends) = inr (
-  cause refl,
-  inl (λ status text done. subst (λ t. Sends old new t) (sym done.2) sends),
-)
-indexed-written archives OutFails ReadFails old new (Err (Usage u)) cause read silent is = absurd is
-indexed-written archives OutFails ReadFails old new (Err (Rc r)) cause read silent is = absurd is
-indexed-written archives OutFails ReadFails old new (Err (Query q)) cause read silent is = absurd is
-indexed-written archives OutFails ReadFails old new (Err (Index i)) cause read silent is = absurd is
-indexed-written archives OutFails ReadFails old new (Err OldIndex) cause read silent is = absurd is
-indexed-written archives OutFails ReadFails old new (Err (Stale n)) cause read silent is = absurd is
-indexed-written archives OutFails ReadFails old new (Err Device) cause read silent is = absurd is
+indexed-written archives OutFails ReadFails old new (Ok status) cause read silent is =
+    (index_file (table archives), (is.0, is.1, refl), is.2)
+indexed-written archives OutFails ReadFails old new (Err fault) cause read silent is =
+    grind (arith, sends-nothing, appends-nothing)
 
 -- ---- causes and counts
 
 -- a number is below another one, or isn't
 pub few-or-many : (n m : ℕ) → (n < m) ⊎ (m ≤ n)
-few-or-many n m = by-test (nat_lt n m) refl where
-  by-test : (b : Bool) → nat_lt n m ≡ b → (n < m) ⊎ (m ≤ n)
-  by-test true is = inl (grind (arith, nat_tests))
-  by-test false is = inr (grind (arith, nat_tests))
-
--- an output that had no failure has one now
-pub counted-failure : (failed : Bool) (old new : ℕ) → Counted failed old new → old ≡ 0 → failed ≡ true → 0 < new
-counted-failure true old new is none failed = omega (arith, is, none)
-counted-failure false old new is none failed = absurd cc
+few-or-many n m = grind (arith, nat_tests)
 
 pub counted-once : (failed : Bool) (old new : ℕ) → Counted failed old new → failed ≡ true → new ≡ old + 1
-counted-once true old new is failed = is
-counted-once false old new is failed = absurd cc
+counted-once failed old new is has = grind arith
 
 -- ---- on standard output
 
 keeps-appends : (old mid new : Option (List ℕ)) (text : List ℕ) → Appends old mid text → Keeps mid new
     → Appends old new text
-keeps-appends None mid new text sent kept = tt
-keeps-appends (Some xs) None new text sent kept = absurd sent
-keeps-appends (Some xs) (Some ys) None text sent kept = absurd kept
-keeps-appends (Some xs) (Some ys) (Some zs) text sent kept = kept ∙ sent
+keeps-appends old mid new text sent kept = grind arith
 
 -- what was written, and then flushed
 pub flushed-writes : {O : Type 0} (o : Ghosts O) (handed_on : O → Option (List ℕ)) (ReadFails : Type 0) (w : Work)
@@ -213,29 +147,4 @@ pub flushed-writes : {O : Type 0} (o : Ghosts O) (handed_on : O → Option (List
     → IsFlushed o handed_on written mid new result
     → IsWritten (o.failures new ≡ o.failures out + 1) ReadFails w (o.taken out) (o.taken new) result
     × OnOk result (handed_on new ≡ o.taken new)
-flushed-writes o handed_on ReadFails w out mid new (Err fault) result is count (same, stays) =
-    subst (λ (r : Result ℕ Fault). IsWritten (o.failures new ≡ o.failures out + 1) ReadFails w (o.taken out)
-    (o.taken new) r
-    × OnOk r (handed_on new ≡ o.taken new)) (sym same) (
-      subst (λ d. IsWritten (o.failures d ≡ o.failures out + 1) ReadFails w (o.taken out) (o.taken d) (Err fault))
-          (sym stays)
-          is,
-      tt,
-    )
-flushed-writes o handed_on ReadFails w out mid new (Ok status) result (text, done, sent) count
-    (kept, inl (same, handed, stays)) =
-    subst (λ (r : Result ℕ Fault). IsWritten (o.failures new ≡ o.failures out + 1) ReadFails w (o.taken out)
-    (o.taken new) r
-    × OnOk r (handed_on new ≡ o.taken new)) (sym same)
-    ((text, done, keeps-appends (o.taken out) (o.taken mid) (o.taken new) text sent kept), handed)
-flushed-writes o handed_on ReadFails w out mid new (Ok status) result (text, done, sent) count
-    (kept, inr (same, failed)) =
-    subst (λ (r : Result ℕ Fault). IsWritten (o.failures new ≡ o.failures out + 1) ReadFails w (o.taken out)
-    (o.taken new) r
-    × OnOk r (handed_on new ≡ o.taken new)) (sym same) (
-      inr (
-        omega (arith, failed, count),
-        inr (status, text, done, keeps-appends (o.taken out) (o.taken mid) (o.taken new) text sent kept),
-      ),
-      tt,
-    )
+flushed-writes o handed_on ReadFails w out mid new written result is count h = grind (arith, keeps-appends)

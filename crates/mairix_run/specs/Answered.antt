@@ -1,9 +1,10 @@
 -- What a search of files by their names returned and sent, compared with a right answer.
 use Rattle.std.specs.Prelude.{◌≡◌, ◌&&◌, ◌||◌, ℕ, Bool, true, false, List, [], Option, None, Some, Result, Ok, Err}
-use Rattle.std.specs.Prelude.{◌<◌, ◌≤◌, ◌^◌, ◌++◌, if◌then◌else◌, length, map, All, IfOk}
+use Rattle.std.specs.Prelude.{◌<◌, ◌≤◌, ◌^◌, ◌++◌, if◌then◌else◌, length, map, All, IfOk, IfSome}
 use Rattle.std.specs.Borrow.{Bor}
 use Rattle.std.specs.Bool.{MatchBool, OnTrue}
 use Rattle.std.specs.Io.KnownBytes.{Appends}
+use Rattle.std.specs.Result.{MatchResult}
 use Rattle.contract_words.specs.Devices.{Counted, Sends}
 use Rattle.index_job.specs.ArchiveRefusals.{AreSound}
 use Rattle.index_job.specs.ArchiveTables.{Mbox, table}
@@ -14,13 +15,19 @@ use Rattle.mairix_tool.specs.Altered.{HaveDistinctDigests, altered_archive}
 use Rattle.mairix_tool.specs.Asked.{Wanted}
 use Rattle.mairix_tool.specs.OldTables.{ServesFor}
 use Rattle.mairix_tool.specs.Replies.{Answer, KeepsRawBack, answer_of_fault}
-use Rattle.mairix_tool.specs.Runs.{IsRefusedAs, IsReply, IsStaleOr, IsThisOrMemory}
+use Rattle.mairix_tool.specs.Runs.{IsRefusedAs, IsReply, IsStaleOr, IsStoredReply, IsThisOrMemory}
 use Rattle.mairix_tool.specs.declared.reply.Reply.{Reply}
 use Rattle.run_faults.specs.Faults.{fault_in, is_early, is_failed_out, is_failure, is_of_index, is_of_indexing}
 use Rattle.run_faults.specs.Faults.{IsOnceFault, IsSearchFault}
+use Rattle.mbox_cutter.specs.declared.device.Out.{Ghosts}
 use Rattle.mbox_cutter.specs.declared.event.CutFault.TheVariants.{Device as Unread}
 use Rattle.run_faults.specs.declared.fault.Fault.{Fault}
 use Rattle.run_faults.specs.declared.fault.Fault.TheVariants.{Archive, Device, Memory, TooMany}
+
+-- the right answers of a search: by a stored index, or by the messages of archives with these bytes
+abbrev pub IsReplyBy : Result Wanted Fault → Option (Bor (List ℕ)) → List (List ℕ) → Answer → Type 0
+IsReplyBy asked None bytes = IsReply asked bytes
+IsReplyBy asked (Some index) bytes = IsStoredReply asked index.now bytes
 
 -- With a status: a right answer has it and no fault, and the output took its text. With a fault of a device or of
 -- memory, the output took a front of each right answer. Any other fault is right, and nothing was sent.
@@ -99,7 +106,21 @@ pub record FailsWithCauses (files : List (Option (List ℕ))) (ReadFails : Type 
   -- the output's count of failures rises by one exactly if the output failed
   pub out_failed : Counted (is_failed_out fault) before after
 
+-- What a search does over archives that have some bytes if `AreHeld` says so of these bytes, unless there are too many.
+pub record SearchesFiles {O : Type 0} (o : Ghosts O) (asked : Result Wanted Fault) (index : Option (Bor (List ℕ)))
+    (AreFew : Type 0) (AreHeld : List (List ℕ) → Type 0) (files : List (Option (List ℕ))) (ReadFails : Type 0)
+    (result : Result ℕ Fault) (out out' : O) : Type 0 where
+  pub answers : AreFew → (bytes : List (List ℕ)) → AreHeld bytes
+      → AnswersBy (IsReplyBy asked index bytes) result (o.taken out) (o.taken out')
+  pub by_messages : IfSome index (λ index. AreFew → (bytes : List (List ℕ)) → AreHeld bytes
+      → AnswersByMessages asked index.now bytes result (o.taken out) (o.taken out'))
+  pub refused : (fault : Fault) → AreFew → IsRefusedFirst asked index fault
+      → IsThisOrMemory fault (fault_in result) × (out' ≡ out)
+  pub ending : MatchResult result (λ status. status ≤ 1) (λ fault. AreFew → IsSearchFaultBy index fault)
+  pub unsent : LeavesUnsent asked (fault_in result) out out'
+  pub causes : FailsWithCauses files ReadFails (fault_in result) (o.failures out) (o.failures out')
+
 -- what was written; but if memory ran out as an archive was opened, its failed read is lack of memory
-abbrev pub by_memory : Bool → Result ℕ Fault → Result ℕ Fault
-by_memory lacks_memory (Ok status) = Ok status
-by_memory lacks_memory (Err fault) = Err (if lacks_memory && is_unread (Some fault) then Memory else fault)
+abbrev pub result_with_memory : Bool → Result ℕ Fault → Result ℕ Fault
+result_with_memory lacks_memory (Ok status) = Ok status
+result_with_memory lacks_memory (Err fault) = Err (if lacks_memory && is_unread (Some fault) then Memory else fault)

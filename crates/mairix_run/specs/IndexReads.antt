@@ -5,6 +5,8 @@ use Rattle.mail_index.specs.Faults.{IsFirstFaultOfFile}
 use Rattle.mail_index.specs.declared.view.fault.IndexFault.{IndexFault}
 use Rattle.mail_index.specs.declared.view.fault.IndexFault.TheVariants.{TooShort, BadMagic, BadVersion, BadDigest}
 use Rattle.mail_index.specs.declared.view.fault.IndexFault.TheVariants.{BadLayout}
+use Rattle.mairix_run.specs.declared.named_file.Reading.{Reading}
+use Rattle.mairix_run.specs.declared.named_file.Reading.TheVariants.{Whole, Index, Magic}
 
 -- whether the first 80 bytes of a file show this fault: that it is no index, or of an unknown version
 abbrev pub seen_early : IndexFault → Bool
@@ -23,6 +25,13 @@ IsRefusedEarly bytes = (fault : IndexFault) × (seen_early fault ≡ true) × Is
 abbrev pub IsIndexRead : List ℕ → List ℕ → Type 0
 IsIndexRead all bytes = (IsRefusedEarly all × (bytes ≡ take least_size all)) ⊎ ((¬ IsRefusedEarly all) × (bytes ≡ all))
 
+-- what is read of a file with the bytes `all`, by how much of it is read
+abbrev pub IsReadAs : Reading → List ℕ → List ℕ → Type 0
+IsReadAs Whole all bytes = bytes ≡ all
+IsReadAs Index all bytes = IsIndexRead all bytes
+IsReadAs Magic all bytes = bytes ≡ take 8 all
+
 -- the same of a source, if something is known of it after it was read
-abbrev pub IsKnownRead : Option (List ℕ) → Option (List ℕ) → List ℕ → Type 0
-IsKnownRead before after bytes = IsSome after → (all : List ℕ) × (before ≡ Some all) × IsIndexRead all bytes
+abbrev pub IsKnownRead : Reading → Option (List ℕ) → Option (List ℕ) → List ℕ → Type 0
+IsKnownRead reading before after bytes = IsSome after → (all : List ℕ) × (before ≡ Some all)
+    × IsReadAs reading all bytes

@@ -1,2 +1,2 @@
 -- Definitions of what the parts of a run do.
-pub mod Running
+pub mod RunParts

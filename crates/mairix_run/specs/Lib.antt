@@ -1,15 +1,17 @@
 -- The definitions of a whole run: what it has to do, what it reads and makes, what it prints, and its status.
 pub mod Answered
+pub mod AskedNames
 pub mod Clocks
+pub mod Commands
 pub mod FileFronts
-pub mod Flushing
+pub mod LastFlush
 pub mod IndexReads
 pub mod Indexed
 pub mod Inside
-pub mod KeptMail
 pub mod MadeFiles
 pub mod MemoryFields
 pub mod NamesUsed
+pub mod OldIndexes
 pub mod ReadFiles
 pub mod Reports
 pub mod Stops

@@ -9,7 +9,7 @@ use Rattle.mairix_options.specs.declared.rcfile.Rc.{Rc}
 use Rattle.mairix_options.specs.declared.rcfile.RcFault.{RcFault}
 use Rattle.named_files.specs.Entries.{Entry, bytes_of}
 use Rattle.mairix_run.specs.Tasks.{is_index_run}
-use Rattle.mairix_run.specs.WholeRuns.{passing_of}
+use Rattle.mairix_run.specs.WholeRuns.{temporary_of}
 
 -- the name of the file that a run makes: the index, or the answer; None if it writes to standard output
 abbrev pub file_asked : Plan → Rc → Option (List ℕ)
@@ -18,7 +18,7 @@ file_asked p rc = if is_index_run p then Some rc.database else answer_file p rc
 -- both names of such a file: its own, and the one that it has until it is whole
 abbrev pub both_names : Option (List ℕ) → List (List ℕ)
 both_names None = []
-both_names (Some name) = name ∷ passing_of name ∷ []
+both_names (Some name) = name ∷ temporary_of name ∷ []
 
 -- the name of the index that is searched
 abbrev pub names_of_index : Plan → Rc → List (List ℕ)
@@ -42,3 +42,25 @@ names_planned holds p = p.rcfile ∷ option_map_or (λ text. names_of_rc p (rc_o
 abbrev pub names_used : (List ℕ → Entry) → Result Plan UsageFault → List (List ℕ)
 names_used holds (Ok p) = names_planned holds p
 names_used holds (Err fault) = []
+
+-- ---- which names it may ask for
+
+-- The names that words and rcfile give: those of the archives, the index, and of the file that is made, with its
+-- temporary name. An answer is compared with the index even if that isn't searched.
+abbrev pub names_given : Plan → Rc → List (List ℕ)
+names_given p rc = rc.paths ++ (rc.database ∷ both_names (file_asked p rc))
+
+-- none if the rcfile is refused
+abbrev pub names_given_by : Plan → Result Rc RcFault → List (List ℕ)
+names_given_by p (Ok rc) = names_given p rc
+names_given_by p (Err fault) = []
+
+-- the name of the rcfile, and those that are given by its text
+abbrev pub names_of_plan : (List ℕ → Entry) → Plan → List (List ℕ)
+names_of_plan holds p =
+    p.rcfile ∷ option_map_or (λ text. names_given_by p (rc_of text)) (bytes_of (holds p.rcfile)) []
+
+-- none if the words are refused
+abbrev pub names_of_words : (List ℕ → Entry) → Result Plan UsageFault → List (List ℕ)
+names_of_words holds (Ok p) = names_of_plan holds p
+names_of_words holds (Err fault) = []

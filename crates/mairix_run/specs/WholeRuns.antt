@@ -14,16 +14,16 @@ use Rattle.named_files.specs.Entries.{Entry, File, IsFileOf}
 use Rattle.named_files.specs.declared.folder.Folder.{Ghosts as FolderGhosts}
 use Rattle.run_faults.specs.declared.fault.Fault.{Fault}
 use Rattle.run_faults.specs.declared.fault.Fault.TheVariants.{Archive, Device, Out, Memory}
-use Rattle.mairix_run.specs.KeptMail.{begins_as_mail}
 use Rattle.mairix_run.specs.MadeFiles.{MakesFile, SettlesFile, taken_name, unfit_name}
+use Rattle.mairix_run.specs.OldIndexes.{is_foreign}
 use Rattle.mairix_run.specs.Stops.{Ending, ending_by}
 use Rattle.mairix_run.specs.Stops.Ending.{Done, CannotOpen, Because}
 use Rattle.mairix_run.specs.Tasks.{Task, Work, IsDone, IsWorkRefused}
 use Rattle.mairix_run.specs.Tasks.Work.{Index, SearchNew, SearchStored}
 
 -- the name that a file has until it is whole
-abbrev pub passing_of : List ℕ → List ℕ
-passing_of name = name ++ codes ".new"
+abbrev pub temporary_of : List ℕ → List ℕ
+temporary_of name = name ++ codes ".new"
 
 -- ---- what stops a run though it has a task
 
@@ -69,17 +69,18 @@ Puts OutFails ReadFails work now (Done status) = (text : List ℕ) × IsDone wor
 Puts OutFails ReadFails work now (CannotOpen path) = ⊥
 Puts OutFails ReadFails work now (Because fault) = IsWorkRefused work fault ⊎ IsFailure OutFails ReadFails fault
 
--- whether a name leads to mail, which an index doesn't replace
+-- whether a name leads to a file that isn't replaced: a new index takes the place of an index or of an empty file alone
 abbrev pub is_kept : Work → Entry → Bool
-is_kept (Index archives) entry = begins_as_mail entry
+is_kept (Index archives) entry = is_foreign entry
 is_kept (SearchNew wanted bytes) entry = false
 is_kept (SearchStored wanted index bytes) entry = false
 
--- which name the file can't have; None if it can have both its own name and its passing name
+-- which name the file can't have; None if it can have both its own name and its temporary name
 abbrev pub refused_name : (List ℕ → Entry) → (List ℕ → List ℕ → Bool) → (List ℕ → Bool) → Work → List (List ℕ)
     → List ℕ → Option (List ℕ)
 refused_name holds apart is_leftover work read name = if is_kept work (holds name) then Some name
-    else option_or (unfit_name apart read (passing_of name) name) (taken_name holds is_leftover (passing_of name) name)
+    else option_or (unfit_name apart read (temporary_of name) name)
+    (taken_name holds is_leftover (temporary_of name) name)
 
 -- The run ends because a name can't be had. A file is made only if there is no such name.
 abbrev pub MakesFor : Option (List ℕ) → (Ending → Type 0) → Ending → Type 0
@@ -108,7 +109,8 @@ KeepsFile work (Some name) before now ended = KeepsOld work (before name) (now n
 
 -- ---- a whole run, by its task, or by its first refusal
 
-module _ {D F S N L R O : Type 0} (f : FolderGhosts D F S N L R) (o : Ghosts O) (handed_on : O → Option (List ℕ)) where
+module _ {D F S N L R M A O : Type 0} (f : FolderGhosts D F S N L R M A) (o : Ghosts O)
+    (handed_on : O → Option (List ℕ)) where
   -- What a task does: it writes to standard output, or makes a file and writes nothing there. The states before are
   -- `old` and `out`, those after it `new` and `out'`.
   abbrev pub DoesFor : Work → Option (List ℕ) → List (List ℕ) → D → D → O → O → Ending → Type 0
@@ -139,10 +141,10 @@ abbrev pub names_kept : Result Task Ending → List (List ℕ)
 names_kept (Ok task) = task.read
 names_kept (Err why) = []
 
--- whether a name is apart from the file that is made, and from its passing name
+-- whether a name is apart from the file that is made, and from its temporary name
 abbrev pub is_left_alone : (List ℕ → List ℕ → Bool) → Option (List ℕ) → List ℕ → Bool
 is_left_alone apart None n = true
-is_left_alone apart (Some name) n = apart n (passing_of name) && apart n name
+is_left_alone apart (Some name) n = apart n (temporary_of name) && apart n name
 
 -- ---- what a crash leaves
 
@@ -151,7 +153,7 @@ is_left_alone apart (Some name) n = apart n (passing_of name) && apart n name
 abbrev pub LeavesInMaking : (List ℕ → List ℕ → Bool) → (List ℕ → Entry → Type 0) → Work → List ℕ → List ℕ → Entry
     → Type 0
 LeavesInMaking apart may_leave work name n c =
-    ((apart n (passing_of name) && apart n name) ≡ true → may_leave n c)
+    ((apart n (temporary_of name) && apart n name) ≡ true → may_leave n c)
     × (n ≡ name → may_leave name c ⊎ IsFileOf (IsTextOf work) c)
 
 -- without a file, only what it might have left before
@@ -169,13 +171,13 @@ RunLeaves apart may_leave (Ok task) n c = LeavesFor apart may_leave task.work ta
 
 -- No call changes anything, unless a file is made: it is made, filled, and takes its name if the run succeeded, and is
 -- removed otherwise.
-module _ {D F S N L R : Type 0} (f : FolderGhosts D F S N L R) where
+module _ {D F S N L R M A : Type 0} (f : FolderGhosts D F S N L R M A) where
   abbrev pub MakesAndSettles : List ℕ → Ending → D → D → Type 0
-  MakesAndSettles name ended old new = (made : D) × MakesFile f.removes f.creates (passing_of name) true old made
+  MakesAndSettles name ended old new = (made : D) × MakesFile f.removes f.creates (temporary_of name) true old made
       × (written : Result ℕ Fault) × (result : Result ℕ Fault) × (ended ≡ ending_by result)
       × SettlesFile f.renames f.syncs f.discards name written result made new
 
   abbrev pub CallsFor : Option (List ℕ) → Ending → D → D → Type 0
   CallsFor None ended old new = new ≡ old
   CallsFor (Some name) ended old new = (new ≡ old)
-      ⊎ (MakesFile f.removes f.creates (passing_of name) false old new ⊎ MakesAndSettles name ended old new)
+      ⊎ (MakesFile f.removes f.creates (temporary_of name) false old new ⊎ MakesAndSettles name ended old new)

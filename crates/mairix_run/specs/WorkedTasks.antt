@@ -5,6 +5,7 @@ use Rattle.std.specs.List.{slice_split}
 use Rattle.std.specs.Str.{bytes_eq}
 use Rattle.mail_answer.specs.declared.format.Format.{Format}
 use Rattle.mail_answer.specs.declared.format.Format.TheVariants.{Mbox as AsMbox, Raw}
+use Rattle.mail_index.specs.Files.{magic}
 use Rattle.mail_query.specs.Kinds.{no_kinds}
 use Rattle.mail_query.specs.Query.{Word}
 use Rattle.mail_query.specs.declared.fault.QueryFaultKind.TheVariants.{BadPrefix}
@@ -44,7 +45,7 @@ abbrev pub second : List ℕ
 second = codes "the second archive"
 
 abbrev pub index : List ℕ
-index = codes "the index"
+index = magic ++ codes "the index"
 
 abbrev pub rcfile_only : NamedEntries
 rcfile_only = (codes "rc", File rcfile) ∷ []
@@ -269,8 +270,8 @@ abbrev pub mail : Entry
 mail = File (codes "\nFrom a@x.org Thu Jan  2 10:00:00 2003\n")
 
 -- what a killed run left, or the file of another run
-abbrev pub passing : NamedEntries
-passing = (codes "m.idx.new", File (codes "MAIRIX")) ∷ []
+abbrev pub temporary : NamedEntries
+temporary = (codes "m.idx.new", File (codes "MAIRIX")) ∷ []
 
 -- the place of each name, if `m.idx` is a link to `m.idx.new`
 abbrev pub place : List ℕ → List ℕ
@@ -282,26 +283,35 @@ nothing_there = new_index [] None
 abbrev pub old_index : NameRow
 old_index = new_index with_index None
 
+abbrev pub empty_file : NameRow
+empty_file = new_index ((codes "m.idx", File []) ∷ []) None
+
 abbrev pub name_of_mail : NameRow
 name_of_mail = new_index ((codes "m.idx", mail) ∷ []) (Some (codes "m.idx"))
+
+abbrev pub front_of_magic : NameRow
+front_of_magic = new_index ((codes "m.idx", File (codes "MAIRIX\r")) ∷ []) (Some (codes "m.idx"))
 
 abbrev pub old_answer : NameRow
 old_answer = new_answer (codes "hits") ((codes "hits", mail) ∷ []) None
 
 abbrev pub file_of_another : NameRow
-file_of_another = new_index passing (Some (codes "m.idx.new"))
+file_of_another = new_index temporary (Some (codes "m.idx.new"))
 
 abbrev pub left_by_killed : NameRow
-left_by_killed = record (new_index passing None) { is_leftover = bytes_eq (codes "m.idx.new") }
+left_by_killed = record (new_index temporary None) { is_leftover = bytes_eq (codes "m.idx.new") }
 
-abbrev pub link_to_passing : NameRow
-link_to_passing = record (new_index [] (Some (codes "m.idx.new"))) { apart = λ a b. differ (place a) (place b) }
+abbrev pub link_to_temporary : NameRow
+link_to_temporary = record (new_index [] (Some (codes "m.idx.new"))) { apart = λ a b. differ (place a) (place b) }
 
 abbrev pub name_of_archive : NameRow
 name_of_archive = new_answer (codes "a.mbox") with_index (Some (codes "a.mbox"))
 
 abbrev pub name_of_device : NameRow
 name_of_device = new_answer (codes "tty") ((codes "tty", Other) ∷ []) (Some (codes "tty"))
+
+abbrev pub temporary_name : NameRow
+temporary_name = new_answer (codes "hits.new") [] (Some (codes "hits.new"))
 
 abbrev pub no_last_part : NameRow
 no_last_part = new_answer (codes "mail/") [] (Some (codes "mail/"))

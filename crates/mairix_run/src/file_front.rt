@@ -6,9 +6,6 @@ ghost use Rattle.mairix_run.specs.FileFronts.{GivesFront};
 use mbox_cutter::{DeviceFault, Source};
 use named_files::Refusal;
 
-/// The number of bytes that are read at once.
-pub(crate) const PIECE: usize = 8192;
-
 /// Reads the first bytes that a source still gives, at most this many, and appends them. It reads a piece at a time, and
 /// no byte after them.
 pub(crate) fn read_front<S: Source>(

@@ -19,7 +19,7 @@ pub enum Stopped {
 impl Stopped {
     /// Returns that the file with this path can't be opened, read or made; or lack of memory if there is none for the
     /// path.
-    pub fn at(alloc: Global, path: &str) -> Stopped
+    pub fn cannot_open(alloc: Global, path: &str) -> Stopped
         ensures path { IsStoppedAt path.now result }
     {
         match String::from_str(alloc, path) {
@@ -30,13 +30,13 @@ impl Stopped {
 
     /// Returns what a folder gave for the file with this path. If it refused, the run is stopped, for this path or for
     /// lack of memory.
-    pub fn unless<T>(alloc: Global, path: &str, given: Result<T, Refusal>) -> Result<T, Stopped>
+    pub fn or_stopped<T>(alloc: Global, path: &str, given: Result<T, Refusal>) -> Result<T, Stopped>
         ensures given { IsGivenUnlessRefused path.now given result }
     {
         match given {
             Ok(value) => Ok(value),
             Err(Refusal::Memory) => Err(Stopped::Fault(Fault::Memory)),
-            Err(Refusal::Refused) => Err(Stopped::at(alloc, path)),
+            Err(Refusal::Refused) => Err(Stopped::cannot_open(alloc, path)),
         }
     }
 }

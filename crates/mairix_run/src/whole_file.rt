@@ -1,53 +1,19 @@
 //! A whole file in memory.
-ghost use Rattle.std.specs.Prelude.{◌≡◌, ◌⊎◌, ◌<◌, ◌≤◌, ◌-◌, ◌+◌, ◌^◌, ◌++◌, ℕ, true, List, [], None, Some, length, take, vec_len, vec_capacity, IfOk, IfErr, OnOk, OnErr, IsSome};
-ghost use Rattle.named_files.specs.Entries.{File, bytes_of};
+ghost use Rattle.std.specs.Prelude.{◌≡◌, ◌<◌, ◌≤◌, ◌-◌, ◌+◌, ◌^◌, [], length, take, vec_len, vec_capacity, IfOk, IfErr, OnOk, OnErr};
 ghost use Rattle.named_files.specs.Refusals.{HasCause};
-ghost use Rattle.named_files.specs.Reported.{AddsReports};
 ghost use Rattle.mairix_run.specs.FileFronts.{GivesFront};
 ghost use Rattle.mairix_run.specs.WholeFiles.{GivesRest};
 
 use mbox_cutter::{DeviceFault, Source};
-use named_files::{Folder, KeptFile, Refusal};
-use std::alloc::Global;
+use named_files::{KeptFile, Refusal};
 
 /// The most bytes that are filled with zeros and then read. This many are still in the processor's cache when the
 /// system writes over them.
 const STEP: usize = 65_536;
 
-/// Returns the bytes of a file. It takes memory once, for the length of the file, if the file has one and doesn't grow
-/// meanwhile.
-///
-/// # Errors
-///
-/// `Refused` if the name leads to no file, or if a call of the system fails; `Memory` if memory runs out.
-pub fn read_whole<F: Folder>(
-    folder: &F,
-    alloc: Global,
-    reports: &mut F::Reports,
-    name: &str,
-) -> Result<Vec<u8>, Refusal>
-    ensures bytes { IfOk result (λ bytes. F.agree reports.new ≡ true
-        → F.holds folder.now name.now ≡ File bytes.items) }
-    // It doesn't give up by itself.
-    ensures refused { IfErr result (λ why. HasCause why
-        ((bytes_of (F.holds folder.now name.now) ≡ None) ⊎ (F.can_refuse ⊎ F.reads_can_fail))) }
-    ensures reports { AddsReports F.reports_are_right (F.agree reports.old) (F.agree reports.new) }
-{
-    let mut file = match folder.open(alloc, name) {
-        Ok(file) => file,
-        Err(why) => return Err(why),
-    };
-    let mut bytes = Vec::new(alloc);
-    let read = read_file(&mut file, &mut bytes);
-    folder.take_back(reports, file);
-    match read {
-        Ok(()) => Ok(bytes),
-        Err(why) => Err(why),
-    }
-}
-
-/// Reads a file to its end, and appends its bytes.
-fn read_file<K: KeptFile>(file: &mut K, bytes: &mut Vec<u8>) -> Result<(), Refusal>
+/// Reads a file to its end, and appends its bytes. It takes memory once, for the length of the file, if the file has one
+/// and doesn't grow meanwhile.
+pub(crate) fn read_all<K: KeptFile>(file: &mut K, bytes: &mut Vec<u8>) -> Result<(), Refusal>
     requires { K.failures file.old ≡ 0 }
     ensures rest { OnOk result (GivesRest (K.rest file.old) (K.rest file.new) bytes.old.items
         bytes.new.items) }
@@ -61,7 +27,7 @@ fn read_file<K: KeptFile>(file: &mut K, bytes: &mut Vec<u8>) -> Result<(), Refus
 
 /// Takes the memory for the length of a file and one more byte, if it has a length. A file whose state the system
 /// doesn't show is refused.
-pub(crate) fn reserve_length<K: KeptFile>(file: &mut K, bytes: &mut Vec<u8>) -> Result<(), Refusal>
+fn reserve_length<K: KeptFile>(file: &mut K, bytes: &mut Vec<u8>) -> Result<(), Refusal>
     requires { K.failures file.old ≡ 0 }
     ensures rest { K.rest file.new ≡ K.rest file.old }
     ensures same { bytes.new.items ≡ bytes.old.items }
@@ -82,7 +48,7 @@ pub(crate) fn reserve_length<K: KeptFile>(file: &mut K, bytes: &mut Vec<u8>) -> 
 }
 
 /// Reads a source to its end, and appends its bytes. It fills the memory that the vector has before it takes more.
-pub(crate) fn read_rest<S: Source>(source: &mut S, bytes: &mut Vec<u8>) -> Result<(), Refusal>
+fn read_rest<S: Source>(source: &mut S, bytes: &mut Vec<u8>) -> Result<(), Refusal>
     requires count { S.failures source.old < 2 ^ 64 - 1 }
     ensures rest { OnOk result (GivesRest (S.rest source.old) (S.rest source.new) bytes.old.items
         bytes.new.items) }

@@ -24,12 +24,15 @@ pub fn tasks_are_as_worked_by_hand()
 pub fn refused_names_are_as_worked_by_hand()
     ensures nothing_there { IsRefusedAsWorked row.nothing_there }
     ensures old_index { IsRefusedAsWorked row.old_index }
+    ensures empty_file { IsRefusedAsWorked row.empty_file }
     ensures name_of_mail { IsRefusedAsWorked row.name_of_mail }
+    ensures front_of_magic { IsRefusedAsWorked row.front_of_magic }
     ensures old_answer { IsRefusedAsWorked row.old_answer }
     ensures file_of_another { IsRefusedAsWorked row.file_of_another }
     ensures left_by_killed { IsRefusedAsWorked row.left_by_killed }
-    ensures link_to_passing { IsRefusedAsWorked row.link_to_passing }
+    ensures link_to_temporary { IsRefusedAsWorked row.link_to_temporary }
     ensures name_of_archive { IsRefusedAsWorked row.name_of_archive }
     ensures name_of_device { IsRefusedAsWorked row.name_of_device }
+    ensures temporary_name { IsRefusedAsWorked row.temporary_name }
     ensures no_last_part { IsRefusedAsWorked row.no_last_part }
 {}

@@ -1,8 +1,6 @@
 -- What is held of the archives is the bytes of all files, so what the open file returned is of the archive with its
 -- number.
-use Rattle.std.proofs.Common.{◌≡◌, ◌∙◌, ◌&&◌, ℕ, zero, suc, Bool, true, false, List, [], ◌∷◌, length, take, All}
-use Rattle.std.proofs.Common.{Option, None, Some, IfSome, IsSome, is_some, Result, Ok, Err, IfOk, OnOk, slice_get}
-use Rattle.std.proofs.Common.{refl, sym, ap, subst, arith}
+use Rattle.std.proofs.Common.{◌≡◌, ◌∙◌, ◌&&◌, ℕ, zero, suc, Bool, true, false, List, [], ◌∷◌, length, take, All, Option, None, Some, IfSome, IsSome, is_some, Result, IfOk, OnOk, slice_get, refl, sym, ap, arith}
 use Rattle.std.specs.List.{AllByRecursion}
 use Rattle.std.specs.Option.{ForSome, option_map}
 use Rattle.std.proofs.lemmas.List.Elements.{recursion_from_All}
@@ -16,20 +14,17 @@ use Rattle.named_archives.proofs.Pieces.{if-some}
 -- ---- values of which something is known
 
 some-of : {A : Type 0} (o : Option A) → is_some o ≡ true → (x : A) × (o ≡ Some x)
-some-of None e = absurd cc
-some-of (Some x) e = (x, refl)
+some-of o e = grind arith
 
 if-some-at : {A : Type 0} (o : Option A) (P : A → Type 0) (x : A) → IfSome o P → o ≡ Some x → P x
-if-some-at None P x h e = absurd cc
-if-some-at (Some y) P x h e = let same : y ≡ x = grind arith in subst P same h
+if-some-at o P x h e = grind arith
 
 -- ---- all of them
 
 -- the first one, and all others
 first-known : {A : Type 0} (o : Option (List A)) (x : A) (all : List A) → option_map (λ xs. x ∷ xs) o ≡ Some all
     → (rest : List A) × (o ≡ Some rest) × (all ≡ x ∷ rest)
-first-known None x all e = absurd cc
-first-known (Some rest) x all e = let same : x ∷ rest ≡ all = grind arith in (rest, refl, sym same)
+first-known o x all e = grind arith
 
 all_known-length : {A : Type 0} (files : List (Option A)) (all : List A) → all_known files ≡ Some all
     → length all ≡ length files
@@ -51,8 +46,7 @@ all_known-at (Some x ∷ files) all (suc n) bytes e is =
     ap (λ l. archive_at l (suc n)) parts.2 ∙ all_known-at files parts.0 n bytes parts.1 is
 
 some-map : {A B : Type 0} (f : A → B) (o : Option A) → IsSome o → IsSome (option_map f o)
-some-map f None some = some
-some-map f (Some x) some = refl
+some-map f o some = grind arith
 
 known-all : {A : Type 0} (files : List (Option A)) → AllByRecursion IsSome files → IsSome (all_known files)
 known-all [] each = refl
@@ -63,20 +57,17 @@ known-all (Some x ∷ files) each = some-map (λ xs. x ∷ xs) (all_known files)
 
 held-parts : (agrees : Bool) (files : List (Option (List ℕ))) (all : List (List ℕ)) → held_while agrees files ≡ Some all
     → (agrees ≡ true) × (all_known files ≡ Some all)
-held-parts true files all e = (refl, e)
-held-parts false files all e = absurd cc
+held-parts agrees files all e = grind arith
 
 -- there are as many archives as files
 pub held-length : (agrees : Bool) (files : List (Option (List ℕ))) (n : ℕ) → length files ≡ n
     → IfSome (held_while agrees files) (λ all. length all ≡ n)
-held-length agrees files n long = if-some (held_while agrees files) _ (λ all e.
-    all_known-length files all (held-parts agrees files all e).1 ∙ long)
+held-length agrees files n long = grind (arith, if-some, all_known-length, held-parts)
 
 -- if all was as supposed, all files are held
 pub held-all : (agrees : Bool) (files : List (Option (List ℕ))) → agrees ≡ true → All IsSome files
     → IsSome (held_while agrees files)
-held-all true files e each = known-all files (recursion_from_All IsSome files each)
-held-all false files e each = absurd cc
+held-all agrees files e each = grind (arith, known-all, recursion_from_All)
 
 -- ---- the file that is open
 
@@ -86,11 +77,7 @@ module _ {A S : Type 0} (agreed : Bool) (rest bytes : A → Option (List ℕ)) (
   is-archive : (file : A) → IsFileAt files states n (bytes file) (state file) → (all : List (List ℕ))
       → held_while (agreed && has_agreed rest bytes (Some file)) files ≡ Some all
       → bytes file ≡ Some (archive_at all n)
-  is-archive file at all e =
-      let both = held-parts (agreed && has_agreed rest bytes (Some file)) files all e in
-      let agrees = and-true agreed (has_agreed rest bytes (Some file)) both.0 in
-      let known = some-of (bytes file) (and-true (is_some (rest file)) (is_some (bytes file)) agrees.1).1 in
-      known.1 ∙ ap Some (sym (all_known-at files all n known.0 both.1 (at.1 known.0 known.1)))
+  is-archive file at all e = grind (arith, held-parts, and-true, some-of, all_known-at)
 
   -- a length that it returned is the archive's
   pub length-is : {E : Type 0} (told : Result ℕ E) (current : Option A)
@@ -98,10 +85,7 @@ module _ {A S : Type 0} (agreed : Bool) (rest bytes : A → Option (List ℕ)) (
       → OnOk told (IsInState found states n current)
       → IfOk told (λ k. IfSome current (λ file. IfSome (bytes file) (λ all. k ≡ length all)))
       → IfOk told (λ k. IsLength n k (held_while (agreed && has_agreed rest bytes current) files))
-  length-is (Ok k) None at in_state is = absurd in_state
-  length-is (Ok k) (Some file) at in_state is = if-some _ _ (λ all e.
-      if-some-at (bytes file) _ (archive_at all n) is (is-archive file (at file refl) all e))
-  length-is (Err e) current at in_state is = tt
+  length-is told current at in_state is = grind (arith, if-some, if-some-at, is-archive)
 
   -- bytes that it returned are the archive's
   pub read-is : {E : Type 0} (told : Result ℕ E) (offset : ℕ) (into : List ℕ) (current : Option A)
@@ -110,7 +94,4 @@ module _ {A S : Type 0} (agreed : Bool) (rest bytes : A → Option (List ℕ)) (
       → IfOk told (λ k. IfSome current (λ file. IsReadFromFile offset (take k into) (bytes file)))
       → IfOk told (λ k. IsReadFromArchive n offset (take k into)
       (held_while (agreed && has_agreed rest bytes current) files))
-  read-is (Ok k) offset into None at in_state is = absurd in_state
-  read-is (Ok k) offset into (Some file) at in_state is = if-some _ _ (λ all e.
-      if-some-at (bytes file) _ (archive_at all n) is (is-archive file (at file refl) all e))
-  read-is (Err e) offset into current at in_state is = tt
+  read-is told offset into current at in_state is = grind (arith, if-some, if-some-at, is-archive)

@@ -1,7 +1,5 @@
 -- What holds of a list of sources after one more source.
-use Rattle.std.proofs.Common.{◌≡◌, ◌∙◌, ◌&&◌, ◌<◌, ◌+◌, ℕ, Bool, true, false, List, [], ◌∷◌, ◌++◌, length, get_or, map}
-use Rattle.std.proofs.Common.{take}
-use Rattle.std.proofs.Common.{Option, None, Some, option_copied, slice_get, refl, sym, ap, arith}
+use Rattle.std.proofs.Common.{◌≡◌, ◌∙◌, ◌&&◌, ◌<◌, ◌+◌, ℕ, Bool, true, List, [], ◌∷◌, ◌++◌, length, get_or, map, take, Option, option_copied, slice_get, sym, ap, arith}
 use Rattle.std.specs.Slice.{IsItemAt}
 use denote.Ref.{Bor}
 use Rattle.std.proofs.lemmas.Option.{slice_get_past, slice_get_read}
@@ -10,21 +8,17 @@ use Rattle.std.proofs.lemmas.List.{map_push, take_more}
 use Rattle.std.proofs.lemmas.List.FromFn.{map-range_with_len_more}
 
 pub and-true : (a b : Bool) → (a && b) ≡ true → (a ≡ true) × (b ≡ true)
-and-true true true e = (refl, refl)
-and-true true false e = absurd cc
-and-true false b e = absurd cc
+and-true a b e = grind arith
 
 -- if two agree, the first one does
 pub first-true : (a b c : Bool) → c ≡ (a && b) → c ≡ true → a ≡ true
 first-true a b c is e = (and-true a b (sym is ∙ e)).0
 
 and-assoc : (a b c : Bool) → ((a && b) && c) ≡ (a && (b && c))
-and-assoc true b c = refl
-and-assoc false b c = refl
+and-assoc a b c = grind arith
 
 and-end : (b : Bool) → (b && true) ≡ (true && b)
-and-end true = refl
-and-end false = refl
+and-end b = grind arith
 
 list_all-push : {X : Type 0} (p : X → Bool) (xs : List X) (x : X) → list_all p (xs ++ x ∷ []) ≡ (list_all p xs && p x)
 list_all-push p [] x = and-end (p x)
@@ -33,17 +27,13 @@ list_all-push p (y ∷ xs) x = ap (λ b. p y && b) (list_all-push p xs x) ∙ sy
 -- one more that agrees or not
 pub agree-more : {X : Type 0} (p : X → Bool) (xs : List X) (x : X) (old mid new : Bool) → mid ≡ (old && list_all p xs)
     → new ≡ (mid && p x) → new ≡ (old && list_all p (xs ++ x ∷ []))
-agree-more p xs x old mid new before now =
-    now ∙ ap (λ b. b && p x) before ∙ and-assoc old (list_all p xs) (p x)
-    ∙ ap (λ b. old && b) (sym (list_all-push p xs x))
+agree-more p xs x old mid new before now = grind (arith, and-assoc, list_all-push)
 
 -- one more item, with the next number
 pub map-next : {S X : Type 0} (f : S → X) (g : ℕ → X) (items : List S) (s : S) (n : ℕ)
     → map f items ≡ map g (range_with_len 0 n) → f s ≡ g n
     → map f (items ++ s ∷ []) ≡ map g (range_with_len 0 (n + 1))
-map-next f g items s n h e =
-    map_push f items s ∙ ap (λ l. l ++ f s ∷ []) h ∙ ap (λ x. map g (range_with_len 0 n) ++ x ∷ []) e
-    ∙ sym (map-range_with_len_more g 0 n n (omega arith))
+map-next f g items s n h e = grind (arith, map_push, map-range_with_len_more)
 
 -- one more item, for the next name
 pub map-more : {S N X : Type 0} (f : S → X) (g : N → X) (items : List S) (s : S) (names : List N) (n : ℕ) (name : N)
@@ -56,5 +46,4 @@ map-more f g items s names n name before below is here =
 -- the copy of what `get` gives is the item with this number, if there is one
 pub copied-item : {X : Type 0} (xs : List X) (n : ℕ) (r : Option (Bor X)) → IsItemAt xs n r → option_copied r
     ≡ slice_get xs n
-copied-item xs n None h = sym (slice_get_past xs n (omega (arith, h.3)))
-copied-item xs n (Some x) h = sym (slice_get_read xs (length xs) n x.now refl (h.3).0 h.1)
+copied-item xs n r h = grind (arith, slice_get_past, slice_get_read)

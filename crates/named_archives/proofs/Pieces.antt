@@ -1,18 +1,15 @@
 -- What a piece of a file gives, and that it stays a piece as long as the file's bytes are known.
-use Rattle.std.proofs.Common.{◌≡◌, ◌≤◌, ℕ, ◌+◌, ◌-◌, min, List, Option, None, Some, IfSome, length, take, drop}
-use Rattle.std.proofs.Common.{slice_range, sym, ap, ◌∙◌, subst, arith, length-drop, length-take-le}
+use Rattle.std.proofs.Common.{◌≡◌, ◌≤◌, ℕ, ◌+◌, ◌-◌, min, List, Option, IfSome, length, take, drop, slice_range, sym, ap, ◌∙◌, arith, length-drop, length-take-le}
 use Rattle.std.specs.Option.{ForSome}
 use Rattle.std.proofs.lemmas.List.{take-take, drop-drop, drop-take}
 use Rattle.named_files.specs.Entries.{IsReadFromFile}
 use Rattle.named_archives.specs.Ahead.{IsPiece}
 
 pub if-some : {A : Type 0} (o : Option A) (P : A → Type 0) → ForSome o P → IfSome o P
-if-some None P h = tt
-if-some (Some x) P h = h x cc
+if-some o P h = grind arith
 
 for-some : {A : Type 0} (o : Option A) (P : A → Type 0) → IfSome o P → ForSome o P
-for-some None P h = λ x e. cc
-for-some (Some y) P h = λ x e. let same : y ≡ x = grind arith in subst P same h
+for-some o P h = grind arith
 
 pub is-piece : (offset : ℕ) (bytes : List ℕ) (known : Option (List ℕ)) → IsReadFromFile offset bytes known
     → IsPiece offset bytes known
@@ -36,8 +33,7 @@ pub given : (offset at front held count : ℕ) (room got : List ℕ) (known : Op
     → front + count ≤ held → offset ≡ at + front → IsPiece at (take held room) known
     → take count got ≡ take count (slice_range room front held)
     → IfSome known (λ all. take count got ≡ take count (drop offset all))
-given offset at front held count room got known within fits here piece same = if-some known _ (λ all e.
-    rw here (copied all room got at front held count within fits (piece all e) same))
+given offset at front held count room got known within fits here piece same = grind (arith, if-some, copied)
 
 -- the bytes that fit are in the piece
 pub within-piece : (room : List ℕ) (front held into count : ℕ) → front ≤ held → held ≤ length room

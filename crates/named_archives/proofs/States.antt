@@ -1,20 +1,18 @@
 -- One more name has one more state, and what is reported of its file.
-use Rattle.std.proofs.Common.{◌≡◌, ◌∙◌, ◌<◌, ◌+◌, ℕ, zero, suc, List, [], ◌∷◌, ◌++◌, Option, length, take}
-use Rattle.std.proofs.Common.{String, Global, get_or, sym, ap, subst, arith}
-use Rattle.std.specs.String.{string_bytes}
+use Rattle.std.proofs.Common.{◌≡◌, ◌∙◌, ◌<◌, ◌+◌, ℕ, zero, suc, List, [], ◌∷◌, ◌++◌, Option, length, take, get_or, sym, ap, subst, arith}
 use Rattle.std.proofs.lemmas.List.{map_push, take_more}
 use Rattle.named_files.specs.Entries.{Entry, bytes_of}
 use Rattle.named_archives.specs.Names.{files_of}
 use Rattle.named_archives.specs.States.{AreStatesOf, IsStateOf}
 
 -- the files of the first names and of one more
-pub files-more : (holds : List ℕ → Entry) (names : List (String Global)) (n : ℕ) (name : String Global)
+pub files-more : {N : Type 0} (text : N → List ℕ) (holds : List ℕ → Entry) (names : List N) (n : ℕ) (name : N)
     → n < length names → name ≡ get_or names n name
-    → files_of holds (take (n + 1) names) ≡ files_of holds (take n names) ++ bytes_of (holds (string_bytes name)) ∷ []
-files-more holds names n name below is =
-    ap (files_of holds) (take_more names n name below)
-    ∙ map_push (λ k. bytes_of (holds (string_bytes k))) (take n names) (get_or names n name)
-    ∙ ap (λ k. files_of holds (take n names) ++ bytes_of (holds (string_bytes k)) ∷ []) (sym is)
+    → files_of text holds (take (n + 1) names) ≡ files_of text holds (take n names) ++ bytes_of (holds (text name)) ∷ []
+files-more text holds names n name below is =
+    ap (files_of text holds) (take_more names n name below)
+    ∙ map_push (λ k. bytes_of (holds (text k))) (take n names) (get_or names n name)
+    ∙ ap (λ k. files_of text holds (take n names) ++ bytes_of (holds (text k)) ∷ []) (sym is)
 
 module _ {F S : Type 0} (found : F → Option S) (rest : F → Option (List ℕ)) where
   -- one more file has one more state

@@ -1,15 +1,13 @@
 -- The archives to which some names lead, and the one of them that is open.
-use Rattle.std.specs.Prelude.{◌≡◌, ℕ, Bool, List, [], ◌∷◌, map, String, Option, None, Some, slice_get}
+use Rattle.std.specs.Prelude.{◌≡◌, ℕ, Bool, List, [], ◌∷◌, map, Option, None, Some, slice_get}
 use Rattle.std.specs.Prelude.{if◌then◌else◌}
 use Rattle.contract_words.specs.Knowledge.{WasKnown}
 use Rattle.std.specs.Option.{ForSome, option_map}
-use Rattle.std.specs.String.{string_bytes}
-use Rattle.std.specs.declared.alloc.Global.{Global}
 use Rattle.named_files.specs.Entries.{Entry, bytes_of}
 
--- the bytes of the file of each name; None where the name leads to no file
-abbrev pub files_of : (List ℕ → Entry) → List (String Global) → List (Option (List ℕ))
-files_of holds names = map (λ name. bytes_of (holds (string_bytes name))) names
+-- the bytes of the file of each name, which has this text; None where the name leads to no file
+abbrev pub files_of : {N : Type 0} → (N → List ℕ) → (List ℕ → Entry) → List N → List (Option (List ℕ))
+files_of text holds names = map (λ name. bytes_of (holds (text name))) names
 
 -- all of them, if each is known
 abbrev pub all_known : {A : Type 0} → List (Option A) → Option (List A)

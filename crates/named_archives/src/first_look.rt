@@ -29,28 +29,28 @@ pub fn first_states<F: Folder>(
     folder: &F,
     alloc: Global,
     reports: &mut F::Reports,
-    names: &[String],
+    names: &[F::Name],
 ) -> Result<Vec<<F::File as KeptFile>::State>, Unopened>
     ensures states { IfOk result (λ v. AreStatesOf F.File.state_found F.File.rest
-        (files_of (F.holds folder.now) names.now) v.items) }
+        (files_of F.Name.text (F.holds folder.now) names.now) v.items) }
     ensures count { IfOk result (λ v. vec_len v ≡ length names.now) }
     // If all reports agree, each name leads to a file.
     ensures noted { OnOk result (F.agree reports.new ≡ (F.agree reports.old
-        && list_all (λ file. is_some file) (files_of (F.holds folder.now) names.now))) }
+        && list_all (λ file. is_some file) (files_of F.Name.text (F.holds folder.now) names.now))) }
     ensures reports { AddsReports F.reports_are_right (F.agree reports.old) (F.agree reports.new) }
     ensures refused { IfErr result (λ e. (e.number < length names.now) × HasCause e.why
-        ((slice_get (files_of (F.holds folder.now) names.now) e.number ≡ Some None)
+        ((slice_get (files_of F.Name.text (F.holds folder.now) names.now) e.number ≡ Some None)
         ⊎ F.can_refuse ⊎ F.reads_can_fail)) }
     // What is reported is of the files before it, and maybe of its own.
     ensures opened { IfErr result (λ e.
         (F.agree reports.new ≡ (F.agree reports.old && list_all (λ file. is_some file)
-        (files_of (F.holds folder.now) (take e.number names.now))))
+        (files_of F.Name.text (F.holds folder.now) (take e.number names.now))))
         ⊎ (F.agree reports.new ≡ (F.agree reports.old && list_all (λ file. is_some file)
-        (files_of (F.holds folder.now) (take (e.number + 1) names.now))))) }
+        (files_of F.Name.text (F.holds folder.now) (take (e.number + 1) names.now))))) }
 {
     let mut states = Vec::new(alloc);
     for (number, name) in names.iter().enumerate() {
-        let state = match first_state(folder, alloc, reports, name.as_str()) {
+        let state = match first_state(folder, alloc, reports, name) {
             Ok(state) => state,
             Err(why) => return Err(Unopened { number, why }),
         };
@@ -67,18 +67,19 @@ fn first_state<F: Folder>(
     folder: &F,
     alloc: Global,
     reports: &mut F::Reports,
-    name: &str,
+    name: &F::Name,
 ) -> Result<<F::File as KeptFile>::State, Refusal>
     ensures state { IfOk result (λ state. IsStateOf F.File.state_found F.File.rest
-        (bytes_of (F.holds folder.now name.now)) state) }
+        (bytes_of (F.holds folder.now (F.Name.text name.now))) state) }
     ensures noted { OnOk result (F.agree reports.new ≡ (F.agree reports.old
-        && is_some (bytes_of (F.holds folder.now name.now)))) }
+        && is_some (bytes_of (F.holds folder.now (F.Name.text name.now))))) }
     ensures opened { (F.agree reports.new ≡ F.agree reports.old)
         ⊎ (F.agree reports.new ≡ (F.agree reports.old
-        && is_some (bytes_of (F.holds folder.now name.now)))) }
+        && is_some (bytes_of (F.holds folder.now (F.Name.text name.now))))) }
     ensures right { F.reports_are_right → F.agree reports.new ≡ F.agree reports.old }
     ensures refused { IfErr result (λ why. HasCause why
-        ((bytes_of (F.holds folder.now name.now) ≡ None) ⊎ F.can_refuse ⊎ F.reads_can_fail)) }
+        ((bytes_of (F.holds folder.now (F.Name.text name.now)) ≡ None) ⊎ F.can_refuse
+        ⊎ F.reads_can_fail)) }
 {
     let mut file = folder.open(alloc, name)?;
     let state = file.state();

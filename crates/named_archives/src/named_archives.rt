@@ -25,7 +25,7 @@ use std::alloc::Global;
 pub struct NamedArchives<'p, F: Folder> {
     folder: &'p F,
     alloc: Global,
-    names: &'p [String],
+    names: &'p [F::Name],
     /// The state of each file.
     states: &'p [<F::File as KeptFile>::State],
     /// The number of the file that was opened last.
@@ -41,11 +41,13 @@ pub struct NamedArchives<'p, F: Folder> {
     ghost each: { length states.now ≡ length names.now },
     ghost right: { F.reports_are_right → F.agree closed ≡ true },
     ghost counted: { ForSome current (λ a. F.File.failures a.file ≤ failures) },
-    ghost opened: { ForSome current (λ a. IsFileAt (files_of (F.holds folder.now) names.now)
+    ghost opened: { ForSome current (λ a. IsFileAt
+        (files_of F.Name.text (F.holds folder.now) names.now)
         states.now number (F.File.bytes a.file) a.state) },
     // No call fails without a cause.
     ghost failed: { 0 < failures → FailsFor refused
-        (All IsSome (files_of (F.holds folder.now) names.now)) F.can_refuse F.reads_can_fail },
+        (All IsSome (files_of F.Name.text (F.holds folder.now) names.now)) F.can_refuse
+        F.reads_can_fail },
 }
 
 impl<'p, F: Folder> NamedArchives<'p, F> {
@@ -53,7 +55,7 @@ impl<'p, F: Folder> NamedArchives<'p, F> {
     pub fn new(
         folder: &'p F,
         alloc: Global,
-        names: &'p [String],
+        names: &'p [F::Name],
         states: &'p [<F::File as KeptFile>::State],
     ) -> Option<NamedArchives<'p, F>>
         requires { length states.now ≡ length names.now }
@@ -61,10 +63,10 @@ impl<'p, F: Folder> NamedArchives<'p, F> {
         ensures number { IfSome result (λ archives. ⟦<NamedArchives<'p, F> as Archives>⟧.number
             archives ≡ length names.now) }
         ensures held { IfSome result (λ archives. ⟦<NamedArchives<'p, F> as Archives>⟧.held archives
-            ≡ held_while true (files_of (F.holds folder.now) names.now)) }
+            ≡ held_while true (files_of F.Name.text (F.holds folder.now) names.now)) }
         ensures files { IfSome result (λ archives.
-            files_of (F.holds archives.folder.now) archives.names.now
-            ≡ files_of (F.holds folder.now) names.now) }
+            files_of F.Name.text (F.holds archives.folder.now) archives.names.now
+            ≡ files_of F.Name.text (F.holds folder.now) names.now) }
         ensures states { IfSome result (λ archives. archives.states.now ≡ states.now) }
         ensures fresh { IfSome result (λ archives. ⟦<NamedArchives<'p, F> as Archives>⟧.failures
             archives ≡ 0) }
@@ -100,7 +102,7 @@ impl<'p, F: Folder> NamedArchives<'p, F> {
             (F.agree reports.old) (F.agree reports.new) }
         // If all reports agree, the bytes of all archives stayed known.
         ensures known { F.agree reports.new ≡ true
-            → All IsSome (files_of (F.holds self.entry.folder.now) self.entry.names.now)
+            → All IsSome (files_of F.Name.text (F.holds self.entry.folder.now) self.entry.names.now)
             → IsSome (⟦<NamedArchives<'p, F> as Archives>⟧.held self.entry) }
     {
         self.close_open();
@@ -159,10 +161,7 @@ impl<'p, F: Folder> NamedArchives<'p, F> {
             × (self.new.states.now ≡ self.old.states.now) }
         ensures count { Counts result self.old.failures self.new.failures }
     {
-        match self
-            .folder
-            .open_plain(self.alloc, self.names[n as usize].as_str())
-        {
+        match self.folder.open_plain(self.alloc, &self.names[n as usize]) {
             Ok(file) => {
                 let ahead = ReadAhead::new(self.alloc, file, self.states[n as usize]);
                 self.number = n;
@@ -180,7 +179,8 @@ impl<'p, F: Folder> NamedArchives<'p, F> {
 
 impl<'p, F: Folder> Archives for NamedArchives<'p, F> {
     ghost held = { λ a. held_while (F.agree a.closed && has_agreed (λ a. F.File.rest a.file)
-        (λ a. F.File.bytes a.file) a.current) (files_of (F.holds a.folder.now) a.names.now) };
+        (λ a. F.File.bytes a.file) a.current)
+        (files_of F.Name.text (F.holds a.folder.now) a.names.now) };
 
     ghost number = { λ a. length a.names.now };
 
@@ -188,7 +188,8 @@ impl<'p, F: Folder> Archives for NamedArchives<'p, F> {
 
     ghost lengths_asked = { λ _. 0 };
 
-    ghost whole = { λ a archives. files_of (F.holds a.folder.now) a.names.now ≡ map Some archives };
+    ghost whole = { λ a archives. files_of F.Name.text (F.holds a.folder.now) a.names.now
+        ≡ map Some archives };
 
     // Nothing carries a record of calls.
     ghost measures = { λ _ _ _ _. ⊤ };
@@ -205,18 +206,20 @@ impl<'p, F: Folder> Archives for NamedArchives<'p, F> {
         ensures held { WasKnown
             (held_while (F.agree self.old.closed && has_agreed (λ a. F.File.rest a.file)
             (λ a. F.File.bytes a.file) self.old.current)
-            (files_of (F.holds self.old.folder.now) self.old.names.now))
+            (files_of F.Name.text (F.holds self.old.folder.now) self.old.names.now))
             (held_while (F.agree self.new.closed && has_agreed (λ a. F.File.rest a.file)
             (λ a. F.File.bytes a.file) self.new.current)
-            (files_of (F.holds self.new.folder.now) self.new.names.now)) }
+            (files_of F.Name.text (F.holds self.new.folder.now) self.new.names.now)) }
         ensures whole { (archives : List (List ℕ))
-            → files_of (F.holds self.old.folder.now) self.old.names.now ≡ map Some archives
-            → files_of (F.holds self.new.folder.now) self.new.names.now ≡ map Some archives }
+            → files_of F.Name.text (F.holds self.old.folder.now) self.old.names.now
+            ≡ map Some archives
+            → files_of F.Name.text (F.holds self.new.folder.now) self.new.names.now
+            ≡ map Some archives }
         ensures number { length self.new.names.now ≡ length self.old.names.now }
         ensures bytes { IfOk result (λ bytes. IsLength n bytes
             (held_while (F.agree self.new.closed && has_agreed (λ a. F.File.rest a.file)
             (λ a. F.File.bytes a.file) self.new.current)
-            (files_of (F.holds self.new.folder.now) self.new.names.now))) }
+            (files_of F.Name.text (F.holds self.new.folder.now) self.new.names.now))) }
         // The length was read while the file was in its state.
         ensures in_state { OnOk result ((self.new.number ≡ n) × IsInState
             (λ a. F.File.state_found a.file) self.new.states.now n self.new.current) }
@@ -234,19 +237,21 @@ impl<'p, F: Folder> Archives for NamedArchives<'p, F> {
         ensures held { WasKnown
             (held_while (F.agree self.old.closed && has_agreed (λ a. F.File.rest a.file)
             (λ a. F.File.bytes a.file) self.old.current)
-            (files_of (F.holds self.old.folder.now) self.old.names.now))
+            (files_of F.Name.text (F.holds self.old.folder.now) self.old.names.now))
             (held_while (F.agree self.new.closed && has_agreed (λ a. F.File.rest a.file)
             (λ a. F.File.bytes a.file) self.new.current)
-            (files_of (F.holds self.new.folder.now) self.new.names.now)) }
+            (files_of F.Name.text (F.holds self.new.folder.now) self.new.names.now)) }
         ensures whole { (archives : List (List ℕ))
-            → files_of (F.holds self.old.folder.now) self.old.names.now ≡ map Some archives
-            → files_of (F.holds self.new.folder.now) self.new.names.now ≡ map Some archives }
+            → files_of F.Name.text (F.holds self.old.folder.now) self.old.names.now
+            ≡ map Some archives
+            → files_of F.Name.text (F.holds self.new.folder.now) self.new.names.now
+            ≡ map Some archives }
         ensures number { length self.new.names.now ≡ length self.old.names.now }
         ensures bound { IfOk result (λ bytes. bytes ≤ length into.new) }
         ensures bytes { IfOk result (λ bytes. IsReadFromArchive n offset (take bytes into.new)
             (held_while (F.agree self.new.closed && has_agreed (λ a. F.File.rest a.file)
             (λ a. F.File.bytes a.file) self.new.current)
-            (files_of (F.holds self.new.folder.now) self.new.names.now))) }
+            (files_of F.Name.text (F.holds self.new.folder.now) self.new.names.now))) }
         // What is given was read while the file was in its state.
         ensures in_state { OnOk result ((self.new.number ≡ n) × IsInState
             (λ a. F.File.state_found a.file) self.new.states.now n self.new.current) }

@@ -4,7 +4,6 @@
 ghost use Rattle.std.specs.Prelude.{◌≡◌, ◌⊎◌, false, ◌<◌, ◌≤◌, ◌+◌, ◌-◌, ◌^◌, ◌&&◌, ℕ, List, length, map, true, None, Some, IsSome, All, IfOk, IfErr, IfSome, OnOk, OnErr, vec_len, slice_get};
 ghost use Rattle.std.specs.List.{list_all, list_any, range_with_len};
 ghost use Rattle.std.specs.Option.{ForSome};
-ghost use Rattle.std.specs.String.{string_bytes};
 ghost use Rattle.std.specs.Io.KnownBytes.{ReadConsumes};
 ghost use Rattle.contract_words.specs.Devices.{Counted, Counts};
 ghost use Rattle.contract_words.specs.Knowledge.{still_known};
@@ -36,7 +35,7 @@ enum Progress {
 pub struct NamedSource<'p, F: Folder> {
     folder: &'p F,
     alloc: Global,
-    name: &'p str,
+    name: &'p F::Name,
     /// The state in which the file has to be; None if it may be in any.
     state: Option<<F::File as KeptFile>::State>,
     /// The file, once it was opened.
@@ -49,10 +48,11 @@ pub struct NamedSource<'p, F: Folder> {
     ghost reached: { ForSome file (λ f. HasReached F.File.state_found F.File.rest state f
         (F.File.failures f) progress) },
     ghost cause: { ForSome refused (λ why.
-        IsRefusedFor why (bytes_of (F.holds folder.now name.now)) F.can_refuse) },
+        IsRefusedFor why (bytes_of (F.holds folder.now (F.Name.text name.now))) F.can_refuse) },
     // No call fails without a cause.
     ghost failed: { 0 < failures → FailsFor refused
-        (IsSome (bytes_of (F.holds folder.now name.now))) F.can_refuse F.reads_can_fail },
+        (IsSome (bytes_of (F.holds folder.now (F.Name.text name.now)))) F.can_refuse
+        F.reads_can_fail },
 }
 
 impl<'p, F: Folder> NamedSource<'p, F> {
@@ -60,11 +60,11 @@ impl<'p, F: Folder> NamedSource<'p, F> {
     pub fn new(
         folder: &'p F,
         alloc: Global,
-        name: &'p str,
+        name: &'p F::Name,
         state: Option<<F::File as KeptFile>::State>,
     ) -> NamedSource<'p, F>
         ensures rest { ⟦<NamedSource<'p, F> as Source>⟧.rest result
-            ≡ bytes_of (F.holds folder.now name.now) }
+            ≡ bytes_of (F.holds folder.now (F.Name.text name.now)) }
         ensures failures { ⟦<NamedSource<'p, F> as Source>⟧.failures result ≡ 0 }
         ensures name { result.name.now ≡ name.now }
         ensures state { result.state ≡ state }
@@ -86,7 +86,7 @@ impl<'p, F: Folder> NamedSource<'p, F> {
     pub fn refusal(&self) -> Option<Refusal>
         ensures refused { result ≡ self.now.refused }
         ensures cause { ForSome result (λ why. IsRefusedFor why
-            (bytes_of (F.holds self.now.folder.now self.now.name.now)) F.can_refuse) }
+            (bytes_of (F.holds self.now.folder.now (F.Name.text self.now.name.now))) F.can_refuse) }
     {
         self.refused
     }
@@ -114,9 +114,9 @@ impl<'p, F: Folder> NamedSource<'p, F> {
         ensures closed { OnErr result (self.new.file ≡ None) }
         ensures refused { OnErr result (IsSome self.new.refused) }
         ensures rest { bytes_left_in F.File.rest (bytes_of
-            (F.holds self.old.folder.now self.old.name.now))
+            (F.holds self.old.folder.now (F.Name.text self.old.name.now)))
             self.new.file self.new.progress
-            ≡ bytes_of (F.holds self.old.folder.now self.old.name.now) }
+            ≡ bytes_of (F.holds self.old.folder.now (F.Name.text self.old.name.now)) }
         ensures same { (self.new.folder.now ≡ self.old.folder.now)
             × (self.new.name.now ≡ self.old.name.now) × (self.new.state ≡ self.old.state) }
         ensures count { Counts result self.old.failures self.new.failures }
@@ -143,11 +143,13 @@ impl<'p, F: Folder> NamedSource<'p, F> {
         requires room { 0 < length into.old }
         requires count { self.old.failures < 2 ^ 64 - 1 }
         ensures bound { IfOk result (λ n. n ≤ length into.new) }
-        ensures bytes { let all = bytes_of (F.holds self.old.folder.now self.old.name.now) in
+        ensures bytes { let all = bytes_of
+            (F.holds self.old.folder.now (F.Name.text self.old.name.now)) in
             let old = bytes_left_in F.File.rest all self.old.file self.old.progress in
             let new = bytes_left_in F.File.rest all self.new.file self.new.progress in
             ReadConsumes (still_known old new) new result into.new }
-        ensures known { let all = bytes_of (F.holds self.old.folder.now self.old.name.now) in
+        ensures known { let all = bytes_of
+            (F.holds self.old.folder.now (F.Name.text self.old.name.now)) in
             IsSome (bytes_left_in F.File.rest all self.new.file self.new.progress)
             → IsSome (bytes_left_in F.File.rest all self.old.file self.old.progress) }
         ensures count { Counts result self.old.failures self.new.failures }
@@ -169,33 +171,35 @@ impl<'p, F: Folder> NamedSource<'p, F> {
 
 impl<'p, F: Folder> Source for NamedSource<'p, F> {
     ghost rest = { λ s. bytes_left_in F.File.rest (bytes_of
-        (F.holds s.folder.now s.name.now)) s.file
+        (F.holds s.folder.now (F.Name.text s.name.now))) s.file
         s.progress };
 
     ghost failures = { λ s. s.failures };
 
-    ghost whole = { λ s bytes. bytes_of (F.holds s.folder.now s.name.now) ≡ Some bytes };
+    ghost whole = { λ s bytes. bytes_of (F.holds s.folder.now (F.Name.text s.name.now))
+        ≡ Some bytes };
 
     fn read_next(&mut self, into: &mut [u8]) -> Result<usize, DeviceFault>
         requires room { 0 < length into.old }
         requires count { self.old.failures < 2 ^ 64 - 1 }
         ensures bound { IfOk result (λ n. n ≤ length into.new) }
-        ensures bytes { let all = bytes_of (F.holds self.old.folder.now self.old.name.now) in
+        ensures bytes { let all = bytes_of
+            (F.holds self.old.folder.now (F.Name.text self.old.name.now)) in
             let old = bytes_left_in F.File.rest all self.old.file self.old.progress in
             let new = bytes_left_in F.File.rest (bytes_of
-            (F.holds self.new.folder.now self.new.name.now))
+            (F.holds self.new.folder.now (F.Name.text self.new.name.now)))
             self.new.file self.new.progress in
             ReadConsumes (still_known old new) new result into.new }
         ensures known { IsSome (bytes_left_in F.File.rest
-            (bytes_of (F.holds self.new.folder.now self.new.name.now)) self.new.file
+            (bytes_of (F.holds self.new.folder.now (F.Name.text self.new.name.now))) self.new.file
             self.new.progress)
             → IsSome (bytes_left_in F.File.rest
-            (bytes_of (F.holds self.old.folder.now self.old.name.now)) self.old.file
+            (bytes_of (F.holds self.old.folder.now (F.Name.text self.old.name.now))) self.old.file
             self.old.progress) }
         ensures count { Counts result self.old.failures self.new.failures }
         ensures whole { (bytes : List ℕ)
-            → bytes_of (F.holds self.old.folder.now self.old.name.now) ≡ Some bytes
-            → bytes_of (F.holds self.new.folder.now self.new.name.now) ≡ Some bytes }
+            → bytes_of (F.holds self.old.folder.now (F.Name.text self.old.name.now)) ≡ Some bytes
+            → bytes_of (F.holds self.new.folder.now (F.Name.text self.new.name.now)) ≡ Some bytes }
         ensures same { (self.new.folder.now ≡ self.old.folder.now)
             × (self.new.name.now ≡ self.old.name.now) × (self.new.state ≡ self.old.state) }
         // What is given was read while the file was in the state in which it has to be.
@@ -276,21 +280,22 @@ fn is_lost<F: KeptFile>(file: &mut F, state: Option<F::State>) -> bool
 pub fn sources_of<'p, F: Folder>(
     folder: &'p F,
     alloc: Global,
-    names: &'p [String],
+    names: &'p [F::Name],
     states: &[<F::File as KeptFile>::State],
 ) -> Result<Vec<NamedSource<'p, F>>, AllocError>
     ensures rest { IfOk result (λ v. map (λ s. ⟦<NamedSource<'p, F> as Source>⟧.rest s) v.items
-        ≡ map (λ name. bytes_of (F.holds folder.now (string_bytes name))) names.now) }
-    ensures names { IfOk result (λ v. map (λ s. s.name.now) v.items ≡ map string_bytes names.now) }
+        ≡ map (λ name. bytes_of (F.holds folder.now (F.Name.text name))) names.now) }
+    ensures names { IfOk result (λ v. map (λ s. F.Name.text s.name.now) v.items
+        ≡ map F.Name.text names.now) }
     ensures states { IfOk result (λ v. map (λ s. s.state) v.items
         ≡ map (slice_get states.now) (range_with_len 0 (length names.now))) }
     ensures fresh { IfOk result (λ v. All (λ s. (⟦<NamedSource<'p, F> as Source>⟧.failures s ≡ 0)
         × (s.file ≡ None)) v.items) }
 {
-    let mut sources = Vec::new(alloc);
+    let mut sources = Vec::with_capacity(alloc, names.len())?;
     for (number, name) in names.iter().enumerate() {
         let state = states.get(number).copied();
-        sources.push(NamedSource::new(folder, alloc, name.as_str(), state))?;
+        sources.push(NamedSource::new(folder, alloc, name, state))?;
     }
     Ok(sources)
 }
@@ -314,7 +319,8 @@ pub fn report_all<F: Folder>(sources: Vec<NamedSource<F>>, reports: &mut F::Repo
         (F.agree reports.old) (F.agree reports.new) }
     // If all reports agree, the bytes of each source stayed known.
     ensures known { F.agree reports.new ≡ true → All (λ s. s.failures ≡ 0 → IsSome s.file
-        → IsSome (bytes_left_in F.File.rest (bytes_of (F.holds s.folder.now s.name.now)) s.file
+        → IsSome (bytes_left_in F.File.rest
+        (bytes_of (F.holds s.folder.now (F.Name.text s.name.now))) s.file
         s.progress)) sources.entry.items }
 {
     for source in sources {

@@ -1,9 +1,7 @@
 //! Bytes of a file that are read before they are needed.
 ghost use Rattle.std.specs.Prelude.{◌≡◌, ◌<◌, ◌≤◌, ◌-◌, ◌^◌, Some, length, take, drop, min, IfOk, IfSome, OnOk, vec_len, vec_items};
-ghost use Rattle.contract_words.specs.Devices.{Counts};
-ghost use Rattle.contract_words.specs.Knowledge.{WasKnown};
 ghost use Rattle.named_files.specs.Entries.{IsReadFromFile};
-ghost use Rattle.named_archives.specs.Ahead.{IsPiece};
+ghost use Rattle.named_archives.specs.Ahead.{CallsInState, IsPiece, IsReadInto};
 ghost use Rattle.named_archives.specs.declared.read_ahead.TheConstants.{MOST};
 
 use mbox_cutter::DeviceFault;
@@ -72,12 +70,10 @@ impl<F: KeptFile> ReadAhead<F> {
     pub fn length(&mut self) -> Result<u64, DeviceFault>
         requires { F.failures self.old.file < 2 ^ 64 - 1 }
         ensures state { self.new.state ≡ self.old.state }
-        ensures known { WasKnown (F.bytes self.old.file) (F.bytes self.new.file) }
-        ensures rest { F.rest self.new.file ≡ F.rest self.old.file }
         ensures length { IfOk result (λ n. IfSome (F.bytes self.new.file)
             (λ all. n ≡ length all)) }
-        ensures in_state { OnOk result (F.state_found self.new.file ≡ Some self.new.state) }
-        ensures count { Counts result (F.failures self.old.file) (F.failures self.new.file) }
+        ensures call { CallsInState F.rest F.bytes F.state_found F.failures self.old.state result
+            self.old.file self.new.file }
     {
         let length = length_in_state(&mut self.file, self.state);
         if length.is_err() {
@@ -96,14 +92,10 @@ impl<F: KeptFile> ReadAhead<F> {
         requires room { 0 < length into.old }
         requires count { F.failures self.old.file < 2 ^ 64 - 1 }
         ensures state { self.new.state ≡ self.old.state }
-        ensures known { WasKnown (F.bytes self.old.file) (F.bytes self.new.file) }
-        ensures rest { F.rest self.new.file ≡ F.rest self.old.file }
-        ensures bound { IfOk result (λ n. n ≤ length into.new) }
-        ensures bytes { IfOk result (λ n. IsReadFromFile offset (take n into.new)
-            (F.bytes self.new.file)) }
+        ensures bytes { IfOk result (IsReadInto offset into.new (F.bytes self.new.file)) }
         // All that is given was read while the file was in its state.
-        ensures in_state { OnOk result (F.state_found self.new.file ≡ Some self.new.state) }
-        ensures count { Counts result (F.failures self.old.file) (F.failures self.new.file) }
+        ensures call { CallsInState F.rest F.bytes F.state_found F.failures self.old.state result
+            self.old.file self.new.file }
     {
         let read = self.read_there(offset, into)?;
         self.follow(offset, read);
@@ -129,13 +121,9 @@ impl<F: KeptFile> ReadAhead<F> {
         requires room { 0 < length into.old }
         requires count { F.failures self.old.file < 2 ^ 64 - 1 }
         ensures state { self.new.state ≡ self.old.state }
-        ensures known { WasKnown (F.bytes self.old.file) (F.bytes self.new.file) }
-        ensures rest { F.rest self.new.file ≡ F.rest self.old.file }
-        ensures bound { IfOk result (λ n. n ≤ length into.new) }
-        ensures bytes { IfOk result (λ n. IsReadFromFile offset (take n into.new)
-            (F.bytes self.new.file)) }
-        ensures in_state { OnOk result (F.state_found self.new.file ≡ Some self.new.state) }
-        ensures count { Counts result (F.failures self.old.file) (F.failures self.new.file) }
+        ensures bytes { IfOk result (IsReadInto offset into.new (F.bytes self.new.file)) }
+        ensures call { CallsInState F.rest F.bytes F.state_found F.failures self.old.state result
+            self.old.file self.new.file }
     {
         let read = self.give(offset, into);
         if read > 0 {
@@ -171,13 +159,9 @@ impl<F: KeptFile> ReadAhead<F> {
         requires room { 0 < length into.old }
         requires count { F.failures self.old.file < 2 ^ 64 - 1 }
         ensures state { self.new.state ≡ self.old.state }
-        ensures known { WasKnown (F.bytes self.old.file) (F.bytes self.new.file) }
-        ensures rest { F.rest self.new.file ≡ F.rest self.old.file }
-        ensures bound { IfOk result (λ n. n ≤ length into.new) }
-        ensures bytes { IfOk result (λ n. IsReadFromFile offset (take n into.new)
-            (F.bytes self.new.file)) }
-        ensures in_state { OnOk result (F.state_found self.new.file ≡ Some self.new.state) }
-        ensures count { Counts result (F.failures self.old.file) (F.failures self.new.file) }
+        ensures bytes { IfOk result (IsReadInto offset into.new (F.bytes self.new.file)) }
+        ensures call { CallsInState F.rest F.bytes F.state_found F.failures self.old.state result
+            self.old.file self.new.file }
     {
         let size = self.in_a_row.min(MOST as u64) as usize;
         if offset != self.end || size <= into.len() || self.make_room().is_err() {
@@ -192,13 +176,9 @@ impl<F: KeptFile> ReadAhead<F> {
         requires room { 0 < length into.old }
         requires count { F.failures self.old.file < 2 ^ 64 - 1 }
         ensures state { self.new.state ≡ self.old.state }
-        ensures known { WasKnown (F.bytes self.old.file) (F.bytes self.new.file) }
-        ensures rest { F.rest self.new.file ≡ F.rest self.old.file }
-        ensures bound { IfOk result (λ n. n ≤ length into.new) }
-        ensures bytes { IfOk result (λ n. IsReadFromFile offset (take n into.new)
-            (F.bytes self.new.file)) }
-        ensures in_state { OnOk result (F.state_found self.new.file ≡ Some self.new.state) }
-        ensures count { Counts result (F.failures self.old.file) (F.failures self.new.file) }
+        ensures bytes { IfOk result (IsReadInto offset into.new (F.bytes self.new.file)) }
+        ensures call { CallsInState F.rest F.bytes F.state_found F.failures self.old.state result
+            self.old.file self.new.file }
     {
         let read = read_in_state(&mut self.file, self.state, offset, into);
         if read.is_err() {
@@ -225,13 +205,11 @@ impl<F: KeptFile> ReadAhead<F> {
         requires room { size ≤ vec_len self.old.room }
         requires count { F.failures self.old.file < 2 ^ 64 - 1 }
         ensures state { self.new.state ≡ self.old.state }
-        ensures known { WasKnown (F.bytes self.old.file) (F.bytes self.new.file) }
-        ensures rest { F.rest self.new.file ≡ F.rest self.old.file }
         ensures offset { self.new.offset ≡ offset }
         ensures bytes { OnOk result (IsReadFromFile offset
             (take self.new.held (vec_items self.new.room)) (F.bytes self.new.file)) }
-        ensures in_state { OnOk result (F.state_found self.new.file ≡ Some self.new.state) }
-        ensures count { Counts result (F.failures self.old.file) (F.failures self.new.file) }
+        ensures call { CallsInState F.rest F.bytes F.state_found F.failures self.old.state result
+            self.old.file self.new.file }
     {
         self.offset = offset;
         let room = self.room.as_mut_slice();
@@ -252,12 +230,9 @@ fn fill<F: KeptFile>(
     requires some { 0 < size }
     requires room { size ≤ length room.old }
     requires count { F.failures file.old < 2 ^ 64 - 1 }
-    ensures known { WasKnown (F.bytes file.old) (F.bytes file.new) }
-    ensures rest { F.rest file.new ≡ F.rest file.old }
-    ensures bound { IfOk result (λ n. n ≤ length room.new) }
-    ensures bytes { IfOk result (λ n. IsReadFromFile offset (take n room.new) (F.bytes file.new)) }
-    ensures in_state { OnOk result (F.state_found file.new ≡ Some state) }
-    ensures count { Counts result (F.failures file.old) (F.failures file.new) }
+    ensures bytes { IfOk result (IsReadInto offset room.new (F.bytes file.new)) }
+    ensures call { CallsInState F.rest F.bytes F.state_found F.failures state result
+        file.old file.new }
 {
     read_in_state(file, state, offset, &mut room[..size])
 }
@@ -272,12 +247,9 @@ fn read_in_state<F: KeptFile>(
 ) -> Result<usize, DeviceFault>
     requires room { 0 < length into.old }
     requires count { F.failures file.old < 2 ^ 64 - 1 }
-    ensures known { WasKnown (F.bytes file.old) (F.bytes file.new) }
-    ensures rest { F.rest file.new ≡ F.rest file.old }
-    ensures bound { IfOk result (λ n. n ≤ length into.new) }
-    ensures bytes { IfOk result (λ n. IsReadFromFile offset (take n into.new) (F.bytes file.new)) }
-    ensures in_state { OnOk result (F.state_found file.new ≡ Some state) }
-    ensures count { Counts result (F.failures file.old) (F.failures file.new) }
+    ensures bytes { IfOk result (IsReadInto offset into.new (F.bytes file.new)) }
+    ensures call { CallsInState F.rest F.bytes F.state_found F.failures state result
+        file.old file.new }
 {
     let read = file.read_at(offset, into)?;
     file.check_state(state).and(Ok(read))
@@ -286,11 +258,9 @@ fn read_in_state<F: KeptFile>(
 /// Asks a file for its length, and then checks that it is in this state.
 fn length_in_state<F: KeptFile>(file: &mut F, state: F::State) -> Result<u64, DeviceFault>
     requires { F.failures file.old < 2 ^ 64 - 1 }
-    ensures known { WasKnown (F.bytes file.old) (F.bytes file.new) }
-    ensures rest { F.rest file.new ≡ F.rest file.old }
     ensures length { IfOk result (λ n. IfSome (F.bytes file.new) (λ all. n ≡ length all)) }
-    ensures in_state { OnOk result (F.state_found file.new ≡ Some state) }
-    ensures count { Counts result (F.failures file.old) (F.failures file.new) }
+    ensures call { CallsInState F.rest F.bytes F.state_found F.failures state result
+        file.old file.new }
 {
     let length = file.length()?;
     file.check_state(state).and(Ok(length))

@@ -6,7 +6,9 @@ ghost use Rattle.mail_index.specs.Tables.{IsPath};
 use crate::compared::have_numbers;
 use crate::counted::Counted;
 use crate::index_files::{ARCHIVE_DIGEST, ONLY};
-use mail_index::{BuildFault, Builder, IndexView, Kind, Prefetched, Steps, WriteFault, is_path};
+use mail_index::{
+    BuildFault, Builder, Digests, IndexView, Kind, Prefetched, Steps, WriteFault, is_path,
+};
 use mail_words::TextKind;
 use mbox_cutter::MemoryOut;
 use std::alloc::Global;
@@ -41,7 +43,7 @@ fn file_of(alloc: Global, builder: &Builder) -> Option<MemoryOut>
     requires phase { IsBetweenArchives builder.now }
 {
     let mut out = MemoryOut::new(alloc, None);
-    let count = builder.write(&mut out);
+    let count = builder.write(&mut out, Digests::Computed);
     let length = out.bytes().len() as u64;
     matches!(count, Ok(reported) if reported == length).then_some(out)
 }
@@ -90,7 +92,7 @@ pub fn is_lost(builder: &mut Builder, answer: Result<(), BuildFault>, fault: Bui
         builder.end_message(ONLY),
         builder.end_archive(58, ARCHIVE_DIGEST),
     ];
-    let written = builder.write(&mut Counted { bytes: 0 });
+    let written = builder.write(&mut Counted { bytes: 0 }, Digests::Computed);
     let is_refused = match answer {
         Ok(()) => false,
         Err(refusal) => is_same(refusal, fault),

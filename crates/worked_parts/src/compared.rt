@@ -74,14 +74,14 @@ fn has_keys(
     decoded: &[DecodedKey],
     steps: &mut Steps,
 ) -> bool {
-    let keys = view.keys(kind, steps);
+    let keys = view.keys(kind);
     let mut same = are_keys(keys, number, b"", decoded, steps);
     for key in decoded {
         if key.kind == number {
             let looked_up = view.look_up(kind, &key.text, steps);
             let is_found = have_numbers(looked_up, &key.numbers, steps);
             let front = key.text.split_at(key.text.len().min(1)).0;
-            let beginning = view.keys_beginning(kind, front, steps);
+            let beginning = view.keys_beginning(kind, front);
             let are_same = are_keys(beginning, number, front, decoded, steps);
             same = same && is_found && are_same;
         }

@@ -3,7 +3,7 @@ ghost use Rattle.std.specs.Prelude.{◌<◌};
 
 use crate::rows::bytes_of;
 use index_job::{IndexJob, JobFault};
-use mail_index::{IndexView, Kind, Steps, WriteFault, is_path};
+use mail_index::{Digests, IndexView, Kind, Steps, WriteFault, is_path};
 use mail_words::TextKind;
 use mbox_cutter::{MemoryOut, MemorySource};
 use std::alloc::Global;
@@ -42,7 +42,7 @@ fn begun(
     }
     let archive = bytes_of(alloc, text)?;
     let mut source = MemorySource::new(alloc, &archive, piece, fail_at).ok()?;
-    let mut job = IndexJob::new(alloc).ok()?;
+    let mut job = IndexJob::new(alloc, Digests::Computed).ok()?;
     let answer = job.archive(PATH, &mut source);
     Some((job, answer))
 }

@@ -4,7 +4,7 @@
 use crate::index_jobs::{PATH, has_body_word, has_failed};
 use crate::rows::bytes_of;
 use index_job::{IndexJob, JobFault};
-use mail_index::{WriteFault, is_path};
+use mail_index::{Digests, WriteFault, is_path};
 use mbox_cutter::{MemoryOut, MemorySource};
 use std::alloc::Global;
 
@@ -16,7 +16,7 @@ fn is_indexed_or_wanting(alloc: Global, text: &str, word: &str, size: u64) -> Op
     }
     let archive = bytes_of(alloc, text)?;
     let mut source = MemorySource::new(alloc, &archive, 7, None).ok()?;
-    let mut job = match IndexJob::new(alloc) {
+    let mut job = match IndexJob::new(alloc, Digests::Computed) {
         Ok(job) => job,
         Err(_) => return Some(true),
     };

@@ -5,7 +5,7 @@ ghost use Rattle.mail_index.specs.Builders.{IsBetweenArchives};
 
 use crate::builders::{PATH, build, is_lost};
 use crate::counted::Counted;
-use mail_index::{BuildFault, Builder, Kind, is_path};
+use mail_index::{BuildFault, Builder, Digests, Kind, is_path};
 use std::alloc::Global;
 
 /// A key that has memory of its own.
@@ -20,7 +20,7 @@ fn has_size(builder: &Builder) -> bool
     requires phase { IsBetweenArchives builder.now }
 {
     let mut out = Counted { bytes: 0 };
-    matches!(builder.write(&mut out), Ok(SIZE)) && out.bytes == SIZE
+    matches!(builder.write(&mut out, Digests::Computed), Ok(SIZE)) && out.bytes == SIZE
 }
 
 /// Whether the archive is built, or the call that is refused leaves nothing. If it is built and `writes` is true, it is

@@ -5,7 +5,7 @@ use index_job::IndexJob;
 use mail_answer::AnswerFaultKind::{Device, OutFailed, OutOfMemory, Stale};
 use mail_answer::{AnswerFault, AnswerFaultKind, Archives, FailAt, Format, MemoryArchives, answer};
 use mail_dates::Moment;
-use mail_index::{IndexView, is_path};
+use mail_index::{Digests, IndexView, is_path};
 use mail_query::{Query, read_mairix};
 use mbox_cutter::{MemoryOut, MemorySource, Out};
 use std::alloc::Global;
@@ -90,7 +90,7 @@ fn index_archive(alloc: Global, job: &mut IndexJob, path: &str, text: &str) -> O
 
 /// Returns the index file of archives, each given by its path and text. It is None also if one of them is refused.
 pub fn indexed(alloc: Global, archives: &[(&str, &str)]) -> Option<Vec<u8>> {
-    let mut job = IndexJob::new(alloc).ok()?;
+    let mut job = IndexJob::new(alloc, Digests::Computed).ok()?;
     let mut are_indexed = true;
     for (path, text) in archives {
         are_indexed = index_archive(alloc, &mut job, path, text).is_some() && are_indexed;

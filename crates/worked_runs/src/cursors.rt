@@ -112,12 +112,15 @@ fn a_choice_takes_few_steps(rt: HostRuntime) {
 }
 
 // Each message has five words, and each word contains the same letter. There are more messages than a window covers.
-// For the first number, a window of 4,096 messages is marked in each of the five lists of 4,200 numbers, and no list is
-// read to its end.
+// For the first number, a window of 32,768 messages is marked in each of the five lists of 33,000 numbers, and no list
+// is read to its end.
 #[test]
 fn a_union_reads_its_lists_window_by_window(rt: HostRuntime) {
-    let steps = steps_among(rt.alloc(), ("^|ea eb ec ed ee||", 4_200), "b:e=", 4_200);
-    assert!(rt; matches!(steps, Some((_, 1..=20_500, 21_000))), "{steps:?}");
+    let steps = steps_among(rt.alloc(), ("^|ea eb ec ed ee||", 33_000), "b:e=", 33_000);
+    assert!(rt;
+        matches!(steps, Some((_, 1..=163_860, 165_000))),
+        "{steps:?}"
+    );
 }
 
 // Each refused allocation is reported as lack of memory, and the result is either that or everything.

@@ -4,7 +4,7 @@ ghost use Rattle.std.specs.Prelude.{◌≡◌, None, IfSome};
 use crate::failing_folder::FailingFolder;
 use crate::fixture::{HELLO, RC, TWO_MESSAGES, bytes_of, index_of, reports};
 use crate::program_runs::printed_over;
-use named_files::{Item, MemoryFolder};
+use named_files::{Item, MadeNames, MemoryFolder};
 use std::alloc::Global;
 use std::cell::Cell;
 
@@ -23,7 +23,7 @@ const RUNS: [(&str, &str, &[(u64, &str)]); 4] = [
             (1, "exit 0 m.idx.new m.idx"),
             (2, "mairix: cannot open rc|exit 4"),
             (2, "mairix: cannot open m.mbox|exit 4"),
-            (4, "mairix: cannot open m.idx|exit 4"),
+            (3, "mairix: cannot open m.idx|exit 4"),
             (5, "mairix: out of memory|exit 5"),
             (1, "mairix: cannot open m.idx|exit 4"),
             (2, "mairix: cannot open m.idx.new|exit 4"),
@@ -116,7 +116,10 @@ impl Run {
     fn ending(&self, alloc: Global, number: u64) -> Option<Vec<u8>> {
         let count = Cell::new(number);
         let mut folder = FailingFolder::new(files_before(alloc, self.indexed)?, &count);
-        let mut ending = printed_over(&mut folder, alloc, self.words)?;
+        let mut names = MadeNames::new();
+        let printed = printed_over(&mut folder, &mut names, alloc, self.words);
+        names.close();
+        let mut ending = printed?;
         self.push_changes(&mut ending, folder.inner())?;
         Some(ending)
     }

@@ -30,7 +30,7 @@ impl<'c> Calls<'c> {
     }
 
     /// Counts a call, and returns whether it has to fail.
-    fn fails(&mut self) -> bool
+    pub fn fails(&mut self) -> bool
         requires { self.old.failures < 2 ^ 64 - 1 }
         ensures { Counted result self.old.failures self.new.failures }
     {
@@ -131,11 +131,4 @@ impl<'c, N: NewFile> NewFile for FailingNew<'c, N> {
     ghost may_hold = { λ new. N.may_hold new.inner };
 
     ghost kept_whole = { λ new. N.kept_whole new.inner };
-
-    fn sync(&mut self) -> Result<(), DeviceFault> {
-        if self.calls.fails() {
-            return Err(DeviceFault);
-        }
-        self.inner.sync()
-    }
 }

@@ -2,6 +2,7 @@
 ghost use Rattle.std.specs.Prelude.{⊤, ◌≡◌};
 
 use crate::failing_files::{Calls, FailingFile, FailingNew, fails};
+use mbox_cutter::DeviceFault;
 use named_files::{Folder, Look, Refusal};
 use std::alloc::{AllocError, Global};
 use std::cell::Cell;
@@ -40,7 +41,13 @@ impl<'c, F: Folder + Drop> Folder for FailingFolder<'c, F> {
 
     type Reports = F::Reports;
 
+    type Name = F::Name;
+
+    type Names = F::Names;
+
     ghost agree = { F.agree };
+
+    ghost made = { F.made };
 
     ghost holds = { λ f. F.holds f.inner };
 
@@ -97,7 +104,17 @@ impl<'c, F: Folder + Drop> Folder for FailingFolder<'c, F> {
         self.inner.add_reports(reports, more);
     }
 
-    fn open(&self, alloc: Global, name: &str) -> Result<FailingFile<'c, F::File>, Refusal> {
+    fn name(
+        &self,
+        alloc: Global,
+        names: &mut F::Names,
+        reports: &F::Reports,
+        text: &str,
+    ) -> Result<F::Name, AllocError> {
+        self.inner.name(alloc, names, reports, text)
+    }
+
+    fn open(&self, alloc: Global, name: &F::Name) -> Result<FailingFile<'c, F::File>, Refusal> {
         if fails(self.count) {
             return Err(Refusal::Refused);
         }
@@ -115,7 +132,12 @@ impl<'c, F: Folder + Drop> Folder for FailingFolder<'c, F> {
         self.inner.take_back(reports, inner);
     }
 
-    fn look(&self, alloc: Global, reports: &mut F::Reports, name: &str) -> Result<Look, Refusal> {
+    fn look(
+        &self,
+        alloc: Global,
+        reports: &mut F::Reports,
+        name: &F::Name,
+    ) -> Result<Look, Refusal> {
         if fails(self.count) {
             return Err(Refusal::Refused);
         }
@@ -126,8 +148,8 @@ impl<'c, F: Folder + Drop> Folder for FailingFolder<'c, F> {
         &self,
         alloc: Global,
         reports: &mut F::Reports,
-        name: &str,
-        other: &str,
+        name: &F::Name,
+        other: &F::Name,
     ) -> Result<bool, AllocError> {
         if fails(self.count) {
             return Err(AllocError);
@@ -139,7 +161,7 @@ impl<'c, F: Folder + Drop> Folder for FailingFolder<'c, F> {
         &self,
         alloc: Global,
         reports: &mut F::Reports,
-        name: &str,
+        name: &F::Name,
     ) -> Result<Option<F::Left>, Refusal> {
         if fails(self.count) {
             return Err(Refusal::Refused);
@@ -158,7 +180,7 @@ impl<'c, F: Folder + Drop> Folder for FailingFolder<'c, F> {
         &mut self,
         alloc: Global,
         reports: &mut F::Reports,
-        name: &str,
+        name: &F::Name,
     ) -> Result<FailingNew<'c, F::New>, Refusal> {
         if fails(self.count) {
             return Err(Refusal::Refused);
@@ -172,11 +194,22 @@ impl<'c, F: Folder + Drop> Folder for FailingFolder<'c, F> {
         }
     }
 
+    fn sync_new(
+        &self,
+        new: &mut FailingNew<'c, F::New>,
+        name: &F::Name,
+    ) -> Result<(), DeviceFault> {
+        if new.calls.fails() {
+            return Err(DeviceFault);
+        }
+        self.inner.sync_new(&mut new.inner, name)
+    }
+
     fn rename(
         &mut self,
         alloc: Global,
         new: FailingNew<'c, F::New>,
-        name: &str,
+        name: &F::Name,
     ) -> Result<(), (Refusal, FailingNew<'c, F::New>)> {
         if fails(self.count) {
             return Err((Refusal::Refused, new));
@@ -188,11 +221,11 @@ impl<'c, F: Folder + Drop> Folder for FailingFolder<'c, F> {
         }
     }
 
-    fn sync_folder(&mut self, alloc: Global, name: &str) -> Result<(), Refusal> {
+    fn sync_name(&mut self, alloc: Global, name: &F::Name) -> Result<(), Refusal> {
         if fails(self.count) {
             return Err(Refusal::Refused);
         }
-        self.inner.sync_folder(alloc, name)
+        self.inner.sync_name(alloc, name)
     }
 
     fn discard(&mut self, new: FailingNew<'c, F::New>) {

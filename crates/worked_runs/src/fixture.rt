@@ -3,7 +3,7 @@ ghost use Rattle.std.specs.Prelude.{◌≡◌, ◌<◌, ◌^◌, ◌-◌, length
 
 use mail_answer::{Archives, FailAt, MemoryArchives};
 use mail_dates::Moment;
-use mail_index::is_path;
+use mail_index::{Digests, is_path};
 use mairix_tool::{IndexJob, OrMemory, Reply, once_run, read_rc, search_run};
 use mbox_cutter::{MemoryOut, MemorySource};
 use std::alloc::{AllocError, Global};
@@ -320,7 +320,7 @@ fn indexed(alloc: Global, rc: &[u8], archives: &[Vec<u8>]) -> Option<Vec<u8>> {
 
 /// Returns the index file of archives under these paths.
 fn indexed_as(alloc: Global, paths: &[String], archives: &[Vec<u8>]) -> Option<Vec<u8>> {
-    let mut job = IndexJob::new(alloc).ok()?;
+    let mut job = IndexJob::new(alloc, Digests::Computed).ok()?;
     add_archives(alloc, &mut job, paths, archives)?;
     let mut out = MemoryOut::new(alloc, None);
     job.finish(&mut out).ok()?;

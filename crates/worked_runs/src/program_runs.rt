@@ -5,7 +5,7 @@ use crate::fixture::{NOW, bytes_of, push_words, reports};
 use mail_dates::Moment;
 use mairix_files::{KitFolder, SupposedNames};
 use mairix_run::{MemoryStream, ProgramTexts, run_program};
-use named_files::Folder;
+use named_files::{Folder, MadeNames};
 use std::alloc::Global;
 use std::{fs, process};
 
@@ -14,7 +14,7 @@ use std::{fs, process};
 /// `write FILE => TEXT` makes a file, `has FILE => TEXT` gives the bytes of a file, and `run WORDS => TEXT` what a run
 /// prints on standard output and on standard error, and its status.
 const STEPS: &str = "\
-run -V => mairix 0.1.0|exit 0
+run -V => mairix 0.3.0~unreleased|exit 0
 run -f, @/rc, -r, s:hello => mairix: cannot open @/rc|exit 4
 write @/rc => base=@|mbox=m.mbox|database=@/m.idx|mfolder=hits|
 run -f, @/rc => mairix: cannot open @/m.mbox|exit 4
@@ -54,11 +54,19 @@ fn in_folder(alloc: Global, folder: &str, text: &str) -> Option<String> {
 /// Returns what a run with these words prints over the files of the system.
 fn printed(rt: &HostRuntime, alloc: Global, line: &str) -> Option<Vec<u8>> {
     let mut folder = KitFolder::new(rt, SupposedNames::new());
-    printed_over(&mut folder, alloc, line)
+    let mut names = MadeNames::new();
+    let printed = printed_over(&mut folder, &mut names, alloc, line);
+    names.close();
+    printed
 }
 
 /// Returns what a run with these words prints over the files of a folder, and its status.
-pub fn printed_over<F: Folder>(folder: &mut F, alloc: Global, line: &str) -> Option<Vec<u8>>
+pub fn printed_over<F: Folder>(
+    folder: &mut F,
+    names: &mut F::Names,
+    alloc: Global,
+    line: &str,
+) -> Option<Vec<u8>>
     requires { F.making folder.old ≡ None }
 {
     let now = Moment::new(NOW)?;
@@ -71,6 +79,7 @@ pub fn printed_over<F: Folder>(folder: &mut F, alloc: Global, line: &str) -> Opt
         folder,
         alloc,
         &mut reports,
+        names,
         &ProgramTexts,
         &words,
         now,

@@ -8,7 +8,7 @@ use crate::early_end::EarlyEnd;
 use crate::verified::Change::{Bit, Longer};
 use mail_answer::AnswerFaultKind::{Device, OutFailed, OutOfMemory, Stale};
 use mail_answer::{AnswerFault, AnswerFaultKind, Archives, FailAt, MemoryArchives, verify};
-use mail_index::{BuildFault, Builder, IndexView, is_path};
+use mail_index::{BuildFault, Builder, Digests, IndexView, is_path};
 use mbox_cutter::MemoryOut;
 use std::alloc::Global;
 
@@ -58,7 +58,10 @@ fn index_file(alloc: Global) -> Option<MemoryOut> {
     match build(&mut builder, path) {
         Ok(()) => {
             let mut out = MemoryOut::new(alloc, None);
-            builder.write(&mut out).is_ok().then_some(out)
+            builder
+                .write(&mut out, Digests::Computed)
+                .is_ok()
+                .then_some(out)
         }
         Err(_) => None,
     }

@@ -11,9 +11,17 @@ pub returns-clause-old_index : goal.returns-clause-old_index
 unfolding looking
 returns-clause-old_index c = refl
 
+pub returns-clause-empty_file : goal.returns-clause-empty_file
+unfolding looking
+returns-clause-empty_file c = refl
+
 pub returns-clause-name_of_mail : goal.returns-clause-name_of_mail
 unfolding looking
 returns-clause-name_of_mail c = refl
+
+pub returns-clause-front_of_magic : goal.returns-clause-front_of_magic
+unfolding looking
+returns-clause-front_of_magic c = refl
 
 pub returns-clause-old_answer : goal.returns-clause-old_answer
 unfolding looking
@@ -27,9 +35,9 @@ pub returns-clause-left_by_killed : goal.returns-clause-left_by_killed
 unfolding looking
 returns-clause-left_by_killed c = refl
 
-pub returns-clause-link_to_passing : goal.returns-clause-link_to_passing
+pub returns-clause-link_to_temporary : goal.returns-clause-link_to_temporary
 unfolding looking
-returns-clause-link_to_passing c = refl
+returns-clause-link_to_temporary c = refl
 
 pub returns-clause-name_of_archive : goal.returns-clause-name_of_archive
 unfolding looking
@@ -38,6 +46,10 @@ returns-clause-name_of_archive c = refl
 pub returns-clause-name_of_device : goal.returns-clause-name_of_device
 unfolding looking
 returns-clause-name_of_device c = refl
+
+pub returns-clause-temporary_name : goal.returns-clause-temporary_name
+unfolding looking
+returns-clause-temporary_name c = refl
 
 pub returns-clause-no_last_part : goal.returns-clause-no_last_part
 unfolding looking

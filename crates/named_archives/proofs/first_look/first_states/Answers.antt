@@ -1,12 +1,10 @@
 -- One more name has one more state, and what is reported of its file.
-use Rattle.std.proofs.Common.{◌≡◌, ◌∙◌, ◌<◌, ◌≤◌, ◌+◌, ◌&&◌, ℕ, true, not, List, [], ◌∷◌, ◌++◌, Option, is_some, is_ok}
-use Rattle.std.proofs.Common.{String, Global, length, take, length-take-le, sym, ap, subst, arith}
+use Rattle.std.proofs.Common.{◌≡◌, ◌∙◌, ◌<◌, ◌≤◌, ◌+◌, ◌&&◌, ℕ, true, not, List, [], ◌∷◌, ◌++◌, Option, is_some, is_ok, length, take, length-take-le, sym, ap, subst, arith}
 use Rattle.std.specs.List.{list_all}
-use Rattle.std.specs.String.{string_bytes}
 use Rattle.std.proofs.lemmas.List.{length-map}
 use Rattle.named_files.specs.Entries.{bytes_of}
 use Rattle.named_archives.specs.Names.{files_of}
-use Rattle.named_archives.specs.States.{AreStatesOf, IsStateOf}
+use Rattle.named_archives.specs.States.{AreStatesOf}
 use Rattle.named_archives.proofs.Lists.{agree-more}
 use Rattle.named_archives.proofs.States.{files-more, states-more}
 use Rattle.named_archives.proofs.first_look.first_states.Goals as goal
@@ -18,15 +16,15 @@ loop-number-preserved g c =
     let found = g.F.File.KeptFile.state_found in
     let rest = g.F.File.Source.rest in
     let n : ℕ = c.loop-number.number in
-    let names : List (String Global) = c.args.names.now in
-    let name : String Global = c.index-names-number.result in
+    let text = g.F.Name.FileName.text in
+    let names : List g.row.F-Name.Denot = c.args.names.now in
+    let name : g.row.F-Name.Denot = c.index-names-number.result in
     let states : List g.row.F-File-State.Denot = c.loop-number.states.items in
     let below : n < length names = omega arith in
-    let file : Option (List ℕ) = bytes_of (holds (string_bytes name)) in
-    let files : List (Option (List ℕ)) = files_of holds (take n names) in
-    let more : files_of holds (take (n + 1) names) ≡ files ++ file ∷ [] =
-    files-more holds names n name below c.index-names-number.is in
-    let here : c.as_str.result.now ≡ string_bytes name = c.as_str.ensures.value in
+    let file : Option (List ℕ) = bytes_of (holds (text name)) in
+    let files : List (Option (List ℕ)) = files_of text holds (take n names) in
+    let more : files_of text holds (take (n + 1) names) ≡ files ++ file ∷ [] =
+    files-more text holds names n name below c.index-names-number.is in
     let told = c.in-Ok.ensures in
     let pushed : is_ok c.push.result ≡ true = c.is_err.ensures.negation ∙ ap not c.if-is_err.false in
     let items : c.push.new.self.items ≡ states ++ c.in-Ok.state ∷ [] = rw pushed at c.push.ensures.items in
@@ -36,13 +34,13 @@ loop-number-preserved g c =
     let old = g.F.Folder.agree c.args.reports.now in
     let mid = g.F.Folder.agree c.loop-number.reports in
     let noted : g.F.Folder.agree c.first_state.new.reports ≡ (mid && is_some file) =
-    told.noted ∙ ap (λ k. mid && is_some (bytes_of (holds k))) here in
+    told.noted in
     record {
       count = omega (arith, i.count, rw pushed at c.push.ensures.len);
       states = subst (λ (fs : List (Option (List ℕ))). AreStatesOf found rest fs c.push.new.self.items) (sym more)
           (subst (λ (ss : List g.row.F-File-State.Denot). AreStatesOf found rest (files ++ file ∷ []) ss) (sym items)
           (states-more found rest files states file c.in-Ok.state long i.states
-          (subst (λ (k : List ℕ). IsStateOf found rest (bytes_of (holds k)) c.in-Ok.state) here told.state)));
+          told.state));
       noted = agree-more (λ f. is_some f) files file old mid (g.F.Folder.agree c.first_state.new.reports) i.noted noted
           ∙ ap (λ fs. old && list_all (λ f. is_some f) fs) (sym more);
       right = λ right. told.right right ∙ i.right right;

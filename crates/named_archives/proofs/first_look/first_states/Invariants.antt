@@ -9,8 +9,9 @@ abbrev pub invariant-loop-number : goal.invariant-loop-number
 invariant-loop-number g l = record {
   count : vec_len l.states ≡ l.number;
   states : AreStatesOf g.F.File.KeptFile.state_found g.F.File.Source.rest
-      (files_of (g.F.Folder.holds l.folder) (take l.number l.names)) l.states.items;
+      (files_of g.F.Name.FileName.text (g.F.Folder.holds l.folder) (take l.number l.names)) l.states.items;
   noted : g.F.Folder.agree l.reports ≡ (g.F.Folder.agree l.fn.reports
-      && list_all (λ file. is_some file) (files_of (g.F.Folder.holds l.folder) (take l.number l.names)));
+      && list_all (λ file. is_some file) (files_of g.F.Name.FileName.text (g.F.Folder.holds l.folder)
+      (take l.number l.names)));
   right : g.F.Folder.reports_are_right → g.F.Folder.agree l.reports ≡ g.F.Folder.agree l.fn.reports;
 }

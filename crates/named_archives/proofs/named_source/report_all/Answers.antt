@@ -19,7 +19,8 @@ loop-source-preserved g c =
           (g.F.Folder.agree c.report.new.reports) i.noted told.noted.noted;
       right = λ right. told.noted.right right ∙ i.right right;
       known = λ agrees. All-push (λ s. s.failures ≡ 0 → IsSome s.file
-          → IsSome (bytes_left_in g.F.File.Source.rest (bytes_of (g.F.Folder.holds s.folder.now s.name.now)) s.file
+          → IsSome (bytes_left_in g.F.File.Source.rest
+          (bytes_of (g.F.Folder.holds s.folder.now (g.F.Name.FileName.text s.name.now))) s.file
           s.progress)) c.loop-source.yielded source (i.known (first-true _ _ _ told.noted.noted agrees))
           (told.known agrees);
     }

@@ -11,7 +11,8 @@ invariant-loop-source g l = record {
       (λ s. has_agreed g.F.File.Source.rest g.F.File.KeptFile.bytes s.file) l.yielded);
   right : g.F.Folder.reports_are_right → g.F.Folder.agree l.reports ≡ g.F.Folder.agree l.fn.reports;
   known : g.F.Folder.agree l.reports ≡ true → All (λ s. s.failures ≡ 0 → IsSome s.file
-      → IsSome (bytes_left_in g.F.File.Source.rest (bytes_of (g.F.Folder.holds s.folder.now s.name.now)) s.file
+      → IsSome (bytes_left_in g.F.File.Source.rest
+      (bytes_of (g.F.Folder.holds s.folder.now (g.F.Name.FileName.text s.name.now))) s.file
       s.progress))
       l.yielded;
 }

@@ -14,4 +14,5 @@ returns-clause-known g c = λ agrees each.
     (and-true (g.F.Folder.agree c.args.reports.now) _ (sym c.add_reports.ensures ∙ agrees)).1 in
     held-all (g.F.Folder.agree a.closed && has_agreed {F = ReadAhead g.row.F-File.Denot g.row.F-File-State.Denot
     g.F.File.KeptFile g.F.File.Source} (λ x. g.F.File.Source.rest x.file) (λ x. g.F.File.KeptFile.bytes x.file)
-    a.current) (files_of (g.F.Folder.holds a.folder.now) a.names.now) (sym c.close_open.ensures.noted ∙ closed) each
+    a.current) (files_of g.F.Name.FileName.text (g.F.Folder.holds a.folder.now) a.names.now)
+    (sym c.close_open.ensures.noted ∙ closed) each

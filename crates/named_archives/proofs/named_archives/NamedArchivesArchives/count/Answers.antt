@@ -13,6 +13,6 @@ returns g c =
       refl,
       held-length (g.F.Folder.agree a.closed && has_agreed {F = ReadAhead g.row.F-File.Denot g.row.F-File-State.Denot
           g.F.File.KeptFile g.F.File.Source} (λ x. g.F.File.Source.rest x.file) (λ x. g.F.File.KeptFile.bytes x.file)
-          a.current) (files_of (g.F.Folder.holds a.folder.now) a.names.now) (length a.names.now)
+          a.current) (files_of g.F.Name.FileName.text (g.F.Folder.holds a.folder.now) a.names.now) (length a.names.now)
           (length-map a.names.now _),
     )

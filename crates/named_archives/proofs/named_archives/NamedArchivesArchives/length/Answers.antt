@@ -10,7 +10,7 @@ use Rattle.named_archives.proofs.named_archives.NamedArchivesArchives.length.Goa
 pub returns-clause-bytes : goal.returns-clause-bytes
 returns-clause-bytes g c =
     let new = c.length_here.new.self in
-    let files = files_of (g.F.Folder.holds new.folder.now) new.names.now in
+    let files = files_of g.F.Name.FileName.text (g.F.Folder.holds new.folder.now) new.names.now in
     let here : new.number ≡ c.args.n = c.length_here.ensures.same.4 ∙ c.in_ok-turn_to.ensures.opened.0 in
     subst (λ (k : ℕ). IfOk c.length_here.result (λ bytes. IsLength k bytes
     (held_while (g.F.Folder.agree new.closed && has_agreed {F = ReadAhead g.row.F-File.Denot g.row.F-File-State.Denot

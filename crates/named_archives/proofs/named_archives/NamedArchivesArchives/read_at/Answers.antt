@@ -10,7 +10,7 @@ use Rattle.named_archives.proofs.named_archives.NamedArchivesArchives.read_at.Go
 pub returns-clause-bytes : goal.returns-clause-bytes
 returns-clause-bytes g c =
     let new = c.read_here.new.self in
-    let files = files_of (g.F.Folder.holds new.folder.now) new.names.now in
+    let files = files_of g.F.Name.FileName.text (g.F.Folder.holds new.folder.now) new.names.now in
     let here : new.number ≡ c.args.n = c.read_here.ensures.same.4 ∙ c.in_ok-turn_to.ensures.opened.0 in
     subst (λ (k : ℕ). IfOk c.read_here.result
     (λ bytes. IsReadFromArchive k c.args.offset (take bytes c.read_here.new.into)

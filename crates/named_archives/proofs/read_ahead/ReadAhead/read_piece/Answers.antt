@@ -21,13 +21,13 @@ invariant_of-self-2 g c =
     let long : length c.fill.new.room ≡ vec_len ahead.room =
     omega (arith, c.fill.auto.room, c.as_mut_slice-room.ensures.len) in
     record {
-      in_room = omega (arith, long, c.in_ok-read.ensures.bound);
+      in_room = omega (arith, long, c.in_ok-read.ensures.bytes.0);
       piece = subst
           (λ (items : List ℕ). IsPiece c.args.offset (take read items) (g.F.KeptFile.bytes c.fill.new.file))
           (sym (with_items_is ahead.room c.fill.new.room long))
           (is-piece c.args.offset (take read c.fill.new.room) (g.F.KeptFile.bytes c.fill.new.file)
-          c.in_ok-read.ensures.bytes);
-      in_state = λ some. c.in_ok-read.ensures.in_state;
+          c.in_ok-read.ensures.bytes.1);
+      in_state = λ some. c.in_ok-read.ensures.call.in_state;
     }
 
 pub returns-clause-bytes : goal.returns-clause-bytes
@@ -38,4 +38,4 @@ returns-clause-bytes g c =
     omega (arith, c.fill.auto.room, c.as_mut_slice-room.ensures.len) in
     subst
     (λ (items : List ℕ). IsReadFromFile c.args.offset (take read items) (g.F.KeptFile.bytes c.fill.new.file))
-    (sym (with_items_is ahead.room c.fill.new.room long)) c.in_ok-read.ensures.bytes
+    (sym (with_items_is ahead.room c.fill.new.room long)) c.in_ok-read.ensures.bytes.1

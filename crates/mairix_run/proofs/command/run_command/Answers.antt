@@ -1,0 +1,33 @@
+-- A run of the words at the second of the clock is what `run_program` makes.
+use Rattle.std.proofs.Common.{◌≡◌, inl, true, drop, map, string_bytes, subst, List, String, Global, ℕ, Result, Ok, Err, IfOk}
+use Rattle.std.specs.Vec.Iter.{into_iter_items}
+use Rattle.mairix_run.specs.Commands.{RunsProgram}
+use Rattle.mairix_run.proofs.command.run_command.Goals as goal
+
+-- what follows for each value
+ok-weaker : {A E : Type 0} (r : Result A E) (P Q : A → Type 0) → ((a : A) → P a → Q a) → IfOk r P → IfOk r Q
+ok-weaker (Ok a) P Q f h = f a h
+ok-weaker (Err e) P Q f h = cc
+
+pub returns-in-Ok-clause-ran : goal.returns-in-Ok-clause-ran
+returns-in-Ok-clause-ran g c =
+    let F = g.F.Folder in
+    let texts = c.args.texts.now in
+    let run = c.run_program in
+    let says = run.ensures in
+    let Made = λ (words : List (String Global)) (second : ℕ). RunsProgram F g.O.Out g.O.Stream.handed_on g.E.Out
+    (g.T.Texts.is_usage_text texts (map string_bytes words)) g.T.Texts.memory_can_run_out (map string_bytes words)
+    second (F.agree run.new.reports ≡ true) c.args.folder.now run.new.folder (F.made c.args.names.now)
+    (F.made run.new.names) c.args.out.now run.new.out c.args.err.now run.new.err run.result in
+    let made : Made c.as_slice-words.result.now c.moment_of-now.result = record {
+      run = says.run;
+      read = says.read;
+      alone = says.alone;
+      any_moment = says.any_moment;
+      calls = says.calls;
+      named = says.named;
+    } in
+    let of-items = subst (λ words. Made words c.moment_of-now.result) c.as_slice-words.ensures.value made in
+    ok-weaker c.args.args _ _ (λ args same.
+    inl (subst (λ second. Made (drop 1 (into_iter_items args)) second) c.moment_of-now.ensures
+    (subst (λ words. Made words c.moment_of-now.result) same of-items))) c.in-Ok.ensures.words

@@ -1,0 +1,317 @@
+//! A whole run.
+
+ghost use Rattle.std.specs.Prelude.{◌≡◌, ◌≢◌, ◌⊎◌, ◌<◌, ◌≤◌, ◌+◌, ◌-◌, ◌^◌, ◌∷◌, ℕ, List, true, false, None, Some, Ok, Err, All, length, map, vec_len, IfErr, OnOk, OnErr, IfOk, string_bytes};
+ghost use Rattle.mail_index.specs.Tables.{IsPath};
+ghost use Rattle.mairix_options.specs.AnswerFiles.{answer_file};
+ghost use Rattle.mairix_options.specs.CommandLine.{plan as plan_asked};
+ghost use Rattle.mairix_run.specs.AskedNames.{AsksFor, AsksOnlyFor};
+ghost use Rattle.mairix_run.specs.NamesUsed.{names_asked, names_of_plan, names_of_words, names_planned, names_used, both_names};
+ghost use Rattle.mairix_run.specs.Reports.{ReportsEnding};
+ghost use Rattle.mairix_run.specs.Stops.{Ending, ending_of_result, ending_of_stopped};
+ghost use Rattle.mairix_run.specs.Tasks.{files_at, is_index_run, search_stored_task, task_of, task_of_plan, task_of_rc};
+ghost use Rattle.mairix_run.specs.Inside.RunParts.{Ran};
+ghost use Rattle.mairix_run.specs.WholeRuns.{CallsFor, IsTrouble, RunLeaves, Runs, file_made, is_left_alone, names_kept};
+ghost use Rattle.mairix_tool.specs.Asked.{wanted_of_words, asks};
+ghost use Rattle.named_archives.specs.Names.{files_of};
+ghost use Rattle.named_archives.specs.States.{AreStatesOf};
+ghost use Rattle.named_files.specs.Crashes.{LeavesOnly};
+ghost use Rattle.named_files.specs.Entries.{SameWhere, bytes_of};
+ghost use Rattle.named_files.specs.Reported.{AddsReports};
+
+use crate::asked::Asked;
+use crate::ending_report::report_ending;
+use crate::file_names::names_of_files;
+use crate::named_file::{Reading, read_named};
+use crate::new_index::NewIndex;
+use crate::read_names::ReadNames;
+use crate::replacement::replace_file;
+use crate::search::run_search;
+use crate::stopped::Stopped;
+use crate::stream::Stream;
+use crate::texts::Texts;
+use mail_dates::Moment;
+use mairix_options::{Plan, plan_of, read_rc};
+use mbox_cutter::Out;
+use named_archives::{Unopened, first_states};
+use named_files::{FileName, Folder, KeptFile, Refusal};
+use run_faults::Fault;
+use std::alloc::Global;
+
+/// Runs the words after the program's name over the files that they name, and returns the exit status.
+///
+/// Without a pattern and without `--once`, the archives are indexed into the rcfile's `database`. Otherwise they are
+/// searched by the index in `database`; with `--verify` only if they are proved to be those that were indexed. With
+/// `--once` they are searched by an index that is made in memory, whatever `--verify` says. An mbox goes to the file
+/// that words and rcfile name, in place of an older answer, unless `--stdout` is given; any other answer goes to `out`.
+///
+/// A fault is written to `err` as one line, `mairix: ` and its text. If the parser refuses the words, its own text is
+/// written instead, which for help and version goes to `out`. The first file that can't be opened, read or made ends
+/// the run, before the query is read.
+///
+/// The status is 0 with messages or a new index, and 1 without a message. It is 2 if words, rcfile or query are
+/// refused, and 3 if the index is refused or isn't that of the archives. It is 4 if a file can't be opened, read, made
+/// or renamed, if the output failed, or if an archive is no mbox. It is 5 if memory runs out, or if there are too many
+/// messages or keys, or an archive is too long.
+#[tactic(auto, using(crate::proofs::AskedNames::asks_only))]
+pub fn run_program<F: Folder, T: Texts, O: Stream, E: Out>(
+    folder: &mut F,
+    alloc: Global,
+    reports: &mut F::Reports,
+    names: &mut F::Names,
+    texts: &T,
+    words: &[String],
+    now: Moment,
+    out: &mut O,
+    err: &mut E,
+) -> u8
+    requires making { F.making folder.old ≡ None }
+    requires out { O.failures out.old < 2 ^ 64 - 2 }
+    requires err { E.failures err.old < 2 ^ 64 - 1 }
+    // If all that was reported of the files agrees with what they hold: the run does what words, rcfile and files ask
+    // for, or ends by the first refusal, or in trouble with one of the names that it uses. Then it reports that ending,
+    // and returns its status.
+    ensures run { F.agree reports.new ≡ true → (ended : Ending) × (printed : O)
+        × Runs F.Folder O.Out O.handed_on
+        (names_used (F.holds folder.old) (plan_asked (map string_bytes words.now)))
+        (task_of (F.holds folder.old) (map string_bytes words.now) now) folder.old folder.new
+        out.old printed ended
+        × ReportsEnding O.Out O.handed_on E.Out
+        (T.is_usage_text texts.now (map string_bytes words.now)) T.memory_can_run_out ended
+        result printed out.new err.old err.new }
+    // Each file that is read is as it was, and so is each other one, but for the one that is made.
+    ensures read { F.agree reports.new ≡ true
+        → All (λ n. F.holds folder.new n ≡ F.holds folder.old n) (names_kept
+        (task_of (F.holds folder.old) (map string_bytes words.now) now)) }
+    ensures alone { F.agree reports.new ≡ true → SameWhere (is_left_alone (F.apart folder.old)
+        (file_made (task_of (F.holds folder.old) (map string_bytes words.now) now)))
+        (F.holds folder.old) (F.holds folder.new) }
+    // A crash at any moment leaves under the name of that file the old one, or the whole new one.
+    ensures any_moment { F.agree reports.new ≡ true
+        → LeavesOnly F.moment F.left_since folder.old folder.new
+        (RunLeaves (F.apart folder.old) (F.may_leave folder.old)
+        (task_of (F.holds folder.old) (map string_bytes words.now) now)) }
+    // These calls change files, in this order, and no other. They fit the ending that is reported.
+    ensures calls { F.agree reports.new ≡ true → (ended : Ending) × (printed : O)
+        × CallsFor F.Folder (file_made
+        (task_of (F.holds folder.old) (map string_bytes words.now) now)) ended
+        folder.old folder.new
+        × ReportsEnding O.Out O.handed_on E.Out
+        (T.is_usage_text texts.now (map string_bytes words.now)) T.memory_can_run_out ended
+        result printed out.new err.old err.new }
+    ensures none { F.making folder.new ≡ None }
+    ensures reports { AddsReports F.reports_are_right (F.agree reports.old) (F.agree reports.new) }
+    // Whatever is reported: as long as all of it agrees, only names of the words and of the rcfile are made. No other name
+    // is looked at, opened, made, renamed or removed.
+    ensures named { AsksOnlyFor
+        (names_of_words (F.holds folder.old) (plan_asked (map string_bytes words.now)))
+        (F.made names.old) (F.made names.new) }
+{
+    let ended = run_words(folder, alloc, reports, names, words, now, out);
+    report_ending(alloc, texts, words, ended, out, err)
+}
+
+/// Runs the words, and returns the status unless the run was stopped.
+#[tactic(auto, using(crate::proofs::AskedNames::asks_none))]
+fn run_words<F: Folder, O: Stream>(
+    folder: &mut F,
+    alloc: Global,
+    reports: &mut F::Reports,
+    names: &mut F::Names,
+    words: &[String],
+    now: Moment,
+    out: &mut O,
+) -> Result<u8, Stopped>
+    requires making { F.making folder.old ≡ None }
+    requires out { O.failures out.old < 2 ^ 64 - 1 }
+    ensures asked { AsksFor
+        (names_of_words (F.holds folder.old) (plan_asked (map string_bytes words.now)))
+        (F.agree reports.old) (F.made names.old) (F.made names.new) }
+    ensures ran { F.agree reports.new ≡ true → Ran F.Folder O.Out O.handed_on
+        (names_used (F.holds folder.old) (plan_asked (map string_bytes words.now)))
+        (task_of (F.holds folder.old) (map string_bytes words.now) now)
+        folder.old folder.new out.old out.new (ending_of_result result) }
+    ensures none { F.making folder.new ≡ None }
+    ensures count { O.failures out.new ≤ O.failures out.old + 1 }
+    ensures reports { AddsReports F.reports_are_right (F.agree reports.old) (F.agree reports.new) }
+{
+    let plan = match plan_of(alloc, words) {
+        Ok(plan) => plan,
+        Err(given) => return Err(given.into()),
+    };
+    run_plan(folder, alloc, reports, names, words, &plan, now, out)
+}
+
+/// Reads the rcfile, and does what it and the words ask for.
+fn run_plan<F: Folder, O: Stream>(
+    folder: &mut F,
+    alloc: Global,
+    reports: &mut F::Reports,
+    names: &mut F::Names,
+    words: &[String],
+    plan: &Plan,
+    now: Moment,
+    out: &mut O,
+) -> Result<u8, Stopped>
+    requires planned { plan_asked (map string_bytes words.now) ≡ Ok plan.now }
+    requires making { F.making folder.old ≡ None }
+    requires out { O.failures out.old < 2 ^ 64 - 1 }
+    ensures asked { AsksFor (names_of_plan (F.holds folder.old) plan.now) (F.agree reports.old)
+        (F.made names.old) (F.made names.new) }
+    ensures ran { F.agree reports.new ≡ true → Ran F.Folder O.Out O.handed_on
+        (names_planned (F.holds folder.old) plan.now)
+        (task_of_plan (F.holds folder.old) (map string_bytes words.now) now plan.now)
+        folder.old folder.new out.old out.new (ending_of_result result) }
+    ensures none { F.making folder.new ≡ None }
+    ensures count { O.failures out.new ≤ O.failures out.old + 1 }
+    ensures reports { AddsReports F.reports_are_right (F.agree reports.old) (F.agree reports.new) }
+{
+    let rcfile = folder.name(alloc, names, reports, plan.rcfile.as_str())?;
+    let text = read_named(folder, alloc, reports, &rcfile, Reading::Whole);
+    let text = match Stopped::or_stopped(alloc, rcfile.as_str(), text) {
+        Ok(text) => text,
+        Err(stopped) => return Err(stopped),
+    };
+    let rc = match read_rc(alloc, text.as_slice()) {
+        Ok(rc) => rc,
+        Err(given) => return Err(given.into()),
+    };
+    let files = names_of_files(folder, alloc, names, reports, plan, &rc)?;
+    let asked = Asked {
+        words,
+        plan,
+        text: text.as_slice(),
+        rc: &rc,
+        now,
+        rcfile: &rcfile,
+        names: &files,
+    };
+    run_asked(folder, alloc, reports, &asked, out)
+}
+
+/// Indexes the archives, or searches them. Each archive has to be there.
+fn run_asked<F: Folder, O: Stream>(
+    folder: &mut F,
+    alloc: Global,
+    reports: &mut F::Reports,
+    asked: &Asked<'_, F>,
+    out: &mut O,
+) -> Result<u8, Stopped>
+    requires paths { All IsPath asked.now.rc.now.paths }
+    requires making { F.making folder.old ≡ None }
+    requires out { O.failures out.old < 2 ^ 64 - 1 }
+    ensures ran { F.agree reports.new ≡ true → Ran F.Folder O.Out O.handed_on
+        (names_asked asked.entry.now.plan.now asked.entry.now.rc.now)
+        (task_of_rc (F.holds folder.old)
+        (asks asked.entry.now.words.now asked.entry.now.text.now asked.entry.now.now)
+        asked.entry.now.plan.now asked.entry.now.rc.now)
+        folder.old folder.new out.old out.new (ending_of_result result) }
+    ensures none { F.making folder.new ≡ None }
+    ensures count { O.failures out.new ≤ O.failures out.old + 1 }
+    ensures reports { AddsReports F.reports_are_right (F.agree reports.old) (F.agree reports.new) }
+{
+    let Asked {
+        plan,
+        rc,
+        rcfile,
+        names,
+        ..
+    } = *asked;
+    let archives = names.archives.as_slice();
+    let states = match states_of(folder, alloc, reports, archives) {
+        Ok(states) => states,
+        Err(stopped) => return Err(stopped),
+    };
+    if is_index_run(plan) {
+        let Some(file) = &names.file else {
+            unreachable!();
+        };
+        let index = NewIndex {
+            paths: rc.paths.as_slice(),
+            names: archives,
+        };
+        let read = ReadNames {
+            rcfile,
+            archives,
+            database: None,
+        };
+        return replace_file(folder, alloc, reports, &index, &read, file);
+    }
+    let states = states.as_slice();
+    if plan.once {
+        return run_search(folder, alloc, reports, asked, states, None, out);
+    }
+    search_stored(folder, alloc, reports, asked, states, out)
+}
+
+/// Whether a run makes an index: it does without a pattern and without `--once`.
+pub(crate) fn is_index_run(plan: &Plan) -> bool
+    ensures { result ≡ is_index_run plan.now }
+{
+    plan.patterns.as_slice().is_empty() && !plan.once
+}
+
+/// Returns the first states of the archives' files. The run is stopped at the first archive that can't be opened.
+fn states_of<F: Folder>(
+    folder: &F,
+    alloc: Global,
+    reports: &mut F::Reports,
+    names: &[F::Name],
+) -> Result<Vec<<F::File as KeptFile>::State>, Stopped>
+    ensures ok { OnOk result (F.agree reports.new ≡ true → (bytes : List (List ℕ))
+        × (files_at (F.holds folder.now) (map F.Name.text names.now) ≡ Ok bytes)) }
+    ensures states { IfOk result (λ states. AreStatesOf F.File.state_found F.File.rest
+        (files_of F.Name.text (F.holds folder.now) names.now) states.items) }
+    ensures count { IfOk result (λ states. vec_len states ≡ length names.now) }
+    ensures err { IfErr result (λ stopped. F.agree reports.new ≡ true
+        → (files_at (F.holds folder.now) (map F.Name.text names.now)
+        ≡ Err (ending_of_stopped stopped))
+        ⊎ IsTrouble (map F.Name.text names.now) F.can_refuse F.reads_can_fail
+        (ending_of_stopped stopped)) }
+    ensures reports { AddsReports F.reports_are_right (F.agree reports.old) (F.agree reports.new) }
+{
+    match first_states(folder, alloc, reports, names) {
+        Ok(states) => Ok(states),
+        Err(Unopened { number, why }) => match why {
+            Refusal::Refused => Err(Stopped::cannot_open(alloc, names[number].as_str())),
+            Refusal::Memory => Err(Stopped::Fault(Fault::Memory)),
+        },
+    }
+}
+
+/// Searches the archives by the index in the rcfile's `database`.
+fn search_stored<F: Folder, O: Stream>(
+    folder: &mut F,
+    alloc: Global,
+    reports: &mut F::Reports,
+    asked: &Asked<'_, F>,
+    states: &[<F::File as KeptFile>::State],
+    out: &mut O,
+) -> Result<u8, Stopped>
+    requires states { AreStatesOf F.File.state_found F.File.rest
+        (map (λ name. bytes_of (F.holds folder.old name)) asked.now.rc.now.paths) states.now }
+    requires each { length states.now ≡ length asked.now.rc.now.paths }
+    requires making { F.making folder.old ≡ None }
+    requires searches { is_index_run asked.now.plan.now ≡ false }
+    requires out { O.failures out.old < 2 ^ 64 - 1 }
+    ensures ran { (bytes : List (List ℕ))
+        → files_at (F.holds folder.old) asked.entry.now.rc.now.paths ≡ Ok bytes
+        → F.agree reports.new ≡ true → Ran F.Folder O.Out O.handed_on
+        (asked.entry.now.rc.now.database ∷ both_names
+        (answer_file asked.entry.now.plan.now asked.entry.now.rc.now))
+        (search_stored_task (F.holds folder.old)
+        (asks asked.entry.now.words.now asked.entry.now.text.now asked.entry.now.now)
+        asked.entry.now.plan.now asked.entry.now.rc.now bytes)
+        folder.old folder.new out.old out.new (ending_of_result result) }
+    ensures none { F.making folder.new ≡ None }
+    ensures count { O.failures out.new ≤ O.failures out.old + 1 }
+    ensures reports { AddsReports F.reports_are_right (F.agree reports.old) (F.agree reports.new) }
+{
+    let database = &asked.names.database;
+    let index = read_named(folder, alloc, reports, database, Reading::Index);
+    let index = match Stopped::or_stopped(alloc, database.as_str(), index) {
+        Ok(index) => index,
+        Err(stopped) => return Err(stopped),
+    };
+    let index = Some(index.as_slice());
+    run_search(folder, alloc, reports, asked, states, index, out)
+}

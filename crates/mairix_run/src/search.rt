@@ -1,0 +1,151 @@
+//! A search, and where its answer goes.
+
+ghost use Rattle.std.specs.Prelude.{◌≡◌, ◌⊎◌, ◌<◌, ◌≤◌, ◌+◌, ◌-◌, ◌^◌, ◌&&◌, ◌∷◌, ⊤, ℕ, List, [], true, false, None, Some, Ok, All, length, map};
+ghost use Rattle.std.specs.Option.{option_map};
+ghost use Rattle.mairix_options.specs.AnswerFiles.{answer_file as answer_file_of};
+ghost use Rattle.mairix_run.specs.Inside.RunParts.{Ran};
+ghost use Rattle.mairix_run.specs.NamesUsed.{both_names};
+ghost use Rattle.mairix_run.specs.ReadFiles.{names_read};
+ghost use Rattle.mairix_run.specs.Stops.{ending_of_result};
+ghost use Rattle.mairix_run.specs.Tasks.{files_at, is_index_run, search_task, search_work};
+ghost use Rattle.mairix_run.specs.WholeRuns.{CallsFor, IsTrouble, KeepsOld, LeavesInMaking, MakesFor, Puts, WritesWork, is_left_alone, temporary_of, refused_name};
+ghost use Rattle.mairix_tool.specs.Asked.{asks};
+ghost use Rattle.named_archives.specs.Names.{files_of};
+ghost use Rattle.named_archives.specs.Progress.{CannotRead};
+ghost use Rattle.named_archives.specs.States.{AreStatesOf};
+ghost use Rattle.named_files.specs.Crashes.{LeavesOnly};
+ghost use Rattle.named_files.specs.Entries.{SameWhere, bytes_of};
+ghost use Rattle.named_files.specs.Reported.{AddsReports};
+
+use crate::asked::Asked;
+use crate::content::Content;
+use crate::last_flush::flushed;
+use crate::names_answer::{Search, answer_names};
+use crate::read_names::ReadNames;
+use crate::replacement::replace_file;
+use crate::stopped::{Stopped, status_or_stopped};
+use crate::stream::Stream;
+use mbox_cutter::Out;
+use named_files::{Folder, KeptFile};
+use run_faults::Fault;
+use std::alloc::Global;
+
+/// Searches the archives' files, and returns the status, 0 or 1. The answer goes to `out`, or to the file that words
+/// and rcfile name, which then replaces an older answer. An archive's file that isn't in its first state has failed.
+/// Without an index the archives are indexed in memory.
+///
+/// # Errors
+///
+/// `CannotOpen` if that file can't be made; with nothing touched if it would replace an archive, the rcfile or the
+/// index. Otherwise the run's own fault, or that there are more archives than numbers. No file is left then, and an
+/// older answer is as it was, unless only the folder of the new one can't be brought to the disk.
+pub(crate) fn run_search<F: Folder, O: Stream>(
+    folder: &mut F,
+    alloc: Global,
+    reports: &mut F::Reports,
+    asked: &Asked<'_, F>,
+    states: &[<F::File as KeptFile>::State],
+    index: Option<&[u8]>,
+    out: &mut O,
+) -> Result<u8, Stopped>
+    requires making { F.making folder.old ≡ None }
+    requires searches { is_index_run asked.now.plan.now ≡ false }
+    requires states { AreStatesOf F.File.state_found F.File.rest
+        (map (λ name. bytes_of (F.holds folder.old name)) asked.now.rc.now.paths) states.now }
+    requires each { length states.now ≡ length asked.now.rc.now.paths }
+    requires out { O.failures out.old < 2 ^ 64 - 1 }
+    ensures ran { (bytes : List (List ℕ))
+        → files_at (F.holds folder.old) asked.entry.now.rc.now.paths ≡ Ok bytes
+        → F.agree reports.new ≡ true → Ran F.Folder O.Out O.handed_on
+        (both_names (answer_file_of asked.entry.now.plan.now asked.entry.now.rc.now))
+        (Ok (search_task asked.entry.now.plan.now asked.entry.now.rc.now (search_work
+        (asks asked.entry.now.words.now asked.entry.now.text.now asked.entry.now.now)
+        (option_map (λ index. index.now) index.entry) bytes)))
+        folder.old folder.new out.old out.new (ending_of_result result) }
+    ensures none { F.making folder.new ≡ None }
+    ensures count { O.failures out.new ≤ O.failures out.old + 1 }
+    ensures reports { AddsReports F.reports_are_right (F.agree reports.old) (F.agree reports.new) }
+{
+    let Asked {
+        words,
+        text,
+        now,
+        rcfile,
+        names,
+        ..
+    } = *asked;
+    let archives = names.archives.as_slice();
+    let search = Search {
+        words,
+        text,
+        names: archives,
+        states,
+        moment: now,
+        index,
+    };
+    match &names.file {
+        Some(file) => {
+            let read = ReadNames {
+                rcfile,
+                archives,
+                database: Some(&names.database),
+            };
+            replace_file(folder, alloc, reports, &search, &read, file)
+        }
+        None => print_answer(folder, alloc, reports, &search, out),
+    }
+}
+
+impl<'a, F: Folder> Content<F> for Search<'a, F> {
+    ghost names = { λ search. search.names.now };
+
+    ghost is_writable = { λ _. ⊤ };
+
+    ghost work = { λ search bytes. search_work
+        (asks search.words.now search.text.now search.moment)
+        (option_map (λ index. index.now) search.index) bytes };
+
+    /// An answer takes the place of any file.
+    fn check_old(
+        &self,
+        _folder: &F,
+        _alloc: Global,
+        _reports: &mut F::Reports,
+        _name: &F::Name,
+    ) -> Result<(), Stopped> {
+        Ok(())
+    }
+
+    fn write<O: Out>(
+        &self,
+        folder: &F,
+        alloc: Global,
+        reports: &mut F::Reports,
+        out: &mut O,
+    ) -> Result<u8, Fault> {
+        answer_names(folder, alloc, reports, self, out)
+    }
+}
+
+/// Writes the answer to `out`, and hands on all of it.
+fn print_answer<F: Folder, O: Stream>(
+    folder: &F,
+    alloc: Global,
+    reports: &mut F::Reports,
+    search: &Search<'_, F>,
+    out: &mut O,
+) -> Result<u8, Stopped>
+    requires { O.failures out.old < 2 ^ 64 - 1 }
+    ensures run { (bytes : List (List ℕ))
+        → files_of F.Name.text (F.holds folder.now) search.now.names.now ≡ map Some bytes
+        → F.agree reports.new ≡ true
+        → WritesWork O.Out O.handed_on (CannotRead F.can_refuse F.reads_can_fail)
+        (search_work (asks search.now.words.now search.now.text.now search.now.moment)
+        (option_map (λ index. index.now) search.now.index) bytes) out.old out.new
+        (ending_of_result result) }
+    ensures count { O.failures out.new ≤ O.failures out.old + 1 }
+    ensures reports { AddsReports F.reports_are_right (F.agree reports.old) (F.agree reports.new) }
+{
+    let written = search.write(folder, alloc, reports, out);
+    status_or_stopped(flushed(written, out))
+}
