@@ -5,7 +5,7 @@ and a file of their SHA-256 sums.
     package.py PROGRAM FOLDER
 
 One commit and one program give the same bytes each time: all times are the commit's, and order, owners and modes are fixed. An unpacked release gives
-the same bytes as its commit. Only another zlib may pack them otherwise.
+the same bytes as its commit. Only another zlib may pack them otherwise. The packages' program has no names of functions (symbols), which no run needs.
 """
 import gzip
 import hashlib
@@ -18,13 +18,21 @@ import subprocess
 import sys
 import tarfile
 import tempfile
+import textwrap
+from datetime import datetime, timezone
+from email.utils import format_datetime
 from pathlib import Path
+
+sys.dont_write_bytecode = True
+import version
+from kit import Kit
 
 TOP = Path(__file__).resolve().parent.parent
 LICENSE, NEWS = TOP / "LICENSE", TOP / "NEWS"
+# Whom users of the package for Debian should write to. This address reaches nobody: who publishes a package names another.
+MAINTAINER = os.environ.get("MAINTAINER") or "mairix-proved maintainers <maintainers@mairix-proved.invalid>"
 # The files of demo/, where runs leave others.
 DEMO = ("lists.mbox", "m.mbox", "mairixrc", "work.mbox")
-VERSION_OF = TOP / "crates/mairix_options/src/command_line.rt"
 # In a program for x86-64: its first bytes, its machine, and the kind of the section that lists the versions that it asks of libraries.
 ELF, X86_64, NEEDS = b"\x7fELF\x02\x01", 62, 0x6FFFFFFE
 
@@ -34,18 +42,18 @@ mairix, proved, {version}, for Linux on x86-64 with glibc {glibc} or later.
 In this folder, install it below ~/.local (or, as root, below /usr/local):
 
     mkdir -p ~/.local && cp -R bin share ~/.local
-    export PATH=$HOME/.local/bin:$PATH
+    export PATH="$HOME/.local/bin:$PATH"
 
 To remove it, in this folder:
 
-    find bin share -type f | (cd ~/.local && xargs rm -f)
+    find bin share -type f -exec rm -f "$HOME/.local/{{}}" ";"
 """
 
 CONTROL = """\
 Package: mairix-proved
 Version: {version}
 Architecture: amd64
-Maintainer: the authors of mairix-proved
+Maintainer: {maintainer}
 Installed-Size: {size}
 Depends: libc6 (>= {glibc})
 Conflicts: mairix
@@ -56,24 +64,20 @@ Description: find mail in mbox archives
  .
  This is a rewrite of C mairix in a language in which each function is proved
  to do what its contract says. It reads mbox only: no Maildir, MH or IMAP.
+ .
+ It replaces the package mairix, which is C mairix: both have a program of that
+ name, so they can't be installed together. The database of C mairix isn't read.
 """
 
+# An entry of Debian's changelog, and how wide its lines are at most.
+ENTRY = """\
+mairix-proved ({version}) unstable; urgency=medium
 
-def version():
-    return re.search(r'\.version\("(.*)"\)', VERSION_OF.read_text(encoding="utf-8"))[1]
+{changes}
 
-
-def git(*words):
-    return subprocess.run(["git", "-C", TOP, *words], check=True, stdout=subprocess.PIPE, text=True).stdout.strip()
-
-
-def time_of_commit():
-    """The time of the last commit. In an unpacked release each file has it."""
-    if not (TOP / ".git").exists():
-        return int(NEWS.stat().st_mtime)
-    if git("status", "--porcelain", "--untracked-files=no"):
-        print("package: files have changed since the last commit, so these packages aren't its", file=sys.stderr)
-    return int(git("log", "-1", "--format=%ct"))
+ -- {maintainer}  {time}
+"""
+CHANGELOG_WIDTH = 79
 
 
 # ---- what the program asks
@@ -114,13 +118,31 @@ def needed_glibc(data):
 # ---- what is in a package
 
 
+def changes(news):
+    """The lines of a version in NEWS as Debian has them: titles in brackets, and points with a star."""
+    for title, point in re.findall(r"(?m)^(\w.*)$|^- (.*(?:\n  .*)*)", news):
+        how = {"initial_indent": "  * ", "subsequent_indent": "    ", "break_long_words": False, "break_on_hyphens": False}
+        yield f"\n  [ {title} ]" if title else textwrap.fill(" ".join(point.split()), CHANGELOG_WIDTH, **how)
+
+
+def changelog(newest):
+    """NEWS as Debian's changelog: an entry for each version, of which one that isn't released yet is the newest."""
+    heads = re.split(r"(?m)^(\d\S*) \((.*)\)\n", NEWS.read_text("utf-8"))[1:]
+    for name, released, news in zip(heads[::3], heads[1::3], heads[2::3]):
+        is_released = re.fullmatch(r"\d+-\d+-\d+", released)
+        time = datetime.fromisoformat(released) if is_released else datetime.fromtimestamp(version.seconds(), timezone.utc)
+        facts = {"version": name if is_released else newest, "changes": "\n".join(changes(news)).strip("\n"), "maintainer": MAINTAINER}
+        yield ENTRY.format(**facts, time=format_datetime(time.replace(tzinfo=timezone.utc)))
+
+
 def installed(program):
-    """The files that `make install` puts below a prefix."""
+    """The files that `make install` puts below a prefix, of which the program is stripped."""
     # A make above this one may share its work with what it runs; here it has nothing to share.
     environment = {name: value for name, value in os.environ.items() if name != "MAKEFLAGS"}
     with tempfile.TemporaryDirectory(prefix="package-") as room:
         words = ["make", "-C", TOP, "-o", "build", "install", f"PROGRAM={program}", f"DESTDIR={room}", "PREFIX="]
         subprocess.run(words, check=True, stdout=subprocess.DEVNULL, env=environment)
+        Kit().strip(f"{room}/bin/mairix")
         return {str(it.relative_to(room)): it.read_bytes() for it in Path(room).rglob("*") if it.is_file()}
 
 
@@ -132,10 +154,11 @@ def archive_files(program, install):
     return installed(program) | demo_files("demo") | {"INSTALL": install.encode(), "LICENSE": LICENSE.read_bytes(), "NEWS": NEWS.read_bytes()}
 
 
-def debian_files(program):
+def debian_files(program, newest):
     """The same files where Debian has them: manual pages are packed, and zsh looks for completions elsewhere."""
     documents = "usr/share/doc/mairix-proved"
     files = demo_files(f"{documents}/demo") | {f"{documents}/copyright": LICENSE.read_bytes(), f"{documents}/NEWS": NEWS.read_bytes()}
+    files[f"{documents}/changelog.gz"] = gzip.compress("\n".join(changelog(newest)).encode(), 9, mtime=0)
     for name, data in installed(program).items():
         name = "usr/" + name.replace("zsh/site-functions/", "zsh/vendor-completions/")
         is_page = "/man/" in name
@@ -144,7 +167,7 @@ def debian_files(program):
 
 
 def mode_of(name):
-    return 0o755 if name.endswith("bin/mairix") else 0o644
+    return 0o755 if Path(name).parent.name == "bin" else 0o644
 
 
 def folders_of(files):
@@ -194,14 +217,16 @@ def installed_kilobytes(files):
 def main(program, folder):
     program, folder = Path(program).resolve(), Path(folder)
     folder.mkdir(parents=True, exist_ok=True)
-    facts = {"version": version(), "glibc": needed_glibc(program.read_bytes())}
-    time, name = time_of_commit(), "mairix-{version}-linux-x86_64".format(**facts)
+    if version.has_changed():
+        print("package: files have changed since the last commit, so these packages aren't its", file=sys.stderr)
+    facts = {"version": version.version(), "glibc": needed_glibc(program.read_bytes()), "maintainer": MAINTAINER}
+    time, name = version.seconds(), "mairix-{version}-linux-x86_64".format(**facts)
     made = [folder / f"{name}.tar.gz"]
     files = archive_files(program, INSTALL.format(**facts))
     make_archive(made[0], {f"{name}/{it}": data for it, data in files.items()}, time)
     if shutil.which("dpkg-deb"):
         made.append(folder / "mairix-proved_{version}_amd64.deb".format(**facts))
-        files = debian_files(program)
+        files = debian_files(program, facts["version"])
         make_debian(made[1], files, CONTROL.format(**facts, size=installed_kilobytes(files)), time)
     else:
         print("package: dpkg-deb isn't here, so there is no package for Debian", file=sys.stderr)
