@@ -6,7 +6,7 @@
 The mail is 2,000 messages of made mail. One answer has a third of them, which are scattered, and one has nearly all. Each goes to the rcfile's file
 and to a file as standard output. `cat` goes to a file, to which it may copy inside the system, and through a pipe, where it reads and writes. The
 counts of an answer are less those of its search, and those of `cat` less those of `cat` of nothing; then come the functions and the calls that most
-of them go to. Past results are kept in bench/results/.
+of them go to.
 """
 import collections, os, re, subprocess, sys, tempfile, time
 from shutil import which

@@ -29,8 +29,8 @@ def small_runs(program):
     return subprocess.run(words, stdout=subprocess.PIPE, text=True, check=True).stdout
 
 
-def compare(before, after):
-    """Prints what differs and how many lines passed and failed, which is also the status."""
+def compare(before, after, is_kept=False):
+    """Prints what differs and how many lines passed and failed, which is also the status. `is_kept` says whether the former result is the kept one."""
     old, new = ({name: float(count) for name, count in LINE.findall(text)} for text in (before, after))
     alone = sorted(old.keys() ^ new.keys())
     for name in alone:
@@ -39,9 +39,9 @@ def compare(before, after):
     for name, change in sorted(changes.items(), key=lambda it: -it[1]):
         if abs(change) >= SHOWN:
             print(f"{name}: {old[name]} to {new[name]} million, {100 * change:+.1f} %{', too much' if change > MOST else ''}")
-    if any(change < -MOST for change in changes.values()):
-        print("--write keeps what was won")
     failed = len(alone) + sum(change > MOST for change in changes.values())
+    if is_kept and (failed or any(change < -MOST for change in changes.values())):
+        print("If the change is worth what grew, or to keep what was won: bench/compare.py --write crates/mairix/out/mairix")
     if failed:
         print("before: {}; after: {}".format(*(text.partition("\n")[0] for text in (before, after))))
     print(f"{len(old.keys() | new.keys()) - failed} passed, {failed} failed")
@@ -55,7 +55,7 @@ def main(words):
     elif not 1 <= len(words) <= 2 or words[0].startswith("-"):
         sys.exit(__doc__)
     elif len(words) == 1:
-        return compare(read(KEPT), small_runs(words[0]))
+        return compare(read(KEPT), small_runs(words[0]), is_kept=True)
     else:
         return compare(read(words[0]), read(words[1]))
 

@@ -4,8 +4,7 @@
     digests.py [PROGRAM [BEFORE]]
 
 BEFORE is a program of before a change, for comparison. The archive is made mail of 600 messages, some 3 MB. valgrind counts, so that the figures
-don't depend on what else the machine does; `sha256sum` shouldn't use instructions of the processor for SHA-256, which are few. Past results are kept
-in bench/results/.
+don't depend on what else the machine does; `sha256sum` shouldn't use instructions of the processor for SHA-256, which are few.
 """
 import os, re, subprocess, sys, tempfile
 

@@ -6,7 +6,7 @@
 A commit alone is compared with HEAD. Each gate runs in a clone of its own. In place of the folder in which `rt` keeps what it has proved it sees an
 empty one, which takes root (`unshare`, `mount`). If there are more processors than shares, the last ones are left free for other work; run nothing
 else on the shares. Prints each gate's last lines as it ends, and then the ratio of each gate's processor minutes to those of the one before. On more
-processors a gate takes more processor minutes, so only gates of one run can be compared. Past runs are kept in bench/results/.
+processors a gate takes more processor minutes, so only gates of one run can be compared.
 """
 import os, re, subprocess, sys, tempfile
 from concurrent.futures import ThreadPoolExecutor

@@ -7,7 +7,7 @@ Prints a line for each run: its processor seconds and its peak memory at both si
 archive it takes, and of C mairix over the same files, where that is installed as `mairix`. Of an index run it says so too without the time of
 `sha256sum` over the archives, which C mairix doesn't take. No run is refused for its time or memory; one with another status or count of
 messages than was worked out by hand has failed. With `--quick` each shape has a hundredth of its size and nothing is measured. With `--only`
-no shapes are tried but those with one of these words in their names. The last line is `N passed, M failed`. Past results are kept in bench/results/.
+no shapes are tried but those with one of these words in their names. The last line is `N passed, M failed`.
 """
 import argparse, os, resource, shutil, subprocess, sys, tempfile, time
 from dataclasses import dataclass
@@ -97,7 +97,20 @@ def times(value, base):
 
 
 HEAD = "%-43s %-21s %9s %7s %7s %6s %8s %8s %8s %7s %7s %8s %8s  %s" % (
-    "shape, at n and 2n", "run", "2n is", "s at n", "at 2n", "ratio", "of tame", "of C", "less sha", "MB at n", "at 2n", "of tame", "of C", "found",
+    "shape, at n and 2n",
+    "run",
+    "2n is",
+    "s at n",
+    "at 2n",
+    "ratio",
+    "of tame",
+    "of C",
+    "less sha",
+    "MB at n",
+    "at 2n",
+    "of tame",
+    "of C",
+    "found",
 )
 
 
@@ -107,10 +120,21 @@ def row(shape, name, size, first, second, tame, c, digest):
     seconds = took and max(took.seconds, 1e-3)
     note = "" if took else ", C mairix: " + c
     return "%-43s %-21s %9s %7.2f %7.2f %6.1f %s %s %s %7.1f %7.1f %s %s  %d%s" % (
-        shape, name, size_named(size), first.seconds, second.seconds, second.seconds / max(first.seconds, 1e-3),
-        times(second.seconds, max(tame.seconds, 1e-3)), times(second.seconds, seconds),
-        times(second.seconds - digest, seconds if digest else None), first.megabytes, second.megabytes,
-        times(second.megabytes, tame.megabytes), times(second.megabytes, took and took.megabytes), second.lines, note,
+        shape,
+        name,
+        size_named(size),
+        first.seconds,
+        second.seconds,
+        second.seconds / max(first.seconds, 1e-3),
+        times(second.seconds, max(tame.seconds, 1e-3)),
+        times(second.seconds, seconds),
+        times(second.seconds - digest, seconds if digest else None),
+        first.megabytes,
+        second.megabytes,
+        times(second.megabytes, tame.megabytes),
+        times(second.megabytes, took and took.megabytes),
+        second.lines,
+        note,
     )
 
 
@@ -189,7 +213,10 @@ NOTES = """Processor seconds (user and system) are the least of three runs, and 
 Sizes count what stands behind them: 10,000 nested multiparts are n. The last columns are those of 2n. A tame archive is made mail of as many
 bytes as rcfile, archives and words of the query; its search is of one word. Linux takes no word of a command line of more than 131,071 bytes, and
 2 MB of all words with their pointers: so patterns end at 100,000 and one pattern at 130,000 bytes. C mairix was given
-%d s and %.0f GB a run.""" % (C_SECONDS, C_BYTES / 1e9)
+%d s and %.0f GB a run.""" % (
+    C_SECONDS,
+    C_BYTES / 1e9,
+)
 
 
 def main(program, quick, wanted):

@@ -5,7 +5,7 @@
 
 The archives are made mail of two kinds and several sizes, and a hostile one whose words are all distinct. Each program makes its index afresh,
 without an old one. Prints the processor seconds, the peak memory, the rate, the size of the index or the count of messages found, and
-the ratios of seconds and of memory to C mairix. Past runs are kept in bench/results/.
+the ratios of seconds and of memory to C mairix.
 """
 import os, random, subprocess, sys, tempfile, time
 
@@ -32,10 +32,16 @@ def distinct_words(path):
             out.write("\n")
 
 
-SHAPES = [("10,000 messages", made("--messages", "10000"), 3), ("50,000 messages", made("--messages", "50000"), 3),
-          ("10,000 messages of lists", made("--lists", "--messages", "10000"), 3),
-          ("50,000 messages of lists", made("--lists", "--messages", "50000"), 3),
-          ("100 MB", made("100"), 3), ("250 MB", made("250"), 3), ("500 MB", made("500"), 1), ("1,500,000 distinct words", distinct_words, 3)]
+SHAPES = [
+    ("10,000 messages", made("--messages", "10000"), 3),
+    ("50,000 messages", made("--messages", "50000"), 3),
+    ("10,000 messages of lists", made("--lists", "--messages", "10000"), 3),
+    ("50,000 messages of lists", made("--lists", "--messages", "50000"), 3),
+    ("100 MB", made("100"), 3),
+    ("250 MB", made("250"), 3),
+    ("500 MB", made("500"), 1),
+    ("1,500,000 distinct words", distinct_words, 3),
+]
 
 
 def cut(folder):
@@ -73,12 +79,18 @@ def compare(folder, size, times, rows):
             result = "%5.1f MB/s, %5.1f MB of index" % (size / seconds, os.path.getsize(os.path.join(folder, index)) / 1e6)
         else:
             result = "%d found" % told[0][3]
-        print("  %-22s %7.3f s %7.1f MB  status %d  %-31s %8.3g of C's seconds %6.3g of its memory" % (
-            name, seconds, memory, told[0][2], result, seconds / best[-1][0], memory / best[-1][1]), flush=True)
+        print(
+            "  %-22s %7.3f s %7.1f MB  status %d  %-31s %8.3g of C's seconds %6.3g of its memory"
+            % (name, seconds, memory, told[0][2], result, seconds / best[-1][0], memory / best[-1][1]),
+            flush=True,
+        )
 
 
 def main(program):
-    print("%s, processor seconds (user and system) are the least of three runs, and of one for 500 MB; peak memory is the most" % time.strftime("%Y-%m-%d"))
+    print(
+        "%s, processor seconds (user and system) are the least of three runs, and of one for 500 MB; peak memory is the most"
+        % time.strftime("%Y-%m-%d")
+    )
     print("other work went on: load %.1f on %d processors" % (os.getloadavg()[0], os.cpu_count()))
     for title, make, times in SHAPES:
         with tempfile.TemporaryDirectory() as folder:
@@ -93,8 +105,15 @@ def main(program):
                 out.write("base=%s\nmbox=%s\ndatabase=c.idx\nmfolder=c-hits\nmformat=mbox\n" % (folder, ":".join(archives)))
             print("%s: %.0f MB, %d messages, %d archive(s)" % (title, size, count, len(archives)))
             compare(folder, size, times, [("mairix, index", [program, "-f", "rc"], "m.idx"), ("C mairix, index", ["mairix", "-f", "c-rc"], "c.idx")])
-            compare(folder, size, times, [("mairix --once", [program, "-f", "rc", "--once", "-r", WORD], None),
-                                          ("C mairix, stored index", ["mairix", "-f", "c-rc", "-r", WORD], None)])
+            compare(
+                folder,
+                size,
+                times,
+                [
+                    ("mairix --once", [program, "-f", "rc", "--once", "-r", WORD], None),
+                    ("C mairix, stored index", ["mairix", "-f", "c-rc", "-r", WORD], None),
+                ],
+            )
 
 
 if __name__ == "__main__":

@@ -9,7 +9,7 @@ are of one word, of what no message has, of a part of words that most messages h
 hostile mail, each at a hundredth of the size that bench/hostile.py gives them, and at twice that. At the larger size a line says where the
 instructions of each index run and of the search for one word go, and where C mairix is installed as `mairix`, how many it takes for each index run,
 for nothing and for the part. With --small the runs are over 200 messages of two kinds, and each is also told without SHA-256, which would hide what
-the rest takes. bench/compare.py compares two results. Past results are kept in bench/results/.
+the rest takes. bench/compare.py compares two results.
 """
 import argparse, os, platform, re, subprocess, sys, tempfile, time
 from shutil import copy, which

@@ -7,8 +7,7 @@ What is measured: an index made from nothing, the index's size, a search of one 
 and an answer of more than a third of the messages as an mbox, which mu doesn't have. Seconds are those of the processor, user and system, the
 least of five runs, but a run of more than 20 isn't repeated; memory is the most that was resident. The peers of mbox files read the archive itself;
 notmuch and mu read a Maildir with the same messages, which is made of it before. That isn't measured, and neither is what a peer
-is set up by, as `mu init`. Each line tells how many messages were found: notmuch also finds words of the same stem. Past runs are kept in
-bench/results/.
+is set up by, as `mu init`. Each line tells how many messages were found: notmuch also finds words of the same stem.
 """
 import itertools, os, platform, re, shutil, subprocess, sys, tempfile, time
 
@@ -93,16 +92,26 @@ def notmuch_peer(folder, body, frequent, sender, subject):
     with open(config, "w") as out:
         out.write("[database]\npath=%s/maildir\n[user]\nname=x\nprimary_email=a@x.org\n" % folder)
     files = ["notmuch", "search", "--output=files"]
-    searches = {"body": files + ["body:" + body], "sender": files + ["from:" + sender, "subject:" + subject],
-                "mbox": ["notmuch", "show", "--format=mbox", "body:" + frequent]}
+    searches = {
+        "body": files + ["body:" + body],
+        "sender": files + ["from:" + sender, "subject:" + subject],
+        "mbox": ["notmuch", "show", "--format=mbox", "body:" + frequent],
+    }
     return Peer("notmuch", folder, ["notmuch", "new"], searches, stored="maildir/.notmuch", environment={"NOTMUCH_CONFIG": config, "HOME": folder})
 
 
 def mu_peer(folder, body, frequent, sender, subject):
     paths = ["mu", "find", "--fields=l"]
     searches = {"body": paths + ["body:" + body], "sender": paths + ["from:" + sender, "subject:" + subject]}
-    return Peer("mu", folder, ["mu", "index"], searches, stored="mu", setup=["mu", "init", "--maildir=%s/maildir" % folder],
-                environment={"HOME": folder, "XDG_CACHE_HOME": folder})
+    return Peer(
+        "mu",
+        folder,
+        ["mu", "index"],
+        searches,
+        stored="mu",
+        setup=["mu", "init", "--maildir=%s/maildir" % folder],
+        environment={"HOME": folder, "XDG_CACHE_HOME": folder},
+    )
 
 
 # ---- the report
@@ -124,8 +133,11 @@ def machine():
 
 def tell(name, runs, more):
     """Prints the least seconds and the most memory of some runs."""
-    print("  %-10s %7.3f s %7.1f MB  %s of %d run%s" % (
-        name, min(run[0] for run in runs), max(run[1] for run in runs), more, len(runs), "s" * (len(runs) > 1)), flush=True)
+    print(
+        "  %-10s %7.3f s %7.1f MB  %s of %d run%s"
+        % (name, min(run[0] for run in runs), max(run[1] for run in runs), more, len(runs), "s" * (len(runs) > 1)),
+        flush=True,
+    )
 
 
 def compare(peers, run, more):
@@ -158,9 +170,14 @@ def main(program):
         subprocess.run([sys.executable, os.path.join(HERE, "make_mbox.py"), "--messages", "10000", archive], check=True)
         make_maildir(folder, ["m.mbox"])
         print("10,000 messages, %.0f MB; sought: %s" % (os.path.getsize(archive) / 1e6, " ".join(SOUGHT)))
-        measure([mbox_peer("mairix", program, folder, ("rc", "m.idx", "hits"), *SOUGHT),
-                 mbox_peer("C mairix", "mairix", folder, ("c-rc", "c.idx", "c-hits"), *SOUGHT),
-                 notmuch_peer(folder, *SOUGHT), mu_peer(folder, *SOUGHT)])
+        measure(
+            [
+                mbox_peer("mairix", program, folder, ("rc", "m.idx", "hits"), *SOUGHT),
+                mbox_peer("C mairix", "mairix", folder, ("c-rc", "c.idx", "c-hits"), *SOUGHT),
+                notmuch_peer(folder, *SOUGHT),
+                mu_peer(folder, *SOUGHT),
+            ]
+        )
 
 
 if __name__ == "__main__":

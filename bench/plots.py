@@ -32,8 +32,10 @@ def tell_growth(name, line):
     if len(large) > 1:
         (few, fast, low), (many, slow, high) = large[0], large[-1]
         doublings = math.log2(many / few)
-        print(f"{name}: {few:,} to {many:,} messages: at each doubling {(slow / max(fast, 0.001)) ** (1 / doublings):.2f} times the time, "
-              f"{(high / low) ** (1 / doublings):.2f} times the memory")
+        print(
+            f"{name}: {few:,} to {many:,} messages: at each doubling {(slow / max(fast, 0.001)) ** (1 / doublings):.2f} times the time, "
+            f"{(high / low) ** (1 / doublings):.2f} times the memory"
+        )
 
 
 def ticks(low, high):

@@ -4,7 +4,7 @@
     search.py [MEGABYTES]
 
 Prints the processor seconds, the peak memory, and the ratio to `wc -l`, which is the least that one pass costs. C mairix is timed
-where it is installed as `mairix`. Past runs are kept in bench/results/.
+where it is installed as `mairix`.
 """
 import os, shutil, subprocess, sys, tempfile, time
 
@@ -24,8 +24,12 @@ def main(megabytes):
         subprocess.run([sys.executable, os.path.join(here, "make_mbox.py"), str(megabytes), archive], check=True)
         with open(os.path.join(folder, "rc"), "w") as f:
             f.write("mbox=m.mbox\ndatabase=m.idx\nmfolder=hits\n")
-        commands = [("wc -l", ["wc", "-l", "m.mbox"]), ("cat", ["cat", "m.mbox"]), ("grep -c '^From '", ["grep", "-c", "^From ", "m.mbox"]),
-                    ("mairix --once", [program, "-f", "rc", "--once", "-r", "s:ab"])]
+        commands = [
+            ("wc -l", ["wc", "-l", "m.mbox"]),
+            ("cat", ["cat", "m.mbox"]),
+            ("grep -c '^From '", ["grep", "-c", "^From ", "m.mbox"]),
+            ("mairix --once", [program, "-f", "rc", "--once", "-r", "s:ab"]),
+        ]
         if shutil.which("mairix"):
             with open(os.path.join(folder, "c-rc"), "w") as f:
                 f.write("base=%s\nmbox=m.mbox\ndatabase=c.idx\nmfolder=c-hits\nmformat=mbox\n" % folder)
@@ -37,7 +41,10 @@ def main(megabytes):
             runs = [measured(measure, command, folder) for _ in range(3)]
             seconds = max(min(run[0] for run in runs), 1e-3)
             base = base or seconds
-            print("%-20s %7.3f s %7.1f MB  %6.1f times wc -l  %6.0f MB/s  status %d" % (name, seconds, runs[0][1], seconds / base, size / seconds, runs[0][2]))
+            print(
+                "%-20s %7.3f s %7.1f MB  %6.1f times wc -l  %6.0f MB/s  status %d"
+                % (name, seconds, runs[0][1], seconds / base, size / seconds, runs[0][2])
+            )
 
 
 if __name__ == "__main__":

@@ -5,14 +5,15 @@ installed, over the same 10,000 messages in one run.
     stored.py [--kinds] [PROGRAM]
 
 Prints the processor seconds (the least of the runs), the peak memory, and the ratio to what each line is measured by. With `--kinds` it
-looks instead for one word in each of the four kinds of mail of bench/rounds.py, for a part of a word in 50,000 messages, and for one among
-2,000,000 keys. Past runs are kept in bench/results/.
+looks instead for one word in each kind of mail of bench/rounds.py and in 100,000 messages of made mail, by turns with `sha256sum` and `openssl`: the
+median seconds, and the median of their ratio to `sha256sum` in the same round with the range of its middle half. Then it looks for a part of a word
+in 50,000 messages, and for one among 2,000,000 keys.
 """
 import collections, os, re, shutil, statistics, subprocess, sys, tempfile, time
 
 from hostile_mail import Room, falling_words
 from peers import make_maildir
-from rounds import KINDS, furnish
+from rounds import KINDS, furnish, with_spread
 
 HERE = os.path.dirname(os.path.abspath(__file__))
 RUNS = 15
@@ -21,7 +22,9 @@ RUNS = 15
 def measured_once(command, folder, environment=None):
     """The processor seconds and the megabytes of a run."""
     env = dict(os.environ, **(environment or {}))
-    told = subprocess.run(["./measure", "answer"] + command, cwd=folder, stdin=subprocess.DEVNULL, capture_output=True, check=True, env=env).stdout.split()
+    told = subprocess.run(
+        ["./measure", "answer"] + command, cwd=folder, stdin=subprocess.DEVNULL, capture_output=True, check=True, env=env
+    ).stdout.split()
     return float(told[0]), int(told[1]) / 1024
 
 
@@ -42,7 +45,7 @@ def frequent_word(path):
     """The word of bodies that is in nearest to a third of the messages, and how many have it."""
     counts, messages = collections.Counter(), 0
     with open(path, "rb") as file:
-        for text in re.split(rb"\n\n(?=From )", file.read()):
+        for text in re.split(rb"\n\n(?=From )", file.read().replace(b"\r\n", b"\n")):
             messages += 1
             counts.update(set(re.findall(rb"[a-z]+", text.partition(b"\n\n")[2])))
     word = min(counts, key=lambda it: abs(counts[it] - messages / 3))
@@ -98,14 +101,23 @@ def tell_part(folder, program, part, digest):
         tell("C mairix, raw, " + part, measured(["mairix", "-f", "c-rc", "-r", part], folder))
 
 
+def tell_by_turns(commands, folder):
+    """The seconds of each command, and their ratio to those of the first in the same round."""
+    rounds = [[measured_once(command, folder)[0] for _, command in commands] for _ in range(2 * RUNS)]
+    for at, (name, _) in enumerate(commands):
+        shares = (name, statistics.median(it[at] for it in rounds), with_spread([it[at] / it[0] for it in rounds]))
+        print("  %-26s %7.4f s, %s of sha256sum" % shares, flush=True)
+
+
 def compare_kinds(program):
-    for title, script in KINDS.values():
+    for messages, (title, script) in [*((10_000, it) for it in KINDS.values()), (100_000, KINDS["made"])]:
         with tempfile.TemporaryDirectory() as folder:
-            furnish(folder, script, 10_000)
-            print("10,000 messages, " + title)
-            digest = index_of(folder, program)
+            furnish(folder, script, messages)
+            print("%d messages, %s" % (messages, title))
+            index_of(folder, program)
             word = frequent_word(os.path.join(folder, "m.mbox"))[0]
-            tell("mairix, raw, a word", measured([program, "-f", "rc", "-r", "b:" + word], folder), ("sha256sum", digest))
+            digests = [("sha256sum", ["sha256sum", "m.idx"]), ("openssl", ["openssl", "dgst", "-sha256", "m.idx"])]
+            tell_by_turns([*digests, ("mairix, raw, a word", [program, "-f", "rc", "-r", "b:" + word])], folder)
     with tempfile.TemporaryDirectory() as folder:
         furnish(folder, KINDS["made"][1], 50_000)
         print("50,000 messages, made mail")
