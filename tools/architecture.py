@@ -1,13 +1,14 @@
 #!/usr/bin/env python3
-"""Compares docs/ARCHITECTURE.md and docs/MODULES.md with the crates. In ARCHITECTURE.md, the functions of each walk
-exist, each is called by the one above it, and those of one caller are in the order of its code. "What a reader has to
-believe" names the definitions that the two runs of the program depend on, and no others. "The crates" has each crate
-with the crates that crates.txt gives it, and PERFORMANCE.md names no other. MODULES.md names each module and each file
-of definitions, with the first sentence of its comment.
+"""Compares docs/ARCHITECTURE.md with the crates. The functions of each walk exist, each is called by the one above it,
+and those of one caller are in the order of its code. "What a reader has to believe" names the definitions that the two
+runs of the program depend on, and no others. "The crates" has each crate with the crates that crates.txt gives it, and
+PERFORMANCE.md names no other.
 
-    tools/architecture.py [--write]
+    tools/architecture.py
+    tools/architecture.py --modules [CRATE ..]
 
-With --write MODULES.md is written anew. The last line is `N passed, M failed`.
+With --modules it lists each module and each file of definitions, of all crates or of some, with the first sentence of
+its comment; it compares nothing. Otherwise the last line is `N passed, M failed`.
 """
 import re
 import sys
@@ -18,7 +19,7 @@ from crates import Crates
 from function_bodies import blanked, block_end, bodies_of_file
 
 TOP = Path(__file__).resolve().parent.parent
-PAGE, MODULES, TIMES = (TOP / "docs" / name for name in ("ARCHITECTURE.md", "MODULES.md", "PERFORMANCE.md"))
+PAGE, TIMES = (TOP / "docs" / name for name in ("ARCHITECTURE.md", "PERFORMANCE.md"))
 WALKS, BELIEVED, THE_CRATES = "## The walks", "## What a reader has to believe, in this order", "## The crates"
 # A line of a walk: a function, its crate and its module.
 STEP = re.compile(r"( *)(?:(\w+)::)?(\w+) +(\w+) +([\w/]+)(?:  .*)?")
@@ -35,7 +36,7 @@ def first_sentence(text, sign):
             break
         lines.append(line[len(sign) :].strip())
     told = re.match(r"(.*?[.:])(?: |$)", " ".join(lines) + " ")
-    return (told[1] if told else " ".join(lines)).rstrip(":.").replace("|", "\\|")
+    return (told[1] if told else " ".join(lines)).rstrip(":.")
 
 
 def names_in(folder, suffix):
@@ -67,32 +68,23 @@ def uses_in(text):
 # ---- the list of modules
 
 
-def row(*cells):
-    return f"| {' | '.join(cells)} |\n"
-
-
-def part_of(crates, name):
-    """The part of a crate: its modules with the definitions that their contracts name, and what these are about."""
-    folder = crates.folder(name)
-    written = f"\n## {name}\n\n" + row("Module", "What it is about", "Its contracts name") + "|---|---|---|\n"
-    definitions = definitions_of(folder)
+def modules_listed(crates, name):
+    """The lines on a crate: its modules with the definitions that their contracts name, and what these are about."""
+    folder, definitions = crates.folder(name), definitions_of(crates.folder(name))
+    yield f"\n{name}"
     for path, file in modules_of(folder).items():
         text = file.read_text("utf-8")
         named = sorted({at for crate, at in uses_in(text).values() if crate == name and at in definitions})
-        written += row(f"`{path}`", first_sentence(text, "//!"), ", ".join(f"`{it}`" for it in named))
-    if definitions:
-        written += "\n" + row("Definitions", "What they are about") + "|---|---|\n"
-        for path, file in definitions.items():
-            written += row(f"`{path}`", first_sentence(file.read_text("utf-8"), "--"))
-    return written
+        yield f"  {path}: {first_sentence(text, '//!')}" + (f" ({', '.join(named)})" if named else "")
+    for path, file in definitions.items():
+        yield f"  specs {path}: {first_sentence(file.read_text('utf-8'), '--')}"
 
 
-def list_of_modules(crates):
-    """The page of all modules, crate by crate, lowest first."""
-    names = sorted(crates.libraries, key=lambda it: (it.startswith("worked_"), len(crates.below(it)), it))
-    said = "`tools/architecture.py --write` writes this page from the first sentences of the files themselves."
-    where = "[ARCHITECTURE.md](ARCHITECTURE.md) says how the crates work together."
-    return f"# Every module\n\n{said}\n{where}\n" + "".join(part_of(crates, it) for it in names)
+def list_modules(crates, asked):
+    """Prints the modules of crates, lowest first, or of all."""
+    names = sorted(asked or crates.libraries, key=lambda it: (it.startswith("worked_"), len(crates.below(it)), it))
+    for name in names:
+        print(*modules_listed(crates, name), sep="\n")
 
 
 # ---- the walks
@@ -254,17 +246,16 @@ def crates_in_tables(page):
             yield from (word for at in columns for word in re.findall(r"^\w+", cells[at]))
 
 
-def main(write):
+def main(words):
     crates = Crates(TOP)
-    if write:
-        MODULES.write_text(list_of_modules(crates), "utf-8")
+    if words[:1] == ["--modules"]:
+        return list_modules(crates, words[1:])
     page, timed = PAGE.read_text("utf-8"), list(crates_in_tables(TIMES.read_text("utf-8")))
     wrong = {
         "walks": "; ".join(faults_of_walks(page, crates)),
         "what a reader has to believe": difference(closure(crates), believed(page, crates)),
         "the crates": "; ".join(faults_of_table(page, crates)),
         "crates in PERFORMANCE.md": ", ".join(f"{it} is no crate" for it in timed if it not in crates.libraries),
-        "MODULES.md": "" if MODULES.read_text("utf-8") == list_of_modules(crates) else "it isn't what --write writes",
     }
     for name, why in wrong.items():
         if why:
@@ -275,4 +266,4 @@ def main(write):
 
 
 if __name__ == "__main__":
-    sys.exit(main(sys.argv[1:] == ["--write"]))
+    sys.exit(main(sys.argv[1:]))

@@ -22,6 +22,7 @@ from pathlib import Path
 sys.dont_write_bytecode = True
 from commands import Commands
 from crates import Crates
+from faults_of_check import Faults, ends_check, is_early_cause
 from kit import Kit
 from machine import checks_side_by_side
 
@@ -68,6 +69,8 @@ class Build:
                 self.unmade.add(name)
         self.waiting = [it for it in names if it in self.unmade]
         self.count = len(self.waiting)
+        # The crate that couldn't be made.
+        self.refused = None
         # The crates that are being made, each with its jobs, by what will tell of their end.
         self.running = {}
         # How many bytes of text stand in the longest chain from a crate up: the longest one decides how long all takes.
@@ -152,9 +155,10 @@ class Build:
         made_of, keeping = self.made_of(name), self.keeping(name)
         is_program, target = self.crates.is_program(name), self.folder / f"{name}.o"
         words = self.kit.compiling(target) if is_program else [*([] if keeping else ["--statements"]), "-o", str(self.library(name))]
-        status, lines = Commands.run([*self.command("build", name, jobs), *keeping, *words], self.crates.folder(name))
+        tells_early = lambda line: print(f"{name}, {line}", flush=True) if is_early_cause(line) else None
+        status, lines = Commands.run([*self.command("build", name, jobs), *keeping, *words], self.crates.folder(name), tells_early, ends_check)
         if status:
-            return [*lines, f"{name}: not proved"]
+            return [*Faults(lines).report(name), f"{name}: not proved"]
         verdict = dict(it.partition("=")[::2] for it in lines[-1].split())
         if verdict.get("logic") != "proved" or verdict.get("main") or FORBIDDEN & verdict.keys():
             return [lines[-1], f"{name}: not proved, or beyond what HANDLES allows"]
@@ -186,11 +190,12 @@ class Build:
         for words in (proof, self.kit.linking(target, tests), self.kit.testing(tests)):
             status, lines = Commands.run(words, self.crates.folder(name))
             if status:
-                return [*lines, f"{name}: not proved, or not passed"]
+                return [*Faults(lines).report(name), f"{name}: not proved, or not passed"]
         return []
 
     def run(self):
-        """Makes all. Returns 0, or 1 after the lines of the first crate that couldn't be made."""
+        """Makes all. Returns 0, or 1 after all that is wrong with the first crate that couldn't be made: then no other is begun with, and those that
+        are being made are left."""
         self.folder.mkdir(parents=True, exist_ok=True)
         with ThreadPoolExecutor(self.jobs) as pool:
             while self.waiting or self.running:
@@ -199,8 +204,9 @@ class Build:
                     name, _ = self.running.pop(ended)
                     wrong = ended.result()
                     if wrong:
+                        self.refused = name
                         Commands.end()
-                        print(*wrong[-40:], sep="\n", flush=True)
+                        print(*wrong, sep="\n", flush=True)
                         return 1
                     self.unmade.discard(name)
         return 0

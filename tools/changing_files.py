@@ -12,7 +12,7 @@ import os, random, subprocess, sys, tempfile, threading, time
 from dataclasses import dataclass
 
 from check_program import run, write
-from overlapping_runs import SEPARATOR, read
+from overlapping_runs import OLD, SEPARATOR, read
 from program_cases import INDEX, ONCE, STORED, TWO
 from sweep_program import shim
 
@@ -70,7 +70,7 @@ class Told:
         """What is wrong with it, if it isn't one of these whole answers, nor a refusal with a front of one."""
         if self in wholes:
             return []
-        refused = self.status > 2 and self.err.startswith(b"mairix: ") and self.err.count(b"\n") == 1 and self.files == (b"old", None)
+        refused = self.status > 2 and self.err.startswith(b"mairix: ") and self.err.count(b"\n") == 1 and self.files == (OLD, None)
         if refused and any(it.out.startswith(self.out) for it in wholes):
             return []
         return ["status %d, %r, %d bytes: %r" % (self.status, self.err, len(self.out), self.out[:200])]
@@ -94,7 +94,7 @@ class Room:
         for name in ("m.mbox", "hits", "hits.new"):
             if os.path.lexists(self.path(name)):
                 os.remove(self.path(name))
-        files = {"hits": b"old", "m.idx": self.index, "with": by}
+        files = {"hits": OLD, "m.idx": self.index, "with": by}
         if archive is not None:
             files["m.mbox"] = archive
         write(self.folder, files)
@@ -199,7 +199,7 @@ def beside_a_writer(program, top, runs):
         writer.start()
         told = []
         for _ in range(runs):
-            write(room.folder, {"hits": b"old"})
+            write(room.folder, {"hits": OLD})
             if name == indexed:
                 room.run(INDEX)
             told.append(room.run(words))

@@ -1,13 +1,17 @@
 #!/usr/bin/env python3
-"""Proves a crate, tries its edits, and proves and tests the crates that stand on it.
+"""Proves a function, or a crate; then tries the crate's edits, and proves and tests the crates that depend on it.
 
-    tools/check_crate.py [--jobs N] [--alone] CRATE
-    tools/check_crate.py [--jobs N] CRATE WORD ..
+    tools/check_crate.py [--jobs N] CRATE --only FUNCTION
+    tools/check_crate.py [--jobs N] --alone CRATE
+    tools/check_crate.py [--jobs N] CRATE
 
-What is proved already isn't proved again: neither what tools/build.py has made, nor what a check of the same crate has kept. With --alone nothing
-that stands on the crate is looked at. Words of the prover, such as --only PATH or --start FUNCTION, ask it just that of the crate.
+The first is what to begin with: it takes seconds. The second proves the whole crate, and then tries its edits, the third goes on with what depends on
+it. All errors of the first crate that isn't proved are printed, their causes first, and the check ends there.
 
-The last line is `N passed, M failed`.
+What is proved already isn't proved again: neither what tools/build.py has made, nor what a check of the same crate has kept. Other words of the
+prover may be in the place of --only, such as --start FUNCTION: they ask it just that of the crate.
+
+The last line of a check is `N passed, M failed`.
 """
 import argparse
 import re
@@ -46,10 +50,14 @@ class Check:
         return build
 
     def prove(self, names):
+        """Proves crates, and ends with the first that isn't proved: no more is said of the others, which may depend on it."""
         if self.is_proved:
             build = self.build(names, names)
             for name in names:
-                self.take(f"proof of {name}", name not in build.unmade)
+                if name not in build.unmade:
+                    self.take(f"proof of {name}", True)
+            if build.refused:
+                self.take(f"proof of {build.refused}", False)
 
     def try_edits(self, name):
         if self.is_proved and (self.crates.folder(name) / "must-fail").is_dir():
@@ -65,7 +73,7 @@ class Check:
         if self.is_proved:
             build = self.build(self.crates.below(name), [])
             lines = build.test(name) if self.is_proved else []
-            print(*lines[-40:], sep="\n", end="\n" if lines else "")
+            print(*lines, sep="\n", end="\n" if lines else "")
             self.take(f"tests of {name}", self.is_proved and not lines)
 
 

@@ -2,44 +2,52 @@
 """Compares the pages, the completions and the program's help with the built program and its source. The examples of the manual pages, README.md
 and docs/RECIPES.md are run (page_examples.py says how they are written). Each option, text of a fault and prefix stands where readers look for it, and
 no others do. Code that a page quotes stands in the file that it names.
-A crate's page has the signature of each public call, as its source has it, and what crates.txt says of the crate.
-Decisions are in the order of their numbers. No page is too wide, and some aren't too long.
+A crate's page names each public function, and says what crates.txt says of the crate.
+Decisions are in the order of their numbers. README's times and sizes stand in PERFORMANCE.md. mairix(1) names all other manual pages. No page is too
+wide, and some aren't too long.
 
-    check_pages.py PROGRAM
+    check_pages.py [PROGRAM]
 
-The last line is `N passed, M failed`.
+Without a program all is looked at that needs none: `make lint` does so. The last line is `N passed, M failed`.
 """
 import itertools, os, re, shutil, subprocess, sys, tarfile, tempfile
+from fnmatch import fnmatch
 from pathlib import Path
 
 sys.dont_write_bytecode = True
+import version
 from crates import Crates
 from crates_elsewhere import files_of_caller
 from page_examples import TOP, Sandbox, checks_of, roff_text
+from signatures import public_signatures
 
 # Texts of faults that no run prints: the parser answers the first two itself, and a job that has failed isn't asked again.
 UNTOLD = {"help", "version", "archive N: failed before"}
 # How wide the lines of help are at most, and how many tell of a query language, with their title.
 WIDTH, LINES_OF_LANGUAGE = 80, 10
 
-COMMANDS, RCFILE, QUERIES = (TOP / "man" / name for name in ("mairix.1", "mairixrc.5", "mairix-query.7"))
-MANUAL = (COMMANDS, RCFILE, QUERIES)
+COMMANDS, RCFILE, QUERIES, OF_SCRIPTS = (TOP / "man" / name for name in ("mairix.1", "mairixrc.5", "mairix-query.7", "mairix-scripts.7"))
+MANUAL = (COMMANDS, RCFILE, QUERIES, OF_SCRIPTS)
+SCRIPTS = sorted((TOP / "scripts").iterdir())
 README, PROGRESS, NEWS = TOP / "README.md", TOP / "docs" / "PROGRESS.md", TOP / "NEWS"
-MARKDOWN = (README, TOP / "docs" / "RECIPES.md")
+RECIPES, PERFORMANCE = TOP / "docs" / "RECIPES.md", TOP / "docs" / "PERFORMANCE.md"
+MARKDOWN = (README, RECIPES)
 # Pages that quote contracts, definitions and edits.
 CONTRIBUTING, PROVED = TOP / "docs" / "CONTRIBUTING.md", TOP / "docs" / "PROVED.md"
 QUOTING = (PROVED, CONTRIBUTING)
 CRATE_PAGES = sorted((TOP / "crates").glob("*/README.md"))
 PAGES = (*sorted((TOP / "docs").glob("*.md")), README, *CRATE_PAGES)
 # How wide a line of a page is at most, except in tables and checks (NARROW_EXCEPT), and how many words some pages have.
-PAGE_WIDTH, MOST_WORDS = 120, {README: 900, PROGRESS: 900}
-NARROW_EXCEPT = ("|", r'.\" run: ')
-# How many lines a crate's page has at most without its signatures and its caller, and how many lines these have.
-MOST_LINES, MOST_OF_SIGNATURES, MOST_OF_CALLER = 85, 95, 60
-# Traits whose implementations no caller needs to know of.
-MINOR_TRAITS = {"Model", "Drop", "From", "fmt::Display", "Error"}
+PAGE_WIDTH, MOST_WORDS = 120, {README: 1000, PROGRESS: 900}
+NARROW_EXCEPT = ("|", r".\" run: ")
+# How many characters a cell of a table has at most, and on which pages.
+MOST_IN_CELL, PAGES_OF_CELLS = 300, sorted({*(TOP / "docs").glob("*.md")} - {TOP / "docs/RECIPES.md", TOP / "docs/RELIABILITY.md"})
+# How many lines a crate's page has at most without its caller, and how many lines that has.
+MOST_LINES, MOST_OF_CALLER = 85, 60
 BASH, ZSH, FISH = (TOP / "completions" / name for name in ("mairix.bash", "_mairix", "mairix.fish"))
 COMPLETIONS = {BASH: "bash-completion/completions/mairix", ZSH: "zsh/site-functions/_mairix", FISH: "fish/vendor_completions.d/mairix.fish"}
+# What else is installed below share/.
+DOCUMENTS = {README: "doc/mairix-proved/README.md", RECIPES: "doc/mairix-proved/RECIPES.md"}
 
 
 def source(path):
@@ -72,6 +80,12 @@ def options_in(text):
 
 def help_text(program):
     return subprocess.run([program, "--help"], capture_output=True, text=True, timeout=60).stdout
+
+
+def declared_options():
+    """The options that the source declares, and those of the parser itself."""
+    declared = re.findall(r"""id: "(\w+)",\s+form: Form::(?:Letter\('(\w)'\)|(Name))""", source("mairix_options/src/command_line.rt"))
+    return {f"--{id}" if name else f"-{letter}" for id, letter, name in declared} | {"-h", "--help", "-V", "--version"}
 
 
 def known_options(program):
@@ -174,7 +188,7 @@ def told_texts():
     texts = printed(FAULT_TEXTS, "text_of_fault fault", {})
     for path in sorted((TOP / "crates/run_faults/src").glob("*.rt")):
         texts |= set(re.findall(r'(?m)^pub const \w+: &str = "([^"]+)";', path.read_text(encoding="utf-8")))
-    for path in ("mairix_run/src/telling.rt", "mairix/src/main.rt"):
+    for path in ("mairix_run/src/ending_report.rt", "mairix/src/main.rt"):
         texts |= {it.strip() for it in re.findall(r'"mairix: ([^"\\{]+)', source(path))}
     return texts - UNTOLD
 
@@ -269,12 +283,20 @@ def help_checks(program):
 FORMAT = TOP / "docs" / "INDEX-FORMAT.md"
 
 
-def format_checks(program):
-    """The table of bytes in the page on index files is the file that the program writes, and its fields follow one another."""
-    rows = re.findall(r"(?m)^\| (\d+) \| `([0-9a-f]+)` \|", FORMAT.read_text(encoding="utf-8"))
-    told = bytes.fromhex("".join(row for _, row in rows))
+def rows_of_format():
+    """The rows of the table of bytes in the page on index files: the offset of each, and its bytes."""
+    return re.findall(r"(?m)^\| (\d+) \| `([0-9a-f]+)` \|", FORMAT.read_text(encoding="utf-8"))
+
+
+def offset_faults():
+    rows = rows_of_format()
     places = [sum(len(row) // 2 for _, row in rows[:number]) for number in range(len(rows))]
-    yield "offsets in INDEX-FORMAT.md", "" if [int(place) for place, _ in rows] == places else "they don't follow one another"
+    return "" if [int(place) for place, _ in rows] == places else "they don't follow one another"
+
+
+def format_checks(program):
+    """The table of bytes in the page on index files is the file that the program writes."""
+    told = bytes.fromhex("".join(row for _, row in rows_of_format()))
     with Sandbox(program) as sandbox:
         (sandbox.home / "rc").write_text("mbox=m.mbox\ndatabase=index\nmfolder=found\n")
         (sandbox.home / "m.mbox").write_bytes((sandbox.demo / "m.mbox").read_bytes())
@@ -299,8 +321,8 @@ def part_of_page(page, title):
 
 def caller_faults(page):
     """What is wrong with the code on a crate's page: each block is a file of the caller, or stands behind `From FILE:`, and each of its pieces
-    stands in that file. Signatures are left out: they come from many files."""
-    text = page.read_text(encoding="utf-8").replace(part_of_page(page, "Signatures"), "")
+    stands in that file."""
+    text = page.read_text(encoding="utf-8")
     shown = re.findall(r"From `([^`]+)`:\n\n```\w+\n(.*?)\n```", text, re.S)
     callers = files_of_caller(text)
     if not callers or len(shown) + len(callers) != len(re.findall(r"(?m)^```\w+$", text)):
@@ -314,10 +336,9 @@ def caller_checks():
     for page in CRATE_PAGES:
         yield f"callers of {page.parent.name}", ", ".join(caller_faults(page))
         text = page.read_text(encoding="utf-8")
-        signatures, caller = part_of_page(page, "Signatures").count("\n"), "".join(files_of_caller(text).values()).count("\n")
-        lines = text.count("\n") - signatures - caller
-        is_short = lines <= MOST_LINES and signatures <= MOST_OF_SIGNATURES and caller <= MOST_OF_CALLER
-        wrong = "" if is_short else f"{lines} lines, {signatures} of signatures, and {caller} of a caller"
+        caller = "".join(files_of_caller(text).values()).count("\n")
+        lines = text.count("\n") - caller
+        wrong = "" if lines <= MOST_LINES and caller <= MOST_OF_CALLER else f"{lines} lines, and {caller} of a caller"
         yield f"length of the page of {page.parent.name}", wrong
 
 
@@ -345,103 +366,25 @@ def claim_checks():
     """The calls, clauses, their parts and the definitions that the tables of claims name are there."""
     files = [*(TOP / "crates").glob("*/src/**/*.rt"), *(TOP / "crates").glob("*/specs/**/*.antt")]
     text = "\n".join(it.read_text(encoding="utf-8") for it in files)
-    declared = set(re.findall(r"(?=\b(?:fn|ensures\*?|struct|enum|trait|record|ghost|pub) (\w+))", text)) | {it.name for it in (TOP / "crates").iterdir()}
+    declared = set(re.findall(r"(?=\b(?:fn|ensures\*?|struct|enum|trait|record|ghost|pub) (\w+))", text)) | {
+        it.name for it in (TOP / "crates").iterdir()
+    }
     cells = re.findall(r"(?m)^\|.*\| ([^|]*) \|$", PROVED.read_text(encoding="utf-8"))
     named = {part for cell in cells for it in re.findall(r"`(\w[\w:.]*)(?<!\.)`", cell) for part in re.split(r"::|\.", it)}
     yield "names in PROVED.md", ", ".join(f"nothing is called {it}" for it in sorted(named - declared))
 
 
-# ---- signatures
+# ---- crates' pages
 
 
-def joined(signature):
-    """A signature on one line, wherever its lines are broken."""
-    return re.sub(r",? \)", ")", plain(signature).replace("( ", "("))
-
-
-def end_of_bracket(text, start):
-    """Where the bracket that opens here is closed."""
-    depth = 0
-    for place in range(start, len(text)):
-        depth += (text[place] in "({") - (text[place] in ")}")
-        if depth == 0:
-            return place + 1
-    return len(text)
-
-
-def signature_at(text, start):
-    """The signature that begins here, with each `requires` of it, and without its other clauses."""
-    end = end_of_bracket(text, text.index("(", start))
-    end += re.match(r"[^\n{]*", text[end:]).end()
-    found = [text[start:end].rstrip(" ;")]
-    while clause := re.compile(r"\s*(requires|ensures\*?)(?: \w+)? (?=\{)").match(text, end):
-        end = end_of_bracket(text, clause.end())
-        if clause[1] == "requires":
-            found.append(text[clause.start() : end])
-    return joined("".join(found))
-
-
-def name_of_head(head):
-    """The name after `trait`, after `impl`, or after `impl TRAIT for`; and in this last case the trait."""
-    while "<" in head:
-        head = re.sub(r"<[^<>]*>", "", head)
-    words = head.split()
-    if words[0] == "impl":
-        return words[-1], words[1] if "for" in words else ""
-    return words[words.index("trait") + 1].rstrip(":"), ""
-
-
-def signatures_in(text):
-    """What a text declares for others: each call as the head above it, or none, and its signature. An implementation
-    of a trait is a head without a signature."""
-    for call in re.finditer(r"(?m)^pub fn ", text):
-        yield "", signature_at(text, call.start())
-    for head in re.finditer(r"(?m)^(?:(?:pub )?trait|impl)\b[^{\n]*", text):
-        if name_of_head(head[0])[1]:
-            yield joined(head[0]), ""
-            continue
-        body = text[head.end() : text.find("\n}", head.end())]
-        for call in re.finditer(r"(?m)^    (?:pub )?fn " if "trait " in head[0] else r"(?m)^    pub fn ", body):
-            yield joined(head[0]), signature_at(body, call.start() + 4)
-
-
-def exported_names(crate):
-    """The names that a crate's lib.rt declares, or exports from its own modules, each with the file that has it."""
-    text = source(f"{crate}/src/lib.rt")
-    yield from ((name, f"{crate}/src/lib.rt") for name in re.findall(r"(?m)^pub (?:fn|struct|enum|trait) (\w+)", text))
-    for path, names in re.findall(r"(?m)^pub use ([\w:]+)::(\w+|\{[^}]*\});", text):
-        if re.search(rf"(?m)^mod {path.partition('::')[0]};", text):
-            yield from ((name, f"{crate}/src/{path.replace('::', '/')}.rt") for name in re.findall(r"\w+", names))
-
-
-def public_signatures(crate):
-    """The calls that a crate exports: functions, calls of types and traits, and the traits that its types have."""
-    exported = dict(exported_names(crate))
-    for name, path in exported.items():
-        yield from (it for it in signatures_in(source(path)) if not it[0] and re.match(rf"pub fn {name}\b", it[1]))
-    for path in sorted((TOP / "crates" / crate / "src").rglob("*.rt")):
-        for head, signature in signatures_in(path.read_text(encoding="utf-8")):
-            name, trait = name_of_head(head) if head else ("", "")
-            if name in exported and trait not in MINOR_TRAITS:
-                yield head, signature
-
-
-def signature_faults(crate):
-    """How the signatures on a crate's page differ from those of its source."""
-    wanted = set(public_signatures(crate))
+def unnamed_calls(crate):
+    """The public functions of a crate that its page doesn't name. Laws, which return nothing and change nothing, needn't be there."""
     page = TOP / "crates" / crate / "README.md"
-    if not wanted and not page.exists():
-        return
-    blocks = re.findall(r"(?ms)^```rust\n(.*?)^```$", part_of_page(page, "Signatures")) if page.exists() else []
-    shown = [it for block in blocks for it in signatures_in(block)]
-    yield from (f"the source has no {' '.join(it).strip()!r}" for it in sorted(set(shown) - wanted))
-    yield from (f"the page has no {' '.join(it).strip()!r}" for it in sorted(wanted - set(shown)))
-    yield from (f"twice {' '.join(it).strip()!r}" for it in sorted(set(shown)) if shown.count(it) > 1)
-    rest = joined(re.sub(r"(?m)^ *//.*", "", "".join(blocks)))
-    for piece in sorted({it for pair in shown for it in pair if it}, key=len, reverse=True):
-        rest = rest.replace(piece, "")
-    if rest := re.sub(r"[{}\s]", "", rest):
-        yield f"{rest!r} is no signature"
+    text = page.read_text(encoding="utf-8") if page.exists() else ""
+    for head, signature in public_signatures(crate):
+        found = re.match(r"pub fn (\w+)\b(?=.*(?:->|&mut\b))", signature)
+        if not head and found and not re.search(rf"\b{found[1]}\b", text):
+            yield found[1]
 
 
 def rows_of_crate(crates, name):
@@ -454,11 +397,11 @@ def rows_of_crate(crates, name):
     yield f"| libraries of the kit | {', '.join(kit) or 'none'} |"
 
 
-def signature_checks():
+def crate_checks():
     crates = Crates(TOP)
     for name in sorted(crates.libraries):
         if (crates.folder(name) / "src/lib.rt").exists():
-            yield f"signatures on the page of {name}", "; ".join(signature_faults(name))
+            yield f"calls on the page of {name}", "; ".join(f"{it} is missing" for it in unnamed_calls(name))
     for page in CRATE_PAGES:
         shown = [it for it in part_of_page(page, "In another repository").splitlines() if it.startswith("| ")][1:]
         wanted = list(rows_of_crate(crates, page.parent.name))
@@ -474,6 +417,32 @@ def tool_checks():
     written = {str(it.relative_to(TOP)) for folder in ("tools", "bench") for it in (TOP / folder).iterdir() if it.is_file()}
     named = re.findall(r"(?m)^\| ((?:tools|bench)/[^|]+?) \|", CONTRIBUTING.read_text(encoding="utf-8"))
     yield "tools in CONTRIBUTING.md", differences("file", written, {it for names in named for it in names.split(", ")})
+
+
+def report_checks():
+    """Each report of bench/ that the repository has is cited by a page."""
+    text = "\n".join(page.read_text(encoding="utf-8") for page in PAGES)
+    cited = re.findall(r"bench/results/([\w.*-]*\w)", text)
+    reports = sorted(it.name for it in (TOP / "bench/results").iterdir())
+    yield "bench/results", ", ".join(f"no page cites {it}" for it in reports if not any(fnmatch(it, name) for name in cited))
+
+
+# ---- scripts
+
+
+def of_scripts():
+    """The bytes that are installed below a prefix: each script, and a page of its name that leads to mairix-scripts(7)."""
+    pages = {f"share/man/man1/{it.name}.1": b".so man7/mairix-scripts.7\n" for it in SCRIPTS}
+    return pages | {f"bin/{it.name}": it.read_bytes() for it in SCRIPTS}
+
+
+def script_checks():
+    """mairix-scripts(7) has a heading for each script, as its line of usage shows it, and RECIPES names each."""
+    headings = {roff_text(it) for it in OF_SCRIPTS.read_text(encoding="utf-8").splitlines() if it.startswith(".SS ")}
+    usages = {found for it in SCRIPTS for found in re.findall(r'"usage: ([^"]*)"', it.read_text(encoding="utf-8"))}
+    yield "scripts in mairix-scripts.7", differences("script", usages, headings)
+    recipes = RECIPES.read_text(encoding="utf-8")
+    yield "scripts in RECIPES.md", ", ".join(f"{it.name} isn't there" for it in SCRIPTS if not re.search(rf"\b{it.name}\b", recipes))
 
 
 # ---- decisions
@@ -500,6 +469,22 @@ def decision_checks():
     yield "decisions that are cited", ", ".join(f"there is no decision {it}" for it in sorted(missing))
 
 
+# ---- figures
+
+
+def cells(page):
+    """The cells of a page's tables."""
+    rows = re.findall(r"(?m)^\|(.*)\|$", page.read_text(encoding="utf-8"))
+    return [cell.strip() for row in rows for cell in row.split("|")]
+
+
+def figure_checks():
+    """Each time and size in a table of README stands in one of PERFORMANCE.md, which says how it was measured."""
+    figures = [it for it in cells(README) if re.match(r"[\d.,]+ (s|MB)\b", it)]
+    missing = sorted({*figures} - {*cells(PERFORMANCE)})
+    yield "figures of README.md", ", ".join(f"{it} isn't in PERFORMANCE.md" for it in missing) or ("" if figures else "none was found")
+
+
 # ---- form
 
 
@@ -508,8 +493,17 @@ def versions(program):
     return [page.name for page in MANUAL if f'"{told}"' not in page.read_text(encoding="utf-8").splitlines()[0]]
 
 
+def unnamed_pages():
+    """The manual pages that mairix(1) doesn't lead to."""
+    named = " ".join(map(roff_text, section(COMMANDS, "SEE ALSO")))
+    pages = sorted(it for it in (TOP / "man").iterdir() if it != COMMANDS)
+    return [it.name for it in pages if f"{it.stem}({it.suffix[1:]})" not in named]
+
+
 def form_checks(program):
-    yield "versions in the manual pages", ", ".join(versions(program))
+    if program:
+        yield "versions in the manual pages", ", ".join(versions(program))
+    yield "pages that mairix(1) doesn't name", ", ".join(unnamed_pages())
     for page in PAGES:
         links = re.findall(r"\]\(([^)#:]+)\)", page.read_text(encoding="utf-8"))
         yield f"links of {page.name}", ", ".join(it for it in links if not (page.parent / it).exists())
@@ -517,16 +511,23 @@ def form_checks(program):
         lines = enumerate(page.read_text(encoding="utf-8").splitlines(), 1)
         wide = [f"line {number}" for number, line in lines if len(line) > PAGE_WIDTH and not line.startswith(NARROW_EXCEPT)]
         yield f"width of {page.relative_to(TOP)}", ", ".join(wide)
+    for page in PAGES_OF_CELLS:
+        rows = [(number, line) for number, line in enumerate(page.read_text(encoding="utf-8").splitlines(), 1) if line.startswith("|")]
+        large = [f"line {number}" for number, line in rows if any(len(cell) > MOST_IN_CELL for cell in line.strip("| ").split(" | "))]
+        yield f"cells of {page.name}", ", ".join(large)
     for page, most in MOST_WORDS.items():
         count = len(page.read_text(encoding="utf-8").split())
-        yield f"words of {page.name}", "" if count <= most else f"{count} words, more than {most}"
+        accepts = "; if none can go, MOST_WORDS in tools/check_pages.py has the limit"
+        yield f"words of {page.name}", "" if count <= most else f"{count} words, more than {most}{accepts}"
     # Those that are there have a look; none of them has to be.
-    tries = [(["groff", "-man", "-Tutf8", "-ww"], page) for page in MANUAL]
+    tries = [(words, page) for words in (["groff", "-man", "-Tutf8", "-ww"], ["mandoc", "-Tlint", "-Wwarning"]) for page in MANUAL]
     tries += [([shell, "-n"], path) for shell, path in (("bash", BASH), ("zsh", ZSH), ("fish", FISH))]
     for words, path in tries:
         if shutil.which(words[0]):
-            run = subprocess.run(words + [path], stdout=subprocess.DEVNULL, stderr=subprocess.PIPE, text=True, timeout=60)
-            yield f"{words[0]} reads {path.name}", run.stderr.strip() or ("" if run.returncode == 0 else f"status {run.returncode}")
+            run = subprocess.run(words + [path], capture_output=True, text=True, timeout=60)
+            yield f"{words[0]} reads {path.name}", run.stderr.strip() or (
+                "" if run.returncode == 0 else f"status {run.returncode}, {run.stdout[:500]!r}"
+            )
 
 
 # ---- installing
@@ -549,19 +550,23 @@ def install_checks(program):
         kept.touch()
         settings = [f"PROGRAM={program}", f"DESTDIR={room}", "PREFIX=/usr"]
         wrong = make("install", *settings)
-        want = [(program, "bin/mairix")] + [(page, f"share/man/man{page.suffix[1:]}/{page.name}") for page in MANUAL]
-        want += [(path, f"share/{place}") for path, place in COMPLETIONS.items()]
-        for path, place in want:
+        want = {"bin/mairix": program, **{f"share/man/man{page.suffix[1:]}/{page.name}": page for page in MANUAL}}
+        want = {place: version.stamped(Path(path).read_bytes()) for place, path in want.items()}
+        want |= {f"share/{place}": path.read_bytes() for path, place in (COMPLETIONS | DOCUMENTS).items()}
+        want |= of_scripts()
+        for place, data in want.items():
             put = Path(room) / "usr" / place
-            if not put.exists() or put.read_bytes() != Path(path).read_bytes() or os.access(put, os.X_OK) != (place == "bin/mairix"):
+            if not put.exists() or put.read_bytes() != data or os.access(put, os.X_OK) != place.startswith("bin/"):
                 wrong += f" {place} isn't as it should be"
-        others = files_in(room) - {f"usr/{place}" for _, place in want} - {str(kept.relative_to(room))}
+        others = files_in(room) - {f"usr/{place}" for place in want} - {str(kept.relative_to(room))}
         yield "make install", wrong + " ".join(sorted(others))
+        told = subprocess.run([f"{room}/usr/bin/mairix", "-V"], capture_output=True, text=True, timeout=60).stdout
+        yield "version of what is installed", "" if told == f"mairix {version.version()}\n" else f"printed {told!r}"
         yield "make uninstall", make("uninstall", *settings) + " ".join(sorted(files_in(room) ^ {str(kept.relative_to(room))}))
 
 
 def dist_checks():
-    """A release has each file that git tracks; where there is no repository there is none to make."""
+    """A release has each file that git tracks, and its name the version of the last commit; where there is no repository there is none to make."""
     if not (TOP / ".git").exists():
         return
     tracked = subprocess.run(["git", "-C", TOP, "ls-tree", "-r", "--name-only", "-z", "HEAD"], capture_output=True, text=True, timeout=60)
@@ -572,34 +577,46 @@ def dist_checks():
             with tarfile.open(Path(room) / name) as release:
                 inside = {it.name.removeprefix(front) for it in release.getmembers() if not it.isdir()}
             wrong += differences("file of the repository", set(tracked.stdout.split("\0")) - {""}, inside)
-        yield "make dist", wrong if len(os.listdir(room)) == 1 else wrong + " makes no one file"
+        name = f"mairix-{version.version_of_commit()}.tar.gz"
+        yield "make dist", wrong if os.listdir(room) == [name] else f"{wrong} {name} isn't all that it makes"
 
 
-def all_checks(program):
+def example_checks(program):
     for page in MANUAL + MARKDOWN:
         with Sandbox(program) as sandbox:
             examples = list(checks_of(page, sandbox))
         yield from examples
         yield f"examples of {page.name}", "" if examples else "none was found"
-    yield from option_checks(known_options(program))
+
+
+def all_checks(program):
+    """What is compared, and how it differs. Without a program all that needs none."""
+    if program:
+        yield from example_checks(program)
+        yield "options of help", differences("option", declared_options(), known_options(program))
+        yield from help_checks(program)
+        yield from format_checks(program)
+        yield from install_checks(program)
+        yield from dist_checks()
+    yield from option_checks(declared_options())
     yield "texts of faults", differences("text of a fault", told_texts(), fault_tags())
     yield from prefix_checks()
-    yield from help_checks(program)
-    yield from format_checks(program)
+    yield "offsets in INDEX-FORMAT.md", offset_faults()
     yield from caller_checks()
-    yield from signature_checks()
+    yield from crate_checks()
     yield from quote_checks()
     yield from claim_checks()
     yield from tool_checks()
+    yield from report_checks()
+    yield from script_checks()
     yield from decision_checks()
+    yield from figure_checks()
     yield from form_checks(program)
-    yield from install_checks(program)
-    yield from dist_checks()
 
 
 def main(program):
     passed = failed = 0
-    for name, wrong in all_checks(os.path.abspath(program)):
+    for name, wrong in all_checks(program and os.path.abspath(program)):
         passed, failed = passed + (not wrong), failed + bool(wrong)
         if wrong:
             print(f"pages: {name}: {wrong}")
@@ -608,4 +625,4 @@ def main(program):
 
 
 if __name__ == "__main__":
-    sys.exit(main(sys.argv[1]) if len(sys.argv) == 2 else __doc__)
+    sys.exit(main(next(iter(sys.argv[1:]), None)) if len(sys.argv) <= 2 else __doc__)

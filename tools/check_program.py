@@ -8,7 +8,7 @@ The last line is `N passed, M failed`.
 import hashlib, os, resource, stat, subprocess, sys, tempfile, time
 
 import overlapping_runs
-from overlapping_runs import HELLO, SEPARATOR, hello_index, shim
+from overlapping_runs import HELLO, OLD, SEPARATOR, hello_index, shim
 from program_cases import CASES, CHANGED, HELLO_INDEX, INDEX, LEFT, LINK, ONCE, OWN, RAW, RC, STORED, TWO, fault
 
 
@@ -96,7 +96,7 @@ def case(program, files, words, status, out, err, changes={}):
 def killed_run(program):
     """An index run that is killed while it reads: the old index stays, and the next run replaces what was left."""
     with tempfile.TemporaryDirectory() as folder:
-        write(folder, {"rc": RC, "m.idx": b"old"})
+        write(folder, {"rc": RC, "m.idx": OLD})
         archive, index, new = (os.path.join(folder, name) for name in ("m.mbox", "m.idx", "m.idx.new"))
         # A pipe with an end that stays open: whoever reads it waits.
         os.mkfifo(archive)
@@ -110,7 +110,7 @@ def killed_run(program):
         os.close(end)
         left = sorted(os.listdir(folder))
         with open(index, "rb") as f:
-            bad = [] if left == ["m.idx", "m.idx.new", "m.mbox", "rc"] and f.read() == b"old" else ["it left %s" % left]
+            bad = [] if left == ["m.idx", "m.idx.new", "m.mbox", "rc"] and f.read() == OLD else ["it left %s" % left]
         if mode(new) != 0o1600:
             bad.append("its own file has mode %o" % mode(new))
         os.remove(archive)
@@ -125,41 +125,68 @@ MADE = (("m.idx", INDEX, HELLO_INDEX), ("hits", ONCE + ["s:hello"], HELLO))
 
 
 def private_file(program):
-    """A new index and a new answer are private whatever the umask; in place of an old file each has that file's mode."""
+    """A new index and a new answer are private whatever the umask, and all may read them if all may read what they replace."""
     bad = []
-    modes = ((0o022, None, 0o600), (0, None, 0o600), (0o777, None, 0o600), (0o077, 0o644, 0o644), (0, 0o600, 0o600), (0o077, 0o640, 0o640), (0, 0o400, 0o400), (0o022, LINK(["other"]), 0o600))
+    shared = ((0o077, old, 0o644) for old in (0o644, 0o604, 0o444, 0o777, 0o1644))
+    private = ((0, old, 0o600) for old in (0o600, 0o640, 0o660, 0o400, 0o751, 0o1600))
+    modes = ((0o022, None, 0o600), (0, None, 0o600), (0o777, None, 0o600), *shared, *private, (0o022, LINK(["other"]), 0o600))
     for umask, old, want in modes:
         for name, words, whole in MADE:
             with tempfile.TemporaryDirectory() as folder:
                 path = os.path.join(folder, name)
-                write(folder, {"rc": RC, "m.mbox": HELLO, "other": b"other"})
+                write(folder, {"rc": RC, "m.mbox": HELLO, "other": OLD})
                 if isinstance(old, LINK):
                     write(folder, {name: old})
                 elif old is not None:
-                    write(folder, {name: b"old"})
+                    write(folder, {name: OLD})
                     os.chmod(path, old)
                 p = run(program, words, folder, capture_output=True, umask=umask)
-                if p.returncode != 0 or mode(path) != want or contents(folder) != {"rc": RC, "m.mbox": HELLO, "other": b"other", name: whole}:
+                if p.returncode != 0 or mode(path) != want or contents(folder) != {"rc": RC, "m.mbox": HELLO, "other": OLD, name: whole}:
                     bad.append("%s, umask %o: status %d, %r, mode %o, wanted %o" % (name, umask, p.returncode, p.stderr, mode(path), want))
     return bad
 
 
 def file_of_another(program):
-    """An old file of another owner doesn't say who may read the new one, nor does the group of one of another group. Only root can try that."""
+    """An old file of another owner doesn't say who may read the new one, and the group of one doesn't matter. Only root can try that."""
     bad = []
     if os.geteuid() != 0:
         return left_out("old files of other owners: only root can make some")
     another = 65534
-    for owner, group, old, want in ((another, -1, 0o666, 0o600), (-1, another, 0o640, 0o600), (-1, another, 0o664, 0o604)):
+    for owner, group, old, want in ((another, -1, 0o666, 0o600), (-1, another, 0o640, 0o600), (-1, another, 0o664, 0o644)):
         for name, words, _ in MADE:
             with tempfile.TemporaryDirectory() as folder:
                 path = os.path.join(folder, name)
-                write(folder, {"rc": RC, "m.mbox": HELLO, name: b"old"})
+                write(folder, {"rc": RC, "m.mbox": HELLO, name: OLD})
                 os.chown(path, owner, group)
                 os.chmod(path, old)
                 p = run(program, words, folder, capture_output=True)
                 if p.returncode != 0 or mode(path) != want:
                     bad.append("%s of %d:%d, %o: status %d, mode %o, wanted %o" % (name, owner, group, old, p.returncode, mode(path), want))
+    return bad
+
+
+def appended_answers(program):
+    """An answer that would go to the end of a file that the run reads: nothing is written there, as by `cat`. To the end of another file it goes."""
+    bad = []
+    runs = (
+        RAW + ["s:hello"],
+        ONCE + ["--stdout", "s:hello"],
+        STORED + ["s:hello"],
+        INDEX + ["-x", "s:hello"],
+        INDEX + ["--verify", "--stdout", "s:hello"],
+    )
+    for words in runs:
+        for name in ("m.mbox", "rc", "m.idx", "other"):
+            with tempfile.TemporaryDirectory() as folder:
+                write(folder, {"rc": RC, "m.mbox": HELLO, "m.idx": HELLO_INDEX, "other": OLD})
+                before = contents(folder)
+                with open(os.path.join(folder, name), "ab") as out:
+                    p = run(program, words, folder, stdout=out, stderr=subprocess.PIPE)
+                is_read = name in ("m.mbox", "rc") or name == "m.idx" and "--once" not in words
+                good = (p.returncode, p.stderr) == ((4, fault(b"cannot open " + name.encode())) if is_read else (0, b""))
+                after = contents(folder)
+                if not good or is_read and after != before or len(after[name]) < len(before[name]):
+                    bad.append("%s >> %s: status %d, %r" % (words, name, p.returncode, p.stderr))
     return bad
 
 
@@ -183,14 +210,14 @@ def name_of_a_pipe(program):
 
 
 def foreign_leftovers(program):
-    """A file under the passing name that holds what a run makes, but has another mode or owner, stays, and the run is refused."""
+    """A file under the temporary name that holds what a run makes, but without the mark, or of another owner, stays, and the run is refused."""
     bad = []
     another = [(0o1600, 65534)] if os.geteuid() == 0 else left_out("a leftover of another owner: only root can make one")
-    modes = (0o600, 0o1400, 0o1601, 0o1620, 0o1640, 0o1644, 0o1700, 0o3600, 0o4600, 0o5600)
+    modes = (0o600, 0o400, 0o601, 0o620, 0o640, 0o644, 0o700, 0o2600, 0o4600, 0o6600)
     for mode_left, owner in [*((it, -1) for it in modes), *another]:
         for name, words, whole in MADE:
             with tempfile.TemporaryDirectory() as folder:
-                write(folder, {"rc": RC, "m.mbox": HELLO, name: b"old", name + ".new": whole})
+                write(folder, {"rc": RC, "m.mbox": HELLO, name: OLD, name + ".new": whole})
                 path = os.path.join(folder, name + ".new")
                 os.chown(path, owner, -1)
                 os.chmod(path, mode_left)
@@ -208,14 +235,14 @@ def large_no_index(program):
     texts = {b"": (3, b"index: bad magic"), HELLO_INDEX[:8] + bytes(4): (3, b"index: unknown version"), HELLO_INDEX[:99]: (5, b"out of memory")}
     for front, (status, text) in texts.items():
         with tempfile.TemporaryDirectory() as folder:
-            write(folder, {"rc": RC, "m.mbox": HELLO, "m.idx": front, "hits": b"old"})
+            write(folder, {"rc": RC, "m.mbox": HELLO, "m.idx": front, "hits": OLD})
             # Without blocks of its own, so that it costs nothing.
             os.truncate(os.path.join(folder, "m.idx"), 1 << 30)
             for words in (["s:hello"], ["-r", "s:hello"]):
                 p = limited(program, "ulimit -v 200000", INDEX + words, folder)
                 with open(os.path.join(folder, "hits"), "rb") as f:
                     left = f.read()
-                if (p.returncode, p.stdout, p.stderr, left, len(os.listdir(folder))) != (status, b"", fault(text), b"old", 4):
+                if (p.returncode, p.stdout, p.stderr, left, len(os.listdir(folder))) != (status, b"", fault(text), OLD, 4):
                     bad.append("%r: status %d, %r" % (front, p.returncode, p.stderr))
     for pattern, status, text in (("s:hello", 3, b"index: bad magic"), ("q:x", 2, b"query item 1: bad prefix")):
         with tempfile.TemporaryDirectory() as folder:
@@ -227,7 +254,14 @@ def large_no_index(program):
 
 
 LIMITS = {
-    "ulimit -n 5": (INDEX, INDEX + ["s:hello"], INDEX + ["--verify", "s:hello"], ONCE + ["s:hello"], ONCE + ["-x", "s:hello"], STORED + ["-t", "s:hello"]),
+    "ulimit -n 5": (
+        INDEX,
+        INDEX + ["s:hello"],
+        INDEX + ["--verify", "s:hello"],
+        ONCE + ["s:hello"],
+        ONCE + ["-x", "s:hello"],
+        STORED + ["-t", "s:hello"],
+    ),
     "ulimit -n 4": (STORED + ["s:hello"], INDEX + ["-x", "s:hello"], INDEX + ["--verify", "--stdout", "s:hello"], RAW + ["-t", "s:hello"]),
 }
 
@@ -253,7 +287,15 @@ def low_limits(program):
     return bad
 
 
-SMALL_STACK = (INDEX, STORED + ["s:hello"], INDEX + ["s:hello"], INDEX + ["--verify", "-x", "s:hello"], ONCE + ["-t", "--boolean", "subject:hel* or (hi and not x)"], ["-h"], ["-z"])
+SMALL_STACK = (
+    INDEX,
+    STORED + ["s:hello"],
+    INDEX + ["s:hello"],
+    INDEX + ["--verify", "-x", "s:hello"],
+    ONCE + ["-t", "--boolean", "subject:hel* or (hi and not x)"],
+    ["-h"],
+    ["-z"],
+)
 
 
 def small_stacks(program):
@@ -335,7 +377,11 @@ def odd_folder(program):
     with tempfile.TemporaryDirectory() as top:
         folder = os.path.join(top, "\udcff")
         os.mkdir(folder)
-        for index, link, status, err in (("m.idx", None, 0, b""), ("m.mbox", None, 4, fault(b"cannot open m.mbox")), ("l", "m.mbox", 4, fault(b"cannot open l"))):
+        for index, link, status, err in (
+            ("m.idx", None, 0, b""),
+            ("m.mbox", None, 4, fault(b"cannot open m.mbox")),
+            ("l", "m.mbox", 4, fault(b"cannot open l")),
+        ):
             write(folder, {"rc": b"mbox=m.mbox\ndatabase=%s\nmfolder=h\n" % index.encode(), "m.mbox": HELLO})
             if link:
                 os.symlink(link, os.path.join(folder, index))
@@ -350,7 +396,7 @@ def no_room(program):
     bad = []
     for name, words, _ in MADE:
         with tempfile.TemporaryDirectory() as folder:
-            write(folder, {"rc": RC, "m.mbox": HELLO, name: b"old"})
+            write(folder, {"rc": RC, "m.mbox": HELLO, name: OLD})
             before = contents(folder)
             p = limited(program, 'trap "" XFSZ; ulimit -f 0', words, folder)
             if p.returncode != 4 or p.stderr != fault(b"output failed") or contents(folder) != before:
@@ -363,13 +409,13 @@ def want_of_memory(program):
     bad = []
     for name in ("rc", "m.idx"):
         with tempfile.TemporaryDirectory() as folder:
-            write(folder, {"rc": RC, "m.mbox": HELLO, "m.idx": HELLO_INDEX, "hits": b"old"})
+            write(folder, {"rc": RC, "m.mbox": HELLO, "m.idx": HELLO_INDEX, "hits": OLD})
             # Without blocks of its own, so that it costs nothing.
             os.truncate(os.path.join(folder, name), 1 << 40)
             p = limited(program, "ulimit -v 1000000", INDEX + ["s:hello"], folder)
             with open(os.path.join(folder, "hits"), "rb") as f:
                 left = f.read()
-            if p.returncode != 5 or p.stderr != fault(b"out of memory") or left != b"old" or len(os.listdir(folder)) != 4:
+            if p.returncode != 5 or p.stderr != fault(b"out of memory") or left != OLD or len(os.listdir(folder)) != 4:
                 bad.append("%s: status %d, %r" % (name, p.returncode, p.stderr))
     return bad
 
@@ -411,7 +457,13 @@ def index_then_search(program):
         ("both grew", {"m.mbox": HELLO + HELLO, "n": HELLO + HELLO}, 3, b"", CHANGED),
         ("the second is gone", {"n": None}, 4, b"", fault(b"cannot open n")),
         ("the second isn't named any more", {"rc": RC}, 3, b"", second),
-        ("a third is named", {"rc": b"mbox=m.mbox:n:m.mbox\ndatabase=m.idx\nmfolder=hits\n"}, 3, b"", fault(b"archive 3: changed since it was indexed")),
+        (
+            "a third is named",
+            {"rc": b"mbox=m.mbox:n:m.mbox\ndatabase=m.idx\nmfolder=hits\n"},
+            3,
+            b"",
+            fault(b"archive 3: changed since it was indexed"),
+        ),
         ("the other order", {"rc": b"mbox=n:m.mbox\ndatabase=m.idx\nmfolder=hits\n"}, 3, b"", CHANGED),
         ("another path of the second", {"rc": b"mbox=m.mbox:./n\ndatabase=m.idx\nmfolder=hits\n"}, 3, b"", second),
     ]
@@ -563,7 +615,32 @@ def main(program):
     program = os.path.abspath(program)
     passed = failed = 0
     checks = [(name, lambda c=c: case(program, *c)) for name, *c in CASES]
-    others = (killed_run, private_file, file_of_another, name_of_a_pipe, foreign_leftovers, large_no_index, low_limits, small_stacks, memory, long_command_lines, odd_folder, no_room, want_of_memory, large_index, long_answers, index_then_search, full_disk, unreadable, many_archives, clock, failing_clock, far_message, neighbours)
+    others = (
+        killed_run,
+        private_file,
+        file_of_another,
+        appended_answers,
+        name_of_a_pipe,
+        foreign_leftovers,
+        large_no_index,
+        low_limits,
+        small_stacks,
+        memory,
+        long_command_lines,
+        odd_folder,
+        no_room,
+        want_of_memory,
+        large_index,
+        long_answers,
+        index_then_search,
+        full_disk,
+        unreadable,
+        many_archives,
+        clock,
+        failing_clock,
+        far_message,
+        neighbours,
+    )
     checks += [(f.__doc__.split(".")[0], lambda f=f: f(program)) for f in others]
     checks += [("overlapping runs: " + name, lambda bad=bad: bad) for name, _, bad in overlapping_runs.checks(program)]
     for name, check in checks:

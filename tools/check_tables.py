@@ -58,31 +58,29 @@ def numbers_of_the_page(write=False):
         page = re.sub(rf"\d+ {what},", told, page)
     if write:
         PROVED.write_text(page, encoding="utf-8")
-    return all(told in page for told in counts.values()) and (write or page == kept)
+    good = all(told in page for told in counts.values()) and (write or page == kept)
+    if not good:
+        print("tables: tools/check_tables.py --write writes today's numbers into PROVED.md")
+    return good
 
 
-# The functions that begin counts of steps: `matches`, `with_threads` and `answer` have no caller's counts, and `Cursor::new` one of two.
-COUNTING = {
-    "mail_answer::cursor::Cursor::new",
-    "mail_answer::cursor::matches",
-    "mail_answer::threads::with_threads",
-    "mail_answer::numbers::Numbers::chosen",
-}
+# The functions that begin a count of steps, each one: `matches`, `with_threads` and `answer` have no caller's count.
+COUNTING = ["mail_answer::cursor::matches", "mail_answer::numbers::Numbers::chosen", "mail_answer::threads::with_threads"]
 
 
 def only_whole_searches_begin_counts():
-    """What a cursor looks at is to be on its caller's counts. Its calls have no view of their index, but what has an allocator could open an
-    index of bytes in the program's text, and begin a count with that."""
-    crate, found = Path(TOOLS, "..", "crates", "mail_answer"), set()
+    """What a cursor looks at is to be on its caller's count. What has an allocator and a view of an index, or bytes of one in the program's text,
+    could begin another count."""
+    crate, found = Path(TOOLS, "..", "crates", "mail_answer"), []
     for file in sorted(crate.glob("src/**/*.rt")):
         text, path = blanked(file.read_text(encoding="utf-8")), file.relative_to(crate).as_posix()
         named = [it.start() for it in re.finditer(r"\bSteps\s*(?:::\s*new\b|\{|\bas\b)", text)]
         bodies = bodies_of_file(crate.name, path, text)
         for place in named:
-            found.add(next((name for start, end, name in bodies if start <= place < end), path))
-    for name in sorted(found - COUNTING):
-        print("tables: %s begins a count of steps" % name)
-    return found == COUNTING
+            found.append(next((name for start, end, name in bodies if start <= place < end), path))
+    if sorted(found) != COUNTING:
+        print("tables: these begin a count of steps: %s" % ", ".join(sorted(found)))
+    return sorted(found) == COUNTING
 
 
 def main(write):

@@ -3,8 +3,8 @@
 
     durable_files.py PROGRAM
 
-The calls of each run that makes a file are recorded, by a preloaded library and by strace: all that is written, the file brought to the disk,
-the rename, the new mode, and the folder brought to the disk, in that order, and no other call that changes a file. Then runs make a file on a
+The calls of each run that makes a file are recorded, by a preloaded library and by strace: all that is written, the mode, the file brought to
+the disk, the rename, the mark taken away, and the folder brought to the disk, in that order, and no other call that changes a file. Then runs make a file on a
 disk that is copied as soon as they have ended, as a power cut would leave it: the file is there. What can't be tried on this machine is said
 aloud. The last line is `N passed, M failed`.
 """
@@ -12,7 +12,7 @@ import os, re, shutil, subprocess, sys, tempfile
 
 from check_program import MADE, left_out, run, write
 from names_of_files import MOUNTING_A_DISK
-from overlapping_runs import HELLO, read, shim
+from overlapping_runs import HELLO, OLD, read, shim
 from program_cases import INDEX, LEFT, LINK, ONCE, RC
 
 COUNTED = "open update create write fchmod fsync unlink rename "
@@ -24,15 +24,15 @@ MANY = HELLO * 20_000
 # The runs, each by what it is: the file that it makes, its words, the archive, and what is there before.
 RUNS = {
     "an index run": ("m.idx", INDEX, HELLO, {}),
-    "an index run over an old index": ("m.idx", INDEX, HELLO, {"m.idx": b"old"}),
+    "an index run over an old index": ("m.idx", INDEX, HELLO, {"m.idx": OLD}),
     "an index run over what a killed run left": ("m.idx", INDEX, HELLO, {"m.idx.new": LEFT(b"left")}),
     "an index run over a link": ("m.idx", INDEX, HELLO, {"m.idx": LINK(["other"])}),
-    "an index run of many messages": ("m.idx", INDEX, MANY, {"m.idx": b"old"}),
+    "an index run of many messages": ("m.idx", INDEX, MANY, {"m.idx": OLD}),
     "an answer": ("hits", ONCE + ["s:hello"], HELLO, {}),
-    "an answer over an old one": ("hits", ONCE + ["s:hello"], HELLO, {"hits": b"old"}),
+    "an answer over an old one": ("hits", ONCE + ["s:hello"], HELLO, {"hits": OLD}),
     "an answer over what a killed run left": ("hits", ONCE + ["s:hello"], HELLO, {"hits.new": LEFT(HELLO)}),
     "an answer of many messages": ("hits", ONCE + ["s:hello"], MANY, {}),
-    "an answer without a message": ("hits", ONCE + ["s:goodbye"], HELLO, {"hits": b"old"}),
+    "an answer without a message": ("hits", ONCE + ["s:goodbye"], HELLO, {"hits": OLD}),
     "an answer by a longer name": ("hits", ONCE + ["-o", "../room/hits", "s:hello"], HELLO, {}),
 }
 # A call as strace tells it, with the paths of descriptors, and those that change no file but show in the same line.
@@ -45,7 +45,18 @@ def wanted(name, made, whole_left):
     new = name + ".new"
     removed = ["update", "unlink " + new] if whole_left else []
     writes = ["write " + new] * made
-    return [*removed, "create " + new, "fchmod " + new, *writes, "fsync " + new, "rename " + new, "fchmod " + name, "open folder", "fsync " + ROOM]
+    return [
+        *removed,
+        "create " + new,
+        "fchmod " + new,
+        *writes,
+        "fchmod " + new,
+        "fsync " + new,
+        "rename " + new,
+        "fchmod " + name,
+        "open folder",
+        "fsync " + ROOM,
+    ]
 
 
 def preloaded(program, words, folder, log, library):
@@ -104,7 +115,7 @@ def order(program, record, library):
         with tempfile.TemporaryDirectory() as top:
             folder, log = os.path.join(top, ROOM), os.path.join(top, "log")
             os.mkdir(folder)
-            write(folder, {"rc": RC, "m.mbox": archive, "other": b"other", **before})
+            write(folder, {"rc": RC, "m.mbox": archive, "other": OLD, **before})
             status, calls = record(program, words, folder, log, library)
             made = calls.count("write %s.new" % name)
             goodbye = words[-1] == "s:goodbye"
@@ -122,7 +133,7 @@ def power_cuts(program, top):
             subprocess.run(["mkfs.ext4", "-q", disk], check=True)
             os.makedirs(at, exist_ok=True)
             subprocess.run(["mount", "-o", "loop", disk, at], check=True)
-            write(at, {"rc": RC, "m.mbox": HELLO, **({name: b"old"} if number % 2 else {})})
+            write(at, {"rc": RC, "m.mbox": HELLO, **({name: OLD} if number % 2 else {})})
             os.sync()
             status = run(program, words, at, capture_output=True).returncode
             shutil.copyfile(disk, cut)

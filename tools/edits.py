@@ -17,6 +17,10 @@ from function_bodies import (
 )
 from lemmas import begins_with, lemmas_of
 
+TRAIT = re.compile(r"\btrait (\w+)")
+# The beginning of an impl of a trait, with the trait's name.
+IMPL_OF = re.compile(r"impl\b(?:<[^{]*?>)? ?(?:\w+::)*(\w+)(?:<[^{]*>)? for\b")
+
 # The line of an edit that names the clause which refuses it.
 CLAUSE = re.compile(r"^# refused by: (\S+)\n", re.M)
 # The lines of an edit that name the goals at which it is refused.
@@ -389,9 +393,22 @@ class Crate:
         ended = {name: at for name, at in self.cycles.items() if at[1][1] not in looked_at}
         changes = [Change(path, mark.start(), mark.end(), "") for path, mark in ended.values()]
         for name, (path, start, end) in self.every_body.items():
-            if name not in functions and (name in ended or name not in self.cycles):
+            if name not in functions and (name in ended or name not in self.cycles) and not self.is_of_own_trait(name):
                 changes.append(Stub(path, start, end, "{ loop {} }", name, self.cycle_of(name)))
         return changes
+
+    @cached_property
+    def own_traits(self):
+        """The names of the crate's traits."""
+        return {name for path in self.sources() for name in TRAIT.findall(self.text(path))}
+
+    def is_of_own_trait(self, function):
+        """Whether a function is a method of one of the crate's traits. An empty loop in its place would want a measure,
+        since the crate also calls it through the trait; and what calls it there wouldn't be tried."""
+        path, start, _ = self.every_body[function]
+        _, impl = item_of(self.text(path), start)
+        found = impl and IMPL_OF.match(self.text(path), impl[0])
+        return bool(found) and found[1] in self.own_traits
 
     def can_have_twin(self, edit):
         """Whether the edit is of bodies alone, or of one constant, and each of its functions can have a twin."""

@@ -53,6 +53,8 @@ def main():
         many = [f"{name} has {n}" for name, n in calls_in(file.read_text("utf-8")) if n > MOST and not ROWS.search(name)]
         wrong += [f"{file.relative_to(TOP)}: {', '.join(many)}"] if many else []
     print(*wrong, sep="\n", end="\n" if wrong else "")
+    if wrong:
+        print(f"At most {MOST} are right (MOST in tools/few_promises.py): make those that belong together a record, whose parts have names.")
     print(f"{len(files) - len(wrong)} passed, {len(wrong)} failed")
     return 1 if wrong else 0
 

@@ -20,7 +20,8 @@ HOMES = [CRATE / "specs/Places.antt", CRATE / "specs/Limits.antt"]
 PAGE = TOP / "docs/INDEX-FORMAT.md"
 # A smaller number is everywhere, so it counts only as the offset of a field.
 LEAST = 8
-# What is the same only by chance: a kind, the bytes of a number, and how much a builder keeps apart.
+# What is the same only by chance: a kind, the bytes of a number, how much a builder keeps apart, the slots of a window
+# and the hashes that there are.
 OTHERS = {
     "specs/Kinds.antt": {8},
     "specs/Versions.antt": {8},
@@ -28,7 +29,8 @@ OTHERS = {
     "src/fields.rt": {8},
     "specs/Inside/KeyFronts.antt": {8},
     "specs/Inside/KeyMaps.antt": {16},
-    "src/build/key_hints.rt": {8},
+    "specs/Inside/KeyTables.antt": {16, 2**32},
+    "src/build/key_table.rt": {2**32},
     "src/build/short_bytes.rt": {15},
 }
 NUMBER = r"\b\d[\d,]*(?: ?\^ ?\d+)?"

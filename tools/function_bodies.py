@@ -29,12 +29,14 @@ def block_end(text, at):
 
 def impl_name(head):
     """The name that a check gives an impl: `TypeTrait`, or `Type` where it is of no trait."""
-    head = re.sub(r"^impl\s*(<(?:[^<>]|<[^<>]*>)*>)?", "", head.strip())
+    generic = re.match(r"impl\s*(<(?:[^<>]|<[^<>]*>)*>)?", head.strip())
+    parameters = re.findall(r"(?:^<|,)\s*(\w+)", generic[1] or "")
+    head = head.strip()[generic.end() :]
     trait, _, owner = re.sub(r"\bwhere\b.*", "", head, flags=re.S).rpartition(" for ")
     # The parameters of a trait's own parameters are no part of the name.
     trait = re.sub(r"(?<=\w)<[^<>]*>(?=.*>)", "", trait)
     base = re.match(r"[\w:]*", owner.strip())[0].rpartition("::")[2]
-    return base + "".join(re.findall(r"\w+", re.sub(r"'\w+|\b\w+::", "", trait)))
+    return base + "".join(it for it in re.findall(r"\w+", re.sub(r"'\w+|\b\w+::", "", trait)) if it not in parameters)
 
 
 def inherent(impl):

@@ -95,45 +95,69 @@ def other_rows():
     """Rules by which the two differ, and rows of each."""
     base = second_of(2003, 1, 2, 10)
     return [
-        ("two digits of a year are 1950 to 2049", [
-            ("5 Jul 50 00:00 +0000", second_of(1950, 7, 5)),
-            ("5 Jul 68 00:00 +0000", second_of(1968, 7, 5)),
-        ]),
-        ("three digits of a year count from 1900", [
-            ("2 Jan 103 10:00 +0000", base),
-            ("2 Jan 150 10:00 +0000", second_of(2050, 1, 2, 10)),
-            ("31 Dec 999 23:59 +0000", second_of(2899, 12, 31, 23, 59)),
-        ]),
-        ("a zone that isn't in the table is +0000", [
-            ("2 Jan 2003 10:00 AST", base),
-            ("2 Jan 2003 10:00 ADT", base),
-            ("2 Jan 2003 10:00 +100", base),
-            ("2 Jan 2003 10:00 +2400", base),
-            ("2 Jan 2003 10:00 +0160", base),
-        ]),
-        ("a parenthesis ends the field", [
-            ("2 Jan 2003 10:00(+0100)", base),
-        ]),
-        ("only spaces, tabs and commas part tokens", [
-            ("2-Jan-2003 10:00 +0000", None),
-            ("Thu,2 Jan,2003,10:00,-0100", second_of(2003, 1, 2, 11)),
-        ]),
-        ("a month has three letters", [
-            ("2 January 2003 10:00 +0000", None),
-        ]),
-        ("times and days have their digits, and are in range", [
-            ("2 Jan 2003 10.00 +0000", None),
-            ("2 Jan 2003 10:0 +0000", None),
-            ("2 Jan 2003 24:00 +0000", None),
-            ("2 Jan 2003 10:60 +0000", None),
-            ("2 Jan 2003 10:00:61 +0000", None),
-            ("31 Apr 2003 10:00 +0000", None),
-            ("29 Feb 1900 10:00 +0000", None),
-            ("0 Jan 2003 10:00 +0000", None),
-        ]),
-        ("four digits of a year are as they stand, from 0000", [
-            ("1 Jan 0000 00:00 +0000", second_of(0, 1, 1)),
-        ]),
+        (
+            "two digits of a year are 1950 to 2049",
+            [
+                ("5 Jul 50 00:00 +0000", second_of(1950, 7, 5)),
+                ("5 Jul 68 00:00 +0000", second_of(1968, 7, 5)),
+            ],
+        ),
+        (
+            "three digits of a year count from 1900",
+            [
+                ("2 Jan 103 10:00 +0000", base),
+                ("2 Jan 150 10:00 +0000", second_of(2050, 1, 2, 10)),
+                ("31 Dec 999 23:59 +0000", second_of(2899, 12, 31, 23, 59)),
+            ],
+        ),
+        (
+            "a zone that isn't in the table is +0000",
+            [
+                ("2 Jan 2003 10:00 AST", base),
+                ("2 Jan 2003 10:00 ADT", base),
+                ("2 Jan 2003 10:00 +100", base),
+                ("2 Jan 2003 10:00 +2400", base),
+                ("2 Jan 2003 10:00 +0160", base),
+            ],
+        ),
+        (
+            "a parenthesis ends the field",
+            [
+                ("2 Jan 2003 10:00(+0100)", base),
+            ],
+        ),
+        (
+            "only spaces, tabs and commas part tokens",
+            [
+                ("2-Jan-2003 10:00 +0000", None),
+                ("Thu,2 Jan,2003,10:00,-0100", second_of(2003, 1, 2, 11)),
+            ],
+        ),
+        (
+            "a month has three letters",
+            [
+                ("2 January 2003 10:00 +0000", None),
+            ],
+        ),
+        (
+            "times and days have their digits, and are in range",
+            [
+                ("2 Jan 2003 10.00 +0000", None),
+                ("2 Jan 2003 10:0 +0000", None),
+                ("2 Jan 2003 24:00 +0000", None),
+                ("2 Jan 2003 10:60 +0000", None),
+                ("2 Jan 2003 10:00:61 +0000", None),
+                ("31 Apr 2003 10:00 +0000", None),
+                ("29 Feb 1900 10:00 +0000", None),
+                ("0 Jan 2003 10:00 +0000", None),
+            ],
+        ),
+        (
+            "four digits of a year are as they stand, from 0000",
+            [
+                ("1 Jan 0000 00:00 +0000", second_of(0, 1, 1)),
+            ],
+        ),
     ]
 
 

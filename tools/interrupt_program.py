@@ -8,7 +8,7 @@ small disk that has room for a part of their file. Each time the file of the run
 whole; nothing but what a killed run couldn't remove is left; and the next run leaves what a run without a fault leaves. The last line is
 `N passed, M failed`.
 """
-import os, signal, subprocess, sys, tempfile
+import os, signal, stat, subprocess, sys, tempfile
 from dataclasses import dataclass
 
 from check_program import contents, mode, run, write
@@ -20,7 +20,7 @@ from sweep_program import COUNTED
 POINTS = 50
 # The calls that want room on a disk.
 ROOM_COUNTED = "create write fsync rename "
-OLD = b"what an earlier run made\n" * 1000
+OLD = b"MAIRIX\r\nwhat an earlier run made\n" * 1000
 MESSAGES, WORDS = 60, 31_200
 # What runs a command that may mount a disk, which the command alone sees and which ends with it.
 MOUNTING = ["unshare", "--mount", "--map-root-user"]
@@ -44,7 +44,7 @@ class Made:
     words: list
 
     @property
-    def passing(self):
+    def temporary(self):
         """The name that the file has until it is whole."""
         return self.name + ".new"
 
@@ -92,19 +92,19 @@ class Room:
     def wrong(self, p, status, err, files, may_stay=False):
         """What is wrong with a run that was to end so, and with the run after it."""
         left = contents(self.folder)
-        passing = left.pop(self.made.passing, None)
+        temporary = left.pop(self.made.temporary, None)
         bad = []
         if (p.returncode, p.stdout, p.stderr) != (status, b"", err):
             bad.append("status %d, %r" % (p.returncode, p.stderr))
         if left != files:
             bad.append("it changed %s" % [name for name in set(left) | set(files) if left.get(name) != files.get(name)])
-        if (passing is not None) != may_stay:
+        if (temporary is not None) != may_stay:
             bad.append("it left %s" % sorted(os.listdir(self.folder)))
-        elif may_stay and mode(self.path(self.made.passing)) != 0o1600:
+        elif may_stay and not mode(self.path(self.made.temporary)) & stat.S_ISVTX:
             bad.append("what it left isn't marked")
-        if passing is None and left in self.went_on_from:
+        if temporary is None and left in self.went_on_from:
             return bad
-        if passing is None:
+        if temporary is None:
             self.went_on_from.append(left)
         return bad + self.next_run()
 
@@ -142,7 +142,7 @@ def full_disk(room, library):
     for n in spread(calls):
         room.lay_old()
         p = room.run(room.made.words, LD_PRELOAD=library, COUNTED=ROOM_COUNTED, AT="%d-" % n, HOW="full")
-        text = b"cannot open " + room.made.passing.encode() if calls[n - 1] == "create" else b"output failed"
+        text = b"cannot open " + room.made.temporary.encode() if calls[n - 1] == "create" else b"output failed"
         # Where the folder alone can't be brought to the disk, the file has its name.
         files = room.before if n <= calls.index("rename") + 1 else room.whole
         yield "call %d, %s" % (n, calls[n - 1]), room.wrong(p, 4, fault(text), files)

@@ -47,3 +47,7 @@ class Kit:
         listing = ["llvm-nm", "-D", "--undefined-only", "-j", str(program)]
         said = subprocess.run(listing, executable=self.toolchain / "bin/clang", capture_output=True, text=True, check=True).stdout
         return {it.partition("@")[0] for it in said.split()}
+
+    def strip(self, program):
+        """Takes out of a program what it doesn't need to run: the names and places of its functions."""
+        subprocess.run(["llvm-strip", "--strip-all", str(program)], executable=self.toolchain / "bin/clang", check=True)

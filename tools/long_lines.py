@@ -1,6 +1,7 @@
 #!/usr/bin/env python3
 """Lines of definitions, of proofs and of the tools that try edits above 120 columns, and lines of contracts in the code
-above 100. None is right, unless one text or name makes it so long.
+above 100. None is right, unless one text or name makes it so long, or it is an import of a proof: all names of one path
+are on one line there, since nobody reads them.
 
     long_lines.py [--write]
 
@@ -24,7 +25,7 @@ STEP = 4
 # What the gate runs to try edits.
 TOOLS_OF_EDITS = ("check_must_fail", "edits", "function_bodies", "must_fail")
 CONTRACT = re.compile(r"\s*(?:requires|ensures|(?:pub )?ghost (?!use ))\b")
-IMPORT = re.compile(r"((?:pub )?use [^{}]*\.\{)([^{}]*)\}")
+IMPORT = re.compile(r"((?:unfoldable )?(?:pub )?use [^{}]*\.\{)([^{}]*)\}")
 TEXT = re.compile(r'"(?:[^"\\]|\\.)*"')
 OPEN, CLOSE = "([{", ")]}"
 # A line is best broken in front of one of these, or after one of those.
@@ -34,9 +35,9 @@ AFTER = ("=", ",", ";")
 
 def files():
     """The files, each with the most columns of its lines, and what says whether the limit is for a line."""
-    for part in ("specs", "proofs"):
+    for part, limited in (("specs", each_line), ("proofs", no_imports)):
         for file in TOP.glob(f"crates/*/{part}/**/*.antt"):
-            yield file, MOST, each_line
+            yield file, MOST, limited
     for file in TOP.glob("crates/*/src/**/*.rt"):
         yield file, MOST_IN_CONTRACT, contract_lines
     for name in TOOLS_OF_EDITS:
@@ -45,6 +46,11 @@ def files():
 
 def each_line(lines):
     return [True] * len(lines)
+
+
+def no_imports(lines):
+    """Whether each line is no import of names."""
+    return [not IMPORT.fullmatch(line) for line in lines]
 
 
 def contract_lines(lines):

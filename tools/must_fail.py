@@ -8,11 +8,11 @@ An edit, crates/CRATE/must-fail/NAME.edit, turns the meaning of a function, and 
 function is proved against the contracts of those that it calls, never their bodies. So one check tries up to 140
 edits, in a copy of the crate. An edited function stands there as a twin of its own for each edit. Of the clauses with
 names, the twin's contract keeps the one that the edit says refuses it, since that one has to do so by itself. All
-other functions have an empty loop for a body. Their contracts are taken as they stand, and so are the crate's lemmas:
-one hole is the proof of them all, so that nothing is proved that is proved already (decision 127). Each edited function
-must be refused for a reason of its own. That it calls another that isn't proved is none, nor is a proof that only lacks
-a name that the edit took away. An edit of a constant is looked for in the functions that name the constant, and in
-those that its lines `# shows in: FUNCTION` name.
+other functions have an empty loop for a body, except for methods of the crate's own traits, whose bodies stay (decision
+127). Their contracts are taken as they stand, and so are the crate's lemmas: one hole is the proof of them all, so that
+nothing is proved that is proved already. Each edited function must be refused for a reason of its own. That it calls
+another that isn't proved is none, nor is a proof that only lacks a name that the edit took away. An edit of a constant
+is looked for in the functions that name the constant, and in those that its lines `# shows in: FUNCTION` name.
 
 An edit of which such a check gives no reason, or only one of other clauses, is tried alone. If its functions get no
 reason then either, a check of the whole crate decides, with all bodies and proofs. Alone it fails where the crate is
@@ -57,6 +57,7 @@ from machine import checks_side_by_side, processors
 # A check of 110 edits of mairix_run took 3.4 GB of memory.
 MOST_IN_A_ROUND = 140
 ERROR = re.compile(r"(?:\./)?(\S+?):(\d+):\d+: error\b")
+WANTS_MEASURE = "expected a measure in "
 # What is said of a proof that names what an edit took away, and of what rests on such a proof.
 LOST_NAME = re.compile(
     r"has no field|is not in scope|has no `|was not admitted|: module `[^`]*`$|: record `[^`]*` \(nearest: "
@@ -202,9 +203,11 @@ class Verdict:
         return sorted(found, key=lambda it: "-" in it)
 
     def refuses_others(self, edits):
-        """Whether a function that none of the edits changes is refused for a reason of its own."""
+        """Whether a function that none of the edits changes is refused for a reason of its own. That the empty loop in
+        place of its body has no measure is none."""
         functions = {it for edit in edits for it in edit.functions}
-        return any(why and not is_within(name, functions) for name, why in self.reasons.items())
+        others = (why for name, why in self.reasons.items() if not is_within(name, functions))
+        return any(why and not why.startswith(WANTS_MEASURE) for why in others)
 
 
 def is_within(name, functions):
@@ -345,7 +348,7 @@ def refused_by(room, edit, verdict, said, is_alone=False):
     """Whether an edit that is refused names a clause that refuses it, and what to say of it."""
     clauses = verdict.clauses_of(edit, is_alone)
     kept = [it.kept for it in edit.changes if isinstance(it, Twin)]
-    if kept and all(it == {edit.clause} for it in kept):
+    if edit.clause and kept and all(it == {edit.clause} for it in kept):
         # The contract of the twin is that clause alone.
         clauses = [edit.clause if it == "returns" else it for it in clauses]
     if room.writes and clauses and edit.clause not in clauses:

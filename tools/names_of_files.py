@@ -1,5 +1,6 @@
 #!/usr/bin/env python3
-"""Gives the built program names that lead around a check: by hard links, mounts, links into /proc, and files of other people.
+"""Gives the built program names that lead around a check: by hard links, mounts, other devices, letters of another case, links into /proc, and
+files of other people.
 
     names_of_files.py PROGRAM
 
@@ -9,7 +10,7 @@ tried on this machine is said aloud. The last line is `N passed, M failed`.
 import os, subprocess, sys, tempfile
 
 from check_program import MADE, contents, left_out, mode, run, write
-from overlapping_runs import HELLO, shim
+from overlapping_runs import HELLO, OLD, shim
 from program_cases import HELLO_INDEX, INDEX, LEFT, LINK, ONCE, RC, TWO, fault
 
 # What runs a command that may mount, which the command alone sees and which ends with it.
@@ -69,8 +70,20 @@ MOUNTS = (
     ("the rcfile by -o", "real bind", rcfile("real/m.mbox", "m.idx", "hits"), ["-f", "real/rc", "--once", "-o", "bind/rc", "s:hello"], "bind/rc"),
     ("the rcfile as the index", "real bind", rcfile("real/m.mbox", "bind/rc", "hits"), ["-f", "real/rc"], "bind/rc"),
     ("the index by -o", "real bind", rcfile("real/m.mbox", "real/m.idx", "hits"), INDEX + ["-o", "bind/m.idx", "s:hello"], "bind/m.idx"),
-    ("the place of an index by -o", "real bind", rcfile("real/m.mbox", "real/new.idx", "hits"), ONCE + ["-o", "bind/new.idx", "s:hello"], "bind/new.idx"),
-    ("the place of an index under an answer's new name", "real bind", rcfile("real/m.mbox", "real/hits.new", "hits"), ONCE + ["-o", "bind/hits", "s:hello"], "bind/hits.new"),
+    (
+        "the place of an index by -o",
+        "real bind",
+        rcfile("real/m.mbox", "real/new.idx", "hits"),
+        ONCE + ["-o", "bind/new.idx", "s:hello"],
+        "bind/new.idx",
+    ),
+    (
+        "the place of an index under an answer's new name",
+        "real bind",
+        rcfile("real/m.mbox", "real/hits.new", "hits"),
+        ONCE + ["-o", "bind/hits", "s:hello"],
+        "bind/hits.new",
+    ),
     ("a mounted file as the answer", "real/m.mbox other", rcfile("real/m.mbox", "m.idx", "other"), ONCE + ["s:hello"], "other"),
     ("a mounted file as the index", "real/rc other", rcfile("real/m.mbox", "other", "hits"), ["-f", "real/rc"], "other"),
 )
@@ -83,31 +96,96 @@ def mounts(program):
         return
     for name, mounted, rc, words, path in MOUNTS:
         with tempfile.TemporaryDirectory() as folder:
-            write(folder, {"rc": rc, "real": None, "real/rc": rc, "bind": None, "other": b"other", "real/m.mbox": HELLO, "real/n.new": HELLO, "real/m.idx": HELLO_INDEX})
+            write(
+                folder,
+                {
+                    "rc": rc,
+                    "real": None,
+                    "real/rc": rc,
+                    "bind": None,
+                    "other": b"other",
+                    "real/m.mbox": HELLO,
+                    "real/n.new": HELLO,
+                    "real/m.idx": HELLO_INDEX,
+                },
+            )
             before = contents(folder)
-            steps = "mount --bind %s && exec \"$0\" \"$@\"" % mounted
+            steps = 'mount --bind %s && exec "$0" "$@"' % mounted
             p = subprocess.run(MOUNTING + ["sh", "-c", steps, program] + words, cwd=folder, capture_output=True)
             yield name, wrong(p, refused(path), folder, before)
 
 
+# File systems that show the files of another folder under a device of their own: how each is mounted at `at`, and the folders that show the same.
+OVERLAY = "mount -t overlay overlay -o lowerdir=low,upperdir=up,workdir=work at"
+OTHER_DEVICES = (("an overlay", OVERLAY, "up"), ("what is below an overlay", OVERLAY, "low"), ("bindfs", "bindfs up at", "up"))
+
+
+def other_devices(program):
+    """A file system that shows the files of another one under a device of its own hides nothing."""
+    for kind, mounting, real in OTHER_DEVICES:
+        for one, two in ((real, "at"), ("at", real)):
+            rc, archive, index = one + "/rc", one + "/m.mbox", one + "/m.idx"
+            text = rcfile(archive, index, "hits")
+            cases = [(["-f", rc, "--once", "-o", two + "/" + name, "s:hello"], two + "/" + name) for name in ("m.mbox", "m.idx", "rc")]
+            # A new file is made above what is below.
+            if real == "up":
+                cases.append((["-f", "other", "--once", "-o", two + "/new.idx", "s:hello"], two + "/new.idx"))
+            for words, name in cases:
+                with tempfile.TemporaryDirectory() as folder:
+                    read = {real + "/rc": text, real + "/m.mbox": HELLO, real + "/m.idx": HELLO_INDEX}
+                    write(folder, {"low": None, "up": None, "work": None, "at": None, "other": rcfile(archive, one + "/new.idx", "hits"), **read})
+                    before = {it: contents(folder)[it] for it in read}
+                    steps = mounting + ' || exit 9; "$0" "$@"; status=$?; umount at; exit $status'
+                    p = subprocess.run(MOUNTING_A_DISK + ["sh", "-c", steps, program] + words, cwd=folder, capture_output=True)
+                    if p.returncode in (1, 9):
+                        left_out("%s: none can be mounted here" % kind)
+                        break
+                    after = contents(folder)
+                    bad = [] if told(p) == refused(name) else ["status %d, %r, %r" % told(p)]
+                    yield "%s, %s" % (kind, name), bad + ["%s isn't as it was" % it for it in before if after.get(it) != before[it]]
+
+
+# Makes a disk of exFAT, where each spelling of a name has an inode number of its own, and goes to it.
+EXFAT = """
+truncate -s 16M disk && mkfs.exfat disk >made && mkdir at && device=$(losetup -f --show disk) && trap 'cd / && umount $device; losetup -d $device' EXIT &&
+mount.exfat-fuse $device at >made 2>&1 && cp rc m.mbox m.idx at && cd at || exit 9
+"""
+
+
 def without_case(program):
     """A file system that takes letters of both cases for the same hides nothing."""
-    for name, words in (("M.MBOX", ONCE), ("RC", ONCE), ("M.IDX", INDEX)):
-        with tempfile.TemporaryDirectory() as folder:
-            write(folder, {"rc": RC, "m.mbox": HELLO, "m.idx": HELLO_INDEX})
-            steps = WITHOUT_CASE + '"$0" "$@"; status=$?; cat rc m.mbox m.idx; exit $status'
-            p = subprocess.run(MOUNTING_A_DISK + ["sh", "-c", steps, program, *words, "-o", name, "s:hello"], cwd=folder, capture_output=True)
-            if p.returncode in (1, 9):
-                left_out("a file system that takes letters of both cases for the same: none can be mounted here")
-                return
-            status, _, err = refused(name)
-            yield name, [] if told(p) == (status, RC + HELLO + HELLO_INDEX, err) else ["status %d, %r" % (p.returncode, p.stderr)]
+    for kind, disk in (("ext4", WITHOUT_CASE), ("exFAT", EXFAT)):
+        for name, words in (("M.MBOX", ONCE), ("RC", ONCE), ("M.IDX", INDEX)):
+            with tempfile.TemporaryDirectory() as folder:
+                write(folder, {"rc": RC, "m.mbox": HELLO, "m.idx": HELLO_INDEX})
+                steps = disk + '"$0" "$@"; status=$?; cat rc m.mbox m.idx; exit $status'
+                p = subprocess.run(MOUNTING_A_DISK + ["sh", "-c", steps, program, *words, "-o", name, "s:hello"], cwd=folder, capture_output=True)
+                if p.returncode in (1, 9):
+                    left_out("letters of both cases that are the same on %s: none can be mounted here" % kind)
+                    break
+                status, _, err = refused(name)
+                yield "%s on %s" % (name, kind), [] if told(p) == (status, RC + HELLO + HELLO_INDEX, err) else [
+                    "status %d, %r" % (p.returncode, p.stderr)
+                ]
 
 
 def links_to_processes(program):
     """A link to what a process has open, by whatever text and over whatever other links, keeps its name, as /dev/stdout does."""
     folders = {"p": "/proc/self", "f": "/proc/self/fd"}
-    texts = ["/proc/self/fd/1", "UP/proc/self/fd/1", "//proc/self/fd/1", "/./proc/self/fd/1", "/dev/../proc/self/fd/1", "/dev/stdout", "/dev/fd/1", "p/fd/1", "f/1", "other_link", "UP/proc/self/cwd/other", "/proc/1/fd/1"]
+    texts = [
+        "/proc/self/fd/1",
+        "UP/proc/self/fd/1",
+        "//proc/self/fd/1",
+        "/./proc/self/fd/1",
+        "/dev/../proc/self/fd/1",
+        "/dev/stdout",
+        "/dev/fd/1",
+        "p/fd/1",
+        "f/1",
+        "other_link",
+        "UP/proc/self/cwd/other",
+        "/proc/1/fd/1",
+    ]
     for text in texts:
         with tempfile.TemporaryDirectory() as folder:
             up = os.path.relpath("/", os.path.realpath(folder))
@@ -138,35 +216,69 @@ def other_links(program):
             yield text, wrong(run(program, ONCE + ["-o", "./l", "s:hello"], folder, capture_output=True), said, folder, want)
 
 
-def exchanged_leftovers(program):
-    """A link that takes the name of a leftover while a run looks at it: where it leads, nothing is opened for writing, nor removed."""
+def at_each_call(program, counted, files):
+    """Runs that make a file, each as often as it makes calls of these names. At that call what has the file's temporary name is exchanged with `swap`,
+    at one after the last with nothing. Besides the rcfile and an archive the folder has these files, by the file's name. Gives the name of each run,
+    its file, the bytes of that if it is whole, the folder, how the run ended, and the lines of the calls that it made."""
     with tempfile.TemporaryDirectory() as top:
         log = os.path.join(top, "log")
-        env = {**os.environ, "LD_PRELOAD": shim(top, "at_call"), "COUNTED": "open update create statx flock unlink rename ", "CALLS_LOG": log, "HOW": "exchange", "WITH": "swap"}
+        env = {**os.environ, "LD_PRELOAD": shim(top, "at_call"), "COUNTED": counted, "CALLS_LOG": log, "HOW": "exchange", "WITH": "swap"}
         for name, words, whole in MADE:
             number, calls = 0, [""]
-            # One call more than the run has, so that it meets no exchange.
             while number < len(calls):
                 number += 1
                 with tempfile.TemporaryDirectory() as folder:
-                    write(folder, {"rc": RC, "m.mbox": HELLO, "other": LEFT(b"other"), name + ".new": LEFT(b"left"), "swap": LINK(["other"])})
+                    write(folder, {"rc": RC, "m.mbox": HELLO, **files(name)})
                     p = run(program, words, folder, capture_output=True, env={**env, "AT": str(number), "CHANGED": name + ".new"})
                     with open(log) as f:
                         calls = f.read().splitlines()
                     os.remove(log)
-                    after, bad = contents(folder), []
-                    if "update other" in calls:
-                        bad.append("the other file was opened for writing")
-                    if after.get("other") != b"other" or mode(os.path.join(folder, "other")) != 0o1600:
-                        bad.append("the other file was changed")
-                    if (p.returncode, after.get(name)) not in ((0, whole), (4, None)):
-                        bad.append("status %d, %r" % (p.returncode, after.get(name)))
-                    yield "%s, at call %d" % (name, number), bad
+                    yield "%s, at call %d" % (name, number), name, whole, folder, p, calls
+
+
+def exchanged_leftovers(program):
+    """A link that takes the name of a leftover while a run looks at it: where it leads, nothing is opened for writing, nor removed."""
+    counted = "open update create statx flock unlink rename "
+    for case, name, whole, folder, p, calls in at_each_call(
+        program, counted, lambda name: {"other": LEFT(b"other"), name + ".new": LEFT(b"left"), "swap": LINK(["other"])}
+    ):
+        after, bad = contents(folder), []
+        if "update other" in calls:
+            bad.append("the other file was opened for writing")
+        if after.get("other") != b"other" or mode(os.path.join(folder, "other")) != 0o1600:
+            bad.append("the other file was changed")
+        if (p.returncode, after.get(name)) not in ((0, whole), (4, None)):
+            bad.append("status %d, %r" % (p.returncode, after.get(name)))
+        yield case, bad
+
+
+def exchanged_new_files(program):
+    """Another program's file that takes the name of a new one, at any call: never does a run with status 0 leave it under the final name."""
+    counted = "statx flock write fchmod fsync rename unlink "
+    for case, name, whole, folder, p, _ in at_each_call(program, counted, lambda _: {"swap": b"mine"}):
+        after = contents(folder)
+        kept = b"mine" in (after.get("swap"), after.get(name), after.get(name + ".new"))
+        good = (p.returncode, after.get(name)) in ((0, whole), (4, None), (4, b"mine"), (4, whole)) and kept
+        yield case, [] if good else ["status %d, %r, %r" % (p.returncode, p.stderr, after)]
 
 
 def shared_folders(program):
     """A file that others can have put there doesn't say who may read the new one."""
-    cases = [(folder_mode, 1, -1, want) for folder_mode, want in ((0o700, 0o644), (0o755, 0o644), (0o711, 0o644), (0o777, 0o600), (0o1777, 0o600), (0o775, 0o600), (0o757, 0o600), (0o720, 0o600), (0o702, 0o600), (0o2770, 0o600))]
+    cases = [
+        (folder_mode, 1, -1, want)
+        for folder_mode, want in (
+            (0o700, 0o644),
+            (0o755, 0o644),
+            (0o711, 0o644),
+            (0o777, 0o600),
+            (0o1777, 0o600),
+            (0o775, 0o600),
+            (0o757, 0o600),
+            (0o720, 0o600),
+            (0o702, 0o600),
+            (0o2770, 0o600),
+        )
+    ]
     # In somebody's own folder a second name of the file counts too, as it may be there since the folder was shared.
     cases += [(0o700, 2, -1, 0o600), (0o1777, 2, -1, 0o600)]
     if os.geteuid() == 0:
@@ -182,7 +294,7 @@ def shared_folders(program):
                     made = os.path.join(folder, name)
                     rc = rcfile("m.mbox", os.path.join(within, "m.idx"), os.path.join("./" + within, "hits"))
                     write(top, {"rc": rc, "m.mbox": HELLO})
-                    write(folder, {name: b"old"})
+                    write(folder, {name: OLD})
                     os.chmod(made, 0o644)
                     for number in range(1, names):
                         os.link(made, os.path.join(folder, "pub%d" % number))
@@ -201,7 +313,7 @@ def marks(program):
         for name, words, whole in MADE:
             with tempfile.TemporaryDirectory() as folder:
                 made = os.path.join(folder, name)
-                write(folder, {"rc": RC, "m.mbox": HELLO} | ({name: b"old"} if old else {}))
+                write(folder, {"rc": RC, "m.mbox": HELLO} | ({name: OLD} if old else {}))
                 if old:
                     os.chmod(made, old)
                 p = run(program, words, folder, capture_output=True)
@@ -219,7 +331,7 @@ def be_nobody():
 
 def unreadable_folders(program):
     """In a folder that a run may not read its name can't be brought to the disk: the run says so, and the new file is in its place."""
-    for old in (None, b"old"):
+    for old in (None, OLD):
         for name, words, whole in MADE:
             with tempfile.TemporaryDirectory() as folder:
                 write(folder, {"rc": RC, "m.mbox": HELLO} | ({name: old} if old else {}))
@@ -238,7 +350,19 @@ def unreadable_folders(program):
                 yield "%s over %r" % (name, old), wrong(p, (4, b"", fault(b"output failed")), folder, want)
 
 
-CHECKS = (hard_links, mounts, without_case, links_to_processes, other_links, exchanged_leftovers, shared_folders, marks, unreadable_folders)
+CHECKS = (
+    hard_links,
+    mounts,
+    other_devices,
+    without_case,
+    links_to_processes,
+    other_links,
+    exchanged_leftovers,
+    exchanged_new_files,
+    shared_folders,
+    marks,
+    unreadable_folders,
+)
 
 
 def main(program):
@@ -248,7 +372,10 @@ def main(program):
         results = list(check(program))
         bad = ["%s: %s" % (where, text) for where, texts in results for text in texts]
         passed, failed = passed + (not bad), failed + bool(bad)
-        print("names_of_files: %s: %d tried%s" % (check.__name__.replace("_", " "), len(results), "; wrong: " + "; ".join(bad[:5]) if bad else ""), flush=True)
+        print(
+            "names_of_files: %s: %d tried%s" % (check.__name__.replace("_", " "), len(results), "; wrong: " + "; ".join(bad[:5]) if bad else ""),
+            flush=True,
+        )
     print("%d passed, %d failed" % (passed, failed))
     return 1 if failed else 0
 

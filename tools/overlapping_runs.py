@@ -12,6 +12,8 @@ from dataclasses import dataclass
 
 SEPARATOR = b"From a@x.org Thu Jan  2 10:00:00 2003\n"
 HELLO = SEPARATOR + b"Subject: Hello\n\nhi\n\n"
+# What an older run made, which is replaced: it begins as an index does, and as an answer it may be anything.
+OLD = b"MAIRIX\r\nold"
 FIRST, SECOND = "m.mbox", "n.mbox"
 COUNTED = "open update create statx flock write fchmod fsync unlink rename "
 UNWRITTEN = b"mairix: output failed\n"
@@ -55,14 +57,14 @@ class Made:
     pairs: int
 
     @property
-    def passing(self):
+    def temporary(self):
         """The name that it has until it is whole."""
         return self.name + ".new"
 
     @property
     def busy(self):
         """What a run tells that finds another one at work."""
-        return b"mairix: cannot open %s\n" % self.passing.encode()
+        return b"mairix: cannot open %s\n" % self.temporary.encode()
 
 
 AN_INDEX = Made("index", "m.idx", (), {FIRST: HELLO, SECOND: HELLO}, {it: hello_index(it) for it in (FIRST, SECOND)}, hello_index(FIRST)[:99], 3)
@@ -147,7 +149,11 @@ class Run:
             bad.append("a run of status 0 left %r and told %r" % (file, self.text))
         elif self.status not in (0, 4, -signal.SIGKILL):
             bad.append("status %d" % self.status)
-        elif self.status == 4 and (file != before or not self.text.startswith(b"mairix: ") or self.text.count(b"\n") != 1) and not self.is_unsynced(file):
+        elif (
+            self.status == 4
+            and (file != before or not self.text.startswith(b"mairix: ") or self.text.count(b"\n") != 1)
+            and not self.is_unsynced(file)
+        ):
             bad.append("a run of status 4 told %r" % self.text)
 
     def is_unsynced(self, file):
@@ -157,25 +163,25 @@ class Run:
 
 class Room:
     """A folder with two archives and an rcfile for each, both of one index and one answer, with what has the file's name, and its
-    passing name: nothing, or the bytes of a file that is marked there."""
+    temporary name: nothing, or the bytes of a file that is marked there."""
 
     def __init__(self, program, shim, top, made, old, left):
         self.program, self.shim, self.made, self.bad = program, shim, made, []
         self.folder = tempfile.mkdtemp(dir=top)
         files = {**made.mail, "rc." + FIRST: rcfile(FIRST), "rc." + SECOND: rcfile(SECOND), "other": b"mine"}
         self.at_end = sorted([*files, made.name])
-        for name, body in {**files, made.name: old, made.passing: left}.items():
+        for name, body in {**files, made.name: old, made.temporary: left}.items():
             if body is not None:
                 with open(os.path.join(self.folder, name), "wb") as f:
-                    os.chmod(f.fileno(), 0o1600 if name == made.passing else 0o644)
+                    os.chmod(f.fileno(), 0o1600 if name == made.temporary else 0o644)
                     f.write(body)
 
     def file(self):
         return read(os.path.join(self.folder, self.made.name))
 
     def new(self):
-        """Which file lies under the passing name, and what is in it."""
-        path = os.path.join(self.folder, self.made.passing)
+        """Which file lies under the temporary name, and what is in it."""
+        path = os.path.join(self.folder, self.made.temporary)
         return (os.lstat(path).st_ino, read(path)) if os.path.lexists(path) else None
 
     def close(self):
@@ -198,7 +204,8 @@ def calls(room):
 
 
 def second_runs(room, names, n):
-    """The second run has its whole time while the first waits before call n: it is refused where the first has its lock."""
+    """The second run has its whole time while the first waits before call n: it is refused where the first has its lock. If the first has given its
+    file the name, and not looked whether it is there, it finds the second one's."""
     first = Run(room, FIRST, n)
     new = room.new()
     second = Run(room, SECOND)
@@ -207,7 +214,7 @@ def second_runs(room, names, n):
     if refused != (second.status == 4) or (refused and (second.text != room.made.busy or room.new() != new)):
         room.bad.append("the second has status %d and tells %r" % (second.status, second.text))
     first.go_on()
-    if (first.status == 4) != (n == locked):
+    if (first.status == 4) != (n in (locked, renamed + 1)):
         room.bad.append("the first has status %d and tells %r" % (first.status, first.text))
 
 
@@ -232,8 +239,9 @@ def first_fails(room, names, n):
     """Call n of the first fails, and it tells of it, but for calls whose failure says nothing; the second makes its file."""
     first = Run(room, FIRST, n, "fail")
     told = {"create": room.made.busy, "flock": room.made.busy, "write": UNWRITTEN, "fsync": UNWRITTEN, "rename": UNWRITTEN}
-    # The folder, which is opened once the file has its name. Without the mark the file is private alone, and without its mode too.
-    told["open"] = UNWRITTEN if n > names.index("rename") else None
+    # What comes once the file has its name. Before that it is private alone without the mark, and without its mode too.
+    if n > names.index("rename") + 1:
+        told.update(dict.fromkeys(("statx", "fchmod", "open"), UNWRITTEN))
     want = told.get(names[n - 1]) if n <= len(names) else None
     if want and (first.status, first.text) != (4, want):
         room.bad.append("the first has status %d and tells %r" % (first.status, first.text))
@@ -289,11 +297,16 @@ PAIRS = (both_wait, second_ends_first, second_is_killed, second_fails, waiting_i
 
 
 def order(names):
-    """A file is marked before anything is written, and all of it is on the disk before it takes its name; then it gets its mode, and its
-    folder is brought to the disk."""
+    """A file is marked before anything is written, and all of it is on the disk, with its mode, before it takes its name; then it is looked at
+    under its name, its mark is taken away, and its folder is brought to the disk."""
     last_write = len(names) - 1 - names[::-1].index("write")
     renamed = names.index("rename")
-    ok = names.index("fchmod") < names.index("write") <= last_write < names.index("fsync") < renamed and names[renamed + 1 :] == ["fchmod", "open", "fsync"]
+    before = names[last_write + 1 : renamed]
+    ok = (
+        names.index("fchmod") < names.index("write")
+        and before.index("fchmod") < before.index("fsync")
+        and names[renamed + 1 :] == ["statx", "statx", "fchmod", "open", "fsync"]
+    )
     return [] if ok else ["the calls were %s" % " ".join(names)]
 
 
@@ -315,11 +328,11 @@ def checks(program):
     with tempfile.TemporaryDirectory() as top:
         library = shim(top, "at_call")
         for made in (AN_INDEX, AN_ANSWER):
-            names = {old: calls(Room(program, library, top, made, old, None)) for old in (None, b"old")}
+            names = {old: calls(Room(program, library, top, made, old, None)) for old in (None, OLD)}
             yield made.what + ": order of the calls", 2, [text for it in names.values() for text in order(it)]
             found = {}
             for number, (f, left, at) in enumerate(overlaps_of(max(names.values(), key=len), made)):
-                old = b"old" if number % 2 else None
+                old = OLD if number % 2 else None
                 room = Room(program, library, top, made, old, left)
                 f(room, names[old], *at)
                 tried, bad = found.setdefault(f, (0, []))

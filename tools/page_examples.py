@@ -9,7 +9,7 @@ In a manual page:
 In Markdown:
 - a block ```console, read like a display; a line `> ..` goes on with the command before it, and `...` stands for any lines;
 - a block ```sh is run whole, and prints the block ```text that stands behind it and before the next one, or nothing; one that begins with
-  `make` is left out;
+  `make` or `sudo` is left out;
 - a block ```sh that begins with `#!` and `# NAME` is a script of that name;
 - a row of a table whose last two columns are a command in backquotes and a REPLY.
 
@@ -29,9 +29,11 @@ FONTS = r"\\f[BIRP]"
 
 
 class Sandbox:
-    """A home of its own with demo/ and an mbox Mail/inbox in it, an index and an rcfile for demo/, and the program on the path."""
+    """A home of its own with demo/ and an mbox Mail/inbox in it, an index and an rcfile for demo/, the program on the path, and a shell for what
+    pages show."""
 
-    def __init__(self, program, demo=TOP / "demo"):
+    def __init__(self, program, demo=TOP / "demo", shell="sh"):
+        self.shown_in = shell
         self.room = tempfile.TemporaryDirectory(prefix="pages-")
         self.home = Path(self.room.name) / "home"
         self.demo = self.home / "demo"
@@ -41,6 +43,8 @@ class Sandbox:
         self.tools = Path(self.room.name) / "bin"
         self.tools.mkdir()
         (self.tools / "mairix").symlink_to(Path(program).resolve())
+        for script in (TOP / "scripts").iterdir():
+            (self.tools / script.name).symlink_to(script)
         # Somebody who chooses the first line, and somebody who reads to the end.
         self.add_tool("fzf", "#!/bin/sh\nexec head -n 1\n")
         self.add_tool("less", "#!/bin/sh\nexec cat\n")
@@ -48,7 +52,7 @@ class Sandbox:
         self.environment = {"HOME": str(self.home), "PATH": path, "LC_ALL": "C.UTF-8", "TZ": "UTC"}
         rcfile = (self.demo / "mairixrc").read_text().replace("mail.index", f"{self.home}/index")
         (self.home / ".mairixrc").write_text(f"base={self.demo}\n{rcfile}")
-        self.shell("mairix -f mairixrc", self.demo)
+        self.shell("mairix -f mairixrc; mairix -f ~/.mairixrc", self.demo)
         # What an earlier version of the program made of m.mbox.
         (self.demo / "old.index").write_bytes(hello_index("m.mbox", version=1))
 
@@ -62,19 +66,22 @@ class Sandbox:
         (self.tools / name).write_text(script)
         (self.tools / name).chmod(0o755)
 
-    def shell(self, script, folder):
-        """Runs a script, and returns its status and what it prints on both streams, where the home is /home/you."""
+    def shell(self, script, folder, shell="sh"):
+        """Runs a script in a shell, and returns its status and what it prints on both streams, where the home is /home/you."""
         how = {"cwd": folder, "env": self.environment, "stdin": subprocess.DEVNULL, "stdout": subprocess.PIPE, "stderr": subprocess.STDOUT}
         try:
-            run = subprocess.run(["/bin/sh", "-c", script], timeout=60, **how)
+            run = subprocess.run([shell, "-c", script], timeout=60, **how)
         except subprocess.TimeoutExpired:
             return -1, "(no end in a minute)"
         return run.returncode, run.stdout.decode("utf-8", "replace").replace(str(self.home), "/home/you")
 
     def session(self, steps, folder):
         """Runs commands one after another in one shell, and returns what each prints; where the shell ends early the rest print that."""
-        script = "".join(f"{command}\nlast=$?; printf '\\n%s\\n' '{MARK}'; (exit $last)\n" for command, _ in steps)
-        printed = self.shell(script, folder)[1].split(f"\n{MARK}\n")
+        mark = f"printf '\\n%s\\n' '{MARK}'"
+        # Only fish has other words for the status of a command, and no page shows it there.
+        end = mark if self.shown_in == "fish" else f"last=$?; {mark}; (exit $last)"
+        script = "".join(f"{command}\n{end}\n" for command, _ in steps)
+        printed = self.shell(script, folder, self.shown_in)[1].split(f"\n{MARK}\n")
         return (printed[:-1] + ["(the shell has ended)"] * len(steps))[: len(steps)]
 
 
@@ -140,7 +147,7 @@ def markdown_sessions(lines):
     for place, kind, block in blocks_of(lines):
         if kind == "console":
             yield place, steps_of(block)
-        if kind == "sh" and not block[0].startswith(("#!", "make ")):
+        if kind == "sh" and not block[0].startswith(("#!", "make ", "sudo ")):
             yield place, [("\n".join(block), text_after(lines, place))]
 
 

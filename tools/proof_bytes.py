@@ -48,6 +48,8 @@ def main(words):
         if now.get(name, 0) > kept.get(name, 0) or name not in now
     ]
     print(*wrong, sep="\n", end="\n" if wrong else "")
+    if wrong:
+        print("If these proofs show more than before, tools/proof_bytes.py --write keeps the new numbers.")
     print(f"{len(now) - len(wrong)} passed, {len(wrong)} failed")
     return 1 if wrong else 0
 

@@ -44,9 +44,7 @@ class Lexicon:
 
 ROW_LEXICON = Lexicon("[A-Za-z]+", "[A-Za-z-]*", 6, {"ok": "every_date"})
 # a letter or a digit, and joiners between them; the first and the last second of a month
-MAIL_LEXICON = Lexicon(
-    r"[^\W_]+([-_.+@]+[^\W_]+)*", r"[\w.+@-]*", 128, {"2003-02": "1044057600 1046476799", "mar": "1046476800 1049155199"}
-)
+MAIL_LEXICON = Lexicon(r"[^\W_]+([-_.+@]+[^\W_]+)*", r"[\w.+@-]*", 128, {"2003-02": "1044057600 1046476799", "mar": "1046476800 1049155199"})
 lexicon = ROW_LEXICON  # main sets the one of the rows that it compares
 
 
@@ -394,8 +392,10 @@ def boolean_answer(text):
 
 
 def unquoted(text):
-    return [re.sub(r"\\(.)", lambda found: {"n": "\n", "t": "\t"}.get(found[1], found[1]), quoted)
-            for quoted in re.findall(r'codes "((?:[^"\\]|\\.)*)"|\[\](?= ∷)', text)]
+    return [
+        re.sub(r"\\(.)", lambda found: {"n": "\n", "t": "\t"}.get(found[1], found[1]), quoted)
+        for quoted in re.findall(r'codes "((?:[^"\\]|\\.)*)"|\[\](?= ∷)', text)
+    ]
 
 
 def rows(name):

@@ -11,7 +11,7 @@ import os, subprocess, sys, tempfile
 from dataclasses import dataclass, field
 
 from check_program import contents, run, write
-from overlapping_runs import HELLO, shim
+from overlapping_runs import HELLO, OLD, shim
 from program_cases import ALICE, ALICE_EXCERPT, CHANGED, FIRST_OF_THREAD, HELLO_INDEX, INDEX, ONCE, RC, SECOND_OF_THREAD, STORED, THREAD, fault
 
 MOST = 20_000
@@ -30,6 +30,7 @@ UNINDEXED = fault(b"archive 1: read failed")
 UNREAD = fault(b"archive read failed")
 UNWRITTEN = fault(b"output failed")
 WANT_OF_MEMORY = fault(b"out of memory")
+
 
 class InPlace(bytes):
     """What is told where a file has its name, but may not be on the disk."""
@@ -62,7 +63,7 @@ def indexed(name):
 def looked_at(name):
     """The calls on an old index that is to be replaced: it is looked at, its beginning is read, and it is looked at again."""
     read = {call + name: [unopened(name)] for call in ("open ", "read ")}
-    return {**read, "statx " + name: [unopened(name), *[None] * INDEX_COMPARED, unopened(name), None]}
+    return {**read, "statx " + name: [unopened(name), *[None] * INDEX_COMPARED, unopened(name), None, InPlace(UNWRITTEN)]}
 
 
 def found(name, compared):
@@ -75,19 +76,30 @@ def found(name, compared):
 
 
 def made(name, compared):
-    """And those after that, which give it its name and bring that to the disk. Without the old mode it stays private."""
+    """And those after that: what it replaces and it itself are looked at for its mode, it gets its name, is looked at under it, loses its mark, and
+    the name is brought to the disk. Without what the looks show it is private."""
     new = name + ".new"
     told = {call + new: [UNWRITTEN] for call in ("write ", "fsync ", "rename ")}
-    in_place = {"open .": [InPlace(UNWRITTEN)], "fsync " + ROOM: [InPlace(UNWRITTEN)]}
-    return {**found(name, compared), **told, **in_place, "statx " + new: [None] * compared + [unopened(new)] * 3 + [UNWRITTEN]}
+    in_place = {call: [InPlace(UNWRITTEN)] for call in ("fchmod " + name, "open .", "fsync " + ROOM)}
+    seen = {
+        "statx " + name: [None] * compared + [unopened(name), None, InPlace(UNWRITTEN)],
+        "statx " + new: [None] * compared + [unopened(new)] * 3 + [None, UNWRITTEN],
+    }
+    return {**found(name, compared), **told, **in_place, **seen}
 
 
-# With how many names the passing name of a file is compared: the rcfile, one archive and the file's own; and of an answer the index too.
+# With how many names the temporary name of a file is compared: the rcfile, one archive and the file's own; and of an answer the index too.
 INDEX_COMPARED, ANSWER_COMPARED = 3, 4
 STORED_CALLS = {**whole("rc"), **whole("m.idx"), **searched("m.mbox")}
 # And those of a search that makes a file.
 STORED_FILE_CALLS = {**STORED_CALLS, **searched("m.mbox", looks=2)}
-ONCE_CALLS = {**whole("rc"), **indexed("m.mbox"), "open m.mbox": [unopened("m.mbox"), UNINDEXED, UNREAD], "statx m.mbox": [unopened("m.mbox"), None, None, UNINDEXED, UNINDEXED, UNREAD], "read_at m.mbox": [UNREAD]}
+ONCE_CALLS = {
+    **whole("rc"),
+    **indexed("m.mbox"),
+    "open m.mbox": [unopened("m.mbox"), UNINDEXED, UNREAD],
+    "statx m.mbox": [unopened("m.mbox"), None, None, UNINDEXED, UNINDEXED, UNREAD],
+    "read_at m.mbox": [UNREAD],
+}
 PRINT_CALLS = {"print output": [UNWRITTEN]}
 
 
@@ -138,7 +150,7 @@ def index_of(files, program):
 
 def verified_runs(program):
     """Searches that read the archives through before they answer."""
-    hello = {"m.mbox": HELLO, "m.idx": index_of({"m.mbox": HELLO}, program), "hits": b"old"}
+    hello = {"m.mbox": HELLO, "m.idx": index_of({"m.mbox": HELLO}, program), "hits": OLD}
     world = {**hello, "m.mbox": HELLO.replace(b"Hello", b"World")}
     verify = INDEX + ["--verify", "s:hello"]
     return [
@@ -150,20 +162,52 @@ def verified_runs(program):
 
 def swept_runs(program):
     """The runs that are swept. Some indexes and the parser's own texts are the program's: those are shown elsewhere."""
-    hello = {"m.mbox": HELLO, "m.idx": HELLO_INDEX, "hits": b"old"}
-    alice = {"m.mbox": ALICE, "m.idx": index_of({"m.mbox": ALICE}, program), "hits": b"old"}
-    thread = {**THREAD, "m.idx": index_of(THREAD, program), "hits": b"old"}
+    hello = {"m.mbox": HELLO, "m.idx": HELLO_INDEX, "hits": OLD}
+    alice = {"m.mbox": ALICE, "m.idx": index_of({"m.mbox": ALICE}, program), "hits": OLD}
+    thread = {**THREAD, "m.idx": index_of(THREAD, program), "hits": OLD}
     threads = FIRST_OF_THREAD + SECOND_OF_THREAD
     return [
-        Swept("an index run", {**hello, "m.idx": b"old"}, INDEX, changes={"m.idx": HELLO_INDEX}, told={**whole("rc"), **indexed("m.mbox"), **made("m.idx", INDEX_COMPARED), **looked_at("m.idx")}),
+        Swept(
+            "an index run",
+            {**hello, "m.idx": OLD},
+            INDEX,
+            changes={"m.idx": HELLO_INDEX},
+            told={**whole("rc"), **indexed("m.mbox"), **made("m.idx", INDEX_COMPARED), **looked_at("m.idx")},
+        ),
         Swept("lines", hello, STORED + ["s:hello"], out=b"0 58 m.mbox\n", told={**STORED_CALLS, **PRINT_CALLS}),
         Swept("excerpts", alice, INDEX + ["-x", "t:alice"], out=ALICE_EXCERPT, told={**STORED_CALLS, **PRINT_CALLS}),
         Swept("threads", thread, INDEX + ["--stdout", "-t", "b:hi"], out=threads, told={**STORED_CALLS, **searched("n"), **PRINT_CALLS}),
         Swept("an mbox", hello, INDEX + ["s:hello"], changes={"hits": HELLO}, told={**STORED_FILE_CALLS, **made("hits", ANSWER_COMPARED)}),
         Swept("no message", hello, INDEX + ["s:goodbye"], 1, changes={"hits": b""}, told={**STORED_FILE_CALLS, **made("hits", ANSWER_COMPARED)}),
-        Swept("an index in memory", {"m.mbox": HELLO, "hits": b"old"}, ONCE + ["--boolean", "hi"], changes={"hits": HELLO}, told={**ONCE_CALLS, **made("hits", ANSWER_COMPARED)}),
-        Swept("a bad query", hello, INDEX + ["q:x"], 2, err=fault(b"query item 1: bad prefix"), told={**whole("rc"), **whole("m.idx"), "open m.mbox": [unopened("m.mbox")], "statx m.mbox": [unopened("m.mbox"), None], **found("hits", ANSWER_COMPARED)}),
-        Swept("an archive that has grown", {**hello, "m.mbox": HELLO + HELLO}, INDEX + ["s:hello"], 3, err=CHANGED, told={**STORED_FILE_CALLS, **found("hits", ANSWER_COMPARED)}),
+        Swept(
+            "an index in memory",
+            {"m.mbox": HELLO, "hits": OLD},
+            ONCE + ["--boolean", "hi"],
+            changes={"hits": HELLO},
+            told={**ONCE_CALLS, **made("hits", ANSWER_COMPARED)},
+        ),
+        Swept(
+            "a bad query",
+            hello,
+            INDEX + ["q:x"],
+            2,
+            err=fault(b"query item 1: bad prefix"),
+            told={
+                **whole("rc"),
+                **whole("m.idx"),
+                "open m.mbox": [unopened("m.mbox")],
+                "statx m.mbox": [unopened("m.mbox"), None],
+                **found("hits", ANSWER_COMPARED),
+            },
+        ),
+        Swept(
+            "an archive that has grown",
+            {**hello, "m.mbox": HELLO + HELLO},
+            INDEX + ["s:hello"],
+            3,
+            err=CHANGED,
+            told={**STORED_FILE_CALLS, **found("hits", ANSWER_COMPARED)},
+        ),
         Swept("bad words", {}, ["-z"], 2, err=Swept("", {}, ["-z"]).run(program)[2]),
         Swept("help", {}, ["-h"], out=Swept("", {}, ["-h"]).run(program)[1], told=PRINT_CALLS),
         *verified_runs(program),

@@ -19,7 +19,8 @@ TOP = Path(__file__).resolve().parent.parent
 PARTS = {"fs", "fd", "Files"}
 # The files of code that may name them, and the test that makes a folder of its own.
 FILES = {
-    *(f"crates/mairix_files/src/{it}.rt" for it in ("file_state", "kit_file", "kit_folder", "kit_new", "leftover", "names", "new_file")),
+    *(f"crates/kit_system/src/{it}.rt" for it in ("answers", "kit_system")),
+    *(f"crates/mairix_files/src/{it}.rt" for it in ("kit_file", "kit_folder", "kit_new", "recorded_calls")),
     "crates/worked_runs/src/program_runs.rt",
 }
 IMPORT = re.compile(r"(?<!ghost )\buse\s+([^;]+);")
