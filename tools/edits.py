@@ -248,11 +248,6 @@ def proofs_of(crate, function):
     return crate / "proofs" / function.partition("::")[2].replace("::", "/")
 
 
-def module_path(crate, path):
-    """The path by which a crate names the module of one of its files."""
-    return "crate" + module_of_file(crate, path).removeprefix(crate)
-
-
 def module_of(function):
     """The module of a function's proofs."""
     crate, _, path = function.partition("::")
@@ -498,8 +493,8 @@ class Crate:
         item, name = IN_A_CYCLE.sub("", changed(text[start:end], inside)), function.rpartition("::")[2]
         item = re.sub(rf"\bfn {name}\b", f"fn {name}_{number}", item, count=1)
         for change in edit.changes if edit.is_of_constant else []:
-            constant = self.constant_at(change)[2]
-            item = re.sub(rf"\b{constant}\b", f"{module_path(self.name, change.path)}::{constant}_{number}", item)
+            constant, module = self.constant_at(change)[2], module_of_file(self.name, change.path)
+            item = re.sub(rf"\b{constant}\b", f"crate{module.removeprefix(self.name)}::{constant}_{number}", item)
         cycle = self.cycle_of(function)
         # In a cycle of calls goals have other names.
         goals = frozenset() if cycle else edit.goals

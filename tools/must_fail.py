@@ -1,8 +1,7 @@
 #!/usr/bin/env python3
 """Tries the edits that the prover must refuse, many of a crate in one check.
 
-    tools/must_fail.py [--jobs N] [--proved FOLDER] [--write] [--full] [CRATE or CRATE/NAME ..]
-    tools/must_fail.py --list [CRATE or CRATE/NAME ..]
+    tools/must_fail.py [--jobs N] [--proved FOLDER] [--write] [CRATE or CRATE/NAME ..]
 
 An edit, crates/CRATE/must-fail/NAME.edit, turns the meaning of a function, and its crate must then not be proved. A
 function is proved against the contracts of those that it calls, never their bodies. So one check tries up to 140
@@ -21,14 +20,13 @@ than bodies, and constants that these name, is no edit.
 
 Its line `# refused by: CLAUSE` names the clause that refuses it, and that clause has to be one of those that the prover
 couldn't show. Some goals are the whole contract, which the prover doesn't part; where a twin's contract is that clause
-alone, such a goal is the clause's. --write writes that line where it is missing or wrong. --list tries nothing: it
-prints the edits by the modules that they change.
+alone, such a goal is the clause's. --write writes that line where it is missing or wrong.
 
 Its lines `# at: GOAL` name goals at which it is refused. Nothing is tried then at others. At a goal that has a written
 answer, that is tried; otherwise `search rules`, and not all that the prover knows, which takes longer at a goal that
 doesn't hold. In that case the function as it is has to be proved there in the same check; otherwise the edit is tried
 as if it had no such lines (decision 126 in docs/DECISIONS.md). --write adds one to an edit that has none, if it is
-refused with it too. --full passes over them, so that the prover tries all that it knows.
+refused with it too.
 
 Without --proved, what isn't built yet is proved and built first, by tools/build.py, and the copies go on from what
 checks of the crate have kept. With it, FOLDER is a copy of the repository whose crates `rt ci` has just proved and left
@@ -50,7 +48,7 @@ from pathlib import Path
 sys.dont_write_bytecode = True
 from build import Proved, kept_of
 from commands import Commands
-from crates import PARTS, Crates
+from crates import PARTS
 from edits import REFUSED, Crate, Stub, Twin, answered, assume_lemmas, is_goal_of, read_edit, refuse_in_place
 from machine import checks_side_by_side, processors
 
@@ -60,7 +58,7 @@ ERROR = re.compile(r"(?:\./)?(\S+?):(\d+):\d+: error\b")
 WANTS_MEASURE = "expected a measure in "
 # What is said of a proof that names what an edit took away, and of what rests on such a proof.
 LOST_NAME = re.compile(
-    r"has no field|is not in scope|has no `|was not admitted|: module `[^`]*`$|: record `[^`]*` \(nearest: "
+    r"has no field|is not a field of|is not in scope|has no `|was not admitted|: module `[^`]*`$|: record `[^`]*` \(nearest: "
 )
 # What a check says of a function; the last two where it is proved as far as the contracts of others are met.
 TOLD = re.compile(r"fn (\S+): (proved|no proof|not proved|could not tell|no holes|depends on a hole in)(?:: )?(.*)")
@@ -433,7 +431,7 @@ def write_goals(room, edits):
                     left[edit] = []
 
 
-def try_crate(proved, name, files, writes, is_full):
+def try_crate(proved, name, files, writes):
     """Whether each edit of a crate is refused."""
     started = time.monotonic()
     if name in proved.unmade:
@@ -445,8 +443,6 @@ def try_crate(proved, name, files, writes, is_full):
         return [False] * len(files)
     crate = Crate(name, proved.crates.folder(name), proved.crates.size(name), proved.checking(proved.crates, name))
     edits = [read_edit(it, crate) for it in files]
-    for edit in edits if is_full else []:
-        edit.goals = frozenset()
     with tempfile.TemporaryDirectory(prefix="must-fail-") as folder:
         room = Room(crate, folder, kept_of(proved.crates, name), writes, not proved.is_by_ci)
         tried = try_edits(room, edits)
@@ -476,20 +472,6 @@ def wanted_of(edits, wanted):
     return found
 
 
-def list_edits(edits):
-    """Prints the edits of each crate by the modules that they change, each with its functions and the clause that
-    refuses it."""
-    crates = Crates(".")
-    for name, files in edits.items():
-        crate = Crate(name, crates.folder(name), 0, [])
-        read = [(next((it.path for it in edit.changes), ""), edit) for edit in (read_edit(it, crate) for it in files)]
-        for path in sorted({path for path, _ in read}):
-            print(f"{name}/{path}")
-            for edit in (it for changed, it in read if changed == path):
-                functions = ", ".join(sorted(it.rpartition("::")[2] for it in edit.functions)) or "more than a body"
-                print(f"    {edit.file.stem}: {functions}, refused by {edit.clause or '?'}")
-
-
 def main():
     Commands.stop_with_this()
     asked = argparse.ArgumentParser(
@@ -498,16 +480,12 @@ def main():
     asked.add_argument("--jobs", type=int, help="how many crates at a time")
     asked.add_argument("--proved", metavar="FOLDER", help="a copy of the repository that rt ci has just proved")
     asked.add_argument("--write", action="store_true", help="write the clauses that refuse the edits into them")
-    asked.add_argument("--full", action="store_true", help="pass over the goals that edits name")
-    asked.add_argument("--list", action="store_true", help="print the edits by modules, and try none")
     asked.add_argument(
         "wanted", nargs="*", metavar="CRATE or CRATE/NAME", help="the edits of a crate, or one of them; none: all"
     )
     words = asked.parse_args()
     edits, strays = find_edits()
     edits = wanted_of(edits, words.wanted) if words.wanted else edits
-    if words.list:
-        return list_edits(edits)
     jobs = words.jobs or int(os.environ.get("RT_JOBS") or checks_side_by_side())
     proved = Proved(Path(words.proved or ".").resolve(), list(edits), jobs, bool(words.proved))
     passed, failed = 0, len(strays)
@@ -515,7 +493,7 @@ def main():
         print(f"{file}: NOT an edit: those end in .edit, in must-fail/ itself; what is only to be read ends in .md")
     with ThreadPoolExecutor(jobs) as pool:
         largest_first = sorted(edits, key=lambda it: -proved.crates.size(it))
-        running = [pool.submit(try_crate, proved, it, edits[it], words.write, words.full) for it in largest_first]
+        running = [pool.submit(try_crate, proved, it, edits[it], words.write) for it in largest_first]
         for tried in (it.result() for it in running):
             passed, failed = passed + sum(tried), failed + len(tried) - sum(tried)
     print(f"{passed} passed, {failed} failed")
