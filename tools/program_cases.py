@@ -132,7 +132,7 @@ ONCE_CASES = [
     ("an unknown flag", {}, RAW + ["-z"], 2, b"", ...),
     ("help", {}, ["-h"], 0, ..., b""),
     ("help after a flag", {}, ["-r", "-h"], 0, ..., b""),
-    ("version", {}, ["-V"], 0, b"mairix 0.2.0\n", b""),
+    ("version", {}, ["-V"], 0, b"mairix 0.3.0~unreleased\n", b""),
     ("words that are no UTF-8", {"m.mbox": HELLO}, RAW + [b"s:\xff"], 2, b"", fault(b"bad words")),
 ]
 

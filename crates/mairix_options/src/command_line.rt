@@ -329,7 +329,7 @@ fn bare_command<'a>(alloc: Global) -> Command<'a>
     ensures { app_of result ≡ bare_command }
 {
     Command::new(alloc, "mairix")
-        .version("0.2.0")
+        .version("0.3.0~unreleased")
         .about("Index and search mbox archives")
         .after_help(ANSWERS_AND_QUERIES)
         .no_binary_name(true)

@@ -78,8 +78,8 @@ const PLANS: [(&str, &str); 4] = [
 const REFUSALS: [(&str, &str, &str); 7] = [
     ("-h", "help", HELP),
     ("--help", "help", HELP),
-    ("-V", "version", "mairix 0.2.0\n"),
-    ("--version", "version", "mairix 0.2.0\n"),
+    ("-V", "version", "mairix 0.3.0~unreleased\n"),
+    ("--version", "version", "mairix 0.3.0~unreleased\n"),
     (
         "-f rc -z",
         "bad words",

@@ -14,7 +14,7 @@ use std::{fs, process};
 /// `write FILE => TEXT` makes a file, `has FILE => TEXT` gives the bytes of a file, and `run WORDS => TEXT` what a run
 /// prints on standard output and on standard error, and its status.
 const STEPS: &str = "\
-run -V => mairix 0.2.0|exit 0
+run -V => mairix 0.3.0~unreleased|exit 0
 run -f, @/rc, -r, s:hello => mairix: cannot open @/rc|exit 4
 write @/rc => base=@|mbox=m.mbox|database=@/m.idx|mfolder=hits|
 run -f, @/rc => mairix: cannot open @/m.mbox|exit 4
