@@ -23,8 +23,8 @@ PAGE, TIMES = (TOP / "docs" / name for name in ("ARCHITECTURE.md", "PERFORMANCE.
 WALKS, BELIEVED, THE_CRATES = "## The walks", "## What a reader has to believe, in this order", "## The crates"
 # A line of a walk: a function, its crate and its module.
 STEP = re.compile(r"( *)(?:(\w+)::)?(\w+) +(\w+) +([\w/]+)(?:  .*)?")
-# The calls that the program makes, whose clauses are the headline.
-RUNS = {"once_run": "mairix_tool/src/once.rt", "search_run": "mairix_tool/src/stored.rt"}
+# The calls whose clauses are the headline: the whole program, and what it asks for an answer.
+RUNS = {"run_program": "mairix_run/src/program.rt", "once_run": "mairix_tool/src/once.rt", "search_run": "mairix_tool/src/stored.rt"}
 USE = re.compile(r"^\s*(?:ghost )?use Rattle\.(\w+)\.specs\.([\w.]+?)(?:\.\{([^}]*)\}| as (\w+))?;?\s*$", re.M)
 
 
@@ -186,7 +186,7 @@ def clauses_of(text, function):
 
 
 def closure(crates):
-    """The files of definitions that the clauses of the two runs name, directly or by another."""
+    """The files of definitions that the clauses of the runs name, directly or by another."""
     found, waiting = set(), []
     for function, path in RUNS.items():
         text = (crates.root / "crates" / path).read_text("utf-8")
@@ -195,10 +195,15 @@ def closure(crates):
         waiting += [place for name, place in uses_in(text).items() if name in words]
     while waiting:
         crate, path = waiting.pop()
-        if crate not in crates.libraries or path.startswith("declared") or (crate, path) in found:
+        if crate not in crates.libraries or path.startswith("declared"):
             continue
-        found.add((crate, path))
-        waiting += uses_in((crates.folder(crate) / "specs" / f"{path}.antt").read_text("utf-8")).values()
+        file = crates.folder(crate) / "specs" / f"{path}.antt"
+        if not file.is_file():
+            # A type of the file has its variants at a path of its own.
+            path, file = path.rpartition("/")[0], file.parent.with_suffix(".antt")
+        if (crate, path) not in found:
+            found.add((crate, path))
+            waiting += uses_in(file.read_text("utf-8")).values()
     return {(crate, path) for crate, path in found if not path.startswith("Inside")}
 
 
