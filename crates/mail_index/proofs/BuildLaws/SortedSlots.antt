@@ -1,7 +1,7 @@
 -- Slots that are sorted by fronts and keys are in the order of their keys, because each front goes with its key, and no
 -- slot is there twice.
 use Rattle.std.proofs.Common.{arith}
-use Rattle.mail_index.proofs.Words.{◌≡◌, ◌+◌, ◌<◌, ◌≤◌, ◌∙◌, ℕ, suc, ◌⊎◌, inl, inr, Bool, true, false, nat_eq, nat_lt, List, [], ◌∷◌, ◌++◌, length, map, get_or, refl, sym, ap, subst, nat_tests, length-append, append-nil, get_or_append_left, get_or-append_seam, Ordering, Less, Equal, Greater, is_lt, ordering_then, ordering_reverse, nat_cmp, slice_cmp, nat_list_cmp_total, AllByRecursion, IsStrictlySortedBy, AreSorted, Key, key_at, lies_to}
+use Rattle.mail_index.proofs.Words.{◌≡◌, ◌<◌, ◌∙◌, ℕ, suc, ◌⊎◌, inl, inr, Bool, true, false, nat_eq, nat_lt, List, [], ◌∷◌, ◌++◌, length, map, get_or, set, Vec, Global, refl, sym, ap, subst, nat_tests, length-append, append-nil, get_or_append_left, get_or-append_seam, Ordering, Less, Equal, Greater, is_lt, ordering_then, ordering_reverse, nat_cmp, slice_cmp, nat_list_cmp_total, AllByRecursion, IsStrictlySortedBy, AreSorted, Key, key_at, lies_to}
 use Rattle.std.specs.List.{swap}
 use Rattle.std.specs.Prelude.{IsPermutation, IsSorted}
 use Rattle.std.proofs.lemmas.List.Edits.{Swapped, swapped_from_swap, length-swap}
@@ -232,6 +232,12 @@ order-sorted entries slots distinct fronted once sorted = record {
 }
 
 -- ---- one page
+
+pub only-page : (pages : List (Vec Fronted Global)) (page : Vec Fronted Global) → length pages ≡ 1
+    → set pages 0 page ≡ page ∷ []
+only-page [] page h = absurd (omega (arith, h))
+only-page (_ ∷ []) page h = refl
+only-page (_ ∷ _ ∷ rest) page h = absurd (omega (arith, h))
 
 one-page : (order : KeyOrder) (slots : List Fronted) → rows order.pages.items ≡ slots ∷ []
     → order.heads.items ≡ [] → slots_in order ≡ slots

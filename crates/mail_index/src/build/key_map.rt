@@ -9,7 +9,7 @@ ghost use Rattle.mail_index.specs.Limits.{four_byte_limit};
 use crate::build::build_fault::BuildFault;
 use crate::build::key_entry::KeyEntry;
 use crate::build::key_hash::KeyHash;
-use crate::build::key_order::{KeyOrder, Place, sorted};
+use crate::build::key_order::{KeyOrder, Place, put_anew};
 use crate::build::key_table::{Found, KeyTable};
 use crate::build::keys_in_order::KeysInOrder;
 use crate::build::prefetched::Prefetched;
@@ -433,8 +433,7 @@ fn put_all_in_order(
         ((i : ℕ) → i < length entries.now → IsAmong i (numbers_in order.new)) }
 {
     if entries.len() - first > first / OF_WHICH_ONE_IS_NEW {
-        *order = sorted(alloc, entries)?;
-        return Ok(());
+        return put_anew(alloc, entries, order);
     }
     for number in first..entries.len() {
         put_in_order(alloc, entries, order, number)?;

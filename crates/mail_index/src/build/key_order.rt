@@ -1,8 +1,9 @@
 //! The order of the keys of an index while it is built.
 ghost use Rattle.std.specs.Prelude.{◌≡◌, ◌-◌, ◌<◌, ◌≤◌, ℕ, length, OnOk, OnErr, IfOk, IfErr, IsPermutation, IsSorted};
 ghost use Rattle.std.specs.List.{AllByRecursion, insert};
+ghost use Rattle.std.specs.Vec.{vec_capacity};
 ghost use Rattle.mail_index.specs.Inside.KeyFronts.{IsFronted};
-ghost use Rattle.mail_index.specs.Inside.KeyMaps.{rows, row_at, in_pages, slots_in, numbers_in, slot_for, place_in, IsAmong, IsEntryOf, IsPlaceIn, IsPlaceFor, AreDistinct, AreInStep, AreNumbered, slot_cmp};
+ghost use Rattle.mail_index.specs.Inside.KeyMaps.{rows, row_at, in_pages, slots_in, numbers_in, slot_for, place_in, IsAmong, IsEntryOf, IsPartOf, IsPlaceIn, IsPlaceFor, AreDistinct, AreInStep, AreNumbered, slot_cmp};
 ghost use Rattle.mail_index.specs.Kinds.{kind_number};
 ghost use Rattle.mail_index.specs.KeysRead.{key_at};
 
@@ -135,39 +136,55 @@ fn split(
     }
 }
 
-/// The order of all entries.
-pub(crate) fn sorted(alloc: Global, entries: &[KeyEntry]) -> Result<KeyOrder, AllocError>
+/// Puts all entries in order. If memory runs out, the order is as before.
+///
+/// The slots are written over those of the first page, so that there are never two orders at a time.
+pub(crate) fn put_anew(
+    alloc: Global,
+    entries: &[KeyEntry],
+    order: &mut KeyOrder,
+) -> Result<(), AllocError>
     requires fits { length entries.now ≤ u32.MAX }
     requires distinct { AreDistinct entries.now }
-    ensures step { IfOk result (AreInStep entries.now) }
-    ensures all { IfOk result
-        (λ order. (i : ℕ) → i < length entries.now → IsAmong i (numbers_in order)) }
+    requires step { AreInStep entries.now order.old }
+    ensures step { AreInStep entries.now order.new }
+    ensures part { IsPartOf (numbers_in order.old) (numbers_in order.new) }
+    ensures all { OnOk result
+        ((i : ℕ) → i < length entries.now → IsAmong i (numbers_in order.new)) }
 {
-    let mut slots = slots_of(alloc, entries)?;
-    sort_slots(&mut slots, entries);
-    let mut pages = Vec::new(alloc);
-    pages.push(slots)?;
-    Ok(KeyOrder {
-        heads: Vec::new(alloc),
-        pages,
-    })
+    order.begin(alloc)?;
+    make_room(&mut order.pages[0], entries.len())?;
+    order.heads.clear();
+    order.pages.truncate(1);
+    let page = &mut order.pages[0];
+    write_slots(page, entries);
+    sort_slots(page, entries);
+    Ok(())
 }
 
-/// The slots of all entries, as these are.
-fn slots_of(alloc: Global, entries: &[KeyEntry]) -> Result<Vec<Fronted>, AllocError>
-    requires fits { length entries.now ≤ u32.MAX }
-    ensures long { IfOk result (λ slots. length slots.items ≡ length entries.now) }
-    ensures numbers { IfOk result (λ slots. AreNumbered slots.items) }
-    ensures fronted { IfOk result (λ slots. AllByRecursion (IsFronted entries.now) slots.items) }
+/// Makes a page large enough for this many slots.
+fn make_room(page: &mut Vec<Fronted>, count: usize) -> Result<(), AllocError>
+    ensures same { page.new.items ≡ page.old.items }
+    ensures room { OnOk result (count ≤ vec_capacity page.new) }
 {
-    let mut slots = Vec::with_capacity(alloc, entries.len())?;
+    page.reserve_exact(count.saturating_sub(page.len()))
+}
+
+/// Writes the slots of all entries over those of a page, which is large enough.
+fn write_slots(slots: &mut Vec<Fronted>, entries: &[KeyEntry])
+    requires fits { length entries.now ≤ u32.MAX }
+    requires room { length entries.now ≤ vec_capacity slots.old }
+    ensures long { length slots.new.items ≡ length entries.now }
+    ensures numbers { AreNumbered slots.new.items }
+    ensures fronted { AllByRecursion (IsFronted entries.now) slots.new.items }
+{
+    slots.clear();
     for (number, entry) in entries.iter().enumerate() {
-        slots.push(Fronted {
+        slots.push_reserved(Fronted {
             number: number as u32,
             front: front_of_key(entry.kind(), entry.text()),
-        })?;
+        });
     }
-    Ok(slots)
 }
 
 /// Sorts slots by their keys.

@@ -1,13 +1,8 @@
 -- `put_all_in_order` sorts all entries, or puts those that aren't in order at their places in turn.
 use Rattle.std.proofs.Common.{arith}
-use Rattle.mail_index.proofs.Words.{◌≡◌, ◌+◌, ◌<◌, ℕ, Bool, true, false, nat_eq, nat_tests, refl, subst, length}
+use Rattle.mail_index.proofs.Words.{◌≡◌, ◌+◌, ◌<◌, ℕ, Bool, true, false, nat_eq, nat_tests, refl, subst}
 use Rattle.mail_index.specs.Inside.KeyMaps.{numbers_in, IsAmong}
-use Rattle.mail_index.proofs.BuildLaws.KeyMapLemmas.{among-within}
 use Rattle.mail_index.proofs.build.key_map.put_all_in_order.Goals as goal
-
-pub returns-then-entries-first-clause-part : goal.returns-then-entries-first-clause-part
-returns-then-entries-first-clause-part c i a = c.in_ok-order.ensures.all i
-    (among-within (length c.args.entries.now) (numbers_in c.args.order.now) i c.requires.step.sorts.within a)
 
 pub returns-in_err-put_in_order-clause-part : goal.returns-in_err-put_in_order-clause-part
 returns-in_err-put_in_order-clause-part c i a = c.put_in_order.ensures.part i (c.loop-number.invariant.part i a)

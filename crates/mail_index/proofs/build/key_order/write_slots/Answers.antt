@@ -1,18 +1,18 @@
--- `slots_of` gives each entry a slot at the place of its number.
+-- `write_slots` gives each entry a slot at the place of its number.
 use Rattle.std.proofs.Common.{arith}
-use Rattle.mail_index.proofs.Words.{◌≡◌, ◌+◌, ◌∙◌, List, [], ◌∷◌, ◌++◌, length, ap, sym, subst, length-append, Key, key_at, no_key}
+use Rattle.mail_index.proofs.Words.{◌≡◌, ◌+◌, ◌∙◌, [], ◌∷◌, ◌++◌, length, ap, sym, subst, length-append, Key, key_at, no_key}
 use Rattle.std.specs.List.{AllByRecursion}
 use Rattle.mail_index.specs.declared.build.key_front.Fronted.{Fronted}
 use Rattle.mail_index.specs.Inside.KeyFronts.{IsFrontOfKey, IsFronted}
 use Rattle.mail_index.specs.Inside.KeyMaps.{AreNumbered}
 use Rattle.mail_index.proofs.BuildLaws.SortedSlots.{numbered-more}
 use Rattle.mail_index.proofs.Items.{all-snoc, other-default}
-use Rattle.mail_index.proofs.build.key_order.slots_of.Goals as goal
+use Rattle.mail_index.proofs.build.key_order.write_slots.Goals as goal
 
 pub loop-number-preserved : goal.loop-number-preserved
 loop-number-preserved c =
     let slot : Fronted = record { number = c.loop-number.number; front = c.front_of_key.result } in
-    let items : c.push.new.self.items ≡ c.loop-number.slots.items ++ slot ∷ [] = grind arith in
+    let items : c.push_reserved.new.self.items ≡ c.loop-number.slots.items ++ slot ∷ [] = grind arith in
     let here : c.index-entries-number.result ≡ key_at c.args.entries.now c.loop-number.number =
     c.index-entries-number.is
     ∙ other-default c.args.entries.now c.loop-number.number c.index-entries-number.result no_key c.loop-number-test.true
@@ -27,6 +27,7 @@ loop-number-preserved c =
     record {
       long = ap length items ∙ length-append c.loop-number.slots.items (slot ∷ [])
           ∙ ap (λ n. n + 1) c.loop-number.invariant.long;
+      room = grind arith;
       numbers = subst AreNumbered (sym items)
           (numbered-more c.loop-number.slots.items slot c.loop-number.invariant.numbers
           (sym c.loop-number.invariant.long));
