@@ -1,7 +1,7 @@
 #!/usr/bin/env python3
 """Times index runs of one or more builds beside C mairix, which has to be installed as `mairix`, in rounds: each program once, one after another,
 since what a processor gives changes from one minute to the next. With `--once` each build's search without an index is timed too, and mboxgrep and
-grepmail, where they are installed.
+grepmail, where they are installed. The first build is the one that the others are compared with.
 
     rounds.py [--rounds N] [--messages N].. [--kinds KIND,..] [--once] [PROGRAM ..]
 
@@ -9,9 +9,9 @@ The archives are of the kinds that --kinds names (bench/make_mbox.py says what t
 needs the network once). Each program makes its index afresh, without an old one, and `sha256sum` and `openssl` compute the archive's SHA-256 in each
 round. Prints for each the median of its processor seconds (user and system); the median over the rounds of the ratio to what C mairix took in the
 same round, and the same less the seconds of `sha256sum`, which C mairix doesn't take, each with the range of the middle half of the rounds; and the
-peak memory with its ratio.
+peak memory with its ratio. Of several builds, prints the ratio of each later one to the first, in the same way.
 """
-import argparse, os, shutil, statistics, subprocess, sys, tempfile, time
+import argparse, os, re, shutil, statistics, subprocess, sys, tempfile, time
 
 HERE = os.path.dirname(os.path.abspath(__file__))
 NO_MESSAGES = 1
@@ -36,12 +36,10 @@ def measured(command, folder):
     for name in "m.idx", "c.idx":
         if os.path.exists(os.path.join(folder, name)):
             os.remove(os.path.join(folder, name))
-    with open(os.devnull, "w") as nowhere:
-        process = subprocess.Popen(command, cwd=folder, stdin=subprocess.DEVNULL, stdout=nowhere, stderr=nowhere)
-        _, status, used = os.wait4(process.pid, 0)
-    if os.waitstatus_to_exitcode(status) not in (0, NO_MESSAGES):
-        sys.exit("%s: status %d" % (" ".join(command), os.waitstatus_to_exitcode(status)))
-    return used.ru_utime + used.ru_stime, used.ru_maxrss / 1024
+    told = subprocess.run(["./measure", os.devnull, *command], cwd=folder, stdin=subprocess.DEVNULL, capture_output=True, check=True).stdout.split()
+    if int(told[2]) not in (0, NO_MESSAGES):
+        sys.exit("%s: status %s" % (" ".join(command), told[2].decode()))
+    return float(told[0]), int(told[1]) / 1024
 
 
 def furnish(folder, kind, messages):
@@ -70,6 +68,15 @@ def compare(folder, commands, rounds):
         less = with_spread([(one - digest) / other for one, digest, other in zip(own, seconds[1], seconds[0])])
         shares = (name, statistics.median(own), paired, less, megabytes, megabytes / memory[0])
         print("  %-12s %7.3f s, %s of C's, less the digest %s; %6.1f MB, %.3f of C's" % shares, flush=True)
+    compare_builds({name: own for (name, _), own in zip(commands, seconds)})
+
+
+def compare_builds(seconds):
+    """Prints the ratio of each later build to the first, of index runs and of searches without an index."""
+    for name, own in seconds.items():
+        first = re.sub(r"\d+", "1", name)
+        if name != first and first in seconds:
+            print("  %s of %s: %s" % (name, first, with_spread([one / other for one, other in zip(own, seconds[first])])), flush=True)
 
 
 def commands_of(words):
@@ -101,6 +108,7 @@ def main():
         for title, kind in [KINDS[it] for it in words.kinds.split(",")]:
             with tempfile.TemporaryDirectory() as folder:
                 furnish(folder, kind, messages)
+                subprocess.run(["cc", "-O2", "-o", os.path.join(folder, "measure"), os.path.join(HERE, "measure.c")], check=True)
                 print("%d messages, %s, %.0f MB" % (messages, title, os.path.getsize(os.path.join(folder, "m.mbox")) / 1e6), flush=True)
                 compare(folder, commands, words.rounds)
 
