@@ -25,11 +25,13 @@ fn stream_over<W: Write + Drop>(writer: W) -> WriterStream<StdWriter<Retried<W>>
 fn main(rt: HostRuntime) -> ExitCode {
     let mut folder = KitFolder::new(&rt, SupposedNames::new());
     let mut reports = folder.no_reports();
+    let mut reads = folder.no_reports();
     let mut names = MadeNames::new();
     let status = run_command(
         &mut folder,
         rt.alloc(),
         &mut reports,
+        &mut reads,
         &mut names,
         &ProgramTexts,
         env::args(&rt),

@@ -42,33 +42,33 @@ module _ (wanted : Result Wanted Fault) (index other : List ℕ) (bytes : List (
   text-alike : (entry : Entry) → IsFileOf (IsTextOf Old) entry → IsFileOf (IsTextOf New) entry
   text-alike entry (text, (status, done), is) = (text, (status, alike.done status text done), is)
 
-  keeps-old-alike : (before now : Entry) (ended : Ending) → KeepsOld Old before now ended
-      → KeepsOld New before now ended
-  keeps-old-alike before now ended keeps = grind (arith, text-alike)
+  keeps-old-alike : (ReadsAgree : Type 0) (before now : Entry) (ended : Ending)
+      → KeepsOld ReadsAgree Old before now ended → KeepsOld ReadsAgree New before now ended
+  keeps-old-alike ReadsAgree before now ended keeps = grind (arith, text-alike)
 
-  keeps-alike : (file : Option (List ℕ)) (before now : List ℕ → Entry) (ended : Ending)
-      → KeepsFile Old file before now ended → KeepsFile New file before now ended
-  keeps-alike file before now ended keeps = grind (arith, keeps-old-alike)
+  keeps-alike : (ReadsAgree : Type 0) (file : Option (List ℕ)) (before now : List ℕ → Entry) (ended : Ending)
+      → KeepsFile ReadsAgree Old file before now ended → KeepsFile ReadsAgree New file before now ended
+  keeps-alike ReadsAgree file before now ended keeps = grind (arith, keeps-old-alike)
 
   puts-alike : (OutFails ReadFails : Type 0) (now : Entry) (ended : Ending) → Puts OutFails ReadFails Old now ended
       → Puts OutFails ReadFails New now ended
   puts-alike OutFails ReadFails now ended is = grind (arith, alike.done, alike.refused)
 
   module _ {D F S N L R M A O : Type 0} (f : FolderGhosts D F S N L R M A) (o : Ghosts O) (handed_on : O
-      → Option (List ℕ)) where
+      → Option (List ℕ)) (ReadsAgree : Type 0) where
     does-alike : (file : Option (List ℕ)) (read : List (List ℕ)) (old new : D) (out out' : O) (ended : Ending)
-        → DoesFor f o handed_on Old file read old new out out' ended
-        → DoesFor f o handed_on New file read old new out out' ended
+        → DoesFor f o handed_on ReadsAgree Old file read old new out out' ended
+        → DoesFor f o handed_on ReadsAgree New file read old new out out' ended
     does-alike file read old new out out' ended h = grind (arith, written-alike, puts-alike)
 
     left-alike : (file : Option (List ℕ)) (old : D) (n : List ℕ) (c : Entry)
-        → LeavesFor (f.apart old) (f.may_leave old) Old file n c
-        → LeavesFor (f.apart old) (f.may_leave old) New file n c
+        → LeavesFor (f.apart old) (f.may_leave old) ReadsAgree Old file n c
+        → LeavesFor (f.apart old) (f.may_leave old) ReadsAgree New file n c
     left-alike file old n c left = grind arith
 
     pub ran-alike : (names : List (List ℕ)) (p : Plan) (rc : Rc) (old new : D) (out out' : O) (ended : Ending)
-        → Ran f o handed_on names (Ok (search_task p rc Old)) old new out out' ended
-        → Ran f o handed_on names (Ok (search_task p rc New)) old new out out' ended
+        → Ran f o handed_on ReadsAgree names (Ok (search_task p rc Old)) old new out out' ended
+        → Ran f o handed_on ReadsAgree names (Ok (search_task p rc New)) old new out out' ended
     ran-alike names p rc old new out out' ended ran = grind (arith, keeps-alike, does-alike, leaves-weaker, left-alike)
 
 -- what is read of an index is searched as the whole file is

@@ -7,7 +7,7 @@ use Rattle.std.proofs.lemmas.Bool.Decides.{nat_tests}
 use Rattle.named_files.specs.Crashes.{LeavesOnly}
 use Rattle.named_files.specs.Entries.{Entry, IsFileOf, SameWhere, bytes_of}
 use Rattle.named_files.specs.OtherNames.{LeavesAloneThroughout}
-use Rattle.named_files.specs.TakingNames.{Replaces}
+use Rattle.named_files.specs.TakingNames.{AreAllTaken, Replaces}
 use Rattle.named_files.specs.declared.folder.Folder.{Ghosts as FolderGhosts}
 use Rattle.run_faults.specs.declared.fault.Fault.{Fault}
 use Rattle.run_faults.specs.declared.fault.Fault.TheVariants.{Out}
@@ -18,7 +18,7 @@ use Rattle.mairix_run.proofs.RunParts.{follows, keeps-same, leaves-weaker, start
 use Rattle.mairix_run.specs.Inside.RunParts.{MakesOrStops, ReplacesFile}
 use Rattle.mairix_run.specs.MadeFiles.{IsNotMade, IsSettled, LeadToOldOrNew, LeadsForGood, MakesFile, MayBeMade, SettlesFile, taken_name, unfit_name}
 use Rattle.mairix_run.specs.Stops.{Ending, ending_by, ending_of_stopped}
-use Rattle.mairix_run.specs.Tasks.{Work, IsDone}
+use Rattle.mairix_run.specs.Tasks.{Work}
 use Rattle.mairix_run.specs.WholeRuns.{IsTextOf, IsWritten, KeepsOld, LeavesInMaking, Puts, is_kept, is_left_alone, temporary_of}
 use Rattle.mairix_run.specs.declared.stopped.Stopped.{Stopped}
 
@@ -84,37 +84,40 @@ module _ {D F S N L R M A : Type 0} (f : FolderGhosts D F S N L R M A) (old : D)
           taken)
       pub calls : SettlesFile f.renames f.syncs f.discards name written result mid new
 
-    module _ (work : Work) (only_now : (n : List ℕ) (c : Entry) → f.left_since old (f.moment old) n c
-        → f.may_leave old n c) where
+    module _ (ReadsAgree : Type 0) (work : Work)
+        (only_now : (n : List ℕ) (c : Entry) → f.left_since old (f.moment old) n c → f.may_leave old n c) where
       -- a crash at any moment since leaves the old file or the whole text
       abbrev Leaves : D → Type 0
-      Leaves new = LeavesOnly f.moment f.left_since old new (LeavesInMaking (f.apart old) (f.may_leave old) work name)
+      Leaves new = LeavesOnly f.moment f.left_since old new
+          (LeavesInMaking (f.apart old) (f.may_leave old) ReadsAgree work name)
 
       abbrev Replaces-file : D → Ending → Type 0
-      Replaces-file new ended = ReplacesFile f work read name old new ended
+      Replaces-file new ended = ReplacesFile f ReadsAgree work read name old new ended
 
       left-apart : f.apart old name Temporary ≡ true → (n : List ℕ) (c : Entry)
           → (f.apart old n Temporary ≡ true → f.may_leave old n c)
-          → LeavesInMaking (f.apart old) (f.may_leave old) work name n c
+          → LeavesInMaking (f.apart old) (f.may_leave old) ReadsAgree work name n c
       left-apart is_apart n c left = grind (arith, both-first)
 
       -- the folder is as it was
-      pub same-replaced : (ended : Ending) → MakesOrStops f work read name old old ended → Replaces-file old ended
+      pub same-replaced : (ended : Ending) → MakesOrStops f ReadsAgree work read name old old ended
+          → Replaces-file old ended
       same-replaced ended stops = grind (arith, keeps-same, starts)
 
       none-replaced : (new : D) (stopped : Stopped) → is_kept work (f.holds old name) ≡ false
           → NoneMade new stopped Temporary → Replaces-file new (ending_of_stopped stopped)
       none-replaced new stopped free none =
           let ended = ending_of_stopped stopped in
-          let stops : (now : D) → MakesOrStops f work read name old now ended = λ now.
+          let stops : (now : D) → MakesOrStops f ReadsAgree work read name old now ended = λ now.
           refused-stops (f.holds old) (f.apart old) (f.is_leftover old) work read name (name ∷ Temporary ∷ [])
-          f.can_refuse f.reads_can_fail (Puts (f.can_refuse ⊎ f.writes_can_fail)
-          (CannotRead f.can_refuse f.reads_can_fail) work (f.holds now name)) (contains-first name (Temporary ∷ []))
+          f.can_refuse f.reads_can_fail (λ e. ReadsAgree → Puts (f.can_refuse ⊎ f.writes_can_fail)
+          (CannotRead f.can_refuse f.reads_can_fail) work (f.holds now name) e) (contains-first name (Temporary ∷ []))
           (contains-more name Temporary (Temporary ∷ []) (contains-first Temporary [])) free stopped
           none.none.refusal in
           ⊎_elim (λ fit. let is_apart = apart_of_fit (f.apart old) read Temporary name fit in record {
             run = stops new;
-            keeps = keeps-same work (f.holds old name) (f.holds new name) ended (none.others.others name is_apart);
+            keeps = keeps-same ReadsAgree work (f.holds old name) (f.holds new name) ended
+                (none.others.others name is_apart);
             kept = fit-same new Temporary fit none.others.others;
             alone = λ n both. none.others.others n (both-first (f.apart old n Temporary) (f.apart old n name) both);
             any_moment = leaves-weaker f.moment f.left_since old new _ _ (left-apart is_apart) none.others.any_moment;
@@ -144,26 +147,42 @@ module _ {D F S N L R M A : Type 0} (f : FolderGhosts D F S N L R M A) (old : D)
 
           -- what may be left after the file was made, may be left of the run
           later : (n : List ℕ) (c : Entry) → (f.apart mid n Temporary ≡ true → f.may_leave mid n c)
-              → LeavesInMaking (f.apart old) (f.may_leave old) work name n c
+              → LeavesInMaking (f.apart old) (f.may_leave old) ReadsAgree work name n c
           later n c left = grind (arith, left-apart, is-apart)
-
-          -- so may the whole text
-          whole : (text : List ℕ) → IsTextOf work text → taken ≡ Some text → (n : List ℕ) (c : Entry)
-              → Replaces (f.apart mid) (f.may_leave mid) Temporary name taken n c
-              → LeavesInMaking (f.apart old) (f.may_leave old) work name n c
-          whole text is took n c left = grind (arith, both-first, still-both, is-apart)
 
           abbrev Wrote : Result ℕ Fault → Type 0
           Wrote w = IsWritten OutFails (CannotRead f.can_refuse f.reads_can_fail) work (Some []) taken w
 
-          made-leaves : (w : Result ℕ Fault) → w ≡ written → Wrote w → Leaves new
+          -- all that the file took is the text of the work, if the reads agree
+          abbrev TookText : Type 0
+          TookText = ReadsAgree → (text : List ℕ) × IsTextOf work text × (taken ≡ Some text)
+
+          took-text : (status : ℕ) → (ReadsAgree → Wrote (Ok status)) → TookText
+          took-text status wrote = λ agree. let (text, done, sent) = wrote agree in
+              (text, (status, done), taken-text taken text sent)
+
+          is-text : (known : Option (List ℕ)) (text bytes : List ℕ) → known ≡ Some text → AreAllTaken known bytes
+              → IsTextOf work text → IsTextOf work bytes
+          is-text known text bytes took all is = grind arith
+
+          -- so may the new file
+          file-left : TookText → (c : Entry) → IsFileOf (AreAllTaken taken) c
+              → IsFileOf (λ text. ReadsAgree → IsTextOf work text) c
+          file-left took c (bytes, all, same) =
+              (bytes, (λ agree. let (text, is, known) = took agree in is-text taken text bytes known all is), same)
+
+          whole : TookText → (n : List ℕ) (c : Entry)
+              → Replaces (f.apart mid) (f.may_leave mid) Temporary name taken n c
+              → LeavesInMaking (f.apart old) (f.may_leave old) ReadsAgree work name n c
+          whole took n c left = grind (arith, both-first, still-both, is-apart, file-left)
+
+          made-leaves : (w : Result ℕ Fault) → w ≡ written → (ReadsAgree → Wrote w) → Leaves new
           made-leaves w same is =
               let first = leaves-weaker f.moment f.left_since old mid _ _ (left-apart is-apart) m.others.any_moment in
               by-result w same is first where
-                by-result : (w : Result ℕ Fault) → w ≡ written → Wrote w → Leaves mid → Leaves new
-                by-result (Ok status) same (text, done, sent) first =
-                    follows f.moment f.left_since old mid new _ _ first m.settling
-                    (whole text (status, done) (taken-text taken text sent))
+                by-result : (w : Result ℕ Fault) → w ≡ written → (ReadsAgree → Wrote w) → Leaves mid → Leaves new
+                by-result (Ok status) same wrote first =
+                    follows f.moment f.left_since old mid new _ _ first m.settling (whole (took-text status wrote))
                 by-result (Err fault) same is first =
                     let alone : LeavesOthers Temporary mid new =
                     subst (λ (w : Result ℕ Fault). OnErr w (LeavesOthers Temporary mid new)) (sym same) m.given_up in
@@ -177,22 +196,48 @@ module _ {D F S N L R M A : Type 0} (f : FolderGhosts D F S N L R M A) (old : D)
           mid-apart = m.others.still_apart name Temporary ∙ is-apart
 
           -- the file has its name, or not
-          named-or-not : (status : ℕ) (text : List ℕ) → IsDone work status text → taken ≡ Some text
-              → (f.holds new name ≡ f.holds old name) ⊎ IsFileOf (IsTextOf work) (f.holds new name)
-          named-or-not status text done took = grind (arith, mid-old, leads-text, mid-apart)
+          named-or-not : TookText → (f.holds new name ≡ f.holds old name)
+              ⊎ (ReadsAgree → IsFileOf (IsTextOf work) (f.holds new name))
+          named-or-not took = ⊎_elim (λ same. inl (same ∙ mid-old))
+              (λ leads. inr (λ agree. let (text, is, known) = took agree in
+              (text, is, leads-text (f.holds new name) taken text known leads)))
+              (m.names.old_or_new mid-apart)
 
-          made-keeps : (w r : Result ℕ Fault) → w ≡ written → Wrote w → IsSettled w r
-              → KeepsOld work (f.holds old name) (f.holds new name) (ending_by r)
-          made-keeps w r wrote is settled = grind (arith, named-or-not, taken-text, keeps-same, mid-apart, mid-old)
+          done-keeps : (status : ℕ) (r : Result ℕ Fault) → TookText → IsSettled (Ok status) r
+              → KeepsOld ReadsAgree work (f.holds old name) (f.holds new name) (ending_by r)
+          done-keeps status r took settled = grind (arith, named-or-not)
 
-          settled-replaced : is_kept work (f.holds old name) ≡ false → Wrote written
+          fault-keeps : (fault : Fault) (r : Result ℕ Fault) → Err fault ≡ written → IsSettled (Err fault) r
+              → KeepsOld ReadsAgree work (f.holds old name) (f.holds new name) (ending_by r)
+          fault-keeps fault r is settled = grind (arith, keeps-same, mid-apart, mid-old)
+
+          made-keeps : (w r : Result ℕ Fault) → w ≡ written → (ReadsAgree → Wrote w) → IsSettled w r
+              → KeepsOld ReadsAgree work (f.holds old name) (f.holds new name) (ending_by r)
+          made-keeps (Ok status) r is wrote settled = done-keeps status r (took-text status wrote) settled
+          made-keeps (Err fault) r is wrote settled = fault-keeps fault r is settled
+
+          settled-replaced : is_kept work (f.holds old name) ≡ false → (ReadsAgree → Wrote written)
               → Replaces-file new (ending_by result)
-          settled-replaced free wrote =
-              grind (arith, none-refused, puts-settled, made-keeps, kept-all, fit-apart, made-alone, made-leaves)
+          settled-replaced free wrote = record {
+            run = inr (inr (
+              none-refused (f.holds old) (f.apart old) (f.is_leftover old) work read name (name ∷ Temporary ∷ [])
+                  f.can_refuse f.reads_can_fail (λ e. ReadsAgree → Puts OutFails
+                  (CannotRead f.can_refuse f.reads_can_fail) work (f.holds new name) e) free m.serves.fit m.serves.plain
+                  m.serves.free,
+              λ agree. puts-settled OutFails (CannotRead f.can_refuse f.reads_can_fail) work taken written result
+                  (f.holds new name) (f.may_leave new name) (wrote agree) m.settled m.refused m.named,
+            ));
+            keeps = made-keeps written result refl wrote m.settled;
+            kept = kept-all read (λ n. f.apart old n Temporary && f.apart old n name) (f.holds old) (f.holds new)
+                (fit-apart (f.apart old) read Temporary name m.serves.fit) made-alone;
+            alone = made-alone;
+            any_moment = made-leaves written refl wrote;
+            calls = inr (inr (mid, m.made, written, result, refl, m.calls));
+          }
 
         -- the same for a temporary name that equals the name's
         pub made-settled : (temporary : List ℕ) → Temporary ≡ temporary
             → MadeAndSettled mid new taken written result temporary → is_kept work (f.holds old name) ≡ false
-            → IsWritten OutFails (CannotRead f.can_refuse f.reads_can_fail) work (Some []) taken written
+            → (ReadsAgree → IsWritten OutFails (CannotRead f.can_refuse f.reads_can_fail) work (Some []) taken written)
             → Replaces-file new (ending_by result)
         made-settled temporary e m free wrote = grind (arith, settled-replaced)

@@ -13,24 +13,22 @@ use Rattle.mairix_run.specs.Stops.{Ending}
 use Rattle.mairix_run.specs.Tasks.{task_of}
 use Rattle.mairix_run.specs.WholeRuns.{CallsFor, RunLeaves, Runs, file_made, is_left_alone, names_kept}
 
--- What is so of a run of these words at this second: of each clause of `run_program` the same. All but the last hold
--- if all that was reported agrees.
+-- What is so of a run of these words at this second: of each clause of `run_program` the same. `ReadsAgree` is about
+-- what was reported as the archives were read, and `Agrees` about all else that was reported.
 pub record RunsProgram {D F S N L R M A O E : Type 0} (f : FolderGhosts D F S N L R M A) (o : Ghosts O)
     (handed_on : O → Option (List ℕ)) (e : Ghosts E) (IsUsageText : List ℕ → Type 0) (CanRunOut : Type 0)
-    (words : List (List ℕ)) (second : ℕ) (Agrees : Type 0) (old new : D) (made made' : List (List ℕ × Bool))
+    (words : List (List ℕ)) (second : ℕ) (Agrees ReadsAgree : Type 0) (old new : D) (made made' : List (List ℕ × Bool))
     (out out' : O) (err err' : E) (status : ℕ) : Type 0 where
-  pub run : Agrees → (ended : Ending) × (printed : O)
-      × Runs f o handed_on (names_used (f.holds old) (plan words)) (task_of (f.holds old) words second) old new
-      out printed ended
+  pub run : (ended : Ending) × (printed : O)
       × ReportsEnding o handed_on e IsUsageText CanRunOut ended status printed out' err err'
+      × (Agrees → Runs f o handed_on ReadsAgree (names_used (f.holds old) (plan words))
+      (task_of (f.holds old) words second) old new out printed ended
+      × CallsFor f (file_made (task_of (f.holds old) words second)) ended old new)
   pub read : Agrees → All (λ n. f.holds new n ≡ f.holds old n) (names_kept (task_of (f.holds old) words second))
   pub alone : Agrees → SameWhere (is_left_alone (f.apart old) (file_made (task_of (f.holds old) words second)))
       (f.holds old) (f.holds new)
   pub any_moment : Agrees → LeavesOnly f.moment f.left_since old new
-      (RunLeaves (f.apart old) (f.may_leave old) (task_of (f.holds old) words second))
-  pub calls : Agrees → (ended : Ending) × (printed : O)
-      × CallsFor f (file_made (task_of (f.holds old) words second)) ended old new
-      × ReportsEnding o handed_on e IsUsageText CanRunOut ended status printed out' err err'
+      (RunLeaves (f.apart old) (f.may_leave old) ReadsAgree (task_of (f.holds old) words second))
   pub named : AsksOnlyFor (names_of_words (f.holds old) (plan words)) made made'
 
 -- The words of a command line can't be had, for this reason. That is reported, and nothing else is done.

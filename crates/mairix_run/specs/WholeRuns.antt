@@ -94,38 +94,42 @@ abbrev pub IsTextOf : Work → List ℕ → Type 0
 IsTextOf work text = (status : ℕ) × IsDone work status text
 
 -- Without success, what it led to before. If only the output failed, or memory ran out, as the file took its name, that
--- or the whole text.
-abbrev pub KeepsOld : Work → Entry → Entry → Ending → Type 0
-KeepsOld work before now (Done status) = ⊤
-KeepsOld work before now (CannotOpen path) = now ≡ before
-KeepsOld work before now (Because Out) = (now ≡ before) ⊎ IsFileOf (IsTextOf work) now
-KeepsOld work before now (Because Memory) = (now ≡ before) ⊎ IsFileOf (IsTextOf work) now
-KeepsOld work before now (Because fault) = now ≡ before
+-- or the whole text; of the text nothing is said unless the reads agree.
+abbrev pub KeepsOld : Type 0 → Work → Entry → Entry → Ending → Type 0
+KeepsOld ReadsAgree work before now (Done status) = ⊤
+KeepsOld ReadsAgree work before now (CannotOpen path) = now ≡ before
+KeepsOld ReadsAgree work before now (Because Out) = (now ≡ before) ⊎ (ReadsAgree → IsFileOf (IsTextOf work) now)
+KeepsOld ReadsAgree work before now (Because Memory) = (now ≡ before) ⊎ (ReadsAgree → IsFileOf (IsTextOf work) now)
+KeepsOld ReadsAgree work before now (Because fault) = now ≡ before
 
 -- the same of the file of a task, if it has one
-abbrev pub KeepsFile : Work → Option (List ℕ) → (List ℕ → Entry) → (List ℕ → Entry) → Ending → Type 0
-KeepsFile work None before now ended = ⊤
-KeepsFile work (Some name) before now ended = KeepsOld work (before name) (now name) ended
+abbrev pub KeepsFile : Type 0 → Work → Option (List ℕ) → (List ℕ → Entry) → (List ℕ → Entry) → Ending → Type 0
+KeepsFile ReadsAgree work None before now ended = ⊤
+KeepsFile ReadsAgree work (Some name) before now ended = KeepsOld ReadsAgree work (before name) (now name) ended
 
 -- ---- a whole run, by its task, or by its first refusal
 
+-- `ReadsAgree`: all that was reported as the archives were read agrees with what they hold. Only what is said of the
+-- work, its text or its fault, needs that.
 module _ {D F S N L R M A O : Type 0} (f : FolderGhosts D F S N L R M A) (o : Ghosts O)
-    (handed_on : O → Option (List ℕ)) where
+    (handed_on : O → Option (List ℕ)) (ReadsAgree : Type 0) where
   -- What a task does: it writes to standard output, or makes a file and writes nothing there. The states before are
   -- `old` and `out`, those after it `new` and `out'`.
   abbrev pub DoesFor : Work → Option (List ℕ) → List (List ℕ) → D → D → O → O → Ending → Type 0
   DoesFor work None read old new out out' ended =
-      WritesWork o handed_on (CannotRead f.can_refuse f.reads_can_fail) work out out' ended
+      ReadsAgree → WritesWork o handed_on (CannotRead f.can_refuse f.reads_can_fail) work out out' ended
   DoesFor work (Some name) read old new out out' ended = (out' ≡ out)
-      × MakesFor (refused_name (f.holds old) (f.apart old) (f.is_leftover old) work read name)
-      (Puts (f.can_refuse ⊎ f.writes_can_fail) (CannotRead f.can_refuse f.reads_can_fail) work (f.holds new name)) ended
+      × MakesFor (refused_name (f.holds old) (f.apart old) (f.is_leftover old) work read name) (λ e. ReadsAgree
+      → Puts (f.can_refuse ⊎ f.writes_can_fail) (CannotRead f.can_refuse f.reads_can_fail) work (f.holds new name) e)
+      ended
 
   -- The run does its task, or ends by the first refusal. In trouble with one of the names it uses, it ends earlier, and
   -- nothing is written.
   abbrev pub Runs : List (List ℕ) → Result Task Ending → D → D → O → O → Ending → Type 0
   Runs names (Err why) old new out out' ended =
       (out' ≡ out) × ((ended ≡ why) ⊎ IsTrouble names f.can_refuse f.reads_can_fail ended)
-  Runs names (Ok task) old new out out' ended = KeepsFile task.work task.file (f.holds old) (f.holds new) ended
+  Runs names (Ok task) old new out out' ended =
+      KeepsFile ReadsAgree task.work task.file (f.holds old) (f.holds new) ended
       × (((out' ≡ out) × IsTrouble names f.can_refuse f.reads_can_fail ended)
       ⊎ DoesFor task.work task.file task.read old new out out' ended)
 
@@ -148,24 +152,22 @@ is_left_alone apart (Some name) n = apart n (temporary_of name) && apart n name
 
 -- ---- what a crash leaves
 
--- A crash at any moment leaves under the name of the file that is made what it might have left before, or the whole
--- text; and under each name that is left alone what it might have left before.
-abbrev pub LeavesInMaking : (List ℕ → List ℕ → Bool) → (List ℕ → Entry → Type 0) → Work → List ℕ → List ℕ → Entry
-    → Type 0
-LeavesInMaking apart may_leave work name n c =
-    ((apart n (temporary_of name) && apart n name) ≡ true → may_leave n c)
-    × (n ≡ name → may_leave name c ⊎ IsFileOf (IsTextOf work) c)
+module _ (apart : List ℕ → List ℕ → Bool) (may_leave : List ℕ → Entry → Type 0) (ReadsAgree : Type 0) where
+  -- A crash at any moment leaves under the name of the file that is made what it might have left before, or the new
+  -- file, which has the whole text if the reads agree; and under each name that is left alone what it might have left
+  -- before.
+  abbrev pub LeavesInMaking : Work → List ℕ → List ℕ → Entry → Type 0
+  LeavesInMaking work name n c = ((apart n (temporary_of name) && apart n name) ≡ true → may_leave n c)
+      × (n ≡ name → may_leave name c ⊎ IsFileOf (λ text. ReadsAgree → IsTextOf work text) c)
 
--- without a file, only what it might have left before
-abbrev pub LeavesFor : (List ℕ → List ℕ → Bool) → (List ℕ → Entry → Type 0) → Work → Option (List ℕ) → List ℕ → Entry
-    → Type 0
-LeavesFor apart may_leave work None n c = may_leave n c
-LeavesFor apart may_leave work (Some name) n c = LeavesInMaking apart may_leave work name n c
+  -- without a file, only what it might have left before
+  abbrev pub LeavesFor : Work → Option (List ℕ) → List ℕ → Entry → Type 0
+  LeavesFor work None n c = may_leave n c
+  LeavesFor work (Some name) n c = LeavesInMaking work name n c
 
-abbrev pub RunLeaves : (List ℕ → List ℕ → Bool) → (List ℕ → Entry → Type 0) → Result Task Ending → List ℕ → Entry
-    → Type 0
-RunLeaves apart may_leave (Err why) n c = may_leave n c
-RunLeaves apart may_leave (Ok task) n c = LeavesFor apart may_leave task.work task.file n c
+  abbrev pub RunLeaves : Result Task Ending → List ℕ → Entry → Type 0
+  RunLeaves (Err why) n c = may_leave n c
+  RunLeaves (Ok task) n c = LeavesFor task.work task.file n c
 
 -- ---- which calls it makes
 

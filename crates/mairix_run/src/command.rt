@@ -27,6 +27,7 @@ pub fn run_command<F: Folder, T: Texts, O: Stream, E: Out>(
     folder: &mut F,
     alloc: Global,
     reports: &mut F::Reports,
+    reads: &mut F::Reports,
     names: &mut F::Names,
     texts: &T,
     args: io::Result<Args>,
@@ -42,7 +43,7 @@ pub fn run_command<F: Folder, T: Texts, O: Stream, E: Out>(
         (T.is_usage_text texts.now (map string_bytes (drop 1 (into_iter_items args))))
         T.memory_can_run_out
         (map string_bytes (drop 1 (into_iter_items args))) (second_shown shown)
-        (F.agree reports.new ≡ true) folder.old folder.new
+        (F.agree reports.new ≡ true) (F.agree reads.new ≡ true) folder.old folder.new
         (F.made names.old) (F.made names.new) out.old out.new err.old err.new result
         ⊎ ReportsUnread E.Out T.memory_can_run_out OutOfMemory result
         folder.old folder.new names.old names.new out.old out.new err.old err.new) }
@@ -51,12 +52,15 @@ pub fn run_command<F: Folder, T: Texts, O: Stream, E: Out>(
         folder.old folder.new names.old names.new out.old out.new err.old err.new) }
     ensures none { F.making folder.new ≡ None }
     ensures reports { AddsReports F.reports_are_right (F.agree reports.old) (F.agree reports.new) }
+    ensures reads { AddsReports F.reports_are_right (F.agree reads.old) (F.agree reads.new) }
 {
     match words_given(alloc, args) {
         Ok(words) => {
             let words = words.as_slice();
             let now = moment_of(shown);
-            run_program(folder, alloc, reports, names, texts, words, now, out, err)
+            run_program(
+                folder, alloc, reports, reads, names, texts, words, now, out, err,
+            )
         }
         Err(kind) => report_unread_words(alloc, texts, kind, err),
     }

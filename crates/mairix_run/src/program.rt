@@ -48,6 +48,9 @@ use std::alloc::Global;
 /// written instead, which for help and version goes to `out`. The first file that can't be opened, read or made ends
 /// the run, before the query is read.
 ///
+/// What was reported as the archives were read is added to `reads`, and all else that was reported to `reports`: what
+/// names lead to, the rcfile, the index, and the first look at each archive.
+///
 /// The status is 0 with messages or a new index, and 1 without a message. It is 2 if words, rcfile or query are
 /// refused, and 3 if the index is refused or isn't that of the archives. It is 4 if a file can't be opened, read, made
 /// or renamed, if the output failed, or if an archive is no mbox. It is 5 if memory runs out, or if there are too many
@@ -57,6 +60,7 @@ pub fn run_program<F: Folder, T: Texts, O: Stream, E: Out>(
     folder: &mut F,
     alloc: Global,
     reports: &mut F::Reports,
+    reads: &mut F::Reports,
     names: &mut F::Names,
     texts: &T,
     words: &[String],
@@ -67,17 +71,22 @@ pub fn run_program<F: Folder, T: Texts, O: Stream, E: Out>(
     requires making { F.making folder.old ≡ None }
     requires out { O.failures out.old < 2 ^ 64 - 2 }
     requires err { E.failures err.old < 2 ^ 64 - 1 }
-    // If all that was reported of the files agrees with what they hold: the run does what words, rcfile and files ask
-    // for, or ends by the first refusal, or in trouble with one of the names that it uses. Then it reports that ending,
-    // and returns its status.
-    ensures run { F.agree reports.new ≡ true → (ended : Ending) × (printed : O)
-        × Runs F.Folder O.Out O.handed_on
+    // It reports how it ended, and returns the status of that. If what was reported agrees with what the files hold, it
+    // did what words, rcfile and files ask for, or ended by the first refusal, or in trouble with one of the names that
+    // it uses; and calls that fit this ending have changed files, in this order, and no other. What is said of its text,
+    // or of the fault of its work, holds if all reads agree too.
+    ensures run { (ended : Ending) × (printed : O)
+        × ReportsEnding O.Out O.handed_on E.Out
+        (T.is_usage_text texts.now (map string_bytes words.now)) T.memory_can_run_out ended
+        result printed out.new err.old err.new
+        × (F.agree reports.new ≡ true
+        → Runs F.Folder O.Out O.handed_on (F.agree reads.new ≡ true)
         (names_used (F.holds folder.old) (plan_asked (map string_bytes words.now)))
         (task_of (F.holds folder.old) (map string_bytes words.now) now) folder.old folder.new
         out.old printed ended
-        × ReportsEnding O.Out O.handed_on E.Out
-        (T.is_usage_text texts.now (map string_bytes words.now)) T.memory_can_run_out ended
-        result printed out.new err.old err.new }
+        × CallsFor F.Folder (file_made
+        (task_of (F.holds folder.old) (map string_bytes words.now) now)) ended
+        folder.old folder.new) }
     // Each file that is read is as it was, and so is each other one, but for the one that is made.
     ensures read { F.agree reports.new ≡ true
         → All (λ n. F.holds folder.new n ≡ F.holds folder.old n) (names_kept
@@ -89,24 +98,18 @@ pub fn run_program<F: Folder, T: Texts, O: Stream, E: Out>(
     ensures any_moment { F.agree reports.new ≡ true
         → LeavesOnly F.moment F.left_since folder.old folder.new
         (RunLeaves (F.apart folder.old) (F.may_leave folder.old)
+        (F.agree reads.new ≡ true)
         (task_of (F.holds folder.old) (map string_bytes words.now) now)) }
-    // These calls change files, in this order, and no other. They fit the ending that is reported.
-    ensures calls { F.agree reports.new ≡ true → (ended : Ending) × (printed : O)
-        × CallsFor F.Folder (file_made
-        (task_of (F.holds folder.old) (map string_bytes words.now) now)) ended
-        folder.old folder.new
-        × ReportsEnding O.Out O.handed_on E.Out
-        (T.is_usage_text texts.now (map string_bytes words.now)) T.memory_can_run_out ended
-        result printed out.new err.old err.new }
     ensures none { F.making folder.new ≡ None }
     ensures reports { AddsReports F.reports_are_right (F.agree reports.old) (F.agree reports.new) }
+    ensures reads { AddsReports F.reports_are_right (F.agree reads.old) (F.agree reads.new) }
     // Whatever is reported: as long as all of it agrees, only names of the words and of the rcfile are made. No other name
     // is looked at, opened, made, renamed or removed.
     ensures named { AsksOnlyFor
         (names_of_words (F.holds folder.old) (plan_asked (map string_bytes words.now)))
         (F.made names.old) (F.made names.new) }
 {
-    let ended = run_words(folder, alloc, reports, names, words, now, out);
+    let ended = run_words(folder, alloc, reports, reads, names, words, now, out);
     report_ending(alloc, texts, words, ended, out, err)
 }
 
@@ -116,6 +119,7 @@ fn run_words<F: Folder, O: Stream>(
     folder: &mut F,
     alloc: Global,
     reports: &mut F::Reports,
+    reads: &mut F::Reports,
     names: &mut F::Names,
     words: &[String],
     now: Moment,
@@ -127,18 +131,20 @@ fn run_words<F: Folder, O: Stream>(
         (names_of_words (F.holds folder.old) (plan_asked (map string_bytes words.now)))
         (F.agree reports.old) (F.made names.old) (F.made names.new) }
     ensures ran { F.agree reports.new ≡ true → Ran F.Folder O.Out O.handed_on
+        (F.agree reads.new ≡ true)
         (names_used (F.holds folder.old) (plan_asked (map string_bytes words.now)))
         (task_of (F.holds folder.old) (map string_bytes words.now) now)
         folder.old folder.new out.old out.new (ending_of_result result) }
     ensures none { F.making folder.new ≡ None }
     ensures count { O.failures out.new ≤ O.failures out.old + 1 }
     ensures reports { AddsReports F.reports_are_right (F.agree reports.old) (F.agree reports.new) }
+    ensures reads { AddsReports F.reports_are_right (F.agree reads.old) (F.agree reads.new) }
 {
     let plan = match plan_of(alloc, words) {
         Ok(plan) => plan,
         Err(given) => return Err(given.into()),
     };
-    run_plan(folder, alloc, reports, names, words, &plan, now, out)
+    run_plan(folder, alloc, reports, reads, names, words, &plan, now, out)
 }
 
 /// Reads the rcfile, and does what it and the words ask for.
@@ -146,6 +152,7 @@ fn run_plan<F: Folder, O: Stream>(
     folder: &mut F,
     alloc: Global,
     reports: &mut F::Reports,
+    reads: &mut F::Reports,
     names: &mut F::Names,
     words: &[String],
     plan: &Plan,
@@ -158,12 +165,14 @@ fn run_plan<F: Folder, O: Stream>(
     ensures asked { AsksFor (names_of_plan (F.holds folder.old) plan.now) (F.agree reports.old)
         (F.made names.old) (F.made names.new) }
     ensures ran { F.agree reports.new ≡ true → Ran F.Folder O.Out O.handed_on
+        (F.agree reads.new ≡ true)
         (names_planned (F.holds folder.old) plan.now)
         (task_of_plan (F.holds folder.old) (map string_bytes words.now) now plan.now)
         folder.old folder.new out.old out.new (ending_of_result result) }
     ensures none { F.making folder.new ≡ None }
     ensures count { O.failures out.new ≤ O.failures out.old + 1 }
     ensures reports { AddsReports F.reports_are_right (F.agree reports.old) (F.agree reports.new) }
+    ensures reads { AddsReports F.reports_are_right (F.agree reads.old) (F.agree reads.new) }
 {
     let rcfile = folder.name(alloc, names, reports, plan.rcfile.as_str())?;
     let text = read_named(folder, alloc, reports, &rcfile, Reading::Whole);
@@ -185,7 +194,7 @@ fn run_plan<F: Folder, O: Stream>(
         rcfile: &rcfile,
         names: &files,
     };
-    run_asked(folder, alloc, reports, &asked, out)
+    run_asked(folder, alloc, reports, reads, &asked, out)
 }
 
 /// Indexes the archives, or searches them. Each archive has to be there.
@@ -193,6 +202,7 @@ fn run_asked<F: Folder, O: Stream>(
     folder: &mut F,
     alloc: Global,
     reports: &mut F::Reports,
+    reads: &mut F::Reports,
     asked: &Asked<'_, F>,
     out: &mut O,
 ) -> Result<u8, Stopped>
@@ -200,6 +210,7 @@ fn run_asked<F: Folder, O: Stream>(
     requires making { F.making folder.old ≡ None }
     requires out { O.failures out.old < 2 ^ 64 - 1 }
     ensures ran { F.agree reports.new ≡ true → Ran F.Folder O.Out O.handed_on
+        (F.agree reads.new ≡ true)
         (names_asked asked.entry.now.plan.now asked.entry.now.rc.now)
         (task_of_rc (F.holds folder.old)
         (asks asked.entry.now.words.now asked.entry.now.text.now asked.entry.now.now)
@@ -208,6 +219,7 @@ fn run_asked<F: Folder, O: Stream>(
     ensures none { F.making folder.new ≡ None }
     ensures count { O.failures out.new ≤ O.failures out.old + 1 }
     ensures reports { AddsReports F.reports_are_right (F.agree reports.old) (F.agree reports.new) }
+    ensures reads { AddsReports F.reports_are_right (F.agree reads.old) (F.agree reads.new) }
 {
     let Asked {
         plan,
@@ -234,13 +246,13 @@ fn run_asked<F: Folder, O: Stream>(
             archives,
             database: None,
         };
-        return replace_file(folder, alloc, reports, &index, &read, file);
+        return replace_file(folder, alloc, reports, reads, &index, &read, file);
     }
     let states = states.as_slice();
     if plan.once {
-        return run_search(folder, alloc, reports, asked, states, None, out);
+        return run_search(folder, alloc, reports, reads, asked, states, None, out);
     }
-    search_stored(folder, alloc, reports, asked, states, out)
+    search_stored(folder, alloc, reports, reads, asked, states, out)
 }
 
 /// Whether a run makes an index: it does without a pattern and without `--once`.
@@ -283,6 +295,7 @@ fn search_stored<F: Folder, O: Stream>(
     folder: &mut F,
     alloc: Global,
     reports: &mut F::Reports,
+    reads: &mut F::Reports,
     asked: &Asked<'_, F>,
     states: &[<F::File as KeptFile>::State],
     out: &mut O,
@@ -296,6 +309,7 @@ fn search_stored<F: Folder, O: Stream>(
     ensures ran { (bytes : List (List ℕ))
         → files_at (F.holds folder.old) asked.entry.now.rc.now.paths ≡ Ok bytes
         → F.agree reports.new ≡ true → Ran F.Folder O.Out O.handed_on
+        (F.agree reads.new ≡ true)
         (asked.entry.now.rc.now.database ∷ both_names
         (answer_file asked.entry.now.plan.now asked.entry.now.rc.now))
         (search_stored_task (F.holds folder.old)
@@ -305,6 +319,7 @@ fn search_stored<F: Folder, O: Stream>(
     ensures none { F.making folder.new ≡ None }
     ensures count { O.failures out.new ≤ O.failures out.old + 1 }
     ensures reports { AddsReports F.reports_are_right (F.agree reports.old) (F.agree reports.new) }
+    ensures reads { AddsReports F.reports_are_right (F.agree reads.old) (F.agree reads.new) }
 {
     let database = &asked.names.database;
     let index = read_named(folder, alloc, reports, database, Reading::Index);
@@ -313,5 +328,5 @@ fn search_stored<F: Folder, O: Stream>(
         Err(stopped) => return Err(stopped),
     };
     let index = Some(index.as_slice());
-    run_search(folder, alloc, reports, asked, states, index, out)
+    run_search(folder, alloc, reports, reads, asked, states, index, out)
 }

@@ -29,6 +29,7 @@ pub(crate) fn replace_file<F: Folder, C: Content<F>>(
     folder: &mut F,
     alloc: Global,
     reports: &mut F::Reports,
+    reads: &mut F::Reports,
     content: &C,
     read: &ReadNames<'_, F::Name>,
     names: &NewNames<F::Name>,
@@ -40,11 +41,13 @@ pub(crate) fn replace_file<F: Folder, C: Content<F>>(
     requires writable { C.is_writable content.now }
     ensures run { (bytes : List (List ℕ))
         → files_of F.Name.text (F.holds folder.old) read.now.archives.now ≡ map Some bytes
-        → F.agree reports.new ≡ true → ReplacesFile F.Folder (C.work content.now bytes)
+        → F.agree reports.new ≡ true → ReplacesFile F.Folder
+        (F.agree reads.new ≡ true) (C.work content.now bytes)
         (names_read F.Name.text read.now) (F.Name.text names.now.name) folder.old folder.new
         (ending_of_result result) }
     ensures none { F.making folder.new ≡ None }
     ensures reports { AddsReports F.reports_are_right (F.agree reports.old) (F.agree reports.new) }
+    ensures reads { AddsReports F.reports_are_right (F.agree reads.old) (F.agree reads.new) }
 {
     if let Err(stopped) = content.check_old(folder, alloc, reports, &names.name) {
         return Err(stopped);
@@ -53,6 +56,6 @@ pub(crate) fn replace_file<F: Folder, C: Content<F>>(
         Ok(new) => new,
         Err(stopped) => return Err(stopped),
     };
-    let written = content.write(folder, alloc, reports, &mut new);
+    let written = content.write(folder, alloc, reads, &mut new);
     status_or_stopped(settle_file(folder, alloc, new, names, written))
 }

@@ -43,6 +43,7 @@ pub(crate) fn run_search<F: Folder, O: Stream>(
     folder: &mut F,
     alloc: Global,
     reports: &mut F::Reports,
+    reads: &mut F::Reports,
     asked: &Asked<'_, F>,
     states: &[<F::File as KeptFile>::State],
     index: Option<&[u8]>,
@@ -57,6 +58,7 @@ pub(crate) fn run_search<F: Folder, O: Stream>(
     ensures ran { (bytes : List (List ℕ))
         → files_at (F.holds folder.old) asked.entry.now.rc.now.paths ≡ Ok bytes
         → F.agree reports.new ≡ true → Ran F.Folder O.Out O.handed_on
+        (F.agree reads.new ≡ true)
         (both_names (answer_file_of asked.entry.now.plan.now asked.entry.now.rc.now))
         (Ok (search_task asked.entry.now.plan.now asked.entry.now.rc.now (search_work
         (asks asked.entry.now.words.now asked.entry.now.text.now asked.entry.now.now)
@@ -65,6 +67,7 @@ pub(crate) fn run_search<F: Folder, O: Stream>(
     ensures none { F.making folder.new ≡ None }
     ensures count { O.failures out.new ≤ O.failures out.old + 1 }
     ensures reports { AddsReports F.reports_are_right (F.agree reports.old) (F.agree reports.new) }
+    ensures reads { AddsReports F.reports_are_right (F.agree reads.old) (F.agree reads.new) }
 {
     let Asked {
         words,
@@ -90,9 +93,9 @@ pub(crate) fn run_search<F: Folder, O: Stream>(
                 archives,
                 database: Some(&names.database),
             };
-            replace_file(folder, alloc, reports, &search, &read, file)
+            replace_file(folder, alloc, reports, reads, &search, &read, file)
         }
-        None => print_answer(folder, alloc, reports, &search, out),
+        None => print_answer(folder, alloc, reads, &search, out),
     }
 }
 

@@ -73,12 +73,14 @@ pub fn printed_over<F: Folder>(
     let mut words = Vec::new(alloc);
     push_words(alloc, &mut words, line)?;
     let mut reports = folder.no_reports();
+    let mut reads = folder.no_reports();
     let mut out = MemoryStream::new(alloc);
     let mut err = MemoryStream::new(alloc);
     let status = run_program(
         folder,
         alloc,
         &mut reports,
+        &mut reads,
         names,
         &ProgramTexts,
         &words,

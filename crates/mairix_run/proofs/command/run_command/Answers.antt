@@ -17,14 +17,14 @@ returns-in-Ok-clause-ran g c =
     let says = run.ensures in
     let Made = λ (words : List (String Global)) (second : ℕ). RunsProgram F g.O.Out g.O.Stream.handed_on g.E.Out
     (g.T.Texts.is_usage_text texts (map string_bytes words)) g.T.Texts.memory_can_run_out (map string_bytes words)
-    second (F.agree run.new.reports ≡ true) c.args.folder.now run.new.folder (F.made c.args.names.now)
+    second (F.agree run.new.reports ≡ true) (F.agree run.new.reads ≡ true) c.args.folder.now run.new.folder
+    (F.made c.args.names.now)
     (F.made run.new.names) c.args.out.now run.new.out c.args.err.now run.new.err run.result in
     let made : Made c.as_slice-words.result.now c.moment_of-now.result = record {
       run = says.run;
       read = says.read;
       alone = says.alone;
       any_moment = says.any_moment;
-      calls = says.calls;
       named = says.named;
     } in
     let of-items = subst (λ words. Made words c.moment_of-now.result) c.as_slice-words.ensures.value made in

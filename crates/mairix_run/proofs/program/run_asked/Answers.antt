@@ -1,5 +1,5 @@
 -- The archives are indexed, or searched by an index that is made in memory.
-use Rattle.std.proofs.Common.{◌≡◌, ◌∙◌, ◌⊎◌, ◌∷◌, [], sym, subst, ap, List, ℕ, map, Some, Ok, Err, All}
+use Rattle.std.proofs.Common.{◌≡◌, ◌∙◌, ◌⊎◌, ◌∷◌, [], sym, subst, ap, List, ℕ, map, Some, Ok, Err, true, All}
 use Rattle.std.specs.Option.{option_map}
 use Rattle.index_run.specs.ArchivesIndexed.{mboxes}
 use Rattle.mail_index.specs.Tables.{IsPath}
@@ -23,6 +23,7 @@ use Rattle.mairix_run.proofs.program.run_asked.Goals as goal
 pub returns-then-is_index_run-clause-ran : goal.returns-then-is_index_run-clause-ran
 returns-then-is_index_run-clause-ran g c = λ agree.
     let F = g.F.Folder in
+    let ReadsAgree = F.agree c.replace_file.new.reads ≡ true in
     let asked = c.args.asked.now in
     let p = asked.plan.now in
     let rc = asked.rc.now in
@@ -44,22 +45,24 @@ returns-then-is_index_run-clause-ran g c = λ agree.
     let is = sym c.is_index_run.ensures ∙ c.if-is_index_run.true in
     let some : Some rc.database ≡ Some name = file-indexed p rc is ∙ sym asked.file_named
     ∙ ap (option_map (λ new. text new.name)) c.in-Some.is in
-    let makes : ReplacesFile F (Index (mboxes rc.paths bytes)) (p.rcfile ∷ rc.paths) name old new ended =
-    subst (λ (read : List (List ℕ)). ReplacesFile F (Index (mboxes rc.paths bytes)) read name old new ended)
+    let makes : ReplacesFile F ReadsAgree (Index (mboxes rc.paths bytes)) (p.rcfile ∷ rc.paths) name old new ended =
+    subst (λ (read : List (List ℕ)). ReplacesFile F ReadsAgree (Index (mboxes rc.paths bytes)) read name old new ended)
     (λ i. asked.rcfile_named i ∷ archives-of i)
-    (subst (λ (paths : List (List ℕ)). ReplacesFile F (Index (mboxes paths bytes))
+    (subst (λ (paths : List (List ℕ)). ReplacesFile F ReadsAgree (Index (mboxes paths bytes))
     (text asked.rcfile.now ∷ map text archives) name old new ended) c.as_slice.ensures
     (c.replace_file.ensures.run bytes known agree)) in
-    subst (λ t. Ran F g.O.Out g.O.Stream.handed_on (names_asked p rc) t old new out out ended)
+    subst (λ t. Ran F g.O.Out g.O.Stream.handed_on ReadsAgree (names_asked p rc) t old new out out ended)
     (sym (task-index (F.holds old) (asks asked.words.now asked.text.now asked.now) p rc bytes files is))
-    (ran-wider F g.O.Out g.O.Stream.handed_on (both_names task.file) (names_asked p rc) (new-index-asked p rc is)
+    (ran-wider F g.O.Out g.O.Stream.handed_on ReadsAgree (both_names task.file) (names_asked p rc)
+    (new-index-asked p rc is)
     (Ok task) old new out out ended
-    (ran-made F g.O.Out g.O.Stream.handed_on task name some old new out
+    (ran-made F g.O.Out g.O.Stream.handed_on ReadsAgree task name some old new out
     ended makes))
 
 pub returns-then-plan-clause-ran : goal.returns-then-plan-clause-ran
 returns-then-plan-clause-ran g c = λ agree.
     let F = g.F.Folder in
+    let ReadsAgree = F.agree c.run_search.new.reads ≡ true in
     let asked = c.args.asked.now in
     let p = asked.plan.now in
     let rc = asked.rc.now in
@@ -71,10 +74,11 @@ returns-then-plan-clause-ran g c = λ agree.
     let files : files_at (F.holds old) rc.paths ≡ Ok found.0 =
     ap (files_at (F.holds old)) (sym archives-of) ∙ found.1 in
     let task = search_task p rc (SearchNew (asks asked.words.now asked.text.now asked.now) found.0) in
-    subst (λ t. Ran F g.O.Out g.O.Stream.handed_on (names_asked p rc) t old c.run_search.new.folder c.args.out.now
+    subst (λ t. Ran F g.O.Out g.O.Stream.handed_on ReadsAgree (names_asked p rc) t old c.run_search.new.folder
+    c.args.out.now
     c.run_search.new.out (ending_of_result c.run_search.result))
     (sym (task-once (F.holds old) (asks asked.words.now asked.text.now asked.now) p rc found.0 files c.if-plan.true))
-    (ran-wider F g.O.Out g.O.Stream.handed_on (both_names (answer_file p rc)) (names_asked p rc)
+    (ran-wider F g.O.Out g.O.Stream.handed_on ReadsAgree (both_names (answer_file p rc)) (names_asked p rc)
     (once-asked p rc c.if-plan.true) (Ok task) old c.run_search.new.folder c.args.out.now c.run_search.new.out
     (ending_of_result c.run_search.result) (c.run_search.ensures.ran found.0 files agree))
 
@@ -120,6 +124,7 @@ replace_file-requires-clause-writable g c =
 pub returns-in-Err-clause-ran : goal.returns-in-Err-clause-ran
 returns-in-Err-clause-ran g c = λ agree.
     let F = g.F.Folder in
+    let ReadsAgree = F.agree c.args.reads.now ≡ true in
     let asked = c.args.asked.now in
     let p = asked.plan.now in
     let rc = asked.rc.now in
@@ -132,9 +137,10 @@ returns-in-Err-clause-ran g c = λ agree.
     let task = task_of_rc (F.holds old) wanted p rc in
     let is = subst (λ (paths : List (List ℕ)). (files_at (F.holds old) paths ≡ Err ended)
     ⊎ IsTrouble paths F.can_refuse F.reads_can_fail ended) archives-of (c.in-Err.ensures.err agree) in
-    ran-wider F g.O.Out g.O.Stream.handed_on rc.paths (names_asked p rc) (archives-asked p rc) task old old
+    ran-wider F g.O.Out g.O.Stream.handed_on ReadsAgree rc.paths (names_asked p rc) (archives-asked p rc) task old old
     c.args.out.now c.args.out.now ended
-    (ran-ended F g.O.Out g.O.Stream.handed_on rc.paths task old c.args.out.now ended (g.met.F.Folder.only_now old)
+    (ran-ended F g.O.Out g.O.Stream.handed_on ReadsAgree rc.paths task old c.args.out.now ended
+    (g.met.F.Folder.only_now old)
     (archives-end rc.paths F.can_refuse F.reads_can_fail (files_at (F.holds old) rc.paths)
     (task_over (F.holds old) wanted p rc) ended is))
 
@@ -142,6 +148,7 @@ returns-in-Err-clause-ran g c = λ agree.
 pub returns-clause-ran : goal.returns-clause-ran
 returns-clause-ran g c = λ agree.
     let F = g.F.Folder in
+    let ReadsAgree = F.agree c.search_stored.new.reads ≡ true in
     let asked = c.args.asked.now in
     let p = asked.plan.now in
     let rc = asked.rc.now in
@@ -156,8 +163,10 @@ returns-clause-ran g c = λ agree.
     ap (files_at (F.holds old)) (sym archives-of) ∙ found.1 in
     let new-index = sym c.is_index_run.ensures ∙ c.if-is_index_run.false in
     let task = search_stored_task (F.holds old) wanted p rc found.0 in
-    subst (λ t. Ran F g.O.Out g.O.Stream.handed_on (names_asked p rc) t old run.new.folder c.args.out.now run.new.out
+    subst (λ t. Ran F g.O.Out g.O.Stream.handed_on ReadsAgree (names_asked p rc) t old run.new.folder c.args.out.now
+    run.new.out
     (ending_of_result run.result)) (sym (task-stored (F.holds old) wanted p rc found.0 files new-index c.if-plan.false))
-    (ran-wider F g.O.Out g.O.Stream.handed_on (rc.database ∷ both_names (answer_file p rc)) (names_asked p rc)
+    (ran-wider F g.O.Out g.O.Stream.handed_on ReadsAgree (rc.database ∷ both_names (answer_file p rc))
+    (names_asked p rc)
     (stored-asked p rc new-index c.if-plan.false) task old run.new.folder c.args.out.now run.new.out
     (ending_of_result run.result) (run.ensures.ran found.0 files agree))

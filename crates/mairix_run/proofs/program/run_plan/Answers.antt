@@ -96,7 +96,8 @@ returns-in_err-rcfile-clause-ran g c = λ agree.
     let task = task_of_plan (F.holds old) words c.args.now p in
     let ended = ending_of_result c.from_residual.result in
     let trouble : IsTrouble names F.can_refuse F.reads_can_fail ended = search rules in
-    ran-ended F g.O.Out g.O.Stream.handed_on names task old c.args.out.now ended (g.met.F.Folder.only_now old)
+    ran-ended F g.O.Out g.O.Stream.handed_on (F.agree c.args.reads.now ≡ true) names task old c.args.out.now ended
+    (g.met.F.Folder.only_now old)
     (ends-trouble names F.can_refuse F.reads_can_fail task ended trouble)
 
 pub returns-in_err-files-clause-ran : goal.returns-in_err-files-clause-ran
@@ -109,7 +110,8 @@ returns-in_err-files-clause-ran g c = λ agree.
     let task = task_of_plan (F.holds old) words c.args.now p in
     let ended = ending_of_result c.from_residual-in_err-files.result in
     let trouble : IsTrouble names F.can_refuse F.reads_can_fail ended = search rules in
-    ran-ended F g.O.Out g.O.Stream.handed_on names task old c.args.out.now ended (g.met.F.Folder.only_now old)
+    ran-ended F g.O.Out g.O.Stream.handed_on (F.agree c.args.reads.now ≡ true) names task old c.args.out.now ended
+    (g.met.F.Folder.only_now old)
     (ends-trouble names F.can_refuse F.reads_can_fail task ended trouble)
 
 pub returns-in-Err-clause-ran : goal.returns-in-Err-clause-ran
@@ -126,7 +128,8 @@ returns-in-Err-clause-ran g c = λ agree.
     >>= task_of_rc (F.holds old) (wanted_of_words words text c.args.now) p in
     let among : Contains names p.rcfile = contains-first p.rcfile
     (option_map_or (λ text. names_of_rc p (rc_of text)) (bytes_of (F.holds old p.rcfile)) []) in
-    ran-ended F g.O.Out g.O.Stream.handed_on names (task_of_plan (F.holds old) words c.args.now p) old c.args.out.now
+    ran-ended F g.O.Out g.O.Stream.handed_on (F.agree c.args.reads.now ≡ true) names (task_of_plan
+    (F.holds old) words c.args.now p) old c.args.out.now
     ended
     (g.met.F.Folder.only_now old)
     (subst (λ n. Ends names F.can_refuse F.reads_can_fail
@@ -158,7 +161,8 @@ returns-in-Err-read_rc-clause-ran g c = λ agree.
     refusal-ends names F.can_refuse F.reads_can_fail Rc (rc_of text)
     (task_of_rc (F.holds old) (wanted_of_words words text c.args.now) p) c.in-Err-read_rc.given c.into.result
     c.in-Err-read_rc.ensures.given c.into.ensures in
-    ran-ended F g.O.Out g.O.Stream.handed_on names (task_of_plan (F.holds old) words c.args.now p) old c.args.out.now
+    ran-ended F g.O.Out g.O.Stream.handed_on (F.agree c.args.reads.now ≡ true) names (task_of_plan
+    (F.holds old) words c.args.now p) old c.args.out.now
     ended
     (g.met.F.Folder.only_now old)
     (subst (λ n. Ends names F.can_refuse F.reads_can_fail
@@ -173,6 +177,7 @@ returns-clause-ran g c = λ agree.
     let F = g.F.Folder in
     let O = g.O.Out in
     let handed_on = g.O.Stream.handed_on in
+    let ReadsAgree = F.agree c.run_asked.new.reads ≡ true in
     let old = c.args.folder.now in
     let new = c.run_asked.new.folder in
     let out = c.args.out.now in
@@ -194,13 +199,14 @@ returns-clause-ran g c = λ agree.
     subst (λ n. F.holds old n ≡ File bytes) named read in
     let said : rc_of bytes ≡ Ok rc = subst (λ t. rc_of t ≡ Ok rc) c.as_slice.ensures.value
     c.in-Ok-read_rc.ensures.given in
-    let ran = subst (λ t. Ran F O handed_on (names_asked p rc)
+    let ran = subst (λ t. Ran F O handed_on ReadsAgree (names_asked p rc)
     (task_of_rc (F.holds old) (wanted_of_words words t c.args.now)
     p rc) old new out out' ended) c.as_slice-2.ensures.value (c.run_asked.ensures.ran agree) in
     let task = task_of_rc (F.holds old) (wanted_of_words words bytes c.args.now) p in
-    let more = ran-wider F O handed_on (names_asked p rc) names
+    let more = ran-wider F O handed_on ReadsAgree (names_asked p rc) names
     (asked-planned p rc (F.holds old) bytes (ap bytes_of here) said) (task rc) old new out out' ended ran in
-    subst (λ e. Ran F O handed_on names (option_map_or Ok (bytes_of e) (Err (CannotOpen p.rcfile))
+    subst (λ e. Ran F O handed_on ReadsAgree names (option_map_or Ok (bytes_of e) (Err (CannotOpen p.rcfile))
     >>= λ text. fault_as because_rc (rc_of text) >>= task_of_rc (F.holds old) (wanted_of_words words text c.args.now) p)
     old new out out' ended) (sym here)
-    (subst (λ r. Ran F O handed_on names (fault_as because_rc r >>= task) old new out out' ended) (sym said) more)
+    (subst (λ r. Ran F O handed_on ReadsAgree names (fault_as because_rc r >>= task) old new out out' ended)
+    (sym said) more)

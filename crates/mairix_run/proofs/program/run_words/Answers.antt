@@ -1,5 +1,5 @@
 -- The words are refused.
-use Rattle.std.proofs.Common.{map, string_bytes}
+use Rattle.std.proofs.Common.{◌≡◌, true, map, string_bytes}
 use Rattle.mairix_options.specs.CommandLine.{plan}
 use Rattle.mairix_run.proofs.RunParts.{ran-ended}
 use Rattle.mairix_run.proofs.RunStages.{refusal-ends}
@@ -15,7 +15,8 @@ returns-in-Err-clause-ran g c = λ agree.
     let old = c.args.folder.now in
     let words = map string_bytes c.args.words.now in
     let names = names_used (F.holds old) (plan words) in
-    ran-ended F g.O.Out g.O.Stream.handed_on names (task_of (F.holds old) words c.args.now) old c.args.out.now
+    ran-ended F g.O.Out g.O.Stream.handed_on (F.agree c.args.reads.now ≡ true) names (task_of
+    (F.holds old) words c.args.now) old c.args.out.now
     (ending_of_stopped c.into.result) (g.met.F.Folder.only_now old)
     (refusal-ends names F.can_refuse F.reads_can_fail Usage (plan words) (task_of_plan (F.holds old) words c.args.now)
     c.in-Err.given c.into.result c.in-Err.ensures c.into.ensures)

@@ -26,6 +26,7 @@ returns-clause-ran g c = λ bytes files agree.
     let p = asked.plan.now in
     let rc = asked.rc.now in
     let old = c.args.folder.now in
+    let ReadsAgree = F.agree c.run_search.new.reads ≡ true in
     let wanted = asks asked.words.now asked.text.now asked.now in
     let path = g.F.Name.FileName.text asked.names.now.database in
     let given = given-ok c.as_str.result.now c.read_named-index.result c.in-Ok.index c.in-Ok.ensures.given in
@@ -38,20 +39,23 @@ returns-clause-ran g c = λ bytes files agree.
     subst (λ b. IsIndexRead all b) (sym c.as_slice.ensures.value) read.1 in
     let ended = ending_of_result c.run_search.result in
     let names = both_names (answer_file p rc) in
-    let ran : Ran F g.O.Out g.O.Stream.handed_on names (Ok (search_task p rc (SearchStored wanted all bytes))) old
+    let ran : Ran F g.O.Out g.O.Stream.handed_on ReadsAgree names
+    (Ok (search_task p rc (SearchStored wanted all bytes))) old
     c.run_search.new.folder c.args.out.now c.run_search.new.out ended =
     ran-alike wanted c.as_slice.result.now all bytes (alike-read wanted all c.as_slice.result.now bytes is)
-    F g.O.Out g.O.Stream.handed_on names p rc old c.run_search.new.folder c.args.out.now c.run_search.new.out ended
+    F g.O.Out g.O.Stream.handed_on ReadsAgree names p rc old c.run_search.new.folder c.args.out.now
+    c.run_search.new.out ended
     (c.run_search.ensures.ran bytes files agree) in
     let more = rc.database ∷ names in
-    subst (λ n. Ran F g.O.Out g.O.Stream.handed_on more
+    subst (λ n. Ran F g.O.Out g.O.Stream.handed_on ReadsAgree more
     (option_map_or Ok (bytes_of (F.holds old n)) (Err (CannotOpen n)) >>=
     λ index. Ok (search_task p rc (SearchStored wanted index bytes))) old
     c.run_search.new.folder c.args.out.now c.run_search.new.out ended) asked.database_named
-    (subst (λ e. Ran F g.O.Out g.O.Stream.handed_on more (option_map_or Ok (bytes_of e) (Err (CannotOpen path)) >>=
+    (subst (λ e. Ran F g.O.Out g.O.Stream.handed_on ReadsAgree more
+    (option_map_or Ok (bytes_of e) (Err (CannotOpen path)) >>=
     λ index. Ok (search_task p rc (SearchStored wanted index bytes))) old
     c.run_search.new.folder c.args.out.now c.run_search.new.out ended) (sym read.2)
-    (ran-wider F g.O.Out g.O.Stream.handed_on names more (λ n. contains-more rc.database n names)
+    (ran-wider F g.O.Out g.O.Stream.handed_on ReadsAgree names more (λ n. contains-more rc.database n names)
     (Ok (search_task p rc (SearchStored wanted all bytes))) old c.run_search.new.folder c.args.out.now
     c.run_search.new.out ended ran))
 
@@ -69,7 +73,8 @@ returns-in-Err-clause-ran g c = λ bytes files agree.
     let names = rc.database ∷ made in
     let ended = ending_of_stopped c.in-Err.stopped in
     let next : List ℕ → Result Task Ending = λ index. Ok (search_task p rc (SearchStored wanted index bytes)) in
-    ran-ended F g.O.Out g.O.Stream.handed_on names (search_stored_task (F.holds old) wanted p rc bytes) old
+    ran-ended F g.O.Out g.O.Stream.handed_on (F.agree c.args.reads.now ≡ true) names
+    (search_stored_task (F.holds old) wanted p rc bytes) old
     c.args.out.now ended (g.met.F.Folder.only_now old)
     (subst (λ n. Ends names F.can_refuse F.reads_can_fail
     (option_map_or Ok (bytes_of (F.holds old n)) (Err (CannotOpen n)) >>= next) ended) asked.database_named

@@ -1,5 +1,5 @@
 -- An index or an answer is put into a file: the file isn't made, or it is made, filled and settled.
-use Rattle.std.proofs.Common.{◌≡◌, ◌∙◌, ◌⊎◌, ◌+◌, inr, sym, subst, [], ◌∷◌, map, Some}
+use Rattle.std.proofs.Common.{◌≡◌, ◌∙◌, ◌⊎◌, ◌+◌, inr, sym, subst, true, [], ◌∷◌, map, Some}
 use Rattle.std.specs.Option.{option_map_or}
 use Rattle.named_archives.specs.Names.{files_of}
 use Rattle.named_archives.specs.Progress.{CannotRead}
@@ -22,10 +22,12 @@ returns-in-Err-clause-run g c = λ bytes files agree.
     let name = g.F.Name.FileName.text c.args.names.now.name in
     let read = names_read g.F.Name.FileName.text c.args.read.now in
     let work = g.C.Content.work c.args.content.now bytes in
-    same-replaced F old read name work (g.met.F.Folder.only_now old) (ending_of_stopped c.in-Err.stopped)
+    same-replaced F old read name (g.F.Folder.agree c.args.reads.now ≡ true) work (g.met.F.Folder.only_now old)
+    (ending_of_stopped c.in-Err.stopped)
     (kept-found (F.holds old) (F.apart old) (F.is_leftover old) work read name
-    (name ∷ temporary_of name ∷ []) F.can_refuse F.reads_can_fail (Puts (F.can_refuse ⊎ F.writes_can_fail)
-    (CannotRead F.can_refuse F.reads_can_fail) work (F.holds old name)) (contains-first name (temporary_of name ∷ []))
+    (name ∷ temporary_of name ∷ []) F.can_refuse F.reads_can_fail (λ e. F.agree c.args.reads.now ≡ true
+    → Puts (F.can_refuse ⊎ F.writes_can_fail) (CannotRead F.can_refuse F.reads_can_fail) work (F.holds old name) e)
+    (contains-first name (temporary_of name ∷ []))
     c.in-Err.stopped (c.in-Err.ensures.stopped bytes agree))
 
 pub returns-in-Err-create_file-clause-run : goal.returns-in-Err-create_file-clause-run
@@ -33,8 +35,9 @@ returns-in-Err-create_file-clause-run g c = λ bytes files agree.
     let old = c.args.folder.now in
     let failed = c.in-Err-create_file.ensures in
     none-made g.F.Folder old (names_read g.F.Name.FileName.text c.args.read.now)
-    (g.F.Name.FileName.text c.args.names.now.name) (g.C.Content.work c.args.content.now bytes)
-    (g.met.F.Folder.only_now old) c.create_file.new.folder c.in-Err-create_file.stopped
+    (g.F.Name.FileName.text c.args.names.now.name) (g.F.Folder.agree c.args.reads.now ≡ true)
+    (g.C.Content.work c.args.content.now bytes) (g.met.F.Folder.only_now old) c.create_file.new.folder
+    c.in-Err-create_file.stopped
     (g.F.Name.FileName.text c.args.names.now.temporary) (sym c.requires.temporary)
     (c.in_default.ensures.replaceable bytes (failed.reports.earlier agree))
     (record { none = failed.refused agree; others = failed.others; calls = failed.calls })
@@ -55,8 +58,8 @@ returns-clause-run g c = λ bytes files agree.
     let filled = c.write-written.new.out in
     let result = c.write-written.result in
     let mid = c.create_file.new.folder in
-    let made = c.write-written.ensures.reports.earlier agree in
-    let serves = c.in-Ok.ensures.serves made in
+    let ReadsAgree = F.agree c.write-written.new.reports ≡ true in
+    let serves = c.in-Ok.ensures.serves agree in
     let still : files_of text (F.holds mid) archives ≡ map Some bytes =
     files-same text (F.holds old) (F.holds mid) archives
     (all-after (λ n. F.holds mid n ≡ F.holds old n)
@@ -66,14 +69,16 @@ returns-clause-run g c = λ bytes files agree.
     let OutFails = F.can_refuse ⊎ F.writes_can_fail in
     let ReadFails = CannotRead F.can_refuse F.reads_can_fail in
     let failures = N.failures c.in-Ok.new in
-    let written : IsWritten OutFails ReadFails work (Some []) (N.taken filled) result =
+    let written : ReadsAgree → IsWritten OutFails ReadFails work (Some []) (N.taken filled) result = λ reads.
     subst (λ t. IsWritten OutFails ReadFails work t (N.taken filled) result) c.in-Ok.ensures.empty.0
     (written-weaker (N.failures filled ≡ failures + 1) OutFails ReadFails work (N.taken c.in-Ok.new) (N.taken filled)
     result (λ is. inr (g.met.F.Folder.writes_fail filled (once-failed failures (N.failures filled) is)))
     (c.write-written.ensures.written bytes
-    (subst (λ names. files_of text (F.holds mid) names ≡ map Some bytes) (sym c.requires.names) still) agree)) in
-    subst (λ ended. ReplacesFile F work read name old c.settle_file.new.folder ended) (sym c.status_or_stopped.ensures)
-    (made-settled F old read name work (g.met.F.Folder.only_now old) mid c.settle_file.new.folder (N.taken filled)
+    (subst (λ names. files_of text (F.holds mid) names ≡ map Some bytes) (sym c.requires.names) still) reads)) in
+    subst (λ ended. ReplacesFile F ReadsAgree work read name old c.settle_file.new.folder ended)
+    (sym c.status_or_stopped.ensures)
+    (made-settled F old read name ReadsAgree work (g.met.F.Folder.only_now old) mid c.settle_file.new.folder
+    (N.taken filled)
     result
     c.settle_file.result temporary (sym c.requires.temporary) (record {
       serves = serves;
@@ -86,4 +91,4 @@ returns-clause-run g c = λ bytes files agree.
       names = c.settle_file.ensures.others;
       settling = c.settle_file.ensures.any_moment;
       calls = c.settle_file.ensures.calls;
-    }) (c.in_default.ensures.replaceable bytes (c.in-Ok.ensures.reports.earlier made)) written)
+    }) (c.in_default.ensures.replaceable bytes (c.in-Ok.ensures.reports.earlier agree)) written)

@@ -1,5 +1,5 @@
 -- The answer goes to a file, or to standard output.
-use Rattle.std.proofs.Common.{◌≡◌, ◌∙◌, ◌∷◌, sym, subst, ap, List, ℕ, map, Some}
+use Rattle.std.proofs.Common.{◌≡◌, ◌∙◌, ◌∷◌, sym, subst, ap, List, ℕ, map, true, Some}
 use Rattle.std.specs.Option.{option_map}
 use Rattle.mairix_options.specs.AnswerFiles.{answer_file}
 use Rattle.named_archives.specs.Names.{files_of}
@@ -37,8 +37,9 @@ returns-in-Some-clause-ran g c = λ bytes files agree.
     λ i. asked.rcfile_named i ∷ asked.database_named i ∷ archives-of i in
     let known : files_of text (F.holds old) archives ≡ map Some bytes =
     files-known text (F.holds old) archives bytes (ap (files_at (F.holds old)) archives-of ∙ files) in
-    ran-made F g.O.Out g.O.Stream.handed_on (search_task p rc work) name some old new c.args.out.now ended
-    (subst (λ (r : List (List ℕ)). ReplacesFile F work r name old new ended) same
+    let ReadsAgree = F.agree c.replace_file.new.reads ≡ true in
+    ran-made F g.O.Out g.O.Stream.handed_on ReadsAgree (search_task p rc work) name some old new c.args.out.now ended
+    (subst (λ (r : List (List ℕ)). ReplacesFile F ReadsAgree work r name old new ended) same
     (c.replace_file.ensures.run bytes known agree))
 
 pub returns-in-None-clause-ran : goal.returns-in-None-clause-ran
@@ -55,8 +56,9 @@ returns-in-None-clause-ran g c = λ bytes files agree.
     ap (map text) c.as_slice-archives.ensures.value ∙ asked.archives_named in
     let known : files_of text (F.holds old) archives ≡ map Some bytes =
     files-known text (F.holds old) archives bytes (ap (files_at (F.holds old)) archives-of ∙ files) in
-    ran-printed F g.O.Out g.O.Stream.handed_on (search_task asked.plan.now asked.rc.now work)
+    ran-printed F g.O.Out g.O.Stream.handed_on (F.agree c.print_answer.new.reports ≡ true)
+    (search_task asked.plan.now asked.rc.now work)
     (file-searched asked.plan.now asked.rc.now c.requires.searches ∙ sym asked.file_named
     ∙ ap (option_map (λ new. text new.name)) c.in-None.is) old c.args.out.now c.print_answer.new.out
     (ending_of_result c.print_answer.result)
-    (g.met.F.Folder.only_now old) (c.print_answer.ensures.run bytes known agree)
+    (g.met.F.Folder.only_now old) (c.print_answer.ensures.run bytes known)
