@@ -4,7 +4,9 @@
 ghost use Rattle.std.specs.Prelude.{◌≡◌, [], Some};
 
 use mairix_files::{KitFolder, Retried, SupposedNames};
-use mairix_run::{ProgramTexts, StdWriter, Stream, WriterStream, run_command};
+use mairix_run::{
+    Given, ProgramTexts, RunFiles, StdWriter, Stream, Streams, WriterStream, run_command,
+};
 use mbox_cutter::Out;
 use named_files::{Folder, MadeNames};
 use std::env;
@@ -23,22 +25,23 @@ fn stream_over<W: Write + Drop>(writer: W) -> WriterStream<StdWriter<Retried<W>>
 }
 
 fn main(rt: HostRuntime) -> ExitCode {
-    let mut folder = KitFolder::new(&rt, SupposedNames::new());
-    let mut reports = folder.no_reports();
-    let mut reads = folder.no_reports();
+    let folder = KitFolder::new(&rt, SupposedNames::new());
+    let mut files = RunFiles {
+        reports: folder.no_reports(),
+        reads: folder.no_reports(),
+        alloc: rt.alloc(),
+        folder,
+    };
     let mut names = MadeNames::new();
-    let status = run_command(
-        &mut folder,
-        rt.alloc(),
-        &mut reports,
-        &mut reads,
-        &mut names,
-        &ProgramTexts,
-        env::args(&rt),
-        SystemTime::now(&rt),
-        &mut stream_over(rt.stdout()),
-        &mut stream_over(rt.stderr()),
-    );
+    let given = Given {
+        args: env::args(&rt),
+        shown: SystemTime::now(&rt),
+    };
+    let mut streams = Streams {
+        out: stream_over(rt.stdout()),
+        err: stream_over(rt.stderr()),
+    };
+    let status = run_command(&mut files, &mut names, &ProgramTexts, given, &mut streams);
     names.close();
     ExitCode::from(status)
 }

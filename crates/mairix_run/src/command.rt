@@ -10,8 +10,11 @@ ghost use Rattle.named_files.specs.Reported.{AddsReports};
 use crate::clock::moment_of;
 use crate::ending_report::report_unread_words;
 use crate::program::run_program;
+use crate::run_files::RunFiles;
 use crate::stream::Stream;
+use crate::streams::Streams;
 use crate::texts::Texts;
+use mail_dates::Moment;
 use mbox_cutter::Out;
 use named_files::Folder;
 use std::alloc::Global;
@@ -19,50 +22,69 @@ use std::env::Args;
 use std::io::{self, ErrorKind};
 use std::time::SystemTime;
 
+/// The words after the program's name, and when they are run.
+#[derive(Drop)]
+pub struct Command<'a> {
+    /// The words.
+    pub words: &'a [String],
+    /// The moment from which ages, and days without a year, are counted.
+    pub moment: Moment,
+}
+
+/// What the system gives a program at its start.
+#[derive(Drop)]
+pub struct Given {
+    /// The command line, with the program's name.
+    pub args: io::Result<Args>,
+    /// The clock's answer.
+    pub shown: io::Result<SystemTime>,
+}
+
 /// Runs a command line at the second of a clock, and returns the exit status. Its first word is the program's
 /// name.
 ///
 /// If the words can't be had, because one of them isn't UTF-8 or memory ran out, that is reported, and no file is used.
 pub fn run_command<F: Folder, T: Texts, O: Stream, E: Out>(
-    folder: &mut F,
-    alloc: Global,
-    reports: &mut F::Reports,
-    reads: &mut F::Reports,
+    files: &mut RunFiles<F>,
     names: &mut F::Names,
     texts: &T,
-    args: io::Result<Args>,
-    shown: io::Result<SystemTime>,
-    out: &mut O,
-    err: &mut E,
+    given: Given,
+    streams: &mut Streams<O, E>,
 ) -> u8
-    requires making { F.making folder.old ≡ None }
-    requires out { O.failures out.old < 2 ^ 64 - 2 }
-    requires err { E.failures err.old < 2 ^ 64 - 1 }
+    requires making { F.making files.old.folder ≡ None }
+    requires out { O.failures streams.old.out < 2 ^ 64 - 2 }
+    requires err { E.failures streams.old.err < 2 ^ 64 - 1 }
     // It is a run of the words after the name at this second, with all that `run_program` says; unless memory runs out.
-    ensures ran { IfOk args (λ args. RunsProgram F.Folder O.Out O.handed_on E.Out
+    ensures ran { IfOk given.args (λ args. RunsProgram F.Folder O.Out O.handed_on E.Out
         (T.is_usage_text texts.now (map string_bytes (drop 1 (into_iter_items args))))
         T.memory_can_run_out
-        (map string_bytes (drop 1 (into_iter_items args))) (second_shown shown)
-        (F.agree reports.new ≡ true) (F.agree reads.new ≡ true) folder.old folder.new
-        (F.made names.old) (F.made names.new) out.old out.new err.old err.new result
+        (map string_bytes (drop 1 (into_iter_items args))) (second_shown given.shown)
+        (F.agree files.new.reports ≡ true) (F.agree files.new.reads ≡ true) files.old.folder
+        files.new.folder
+        (F.made names.old) (F.made names.new) streams.old.out streams.new.out streams.old.err
+        streams.new.err result
         ⊎ ReportsUnread E.Out T.memory_can_run_out OutOfMemory result
-        folder.old folder.new names.old names.new out.old out.new err.old err.new) }
-    ensures unread { IfErr args (λ error. ReportsUnread E.Out T.memory_can_run_out
+        files.old.folder files.new.folder names.old names.new streams.old.out streams.new.out
+        streams.old.err streams.new.err) }
+    ensures unread { IfErr given.args (λ error. ReportsUnread E.Out T.memory_can_run_out
         (error_kind error) result
-        folder.old folder.new names.old names.new out.old out.new err.old err.new) }
-    ensures none { F.making folder.new ≡ None }
-    ensures reports { AddsReports F.reports_are_right (F.agree reports.old) (F.agree reports.new) }
-    ensures reads { AddsReports F.reports_are_right (F.agree reads.old) (F.agree reads.new) }
+        files.old.folder files.new.folder names.old names.new streams.old.out streams.new.out
+        streams.old.err streams.new.err) }
+    ensures none { F.making files.new.folder ≡ None }
+    ensures reports { AddsReports F.reports_are_right (F.agree files.old.reports)
+        (F.agree files.new.reports) }
+    ensures reads { AddsReports F.reports_are_right (F.agree files.old.reads)
+        (F.agree files.new.reads) }
 {
-    match words_given(alloc, args) {
+    match words_given(files.alloc, given.args) {
         Ok(words) => {
-            let words = words.as_slice();
-            let now = moment_of(shown);
-            run_program(
-                folder, alloc, reports, reads, names, texts, words, now, out, err,
-            )
+            let command = Command {
+                words: words.as_slice(),
+                moment: moment_of(given.shown),
+            };
+            run_program(files, names, texts, &command, streams)
         }
-        Err(kind) => report_unread_words(alloc, texts, kind, err),
+        Err(kind) => report_unread_words(files.alloc, texts, kind, &mut streams.err),
     }
 }
 

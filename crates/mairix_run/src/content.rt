@@ -13,7 +13,6 @@ use crate::stopped::Stopped;
 use mbox_cutter::Out;
 use named_files::Folder;
 use run_faults::Fault;
-use std::alloc::Global;
 
 /// What a run writes, to a file or to standard output.
 pub(crate) trait Content<F: Folder> {
@@ -31,13 +30,7 @@ pub(crate) trait Content<F: Folder> {
     /// # Errors
     ///
     /// `CannotOpen` if it may not, or if the system doesn't show that; or lack of memory.
-    fn check_old(
-        &self,
-        folder: &F,
-        alloc: Global,
-        reports: &mut F::Reports,
-        name: &F::Name,
-    ) -> Result<(), Stopped>
+    fn check_old(&self, folder: &F, reports: &mut F::Reports, name: &F::Name) -> Result<(), Stopped>
         ensures replaceable { OnOk result ((bytes : List (List ℕ)) → F.agree reports.new ≡ true
             → is_kept (work self.now bytes) (F.holds folder.now (F.Name.text name.now)) ≡ false) }
         ensures stopped { IfErr result (λ stopped. (bytes : List (List ℕ))
@@ -52,13 +45,7 @@ pub(crate) trait Content<F: Folder> {
     /// # Errors
     ///
     /// A refusal of the work, a failed read or output, or lack of memory.
-    fn write<O: Out>(
-        &self,
-        folder: &F,
-        alloc: Global,
-        reports: &mut F::Reports,
-        out: &mut O,
-    ) -> Result<u8, Fault>
+    fn write<O: Out>(&self, folder: &F, reports: &mut F::Reports, out: &mut O) -> Result<u8, Fault>
         requires writable { is_writable self.now }
         requires out { O.failures out.old < 2 ^ 64 - 1 }
         ensures written { (bytes : List (List ℕ))

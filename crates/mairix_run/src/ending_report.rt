@@ -7,6 +7,7 @@ ghost use Rattle.run_faults.specs.declared.fault.Fault.TheVariants.{Usage};
 
 use crate::stopped::Stopped;
 use crate::stream::Stream;
+use crate::streams::Streams;
 use crate::texts::Texts;
 use mairix_options::UsageFault;
 use mbox_cutter::{DeviceFault, Out, send};
@@ -26,19 +27,18 @@ pub fn report_ending<T: Texts, O: Stream, E: Out>(
     texts: &T,
     words: &[String],
     ended: Result<u8, Stopped>,
-    out: &mut O,
-    err: &mut E,
+    streams: &mut Streams<O, E>,
 ) -> u8
-    requires out { O.failures out.old < 2 ^ 64 - 1 }
-    requires err { E.failures err.old < 2 ^ 64 - 1 }
+    requires out { O.failures streams.old.out < 2 ^ 64 - 1 }
+    requires err { E.failures streams.old.err < 2 ^ 64 - 1 }
     ensures reported { ReportsEnding O.Out O.handed_on E.Out
         (T.is_usage_text texts.now (map string_bytes words.now)) T.memory_can_run_out
         (ending_of_result ended)
-        result out.old out.new err.old err.new }
+        result streams.old.out streams.new.out streams.old.err streams.new.err }
 {
     match ended {
         Ok(status) => status,
-        Err(stopped) => report_stopped(alloc, texts, words, stopped, out, err),
+        Err(stopped) => report_stopped(alloc, texts, words, stopped, streams),
     }
 }
 
@@ -49,20 +49,19 @@ pub fn report_stopped<T: Texts, O: Stream, E: Out>(
     texts: &T,
     words: &[String],
     stopped: Stopped,
-    out: &mut O,
-    err: &mut E,
+    streams: &mut Streams<O, E>,
 ) -> u8
-    requires out { O.failures out.old < 2 ^ 64 - 1 }
-    requires err { E.failures err.old < 2 ^ 64 - 1 }
+    requires out { O.failures streams.old.out < 2 ^ 64 - 1 }
+    requires err { E.failures streams.old.err < 2 ^ 64 - 1 }
     ensures reported { ReportsEnding O.Out O.handed_on E.Out
         (T.is_usage_text texts.now (map string_bytes words.now)) T.memory_can_run_out
         (ending_of_stopped stopped)
-        result out.old out.new err.old err.new }
+        result streams.old.out streams.new.out streams.old.err streams.new.err }
 {
     match stopped {
-        Stopped::CannotOpen(path) => report_path(path.as_str(), err),
-        Stopped::Fault(Fault::Usage(fault)) => report_usage(alloc, texts, words, fault, out, err),
-        Stopped::Fault(fault) => report_fault(alloc, texts, fault, err),
+        Stopped::CannotOpen(path) => report_path(path.as_str(), &mut streams.err),
+        Stopped::Fault(Fault::Usage(fault)) => report_usage(alloc, texts, words, fault, streams),
+        Stopped::Fault(fault) => report_fault(alloc, texts, fault, &mut streams.err),
     }
 }
 
@@ -75,25 +74,24 @@ pub fn report_usage<T: Texts, O: Stream, E: Out>(
     texts: &T,
     words: &[String],
     fault: UsageFault,
-    out: &mut O,
-    err: &mut E,
+    streams: &mut Streams<O, E>,
 ) -> u8
-    requires out { O.failures out.old < 2 ^ 64 - 1 }
-    requires err { E.failures err.old < 2 ^ 64 - 1 }
+    requires out { O.failures streams.old.out < 2 ^ 64 - 1 }
+    requires err { E.failures streams.old.err < 2 ^ 64 - 1 }
     ensures reported { ReportsUsage O.Out O.handed_on E.Out
         (T.is_usage_text texts.now (map string_bytes words.now)) T.memory_can_run_out fault
-        result out.old out.new err.old err.new }
+        result streams.old.out streams.new.out streams.old.err streams.new.err }
 {
     if let UsageFault::TwoFormats = fault {
-        return report_fault(alloc, texts, Fault::Usage(fault), err);
+        return report_fault(alloc, texts, Fault::Usage(fault), &mut streams.err);
     }
     let Ok(text) = texts.usage_text(alloc, words) else {
-        return report_fault(alloc, texts, Fault::Memory, err);
+        return report_fault(alloc, texts, Fault::Memory, &mut streams.err);
     };
     if let UsageFault::Parse = fault {
-        print_text(text.as_str(), err);
-    } else if print(text.as_str(), out).is_err() {
-        return report_fault(alloc, texts, Fault::Out, err);
+        print_text(text.as_str(), &mut streams.err);
+    } else if print(text.as_str(), &mut streams.out).is_err() {
+        return report_fault(alloc, texts, Fault::Out, &mut streams.err);
     }
     Fault::Usage(fault).status()
 }

@@ -6,9 +6,10 @@ ghost use Rattle.mairix_run.specs.NamesUsed.{both_names, file_asked, names_given
 
 use crate::new_file::temporary_name;
 use crate::program::is_index_run;
+use crate::run_files::RunFiles;
 use mairix_options::{Plan, Rc, answer_file};
 use named_files::Folder;
-use std::alloc::{AllocError, Global};
+use std::alloc::AllocError;
 
 /// The names of the files that words and rcfile give to a run. The rcfile's own isn't among them.
 #[derive(Drop)]
@@ -33,26 +34,26 @@ pub struct NewNames<N: Drop> {
 /// Makes the names of the files that words and rcfile give.
 #[tactic(auto, using(crate::proofs::AskedNames::given_archives))]
 pub(crate) fn names_of_files<F: Folder>(
-    folder: &F,
-    alloc: Global,
+    files: &RunFiles<F>,
     names: &mut F::Names,
-    reports: &F::Reports,
     plan: &Plan,
     rc: &Rc,
 ) -> Result<FileNames<F::Name>, AllocError>
-    ensures archives { IfOk result (λ files. map F.Name.text files.archives.items
+    ensures archives { IfOk result (λ made. map F.Name.text made.archives.items
         ≡ rc.now.paths) }
-    ensures database { IfOk result (λ files. F.Name.text files.database ≡ rc.now.database) }
-    ensures file { IfOk result (λ files. option_map (λ new. F.Name.text new.name) files.file
+    ensures database { IfOk result (λ made. F.Name.text made.database ≡ rc.now.database) }
+    ensures file { IfOk result (λ made. option_map (λ new. F.Name.text new.name) made.file
         ≡ file_asked plan.now rc.now) }
-    ensures temporary { IfOk result (λ files. ForSome files.file (λ new.
+    ensures temporary { IfOk result (λ made. ForSome made.file (λ new.
         F.Name.text new.temporary ≡ F.Name.text new.name ++ codes ".new")) }
-    ensures asked { AsksFor (names_given plan.now rc.now) (F.agree reports.now)
+    ensures asked { AsksFor (names_given plan.now rc.now) (F.agree files.now.reports)
         (F.made names.old) (F.made names.new) }
 {
-    let archives = names_of(folder, alloc, names, reports, rc.paths.as_slice())?;
-    let database = folder.name(alloc, names, reports, rc.database.as_str())?;
-    let file = names_of_file(folder, alloc, names, reports, plan, rc)?;
+    let archives = names_of(files, names, rc.paths.as_slice())?;
+    let database = files
+        .folder
+        .name(files.alloc, names, &files.reports, rc.database.as_str())?;
+    let file = names_of_file(files, names, plan, rc)?;
     Ok(FileNames {
         archives,
         database,
@@ -62,19 +63,19 @@ pub(crate) fn names_of_files<F: Folder>(
 
 /// Makes names of these texts, in order.
 fn names_of<F: Folder>(
-    folder: &F,
-    alloc: Global,
+    files: &RunFiles<F>,
     names: &mut F::Names,
-    reports: &F::Reports,
     texts: &[String],
 ) -> Result<Vec<F::Name>, AllocError>
     ensures text { IfOk result (λ v. map F.Name.text v.items ≡ map string_bytes texts.now) }
-    ensures asked { AsksFor (map string_bytes texts.now) (F.agree reports.now)
+    ensures asked { AsksFor (map string_bytes texts.now) (F.agree files.now.reports)
         (F.made names.old) (F.made names.new) }
 {
-    let mut made = Vec::with_capacity(alloc, texts.len())?;
+    let mut made = Vec::with_capacity(files.alloc, texts.len())?;
     for text in texts {
-        let name = folder.name(alloc, names, reports, text.as_str())?;
+        let name = files
+            .folder
+            .name(files.alloc, names, &files.reports, text.as_str())?;
         made.push(name)?;
     }
     Ok(made)
@@ -83,21 +84,21 @@ fn names_of<F: Folder>(
 /// Makes both names of a file.
 #[tactic(auto, using(crate::proofs::AskedNames::asks_none))]
 fn names_of_new<F: Folder>(
-    folder: &F,
-    alloc: Global,
+    files: &RunFiles<F>,
     names: &mut F::Names,
-    reports: &F::Reports,
     name: &str,
 ) -> Result<NewNames<F::Name>, AllocError>
     ensures name { IfOk result (λ new. F.Name.text new.name ≡ name.now) }
     ensures temporary { IfOk result (λ new. F.Name.text new.temporary
         ≡ F.Name.text new.name ++ codes ".new") }
-    ensures asked { AsksFor (both_names (Some name.now)) (F.agree reports.now)
+    ensures asked { AsksFor (both_names (Some name.now)) (F.agree files.now.reports)
         (F.made names.old) (F.made names.new) }
 {
-    let temporary = temporary_name(alloc, name)?;
-    let name = folder.name(alloc, names, reports, name)?;
-    let temporary = folder.name(alloc, names, reports, temporary.as_str())?;
+    let temporary = temporary_name(files.alloc, name)?;
+    let name = files.folder.name(files.alloc, names, &files.reports, name)?;
+    let temporary = files
+        .folder
+        .name(files.alloc, names, &files.reports, temporary.as_str())?;
     Ok(NewNames { name, temporary })
 }
 
@@ -105,10 +106,8 @@ fn names_of_new<F: Folder>(
 /// standard output.
 #[tactic(auto, using(crate::proofs::AskedNames::asks_none))]
 fn names_of_file<F: Folder>(
-    folder: &F,
-    alloc: Global,
+    files: &RunFiles<F>,
     names: &mut F::Names,
-    reports: &F::Reports,
     plan: &Plan,
     rc: &Rc,
 ) -> Result<Option<NewNames<F::Name>>, AllocError>
@@ -116,16 +115,16 @@ fn names_of_file<F: Folder>(
         ≡ file_asked plan.now rc.now) }
     ensures temporary { IfOk result (λ file. ForSome file (λ new.
         F.Name.text new.temporary ≡ F.Name.text new.name ++ codes ".new")) }
-    ensures asked { AsksFor (both_names (file_asked plan.now rc.now)) (F.agree reports.now)
+    ensures asked { AsksFor (both_names (file_asked plan.now rc.now)) (F.agree files.now.reports)
         (F.made names.old) (F.made names.new) }
 {
     if is_index_run(plan) {
-        let new = names_of_new(folder, alloc, names, reports, rc.database.as_str())?;
+        let new = names_of_new(files, names, rc.database.as_str())?;
         return Ok(Some(new));
     }
-    match answer_file(alloc, plan, rc)? {
+    match answer_file(files.alloc, plan, rc)? {
         Some(name) => {
-            let new = names_of_new(folder, alloc, names, reports, name.as_str())?;
+            let new = names_of_new(files, names, name.as_str())?;
             Ok(Some(new))
         }
         None => Ok(None),

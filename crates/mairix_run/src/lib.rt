@@ -20,10 +20,12 @@ mod old_index;
 mod program;
 mod read_names;
 mod replacement;
+mod run_files;
 mod search;
 mod std_writer;
 mod stopped;
 mod stream;
+mod streams;
 mod texts;
 mod unread;
 mod whole_file;
@@ -32,7 +34,7 @@ mod worked_tasks;
 mod writer_stream;
 
 pub use clock::moment_of;
-pub use command::run_command;
+pub use command::{Command, Given, run_command};
 pub use ending_report::{
     report_ending, report_fault, report_stopped, report_unread_words, report_usage,
 };
@@ -50,9 +52,11 @@ pub use new_index::NewIndex;
 pub use old_index::check_old_index;
 pub use program::run_program;
 pub use read_names::{ReadNames, are_all_apart};
+pub use run_files::RunFiles;
 pub use std_writer::{Flush, StdWriter};
 pub use stopped::Stopped;
 pub use stream::Stream;
+pub use streams::Streams;
 pub use texts::{ProgramTexts, Texts};
 pub use worked_reports::lines_and_statuses_are_as_worked_by_hand;
 pub use worked_tasks::{refused_names_are_as_worked_by_hand, tasks_are_as_worked_by_hand};

@@ -24,6 +24,8 @@ use std::alloc::Global;
 /// What is searched, and what for.
 #[derive(Drop)]
 pub struct Search<'a, F: Folder> {
+    /// Where memory comes from.
+    pub alloc: Global,
     /// The words after the program's name.
     pub words: &'a [String],
     /// The rcfile's text.
@@ -54,7 +56,6 @@ pub struct Search<'a, F: Folder> {
 /// the answer is sent. If memory runs out as an archive is opened, that isn't a failed read.
 pub fn answer_names<F: Folder, O: Out>(
     folder: &F,
-    alloc: Global,
     reports: &mut F::Reports,
     search: &Search<'_, F>,
     out: &mut O,
@@ -90,56 +91,30 @@ pub fn answer_names<F: Folder, O: Out>(
         (O.failures out.old) (O.failures out.new) }
     ensures reports { AddsReports F.reports_are_right (F.agree reports.old) (F.agree reports.new) }
 {
-    let Some(mut archives) = NamedArchives::new(folder, alloc, search.names, search.states) else {
+    let Some(mut archives) = NamedArchives::new(folder, search.alloc, search.names, search.states)
+    else {
         return Err(Fault::TooMany);
     };
-    let answered = answer_archives(folder, alloc, reports, search, &mut archives, out);
+    let Search {
+        alloc,
+        words,
+        text,
+        moment,
+        ..
+    } = *search;
+    let archives_read = &mut archives;
+    let answered = match search.index {
+        Some(index) => result_of(search_run(alloc, words, text, index, archives_read, moment, out)),
+        None => answer_once(folder, reports, search, archives_read, out),
+    };
     let lacks_memory = archives.lacks_memory();
     archives.report(reports);
     report_lack_of_memory(answered, lacks_memory)
 }
 
-/// Searches these archives, by the stored index if there is one.
-fn answer_archives<F: Folder, A: Archives, O: Out>(
-    folder: &F,
-    alloc: Global,
-    reports: &mut F::Reports,
-    search: &Search<'_, F>,
-    archives: &mut A,
-    out: &mut O,
-) -> Result<u8, Fault>
-    requires number { A.number archives.old ≡ length search.now.names.now }
-    requires archives { A.failures archives.old < 2 ^ 64 - 1 }
-    requires out { O.failures out.old < 2 ^ 64 - 1 }
-    // After a failed read, a call of the archives has failed; or there is a cause, if each file is there.
-    ensures searched { SearchesFiles O.Out
-        (asks search.now.words.now search.now.text.now search.now.moment) search.now.index
-        (length search.now.names.now < 2 ^ 32)
-        (λ bytes. (files_of F.Name.text (F.holds folder.now) search.now.names.now ≡ map Some bytes)
-        × (F.agree reports.new ≡ true) × (A.held archives.new ≡ Some bytes))
-        (files_of F.Name.text (F.holds folder.now) search.now.names.now)
-        ((A.failures archives.old < A.failures archives.new)
-        ⊎ CannotRead F.can_refuse F.reads_can_fail) result out.old out.new }
-    ensures held { HoldsArchives A.Archives archives.old archives.new }
-    ensures reports { AddsReports F.reports_are_right (F.agree reports.old) (F.agree reports.new) }
-{
-    let Search {
-        words,
-        text,
-        moment,
-        index,
-        ..
-    } = *search;
-    match index {
-        Some(index) => result_of(search_run(alloc, words, text, index, archives, moment, out)),
-        None => answer_once(folder, alloc, reports, search, archives, out),
-    }
-}
-
 /// Indexes the files to which the paths lead, and answers from that index.
 fn answer_once<F: Folder, A: Archives, O: Out>(
     folder: &F,
-    alloc: Global,
     reports: &mut F::Reports,
     search: &Search<'_, F>,
     archives: &mut A,
@@ -160,6 +135,7 @@ fn answer_once<F: Folder, A: Archives, O: Out>(
     ensures reports { AddsReports F.reports_are_right (F.agree reports.old) (F.agree reports.new) }
 {
     let Search {
+        alloc,
         words,
         text,
         names,

@@ -14,7 +14,6 @@ use mbox_cutter::Out;
 use named_archives::{lack_memory, report_all, sources_of};
 use named_files::Folder;
 use run_faults::{DONE, Fault};
-use std::alloc::Global;
 
 /// Indexes the archives to which the names lead, sends the index file to the output, and returns the status 0. Each
 /// file is opened when it is read, and may be in any state. What was reported of the files is added to the reports.
@@ -26,7 +25,6 @@ use std::alloc::Global;
 /// `Out` if the output fails: then only a beginning of the file is sent.
 pub fn index_names<F: Folder, O: Out>(
     folder: &F,
-    alloc: Global,
     reports: &mut F::Reports,
     index: &NewIndex<'_, F>,
     out: &mut O,
@@ -40,10 +38,10 @@ pub fn index_names<F: Folder, O: Out>(
         (CannotRead F.can_refuse F.reads_can_fail) result out.old out.new }
     ensures reports { AddsReports F.reports_are_right (F.agree reports.old) (F.agree reports.new) }
 {
-    let Ok(mut sources) = sources_of(folder, alloc, index.names, &[]) else {
+    let Ok(mut sources) = sources_of(folder, index.alloc, index.names, &[]) else {
         return Err(Fault::Memory);
     };
-    let sent = send_index(alloc, index.paths, sources.as_mut_slice(), out);
+    let sent = send_index(index.alloc, index.paths, sources.as_mut_slice(), out);
     let lacks_memory = lack_memory(sources.as_slice());
     report_all(sources, reports);
     report_lack_of_memory(sent.and(Ok(DONE)), lacks_memory)

@@ -16,6 +16,8 @@ use std::alloc::Global;
 /// The index of the archives to which some paths lead.
 #[derive(Drop)]
 pub struct NewIndex<'a, F: Folder> {
+    /// Where memory comes from.
+    pub alloc: Global,
     /// The archives' paths.
     pub paths: &'a [String],
     /// Their names.
@@ -34,20 +36,18 @@ impl<'a, F: Folder> Content<F> for NewIndex<'a, F> {
     fn check_old(
         &self,
         folder: &F,
-        alloc: Global,
         reports: &mut F::Reports,
         name: &F::Name,
     ) -> Result<(), Stopped> {
-        check_old_index(folder, alloc, reports, name)
+        check_old_index(folder, self.alloc, reports, name)
     }
 
     fn write<O: Out>(
         &self,
         folder: &F,
-        alloc: Global,
         reports: &mut F::Reports,
         out: &mut O,
     ) -> Result<u8, Fault> {
-        index_names(folder, alloc, reports, self, out)
+        index_names(folder, reports, self, out)
     }
 }

@@ -19,17 +19,19 @@ ghost use Rattle.named_files.specs.Entries.{SameWhere, bytes_of};
 ghost use Rattle.named_files.specs.Reported.{AddsReports};
 
 use crate::asked::Asked;
+use crate::command::Command;
 use crate::ending_report::report_ending;
 use crate::file_names::names_of_files;
 use crate::named_file::{Reading, read_named};
 use crate::new_index::NewIndex;
 use crate::read_names::ReadNames;
 use crate::replacement::replace_file;
+use crate::run_files::RunFiles;
 use crate::search::run_search;
 use crate::stopped::Stopped;
 use crate::stream::Stream;
+use crate::streams::Streams;
 use crate::texts::Texts;
-use mail_dates::Moment;
 use mairix_options::{Plan, plan_of, read_rc};
 use mbox_cutter::Out;
 use named_archives::{Unopened, first_states};
@@ -57,125 +59,140 @@ use std::alloc::Global;
 /// messages or keys, or an archive is too long.
 #[tactic(auto, using(crate::proofs::AskedNames::asks_only))]
 pub fn run_program<F: Folder, T: Texts, O: Stream, E: Out>(
-    folder: &mut F,
-    alloc: Global,
-    reports: &mut F::Reports,
-    reads: &mut F::Reports,
+    files: &mut RunFiles<F>,
     names: &mut F::Names,
     texts: &T,
-    words: &[String],
-    now: Moment,
-    out: &mut O,
-    err: &mut E,
+    command: &Command<'_>,
+    streams: &mut Streams<O, E>,
 ) -> u8
-    requires making { F.making folder.old ≡ None }
-    requires out { O.failures out.old < 2 ^ 64 - 2 }
-    requires err { E.failures err.old < 2 ^ 64 - 1 }
+    requires making { F.making files.old.folder ≡ None }
+    requires out { O.failures streams.old.out < 2 ^ 64 - 2 }
+    requires err { E.failures streams.old.err < 2 ^ 64 - 1 }
     // It reports how it ended, and returns the status of that. If what was reported agrees with what the files hold, it
     // did what words, rcfile and files ask for, or ended by the first refusal, or in trouble with one of the names that
     // it uses; and calls that fit this ending have changed files, in this order, and no other. What is said of its text,
     // or of the fault of its work, holds if all reads agree too.
     ensures run { (ended : Ending) × (printed : O)
         × ReportsEnding O.Out O.handed_on E.Out
-        (T.is_usage_text texts.now (map string_bytes words.now)) T.memory_can_run_out ended
-        result printed out.new err.old err.new
-        × (F.agree reports.new ≡ true
-        → Runs F.Folder O.Out O.handed_on (F.agree reads.new ≡ true)
-        (names_used (F.holds folder.old) (plan_asked (map string_bytes words.now)))
-        (task_of (F.holds folder.old) (map string_bytes words.now) now) folder.old folder.new
-        out.old printed ended
+        (T.is_usage_text texts.now (map string_bytes command.now.words.now)) T.memory_can_run_out
+        ended
+        result printed streams.new.out streams.old.err streams.new.err
+        × (F.agree files.new.reports ≡ true
+        → Runs F.Folder O.Out O.handed_on (F.agree files.new.reads ≡ true)
+        (names_used (F.holds files.old.folder)
+        (plan_asked (map string_bytes command.now.words.now)))
+        (task_of (F.holds files.old.folder) (map string_bytes command.now.words.now)
+        command.now.moment) files.old.folder files.new.folder
+        streams.old.out printed ended
         × CallsFor F.Folder (file_made
-        (task_of (F.holds folder.old) (map string_bytes words.now) now)) ended
-        folder.old folder.new) }
+        (task_of (F.holds files.old.folder) (map string_bytes command.now.words.now)
+        command.now.moment)) ended
+        files.old.folder files.new.folder) }
     // Each file that is read is as it was, and so is each other one, but for the one that is made.
-    ensures read { F.agree reports.new ≡ true
-        → All (λ n. F.holds folder.new n ≡ F.holds folder.old n) (names_kept
-        (task_of (F.holds folder.old) (map string_bytes words.now) now)) }
-    ensures alone { F.agree reports.new ≡ true → SameWhere (is_left_alone (F.apart folder.old)
-        (file_made (task_of (F.holds folder.old) (map string_bytes words.now) now)))
-        (F.holds folder.old) (F.holds folder.new) }
+    ensures read { F.agree files.new.reports ≡ true
+        → All (λ n. F.holds files.new.folder n ≡ F.holds files.old.folder n) (names_kept
+        (task_of (F.holds files.old.folder) (map string_bytes command.now.words.now)
+        command.now.moment)) }
+    ensures alone { F.agree files.new.reports ≡ true
+        → SameWhere (is_left_alone (F.apart files.old.folder)
+        (file_made (task_of (F.holds files.old.folder) (map string_bytes command.now.words.now)
+        command.now.moment)))
+        (F.holds files.old.folder) (F.holds files.new.folder) }
     // A crash at any moment leaves under the name of that file the old one, or the whole new one.
-    ensures any_moment { F.agree reports.new ≡ true
-        → LeavesOnly F.moment F.left_since folder.old folder.new
-        (RunLeaves (F.apart folder.old) (F.may_leave folder.old)
-        (F.agree reads.new ≡ true)
-        (task_of (F.holds folder.old) (map string_bytes words.now) now)) }
-    ensures none { F.making folder.new ≡ None }
-    ensures reports { AddsReports F.reports_are_right (F.agree reports.old) (F.agree reports.new) }
-    ensures reads { AddsReports F.reports_are_right (F.agree reads.old) (F.agree reads.new) }
+    ensures any_moment { F.agree files.new.reports ≡ true
+        → LeavesOnly F.moment F.left_since files.old.folder files.new.folder
+        (RunLeaves (F.apart files.old.folder) (F.may_leave files.old.folder)
+        (F.agree files.new.reads ≡ true)
+        (task_of (F.holds files.old.folder) (map string_bytes command.now.words.now)
+        command.now.moment)) }
+    ensures none { F.making files.new.folder ≡ None }
+    ensures reports { AddsReports F.reports_are_right (F.agree files.old.reports)
+        (F.agree files.new.reports) }
+    ensures reads { AddsReports F.reports_are_right (F.agree files.old.reads)
+        (F.agree files.new.reads) }
     // Whatever is reported: as long as all of it agrees, only names of the words and of the rcfile are made. No other name
     // is looked at, opened, made, renamed or removed.
     ensures named { AsksOnlyFor
-        (names_of_words (F.holds folder.old) (plan_asked (map string_bytes words.now)))
+        (names_of_words (F.holds files.old.folder)
+        (plan_asked (map string_bytes command.now.words.now)))
         (F.made names.old) (F.made names.new) }
 {
-    let ended = run_words(folder, alloc, reports, reads, names, words, now, out);
-    report_ending(alloc, texts, words, ended, out, err)
+    let ended = run_words(files, names, command, &mut streams.out);
+    report_ending(files.alloc, texts, command.words, ended, streams)
 }
 
 /// Runs the words, and returns the status unless the run was stopped.
 #[tactic(auto, using(crate::proofs::AskedNames::asks_none))]
 fn run_words<F: Folder, O: Stream>(
-    folder: &mut F,
-    alloc: Global,
-    reports: &mut F::Reports,
-    reads: &mut F::Reports,
+    files: &mut RunFiles<F>,
     names: &mut F::Names,
-    words: &[String],
-    now: Moment,
+    command: &Command<'_>,
     out: &mut O,
 ) -> Result<u8, Stopped>
-    requires making { F.making folder.old ≡ None }
+    requires making { F.making files.old.folder ≡ None }
     requires out { O.failures out.old < 2 ^ 64 - 1 }
     ensures asked { AsksFor
-        (names_of_words (F.holds folder.old) (plan_asked (map string_bytes words.now)))
-        (F.agree reports.old) (F.made names.old) (F.made names.new) }
-    ensures ran { F.agree reports.new ≡ true → Ran F.Folder O.Out O.handed_on
-        (F.agree reads.new ≡ true)
-        (names_used (F.holds folder.old) (plan_asked (map string_bytes words.now)))
-        (task_of (F.holds folder.old) (map string_bytes words.now) now)
-        folder.old folder.new out.old out.new (ending_of_result result) }
-    ensures none { F.making folder.new ≡ None }
+        (names_of_words (F.holds files.old.folder)
+        (plan_asked (map string_bytes command.now.words.now)))
+        (F.agree files.old.reports) (F.made names.old) (F.made names.new) }
+    ensures ran { F.agree files.new.reports ≡ true → Ran F.Folder O.Out O.handed_on
+        (F.agree files.new.reads ≡ true)
+        (names_used (F.holds files.old.folder)
+        (plan_asked (map string_bytes command.now.words.now)))
+        (task_of (F.holds files.old.folder) (map string_bytes command.now.words.now)
+        command.now.moment)
+        files.old.folder files.new.folder out.old out.new (ending_of_result result) }
+    ensures none { F.making files.new.folder ≡ None }
     ensures count { O.failures out.new ≤ O.failures out.old + 1 }
-    ensures reports { AddsReports F.reports_are_right (F.agree reports.old) (F.agree reports.new) }
-    ensures reads { AddsReports F.reports_are_right (F.agree reads.old) (F.agree reads.new) }
+    ensures reports { AddsReports F.reports_are_right (F.agree files.old.reports)
+        (F.agree files.new.reports) }
+    ensures reads { AddsReports F.reports_are_right (F.agree files.old.reads)
+        (F.agree files.new.reads) }
 {
-    let plan = match plan_of(alloc, words) {
+    let plan = match plan_of(files.alloc, command.words) {
         Ok(plan) => plan,
         Err(given) => return Err(given.into()),
     };
-    run_plan(folder, alloc, reports, reads, names, words, &plan, now, out)
+    run_plan(files, names, command, &plan, out)
 }
 
 /// Reads the rcfile, and does what it and the words ask for.
 fn run_plan<F: Folder, O: Stream>(
-    folder: &mut F,
-    alloc: Global,
-    reports: &mut F::Reports,
-    reads: &mut F::Reports,
+    files: &mut RunFiles<F>,
     names: &mut F::Names,
-    words: &[String],
+    command: &Command<'_>,
     plan: &Plan,
-    now: Moment,
     out: &mut O,
 ) -> Result<u8, Stopped>
-    requires planned { plan_asked (map string_bytes words.now) ≡ Ok plan.now }
-    requires making { F.making folder.old ≡ None }
+    requires planned { plan_asked (map string_bytes command.now.words.now) ≡ Ok plan.now }
+    requires making { F.making files.old.folder ≡ None }
     requires out { O.failures out.old < 2 ^ 64 - 1 }
-    ensures asked { AsksFor (names_of_plan (F.holds folder.old) plan.now) (F.agree reports.old)
+    ensures asked { AsksFor (names_of_plan (F.holds files.old.folder) plan.now)
+        (F.agree files.old.reports)
         (F.made names.old) (F.made names.new) }
-    ensures ran { F.agree reports.new ≡ true → Ran F.Folder O.Out O.handed_on
-        (F.agree reads.new ≡ true)
-        (names_planned (F.holds folder.old) plan.now)
-        (task_of_plan (F.holds folder.old) (map string_bytes words.now) now plan.now)
-        folder.old folder.new out.old out.new (ending_of_result result) }
-    ensures none { F.making folder.new ≡ None }
+    ensures ran { F.agree files.new.reports ≡ true → Ran F.Folder O.Out O.handed_on
+        (F.agree files.new.reads ≡ true)
+        (names_planned (F.holds files.old.folder) plan.now)
+        (task_of_plan (F.holds files.old.folder) (map string_bytes command.now.words.now)
+        command.now.moment plan.now)
+        files.old.folder files.new.folder out.old out.new (ending_of_result result) }
+    ensures none { F.making files.new.folder ≡ None }
     ensures count { O.failures out.new ≤ O.failures out.old + 1 }
-    ensures reports { AddsReports F.reports_are_right (F.agree reports.old) (F.agree reports.new) }
-    ensures reads { AddsReports F.reports_are_right (F.agree reads.old) (F.agree reads.new) }
+    ensures reports { AddsReports F.reports_are_right (F.agree files.old.reports)
+        (F.agree files.new.reports) }
+    ensures reads { AddsReports F.reports_are_right (F.agree files.old.reads)
+        (F.agree files.new.reads) }
 {
-    let rcfile = folder.name(alloc, names, reports, plan.rcfile.as_str())?;
-    let text = read_named(folder, alloc, reports, &rcfile, Reading::Whole);
+    let alloc = files.alloc;
+    let path = plan.rcfile.as_str();
+    let rcfile = files.folder.name(alloc, names, &files.reports, path)?;
+    let text = read_named(
+        &files.folder,
+        alloc,
+        &mut files.reports,
+        &rcfile,
+        Reading::Whole,
+    );
     let text = match Stopped::or_stopped(alloc, rcfile.as_str(), text) {
         Ok(text) => text,
         Err(stopped) => return Err(stopped),
@@ -184,42 +201,41 @@ fn run_plan<F: Folder, O: Stream>(
         Ok(rc) => rc,
         Err(given) => return Err(given.into()),
     };
-    let files = names_of_files(folder, alloc, names, reports, plan, &rc)?;
+    let made = names_of_files(files, names, plan, &rc)?;
     let asked = Asked {
-        words,
+        words: command.words,
         plan,
         text: text.as_slice(),
         rc: &rc,
-        now,
+        now: command.moment,
         rcfile: &rcfile,
-        names: &files,
+        names: &made,
     };
-    run_asked(folder, alloc, reports, reads, &asked, out)
+    run_asked(files, &asked, out)
 }
 
 /// Indexes the archives, or searches them. Each archive has to be there.
 fn run_asked<F: Folder, O: Stream>(
-    folder: &mut F,
-    alloc: Global,
-    reports: &mut F::Reports,
-    reads: &mut F::Reports,
+    files: &mut RunFiles<F>,
     asked: &Asked<'_, F>,
     out: &mut O,
 ) -> Result<u8, Stopped>
     requires paths { All IsPath asked.now.rc.now.paths }
-    requires making { F.making folder.old ≡ None }
+    requires making { F.making files.old.folder ≡ None }
     requires out { O.failures out.old < 2 ^ 64 - 1 }
-    ensures ran { F.agree reports.new ≡ true → Ran F.Folder O.Out O.handed_on
-        (F.agree reads.new ≡ true)
+    ensures ran { F.agree files.new.reports ≡ true → Ran F.Folder O.Out O.handed_on
+        (F.agree files.new.reads ≡ true)
         (names_asked asked.entry.now.plan.now asked.entry.now.rc.now)
-        (task_of_rc (F.holds folder.old)
+        (task_of_rc (F.holds files.old.folder)
         (asks asked.entry.now.words.now asked.entry.now.text.now asked.entry.now.now)
         asked.entry.now.plan.now asked.entry.now.rc.now)
-        folder.old folder.new out.old out.new (ending_of_result result) }
-    ensures none { F.making folder.new ≡ None }
+        files.old.folder files.new.folder out.old out.new (ending_of_result result) }
+    ensures none { F.making files.new.folder ≡ None }
     ensures count { O.failures out.new ≤ O.failures out.old + 1 }
-    ensures reports { AddsReports F.reports_are_right (F.agree reports.old) (F.agree reports.new) }
-    ensures reads { AddsReports F.reports_are_right (F.agree reads.old) (F.agree reads.new) }
+    ensures reports { AddsReports F.reports_are_right (F.agree files.old.reports)
+        (F.agree files.new.reports) }
+    ensures reads { AddsReports F.reports_are_right (F.agree files.old.reads)
+        (F.agree files.new.reads) }
 {
     let Asked {
         plan,
@@ -229,7 +245,7 @@ fn run_asked<F: Folder, O: Stream>(
         ..
     } = *asked;
     let archives = names.archives.as_slice();
-    let states = match states_of(folder, alloc, reports, archives) {
+    let states = match states_of(&files.folder, files.alloc, &mut files.reports, archives) {
         Ok(states) => states,
         Err(stopped) => return Err(stopped),
     };
@@ -238,6 +254,7 @@ fn run_asked<F: Folder, O: Stream>(
             unreachable!();
         };
         let index = NewIndex {
+            alloc: files.alloc,
             paths: rc.paths.as_slice(),
             names: archives,
         };
@@ -246,13 +263,13 @@ fn run_asked<F: Folder, O: Stream>(
             archives,
             database: None,
         };
-        return replace_file(folder, alloc, reports, reads, &index, &read, file);
+        return replace_file(files, &index, &read, file);
     }
     let states = states.as_slice();
     if plan.once {
-        return run_search(folder, alloc, reports, reads, asked, states, None, out);
+        return run_search(files, asked, states, None, out);
     }
-    search_stored(folder, alloc, reports, reads, asked, states, out)
+    search_stored(files, asked, states, out)
 }
 
 /// Whether a run makes an index: it does without a pattern and without `--once`.
@@ -292,41 +309,47 @@ fn states_of<F: Folder>(
 
 /// Searches the archives by the index in the rcfile's `database`.
 fn search_stored<F: Folder, O: Stream>(
-    folder: &mut F,
-    alloc: Global,
-    reports: &mut F::Reports,
-    reads: &mut F::Reports,
+    files: &mut RunFiles<F>,
     asked: &Asked<'_, F>,
     states: &[<F::File as KeptFile>::State],
     out: &mut O,
 ) -> Result<u8, Stopped>
     requires states { AreStatesOf F.File.state_found F.File.rest
-        (map (λ name. bytes_of (F.holds folder.old name)) asked.now.rc.now.paths) states.now }
+        (map (λ name. bytes_of (F.holds files.old.folder name)) asked.now.rc.now.paths) states.now }
     requires each { length states.now ≡ length asked.now.rc.now.paths }
-    requires making { F.making folder.old ≡ None }
+    requires making { F.making files.old.folder ≡ None }
     requires searches { is_index_run asked.now.plan.now ≡ false }
     requires out { O.failures out.old < 2 ^ 64 - 1 }
     ensures ran { (bytes : List (List ℕ))
-        → files_at (F.holds folder.old) asked.entry.now.rc.now.paths ≡ Ok bytes
-        → F.agree reports.new ≡ true → Ran F.Folder O.Out O.handed_on
-        (F.agree reads.new ≡ true)
+        → files_at (F.holds files.old.folder) asked.entry.now.rc.now.paths ≡ Ok bytes
+        → F.agree files.new.reports ≡ true → Ran F.Folder O.Out O.handed_on
+        (F.agree files.new.reads ≡ true)
         (asked.entry.now.rc.now.database ∷ both_names
         (answer_file asked.entry.now.plan.now asked.entry.now.rc.now))
-        (search_stored_task (F.holds folder.old)
+        (search_stored_task (F.holds files.old.folder)
         (asks asked.entry.now.words.now asked.entry.now.text.now asked.entry.now.now)
         asked.entry.now.plan.now asked.entry.now.rc.now bytes)
-        folder.old folder.new out.old out.new (ending_of_result result) }
-    ensures none { F.making folder.new ≡ None }
+        files.old.folder files.new.folder out.old out.new (ending_of_result result) }
+    ensures none { F.making files.new.folder ≡ None }
     ensures count { O.failures out.new ≤ O.failures out.old + 1 }
-    ensures reports { AddsReports F.reports_are_right (F.agree reports.old) (F.agree reports.new) }
-    ensures reads { AddsReports F.reports_are_right (F.agree reads.old) (F.agree reads.new) }
+    ensures reports { AddsReports F.reports_are_right (F.agree files.old.reports)
+        (F.agree files.new.reports) }
+    ensures reads { AddsReports F.reports_are_right (F.agree files.old.reads)
+        (F.agree files.new.reads) }
 {
     let database = &asked.names.database;
-    let index = read_named(folder, alloc, reports, database, Reading::Index);
+    let alloc = files.alloc;
+    let index = read_named(
+        &files.folder,
+        alloc,
+        &mut files.reports,
+        database,
+        Reading::Index,
+    );
     let index = match Stopped::or_stopped(alloc, database.as_str(), index) {
         Ok(index) => index,
         Err(stopped) => return Err(stopped),
     };
     let index = Some(index.as_slice());
-    run_search(folder, alloc, reports, reads, asked, states, index, out)
+    run_search(files, asked, states, index, out)
 }

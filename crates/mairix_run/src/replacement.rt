@@ -10,9 +10,9 @@ use crate::content::Content;
 use crate::file_names::NewNames;
 use crate::new_file::{create_file, settle_file};
 use crate::read_names::ReadNames;
+use crate::run_files::RunFiles;
 use crate::stopped::{Stopped, status_or_stopped};
 use named_files::Folder;
-use std::alloc::Global;
 
 /// Writes an index or an answer to a new file, gives it a name, and returns the status.
 ///
@@ -26,36 +26,42 @@ use std::alloc::Global;
 /// is written, of the output or of memory. If only the folder can't be brought to the disk, the output has failed, and
 /// the new file is there.
 pub(crate) fn replace_file<F: Folder, C: Content<F>>(
-    folder: &mut F,
-    alloc: Global,
-    reports: &mut F::Reports,
-    reads: &mut F::Reports,
+    files: &mut RunFiles<F>,
     content: &C,
     read: &ReadNames<'_, F::Name>,
     names: &NewNames<F::Name>,
 ) -> Result<u8, Stopped>
-    requires making { F.making folder.old ≡ None }
+    requires making { F.making files.old.folder ≡ None }
     requires temporary { F.Name.text names.now.temporary
         ≡ F.Name.text names.now.name ++ codes ".new" }
     requires names { C.names content.now ≡ read.now.archives.now }
     requires writable { C.is_writable content.now }
     ensures run { (bytes : List (List ℕ))
-        → files_of F.Name.text (F.holds folder.old) read.now.archives.now ≡ map Some bytes
-        → F.agree reports.new ≡ true → ReplacesFile F.Folder
-        (F.agree reads.new ≡ true) (C.work content.now bytes)
-        (names_read F.Name.text read.now) (F.Name.text names.now.name) folder.old folder.new
+        → files_of F.Name.text (F.holds files.old.folder) read.now.archives.now ≡ map Some bytes
+        → F.agree files.new.reports ≡ true → ReplacesFile F.Folder
+        (F.agree files.new.reads ≡ true) (C.work content.now bytes)
+        (names_read F.Name.text read.now) (F.Name.text names.now.name) files.old.folder
+        files.new.folder
         (ending_of_result result) }
-    ensures none { F.making folder.new ≡ None }
-    ensures reports { AddsReports F.reports_are_right (F.agree reports.old) (F.agree reports.new) }
-    ensures reads { AddsReports F.reports_are_right (F.agree reads.old) (F.agree reads.new) }
+    ensures none { F.making files.new.folder ≡ None }
+    ensures reports { AddsReports F.reports_are_right (F.agree files.old.reports)
+        (F.agree files.new.reports) }
+    ensures reads { AddsReports F.reports_are_right (F.agree files.old.reads)
+        (F.agree files.new.reads) }
 {
-    if let Err(stopped) = content.check_old(folder, alloc, reports, &names.name) {
+    if let Err(stopped) = content.check_old(&files.folder, &mut files.reports, &names.name) {
         return Err(stopped);
     }
-    let mut new = match create_file(folder, alloc, reports, names, read) {
+    let mut new = match create_file(
+        &mut files.folder,
+        files.alloc,
+        &mut files.reports,
+        names,
+        read,
+    ) {
         Ok(new) => new,
         Err(stopped) => return Err(stopped),
     };
-    let written = content.write(folder, alloc, reads, &mut new);
-    status_or_stopped(settle_file(folder, alloc, new, names, written))
+    let written = content.write(&files.folder, &mut files.reads, &mut new);
+    status_or_stopped(settle_file(&mut files.folder, files.alloc, new, names, written))
 }

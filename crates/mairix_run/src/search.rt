@@ -23,12 +23,12 @@ use crate::last_flush::flushed;
 use crate::names_answer::{Search, answer_names};
 use crate::read_names::ReadNames;
 use crate::replacement::replace_file;
+use crate::run_files::RunFiles;
 use crate::stopped::{Stopped, status_or_stopped};
 use crate::stream::Stream;
 use mbox_cutter::Out;
 use named_files::{Folder, KeptFile};
 use run_faults::Fault;
-use std::alloc::Global;
 
 /// Searches the archives' files, and returns the status, 0 or 1. The answer goes to `out`, or to the file that words
 /// and rcfile name, which then replaces an older answer. An archive's file that isn't in its first state has failed.
@@ -40,34 +40,33 @@ use std::alloc::Global;
 /// index. Otherwise the run's own fault, or that there are more archives than numbers. No file is left then, and an
 /// older answer is as it was, unless only the folder of the new one can't be brought to the disk.
 pub(crate) fn run_search<F: Folder, O: Stream>(
-    folder: &mut F,
-    alloc: Global,
-    reports: &mut F::Reports,
-    reads: &mut F::Reports,
+    files: &mut RunFiles<F>,
     asked: &Asked<'_, F>,
     states: &[<F::File as KeptFile>::State],
     index: Option<&[u8]>,
     out: &mut O,
 ) -> Result<u8, Stopped>
-    requires making { F.making folder.old ≡ None }
+    requires making { F.making files.old.folder ≡ None }
     requires searches { is_index_run asked.now.plan.now ≡ false }
     requires states { AreStatesOf F.File.state_found F.File.rest
-        (map (λ name. bytes_of (F.holds folder.old name)) asked.now.rc.now.paths) states.now }
+        (map (λ name. bytes_of (F.holds files.old.folder name)) asked.now.rc.now.paths) states.now }
     requires each { length states.now ≡ length asked.now.rc.now.paths }
     requires out { O.failures out.old < 2 ^ 64 - 1 }
     ensures ran { (bytes : List (List ℕ))
-        → files_at (F.holds folder.old) asked.entry.now.rc.now.paths ≡ Ok bytes
-        → F.agree reports.new ≡ true → Ran F.Folder O.Out O.handed_on
-        (F.agree reads.new ≡ true)
+        → files_at (F.holds files.old.folder) asked.entry.now.rc.now.paths ≡ Ok bytes
+        → F.agree files.new.reports ≡ true → Ran F.Folder O.Out O.handed_on
+        (F.agree files.new.reads ≡ true)
         (both_names (answer_file_of asked.entry.now.plan.now asked.entry.now.rc.now))
         (Ok (search_task asked.entry.now.plan.now asked.entry.now.rc.now (search_work
         (asks asked.entry.now.words.now asked.entry.now.text.now asked.entry.now.now)
         (option_map (λ index. index.now) index.entry) bytes)))
-        folder.old folder.new out.old out.new (ending_of_result result) }
-    ensures none { F.making folder.new ≡ None }
+        files.old.folder files.new.folder out.old out.new (ending_of_result result) }
+    ensures none { F.making files.new.folder ≡ None }
     ensures count { O.failures out.new ≤ O.failures out.old + 1 }
-    ensures reports { AddsReports F.reports_are_right (F.agree reports.old) (F.agree reports.new) }
-    ensures reads { AddsReports F.reports_are_right (F.agree reads.old) (F.agree reads.new) }
+    ensures reports { AddsReports F.reports_are_right (F.agree files.old.reports)
+        (F.agree files.new.reports) }
+    ensures reads { AddsReports F.reports_are_right (F.agree files.old.reads)
+        (F.agree files.new.reads) }
 {
     let Asked {
         words,
@@ -79,6 +78,7 @@ pub(crate) fn run_search<F: Folder, O: Stream>(
     } = *asked;
     let archives = names.archives.as_slice();
     let search = Search {
+        alloc: files.alloc,
         words,
         text,
         names: archives,
@@ -93,9 +93,9 @@ pub(crate) fn run_search<F: Folder, O: Stream>(
                 archives,
                 database: Some(&names.database),
             };
-            replace_file(folder, alloc, reports, reads, &search, &read, file)
+            replace_file(files, &search, &read, file)
         }
-        None => print_answer(folder, alloc, reads, &search, out),
+        None => print_answer(&files.folder, &mut files.reads, &search, out),
     }
 }
 
@@ -112,7 +112,6 @@ impl<'a, F: Folder> Content<F> for Search<'a, F> {
     fn check_old(
         &self,
         _folder: &F,
-        _alloc: Global,
         _reports: &mut F::Reports,
         _name: &F::Name,
     ) -> Result<(), Stopped> {
@@ -122,18 +121,16 @@ impl<'a, F: Folder> Content<F> for Search<'a, F> {
     fn write<O: Out>(
         &self,
         folder: &F,
-        alloc: Global,
         reports: &mut F::Reports,
         out: &mut O,
     ) -> Result<u8, Fault> {
-        answer_names(folder, alloc, reports, self, out)
+        answer_names(folder, reports, self, out)
     }
 }
 
 /// Writes the answer to `out`, and hands on all of it.
 fn print_answer<F: Folder, O: Stream>(
     folder: &F,
-    alloc: Global,
     reports: &mut F::Reports,
     search: &Search<'_, F>,
     out: &mut O,
@@ -149,6 +146,6 @@ fn print_answer<F: Folder, O: Stream>(
     ensures count { O.failures out.new ≤ O.failures out.old + 1 }
     ensures reports { AddsReports F.reports_are_right (F.agree reports.old) (F.agree reports.new) }
 {
-    let written = search.write(folder, alloc, reports, out);
+    let written = search.write(folder, reports, out);
     status_or_stopped(flushed(written, out))
 }

@@ -3,7 +3,7 @@ ghost use Rattle.std.specs.Prelude.{◌≡◌, None, IfSome};
 
 use crate::failing_folder::FailingFolder;
 use crate::fixture::{HELLO, RC, TWO_MESSAGES, bytes_of, index_of, reports};
-use crate::program_runs::printed_over;
+use crate::program_runs::{files_of, printed_over};
 use named_files::{Item, MadeNames, MemoryFolder};
 use std::alloc::Global;
 use std::cell::Cell;
@@ -115,12 +115,13 @@ impl Run {
     /// Returns how it ends if the call with this number fails.
     fn ending(&self, alloc: Global, number: u64) -> Option<Vec<u8>> {
         let count = Cell::new(number);
-        let mut folder = FailingFolder::new(files_before(alloc, self.indexed)?, &count);
+        let folder = FailingFolder::new(files_before(alloc, self.indexed)?, &count);
+        let mut files = files_of(alloc, folder);
         let mut names = MadeNames::new();
-        let printed = printed_over(&mut folder, &mut names, alloc, self.words);
+        let printed = printed_over(&mut files, &mut names, self.words);
         names.close();
         let mut ending = printed?;
-        self.push_changes(&mut ending, folder.inner())?;
+        self.push_changes(&mut ending, files.folder.inner())?;
         Some(ending)
     }
 

@@ -4,7 +4,7 @@ ghost use Rattle.std.specs.Prelude.{◌≡◌, None};
 use crate::fixture::{NOW, bytes_of, push_words, reports};
 use mail_dates::Moment;
 use mairix_files::{KitFolder, SupposedNames};
-use mairix_run::{MemoryStream, ProgramTexts, run_program};
+use mairix_run::{Command, MemoryStream, ProgramTexts, RunFiles, Streams, run_program};
 use named_files::{Folder, MadeNames};
 use std::alloc::Global;
 use std::{fs, process};
@@ -53,42 +53,46 @@ fn in_folder(alloc: Global, folder: &str, text: &str) -> Option<String> {
 
 /// Returns what a run with these words prints over the files of the system.
 fn printed(rt: &HostRuntime, alloc: Global, line: &str) -> Option<Vec<u8>> {
-    let mut folder = KitFolder::new(rt, SupposedNames::new());
+    let mut files = files_of(alloc, KitFolder::new(rt, SupposedNames::new()));
     let mut names = MadeNames::new();
-    let printed = printed_over(&mut folder, &mut names, alloc, line);
+    let printed = printed_over(&mut files, &mut names, line);
     names.close();
     printed
 }
 
+/// Returns the files of a run over a folder of which nothing was reported.
+pub fn files_of<F: Folder>(alloc: Global, folder: F) -> RunFiles<F>
+    ensures { result.folder ≡ folder }
+{
+    RunFiles {
+        reports: folder.no_reports(),
+        reads: folder.no_reports(),
+        alloc,
+        folder,
+    }
+}
+
 /// Returns what a run with these words prints over the files of a folder, and its status.
 pub fn printed_over<F: Folder>(
-    folder: &mut F,
+    files: &mut RunFiles<F>,
     names: &mut F::Names,
-    alloc: Global,
     line: &str,
 ) -> Option<Vec<u8>>
-    requires { F.making folder.old ≡ None }
+    requires { F.making files.old.folder ≡ None }
 {
-    let now = Moment::new(NOW)?;
+    let alloc = files.alloc;
     let mut words = Vec::new(alloc);
     push_words(alloc, &mut words, line)?;
-    let mut reports = folder.no_reports();
-    let mut reads = folder.no_reports();
-    let mut out = MemoryStream::new(alloc);
-    let mut err = MemoryStream::new(alloc);
-    let status = run_program(
-        folder,
-        alloc,
-        &mut reports,
-        &mut reads,
-        names,
-        &ProgramTexts,
-        &words,
-        now,
-        &mut out,
-        &mut err,
-    );
-    all_printed(alloc, out.handed_on(), err.taken(), status)
+    let command = Command {
+        words: &words,
+        moment: Moment::new(NOW)?,
+    };
+    let mut streams = Streams {
+        out: MemoryStream::new(alloc),
+        err: MemoryStream::new(alloc),
+    };
+    let status = run_program(files, names, &ProgramTexts, &command, &mut streams);
+    all_printed(alloc, streams.out.handed_on(), streams.err.taken(), status)
 }
 
 fn all_printed(alloc: Global, out: &[u8], err: &[u8], status: u8) -> Option<Vec<u8>> {

@@ -17,17 +17,19 @@ returns-in-Ok-clause-ran g c =
     let says = run.ensures in
     let Made = λ (words : List (String Global)) (second : ℕ). RunsProgram F g.O.Out g.O.Stream.handed_on g.E.Out
     (g.T.Texts.is_usage_text texts (map string_bytes words)) g.T.Texts.memory_can_run_out (map string_bytes words)
-    second (F.agree run.new.reports ≡ true) (F.agree run.new.reads ≡ true) c.args.folder.now run.new.folder
+    second (F.agree run.new.files.reports ≡ true) (F.agree run.new.files.reads ≡ true) c.args.files.now.folder
+    run.new.files.folder
     (F.made c.args.names.now)
-    (F.made run.new.names) c.args.out.now run.new.out c.args.err.now run.new.err run.result in
-    let made : Made c.as_slice-words.result.now c.moment_of-now.result = record {
+    (F.made run.new.names) c.args.streams.now.out run.new.streams.out c.args.streams.now.err run.new.streams.err
+    run.result in
+    let made : Made c.as_slice.result.now c.moment_of.result = record {
       run = says.run;
       read = says.read;
       alone = says.alone;
       any_moment = says.any_moment;
       named = says.named;
     } in
-    let of-items = subst (λ words. Made words c.moment_of-now.result) c.as_slice-words.ensures.value made in
-    ok-weaker c.args.args _ _ (λ args same.
-    inl (subst (λ second. Made (drop 1 (into_iter_items args)) second) c.moment_of-now.ensures
-    (subst (λ words. Made words c.moment_of-now.result) same of-items))) c.in-Ok.ensures.words
+    let of-items = subst (λ words. Made words c.moment_of.result) c.as_slice.ensures.value made in
+    ok-weaker c.args.given.args _ _ (λ args same.
+    inl (subst (λ second. Made (drop 1 (into_iter_items args)) second) c.moment_of.ensures
+    (subst (λ words. Made words c.moment_of.result) same of-items))) c.in-Ok.ensures.words

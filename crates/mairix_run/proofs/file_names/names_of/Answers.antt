@@ -11,12 +11,12 @@ use Rattle.mairix_run.proofs.file_names.names_of.Goals as goal
 
 -- the names so far, and one more
 asked : (g : Over) (c : After-name g) → AsksFor (map string_bytes c.args.texts.now)
-    (g.F.Folder.agree c.args.reports.now)
+    (g.F.Folder.agree c.args.files.now.reports)
     (g.F.Folder.made c.args.names.now) (g.F.Folder.made c.name.new.names)
 asked g c =
     let texts = c.args.texts.now in
     let names = map string_bytes texts in
-    let agree = g.F.Folder.agree c.args.reports.now in
+    let agree = g.F.Folder.agree c.args.files.now.reports in
     let made = g.F.Folder.made in
     let among : Contains names c.as_str.result.now = subst (λ n. Contains names n) (sym c.as_str.ensures.value)
     (among-names string_bytes texts c.loop-text.text-index c.text-item.result c.text-item.is c.loop-text-test.true) in
@@ -28,7 +28,7 @@ asked g c =
 pub loop-text-init : goal.loop-text-init
 loop-text-init g c = record {
   text = ap (map g.F.Name.FileName.text) c.in_ok-made.ensures.items;
-  asked = asks_none (map string_bytes c.args.texts.now) (g.F.Folder.agree c.args.reports.now)
+  asked = asks_none (map string_bytes c.args.texts.now) (g.F.Folder.agree c.args.files.now.reports)
       (g.F.Folder.made c.args.names.now);
 }
 
@@ -56,5 +56,5 @@ returns-in_err-push-clause-asked g c = asked g (goal.at.returns-in_err-push-clau
 
 pub returns-in_err-made-clause-asked : goal.returns-in_err-made-clause-asked
 returns-in_err-made-clause-asked g c = asks_none (map string_bytes c.args.texts.now)
-    (g.F.Folder.agree c.args.reports.now)
+    (g.F.Folder.agree c.args.files.now.reports)
     (g.F.Folder.made c.args.names.now)

@@ -6,6 +6,6 @@ use Rattle.mairix_run.proofs.file_names.names_of.Given as goal
 abbrev pub invariant-loop-text : goal.invariant-loop-text
 invariant-loop-text g l = record {
   text : map g.F.Name.FileName.text l.made.items ≡ map string_bytes (take l.text-index l.texts);
-  asked : AsksFor (map string_bytes l.texts) (g.F.Folder.agree l.reports) (g.F.Folder.made l.fn.names)
+  asked : AsksFor (map string_bytes l.texts) (g.F.Folder.agree l.files.reports) (g.F.Folder.made l.fn.names)
       (g.F.Folder.made l.names);
 }

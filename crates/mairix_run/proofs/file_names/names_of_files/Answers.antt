@@ -9,11 +9,11 @@ use Rattle.mairix_run.proofs.file_names.names_of_files.Goals as goal
 
 -- those of the archives, and the index's
 first : (g : Over) (c : After-name g) → AsksFor (names_given c.args.plan.now c.args.rc.now)
-    (g.F.Folder.agree c.args.reports.now) (g.F.Folder.made c.args.names.now) (g.F.Folder.made c.name.new.names)
+    (g.F.Folder.agree c.args.files.now.reports) (g.F.Folder.made c.args.names.now) (g.F.Folder.made c.name.new.names)
 first g c =
     let p = c.args.plan.now in
     let rc = c.args.rc.now in
-    let agree = g.F.Folder.agree c.args.reports.now in
+    let agree = g.F.Folder.agree c.args.files.now.reports in
     let old = g.F.Folder.made c.args.names.now in
     let mid = g.F.Folder.made c.names_of.new.names in
     let new = g.F.Folder.made c.name.new.names in
@@ -23,11 +23,12 @@ first g c =
 
 -- all of them
 all : (g : Over) (c : After-names_of_file g) → AsksFor (names_given c.args.plan.now c.args.rc.now)
-    (g.F.Folder.agree c.args.reports.now) (g.F.Folder.made c.args.names.now) (g.F.Folder.made c.names_of_file.new.names)
+    (g.F.Folder.agree c.args.files.now.reports) (g.F.Folder.made c.args.names.now)
+    (g.F.Folder.made c.names_of_file.new.names)
 all g c =
     let p = c.args.plan.now in
     let rc = c.args.rc.now in
-    let agree = g.F.Folder.agree c.args.reports.now in
+    let agree = g.F.Folder.agree c.args.files.now.reports in
     let old = g.F.Folder.made c.args.names.now in
     let mid = g.F.Folder.made c.names_of.new.names in
     let more = g.F.Folder.made c.name.new.names in

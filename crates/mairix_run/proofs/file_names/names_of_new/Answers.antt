@@ -11,21 +11,22 @@ use Rattle.mairix_run.proofs.file_names.names_of_new.Goals.{After-name, After-na
 use Rattle.mairix_run.proofs.file_names.names_of_new.Goals as goal
 
 -- the first one
-own : (g : Over) (c : After-name g) → AsksFor (both_names (Some c.args.name.now)) (g.F.Folder.agree c.args.reports.now)
+own : (g : Over) (c : After-name g) → AsksFor (both_names (Some c.args.name.now))
+    (g.F.Folder.agree c.args.files.now.reports)
     (g.F.Folder.made c.args.names.now) (g.F.Folder.made c.name.new.names)
 own g c =
     let name = c.args.name.now in
-    asks_one (both_names (Some name)) (g.F.Folder.agree c.args.reports.now) (g.F.Folder.made c.args.names.now)
+    asks_one (both_names (Some name)) (g.F.Folder.agree c.args.files.now.reports) (g.F.Folder.made c.args.names.now)
     (g.F.Folder.made c.name.new.names) name (contains-first name (temporary_of name ∷ [])) c.name.ensures.noted
 
 -- both
 both : (g : Over) (c : After-name-2 g) → AsksFor (both_names (Some c.args.name.now))
-    (g.F.Folder.agree c.args.reports.now)
+    (g.F.Folder.agree c.args.files.now.reports)
     (g.F.Folder.made c.args.names.now) (g.F.Folder.made c.name-2.new.names)
 both g c =
     let name = c.args.name.now in
     let names = both_names (Some name) in
-    let agree = g.F.Folder.agree c.args.reports.now in
+    let agree = g.F.Folder.agree c.args.files.now.reports in
     let made = g.F.Folder.made in
     let among : Contains names c.as_str.result.now =
     subst (λ n. Contains names n) (sym (c.as_str.ensures.value ∙ c.in_ok-temporary.ensures))

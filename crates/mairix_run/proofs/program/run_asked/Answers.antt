@@ -23,15 +23,15 @@ use Rattle.mairix_run.proofs.program.run_asked.Goals as goal
 pub returns-then-is_index_run-clause-ran : goal.returns-then-is_index_run-clause-ran
 returns-then-is_index_run-clause-ran g c = λ agree.
     let F = g.F.Folder in
-    let ReadsAgree = F.agree c.replace_file.new.reads ≡ true in
+    let ReadsAgree = F.agree c.replace_file.new.files.reads ≡ true in
     let asked = c.args.asked.now in
     let p = asked.plan.now in
     let rc = asked.rc.now in
     let text = g.F.Name.FileName.text in
     let archives-of : map text c.as_slice-archives.result.now ≡ rc.paths =
     ap (map text) c.as_slice-archives.ensures.value ∙ asked.archives_named in
-    let old = c.args.folder.now in
-    let new = c.replace_file.new.folder in
+    let old = c.args.files.now.folder in
+    let new = c.replace_file.new.files.folder in
     let out = c.args.out.now in
     let name = text c.in-Some.file.name in
     let archives = c.as_slice-archives.result.now in
@@ -62,24 +62,24 @@ returns-then-is_index_run-clause-ran g c = λ agree.
 pub returns-then-plan-clause-ran : goal.returns-then-plan-clause-ran
 returns-then-plan-clause-ran g c = λ agree.
     let F = g.F.Folder in
-    let ReadsAgree = F.agree c.run_search.new.reads ≡ true in
+    let ReadsAgree = F.agree c.run_search.new.files.reads ≡ true in
     let asked = c.args.asked.now in
     let p = asked.plan.now in
     let rc = asked.rc.now in
     let text = g.F.Name.FileName.text in
     let archives-of : map text c.as_slice-archives.result.now ≡ rc.paths =
     ap (map text) c.as_slice-archives.ensures.value ∙ asked.archives_named in
-    let old = c.args.folder.now in
+    let old = c.args.files.now.folder in
     let found = c.in-Ok.ensures.ok (c.run_search.ensures.reports.earlier agree) in
     let files : files_at (F.holds old) rc.paths ≡ Ok found.0 =
     ap (files_at (F.holds old)) (sym archives-of) ∙ found.1 in
     let task = search_task p rc (SearchNew (asks asked.words.now asked.text.now asked.now) found.0) in
-    subst (λ t. Ran F g.O.Out g.O.Stream.handed_on ReadsAgree (names_asked p rc) t old c.run_search.new.folder
+    subst (λ t. Ran F g.O.Out g.O.Stream.handed_on ReadsAgree (names_asked p rc) t old c.run_search.new.files.folder
     c.args.out.now
     c.run_search.new.out (ending_of_result c.run_search.result))
     (sym (task-once (F.holds old) (asks asked.words.now asked.text.now asked.now) p rc found.0 files c.if-plan.true))
     (ran-wider F g.O.Out g.O.Stream.handed_on ReadsAgree (both_names (answer_file p rc)) (names_asked p rc)
-    (once-asked p rc c.if-plan.true) (Ok task) old c.run_search.new.folder c.args.out.now c.run_search.new.out
+    (once-asked p rc c.if-plan.true) (Ok task) old c.run_search.new.files.folder c.args.out.now c.run_search.new.out
     (ending_of_result c.run_search.result) (c.run_search.ensures.ran found.0 files agree))
 
 -- the states are those of the archives
@@ -92,7 +92,7 @@ run_search-requires-clause-states g c =
     let text = g.F.Name.FileName.text in
     let archives-of : map text c.as_slice-archives.result.now ≡ rc.paths =
     ap (map text) c.as_slice-archives.ensures.value ∙ asked.archives_named in
-    let holds = g.F.Folder.holds c.args.folder.now in
+    let holds = g.F.Folder.holds c.args.files.now.folder in
     subst (λ s. AreStatesOf K.state_found S.rest (map (λ n. bytes_of (holds n)) rc.paths) s)
     (sym c.as_slice-states.ensures.value)
     (of-named (λ files. AreStatesOf K.state_found S.rest files c.in-Ok.states.items) text holds
@@ -109,7 +109,7 @@ search_stored-requires-clause-states g c =
     let text = g.F.Name.FileName.text in
     let archives-of : map text c.as_slice-archives.result.now ≡ rc.paths =
     ap (map text) c.as_slice-archives.ensures.value ∙ asked.archives_named in
-    let holds = g.F.Folder.holds c.args.folder.now in
+    let holds = g.F.Folder.holds c.args.files.now.folder in
     subst (λ s. AreStatesOf K.state_found S.rest (map (λ n. bytes_of (holds n)) rc.paths) s)
     (sym c.as_slice-states.ensures.value)
     (of-named (λ files. AreStatesOf K.state_found S.rest files c.in-Ok.states.items) text holds
@@ -124,14 +124,14 @@ replace_file-requires-clause-writable g c =
 pub returns-in-Err-clause-ran : goal.returns-in-Err-clause-ran
 returns-in-Err-clause-ran g c = λ agree.
     let F = g.F.Folder in
-    let ReadsAgree = F.agree c.args.reads.now ≡ true in
+    let ReadsAgree = F.agree c.args.files.now.reads ≡ true in
     let asked = c.args.asked.now in
     let p = asked.plan.now in
     let rc = asked.rc.now in
     let text = g.F.Name.FileName.text in
     let archives-of : map text c.as_slice-archives.result.now ≡ rc.paths =
     ap (map text) c.as_slice-archives.ensures.value ∙ asked.archives_named in
-    let old = c.args.folder.now in
+    let old = c.args.files.now.folder in
     let wanted = asks asked.words.now asked.text.now asked.now in
     let ended = ending_of_stopped c.in-Err.stopped in
     let task = task_of_rc (F.holds old) wanted p rc in
@@ -148,14 +148,14 @@ returns-in-Err-clause-ran g c = λ agree.
 pub returns-clause-ran : goal.returns-clause-ran
 returns-clause-ran g c = λ agree.
     let F = g.F.Folder in
-    let ReadsAgree = F.agree c.search_stored.new.reads ≡ true in
+    let ReadsAgree = F.agree c.search_stored.new.files.reads ≡ true in
     let asked = c.args.asked.now in
     let p = asked.plan.now in
     let rc = asked.rc.now in
     let text = g.F.Name.FileName.text in
     let archives-of : map text c.as_slice-archives.result.now ≡ rc.paths =
     ap (map text) c.as_slice-archives.ensures.value ∙ asked.archives_named in
-    let old = c.args.folder.now in
+    let old = c.args.files.now.folder in
     let wanted = asks asked.words.now asked.text.now asked.now in
     let run = c.search_stored in
     let found = c.in-Ok.ensures.ok (run.ensures.reports.earlier agree) in
@@ -163,10 +163,11 @@ returns-clause-ran g c = λ agree.
     ap (files_at (F.holds old)) (sym archives-of) ∙ found.1 in
     let new-index = sym c.is_index_run.ensures ∙ c.if-is_index_run.false in
     let task = search_stored_task (F.holds old) wanted p rc found.0 in
-    subst (λ t. Ran F g.O.Out g.O.Stream.handed_on ReadsAgree (names_asked p rc) t old run.new.folder c.args.out.now
+    subst (λ t. Ran F g.O.Out g.O.Stream.handed_on ReadsAgree (names_asked p rc) t old run.new.files.folder
+    c.args.out.now
     run.new.out
     (ending_of_result run.result)) (sym (task-stored (F.holds old) wanted p rc found.0 files new-index c.if-plan.false))
     (ran-wider F g.O.Out g.O.Stream.handed_on ReadsAgree (rc.database ∷ both_names (answer_file p rc))
     (names_asked p rc)
-    (stored-asked p rc new-index c.if-plan.false) task old run.new.folder c.args.out.now run.new.out
+    (stored-asked p rc new-index c.if-plan.false) task old run.new.files.folder c.args.out.now run.new.out
     (ending_of_result run.result) (run.ensures.ran found.0 files agree))

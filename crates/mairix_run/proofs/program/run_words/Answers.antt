@@ -12,11 +12,12 @@ use Rattle.mairix_run.proofs.program.run_words.Goals as goal
 pub returns-in-Err-clause-ran : goal.returns-in-Err-clause-ran
 returns-in-Err-clause-ran g c = λ agree.
     let F = g.F.Folder in
-    let old = c.args.folder.now in
-    let words = map string_bytes c.args.words.now in
+    let old = c.args.files.now.folder in
+    let words = map string_bytes c.args.command.now.words.now in
     let names = names_used (F.holds old) (plan words) in
-    ran-ended F g.O.Out g.O.Stream.handed_on (F.agree c.args.reads.now ≡ true) names (task_of
-    (F.holds old) words c.args.now) old c.args.out.now
+    ran-ended F g.O.Out g.O.Stream.handed_on (F.agree c.args.files.now.reads ≡ true) names (task_of
+    (F.holds old) words c.args.command.now.moment) old c.args.out.now
     (ending_of_stopped c.into.result) (g.met.F.Folder.only_now old)
-    (refusal-ends names F.can_refuse F.reads_can_fail Usage (plan words) (task_of_plan (F.holds old) words c.args.now)
+    (refusal-ends names F.can_refuse F.reads_can_fail Usage (plan words)
+    (task_of_plan (F.holds old) words c.args.command.now.moment)
     c.in-Err.given c.into.result c.in-Err.ensures c.into.ensures)

@@ -25,8 +25,8 @@ returns-clause-ran g c = λ bytes files agree.
     let asked = c.args.asked.now in
     let p = asked.plan.now in
     let rc = asked.rc.now in
-    let old = c.args.folder.now in
-    let ReadsAgree = F.agree c.run_search.new.reads ≡ true in
+    let old = c.args.files.now.folder in
+    let ReadsAgree = F.agree c.run_search.new.files.reads ≡ true in
     let wanted = asks asked.words.now asked.text.now asked.now in
     let path = g.F.Name.FileName.text asked.names.now.database in
     let given = given-ok c.as_str.result.now c.read_named-index.result c.in-Ok.index c.in-Ok.ensures.given in
@@ -41,22 +41,22 @@ returns-clause-ran g c = λ bytes files agree.
     let names = both_names (answer_file p rc) in
     let ran : Ran F g.O.Out g.O.Stream.handed_on ReadsAgree names
     (Ok (search_task p rc (SearchStored wanted all bytes))) old
-    c.run_search.new.folder c.args.out.now c.run_search.new.out ended =
+    c.run_search.new.files.folder c.args.out.now c.run_search.new.out ended =
     ran-alike wanted c.as_slice.result.now all bytes (alike-read wanted all c.as_slice.result.now bytes is)
-    F g.O.Out g.O.Stream.handed_on ReadsAgree names p rc old c.run_search.new.folder c.args.out.now
+    F g.O.Out g.O.Stream.handed_on ReadsAgree names p rc old c.run_search.new.files.folder c.args.out.now
     c.run_search.new.out ended
     (c.run_search.ensures.ran bytes files agree) in
     let more = rc.database ∷ names in
     subst (λ n. Ran F g.O.Out g.O.Stream.handed_on ReadsAgree more
     (option_map_or Ok (bytes_of (F.holds old n)) (Err (CannotOpen n)) >>=
     λ index. Ok (search_task p rc (SearchStored wanted index bytes))) old
-    c.run_search.new.folder c.args.out.now c.run_search.new.out ended) asked.database_named
+    c.run_search.new.files.folder c.args.out.now c.run_search.new.out ended) asked.database_named
     (subst (λ e. Ran F g.O.Out g.O.Stream.handed_on ReadsAgree more
     (option_map_or Ok (bytes_of e) (Err (CannotOpen path)) >>=
     λ index. Ok (search_task p rc (SearchStored wanted index bytes))) old
-    c.run_search.new.folder c.args.out.now c.run_search.new.out ended) (sym read.2)
+    c.run_search.new.files.folder c.args.out.now c.run_search.new.out ended) (sym read.2)
     (ran-wider F g.O.Out g.O.Stream.handed_on ReadsAgree names more (λ n. contains-more rc.database n names)
-    (Ok (search_task p rc (SearchStored wanted all bytes))) old c.run_search.new.folder c.args.out.now
+    (Ok (search_task p rc (SearchStored wanted all bytes))) old c.run_search.new.files.folder c.args.out.now
     c.run_search.new.out ended ran))
 
 -- the index can't be read
@@ -66,14 +66,14 @@ returns-in-Err-clause-ran g c = λ bytes files agree.
     let asked = c.args.asked.now in
     let p = asked.plan.now in
     let rc = asked.rc.now in
-    let old = c.args.folder.now in
+    let old = c.args.files.now.folder in
     let wanted = asks asked.words.now asked.text.now asked.now in
     let path = g.F.Name.FileName.text asked.names.now.database in
     let made = both_names (answer_file p rc) in
     let names = rc.database ∷ made in
     let ended = ending_of_stopped c.in-Err.stopped in
     let next : List ℕ → Result Task Ending = λ index. Ok (search_task p rc (SearchStored wanted index bytes)) in
-    ran-ended F g.O.Out g.O.Stream.handed_on (F.agree c.args.reads.now ≡ true) names
+    ran-ended F g.O.Out g.O.Stream.handed_on (F.agree c.args.files.now.reads ≡ true) names
     (search_stored_task (F.holds old) wanted p rc bytes) old
     c.args.out.now ended (g.met.F.Folder.only_now old)
     (subst (λ n. Ends names F.can_refuse F.reads_can_fail

@@ -18,24 +18,24 @@ use Rattle.mairix_run.proofs.replacement.replace_file.Goals as goal
 pub returns-in-Err-clause-run : goal.returns-in-Err-clause-run
 returns-in-Err-clause-run g c = λ bytes files agree.
     let F = g.F.Folder in
-    let old = c.args.folder.now in
+    let old = c.args.files.now.folder in
     let name = g.F.Name.FileName.text c.args.names.now.name in
     let read = names_read g.F.Name.FileName.text c.args.read.now in
     let work = g.C.Content.work c.args.content.now bytes in
-    same-replaced F old read name (g.F.Folder.agree c.args.reads.now ≡ true) work (g.met.F.Folder.only_now old)
+    same-replaced F old read name (g.F.Folder.agree c.args.files.now.reads ≡ true) work (g.met.F.Folder.only_now old)
     (ending_of_stopped c.in-Err.stopped)
     (kept-found (F.holds old) (F.apart old) (F.is_leftover old) work read name
-    (name ∷ temporary_of name ∷ []) F.can_refuse F.reads_can_fail (λ e. F.agree c.args.reads.now ≡ true
+    (name ∷ temporary_of name ∷ []) F.can_refuse F.reads_can_fail (λ e. F.agree c.args.files.now.reads ≡ true
     → Puts (F.can_refuse ⊎ F.writes_can_fail) (CannotRead F.can_refuse F.reads_can_fail) work (F.holds old name) e)
     (contains-first name (temporary_of name ∷ []))
     c.in-Err.stopped (c.in-Err.ensures.stopped bytes agree))
 
 pub returns-in-Err-create_file-clause-run : goal.returns-in-Err-create_file-clause-run
 returns-in-Err-create_file-clause-run g c = λ bytes files agree.
-    let old = c.args.folder.now in
+    let old = c.args.files.now.folder in
     let failed = c.in-Err-create_file.ensures in
     none-made g.F.Folder old (names_read g.F.Name.FileName.text c.args.read.now)
-    (g.F.Name.FileName.text c.args.names.now.name) (g.F.Folder.agree c.args.reads.now ≡ true)
+    (g.F.Name.FileName.text c.args.names.now.name) (g.F.Folder.agree c.args.files.now.reads ≡ true)
     (g.C.Content.work c.args.content.now bytes) (g.met.F.Folder.only_now old) c.create_file.new.folder
     c.in-Err-create_file.stopped
     (g.F.Name.FileName.text c.args.names.now.temporary) (sym c.requires.temporary)
@@ -48,7 +48,7 @@ pub returns-clause-run : goal.returns-clause-run
 returns-clause-run g c = λ bytes files agree.
     let F = g.F.Folder in
     let N = g.F.New.Out in
-    let old = c.args.folder.now in
+    let old = c.args.files.now.folder in
     let name = g.F.Name.FileName.text c.args.names.now.name in
     let read = names_read g.F.Name.FileName.text c.args.read.now in
     let text = g.F.Name.FileName.text in

@@ -18,8 +18,8 @@ returns-in-Some-clause-ran g c = λ bytes files agree.
     let asked = c.args.asked.now in
     let p = asked.plan.now in
     let rc = asked.rc.now in
-    let old = c.args.folder.now in
-    let new = c.replace_file.new.folder in
+    let old = c.args.files.now.folder in
+    let new = c.replace_file.new.files.folder in
     let text = g.F.Name.FileName.text in
     let name = text c.in-Some.file.name in
     let archives = c.as_slice-archives.result.now in
@@ -37,7 +37,7 @@ returns-in-Some-clause-ran g c = λ bytes files agree.
     λ i. asked.rcfile_named i ∷ asked.database_named i ∷ archives-of i in
     let known : files_of text (F.holds old) archives ≡ map Some bytes =
     files-known text (F.holds old) archives bytes (ap (files_at (F.holds old)) archives-of ∙ files) in
-    let ReadsAgree = F.agree c.replace_file.new.reads ≡ true in
+    let ReadsAgree = F.agree c.replace_file.new.files.reads ≡ true in
     ran-made F g.O.Out g.O.Stream.handed_on ReadsAgree (search_task p rc work) name some old new c.args.out.now ended
     (subst (λ (r : List (List ℕ)). ReplacesFile F ReadsAgree work r name old new ended) same
     (c.replace_file.ensures.run bytes known agree))
@@ -46,7 +46,7 @@ pub returns-in-None-clause-ran : goal.returns-in-None-clause-ran
 returns-in-None-clause-ran g c = λ bytes files agree.
     let F = g.F.Folder in
     let asked = c.args.asked.now in
-    let old = c.args.folder.now in
+    let old = c.args.files.now.folder in
     let text = g.F.Name.FileName.text in
     let archives = c.as_slice-archives.result.now in
     let work = search_work (asks asked.words.now asked.text.now asked.now) (option_map (λ index. index.now)
