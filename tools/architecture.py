@@ -17,6 +17,7 @@ from pathlib import Path
 sys.dont_write_bytecode = True
 from crates import Crates
 from function_bodies import blanked, block_end, bodies_of_file
+from verdict import say
 
 TOP = Path(__file__).resolve().parent.parent
 PAGE, TIMES = (TOP / "docs" / name for name in ("ARCHITECTURE.md", "PERFORMANCE.md"))
@@ -266,8 +267,7 @@ def main(words):
         if why:
             print(f"architecture: {name}: {why}")
     failed = sum(1 for why in wrong.values() if why)
-    print(f"{len(wrong) - failed} passed, {failed} failed")
-    return 1 if failed else 0
+    return say(len(wrong) - failed, failed)
 
 
 if __name__ == "__main__":

@@ -15,6 +15,7 @@ from check_program import run, write
 from overlapping_runs import OLD, SEPARATOR, read
 from program_cases import INDEX, ONCE, STORED, TWO
 from sweep_program import shim
+from verdict import say
 
 COUNTED = "open create statx read read_at "
 # The writer waits longer than a tick of the system's clock, within which a second change can't be told.
@@ -234,8 +235,7 @@ def main(program, runs=20):
         for name, bad in beside_a_writer(program, top, int(runs)):
             print("changing files: " + name, flush=True)
             take(name, bad)
-    print("%d passed, %d failed" % (passed, failed))
-    return 1 if failed else 0
+    return say(passed, failed)
 
 
 if __name__ == "__main__":

@@ -23,6 +23,7 @@ from build import TOP, Build, kept_of
 from commands import Commands
 from crates import Crates
 from machine import checks_side_by_side
+from verdict import say
 
 
 def above(crates, name):
@@ -108,8 +109,7 @@ def main():
     check.prove([it for it in others if not has_tests(it)])
     for name in [it for it in [words.crate, *others] if has_tests(it)]:
         check.test(name)
-    print(f"{check.passed} passed, {check.failed} failed")
-    return 1 if check.failed else 0
+    return say(check.passed, check.failed)
 
 
 if __name__ == "__main__":

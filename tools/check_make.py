@@ -20,6 +20,7 @@ from pathlib import Path
 
 sys.dont_write_bytecode = True
 from faults_of_check import Faults, is_early_cause
+from verdict import say
 
 TOP = Path(__file__).resolve().parent.parent
 # The files of demo/ that `make try` searches, its words for the program, what that prints, and the last line of all.
@@ -140,8 +141,7 @@ def main(copy):
         if not is_well:
             print(f"check_make: {name}: printed {printed[-2000:]!r}")
     passed = sum(is_well for _, is_well, _ in checks)
-    print(f"{passed} passed, {len(checks) - passed} failed")
-    return 0 if passed == len(checks) else 1
+    return say(passed, len(checks) - passed)
 
 
 if __name__ == "__main__":

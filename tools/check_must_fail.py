@@ -10,6 +10,7 @@ from pathlib import Path
 
 sys.dont_write_bytecode = True
 from must_fail import Verdict
+from verdict import say
 
 TOOL = Path(__file__).resolve().parent / "must_fail.py"
 
@@ -330,8 +331,7 @@ def main():
     )
     passed, failed = passed + is_well, failed + (not is_well)
     print(f"the tool on functions that call one another: {'well' if is_well else 'WRONG'}")
-    print(f"{passed} passed, {failed} failed")
-    return 1 if failed else 0
+    return say(passed, failed)
 
 
 if __name__ == "__main__":

@@ -11,6 +11,7 @@ import functools, gzip, hashlib, io, os, re, shutil, struct, subprocess, sys, ta
 from pathlib import Path
 
 sys.dont_write_bytecode = True
+from verdict import say_of
 import version
 from check_pages import COMPLETIONS, DOCUMENTS, MANUAL, NEWS, README, differences, files_in, of_scripts
 from page_examples import TOP, Sandbox, checks_of
@@ -339,14 +340,8 @@ def all_checks(program, room):
 
 
 def main(program):
-    passed = bad = 0
     with tempfile.TemporaryDirectory(prefix="package-") as room:
-        for name, wrong in all_checks(os.path.abspath(program), Path(room).resolve()):
-            passed, bad = passed + (not wrong), bad + bool(wrong)
-            if wrong:
-                print(f"package: {name}: {wrong}")
-    print(f"{passed} passed, {bad} failed")
-    return 1 if bad else 0
+        return say_of("package", all_checks(os.path.abspath(program), Path(room).resolve()))
 
 
 if __name__ == "__main__":

@@ -15,6 +15,7 @@ from fnmatch import fnmatch
 from pathlib import Path
 
 sys.dont_write_bytecode = True
+from verdict import say_of
 import version
 from crates import Crates
 from crates_elsewhere import files_of_caller
@@ -615,13 +616,7 @@ def all_checks(program):
 
 
 def main(program):
-    passed = failed = 0
-    for name, wrong in all_checks(program and os.path.abspath(program)):
-        passed, failed = passed + (not wrong), failed + bool(wrong)
-        if wrong:
-            print(f"pages: {name}: {wrong}")
-    print(f"{passed} passed, {failed} failed")
-    return 1 if failed else 0
+    return say_of("pages", all_checks(program and os.path.abspath(program)))
 
 
 if __name__ == "__main__":

@@ -10,6 +10,7 @@ import hashlib, os, resource, stat, subprocess, sys, tempfile, time
 import overlapping_runs
 from overlapping_runs import HELLO, OLD, SEPARATOR, hello_index, shim
 from program_cases import CASES, CHANGED, HELLO_INDEX, INDEX, LEFT, LINK, ONCE, OWN, RAW, RC, STORED, TWO, fault
+from verdict import say_of
 
 
 def write(folder, files):
@@ -613,7 +614,6 @@ def neighbours(program):
 
 def main(program):
     program = os.path.abspath(program)
-    passed = failed = 0
     checks = [(name, lambda c=c: case(program, *c)) for name, *c in CASES]
     others = (
         killed_run,
@@ -643,13 +643,7 @@ def main(program):
     )
     checks += [(f.__doc__.split(".")[0], lambda f=f: f(program)) for f in others]
     checks += [("overlapping runs: " + name, lambda bad=bad: bad) for name, _, bad in overlapping_runs.checks(program)]
-    for name, check in checks:
-        bad = check()
-        passed, failed = passed + (not bad), failed + bool(bad)
-        if bad:
-            print("program: %s: %s" % (name, "; ".join(bad)))
-    print("%d passed, %d failed" % (passed, failed))
-    return 1 if failed else 0
+    return say_of("program", ((name, "; ".join(check())) for name, check in checks))
 
 
 if __name__ == "__main__":

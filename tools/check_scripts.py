@@ -15,6 +15,7 @@ import mail_cases, script_cases
 from check_program import contents, differences, left_out, same
 from mail_cases import rows_of_recipes
 from script_cases import LINK, PRIVATE
+from verdict import say_of
 
 TOP = Path(__file__).resolve().parent.parent
 SCRIPTS = sorted((TOP / "scripts").iterdir())
@@ -148,13 +149,7 @@ def all_checks(program):
 
 
 def main(program):
-    passed = failed = 0
-    for name, bad in all_checks(program):
-        passed, failed = passed + (not bad), failed + bool(bad)
-        if bad:
-            print(f"scripts: {name}: {'; '.join(bad)}", flush=True)
-    print(f"{passed} passed, {failed} failed")
-    return 1 if failed else 0
+    return say_of("scripts", ((name, "; ".join(bad)) for name, bad in all_checks(program)))
 
 
 if __name__ == "__main__":

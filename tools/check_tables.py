@@ -12,6 +12,7 @@ from pathlib import Path
 
 sys.dont_write_bytecode = True
 from function_bodies import blanked, bodies_of_file
+from verdict import say
 
 TOOLS = os.path.dirname(os.path.abspath(__file__))
 DATES = os.path.join(TOOLS, "..", "crates", "worked_parts", "src", "header_dates.rt")
@@ -91,8 +92,7 @@ def main(write):
         good = check()
         passed, failed = passed + good, failed + (not good)
         print("tables: %s: %s" % (check.__name__, "yes" if good else "NO"))
-    print("%d passed, %d failed" % (passed, failed))
-    return 1 if failed else 0
+    return say(passed, failed)
 
 
 if __name__ == "__main__":

@@ -15,6 +15,7 @@ import tempfile
 from pathlib import Path
 
 sys.dont_write_bytecode = True
+from verdict import say_of
 import version
 
 TOP = version.TOP
@@ -153,13 +154,7 @@ def all_checks():
 
 
 def main():
-    passed = failed = 0
-    for name, wrong in all_checks():
-        passed, failed = passed + (not wrong), failed + bool(wrong)
-        if wrong:
-            print(f"version: {name}: {wrong}")
-    print(f"{passed} passed, {failed} failed")
-    return 1 if failed else 0
+    return say_of("version", all_checks())
 
 
 if __name__ == "__main__":

@@ -12,6 +12,7 @@ from pathlib import Path
 
 sys.dont_write_bytecode = True
 from function_bodies import blanked, bodies_of_file
+from verdict import say
 
 TOP = Path(__file__).resolve().parent.parent
 MOST_IN_BODY, MOST_IN_FILE = 39, 799
@@ -44,8 +45,7 @@ def main():
     wrong = {file: found for file in files for found in [list(faults_of(file))] if found}
     for file, found in wrong.items():
         print(f"{file.relative_to(TOP)}: {'; '.join(found)}")
-    print(f"{len(files) - len(wrong)} passed, {len(wrong)} failed")
-    return 1 if wrong else 0
+    return say(len(files) - len(wrong), len(wrong))
 
 
 if __name__ == "__main__":

@@ -28,6 +28,7 @@ from commands import Commands
 from crates import PARTS, Crates
 from kit import RT
 from machine import checks_side_by_side
+from verdict import say
 
 # Where the files of a caller stand, and how its modules begin.
 FOLDER, MODULES = "crates/caller", "Rattle.caller."
@@ -145,8 +146,7 @@ def main():
         if faults:
             print(f"{name} in another repository:", *faults, sep="\n", flush=True)
     failed = sum(map(bool, wrong.values()))
-    print(f"{len(names) - failed} passed, {failed} failed")
-    return 1 if failed else 0
+    return say(len(names) - failed, failed)
 
 
 if __name__ == "__main__":

@@ -34,6 +34,7 @@ from commands import Commands
 from crates import PARTS
 from edits import Crate, read_edit
 from overlapping_runs import hello_index
+from verdict import say
 
 TOP = Path(__file__).resolve().parent.parent
 RT = os.environ.get("RT", "rt")
@@ -334,8 +335,7 @@ def main(wanted):
     wrong = [f"row {it.name}: NOT tried: {wrong_with(it)}" for it in edits.values() if wrong_with(it)]
     if wrong or not rows:
         print("\n".join(wrong or ["no such row"]))
-        print(f"0 passed, {max(1, len(wrong))} failed")
-        return 1
+        return say(0, max(1, len(wrong)))
     runs = {f"edit-{number}": (row, number) for number, row in enumerate(rows.values(), 1)}
     right = {row: f"right-{number}" for number, row in enumerate(dict.fromkeys(rows.values()))}
     runs |= {name: (row, 0) for row, name in right.items()}
@@ -355,8 +355,7 @@ def main(wanted):
     is_tried = told.get(MAKE_TRY) == RIGHT
     print(f"what make try runs: {told.get(MAKE_TRY, NOTHING)}")
     passed, count = passed + is_tried, len(rows) + 1
-    print(f"{passed} passed, {count - passed} failed")
-    return 0 if passed == count else 1
+    return say(passed, count - passed)
 
 
 if __name__ == "__main__":

@@ -14,6 +14,7 @@ from check_program import MADE, left_out, run, write
 from names_of_files import MOUNTING_A_DISK
 from overlapping_runs import HELLO, OLD, read, shim
 from program_cases import INDEX, LEFT, LINK, ONCE, RC
+from verdict import say
 
 COUNTED = "open update create write fchmod fsync unlink rename "
 # The last name of the folder in which the file is made.
@@ -175,8 +176,7 @@ def main(program):
             verdicts.append(subprocess.run(MOUNTING_A_DISK + words).returncode != 0)
         else:
             left_out("power cuts: no disk can be mounted here")
-    print("%d passed, %d failed" % (verdicts.count(False), verdicts.count(True)))
-    return 1 if any(verdicts) else 0
+    return say(verdicts.count(False), verdicts.count(True))
 
 
 if __name__ == "__main__":

@@ -13,6 +13,7 @@ from pathlib import Path
 
 sys.dont_write_bytecode = True
 from function_bodies import blanked, block_end, body_of
+from verdict import say
 
 TOP = Path(__file__).resolve().parent.parent
 MOST = 8
@@ -55,8 +56,7 @@ def main():
     print(*wrong, sep="\n", end="\n" if wrong else "")
     if wrong:
         print(f"At most {MOST} are right (MOST in tools/few_promises.py): make those that belong together a record, whose parts have names.")
-    print(f"{len(files) - len(wrong)} passed, {len(wrong)} failed")
-    return 1 if wrong else 0
+    return say(len(files) - len(wrong), len(wrong))
 
 
 if __name__ == "__main__":

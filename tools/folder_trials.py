@@ -22,6 +22,7 @@ from pathlib import Path
 
 sys.dont_write_bytecode = True
 from names_of_files import MOUNTING_A_DISK
+from verdict import say
 
 # What a name leads to at first, besides a file (its text), what a killed run left (`Left`), and a link.
 FOLDER, PIPE, NOTHING = "folder", "pipe", None
@@ -552,8 +553,7 @@ def main():
     trials = Trials(words.program, words)
     tried = [trials.try_system(it) for it in SYSTEMS if words.only in (None, it.name) and it.is_possible()]
     print("folder_trials: sequences on", ", ".join(filter(None, tried)))
-    print(f"{trials.passed} passed, {trials.failed} failed")
-    return 1 if trials.failed or not trials.passed else 0
+    return say(trials.passed, trials.failed)
 
 
 if __name__ == "__main__":

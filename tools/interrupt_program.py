@@ -15,6 +15,7 @@ from check_program import contents, mode, run, write
 from overlapping_runs import SEPARATOR, shim
 from program_cases import INDEX, RC, fault
 from sweep_program import COUNTED
+from verdict import say
 
 # How many calls of a run, or sizes of a disk, are tried for each fault.
 POINTS = 50
@@ -191,8 +192,7 @@ def main(program):
                 verdicts.append(subprocess.run(MOUNTING + words).returncode != 0)
             else:
                 print("interrupt_program: %s, a small disk: skipped, since none can be mounted here" % made.what)
-    print("%d passed, %d failed" % (verdicts.count(False), len(verdicts) - verdicts.count(False)))
-    return 1 if any(verdicts) else 0
+    return say(verdicts.count(False), len(verdicts) - verdicts.count(False))
 
 
 def may_mount(folder):

@@ -18,6 +18,9 @@ import re
 import sys
 from pathlib import Path
 
+sys.dont_write_bytecode = True
+from verdict import say
+
 TOP = Path(__file__).resolve().parent.parent
 MOST = 120
 MOST_IN_CONTRACT = 100
@@ -147,8 +150,8 @@ def main(is_written):
                 if long[number - 1]:
                     print(f"{file.relative_to(TOP)}:{number}: {len(line)} columns, and at most {most} are right")
         passed, failed = passed + (not any(long)), failed + any(long)
-    print(f"{passed} passed, {failed} failed")
-    return 1 if failed and not is_written else 0
+    status = say(passed, failed)
+    return 0 if is_written else status
 
 
 if __name__ == "__main__":

@@ -51,6 +51,7 @@ from commands import Commands
 from crates import PARTS
 from edits import REFUSED, Crate, Stub, Twin, answered, assume_lemmas, is_goal_of, read_edit, refuse_in_place
 from machine import checks_side_by_side, processors
+from verdict import say
 
 # A check of 110 edits of mairix_run took 3.4 GB of memory.
 MOST_IN_A_ROUND = 140
@@ -496,8 +497,7 @@ def main():
         running = [pool.submit(try_crate, proved, it, edits[it], words.write) for it in largest_first]
         for tried in (it.result() for it in running):
             passed, failed = passed + sum(tried), failed + len(tried) - sum(tried)
-    print(f"{passed} passed, {failed} failed")
-    return 1 if failed or not passed else 0
+    return say(passed, failed)
 
 
 if __name__ == "__main__":

@@ -12,6 +12,9 @@ import sys
 from collections import defaultdict
 from pathlib import Path
 
+sys.dont_write_bytecode = True
+from verdict import say
+
 TOP = Path(__file__).resolve().parent.parent
 # Endings of participles, and those that have none of these.
 PARTICIPLE = re.compile(
@@ -68,8 +71,7 @@ def main():
     for name in stale:
         print(f"tools/names.py: {name} is excepted, and needn't be")
     failed = len(told) + len(stale)
-    print(f"{len(files) - len(told)} passed, {failed} failed")
-    return 1 if failed else 0
+    return say(len(files) - len(told), failed)
 
 
 if __name__ == "__main__":

@@ -12,6 +12,7 @@ import os, subprocess, sys, tempfile
 from check_program import MADE, contents, left_out, mode, run, write
 from overlapping_runs import HELLO, OLD, shim
 from program_cases import HELLO_INDEX, INDEX, LEFT, LINK, ONCE, RC, TWO, fault
+from verdict import say
 
 # What runs a command that may mount, which the command alone sees and which ends with it.
 MOUNTING = ["unshare", "--mount", "--map-root-user"]
@@ -376,8 +377,7 @@ def main(program):
             "names_of_files: %s: %d tried%s" % (check.__name__.replace("_", " "), len(results), "; wrong: " + "; ".join(bad[:5]) if bad else ""),
             flush=True,
         )
-    print("%d passed, %d failed" % (passed, failed))
-    return 1 if failed else 0
+    return say(passed, failed)
 
 
 if __name__ == "__main__":

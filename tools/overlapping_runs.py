@@ -10,6 +10,9 @@ hand. The last line is `N passed, M failed`.
 import hashlib, os, signal, struct, subprocess, sys, tempfile, time
 from dataclasses import dataclass
 
+sys.dont_write_bytecode = True
+from verdict import say
+
 SEPARATOR = b"From a@x.org Thu Jan  2 10:00:00 2003\n"
 HELLO = SEPARATOR + b"Subject: Hello\n\nhi\n\n"
 # What an older run made, which is replaced: it begins as an index does, and as an answer it may be anything.
@@ -348,8 +351,7 @@ def main(program):
         if bad:
             print("overlapping runs: %s: %d of %d: %s" % (name, len(bad), tried, "; ".join(bad[:3])))
     print("overlapping runs: %d overlaps" % overlaps)
-    print("%d passed, %d failed" % (passed, failed))
-    return 1 if failed else 0
+    return say(passed, failed)
 
 
 if __name__ == "__main__":

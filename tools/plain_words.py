@@ -13,6 +13,7 @@ from pathlib import Path
 
 sys.dont_write_bytecode = True
 from function_bodies import HIDDEN
+from verdict import say
 
 TOP = Path(__file__).resolve().parent.parent
 WORDS = TOP / "tools/plain_words.txt"
@@ -85,8 +86,7 @@ def main(crates):
         for file in silent:
             print(f"{file.relative_to(TOP)}: doesn't begin with a comment")
         failed += bool(wrong or silent) or not texts
-    print(f"{len(looked_at) - failed} passed, {failed} failed")
-    return 1 if failed else 0
+    return say(len(looked_at) - failed, failed)
 
 
 if __name__ == "__main__":

@@ -14,6 +14,9 @@ import re
 import sys
 from pathlib import Path
 
+sys.dont_write_bytecode = True
+from verdict import say
+
 TOP = Path(__file__).resolve().parent.parent
 KEPT = TOP / "bench/results/kept-proof-bytes.txt"
 HEAD = "Bytes of each crate's written proofs without their layout, as tools/proof_bytes.py counts them.\n"
@@ -50,8 +53,7 @@ def main(words):
     print(*wrong, sep="\n", end="\n" if wrong else "")
     if wrong:
         print("If these proofs show more than before, tools/proof_bytes.py --write keeps the new numbers.")
-    print(f"{len(now) - len(wrong)} passed, {len(wrong)} failed")
-    return 1 if wrong else 0
+    return say(len(now) - len(wrong), len(wrong))
 
 
 if __name__ == "__main__":

@@ -13,6 +13,9 @@ The last line is `N passed, M failed`.
 """
 import glob, os, subprocess, sys, tempfile
 
+sys.dont_write_bytecode = True
+from verdict import say
+
 MOST = 5000
 NO_MORE = "_takes_no_more"
 
@@ -53,8 +56,7 @@ def main():
         failed += 1
         print("sweep: nothing was refused at all")
     print("sweep: %d allocations refused" % sum(refused.values()))
-    print("%d passed, %d failed" % (passed, failed))
-    return 1 if failed else 0
+    return say(passed, failed)
 
 
 if __name__ == "__main__":

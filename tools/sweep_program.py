@@ -13,6 +13,7 @@ from dataclasses import dataclass, field
 from check_program import contents, run, write
 from overlapping_runs import HELLO, OLD, shim
 from program_cases import ALICE, ALICE_EXCERPT, CHANGED, FIRST_OF_THREAD, HELLO_INDEX, INDEX, ONCE, RC, SECOND_OF_THREAD, STORED, THREAD, fault
+from verdict import say
 
 MOST = 20_000
 COUNTED = "open update create statx realpath flock read read_at write print tell fchmod fsync unlink rename "
@@ -293,8 +294,7 @@ def main(program):
     for name, count in tried.items():
         failed += not count
         print("sweep_program: %d %s" % (count, name))
-    print("%d passed, %d failed" % (passed, failed))
-    return 1 if failed else 0
+    return say(passed, failed)
 
 
 if __name__ == "__main__":

@@ -13,6 +13,7 @@ from pathlib import Path
 
 sys.dont_write_bytecode = True
 from function_bodies import blanked
+from verdict import say
 
 TOP = Path(__file__).resolve().parent.parent
 # What a path to them goes through: std::fs, std::os::unix::fs, std::os::fd, std::rt::Files.
@@ -62,8 +63,7 @@ def main():
     wrong = [f"{file}: names {', '.join(names)}" for file, names in files.items() if names and file not in FILES]
     wrong += [f"{file}: names no file of the system, or isn't there" for file in sorted(FILES) if not files.get(file)]
     print(*wrong, sep="\n", end="\n" if wrong else "")
-    print(f"{len(files) - len(wrong)} passed, {len(wrong)} failed")
-    return 1 if wrong else 0
+    return say(len(files) - len(wrong), len(wrong))
 
 
 if __name__ == "__main__":

@@ -17,6 +17,7 @@ from pathlib import Path
 sys.dont_write_bytecode = True
 from crates import Crates
 from lemmas import lemmas_of
+from verdict import say
 
 TOP = Path(__file__).resolve().parent.parent
 WORD = re.compile(r"[^\s(){}\[\],;:.|]+")
@@ -137,8 +138,7 @@ def main():
     for file in silent:
         print(f"{file.relative_to(TOP)}: says nothing")
     failed = len({crate_of(it) for it in [*found, *silent]})
-    print(f"{len({crate_of(it) for it in proofs}) - failed} passed, {failed} failed")
-    return 1 if failed else 0
+    return say(len({crate_of(it) for it in proofs}) - failed, failed)
 
 
 if __name__ == "__main__":

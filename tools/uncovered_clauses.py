@@ -18,6 +18,7 @@ from pathlib import Path
 sys.dont_write_bytecode = True
 from edits import Crate, read_edit
 from function_bodies import blanked, item_of
+from verdict import say
 
 CALLS = {
     "mbox_cutter": "FromRead::new FromReadSource::read_next ToWrite::new ToWriteOut::put MemorySource::new"
@@ -112,8 +113,7 @@ def main(words):
                 print(f"{name}: NOT broken by any edit: {clause} of {call}")
         for edit in (edit for edit, covered in covering if is_spare and not covered):
             print(f"{name}: covers no clause of these calls: {edit.file.stem}, of {' '.join(sorted(edit.functions))}")
-    print(f"{passed} passed, {failed} failed")
-    return 1 if failed else 0
+    return say(passed, failed)
 
 
 if __name__ == "__main__":
