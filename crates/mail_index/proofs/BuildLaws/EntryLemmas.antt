@@ -1,5 +1,5 @@
 -- The bytes of an entry are the number of its kind, its text and its postings, wherever their parts are kept.
-use Rattle.mail_index.proofs.Words.{◌≡◌, ◌∙◌, ℕ, ◌+◌, ◌-◌, ◌^◌, ◌<◌, ◌≤◌, nat_le, Bool, true, false, cond, List, [], ◌∷◌, ◌++◌, length, take, drop, slice_index, refl, sym, ap, ap₂, subst, arith, append-nil, append_assoc, length-append, nat_tests, length-take-le, take-append-le, drop-append-le, drop_at, take-length, drop-append_seam, Kind, kind_number, kind_of_number, Key, leb128, end_from, numbers_of}
+use Rattle.mail_index.proofs.Words.{◌≡◌, ◌∙◌, ℕ, ◌+◌, ◌-◌, ◌^◌, ◌<◌, ◌≤◌, cond, List, [], ◌∷◌, ◌++◌, length, take, drop, slice_index, refl, sym, ap, ap₂, arith, append-nil, append_assoc, length-append, length-take-le, take-append-le, drop-append-le, drop_at, take-length, drop-append_seam, Kind, kind_number, kind_of_number, leb128, end_from, numbers_of}
 use Rattle.mail_index.specs.Inside.KeyMaps.{new_key, with_one, key_in, short_front, front_holder, key_bytes, AreEntryBytes, HoldsFront}
 use Rattle.mail_index.proofs.ViewLaws.KindNumbers.{kind_of-number}
 use Rattle.mail_index.proofs.BuildLaws.PostingLemmas.{posted-nil, numbers_of-nil, posted-more, numbers_of-more, with_number-low, with_number-new, with_number-nil}
@@ -7,95 +7,90 @@ use Rattle.mail_index.proofs.BuildLaws.PostingLemmas.{posted-nil, numbers_of-nil
 -- ---- no postings
 
 front-all : (b : ℕ) (text : List ℕ) → take (length text + 1) (b ∷ text) ≡ b ∷ text
-front-all b text = let long : length text + 1 ≡ length (b ∷ text) = omega arith
-    in ap (λ (n : ℕ). take n (b ∷ text)) long ∙ take-length (b ∷ text)
+front-all b text = grind (arith, length, take, take-length)
 
 after-none : (b : ℕ) (text : List ℕ) → drop (length text + 1) (b ∷ text) ≡ []
 after-none b text =
     let long : length text + 1 ≡ length (b ∷ text) = omega arith in
-    ap₂ (λ (n : ℕ) (l : List ℕ). drop n l) long (sym (append-nil (b ∷ text))) ∙ drop-append_seam (b ∷ text) []
+    ap₂ (λ (n : ℕ) (l : List ℕ). drop n l) long (sym (append-nil _)) ∙ drop-append_seam (b ∷ text) _
 
 entry-none : (kind : Kind) (text bytes : List ℕ) → bytes ≡ kind_number kind ∷ text
     → AreEntryBytes bytes (length text + 1) 0
-entry-none kind text bytes e = grind (arith, front-all, kind_number, kind_of-number, after-none, posted-nil)
+entry-none _ _ _ e = grind (arith, front-all, kind_number, kind_of-number, after-none, posted-nil)
 
 key-none : (kind : Kind) (text bytes : List ℕ) → bytes ≡ kind_number kind ∷ text
     → key_in (take (length text + 1) bytes) (drop (length text + 1) bytes)
     ≡ record { kind = kind; text = text; numbers = [] }
-key-none kind text bytes e = grind (arith, front-all, kind_number, after-none, kind_of-number, numbers_of-nil)
+key-none _ _ _ e = grind (arith, front-all, kind_number, after-none, kind_of-number, numbers_of-nil)
 
 -- ---- the front, which is kept apart if it is short
 
 short-front : (kept : List ℕ) (n : ℕ) → n ≤ 16 → short_front kept n ≡ take n kept
-short-front kept n h = let e : nat_le n 16 ≡ true = grind (arith, nat_tests) in rw e refl
+short-front _ n h = grind arith
 
 long-front : (kept : List ℕ) (n : ℕ) → 16 < n → short_front kept n ≡ slice_index kept 0 ∷ []
-long-front kept n h = let e : nat_le n 16 ≡ false = grind (arith, nat_tests) in rw e refl
+long-front _ n h = grind arith
 
 holder-short : (kept bytes : List ℕ) (n : ℕ) → n ≤ 16 → n ≤ length (front_holder kept n bytes) → n ≤ length kept
-holder-short kept bytes n h long = let e : nat_le n 16 ≡ true = grind (arith, nat_tests)
-    in subst (λ (b : Bool). n ≤ length (cond b kept (slice_index kept 0 ∷ bytes))) e long
+holder-short kept bytes n h long = grind (arith, length, cond, slice_index)
 
 holder-long : (kept bytes : List ℕ) (n : ℕ) → 16 < n → n ≤ length (front_holder kept n bytes)
     → n ≤ length (slice_index kept 0 ∷ bytes)
-holder-long kept bytes n h long = let e : nat_le n 16 ≡ false = grind (arith, nat_tests)
-    in subst (λ (b : Bool). n ≤ length (cond b kept (slice_index kept 0 ∷ bytes))) e long
+holder-long kept bytes n h long = grind (arith, length, cond, slice_index)
 
 -- after a short front, which is kept apart, all other bytes are the postings
 pub after-short : (kept bytes recent : List ℕ) (n : ℕ) → n ≤ 16 → n ≤ length (front_holder kept n bytes)
     → bytes ++ recent ≡ drop n (key_bytes kept n bytes recent)
-after-short kept bytes recent n h long = grind (arith, length-take-le, holder-short, short-front, drop_at)
+after-short _ _ _ n h long = grind (arith, length-take-le, holder-short, short-front, drop_at)
 
 -- a long text comes before the postings, in the same bytes
 pub after-long : (kept bytes recent : List ℕ) (m : ℕ) → 16 < m + 1 → m + 1 ≤ length (front_holder kept (m + 1) bytes)
     → drop m bytes ++ recent ≡ drop (m + 1) (key_bytes kept (m + 1) bytes recent)
-after-long kept bytes recent m h long = grind (arith, long-front, drop-append-le, holder-long)
+after-long _ _ _ m h long = grind (arith, long-front, drop-append-le, holder-long)
 
 -- longer bytes hold the front too
 pub within-more : (kept old new : List ℕ) (n : ℕ) → n ≤ length (front_holder kept n old) → length old ≤ length new
     → n ≤ length (front_holder kept n new)
-within-more kept old new n long more = grind arith
+within-more _ _ _ n long more = grind arith
 
 -- bytes that are appended to the last ones are appended to all
 pub key_bytes-more : (kept : List ℕ) (n : ℕ) (bytes recent bytes' recent' more : List ℕ) → bytes' ++ recent'
     ≡ (bytes ++ recent) ++ more
     → key_bytes kept n bytes' recent' ≡ key_bytes kept n bytes recent ++ more
-key_bytes-more kept n bytes recent bytes' recent' more e = ap (λ (l : List ℕ). short_front kept n ++ l) e
-    ∙ sym (append_assoc (short_front kept n) (bytes ++ recent) more)
+key_bytes-more kept n bytes recent _ _ more e = grind (arith, short_front, append_assoc)
 
 -- ---- one more number
 
 pub entry-more : (bytes : List ℕ) (front next n : ℕ) → AreEntryBytes bytes front next → next ≤ n → n + 1 < 2 ^ 32
     → AreEntryBytes (bytes ++ leb128 5 (n + 1 - next)) front (n + 1)
 entry-more bytes front next n i low high =
-    let l : List ℕ = leb128 5 (n + 1 - next) in
+    let l = leb128 5 (n + 1 - next) in
     record {
       long = omega (arith, i.long, length-append bytes l);
-      kind = rw (take-append-le front bytes l i.long) i.kind;
-      posted = rw (drop-append-le front bytes l i.long) (posted-more (drop front bytes) next n i.posted low high);
+      kind = rw (take-append-le _ _ l i.long) i.kind;
+      posted = rw (drop-append-le _ _ l i.long) (posted-more _ _ n i.posted low high);
     }
 
 pub key-more : (bytes : List ℕ) (front next n : ℕ) → AreEntryBytes bytes front next → next ≤ n → n + 1 < 2 ^ 32
     → key_in (take front (bytes ++ leb128 5 (n + 1 - next))) (drop front (bytes ++ leb128 5 (n + 1 - next)))
     ≡ with_one (key_in (take front bytes) (drop front bytes)) n
-key-more bytes front next n i low high =
-    grind (
-      arith,
-      leb128,
-      end_from,
-      numbers_of,
-      take-append-le,
-      drop-append-le,
-      kind_of_number,
-      slice_index,
-      numbers_of-more,
-      with_number-new,
-    )
+key-more _ _ _ n i low high = grind (
+  arith,
+  leb128,
+  end_from,
+  numbers_of,
+  take-append-le,
+  drop-append-le,
+  kind_of_number,
+  slice_index,
+  numbers_of-more,
+  with_number-new,
+)
 
 -- a number below the end changes nothing
 pub key-same : (bytes : List ℕ) (front next n : ℕ) → AreEntryBytes bytes front next → n < next
     → key_in (take front bytes) (drop front bytes) ≡ with_one (key_in (take front bytes) (drop front bytes)) n
-key-same bytes front next n i low = grind (arith, end_from, numbers_of, kind_of_number, slice_index, with_number-low)
+key-same _ _ _ n i low = grind (arith, end_from, numbers_of, kind_of_number, slice_index, with_number-low)
 
 -- ---- one number
 
@@ -103,9 +98,9 @@ key-same bytes front next n i low = grind (arith, end_from, numbers_of, kind_of_
 new-whole : (kind : Kind) (text kept bytes recent : List ℕ) (n : ℕ) → HoldsFront kind text kept bytes → recent
     ≡ leb128 5 (n + 1)
     → key_bytes kept (length text + 1) bytes recent ≡ (kind_number kind ∷ text) ++ leb128 5 (n + 1 - 0)
-new-whole kind text kept bytes recent n holds e =
+new-whole _ text kept bytes recent n holds e =
     key_bytes-more kept (length text + 1) bytes [] bytes recent recent
-    (ap (λ (l : List ℕ). l ++ recent) (sym (append-nil bytes)))
+    (ap (λ (l : List ℕ). l ++ recent) (sym (append-nil _)))
     ∙ ap₂ (λ (a b : List ℕ). a ++ b) holds.whole
     (e ∙ ap (leb128 5) (let same : n + 1 ≡ n + 1 - 0 = omega arith in same))
 
@@ -113,10 +108,7 @@ pub entry-new : (kind : Kind) (text kept bytes recent : List ℕ) (n : ℕ) → 
     ≡ leb128 5 (n + 1) → n + 1 < 2 ^ 32
     → AreEntryBytes (key_bytes kept (length text + 1) bytes recent) (length text + 1) (n + 1)
 entry-new kind text kept bytes recent n holds e high =
-    subst (λ (l : List ℕ). AreEntryBytes l (length text + 1) (n + 1))
-    (sym (new-whole kind text kept bytes recent n holds e))
-    (entry-more (kind_number kind ∷ text) (length text + 1) 0 n (entry-none kind text (kind_number kind ∷ text) refl)
-    (omega arith) high)
+    rw (new-whole _ _ _ _ _ n holds e) (entry-more _ _ 0 n (entry-none kind _ _ refl) (omega arith) high)
 
 pub key-new : (kind : Kind) (text kept bytes recent : List ℕ) (n : ℕ) → HoldsFront kind text kept bytes → recent
     ≡ leb128 5 (n + 1) → n + 1 < 2 ^ 32
@@ -124,8 +116,9 @@ pub key-new : (kind : Kind) (text kept bytes recent : List ℕ) (n : ℕ) → Ho
     (drop (length text + 1) (key_bytes kept (length text + 1) bytes recent)) ≡ new_key kind text n
 key-new kind text kept bytes recent n holds e high =
     let front : List ℕ = kind_number kind ∷ text in
-    ap (λ (l : List ℕ). key_in (take (length text + 1) l) (drop (length text + 1) l))
-    (new-whole kind text kept bytes recent n holds e)
-    ∙ key-more front (length text + 1) 0 n (entry-none kind text front refl) (omega arith) high
-    ∙ ap (λ (k : Key). with_one k n) (key-none kind text front refl)
-    ∙ ap (λ (ns : List ℕ). let key : Key = record { kind = kind; text = text; numbers = ns } in key) (with_number-nil n)
+    cc (
+      key-more front (length text + 1) 0 n (entry-none kind text front refl) (omega arith) high,
+      new-whole kind text kept bytes recent n holds e,
+      key-none kind text front refl,
+      with_number-nil n,
+    )

@@ -1,6 +1,6 @@
 -- A pair that is there already changes nothing, also after another pair was added: by the order of the two keys.
 use Rattle.std.proofs.Common.{arith}
-use Rattle.mail_index.proofs.Words.{◌≡◌, ℕ, List, [], ◌∷◌, length, drop, get_or, refl, sym, ap, ◌∙◌, subst, Ordering, Less, Equal, Greater, match_ordering, ordering_reverse, nat_cmp, slice_cmp, nat_list_cmp_total, Kind, kind_number, key_cmp, Key, with_pair}
+use Rattle.mail_index.proofs.Words.{◌≡◌, ℕ, List, [], ◌∷◌, length, drop, refl, sym, ap, ◌∙◌, Ordering, Less, Equal, Greater, match_ordering, ordering_reverse, nat_cmp, slice_cmp, nat_list_cmp_total, Kind, kind_number, key_cmp, Key, with_pair}
 use Rattle.mail_index.specs.Inside.KeyMaps.{new_key, with_one}
 
 -- the keys with a pair, if its key compares with the first of them in this way
@@ -26,13 +26,11 @@ after xs ys zs less equal = nat_list_cmp_total.congr xs zs ys equal ∙ nat_list
 further_after : (xs ys zs : List ℕ) → slice_cmp nat_cmp ys zs ≡ Less → slice_cmp nat_cmp xs zs ≡ Greater
     → slice_cmp nat_cmp xs ys ≡ Greater
 further_after xs ys zs less greater =
-    nat_list_cmp_total.antisymm xs ys
-    ∙ ap ordering_reverse (nat_list_cmp_total.trans ys zs xs less
-    (nat_list_cmp_total.antisymm zs xs ∙ ap ordering_reverse greater))
+    grind (arith, nat_list_cmp_total.antisymm, ordering_reverse, nat_list_cmp_total.trans)
 
 pub with_pair-had : (n : ℕ) (kind : Kind) (text : List ℕ) (ks : List Key) (k : Kind) (t : List ℕ) → with_pair k t n ks
     ≡ ks → with_pair k t n (with_pair kind text n ks) ≡ with_pair kind text n ks
-with_pair-had n kind text [] k t had = absurd cc
+with_pair-had n _ _ [] k t had = absurd cc
 with_pair-had n kind text (key ∷ ks) k t had =
     go (lies k t key) refl (lies kind text key) refl (with_pair-had n kind text ks k t)
   where
@@ -44,23 +42,20 @@ with_pair-had n kind text (key ∷ ks) k t had =
 
     -- the other pair's key comes before all
     first : lies k t new ≡ Greater → with_pair k t n (new ∷ key ∷ ks) ≡ new ∷ key ∷ ks
-    first e = ap (step k t n new (key ∷ ks)) e ∙ ap (λ l. new ∷ l) had
+    first e = cc
 
     at : (o : Ordering) → lies k t key ≡ o → (p : Ordering) → lies kind text key ≡ p
         → (with_pair k t n ks ≡ ks → with_pair k t n (with_pair kind text n ks) ≡ with_pair kind text n ks)
         → with_pair k t n (step kind text n key ks p) ≡ step kind text n key ks p
-    at Less e p f rest = absurd (omega (arith, ap length (had-as Less e)))
-    at Equal e Less f rest = first (after (bytes_of k t) (bytes_of kind text) (key_bytes key) f e)
-    at Equal e Equal f rest = subst (λ l. with_pair k t n l ≡ l) (sym (had-as Equal e)) had
-    at Equal e Greater f rest = ap (step k t n key (with_pair kind text n ks)) e
-        ∙ ap (λ l. get_or l 0 key ∷ with_pair kind text n ks) (had-as Equal e)
-    at Greater e Less f rest = first (further_after (bytes_of k t) (bytes_of kind text) (key_bytes key) f e)
-    at Greater e Equal f rest = ap (step k t n (with_one key n) ks) e
-        ∙ ap (λ l. with_one key n ∷ drop 1 l) (had-as Greater e)
-    at Greater e Greater f rest = ap (step k t n key (with_pair kind text n ks)) e
-        ∙ ap (λ l. key ∷ l) (rest (ap (drop 1) (had-as Greater e)))
+    at Less e p f rest = absurd (omega (arith, ap length (had-as _ e)))
+    at Equal e Less f _ = first (after (bytes_of k t) (bytes_of kind text) (key_bytes key) f e)
+    at Equal e Equal f _ = cc
+    at Equal e Greater f _ = cc
+    at Greater e Less f _ = first (further_after (bytes_of k t) (bytes_of kind text) (key_bytes key) f e)
+    at Greater e Equal f _ = cc
+    at Greater e Greater f rest = grind (arith, step, with_pair, drop)
 
     go : (o : Ordering) → lies k t key ≡ o → (p : Ordering) → lies kind text key ≡ p
         → (with_pair k t n ks ≡ ks → with_pair k t n (with_pair kind text n ks) ≡ with_pair kind text n ks)
         → with_pair k t n (with_pair kind text n (key ∷ ks)) ≡ with_pair kind text n (key ∷ ks)
-    go o e p f rest = subst (λ l. with_pair k t n l ≡ l) (sym (ap (step kind text n key ks) f)) (at o e p f rest)
+    go o e p f rest = rw (ap (step kind text n key ks) f) (at o e p f rest)

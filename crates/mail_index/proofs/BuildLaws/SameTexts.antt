@@ -10,9 +10,8 @@ after-first n l low high = grind (arith, drop-drop)
 pub same-by-ends : (n : ℕ) (a b : List ℕ) → length a ≡ length b → n ≤ length a → length a ≤ n + n
     → take n a ≡ take n b → drop (length a - n) a ≡ drop (length b - n) b → a ≡ b
 same-by-ends n a b same low high first last =
-    let low' : n ≤ length b = omega (arith, same, low) in
-    let high' : length b ≤ n + n = omega (arith, same, high) in
-    let after : drop n a ≡ drop n b =
-    sym (after-first n a low high) ∙ ap₂ (λ (k : ℕ) (l : List ℕ). drop (n - (k - n)) l) same last
+    let low' : n ≤ length b = omega arith in
+    let high' : length b ≤ n + n = omega arith in
+    let after = sym (after-first n a low high) ∙ ap₂ (λ (k : ℕ) (l : List ℕ). drop (n - (k - n)) l) same last
     ∙ after-first n b low' high' in
-    sym (take-append-drop n a) ∙ ap₂ (λ (x y : List ℕ). x ++ y) first after ∙ take-append-drop n b
+    cc (take-append-drop n b, take-append-drop n a)

@@ -14,11 +14,7 @@ use Rattle.mail_index.proofs.BuildLaws.DraftLemmas.{length-postings}
 
 pub length-archive_bytes : (a : Archive) → length (archive_bytes a)
     ≡ 12 + length a.path + length (unwrap_or a.digest [])
-length-archive_bytes a = omega (
-  arith,
-  length-append a.path (unwrap_or a.digest [] ++ []),
-  length-append (unwrap_or a.digest []) [],
-)
+length-archive_bytes a = grind (arith, length-append, unwrap_or)
 
 most-digest : (d : Option (List ℕ)) → IsDigest newest d → length (unwrap_or d []) ≤ 32
 most-digest d h = grind (arith, digest_size, newest)
@@ -26,18 +22,12 @@ most-digest d h = grind (arith, digest_size, newest)
 pub length-archives : (archives : List Archive) → AllByRecursion (IsArchive newest) archives
     → length (flat_map archive_bytes archives) ≤ 4140 * length archives
 length-archives [] all = omega arith
-length-archives (a ∷ archives) all = omega (
-  arith,
-  length-append (archive_bytes a) (flat_map archive_bytes archives),
-  length-archive_bytes a,
-  all.0.0.most,
-  most-digest a.digest all.0.2,
-  length-archives archives all.1,
-)
+length-archives (a ∷ archives) all = grind
+    (arith, length-append, archive_bytes, flat_map, length-archive_bytes, most-digest, length-archives archives all.1)
 
 pub length-texts : (count : ℕ) (ks : List Key) → AllByRecursion (IsKey newest count) ks
     → length (texts_of (map entry_of_key ks)) ≤ 2 ^ 32 * length ks
-length-texts count [] all = omega arith
+length-texts _ [] all = omega arith
 length-texts count (k ∷ ks) all = omega (
   arith,
   length-append k.text (texts_of (map entry_of_key ks)),
@@ -47,14 +37,13 @@ length-texts count (k ∷ ks) all = omega (
 
 pub length-all_postings : (count : ℕ) (ks : List Key) → count ≤ 2 ^ 31 → AllByRecursion (IsKey newest count) ks
     → length (postings_of (map entry_of_key ks)) ≤ 2 ^ 31 * length ks
-length-all_postings count [] h all = omega arith
-length-all_postings count (k ∷ ks) h all =
-    omega (
-      arith,
-      length-append (postings k.numbers) (postings_of (map entry_of_key ks)),
-      length-postings count k all.0,
-      length-all_postings count ks h all.1,
-    )
+length-all_postings _ [] h all = omega arith
+length-all_postings count (k ∷ ks) h all = omega (
+  arith,
+  length-append (postings k.numbers) (postings_of (map entry_of_key ks)),
+  length-postings _ k all.0,
+  length-all_postings count ks h all.1,
+)
 
 length-counts : (t : Table) → length (concat (counts t)) ≡ 48
 length-counts t = refl
@@ -86,8 +75,8 @@ unfolding index_file
 length-index_file t = length-append (body t) (sha256 (body t)) ∙ ap (λ n. length (body t) + n) (length-sha256 (body t))
 
 pub length-digest : (digests : Digests) (bytes : List ℕ) → length (digest_or_zeros digests bytes) ≡ 32
-length-digest Computed bytes = length-sha256 bytes
-length-digest LeftOut bytes = refl
+length-digest Computed bytes = length-sha256 _
+length-digest LeftOut _ = refl
 
 pub file-is : (digests : Digests) (t : Table) → file_by digests t ≡ body t ++ digest_or_zeros digests (body t)
 unfolding index_file undigested_file
@@ -95,29 +84,19 @@ file-is Computed t = refl
 file-is LeftOut t = refl
 
 length-file : (digests : Digests) (t : Table) → length (file_by digests t) ≡ length (body t) + 32
-length-file digests t = ap length (file-is digests t) ∙ length-append (body t) (digest_or_zeros digests (body t))
-    ∙ ap (λ n. length (body t) + n) (length-digest digests (body t))
+length-file digests t = grind (arith, length, file-is, length-append, body, digest_or_zeros, length-digest)
 
 -- the counts give the file's length
 pub counted_length-is : (digests : Digests) (t : Table) (c : Counts) → IsCountOf t c → counted_length c
     ≡ length (file_by digests t)
-counted_length-is digests t c is = omega (
-  arith,
-  length-file digests t,
-  length-body t,
-  is.messages,
-  is.keys,
-  is.archive_bytes,
-  is.text_bytes,
-  is.posting_bytes,
-)
+counted_length-is digests t c is = omega (arith, length-file, length-body)
 
 -- this length is below 2 ^ 64
 pub counted_length-small : (t : Table) (c : Counts) (count : ℕ) → IsCountOf t c → length t.archives < 2 ^ 31
     → length t.messages < 2 ^ 31 → length t.keys < 2 ^ 31 → count ≤ 2 ^ 31
     → AllByRecursion (IsArchive newest) t.archives → AllByRecursion (IsKey newest count) t.keys
     → counted_length c < 2 ^ 64
-counted_length-small t c count is archives messages keys h named listed =
+counted_length-small t c _ is archives messages keys h named listed =
     grind (arith, length-archives, length-texts, length-all_postings)
 
 pub small-sections : (t : Table) (c : Counts) → IsCountOf t c → counted_length c < 2 ^ 64 → HasSmallSections t

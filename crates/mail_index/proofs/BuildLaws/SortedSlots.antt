@@ -1,7 +1,7 @@
 -- Slots that are sorted by fronts and keys are in the order of their keys, because each front goes with its key, and no
 -- slot is there twice.
 use Rattle.std.proofs.Common.{arith}
-use Rattle.mail_index.proofs.Words.{◌≡◌, ◌<◌, ◌∙◌, ℕ, suc, ◌⊎◌, inl, inr, Bool, true, false, nat_eq, nat_lt, List, [], ◌∷◌, ◌++◌, length, map, get_or, set, Vec, Global, refl, sym, ap, subst, nat_tests, length-append, append-nil, get_or_append_left, get_or-append_seam, Ordering, Less, Equal, Greater, is_lt, ordering_then, ordering_reverse, nat_cmp, slice_cmp, nat_list_cmp_total, AllByRecursion, IsStrictlySortedBy, AreSorted, Key, key_at, lies_to}
+use Rattle.mail_index.proofs.Words.{◌≡◌, ◌<◌, ◌∙◌, ℕ, suc, ◌⊎◌, inl, inr, Bool, true, false, nat_eq, nat_lt, List, [], ◌∷◌, ◌++◌, length, map, get_or, set, Vec, Global, refl, sym, ap, subst, nat_tests, length-append, append-nil, get_or_append_left, get_or-append_seam, Ordering, Less, Equal, Greater, is_lt, ordering_then, ordering_reverse, nat_cmp, slice_cmp, nat_list_cmp_total, AllByRecursion, IsStrictlySortedBy, AreSorted, Key, key_at}
 use Rattle.std.specs.List.{swap}
 use Rattle.std.specs.Prelude.{IsPermutation, IsSorted}
 use Rattle.std.proofs.lemmas.List.Edits.{Swapped, swapped_from_swap, length-swap}
@@ -9,7 +9,7 @@ use Rattle.std.proofs.lemmas.List.Sorted.{IsPermutation-keeps, ranks_by, sorted_
 use Rattle.mail_index.specs.declared.build.key_front.Fronted.{Fronted}
 use Rattle.mail_index.specs.declared.build.key_order.KeyOrder.{KeyOrder}
 use Rattle.mail_index.specs.Inside.KeyFronts.{IsFronted}
-use Rattle.mail_index.specs.Inside.KeyMaps.{slot_keys, numbers_of_slots, numbers_in, slots_in, rows, slot_numbers, slot_cmp, IsAmong, IsOrder, AreDistinct, AreInStep, AreNumbered}
+use Rattle.mail_index.specs.Inside.KeyMaps.{numbers_of_slots, numbers_in, slots_in, rows, slot_numbers, slot_cmp, IsAmong, IsOrder, AreDistinct, AreInStep, AreNumbered}
 use Rattle.mail_index.proofs.ViewLaws.LookUpLemmas.{key_bytes}
 use Rattle.mail_index.proofs.BuildLaws.FrontLemmas.{lies-as-fronts}
 use Rattle.mail_index.proofs.BuildLaws.KeyMapLemmas.{slot-at, slots-long, among-slot}
@@ -29,9 +29,8 @@ numbered-more slots slot numbered is i d h = go (nat_lt i (length slots)) refl
         let low : i < length slots = grind (arith, nat_tests) in
         ap (λ (s : Fronted). s.number) (get_or_append_left slots (slot ∷ []) d i low) ∙ numbered i d low
     go false e =
-        let last : i ≡ length slots = grind (arith, nat_tests, length-append slots (slot ∷ []), h) in
-        ap (λ n. (get_or (slots ++ slot ∷ []) n d).number) last
-        ∙ ap (λ (s : Fronted). s.number) (get_or-append_seam slots slot [] d) ∙ is ∙ sym last
+        let last : i ≡ length slots = grind (arith, nat_tests, length-append) in
+        cc (get_or-append_seam slots slot [] d)
 
 -- ---- no slot is there twice
 
@@ -41,7 +40,7 @@ HasEachOnce slots = (j k : ℕ) → j < length slots → k < length slots
     → (get_or slots j no_slot).number ≡ (get_or slots k no_slot).number → j ≡ k
 
 once-numbered : (slots : List Fronted) → AreNumbered slots → HasEachOnce slots
-once-numbered slots numbered j k h h2 same = sym (numbered j no_slot h) ∙ same ∙ numbered k no_slot h2
+once-numbered _ numbered j k h h2 same = sym (numbered j no_slot h) ∙ same ∙ numbered k no_slot h2
 
 -- where the item at a place comes from, after an exchange
 record Source (slots : List Fronted) (a b j : ℕ) : Type 0 where
@@ -81,40 +80,15 @@ source slots a b j ha hb hj = go (nat_eq j b) refl (nat_eq j a) refl
 
 same-source : (slots : List Fronted) (a b j k : ℕ) (s : Source slots a b j) (t : Source slots a b k)
     → s.place ≡ t.place → j ≡ k
-same-source slots a b j k s t same = elim s.from [
-  | inl at_b ↦ elim t.from [
-    | inl also ↦ at_b.0 ∙ sym also.0
-    | inr other ↦ elim other [
-      | inl at_a ↦ omega (arith, at_b.0, at_b.1, at_a.0, at_a.1, same)
-      | inr rest ↦ absurd (rest.0 (sym rest.2 ∙ sym same ∙ at_b.1))
-    ]
-  ]
-  | inr other ↦ elim other [
-    | inl at_a ↦ elim t.from [
-      | inl at_b ↦ omega (arith, at_b.0, at_b.1, at_a.0, at_a.1, same)
-      | inr more ↦ elim more [
-        | inl also ↦ at_a.0 ∙ sym also.0
-        | inr rest ↦ absurd (rest.1 (sym rest.2 ∙ sym same ∙ at_a.1))
-      ]
-    ]
-    | inr rest ↦ elim t.from [
-      | inl at_b ↦ absurd (rest.0 (sym rest.2 ∙ same ∙ at_b.1))
-      | inr more ↦ elim more [
-        | inl at_a ↦ absurd (rest.1 (sym rest.2 ∙ same ∙ at_a.1))
-        | inr also ↦ sym rest.2 ∙ same ∙ also.2
-      ]
-    ]
-  ]
-]
+same-source _ a b j k s t same = grind arith
 
 once-swap : (slots : List Fronted) (a b : ℕ) → a < length slots → b < length slots → HasEachOnce slots
     → HasEachOnce (swap slots a b)
 once-swap slots a b ha hb once j k hj hk same =
-    let long : length (swap slots a b) ≡ length slots = length-swap slots a b in
-    let s : Source slots a b j = source slots a b j ha hb (omega (arith, hj, long)) in
-    let t : Source slots a b k = source slots a b k ha hb (omega (arith, hk, long)) in
-    same-source slots a b j k s t (once s.place t.place s.within t.within
-    (ap (λ (x : Fronted). x.number) (sym s.is) ∙ same ∙ ap (λ (x : Fronted). x.number) t.is))
+    let long = length-swap slots a b in
+    let s = source _ a b j ha hb (omega arith) in
+    let t = source _ a b k ha hb (omega arith) in
+    grind (arith, same-source)
 
 once-permutation : (before after : List Fronted) → HasEachOnce before → IsPermutation before after
     → HasEachOnce after
@@ -125,23 +99,21 @@ once-permutation before after once permutation =
 
 all-from_places : (P : Fronted → Type 0) (slots : List Fronted)
     → ((i : ℕ) (d : Fronted) → i < length slots → P (get_or slots i d)) → AllByRecursion P slots
-all-from_places P [] each = tt
+all-from_places P [] _ = tt
 all-from_places P (slot ∷ slots) each =
-    (each 0 slot (omega arith), all-from_places P slots (λ i d h. each (suc i) d (omega (arith, h))))
+    (each 0 slot (omega arith), all-from_places P slots (λ i d h. each (suc i) d (omega arith)))
 
 pub fronted-permutation : (entries : List Key) (before after : List Fronted) → IsPermutation before after
     → AllByRecursion (IsFronted entries) before → AllByRecursion (IsFronted entries) after
-fronted-permutation entries before after permutation all = all-from_places (IsFronted entries) after
-    (All-permutation (IsFronted entries) before after permutation
-    (λ i d h. all-at (IsFronted entries) before i d all h))
+fronted-permutation entries before after permutation all =
+    all-from_places _ _ (All-permutation (IsFronted entries) _ _ permutation (λ i d h. all-at _ _ i d all h))
 
 -- the later of two slots has the greater key
 rising : (entries : List Key) (slots : List Fronted) (i j : ℕ) → i < j → j < length slots → AreDistinct entries
     → AllByRecursion (IsFronted entries) slots → HasEachOnce slots → IsSorted (slot_cmp entries) slots
     → slice_cmp nat_cmp (key_bytes (key_at entries (get_or slots i no_slot).number))
     (key_bytes (key_at entries (get_or slots j no_slot).number)) ≡ Less
-rising entries slots i j less low distinct fronted once sorted =
-    go (slice_cmp nat_cmp (key_bytes (key_at entries one.number)) (key_bytes (key_at entries other.number))) refl
+rising entries slots i j less low distinct fronted once sorted = go _ refl
   where
     one : Fronted
     one = get_or slots i no_slot
@@ -150,7 +122,7 @@ rising entries slots i j less low distinct fronted once sorted =
     other = get_or slots j no_slot
 
     is_one : IsFronted entries one
-    is_one = all-at (IsFronted entries) slots i no_slot fronted (omega (arith, less, low))
+    is_one = grind (arith, all-at, no_slot)
 
     is_other : IsFronted entries other
     is_other = all-at (IsFronted entries) slots j no_slot fronted low
@@ -164,12 +136,10 @@ rising entries slots i j less low distinct fronted once sorted =
         → ordering_then o (slice_cmp nat_cmp (key_bytes (key_at entries other.number))
         (key_bytes (key_at entries one.number))) ≡ Less
     before lower Equal e = lower
-    before lower Less e = refl
+    before _ Less e = refl
     before lower Greater e =
-        let fronts : Greater ≡ lies_to (key_at entries one.number).kind (key_at entries one.number).text
-        (key_at entries other.number) =
-        lies-as-fronts (key_at entries one.number).kind (key_at entries one.number).text one.front
-        (key_at entries other.number) other.front is_one.front is_other.front Greater e (λ h. absurd cc) in
+        let fronts = lies-as-fronts _ _ _ (key_at entries other.number) other.front is_one.front is_other.front Greater
+        e (λ h. absurd cc) in
         absurd cc
 
     go : (o : Ordering)
@@ -177,96 +147,86 @@ rising entries slots i j less low distinct fronted once sorted =
         → o ≡ Less
     go Less e = refl
     go Equal e =
-        let turned : slice_cmp nat_cmp (key_bytes (key_at entries other.number)) (key_bytes (key_at entries one.number))
-        ≡ Equal =
+        let turned =
         nat_list_cmp_total.antisymm (key_bytes (key_at entries other.number)) (key_bytes (key_at entries one.number))
         ∙ ap ordering_reverse e in
-        let number : one.number ≡ other.number =
-        distinct one.number other.number is_one.within is_other.within turned in
-        let same : i ≡ j = once i j (omega (arith, less, low)) low number in
-        absurd (omega (arith, same, less))
+        let number = distinct one.number other.number is_one.within is_other.within turned in
+        let same = once i j (omega arith) low number in
+        absurd (omega arith)
     go Greater e =
-        let lower : slice_cmp nat_cmp (key_bytes (key_at entries other.number)) (key_bytes (key_at entries one.number))
-        ≡ Less =
+        let lower =
         nat_list_cmp_total.antisymm (key_bytes (key_at entries other.number)) (key_bytes (key_at entries one.number))
         ∙ ap ordering_reverse e in
-        let first : slot_cmp entries other one ≡ Less = before lower (nat_cmp other.front one.front) refl in
-        let both : true ≡ false = sym (ap is_lt first) ∙ far in
+        let first = before lower (nat_cmp other.front one.front) refl in
+        let both = sym (ap is_lt first) ∙ far in
         absurd cc
 
 all-by_place : (xs : List ℕ) (ks : List Key)
     → ((i : ℕ) → i < length ks → slice_cmp nat_cmp xs (key_bytes (key_at ks i)) ≡ Less)
     → AllByRecursion (λ y. slice_cmp nat_cmp xs y ≡ Less) (map key_bytes ks)
-all-by_place xs [] each = tt
-all-by_place xs (k ∷ ks) each = (each 0 (omega arith), all-by_place xs ks (λ i h. each (suc i) (omega (arith, h))))
+all-by_place _ [] _ = tt
+all-by_place xs (k ∷ ks) each = (each 0 (omega arith), all-by_place xs ks (λ i h. each (suc i) (omega arith)))
 
 sorted-by_place : (ks : List Key) → ((i j : ℕ) → i < j → j < length ks
     → slice_cmp nat_cmp (key_bytes (key_at ks i)) (key_bytes (key_at ks j)) ≡ Less) → AreSorted ks
 unfolding IsStrictlySortedBy
-sorted-by_place [] each = tt
+sorted-by_place [] _ = tt
 sorted-by_place (k ∷ ks) each = (
-  all-by_place (key_bytes k) ks (λ i h. each 0 (suc i) (omega arith) (omega (arith, h))),
-  sorted-by_place ks (λ i j h h2. each (suc i) (suc j) (omega (arith, h)) (omega (arith, h2))),
+  all-by_place (key_bytes k) _ (λ i h. each 0 (suc i) (omega arith) (omega arith)),
+  sorted-by_place ks (λ i j h h2. each (suc i) (suc j) (omega arith) (omega arith)),
 )
 
 within-slots : (entries : List Key) (slots : List Fronted) → AllByRecursion (IsFronted entries) slots
     → AllByRecursion (λ i. i < length entries) (numbers_of_slots slots)
-within-slots entries [] all = tt
+within-slots _ [] _ = tt
 within-slots entries (slot ∷ slots) all = (all.0.within, within-slots entries slots all.1)
 
 order-sorted : (entries : List Key) (slots : List Fronted) → AreDistinct entries
     → AllByRecursion (IsFronted entries) slots → HasEachOnce slots → IsSorted (slot_cmp entries) slots
     → IsOrder entries (numbers_of_slots slots)
 order-sorted entries slots distinct fronted once sorted = record {
-  sorted = sorted-by_place (slot_keys entries slots) (λ i j h h2.
-      let long : length (slot_keys entries slots) ≡ length slots = slots-long entries slots in
-      let low : j < length slots = omega (arith, h2, long) in
-      let one : key_at (slot_keys entries slots) i ≡ key_at entries (get_or slots i no_slot).number =
-      slot-at entries slots i no_slot (omega (arith, h, low)) in
-      let other : key_at (slot_keys entries slots) j ≡ key_at entries (get_or slots j no_slot).number =
-      slot-at entries slots j no_slot low in
-      subst (λ k. slice_cmp nat_cmp (key_bytes k) (key_bytes (key_at (slot_keys entries slots) j)) ≡ Less) (sym one)
-      (subst (λ k. slice_cmp nat_cmp (key_bytes (key_at entries (get_or slots i no_slot).number)) (key_bytes k) ≡ Less)
-      (sym other) (rising entries slots i j h low distinct fronted once sorted)));
-  within = within-slots entries slots fronted;
+  sorted = sorted-by_place _ (λ i j h h2.
+      let long = slots-long entries slots in
+      let low : j < length slots = omega arith in
+      let one = slot-at entries slots i no_slot (omega arith) in
+      let other = slot-at entries _ j no_slot low in
+      rw one (rw other (rising _ _ i j h low distinct fronted once sorted)));
+  within = within-slots _ _ fronted;
 }
 
 -- ---- one page
 
 pub only-page : (pages : List (Vec Fronted Global)) (page : Vec Fronted Global) → length pages ≡ 1
     → set pages 0 page ≡ page ∷ []
-only-page [] page h = absurd (omega (arith, h))
-only-page (_ ∷ []) page h = refl
-only-page (_ ∷ _ ∷ rest) page h = absurd (omega (arith, h))
+only-page [] _ h = absurd (omega arith)
+only-page (_ ∷ []) _ h = refl
+only-page (_ ∷ _ ∷ rest) _ h = absurd (omega arith)
 
 one-page : (order : KeyOrder) (slots : List Fronted) → rows order.pages.items ≡ slots ∷ []
     → order.heads.items ≡ [] → slots_in order ≡ slots
-one-page order slots page none = grind (arith, append-nil)
+one-page _ _ page none = grind (arith, append-nil)
 
 pub sorted-step : (entries : List Key) (before after : List Fronted) (order : KeyOrder)
     → rows order.pages.items ≡ after ∷ [] → order.heads.items ≡ [] → length order.pages.items ≡ 1
     → AreDistinct entries → AreNumbered before → AllByRecursion (IsFronted entries) before
     → IsPermutation before after → IsSorted (slot_cmp entries) after → AreInStep entries order
 sorted-step entries before after order page none one distinct numbered fronted permutation sorted =
-    let all : AllByRecursion (IsFronted entries) after = fronted-permutation entries before after permutation fronted in
-    let is : slots_in order ≡ after = one-page order after page none in
+    let all = fronted-permutation _ _ _ permutation fronted in
+    let is = one-page order _ page none in
     record {
-      between = omega (arith, ap length none, one);
+      between = omega (arith, ap length none);
       sorts = subst (λ l. IsOrder entries (numbers_of_slots l)) (sym is)
-          (order-sorted entries after distinct all
-          (once-permutation before after (once-numbered before numbered) permutation) sorted);
-      fronted = subst (AllByRecursion (IsFronted entries)) (sym is) all;
+          (order-sorted _ _ distinct all (once-permutation _ _ (once-numbered _ numbered) permutation) sorted);
+      fronted = grind arith;
     }
 
 pub sorted-all : (before after : List Fronted) (order : KeyOrder) → rows order.pages.items ≡ after ∷ []
     → order.heads.items ≡ [] → AreNumbered before → IsPermutation before after → (i : ℕ) → i < length before
     → IsAmong i (numbers_in order)
 sorted-all before after order page none numbered permutation i low =
-    let found = Contains-permutation before after (get_or before i no_slot) permutation (i, low, same i low) in
-    subst (λ l. IsAmong i (numbers_of_slots l)) (sym (one-page order after page none))
-    (subst (λ n. IsAmong n (numbers_of_slots after))
-    (ap (λ (s : Fronted). s.number) found.2 ∙ numbered i no_slot low)
-    (among-slot after found.0 (get_or before i no_slot) found.1))
+    let found = Contains-permutation _ _ (get_or before i no_slot) permutation (i, low, same i low) in
+    subst (λ l. IsAmong i (numbers_of_slots l)) (sym (one-page order _ page none))
+    (rw (← (ap (λ (s : Fronted). s.number) found.2 ∙ numbered i no_slot low)) (among-slot _ _ _ found.1))
   where
     same : (i : ℕ) → i < length before → get_or before i (get_or before i no_slot) ≡ get_or before i no_slot
-    same i h = other-default before i (get_or before i no_slot) no_slot h
+    same i h = other-default _ i _ _ h

@@ -1,12 +1,11 @@
 -- A look through a window finds each key that has an entry, because no slot before that of an entry is ever vacant.
 use Rattle.std.proofs.Common.{arith}
-use Rattle.mail_index.proofs.Words.{◌≡◌, ◌+◌, ◌/◌, ◌^◌, ◌<◌, ◌≤◌, ◌∙◌, ℕ, suc, Bool, true, false, nat_eq, nat_lt, List, [], ◌∷◌, ◌++◌, length, set, get_or, refl, sym, ap, ap₂, subst, inl, inr, nat_tests, length-append, length-set, get_or-set_same, get_or-set_other, get_or_append_left, get_or-append_seam, Equal, Some, Kind, Key, key_at, no_key, lies_to, nat_list_cmp_total, ordering_reverse, kind_number, ◌-◌, AllByRecursion, insert, Result, Ok, Err, OnOk, OnErr}
+use Rattle.mail_index.proofs.Words.{◌≡◌, ◌+◌, ◌/◌, ◌^◌, ◌<◌, ◌≤◌, ◌∙◌, ℕ, suc, Bool, true, false, nat_eq, nat_lt, List, [], ◌∷◌, ◌++◌, length, set, get_or, refl, sym, ap, ap₂, subst, inl, inr, nat_tests, length-append, length-set, get_or-set_same, get_or-set_other, get_or_append_left, get_or-append_seam, Equal, Some, Kind, Key, key_at, no_key, lies_to, nat_list_cmp_total, ordering_reverse, kind_number, ◌-◌, insert, Result, Ok, Err, OnOk, OnErr}
 use Rattle.mail_index.specs.declared.build.key_order.KeyOrder.{KeyOrder}
 use Rattle.mail_index.specs.declared.build.key_order.Place.{Place}
 use Rattle.mail_index.specs.declared.build.key_table.KeyTable.{KeyTable}
 use Rattle.mail_index.specs.declared.build.key_table.Found.TheVariants.{Vacant, Full}
 use Rattle.mail_index.specs.Inside.KeyMaps.{new_key, with_one, numbers_in, slots_in, keys_in, IsAmong, IsPartOf, IsGap, AreDistinct, AreInStep, IsOrder, IsPlaceFor, place_in, slot_for, numbers_of_slots}
-use Rattle.mail_index.specs.Inside.KeyFronts.{IsFronted}
 use Rattle.mail_index.specs.Inside.KeyTables.{hash_of, hash_at, number_at, IsInWindow, AreFilled, IsFull, IsReached, IsReachable, AreReachable, IsKeyMap, IsLookOf, IsVacancy, IsAbsent}
 use Rattle.mail_index.proofs.Words.{with_pair}
 use Rattle.mail_index.specs.Inside.KeyMaps.{in_key_order}
@@ -20,7 +19,7 @@ use Rattle.mail_index.proofs.BuildLaws.KeyMapLemmas.{order-more, order-new, orde
 same_hash : (kind : Kind) (text : List ℕ) (k : Key) → lies_to kind text k ≡ Equal
     → hash_of k.kind k.text ≡ hash_of kind text
 same_hash kind text k equal =
-    let same = keys-same k.kind kind k.text text equal in ap₂ hash_of same.0 same.1
+    let same = keys-same _ _ _ _ equal in ap₂ hash_of same.0 same.1
 
 -- an entry of the key is reached, or the window is full and the order has it
 kept-as : (kind : Kind) (text : List ℕ) (entries : List Key) (table : KeyTable) (order : KeyOrder) (i : ℕ)
@@ -28,17 +27,16 @@ kept-as : (kind : Kind) (text : List ℕ) (entries : List Key) (table : KeyTable
     ≡ Equal
     → IsReachable table order (hash_of kind text) (length entries) i
 kept-as kind text entries table order i low kept equal =
-    subst (λ hash. IsReachable table order hash (length entries) i) (same_hash kind text (key_at entries i) equal)
+    subst (λ hash. IsReachable table order hash (length entries) i) (same_hash _ _ (key_at entries i) equal)
     (kept i low)
 
 pub absent-vacant : (kind : Kind) (text : List ℕ) (entries : List Key) (table : KeyTable) (order : KeyOrder)
     (slot : ℕ) → AreReachable entries table order (length entries)
     → IsLookOf kind text entries table (hash_of kind text) (Vacant slot) → IsAbsent kind text entries
 absent-vacant kind text entries table order slot kept found i low equal =
-    elim (kept-as kind text entries table order i low kept equal) [
+    elim (kept-as _ _ _ _ order i low kept equal) [
       | inl reached ↦ go reached (nat_lt reached.slot slot) refl (nat_lt slot reached.slot) refl
-      | inr full ↦ let filled : number_at table slot < length entries = full.0 slot found.0
-          in absurd (omega (arith, filled, found.1))
+      | inr full ↦ let filled = full.0 slot found.0 in absurd (omega arith)
     ]
   where
     go : (reached : IsReached table (hash_of kind text) (length entries) i) → (t : Bool)
@@ -46,22 +44,22 @@ absent-vacant kind text entries table order slot kept found i low equal =
     go reached true e u f = (found.2 reached.slot reached.inside (grind (arith, nat_tests))).1
         (ap (λ n. lies_to kind text (key_at entries n)) reached.here ∙ equal)
     go reached false e true f =
-        let filled : number_at table slot < length entries = reached.before slot found.0 (grind (arith, nat_tests)) in
-        absurd (omega (arith, filled, found.1))
+        let filled = reached.before slot found.0 (grind (arith, nat_tests)) in
+        absurd (omega arith)
     go reached false e false f =
         let same : slot ≡ reached.slot = grind (arith, nat_tests) in
-        let here : number_at table slot ≡ i = ap (number_at table) same ∙ reached.here in
-        absurd (omega (arith, here, low, found.1))
+        let here = ap (number_at table) same ∙ reached.here in
+        absurd (omega arith)
 
 pub absent-full : (kind : Kind) (text : List ℕ) (entries : List Key) (table : KeyTable) (order : KeyOrder)
     (place : ℕ) → AreReachable entries table order (length entries)
     → IsLookOf kind text entries table (hash_of kind text) Full → AreInStep entries order
     → IsGap kind text (keys_in entries order) place → IsAbsent kind text entries
 absent-full kind text entries table order place kept found step gap i low equal =
-    elim (kept-as kind text entries table order i low kept equal) [
+    elim (kept-as _ _ _ _ order i low kept equal) [
       | inl reached ↦ (found reached.slot reached.inside).1
           (ap (λ n. lies_to kind text (key_at entries n)) reached.here ∙ equal)
-      | inr full ↦ gap-absent kind text entries (numbers_in order) place i step.sorts gap full.1 equal
+      | inr full ↦ gap-absent _ _ _ _ _ i step.sorts gap full.1 equal
     ]
 
 -- ---- a look through a window
@@ -76,69 +74,68 @@ record IsPut (t u : KeyTable) (count slot value : ℕ) : Type 0 where
 
 number-put : (t u : KeyTable) (count slot value s : ℕ) → IsPut t u count slot value → (b : Bool) → nat_eq s slot ≡ b
     → number_at u s ≡ (elim b [ true ↦ value | false ↦ number_at t s ])
-number-put t u count slot value s put true e =
+number-put t u _ slot value s put true e =
     let same : s ≡ slot = grind (arith, nat_tests) in
     ap (λ l. get_or l s 0) put.numbers ∙ ap (λ s. get_or (set t.numbers.items slot value) s 0) same
-    ∙ get_or-set_same t.numbers.items slot value 0 put.within
-number-put t u count slot value s put false e = ap (λ l. get_or l s 0) put.numbers
-    ∙ get_or-set_other t.numbers.items slot s value 0 (grind (arith, nat_tests))
+    ∙ get_or-set_same _ _ _ 0 put.within
+number-put t u _ slot value s put false e = ap (λ l. get_or l s 0) put.numbers
+    ∙ get_or-set_other _ _ s _ 0 (grind (arith, nat_tests))
 
 window-put : (t u : KeyTable) (count slot value hash s : ℕ) → IsPut t u count slot value → IsInWindow t hash s
     → IsInWindow u hash s
-window-put t u count slot value hash s put inside = grind (arith, length-set)
+window-put t u _ _ _ _ s put inside = grind (arith, length-set)
 
 window-from : (t u : KeyTable) (count slot value hash s : ℕ) → IsPut t u count slot value → IsInWindow u hash s
     → IsInWindow t hash s
-window-from t u count slot value hash s put inside = grind (arith, length-set)
+window-from t u _ _ _ _ s put inside = grind (arith, length-set)
 
 filled-put : (t u : KeyTable) (count more slot value hash end : ℕ) → IsPut t u count slot value → count ≤ more
     → value < more → AreFilled t hash count end → AreFilled u hash more end
-filled-put t u count more slot value hash end put le low filled s inside before = go (nat_eq s slot) refl
+filled-put t u count more slot value hash _ put le low filled s inside before = go (nat_eq s slot) refl
   where
     go : (b : Bool) → nat_eq s slot ≡ b → number_at u s < more
-    go true e = let is = number-put t u count slot value s put true e in omega (arith, is, low)
+    go true e = let is = number-put t u _ _ _ s put _ e in omega arith
     go false e =
-        let is = number-put t u count slot value s put false e in
-        let old : number_at t s < count =
-        filled s (window-from t u count slot value hash s put inside) before in
-        omega (arith, is, old, le)
+        let is = number-put t u _ _ _ s put _ e in
+        let old = filled s (window-from t u _ _ _ _ s put inside) before in
+        omega arith
 
 full-put : (t u : KeyTable) (count more slot value hash : ℕ) → IsPut t u count slot value → count ≤ more
     → value < more → IsFull t hash count → IsFull u hash more
 full-put t u count more slot value hash put le low full s inside =
-    filled-put t u count more slot value hash (suc s) put le low (λ s inside _. full s inside) s inside (omega arith)
+    filled-put t u _ _ _ _ _ (suc s) put le low (λ s inside _. full s inside) s inside (omega arith)
 
 reached-put : (t u : KeyTable) (count more slot value hash i : ℕ) → IsPut t u count slot value → count ≤ more
     → value < more → count ≤ number_at t slot → i < count → IsReached t hash count i → IsReached u hash more i
 reached-put t u count more slot value hash i put le low vacant few reached = record {
   slot = reached.slot;
-  inside = window-put t u count slot value hash reached.slot put reached.inside;
+  inside = window-put t u _ _ _ _ _ put reached.inside;
   here = go (nat_eq reached.slot slot) refl;
-  before = filled-put t u count more slot value hash reached.slot put le low reached.before;
+  before = filled-put t u _ _ _ _ _ _ put le low reached.before;
 }
   where
     go : (b : Bool) → nat_eq reached.slot slot ≡ b → number_at u reached.slot ≡ i
     go true e =
         let same : reached.slot ≡ slot = grind (arith, nat_tests) in
-        let here : number_at t slot ≡ i = ap (number_at t) (sym same) ∙ reached.here in
-        absurd (omega (arith, here, vacant, few))
-    go false e = number-put t u count slot value reached.slot put false e ∙ reached.here
+        let here = ap (number_at t) (sym same) ∙ reached.here in
+        absurd (omega arith)
+    go false e = number-put t u _ _ _ _ put _ e ∙ reached.here
 
 kept-put : (t u : KeyTable) (order : KeyOrder) (count more slot value hash i : ℕ) → IsPut t u count slot value
     → count ≤ more → value < more → count ≤ number_at t slot → i < count → IsReachable t order hash count i
     → IsReachable u order hash more i
-kept-put t u order count more slot value hash i put le low vacant few kept = elim kept [
-  | inl reached ↦ inl (reached-put t u count more slot value hash i put le low vacant few reached)
-  | inr full ↦ inr (full-put t u count more slot value hash put le low full.0, full.1)
+kept-put t u _ count more slot value hash i put le low vacant few kept = elim kept [
+  | inl reached ↦ inl (reached-put t u _ _ _ _ _ i put le low vacant few reached)
+  | inr full ↦ inr (full-put t u _ _ _ _ _ put le low full.0, full.1)
 ]
 
 put-reached : (t u : KeyTable) (count more slot value hash : ℕ) → IsPut t u count slot value → count ≤ more
     → value < more → IsVacancy t hash count (Some slot) → IsReached u hash more value
 put-reached t u count more slot value hash put le low vacancy = record {
   slot = slot;
-  inside = window-put t u count slot value hash slot put vacancy.0;
-  here = number-put t u count slot value slot put true (grind (arith, nat_tests));
-  before = filled-put t u count more slot value hash slot put le low vacancy.2;
+  inside = window-put t u _ _ _ _ _ put vacancy.0;
+  here = number-put t u _ _ _ _ put true (grind (arith, nat_tests));
+  before = filled-put t u _ _ _ _ _ _ put le low vacancy.2;
 }
 
 -- ---- all entries
@@ -146,7 +143,7 @@ put-reached t u count more slot value hash put le low vacancy = record {
 pub kept-part : (entries : List Key) (table : KeyTable) (old new : KeyOrder) (end : ℕ)
     → IsPartOf (numbers_in old) (numbers_in new) → AreReachable entries table old end
     → AreReachable entries table new end
-kept-part entries table old new end part kept i low = elim (kept i low) [
+kept-part _ _ _ _ _ part kept i low = elim (kept i low) [
   | inl reached ↦ inl reached
   | inr full ↦ inr (full.0, part i full.1)
 ]
@@ -160,8 +157,8 @@ kept-order entries table old new number part among full kept i h = go (nat_eq i 
     go : (b : Bool) → nat_eq i number ≡ b → IsReachable table new (hash_at entries i) (length entries) i
     go true e =
         let same : number ≡ i = grind (arith, nat_tests) in
-        subst (λ n. IsReachable table new (hash_at entries n) (length entries) n) same (inr (full, among))
-    go false e = kept-part entries table old new number part kept i (grind (arith, nat_tests))
+        rw (← same) (inr (full, among))
+    go false e = kept-part _ _ old new _ part kept i (grind (arith, nat_tests))
 
 -- ---- one more entry
 
@@ -184,49 +181,45 @@ distinct-new kind text n entries distinct absent i j h h2 equal =
     new = new_key kind text n
 
     long : length (entries ++ new_key kind text n ∷ []) ≡ suc (length entries)
-    long = longer entries (new_key kind text n)
+    long = longer _ _
 
     -- how key j compares with key i, if these are the keys
     compared : (a b : Key) → key_at (entries ++ new_key kind text n ∷ []) i ≡ a
         → key_at (entries ++ new_key kind text n ∷ []) j ≡ b → lies_to a.kind a.text b ≡ Equal
-    compared a b e f = subst (λ a. lies_to a.kind a.text b ≡ Equal) e
-        (subst (λ b. lies_to (key_at (entries ++ new_key kind text n ∷ []) i).kind
-        (key_at (entries ++ new_key kind text n ∷ []) i).text b ≡ Equal) f equal)
+    compared a b e f = rw (← e) (rw (← f) equal)
 
     go : (b : Bool) → nat_eq i (length entries) ≡ b → (d : Bool) → nat_eq j (length entries) ≡ d → i ≡ j
     go true e true f = grind (arith, nat_tests)
     go true e false f =
         let last : i ≡ length entries = grind (arith, nat_tests) in
-        let low : j < length entries = grind (arith, nat_tests, long, h2) in
-        absurd (absent j low (compared new (key_at entries j)
-        (ap (key_at (entries ++ new_key kind text n ∷ [])) last ∙ key-last entries new) (key-kept entries new j low)))
+        let low : j < length entries = grind (arith, nat_tests, long) in
+        absurd (absent j low (compared _ _ (ap (key_at (entries ++ new_key kind text n ∷ [])) last ∙ key-last entries _)
+        (key-kept _ _ j low)))
     go false e true f =
         let last : j ≡ length entries = grind (arith, nat_tests) in
-        let low : i < length entries = grind (arith, nat_tests, long, h) in
-        let same : lies_to (key_at entries i).kind (key_at entries i).text new ≡ Equal =
-        compared (key_at entries i) new (key-kept entries new i low)
+        let low : i < length entries = grind (arith, nat_tests, long) in
+        let same = compared (key_at entries i) new (key-kept _ _ i low)
         (ap (key_at (entries ++ new_key kind text n ∷ [])) last ∙ key-last entries new) in
         absurd (absent i low (nat_list_cmp_total.antisymm
         (kind_number (key_at entries i).kind ∷ (key_at entries i).text) (kind_number kind ∷ text)
         ∙ ap ordering_reverse same))
     go false e false f =
-        let low : i < length entries = grind (arith, nat_tests, long, h) in
-        let low2 : j < length entries = grind (arith, nat_tests, long, h2) in
-        distinct i j low low2 (compared (key_at entries i) (key_at entries j) (key-kept entries new i low)
-        (key-kept entries new j low2))
+        let low : i < length entries = grind (arith, nat_tests, long) in
+        let low2 : j < length entries = grind (arith, nat_tests, long) in
+        distinct i j low low2 (compared _ _ (key-kept _ _ i low) (key-kept _ _ j low2))
 
 pub step-more : (k : Key) (entries : List Key) (order : KeyOrder) → AreInStep entries order
     → AreInStep (entries ++ k ∷ []) order
 step-more k entries order step = record {
   between = step.between;
-  sorts = order-more k entries (numbers_in order) step.sorts;
-  fronted = fronted-more k entries (slots_in order) step.fronted;
+  sorts = order-more k _ _ step.sorts;
+  fronted = fronted-more k _ _ step.fronted;
 }
 
 -- the hashes of the entries and of one more
 hash-kept : (entries : List Key) (k : Key) (i : ℕ) → i < length entries → hash_at (entries ++ k ∷ []) i
     ≡ hash_at entries i
-hash-kept entries k i low = ap (λ (j : Key). hash_of j.kind j.text) (key-kept entries k i low)
+hash-kept entries k i low = ap (λ (j : Key). hash_of j.kind j.text) (key-kept _ k i low)
 
 hash-last : (entries : List Key) (k : Key) → hash_at (entries ++ k ∷ []) (length entries) ≡ hash_of k.kind k.text
 hash-last entries k = ap (λ (j : Key). hash_of j.kind j.text) (key-last entries k)
@@ -237,19 +230,16 @@ pub map-slot : (kind : Kind) (text : List ℕ) (n : ℕ) (entries : List Key) (t
     → IsVacancy t (hash_of kind text) (length entries) (Some slot)
     → u.numbers.items ≡ set t.numbers.items slot (length entries) → u.left_out ≡ t.left_out
     → IsKeyMap (entries ++ new_key kind text n ∷ []) u order sorted
-map-slot kind text n entries t u order sorted slot is absent vacancy numbers left_out =
+map-slot kind text n entries t u order _ slot is absent vacancy numbers left_out =
     let long = longer entries (new_key kind text n) in
     record {
-      distinct = distinct-new kind text n entries is.distinct absent;
-      step = step-more (new_key kind text n) entries order is.step;
-      kept = λ i h. kept i (omega (arith, h, long)) (nat_eq i (length entries)) refl;
-      within = omega (arith, is.within, long);
+      distinct = distinct-new _ _ n _ is.distinct absent;
+      step = step-more _ _ _ is.step;
+      kept = λ i h. kept i (omega arith) (nat_eq i (length entries)) refl;
+      within = omega arith;
       first = is.first;
     }
   where
-    new : Key
-    new = new_key kind text n
-
     put : IsPut t u (length entries) slot (length entries)
     put = record { numbers = numbers; left_out = left_out; within = vacancy.0.within }
 
@@ -258,37 +248,30 @@ map-slot kind text n entries t u order sorted slot is absent vacancy numbers lef
         (length (entries ++ new_key kind text n ∷ [])) i
     kept i h true e =
         let same : length entries ≡ i = grind (arith, nat_tests) in
-        subst (λ i. IsReachable u order (hash_at (entries ++ new_key kind text n ∷ []) i)
-        (length (entries ++ new_key kind text n ∷ [])) i) same
-        (subst (λ hash. IsReachable u order hash (length (entries ++ new_key kind text n ∷ [])) (length entries))
-        (sym (hash-last entries new))
-        (inl (put-reached t u (length entries) (length (entries ++ new_key kind text n ∷ [])) slot (length entries)
-        (hash_of kind text) put (omega (arith, longer entries new)) (omega (arith, longer entries new)) vacancy)))
+        rw (← same) (rw (hash-last _ _) (inl (put-reached t u _ _ _ _ _ put (omega (arith, longer))
+        (omega (arith, longer)) vacancy)))
     kept i h false e =
         let low : i < length entries = grind (arith, nat_tests) in
-        subst (λ hash. IsReachable u order hash (length (entries ++ new_key kind text n ∷ [])) i)
-        (sym (hash-kept entries new i low))
-        (kept-put t u order (length entries) (length (entries ++ new_key kind text n ∷ [])) slot (length entries)
-        (hash_at entries i) i put (omega (arith, longer entries new)) (omega (arith, longer entries new)) vacancy.1 low
-        (is.kept i low))
+        rw (hash-kept _ _ i low) (kept-put t u order _ _ _ _ _ i put (omega (arith, longer)) (omega (arith, longer))
+        vacancy.1 low (is.kept i low))
 
 full-more : (table : KeyTable) (hash count more : ℕ) → count ≤ more → IsFull table hash count
     → IsFull table hash more
-full-more table hash count more le full slot inside =
-    let low : number_at table slot < count = full slot inside in omega (arith, low, le)
+full-more table _ count _ le full slot inside =
+    let low = full slot inside in omega arith
 
 kept-more : (table : KeyTable) (old new : KeyOrder) (hash count more i : ℕ) → count ≤ more
     → IsPartOf (numbers_in old) (numbers_in new) → IsReachable table old hash count i
     → IsReachable table new hash more i
-kept-more table old new hash count more i le part kept = elim kept [
+kept-more table _ _ hash count more i le part kept = elim kept [
   | inl reached ↦ inl (record {
     slot = reached.slot;
     inside = reached.inside;
     here = reached.here;
     before = λ slot inside before.
-        let low : number_at table slot < count = reached.before slot inside before in omega (arith, low, le);
+        let low = reached.before slot inside before in omega arith;
   })
-  | inr full ↦ inr (full-more table hash count more le full.0, part i full.1)
+  | inr full ↦ inr (full-more _ _ _ _ le full.0, part i full.1)
 ]
 
 -- a key that has an entry and a place in the order now
@@ -297,13 +280,13 @@ pub map-order : (kind : Kind) (text : List ℕ) (n : ℕ) (entries : List Key) (
     → IsFull table (hash_of kind text) (length entries) → AreInStep (entries ++ new_key kind text n ∷ []) new
     → IsPartOf (numbers_in old) (numbers_in new) → IsAmong (length entries) (numbers_in new)
     → IsKeyMap (entries ++ new_key kind text n ∷ []) table new sorted
-map-order kind text n entries table old new sorted is absent full step part among =
+map-order kind text n entries table old new _ is absent full step part among =
     let long = longer entries (new_key kind text n) in
     record {
-      distinct = distinct-new kind text n entries is.distinct absent;
+      distinct = distinct-new _ _ n _ is.distinct absent;
       step = step;
-      kept = λ i h. kept i (omega (arith, h, long)) (nat_eq i (length entries)) refl;
-      within = omega (arith, is.within, long);
+      kept = λ i h. kept i (omega arith) (nat_eq i (length entries)) refl;
+      within = omega arith;
       first = λ i h. part i (is.first i h);
     }
   where
@@ -315,21 +298,15 @@ map-order kind text n entries table old new sorted is absent full step part amon
         (length (entries ++ new_key kind text n ∷ [])) i
     kept i h true e =
         let same : length entries ≡ i = grind (arith, nat_tests) in
-        subst (λ i. IsReachable table new (hash_at (entries ++ new_key kind text n ∷ []) i)
-        (length (entries ++ new_key kind text n ∷ [])) i) same
-        (subst (λ hash. IsReachable table new hash (length (entries ++ new_key kind text n ∷ [])) (length entries))
-        (sym (hash-last entries k))
-        (inr (
-          full-more table (hash_of kind text) (length entries) (length (entries ++ new_key kind text n ∷ []))
-              (omega (arith, longer entries k)) full,
+        rw (← same) (rw (hash-last _ k) (inr (
+          full-more _ _ _ _ (omega (arith, longer)) full,
           among,
         )))
     kept i h false e =
         let low : i < length entries = grind (arith, nat_tests) in
         subst (λ hash. IsReachable table new hash (length (entries ++ new_key kind text n ∷ [])) i)
-        (sym (hash-kept entries k i low))
-        (kept-more table old new (hash_at entries i) (length entries) (length (entries ++ new_key kind text n ∷ [])) i
-        (omega (arith, longer entries k)) part (is.kept i low))
+        (sym (hash-kept _ k i low)) (kept-more table old new (hash_at entries i) (length entries)
+        (length (entries ++ new_key kind text n ∷ [])) i (omega (arith, longer entries k)) part (is.kept i low))
 
 -- ---- one more number
 
@@ -353,45 +330,35 @@ text-found entries i n j low = go (nat_eq j i) refl
 pub map-found : (entries : List Key) (i n : ℕ) (table : KeyTable) (order : KeyOrder) (sorted : ℕ) → i < length entries
     → IsKeyMap entries table order sorted
     → IsKeyMap (set entries i (with_one (key_at entries i) n)) table order sorted
-map-found entries i n table order sorted low is =
+map-found entries i n table order _ low is =
     let long = length-set entries i (with_one (key_at entries i) n) in
     record {
-      distinct = λ j l h h2 equal. is.distinct j l (omega (arith, h, long)) (omega (arith, h2, long)) (same j l equal);
+      distinct = λ j l h h2 equal. is.distinct j l (omega arith) (omega arith) (same j l equal);
       step = record {
         between = is.step.between;
-        sorts = order-found entries i n (numbers_in order) low is.step.sorts;
-        fronted = fronted-found entries i n (slots_in order) low is.step.fronted;
+        sorts = order-found _ i n _ low is.step.sorts;
+        fronted = fronted-found _ i n _ low is.step.fronted;
       };
-      kept = λ j h. subst (λ count. IsReachable table order
-          (hash_at (set entries i (with_one (key_at entries i) n)) j) count j) (sym long)
-          (subst (λ hash. IsReachable table order hash (length entries) j) (sym (hash-found j))
-          (is.kept j (omega (arith, h, long))));
-      within = omega (arith, is.within, long);
+      kept = λ j h. rw long (rw (hash-found j) (is.kept j (omega arith)));
+      within = omega arith;
       first = is.first;
     }
   where
     hash-found : (j : ℕ) → hash_at (set entries i (with_one (key_at entries i) n)) j ≡ hash_at entries j
-    hash-found j = ap₂ hash_of (kind-found entries i n j low) (text-found entries i n j low)
+    hash-found j = ap₂ hash_of (kind-found _ i n j low) (text-found _ i n j low)
 
     same : (j l : ℕ) → lies_to (key_at (set entries i (with_one (key_at entries i) n)) j).kind
         (key_at (set entries i (with_one (key_at entries i) n)) j).text
         (key_at (set entries i (with_one (key_at entries i) n)) l) ≡ Equal
         → lies_to (key_at entries j).kind (key_at entries j).text (key_at entries l) ≡ Equal
-    same j l equal = grind (
-      arith,
-      kind-found entries i n j low,
-      text-found entries i n j low,
-      kind-found entries i n l low,
-      text-found entries i n l low,
-    )
+    same j l equal = grind (arith, kind-found, text-found, kind-found, text-found)
 
 -- ---- a place in the order
 
 numbers-placed : (old new : KeyOrder) (place : Place) (number : ℕ)
     → slots_in new ≡ insert (slots_in old) (place_in old place) (slot_for number place)
     → numbers_in new ≡ insert (numbers_in old) (place_in old place) number
-numbers-placed old new place number slots = ap numbers_of_slots slots
-    ∙ numbers-insert (slots_in old) (place_in old place) (slot_for number place)
+numbers-placed old _ place number slots = ap numbers_of_slots slots ∙ numbers-insert _ _ _
 
 -- the order with the number of an entry at its place
 pub step-placed : (entries : List Key) (old new : KeyOrder) (place : Place) (number : ℕ) → number < length entries
@@ -402,10 +369,8 @@ pub step-placed : (entries : List Key) (old new : KeyOrder) (place : Place) (num
 step-placed entries old new place number low step for between slots = record {
   between = between;
   sorts = subst (IsOrder entries) (sym (numbers-placed old new place number slots))
-      (order-placed entries number (numbers_in old) (place_in old place) low step.sorts for.gap);
-  fronted = subst (AllByRecursion (IsFronted entries)) (sym slots)
-      (all-inserted (IsFronted entries) (slots_in old) (place_in old place) (slot_for number place) step.fronted
-      (record { within = low; front = for.front }));
+      (order-placed _ _ _ _ low step.sorts for.gap);
+  fronted = rw slots (all-inserted _ _ _ _ step.fronted (record { within = low; front = for.front }));
 }
 
 -- the order with the number of one more entry at its place
@@ -416,17 +381,15 @@ pub step-new : (k : Key) (entries : List Key) (old new : KeyOrder) (place : Plac
 step-new k entries old new place step for between slots = record {
   between = between;
   sorts = subst (IsOrder (entries ++ k ∷ [])) (sym (numbers-placed old new place (length entries) slots))
-      (order-new k entries (numbers_in old) (place_in old place) step.sorts for.gap);
-  fronted = subst (AllByRecursion (IsFronted (entries ++ k ∷ []))) (sym slots)
-      (fronted-new k entries (slots_in old) (place_in old place) place.front for.front step.fronted);
+      (order-new k _ _ _ step.sorts for.gap);
+  fronted = rw slots (fronted-new k _ _ _ _ for.front step.fronted);
 }
 
 pub part-placed : (old new : KeyOrder) (place : Place) (number : ℕ)
     → slots_in new ≡ insert (slots_in old) (place_in old place) (slot_for number place)
     → IsPartOf (numbers_in old) (numbers_in new)
 part-placed old new place number slots i a =
-    subst (IsAmong i) (sym (numbers-placed old new place number slots))
-    (among-kept (numbers_in old) (place_in old place) number i a)
+    subst (IsAmong i) (sym (numbers-placed old new place number slots)) (among-kept _ (place_in old place) number i a)
 
 pub among-placed : (old new : KeyOrder) (place : Place) (number : ℕ)
     → slots_in new ≡ insert (slots_in old) (place_in old place) (slot_for number place)
@@ -438,14 +401,14 @@ among-placed old new place number slots =
 -- the same slots are the same order
 pub step-same : (entries : List Key) (old new : KeyOrder) → AreInStep entries old
     → length new.heads.items ≡ length new.pages.items - 1 → slots_in new ≡ slots_in old → AreInStep entries new
-step-same entries old new step between slots = record {
+step-same entries _ _ step between slots = record {
   between = between;
-  sorts = subst (λ l. IsOrder entries (numbers_of_slots l)) (sym slots) step.sorts;
-  fronted = subst (AllByRecursion (IsFronted entries)) (sym slots) step.fronted;
+  sorts = rw slots step.sorts;
+  fronted = rw slots step.fronted;
 }
 
 pub part-same : (old new : KeyOrder) → slots_in new ≡ slots_in old → IsPartOf (numbers_in old) (numbers_in new)
-part-same old new slots i a = subst (λ l. IsAmong i (numbers_of_slots l)) (sym slots) a
+part-same _ _ slots i a = rw slots a
 
 -- whether or not there was memory
 pub step-inserted : {T E : Type 0} (r : Result T E) (entries : List Key) (old new : KeyOrder) (place : Place)
@@ -454,49 +417,49 @@ pub step-inserted : {T E : Type 0} (r : Result T E) (entries : List Key) (old ne
     → length new.heads.items ≡ length new.pages.items - 1
     → OnOk r (slots_in new ≡ insert (slots_in old) (place_in old place) (slot_for number place))
     → OnErr r (slots_in new ≡ slots_in old) → AreInStep entries new
-step-inserted (Ok _) entries old new place number low step for between ok err =
-    step-placed entries old new place number low step for between ok
-step-inserted (Err _) entries old new place number low step for between ok err =
-    step-same entries old new step between err
+step-inserted (Ok _) entries old new place number low step for between ok _ =
+    step-placed _ _ _ _ _ low step for between ok
+step-inserted (Err _) entries old new _ _ _ step _ between _ err = step-same _ _ _ step between err
 
 pub part-inserted : {T E : Type 0} (r : Result T E) (old new : KeyOrder) (place : Place) (number : ℕ)
     → OnOk r (slots_in new ≡ insert (slots_in old) (place_in old place) (slot_for number place))
     → OnErr r (slots_in new ≡ slots_in old) → IsPartOf (numbers_in old) (numbers_in new)
-part-inserted (Ok _) old new place number ok err = part-placed old new place number ok
-part-inserted (Err _) old new place number ok err = part-same old new err
+part-inserted (Ok _) old new place number ok _ = part-placed old new place number ok
+part-inserted (Err _) old new _ _ _ err = part-same old new err
 
 pub has-inserted : {T E : Type 0} (r : Result T E) (old new : KeyOrder) (place : Place) (number : ℕ)
     → OnOk r (slots_in new ≡ insert (slots_in old) (place_in old place) (slot_for number place))
     → OnOk r (IsAmong number (numbers_in new))
 has-inserted (Ok _) old new place number ok = among-placed old new place number ok
-has-inserted (Err _) old new place number ok = ok
+has-inserted (Err _) _ _ _ _ ok = ok
 
 -- the keys in order with one more number
 pub keys-found : (kind : Kind) (text : List ℕ) (n : ℕ) (entries : List Key) (i : ℕ) → i < length entries
     → lies_to kind text (key_at entries i) ≡ Equal → AreDistinct entries
     → in_key_order (set entries i (with_one (key_at entries i) n)) ≡ with_pair kind text n (in_key_order entries)
-keys-found kind text n entries i low equal distinct = in_key_order-found kind text n entries i low equal (λ j h also.
-    distinct j i h low (subst (λ t. lies_to (key_at entries j).kind t (key_at entries i) ≡ Equal)
-    (sym (keys-same (key_at entries j).kind kind (key_at entries j).text text also).1)
-    (subst (λ k. lies_to k text (key_at entries i) ≡ Equal)
-    (sym (keys-same (key_at entries j).kind kind (key_at entries j).text text also).0) equal)))
+keys-found kind text n entries i low equal distinct =
+    in_key_order-found _ _ n _ i low equal
+    (λ j h also. distinct j i h low (subst (λ t. lies_to (key_at entries j).kind t (key_at entries i) ≡ Equal)
+    (sym (keys-same (key_at entries j).kind kind _ _ also).1)
+    (subst (λ k. lies_to k text (key_at entries i) ≡ Equal) (sym (keys-same _ _ (key_at entries j).text text also).0)
+    equal)))
 
 pub kept-order-if : {T E : Type 0} (r : Result T E) (entries : List Key) (table : KeyTable) (old new : KeyOrder)
     (number : ℕ) → IsPartOf (numbers_in old) (numbers_in new) → OnOk r (IsAmong number (numbers_in new))
     → IsFull table (hash_at entries number) (length entries)
     → OnOk r (AreReachable entries table old number → AreReachable entries table new (number + 1))
 kept-order-if (Ok _) entries table old new number part among full =
-    λ kept. kept-order entries table old new number part among full kept
-kept-order-if (Err _) entries table old new number part among full = among
+    λ kept. kept-order _ _ old new _ part among full kept
+kept-order-if (Err _) _ _ _ _ _ _ among _ = among
 
 -- the same entries in another order
 pub map-ordered : (entries slice : List Key) (table : KeyTable) (old new : KeyOrder) (sorted : ℕ) → slice ≡ entries
     → IsKeyMap entries table old sorted → AreInStep slice new → IsPartOf (numbers_in old) (numbers_in new)
     → IsKeyMap entries table new sorted
-map-ordered entries slice table old new sorted same is step part = record {
+map-ordered entries _ table old new _ same is step part = record {
   distinct = is.distinct;
-  step = subst (λ l. AreInStep l new) same step;
-  kept = kept-part entries table old new (length entries) part is.kept;
+  step = rw (← same) step;
+  kept = kept-part _ _ old new _ part is.kept;
   within = is.within;
   first = λ i h. part i (is.first i h);
 }
@@ -506,22 +469,22 @@ pub map-sorted : (entries slice : List Key) (table : KeyTable) (old new : KeyOrd
     → slice ≡ entries → count ≡ length entries → IsKeyMap entries table old sorted → AreInStep slice new
     → IsPartOf (numbers_in old) (numbers_in new) → ((i : ℕ) → i < length slice → IsAmong i (numbers_in new))
     → IsKeyMap entries table new count
-map-sorted entries slice table old new sorted count same all is step part whole = record {
+map-sorted entries _ table old new _ _ same all is step part whole = record {
   distinct = is.distinct;
-  step = subst (λ l. AreInStep l new) same step;
-  kept = kept-part entries table old new (length entries) part is.kept;
-  within = omega (arith, all);
-  first = λ i h. whole i (omega (arith, h, all, ap length same));
+  step = rw (← same) step;
+  kept = kept-part _ _ old new _ part is.kept;
+  within = omega arith;
+  first = λ i h. whole i (omega (arith, ap length same));
 }
 
 -- the same entries with another table
 pub map-tabled : (entries slice : List Key) (t u : KeyTable) (old new : KeyOrder) (sorted : ℕ) → slice ≡ entries
     → IsKeyMap entries t old sorted → AreInStep slice new → IsPartOf (numbers_in old) (numbers_in new)
     → AreReachable slice u new (length slice) → IsKeyMap entries u new sorted
-map-tabled entries slice t u old new sorted same is step part kept = record {
+map-tabled _ _ t u _ new _ same is step part kept = record {
   distinct = is.distinct;
-  step = subst (λ l. AreInStep l new) same step;
-  kept = subst (λ l. AreReachable l u new (length l)) same kept;
+  step = rw (← same) step;
+  kept = rw (← same) kept;
   within = is.within;
   first = λ i h. part i (is.first i h);
 }
@@ -531,61 +494,56 @@ pub map-number : {T E : Type 0} (r : Result T E) (entries after : List Key) (i n
     (order : KeyOrder) (sorted : ℕ) → i < length entries → IsKeyMap entries table order sorted
     → OnOk r (after ≡ set entries i (with_one (key_at entries i) n)) → OnErr r (after ≡ entries)
     → IsKeyMap after table order sorted
-map-number (Ok _) entries after i n table order sorted low is ok err =
-    subst (λ l. IsKeyMap l table order sorted) (sym ok) (map-found entries i n table order sorted low is)
-map-number (Err _) entries after i n table order sorted low is ok err =
-    subst (λ l. IsKeyMap l table order sorted) (sym err) is
+map-number (Ok _) entries _ i n table order sorted low is ok _ = rw ok (map-found _ i n _ _ _ low is)
+map-number (Err _) _ _ i n table order sorted _ is _ err = rw err is
 
 pub keys-number : {T E : Type 0} (r : Result T E) (kind : Kind) (text : List ℕ) (entries after : List Key) (i n : ℕ)
     → i < length entries → lies_to kind text (key_at entries i) ≡ Equal → AreDistinct entries
     → OnOk r (after ≡ set entries i (with_one (key_at entries i) n))
     → OnOk r (in_key_order after ≡ with_pair kind text n (in_key_order entries))
-keys-number (Ok _) kind text entries after i n low equal distinct ok =
-    ap in_key_order ok ∙ keys-found kind text n entries i low equal distinct
-keys-number (Err _) kind text entries after i n low equal distinct ok = ok
+keys-number (Ok _) kind text entries _ i n low equal distinct ok =
+    ap in_key_order ok ∙ keys-found _ _ n _ i low equal distinct
+keys-number (Err _) _ _ _ _ i n _ _ _ ok = ok
 
 pub long-number : {T E : Type 0} (r : Result T E) (entries after : List Key) (i n : ℕ)
     → OnOk r (after ≡ set entries i (with_one (key_at entries i) n)) → OnErr r (after ≡ entries)
     → length (in_key_order after) ≡ length (in_key_order entries)
-long-number (Ok _) entries after i n ok err = length-in_key_order after ∙ ap length ok
-    ∙ length-set entries i (with_one (key_at entries i) n) ∙ sym (length-in_key_order entries)
-long-number (Err _) entries after i n ok err = ap (λ l. length (in_key_order l)) err
+long-number (Ok _) entries after i n ok _ = length-in_key_order _ ∙ ap length ok ∙ length-set _ i _
+    ∙ sym (length-in_key_order _)
+long-number (Err _) _ _ i n _ err = ap (λ l. length (in_key_order l)) err
 
 -- one more key makes one more
 pub long-new : (kind : Kind) (text : List ℕ) (n : ℕ) (entries : List Key) → IsAbsent kind text entries
     → length (with_pair kind text n (in_key_order entries)) ≡ length entries + 1
-long-new kind text n entries absent =
-    ap length (sym (in_key_order-new kind text n entries absent))
-    ∙ length-in_key_order (entries ++ new_key kind text n ∷ []) ∙ length-append entries (new_key kind text n ∷ [])
+long-new kind text n entries absent = ap length (sym (in_key_order-new _ _ n _ absent)) ∙ length-in_key_order _
+    ∙ length-append _ _
 
 -- ---- the same numbers in a table
 
 window-noted : (t u : KeyTable) (hash s : ℕ) → u.numbers.items ≡ t.numbers.items → u.left_out ≡ t.left_out
     → IsInWindow t hash s → IsInWindow u hash s
 window-noted t u hash s numbers left_out inside = record {
-  from = subst (λ n. hash / 2 ^ n ≤ s) (sym left_out) inside.from;
-  near = subst (λ n. s < hash / 2 ^ n + 16) (sym left_out) inside.near;
-  within = omega (arith, inside.within, ap length numbers);
+  from = rw left_out inside.from;
+  near = rw left_out inside.near;
+  within = omega (arith, ap length numbers);
 }
 
 filled-noted : (t u : KeyTable) (hash count end : ℕ) → u.numbers.items ≡ t.numbers.items → u.left_out ≡ t.left_out
     → AreFilled t hash count end → AreFilled u hash count end
-filled-noted t u hash count end numbers left_out filled s inside before =
-    subst (λ l. get_or l s 0 < count) (sym numbers)
-    (filled s (window-noted u t hash s (sym numbers) (sym left_out) inside) before)
+filled-noted t u hash count _ numbers left_out filled s inside before =
+    rw numbers (filled s (window-noted u t _ s (sym numbers) (sym left_out) inside) before)
 
 kept-noted : (t u : KeyTable) (order : KeyOrder) (hash count i : ℕ) → u.numbers.items ≡ t.numbers.items
     → u.left_out ≡ t.left_out → IsReachable t order hash count i → IsReachable u order hash count i
-kept-noted t u order hash count i numbers left_out kept = elim kept [
+kept-noted t u _ hash count i numbers left_out kept = elim kept [
   | inl reached ↦ inl (record {
     slot = reached.slot;
-    inside = window-noted t u hash reached.slot numbers left_out reached.inside;
+    inside = window-noted t u _ _ numbers left_out reached.inside;
     here = ap (λ l. get_or l reached.slot 0) numbers ∙ reached.here;
-    before = filled-noted t u hash count reached.slot numbers left_out reached.before;
+    before = filled-noted t u _ _ _ numbers left_out reached.before;
   })
   | inr full ↦ inr (
-    λ s inside. filled-noted t u hash count (suc s) numbers left_out (λ s inside _. full.0 s inside) s
-        inside (omega arith),
+    λ s inside. filled-noted t u _ _ (suc s) numbers left_out (λ s inside _. full.0 s inside) s inside (omega arith),
     full.1,
   )
 ]
@@ -593,10 +551,10 @@ kept-noted t u order hash count i numbers left_out kept = elim kept [
 pub map-noted : (entries : List Key) (t u : KeyTable) (order : KeyOrder) (sorted : ℕ)
     → u.numbers.items ≡ t.numbers.items → u.left_out ≡ t.left_out → IsKeyMap entries t order sorted
     → IsKeyMap entries u order sorted
-map-noted entries t u order sorted numbers left_out is = record {
+map-noted entries t u order _ numbers left_out is = record {
   distinct = is.distinct;
   step = is.step;
-  kept = λ i h. kept-noted t u order (hash_at entries i) (length entries) i numbers left_out (is.kept i h);
+  kept = λ i h. kept-noted t u order _ _ i numbers left_out (is.kept i h);
   within = is.within;
   first = is.first;
 }
@@ -608,17 +566,13 @@ pub map-inserted : {T E : Type 0} (r : Result T E) (kind : Kind) (text : List �
     → IsPartOf (numbers_in old) (numbers_in new) → OnOk r (after ≡ entries ++ new_key kind text n ∷ [])
     → OnErr r (after ≡ entries) → OnOk r (IsAmong (length entries) (numbers_in new))
     → IsKeyMap after table new sorted
-map-inserted (Ok _) kind text n entries after table old new sorted is absent full step part ok err among =
-    subst (λ l. IsKeyMap l table new sorted) (sym ok)
-    (map-order kind text n entries table old new sorted is absent full (subst (λ l. AreInStep l new) ok step) part
-    among)
-map-inserted (Err _) kind text n entries after table old new sorted is absent full step part ok err among =
-    subst (λ l. IsKeyMap l table new sorted) (sym err)
-    (map-ordered entries after table old new sorted err is step part)
+map-inserted (Ok _) kind text n entries _ table old new sorted is absent full step part ok _ among =
+    rw ok (map-order _ _ n _ _ _ _ _ is absent full (rw (← ok) step) part among)
+map-inserted (Err _) _ _ n entries after table old new sorted is _ _ step part _ err _ =
+    rw err (map-ordered _ _ _ _ _ _ err is step part)
 
 pub keys-inserted : {T E : Type 0} (r : Result T E) (kind : Kind) (text : List ℕ) (n : ℕ) (entries after : List Key)
     → IsAbsent kind text entries → OnOk r (after ≡ entries ++ new_key kind text n ∷ [])
     → OnOk r (in_key_order after ≡ with_pair kind text n (in_key_order entries))
-keys-inserted (Ok _) kind text n entries after absent ok =
-    ap in_key_order ok ∙ in_key_order-new kind text n entries absent
-keys-inserted (Err _) kind text n entries after absent ok = ok
+keys-inserted (Ok _) kind text n entries _ absent ok = ap in_key_order ok ∙ in_key_order-new _ _ n _ absent
+keys-inserted (Err _) _ _ n _ _ _ ok = ok

@@ -1,5 +1,5 @@
 -- The file of a table keeps every rule, so it has no fault: section by section.
-use Rattle.mail_index.proofs.Words.{◌≡◌, ℕ, suc, ◌+◌, ◌-◌, ◌*◌, ◌^◌, ◌<◌, ◌≤◌, List, [], ◌∷◌, ◌++◌, length, map, take, drop, refl, sym, ap, subst, ◌∙◌, arith, length-append, flat_map, slice_range, AllByRecursion, concat, take-append_seam, drop-append_seam, drop-drop, from_be_bytes-to_be_bytes_4, from_be_bytes-to_be_bytes_8, Record, IsVersion, u32_at, u64_at, magic, entry_of_key, entries, archive_bytes, archive_section, record_bytes, directory_from, texts_of, postings_of, counts, sections, body, index_file, Archive, Key, Table, IsWellFormed, IsArchive, IsKey, AllNext, KeyBefore, version_told, IsFirstFaultOfFile, EntryBefore, IsEntry, records_start, directory_start, texts_start, postings_start, digest_start, HasDigest, IsSigned, HasArchives, HasRecords, HasDirectory, HasPostings, IsFileOfTable, read_archives, read_records}
+use Rattle.mail_index.proofs.Words.{◌≡◌, ℕ, suc, ◌+◌, ◌-◌, ◌*◌, ◌^◌, ◌<◌, ◌≤◌, List, [], ◌∷◌, ◌++◌, length, map, take, drop, refl, sym, ap, subst, ◌∙◌, arith, length-append, flat_map, slice_range, AllByRecursion, concat, take-append_seam, drop-append_seam, drop-drop, from_be_bytes-to_be_bytes_4, from_be_bytes-to_be_bytes_8, Record, u32_at, u64_at, magic, entry_of_key, entries, archive_bytes, archive_section, record_bytes, directory_from, texts_of, postings_of, counts, sections, body, index_file, Archive, Key, Table, IsWellFormed, IsKey, AllNext, KeyBefore, version_told, IsFirstFaultOfFile, EntryBefore, IsEntry, records_start, directory_start, texts_start, postings_start, digest_start, IsSigned, HasArchives, HasRecords, HasDirectory, HasPostings, IsFileOfTable, read_archives, read_records}
 use Rattle.sha2.specs.Sha256.{sha256}
 use Rattle.sha2.proofs.Facts256.{length-sha256}
 use Rattle.mail_index.specs.declared.view.fault.IndexFault.{IndexFault}
@@ -19,11 +19,10 @@ record PartAt (bytes : List ℕ) (i j : ℕ) (mid post : List ℕ) : Type 0 wher
 part_at : (bytes : List ℕ) (i j : ℕ) (mid post : List ℕ) → drop i bytes ≡ mid ++ post → j ≡ i + length mid
     → PartAt bytes i j mid post
 part_at bytes i j mid post e n =
-    let w : j - i ≡ length mid = omega (arith, n) in
+    let w : j - i ≡ length mid = omega arith in
     record {
-      is = ap (λ (k : ℕ). take k (drop i bytes)) w ∙ ap (take (length mid)) e ∙ take-append_seam mid post;
-      rest = ap (λ (k : ℕ). drop k bytes) n ∙ sym (drop-drop (length mid) i bytes) ∙ ap (drop (length mid)) e
-          ∙ drop-append_seam mid post;
+      is = ap (λ (k : ℕ). take k (drop i bytes)) w ∙ ap (take _) e ∙ take-append_seam _ _;
+      rest = ap (λ (k : ℕ). drop k bytes) n ∙ sym (drop-drop _ i _) ∙ ap (drop _) e ∙ drop-append_seam mid _;
     }
 
 -- what the counts of a table's file say
@@ -40,7 +39,7 @@ pub record TellsCounts (bytes : List ℕ) (t : Table) : Type 0 where
 tells : (t : Table) (rest : List ℕ) → IsWellFormed t → length (archive_section t) < 2 ^ 64
     → length (texts_of (entries t)) < 2 ^ 64 → length (postings_of (entries t)) < 2 ^ 64
     → TellsCounts (before (counts t) rest) t
-tells t rest w a x p = grind (
+tells t _ w a x p = grind (
   arith,
   from_be_bytes-to_be_bytes_4,
   small_version,
@@ -63,9 +62,9 @@ entries_in_order (k ∷ l ∷ ks) h = (h.0, entries_in_order (l ∷ ks) h.1)
 
 are_entries : (version count : ℕ) (ks : List Key) → AllByRecursion (IsKey version count) ks
     → AllByRecursion (IsEntry version) (map entry_of_key ks)
-are_entries version count [] h = tt
+are_entries _ _ [] h = tt
 are_entries version count (k ∷ ks) h = (
-  (h.0.kind, h.0.some_text, h.0.short, some_postings k.numbers h.0.some_number),
+  (h.0.kind, h.0.some_text, h.0.short, some_postings _ h.0.some_number),
   are_entries version count ks h.1,
 )
 
@@ -105,31 +104,25 @@ pub has_parts : (bytes : List ℕ) (t : Table) (seal : List ℕ) → length byte
     → bytes ≡ body t ++ seal → HasParts bytes t
 has_parts bytes t seal few w sealed is =
     let b = body t in
-    let size : length bytes ≡ length b + 32 = ap length is ∙ length-append b seal
-    ∙ ap (λ (n : ℕ). length b + n) sealed in
+    let size = ap length is ∙ length-append b seal ∙ ap (λ (n : ℕ). length b + n) sealed in
     let n = length_body t in
     let a = archive_section t in let r = flat_map record_bytes t.messages in let d = directory_from 0 0 (entries t)
     in let x = texts_of (entries t) in let p = postings_of (entries t) in
     let rest = a ++ (r ++ (d ++ (x ++ (p ++ seal)))) in
-    let spelled : bytes ≡ before (counts t) rest = is ∙ concat_then (sections t) seal ∙ concat_then (counts t) rest in
-    let c : TellsCounts bytes t = subst (λ (y : List ℕ). TellsCounts y t) (sym spelled)
-    (tells t rest w (omega (arith, size, n, few)) (omega (arith, size, n, few)) (omega (arith, size, n, few))) in
-    let d₀ : drop 48 bytes ≡ rest = ap (drop 48) spelled in
-    let p₁ = part_at bytes 48 (records_start bytes) a (r ++ (d ++ (x ++ (p ++ seal)))) d₀
-    (omega (arith, c.archive_bytes)) in
-    let p₂ = part_at bytes (records_start bytes) (directory_start bytes) r (d ++ (x ++ (p ++ seal))) p₁.rest
-    (omega (arith, c.messages, length_records t.messages)) in
-    let p₃ = part_at bytes (directory_start bytes) (texts_start bytes) d (x ++ (p ++ seal)) p₂.rest
-    (omega (arith, c.keys, length_directory 0 0 (entries t), count_entries_of t.keys)) in
-    let p₄ = part_at bytes (texts_start bytes) (postings_start bytes) x (p ++ seal) p₃.rest
-    (omega (arith, c.text_bytes)) in
-    let p₅ = part_at bytes (postings_start bytes) (digest_start bytes) p seal p₄.rest
-    (omega (arith, c.posting_bytes)) in
+    let spelled = is ∙ concat_then (sections t) seal ∙ concat_then (counts t) rest in
+    let c = rw (← spelled) at (tells t rest w (omega (arith, size, n, few)) (omega (arith, size, n, few))
+    (omega (arith, size, n, few))) in
+    let d₀ = ap (drop 48) spelled in
+    let p₁ = part_at _ _ (records_start bytes) a _ d₀ (omega arith) in
+    let p₂ = part_at _ _ (directory_start bytes) r _ p₁.rest (omega (arith, length_records)) in
+    let p₃ = part_at _ _ (texts_start bytes) d _ p₂.rest (omega (arith, length_directory, count_entries_of)) in
+    let p₄ = part_at _ _ (postings_start bytes) x _ p₃.rest (omega arith) in
+    let p₅ = part_at _ _ (digest_start bytes) p seal p₄.rest (omega arith) in
     record {
       told = c;
       size = size;
-      long = omega (arith, size, n);
-      adds_up = omega (arith, size, n, c.archive_bytes, c.messages, c.keys, c.text_bytes, c.posting_bytes);
+      long = omega arith;
+      adds_up = omega arith;
       archives = p₁.is;
       records = p₂.is;
       directory = p₃.is;
@@ -144,27 +137,23 @@ unfolding index_file
 keeps_rules bytes t few f =
     let w = f.0 in
     let b = body t in
-    let parts = has_parts bytes t (sha256 b) few w (length-sha256 b) f.1 in
+    let parts = has_parts _ t _ few w (length-sha256 b) f.1 in
     let c = parts.told in
-    let before_digest : length bytes - 32 ≡ length b = omega (arith, parts.size) in
-    let digest : HasDigest bytes =
-    ap (λ (k : ℕ). drop k bytes) before_digest ∙ ap (drop (length b)) f.1 ∙ drop-append_seam b (sha256 b)
+    let before_digest : length bytes - 32 ≡ length b = omega arith in
+    let digest = ap (λ (k : ℕ). drop k bytes) before_digest ∙ ap (drop (length b)) f.1 ∙ drop-append_seam b (sha256 b)
     ∙ ap sha256 (sym (ap (λ (k : ℕ). take k bytes) before_digest ∙ ap (take (length b)) f.1
     ∙ take-append_seam b (sha256 b))) in
     let signed : IsSigned bytes = record {
       long = parts.long;
       marked = c.marked;
-      known =
-          subst IsVersion (sym c.known) w.version;
+      known = rw c.known w.version;
       digest = digest;
     } in
-    let archives : HasArchives bytes t.archives =
-    record {
+    let archives : HasArchives bytes t.archives = record {
       before = (signed, parts.adds_up);
       spelled = parts.archives;
       counted = sym c.archives;
-      each =
-          subst (λ (v : ℕ). AllByRecursion (IsArchive v) t.archives) (sym c.known) w.archives;
+      each = rw c.known w.archives;
     } in
     let records : HasRecords bytes t.archives t.messages =
     record { before = archives; spelled = parts.records; each = w.messages; in_order = w.in_order } in
@@ -174,43 +163,42 @@ keeps_rules bytes t few f =
       spelled = parts.directory;
       texts = parts.texts;
       postings = parts.postings;
-      each = are_entries (version_told bytes) (length t.messages) t.keys keys;
-      sorted = entries_in_order t.keys w.sorted;
+      each = are_entries _ _ _ keys;
+      sorted = entries_in_order _ w.sorted;
     } in
     record { before = directory; each = keys }
 
 -- ---- so it has no fault
 
 same_archives : (bytes : List ℕ) (as' bs : List Archive) → HasArchives bytes as' → HasArchives bytes bs → as' ≡ bs
-same_archives bytes as' bs a b = grind (arith, flat_map, archive_bytes, archives_back, version_told, read_archives)
+same_archives _ _ _ a b = grind (arith, flat_map, archive_bytes, archives_back, version_told, read_archives)
 
 pub same_records : (bytes : List ℕ) (archives : List Archive) (ms ns : List Record) → length archives < 2 ^ 32
     → HasRecords bytes archives ms → HasRecords bytes archives ns → ms ≡ ns
 same_records bytes archives ms ns few a b =
-    let e : flat_map record_bytes ms ≡ flat_map record_bytes ns = sym a.spelled ∙ b.spelled in
-    let l : length ms ≡ length ns = omega (arith, ap length e, length_records ms, length_records ns) in
-    sym (records_back (version_told bytes) archives ms few a.before.each a.each) ∙ (λ i. read_records (l i) (e i))
-    ∙ records_back (version_told bytes) archives ns few b.before.each b.each
+    let e = sym a.spelled ∙ b.spelled in
+    let l : length ms ≡ length ns = omega (arith, ap length e, length_records, length_records) in
+    sym (records_back _ _ _ few a.before.each a.each) ∙ (λ i. read_records (l i) (e i))
+    ∙ records_back _ _ _ few b.before.each b.each
 
 pub no_fault : (bytes : List ℕ) (t : Table) → length bytes < 2 ^ 64 → IsFileOfTable bytes t → (f : IndexFault)
     → IsFirstFaultOfFile bytes f → ⊥
-no_fault bytes t few w f h = go f h (keeps_rules bytes t few w) w.0.archive_count
+no_fault bytes t few w f h = go f h (keeps_rules _ t few w) w.0.archive_count
   where
     go : (f : IndexFault) → IsFirstFaultOfFile bytes f → HasPostings bytes t.archives t.messages t.keys
         → length t.archives < 2 ^ 32 → ⊥
-    go TooShort h k n = omega (arith, h, k.before.before.before.before.0.long)
+    go TooShort h k n = omega arith
     go BadMagic h k n = h.1 k.before.before.before.before.0.marked
     go BadVersion h k n = h.2 k.before.before.before.before.0.known
     go BadDigest h k n = h.3 k.before.before.before.before.0.digest
     go (BadLayout Counts) h k n = h.1 k.before.before.before.before.1
     go (BadLayout Archives) h k n = h.1 t.archives k.before.before.before
     go (BadLayout Records) h k n =
-        let a : t.archives ≡ h.0 = same_archives bytes t.archives h.0 k.before.before.before h.1 in
-        h.2 t.messages (subst (λ (x : List Archive). HasRecords bytes x t.messages) a k.before.before)
+        let a = same_archives _ _ _ k.before.before.before h.1 in
+        h.2 t.messages (rw (← a) k.before.before)
     go (BadLayout Directory) h k n = grind (arith, entry_of_key)
     go (BadLayout Postings) h k n =
-        let a : t.archives ≡ h.0 = same_archives bytes t.archives h.0 k.before.before.before h.3.before.before in
+        let a = same_archives _ _ _ k.before.before.before h.3.before.before in
         let r = subst (λ (x : List Archive). HasRecords bytes x t.messages) a k.before.before in
-        let m : t.messages ≡ h.1 = same_records bytes h.0 t.messages h.1 (omega (arith, n, ap length a)) r h.3.before in
-        h.4 t.keys (subst (λ (y : List Record). HasPostings bytes h.0 y t.keys) m
-        (subst (λ (x : List Archive). HasPostings bytes x t.messages t.keys) a k))
+        let m = same_records _ _ _ _ (omega (arith, ap length a)) r h.3.before in
+        h.4 t.keys (rw (← m) (rw (← a) k))

@@ -1,5 +1,5 @@
 -- What each walk over a file finds is what the file has, and what a walk refuses is in no file.
-use Rattle.mail_index.proofs.Words.{◌≡◌, ℕ, ◌-◌, ◌*◌, ◌^◌, ◌<◌, ◌≤◌, List, length, drop, refl, sym, ap, subst, ◌∙◌, arith, length-drop, transport, flat_map, slice_range, AllByRecursion, Record, record_bytes, version_number, Archive, IsArchive, records_start, directory_start, texts_start, HasCounts, HasArchives, HasRecords, read_archives, SpellsArchives, AreRecords, read_records, IsLayout}
+use Rattle.mail_index.proofs.Words.{◌≡◌, ℕ, ◌-◌, ◌*◌, ◌^◌, ◌<◌, ◌≤◌, List, length, refl, sym, ap, ◌∙◌, arith, length-drop, transport, slice_range, Record, version_number, Archive, records_start, directory_start, texts_start, HasCounts, HasArchives, HasRecords, read_archives, SpellsArchives, AreRecords, read_records, IsLayout}
 use Rattle.mail_index.specs.declared.view.layout.Layout.{Layout}
 use Rattle.mail_index.proofs.FileLaws.Bytes.{AreBytes, bytes_after, bytes_before, length_part}
 use Rattle.mail_index.proofs.ViewLaws.ArchiveReads.{read_count}
@@ -17,35 +17,32 @@ pub record IsLaidOut (bytes : List ℕ) (l : Layout) : Type 0 where
   pub few_keys : l.key_count < 2 ^ 32
 
 pub section_length : (i j : ℕ) (xs : List ℕ) → i ≤ j → j ≤ length xs → length (slice_range xs i j) ≡ j - i
-section_length i j xs l m = length_part (j - i) (drop i xs) (omega (arith, l, m, length-drop i xs))
+section_length i j xs l m = length_part _ _ (omega (arith, l, m, length-drop i xs))
 
 pub section_bytes : (i j : ℕ) (xs ys : List ℕ) → ys ≡ slice_range xs i j → AreBytes xs → AreBytes ys
-section_bytes i j xs ys e b = subst AreBytes (sym e) (bytes_before (j - i) (drop i xs) (bytes_after i xs b))
+section_bytes i j xs _ e b = rw e (bytes_before _ _ (bytes_after i _ b))
 
 pub has_archives : (bytes : List ℕ) (l : Layout) → IsLaidOut bytes l
     → SpellsArchives (version_number l.version) l.archive_count l.archives.now
     → HasArchives bytes (read_archives (version_number l.version) l.archive_count l.archives.now)
-has_archives bytes l f h = record {
+has_archives _ l f h = record {
   before = f.counts;
   spelled = sym f.layout.archives ∙ h.spelled;
-  counted =
-      read_count (version_number l.version) l.archive_count l.archives.now ∙ f.layout.archive_count;
-  each =
-      subst (λ (v : ℕ). AllByRecursion (IsArchive v)
-      (read_archives (version_number l.version) l.archive_count l.archives.now)) f.layout.version h.each;
+  counted = read_count _ _ _ ∙ f.layout.archive_count;
+  each = rw (← f.layout.version) h.each;
 }
 
 pub these_archives : (bytes : List ℕ) (l : Layout) → IsLaidOut bytes l → (archives : List Archive)
     → HasArchives bytes archives
     → (read_archives (version_number l.version) l.archive_count l.archives.now ≡ archives)
     × SpellsArchives (version_number l.version) l.archive_count l.archives.now
-these_archives bytes l f archives h = grind (arith, spells_these, version_number)
+these_archives _ l f _ h = grind (arith, spells_these, version_number)
 
 pub record_section : (bytes : List ℕ) (l : Layout) → IsLaidOut bytes l → length l.records.now ≡ 40 * l.message_count
-record_section bytes l f = grind (arith, section_length, records_start, directory_start)
+record_section _ l f = grind (arith, section_length, records_start, directory_start)
 
 pub directory_section : (bytes : List ℕ) (l : Layout) → IsLaidOut bytes l → length l.directory.now ≡ 24 * l.key_count
-directory_section bytes l f = grind (arith, section_length, directory_start, texts_start)
+directory_section _ l f = grind (arith, section_length, directory_start, texts_start)
 
 pub has_records : (bytes : List ℕ) (l : Layout) → IsLaidOut bytes l
     → SpellsArchives (version_number l.version) l.archive_count l.archives.now
@@ -53,16 +50,13 @@ pub has_records : (bytes : List ℕ) (l : Layout) → IsLaidOut bytes l
     → HasRecords bytes (read_archives (version_number l.version) l.archive_count l.archives.now)
     (read_records l.message_count l.records.now)
 has_records bytes l f a h =
-    let s = shows_records (version_number l.version) l.archive_count l.archives.now 0 0 l.archives.now l.message_count
-    l.records.now refl
-    (section_bytes (records_start bytes) (directory_start bytes) bytes l.records.now f.layout.records f.are_bytes)
-    (record_section bytes l f) h in
+    let s = shows_records _ _ l.archives.now 0 0 _ _ _ refl (section_bytes _ _ _ _ f.layout.records f.are_bytes)
+    (record_section _ l f) h in
     record {
-      before = has_archives bytes l f a;
+      before = has_archives _ l f a;
       spelled = sym f.layout.records ∙ s.spelled;
       each = s.each;
-      in_order =
-          in_order 0 0 (read_records l.message_count l.records.now) s.after;
+      in_order = in_order 0 0 _ s.after;
     }
 
 -- only the records that are read can be those of the section
@@ -71,9 +65,9 @@ pub these_records : (bytes : List ℕ) (l : Layout) → IsLaidOut bytes l
     → (ms : List Record) → HasRecords bytes (read_archives (version_number l.version) l.archive_count l.archives.now) ms
     → AreRecords (version_number l.version) l.archive_count 0 0 l.archives.now l.message_count l.records.now
 these_records bytes l f a ms h =
-    let e : l.records.now ≡ flat_map record_bytes ms = f.layout.records ∙ h.spelled in
-    let n : length ms ≡ l.message_count = omega (arith, ap length e, length_records ms, record_section bytes l f) in
-    let r = are_records_of (version_number l.version) l.archive_count l.archives.now 0 0 l.archives.now ms
-    f.few_archives a.each refl h.each (are_records_after ms h.in_order) in
-    let e' : flat_map record_bytes ms ≡ l.records.now = sym e in
+    let e = f.layout.records ∙ h.spelled in
+    let n : length ms ≡ l.message_count = omega (arith, ap length e, length_records, record_section) in
+    let r = are_records_of _ _ _ 0 0 l.archives.now _ f.few_archives a.each refl h.each (are_records_after _ h.in_order)
+    in
+    let e' = sym e in
     transport (λ i. AreRecords (version_number l.version) l.archive_count 0 0 l.archives.now (n i) (e' i)) r

@@ -4,12 +4,12 @@ use Rattle.mail_index.proofs.ViewLaws.DigestReads.{same_size, digest_is}
 
 pub split : (a b x y : List ℕ) → length a ≡ length b → a ++ x ≡ b ++ y → (a ≡ b) × (x ≡ y)
 split [] [] x y h e = (refl, e)
-split [] (d ∷ b) x y h e = absurd (omega (arith, h))
-split (c ∷ a) [] x y h e = absurd (omega (arith, h))
+split [] (d ∷ b) x y h e = absurd (omega arith)
+split (c ∷ a) [] x y h e = absurd (omega arith)
 split (c ∷ a) (d ∷ b) x y h e =
     let t : a ++ x ≡ b ++ y = cc in
-    let r = split a b x y (omega (arith, h)) t in
-    let p : a ≡ b = r.0 in
+    let r = split a b x y (omega arith) t in
+    let p = r.0 in
     let q : c ≡ d = cc in
     (cc, r.1)
 
@@ -20,7 +20,7 @@ before (y ∷ ys) x = y ++ before ys x
 
 pub concat_then : (xs : List (List ℕ)) (x : List ℕ) → concat xs ++ x ≡ before xs x
 concat_then [] x = refl
-concat_then (y ∷ ys) x = append_assoc y (concat ys) x ∙ ap (λ (t : List ℕ). y ++ t) (concat_then ys x)
+concat_then (y ∷ ys) x = append_assoc y _ x ∙ ap (λ (t : List ℕ). y ++ t) (concat_then ys x)
 
 pub same_parts : (xs ys : List (List ℕ)) (x y : List ℕ) → map length xs ≡ map length ys → before xs x ≡ before ys y
     → (xs ≡ ys) × (x ≡ y)
@@ -30,10 +30,10 @@ same_parts (a ∷ xs) [] x y h e = absurd cc
 same_parts (a ∷ xs) (b ∷ ys) x y h e =
     let h₁ : length a ≡ length b = cc in
     let h₂ : map length xs ≡ map length ys = cc in
-    let s = split a b (before xs x) (before ys y) h₁ e in
+    let s = split a b _ _ h₁ e in
     let r = same_parts xs ys x y h₂ s.1 in
-    let p : a ≡ b = s.0 in
-    let q : xs ≡ ys = r.0 in
+    let p = s.0 in
+    let q = r.0 in
     (cc, r.1)
 
 pub be32_is : (n m : ℕ) → n < 2 ^ 32 → m < 2 ^ 32 → be32 n ≡ be32 m → n ≡ m
@@ -49,15 +49,15 @@ pub front_each : {A : Type 0} (f : A → List ℕ) (P : A → Type 0)
     → ((a b : A) (x y : List ℕ) → P a → P b → f a ++ x ≡ f b ++ y → (a ≡ b) × (x ≡ y))
     → (xs ys : List A) (x y : List ℕ) → length xs ≡ length ys → AllByRecursion P xs → AllByRecursion P ys
     → flat_map f xs ++ x ≡ flat_map f ys ++ y → (xs ≡ ys) × (x ≡ y)
-front_each f P front [] [] x y h p q e = (refl, e)
-front_each f P front [] (b ∷ ys) x y h p q e = absurd (omega (arith, h))
-front_each f P front (a ∷ xs) [] x y h p q e = absurd (omega (arith, h))
+front_each f P _ [] [] x y h p q e = (refl, e)
+front_each f P front [] (b ∷ ys) x y h p q e = absurd (omega arith)
+front_each f P front (a ∷ xs) [] x y h p q e = absurd (omega arith)
 front_each f P front (a ∷ xs) (b ∷ ys) x y h p q e =
     let s = front a b (flat_map f xs ++ x) (flat_map f ys ++ y) p.0 q.0
-    (sym (append_assoc (f a) (flat_map f xs) x) ∙ e ∙ append_assoc (f b) (flat_map f ys) y) in
-    let r = front_each f P front xs ys x y (omega (arith, h)) p.1 q.1 s.1 in
-    let c : a ≡ b = s.0 in
-    let d : xs ≡ ys = r.0 in
+    (sym (append_assoc _ _ x) ∙ e ∙ append_assoc _ _ y) in
+    let r = front_each f P front xs ys x y (omega arith) p.1 q.1 s.1 in
+    let c = s.0 in
+    let d = r.0 in
     (cc, r.1)
 
 pub archive_front : (version : ℕ) (a b : Archive) (x y : List ℕ) → IsArchive version a → IsArchive version b
@@ -65,15 +65,13 @@ pub archive_front : (version : ℕ) (a b : Archive) (x y : List ℕ) → IsArchi
 archive_front version a b x y p q e =
     let e' = sym (concat_then (be64 a.length ∷ be32 (length a.path) ∷ a.path ∷ unwrap_or a.digest [] ∷ []) x) ∙ e
     ∙ concat_then (be64 b.length ∷ be32 (length b.path) ∷ b.path ∷ unwrap_or b.digest [] ∷ []) y in
-    let s = same_parts (be64 a.length ∷ be32 (length a.path) ∷ []) (be64 b.length ∷ be32 (length b.path) ∷ [])
-    (a.path ++ (unwrap_or a.digest [] ++ x)) (b.path ++ (unwrap_or b.digest [] ++ y)) refl e' in
-    let sizes : a.length ≡ b.length = be64_is a.length b.length (omega (arith, p.1)) (omega (arith, q.1))
+    let s = same_parts (be64 a.length ∷ be32 (length a.path) ∷ []) (be64 b.length ∷ be32 (length b.path) ∷ []) _ _ refl
+    e' in
+    let sizes = be64_is _ _ (omega arith) (omega arith)
     (ap (λ (l : List (List ℕ)). Rattle.std.proofs.Common.get_or l 0 []) s.0) in
-    let lengths : length a.path ≡ length b.path =
-    be32_is (length a.path) (length b.path) (omega (arith, p.0.most)) (omega (arith, q.0.most))
+    let lengths = be32_is _ _ (omega arith) (omega arith)
     (ap (λ (l : List (List ℕ)). Rattle.std.proofs.Common.get_or l 1 []) s.0) in
-    let r = split a.path b.path (unwrap_or a.digest [] ++ x) (unwrap_or b.digest [] ++ y) lengths s.1 in
-    let t = split (unwrap_or a.digest []) (unwrap_or b.digest []) x y (same_size version a.digest b.digest p.2 q.2) r.1
-    in
-    let digest : a.digest ≡ b.digest = digest_is version a.digest b.digest p.2 q.2 t.0 in
+    let r = split _ _ _ _ lengths s.1 in
+    let t = split _ _ x y (same_size _ _ _ p.2 q.2) r.1 in
+    let digest = digest_is _ _ _ p.2 q.2 t.0 in
     (λ i. record { path = r.0 i; length = sizes i; digest = digest i }, t.1)

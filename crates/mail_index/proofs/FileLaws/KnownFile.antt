@@ -16,7 +16,7 @@ use Rattle.mail_index.proofs.FileLaws.WholeFile.{laid_out, these_entries, these_
 
 known_file : (bytes : List ℕ) (l : Layout) → IsLayout bytes l → AreBytes bytes → (t : Table) → IsFileOfTable bytes t
     → IsChecked l × IsFileOfTable bytes (table_of l)
-known_file bytes l y b t w = grind (
+known_file _ l y b t w = grind (
   arith,
   keeps_rules,
   laid_out,

@@ -6,7 +6,7 @@ abbrev pub at : List (List ℕ) → ℕ → List ℕ
 at xs i = get_or xs i []
 
 pub same_at : (xs ys : List (List ℕ)) (i : ℕ) → xs ≡ ys → at xs i ≡ at ys i
-same_at xs ys i e = ap (λ (l : List (List ℕ)). at l i) e
+same_at _ _ i e = ap (λ (l : List (List ℕ)). at l i) e
 
 -- ---- records
 
@@ -28,31 +28,23 @@ HasFew archives m = IsMessage archives m × (length archives < 2 ^ 32) × (archi
 pub message_front : (archives : List Archive) (a b : Record) (x y : List ℕ) → HasFew archives a → HasFew archives b
     → record_bytes a ++ x ≡ record_bytes b ++ y → (a ≡ b) × (x ≡ y)
 unfolding record_list
-message_front archives a b x y p q e =
+message_front _ a b x y p q e =
     let e' = sym (concat_then (record_list a) x) ∙ e ∙ concat_then (record_list b) y in
     let s = same_parts (record_list a) (record_list b) x y refl e' in
-    let archive : a.archive ≡ b.archive = be32_is a.archive b.archive (omega (arith, p.0.exists, p.1))
-    (omega (arith, q.0.exists, q.1)) (same_at (record_list a) (record_list b) 0 s.0) in
-    let flags : flags_byte a ≡ flags_byte b =
-    ap (λ (l : List ℕ). get_or l 0 0) (same_at (record_list a) (record_list b) 1 s.0) in
-    let f = flags_is a.flags.seen a.flags.replied a.flags.flagged (is_some a.date) b.flags.seen b.flags.replied
-    b.flags.flagged (is_some b.date) flags in
-    let offset : a.offset ≡ b.offset = be64_is a.offset b.offset (omega (arith, p.0.within, p.2))
-    (omega (arith, q.0.within, q.2)) (same_at (record_list a) (record_list b) 2 s.0) in
-    let span : a.length ≡ b.length = be64_is a.length b.length (omega (arith, p.0.within, p.2))
-    (omega (arith, q.0.within, q.2)) (same_at (record_list a) (record_list b) 3 s.0) in
-    let size : a.size ≡ b.size = be64_is a.size b.size (omega (arith, p.0.within, p.2, p.0.size))
-    (omega (arith, q.0.within, q.2, q.0.size)) (same_at (record_list a) (record_list b) 4 s.0) in
-    let date : a.date ≡ b.date = date_is a.date b.date p.0.date q.0.date f.3
-    (same_at (record_list a) (record_list b) 5 s.0) in (
+    let archive = be32_is _ _ (omega arith) (omega arith) (same_at _ _ 0 s.0) in
+    let flags = ap (λ (l : List ℕ). get_or l 0 0) (same_at _ _ 1 s.0) in
+    let f = flags_is _ _ _ _ _ _ _ _ flags in
+    let offset = be64_is _ _ (omega arith) (omega arith) (same_at _ _ 2 s.0) in
+    let span = be64_is _ _ (omega arith) (omega arith) (same_at _ _ 3 s.0) in
+    let size = be64_is _ _ (omega arith) (omega arith) (same_at _ _ 4 s.0) in
+    let date = date_is _ _ p.0.date q.0.date f.3 (same_at _ _ 5 s.0) in (
       λ i. record {
         archive = archive i;
         offset = offset i;
         length = span i;
         size = size i;
         date = date i;
-        flags =
-            record { seen = f.0 i; replied = f.1 i; flagged = f.2 i };
+        flags = record { seen = f.0 i; replied = f.1 i; flagged = f.2 i };
       },
       s.1,
     )
@@ -65,9 +57,8 @@ Small (suc k) n = Small k (n / 128)
 
 pub leb_front : (k n m : ℕ) (x y : List ℕ) → Small k n → Small k m → leb128 k n ++ x ≡ leb128 k m ++ y → (n ≡ m)
     × (x ≡ y)
-leb_front zero n m x y p q e = (omega (arith, p, q), e)
-leb_front (suc k) n m x y p q e = go (ltb n 128) refl (ltb m 128) refl e
-    (λ x y. leb_front k (n / 128) (m / 128) x y p q)
+leb_front zero n m x y p q e = (omega arith, e)
+leb_front (suc k) n m x y p q e = go _ refl _ refl e (λ x y. leb_front k (n / 128) (m / 128) x y p q)
   where
     go : (t : Bool) → ltb n 128 ≡ t → (u : Bool) → ltb m 128 ≡ u
         → cond t (n ∷ []) ((128 + n % 128) ∷ leb128 k (n / 128)) ++ x
@@ -82,31 +73,31 @@ leb_some k n x e = grind (arith, ltb, leb128)
 whole : (xs ys : List ℕ) → AllByRecursion (Small 5) xs → AllByRecursion (Small 5) ys → flat_map (leb128 5) xs
     ≡ flat_map (leb128 5) ys → xs ≡ ys
 whole [] [] p q e = refl
-whole [] (b ∷ ys) p q e = absurd (leb_some 4 b (flat_map (leb128 5) ys) (sym e))
-whole (a ∷ xs) [] p q e = absurd (leb_some 4 a (flat_map (leb128 5) xs) e)
+whole [] (b ∷ ys) p q e = absurd (leb_some 4 b _ (sym e))
+whole (a ∷ xs) [] p q e = absurd (leb_some 4 a _ e)
 whole (a ∷ xs) (b ∷ ys) p q e =
-    let s = leb_front 5 a b (flat_map (leb128 5) xs) (flat_map (leb128 5) ys) p.0 q.0 e in
+    let s = leb_front 5 a b _ _ p.0 q.0 e in
     let r = whole xs ys p.1 q.1 s.1 in
-    let h : a ≡ b = s.0 in
+    let h = s.0 in
     cc
 
 differences_is : (low : ℕ) (xs ys : List ℕ) → RisesFrom low xs → RisesFrom low ys → differences_from low xs
     ≡ differences_from low ys → xs ≡ ys
-differences_is low [] [] p q e = refl
-differences_is low [] (b ∷ ys) p q e = absurd cc
-differences_is low (a ∷ xs) [] p q e = absurd cc
+differences_is _ [] [] p q e = refl
+differences_is _ [] (b ∷ ys) p q e = absurd cc
+differences_is _ (a ∷ xs) [] p q e = absurd cc
 differences_is low (a ∷ xs) (b ∷ ys) p q e =
     let d : suc a - low ≡ suc b - low = cc in
-    let h : a ≡ b = omega (arith, d, p.0, q.0) in
+    let h : a ≡ b = omega arith in
     let t : differences_from (suc a) xs ≡ differences_from (suc b) ys = cc in
     let r = differences_is (suc a) xs ys p.1 (rw h q.1) (t ∙ ap (λ (n : ℕ). differences_from n ys) (ap suc (sym h))) in
     cc
 
 small_differences : (count low : ℕ) (xs : List ℕ) → count < 2 ^ 32 → AllByRecursion (λ n. n < count) xs
     → AllByRecursion (Small 5) (differences_from low xs)
-small_differences count low [] h p = tt
-small_differences count low (x ∷ xs) h p = (omega (arith, h, p.0), small_differences count (suc x) xs h p.1)
+small_differences _ _ [] h p = tt
+small_differences count _ (x ∷ xs) h p = (omega arith, small_differences count (suc x) xs h p.1)
 
 pub numbers_are : (version count : ℕ) (a b : Key) → count < 2 ^ 32 → IsKey version count a → IsKey version count b
     → postings a.numbers ≡ postings b.numbers → a.numbers ≡ b.numbers
-numbers_are version count a b h p q e = grind (arith, differences_is, whole, small_differences)
+numbers_are _ _ a b h p q e = grind (arith, differences_is, whole, small_differences)

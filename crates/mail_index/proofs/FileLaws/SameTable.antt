@@ -5,9 +5,8 @@ use Rattle.mail_index.proofs.FileLaws.OneTable.{one_file}
 
 -- no section is longer than the file
 small-file : (bytes : List ℕ) (t : Table) → length bytes < 2 ^ 64 → IsFileOfTable bytes t → HasSmallSections t
-small-file bytes t few f = grind (arith, length-index_file, length-body)
+small-file _ t few f = grind (arith, length-index_file, length-body)
 
 pub same-table : (bytes : List ℕ) (t u : Table) → length bytes < 2 ^ 64 → IsFileOfTable bytes t → IsFileOfTable bytes u
     → u ≡ t
-same-table bytes t u few f h = one_file u t h.0 f.0 (small-file bytes u few h) (small-file bytes t few f)
-    (sym h.1 ∙ f.1)
+same-table bytes t u few f h = one_file u t h.0 f.0 (small-file _ u few h) (small-file _ t few f) (sym h.1 ∙ f.1)

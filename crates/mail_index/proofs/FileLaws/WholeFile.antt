@@ -1,5 +1,5 @@
 -- A file whose sections are those of a table is the file of that table: its sections are its parts in order.
-use Rattle.mail_index.proofs.Words.{◌≡◌, ℕ, ◌+◌, ◌-◌, ◌^◌, ◌<◌, ◌≤◌, List, [], ◌∷◌, ◌++◌, length, map, take, drop, refl, sym, ap, subst, ◌∙◌, arith, length-drop, length-append, length-map, transport, flat_map, slice_range, AllByRecursion, concat, take-append-drop, drop-drop, version_number, IsVersion, u32_at, u64_at, magic, be32, be64, DirectoryEntry, entry_of_key, entries, archive_section, record_bytes, directory_from, texts_of, postings_of, counts, sections, body, index_file, Key, IsArchive, IsKey, IsWellFormed, IsEntry, version_told, IsSigned, records_start, directory_start, texts_start, postings_start, digest_start, HasDigest, HasDirectory, HasPostings, IsFileOfTable, SpellsArchives, AreRecords, AreEntries, read_entries, IsList, AreLists, IsLayout, IsChecked, table_of, key_of}
+use Rattle.mail_index.proofs.Words.{◌≡◌, ℕ, ◌+◌, ◌-◌, ◌^◌, ◌<◌, ◌≤◌, List, [], ◌∷◌, ◌++◌, length, map, take, drop, refl, sym, ap, subst, ◌∙◌, arith, length-drop, length-append, length-map, transport, flat_map, slice_range, AllByRecursion, concat, take-append-drop, drop-drop, version_number, u64_at, magic, be32, be64, DirectoryEntry, entry_of_key, entries, archive_section, record_bytes, directory_from, texts_of, postings_of, counts, sections, body, index_file, Key, IsArchive, IsWellFormed, IsEntry, IsSigned, records_start, directory_start, texts_start, postings_start, digest_start, HasDigest, HasDirectory, HasPostings, IsFileOfTable, SpellsArchives, AreRecords, AreEntries, read_entries, IsList, AreLists, IsLayout, IsChecked, table_of, key_of}
 use Rattle.sha2.specs.Sha256.{sha256}
 use Rattle.mail_index.specs.declared.view.layout.Layout.{Layout}
 use Rattle.mail_index.proofs.FileLaws.Fronts.{before, concat_then, split}
@@ -15,9 +15,9 @@ laid_out bytes l s y b = record {
   layout = y;
   are_bytes = b;
   few = y.few;
-  few_archives = omega (arith, y.archive_count, u32_small bytes 12 b);
-  few_messages = omega (arith, y.message_count, u32_small bytes 16 b);
-  few_keys = omega (arith, y.key_count, u32_small bytes 20 b);
+  few_archives = omega (arith, u32_small);
+  few_messages = omega (arith, u32_small);
+  few_keys = omega (arith, u32_small);
 }
 
 -- the archives and the records keep their rules
@@ -31,7 +31,7 @@ entries_of l = read_entries l.texts.now l.postings.now l.key_count l.directory.n
 pub has_directory : (bytes : List ℕ) (l : Layout) → IsLaidOut bytes l → HoldsRecords l
     → AreEntries (version_number l.version) l.texts.now (length l.postings.now) 0 0 0 [] l.key_count l.directory.now
     → HasDirectory bytes (table_of l).archives (table_of l).messages (entries_of l)
-has_directory bytes l f r h = grind (
+has_directory _ l f r h = grind (
   arith,
   shows_entries,
   version_number,
@@ -46,30 +46,24 @@ has_directory bytes l f r h = grind (
 
 few_section : (i j : ℕ) (xs ys : List ℕ) → ys ≡ slice_range xs i j → i ≤ j → j ≤ length xs → length xs < 2 ^ 64
     → length ys < 2 ^ 64
-few_section i j xs ys e l m n = omega (arith, ap length e, section_length i j xs l m, l, m, n)
+few_section i j xs _ e l m n = omega (arith, ap length e, section_length)
 
 ahead_of : (bytes : List ℕ) (l : Layout) → IsLaidOut bytes l → (es : List DirectoryEntry)
     → HasDirectory bytes (table_of l).archives (table_of l).messages es → IsAhead l.texts.now l.postings.now 0 0 es
-ahead_of bytes l f es h = grind (arith, few_section, texts_start, postings_start, digest_start)
+ahead_of _ l f _ h = grind (arith, few_section, texts_start, postings_start, digest_start)
 
 counted : (bytes : List ℕ) (l : Layout) → IsLaidOut bytes l → (es : List DirectoryEntry)
     → HasDirectory bytes (table_of l).archives (table_of l).messages es → length es ≡ l.key_count
-counted bytes l f es h = omega (
-  arith,
-  ap length (f.layout.directory ∙ h.spelled),
-  length_directory 0 0 es,
-  directory_section bytes l f,
-)
+counted bytes l f es h = omega (arith, ap length (f.layout.directory ∙ h.spelled), length_directory, directory_section)
 
 pub these_entries : (bytes : List ℕ) (l : Layout) → IsLaidOut bytes l → (es : List DirectoryEntry)
     → HasDirectory bytes (table_of l).archives (table_of l).messages es
     → AreEntries (version_number l.version) l.texts.now (length l.postings.now) 0 0 0 [] l.key_count l.directory.now
 these_entries bytes l f es h =
-    let e : directory_from 0 0 es ≡ l.directory.now = sym (f.layout.directory ∙ h.spelled) in
-    let n = counted bytes l f es h in
+    let e = sym (f.layout.directory ∙ h.spelled) in
+    let n = counted _ l f _ h in
     let each = subst (λ (v : ℕ). AllByRecursion (IsEntry v) es) (sym f.layout.version) h.each in
-    let a = are_entries_of (version_number l.version) l.texts.now l.postings.now 0 0 0 [] es each
-    (ahead_of bytes l f es h) (are_after es h.sorted) in
+    let a = are_entries_of _ _ _ 0 0 0 _ _ each (ahead_of _ l f _ h) (are_after _ h.sorted) in
     transport (λ i. AreEntries (version_number l.version) l.texts.now (length l.postings.now) 0 0 0 [] (n i) (e i)) a
 
 pub has_postings : (bytes : List ℕ) (l : Layout) → IsLaidOut bytes l → HoldsRecords l
@@ -77,13 +71,11 @@ pub has_postings : (bytes : List ℕ) (l : Layout) → IsLaidOut bytes l → Hol
     → AreLists l.message_count l.postings.now l.key_count l.directory.now
     → HasPostings bytes (table_of l).archives (table_of l).messages (table_of l).keys
 has_postings bytes l f r h p =
-    let d = has_directory bytes l f r h in
-    let k = reads_keys (version_told bytes) l.message_count (entries_of l) f.few_messages d.each
-    (lists_of l.message_count l.texts.now l.postings.now l.key_count l.directory.now p) in
+    let d = has_directory _ l f r h in
+    let k = reads_keys _ _ _ f.few_messages d.each (lists_of _ _ _ _ _ p) in
     record {
-      before = subst (HasDirectory bytes (table_of l).archives (table_of l).messages) (sym k.spelled) d;
-      each = subst (λ (n : ℕ). AllByRecursion (IsKey (version_told bytes) n) (table_of l).keys)
-          (sym (count_records l.message_count l.records.now)) k.each;
+      before = rw k.spelled d;
+      each = rw (count_records _ _) k.each;
     }
 
 pub these_lists : (bytes : List ℕ) (l : Layout) → IsLaidOut bytes l → (ks : List Key)
@@ -92,24 +84,22 @@ pub these_lists : (bytes : List ℕ) (l : Layout) → IsLaidOut bytes l → (ks 
 these_lists bytes l f ks h =
     let es = map entry_of_key ks in
     let d = h.before in
-    let e : l.directory.now ≡ directory_from 0 0 es = f.layout.directory ∙ d.spelled in
-    let n : l.key_count ≡ length es = sym (counted bytes l f es d) in
+    let e = f.layout.directory ∙ d.spelled in
+    let n = sym (counted _ l f _ d) in
     let back : entries_of l ≡ es = (λ i. read_entries l.texts.now l.postings.now (n i) (e i))
-    ∙ entries_back (version_told bytes) l.texts.now l.postings.now 0 0 es d.each (ahead_of bytes l f es d) in
-    let each = subst (λ (m : ℕ). AllByRecursion (λ x. IsList m x.postings) es)
-    (count_records l.message_count l.records.now)
-    (lists_of_keys (version_told bytes) (length (table_of l).messages) ks h.each) in
-    are_lists l.message_count l.texts.now l.postings.now l.key_count l.directory.now
-    (subst (AllByRecursion (λ x. IsList l.message_count x.postings)) (sym back) each)
+    ∙ entries_back _ _ _ 0 0 _ d.each (ahead_of _ l f _ d) in
+    let each = subst (λ (m : ℕ). AllByRecursion (λ x. IsList m x.postings) es) (count_records _ _)
+    (lists_of_keys _ _ _ h.each) in
+    are_lists _ l.texts.now _ _ _ (rw back each)
 
 -- ---- the whole
 
 then_rest : (i j : ℕ) (xs ys : List ℕ) → slice_range xs i j ≡ ys → i ≤ j → ys ++ drop j xs ≡ drop i xs
-then_rest i j xs ys e l =
-    let k : i + (j - i) ≡ j = omega (arith, l) in
+then_rest i j xs _ e l =
+    let k : i + (j - i) ≡ j = omega arith in
     ap (λ (y : List ℕ). y ++ drop j xs) (sym e)
-    ∙ ap (λ (y : List ℕ). take (j - i) (drop i xs) ++ y)
-    (ap (λ (n : ℕ). drop n xs) (sym k) ∙ sym (drop-drop (j - i) i xs)) ∙ take-append-drop (j - i) (drop i xs)
+    ∙ ap (λ (y : List ℕ). take (j - i) (drop i xs) ++ y) (ap (λ (n : ℕ). drop n xs) (sym k) ∙ sym (drop-drop _ i _))
+    ∙ take-append-drop (j - i) _
 
 counts_front : (bytes : List ℕ) (l : Layout) → IsLaidOut bytes l
     → HasPostings bytes (table_of l).archives (table_of l).messages (table_of l).keys
@@ -117,49 +107,25 @@ counts_front : (bytes : List ℕ) (l : Layout) → IsLaidOut bytes l
 counts_front bytes l f h =
     let t = table_of l in
     let b = f.are_bytes in
-    let long : 80 ≤ length bytes = f.counts.0.long in
-    let archives : length t.archives ≡ u32_at bytes 12 =
-    read_count (version_number l.version) l.archive_count l.archives.now ∙ f.layout.archive_count in
-    let messages : length t.messages ≡ u32_at bytes 16 = count_records l.message_count l.records.now
-    ∙ f.layout.message_count in
-    let keys : length t.keys ≡ u32_at bytes 20 = length-map (entries_of l) key_of
-    ∙ count_entries l.texts.now l.postings.now l.key_count l.directory.now ∙ f.layout.key_count in
+    let long = f.counts.0.long in
+    let archives = read_count (version_number l.version) l.archive_count l.archives.now ∙ f.layout.archive_count in
+    let messages = count_records l.message_count l.records.now ∙ f.layout.message_count in
+    let keys = length-map (entries_of l) key_of ∙ count_entries l.texts.now l.postings.now l.key_count l.directory.now
+    ∙ f.layout.key_count in
     let size₁ : length (archive_section t) ≡ u64_at bytes 24 =
-    omega (
-      arith,
-      ap length h.before.before.before.spelled,
-      section_length 48 (records_start bytes) bytes (omega arith) (omega (arith, f.layout.adds_up)),
-    ) in
+    omega (arith, ap length h.before.before.before.spelled, section_length) in
     let size₂ : length (texts_of (entries t)) ≡ u64_at bytes 32 =
-    omega (
-      arith,
-      ap length h.before.texts,
-      section_length (texts_start bytes) (postings_start bytes) bytes (omega arith) (omega (arith, f.layout.adds_up)),
-    )
-    in
+    omega (arith, ap length h.before.texts, section_length) in
     let size₃ : length (postings_of (entries t)) ≡ u64_at bytes 40 =
-    omega (
-      arith,
-      ap length h.before.postings,
-      section_length (postings_start bytes) (digest_start bytes) bytes (omega arith)
-          (omega (arith, f.layout.adds_up)),
-    ) in
-    let c₇ : be64 (length (postings_of (entries t))) ++ drop 48 bytes ≡ drop 40 bytes =
-    ap (λ (n : ℕ). be64 n ++ drop 48 bytes) size₃ ∙ u64_back bytes 40 48 b (omega (arith, long)) refl in
-    let c₆ : be64 (length (texts_of (entries t))) ++ drop 40 bytes ≡ drop 32 bytes =
-    ap (λ (n : ℕ). be64 n ++ drop 40 bytes) size₂ ∙ u64_back bytes 32 40 b (omega (arith, long)) refl in
-    let c₅ : be64 (length (archive_section t)) ++ drop 32 bytes ≡ drop 24 bytes =
-    ap (λ (n : ℕ). be64 n ++ drop 32 bytes) size₁ ∙ u64_back bytes 24 32 b (omega (arith, long)) refl in
-    let c₄ : be32 (length t.keys) ++ drop 24 bytes ≡ drop 20 bytes = ap (λ (n : ℕ). be32 n ++ drop 24 bytes) keys
-    ∙ u32_back bytes 20 24 b (omega (arith, long)) refl in
-    let c₃ : be32 (length t.messages) ++ drop 20 bytes ≡ drop 16 bytes =
-    ap (λ (n : ℕ). be32 n ++ drop 20 bytes) messages ∙ u32_back bytes 16 20 b (omega (arith, long)) refl in
-    let c₂ : be32 (length t.archives) ++ drop 16 bytes ≡ drop 12 bytes =
-    ap (λ (n : ℕ). be32 n ++ drop 16 bytes) archives ∙ u32_back bytes 12 16 b (omega (arith, long)) refl in
-    let c₁ : be32 t.version ++ drop 12 bytes ≡ drop 8 bytes = ap (λ (n : ℕ). be32 n ++ drop 12 bytes) f.layout.version
-    ∙ u32_back bytes 8 12 b (omega (arith, long)) refl in
-    let c₀ : magic ++ drop 8 bytes ≡ bytes = ap (λ (y : List ℕ). y ++ drop 8 bytes) (sym f.counts.0.marked)
-    ∙ take-append-drop 8 bytes in
+    omega (arith, ap length h.before.postings, section_length) in
+    let c₇ = ap (λ (n : ℕ). be64 n ++ drop 48 bytes) size₃ ∙ u64_back _ 40 48 b (omega arith) refl in
+    let c₆ = ap (λ (n : ℕ). be64 n ++ drop 40 bytes) size₂ ∙ u64_back _ 32 40 b (omega arith) refl in
+    let c₅ = ap (λ (n : ℕ). be64 n ++ drop 32 bytes) size₁ ∙ u64_back _ 24 32 b (omega arith) refl in
+    let c₄ = ap (λ (n : ℕ). be32 n ++ drop 24 bytes) keys ∙ u32_back _ 20 24 b (omega arith) refl in
+    let c₃ = ap (λ (n : ℕ). be32 n ++ drop 20 bytes) messages ∙ u32_back _ 16 20 b (omega arith) refl in
+    let c₂ = ap (λ (n : ℕ). be32 n ++ drop 16 bytes) archives ∙ u32_back _ 12 16 b (omega arith) refl in
+    let c₁ = ap (λ (n : ℕ). be32 n ++ drop 12 bytes) f.layout.version ∙ u32_back _ 8 12 b (omega arith) refl in
+    let c₀ = ap (λ (y : List ℕ). y ++ drop 8 bytes) (sym f.counts.0.marked) ∙ take-append-drop 8 bytes in
     let na = be32 (length t.archives) in let nm = be32 (length t.messages) in let nk = be32 (length t.keys) in
     let la = be64 (length (archive_section t)) in let lt = be64 (length (texts_of (entries t))) in
     concat_then (counts t) (drop 48 bytes)
@@ -168,8 +134,7 @@ counts_front bytes l f h =
     ∙ ap (λ (y : List ℕ). before (magic ∷ be32 t.version ∷ na ∷ nm ∷ nk ∷ []) y) c₅
     ∙ ap (λ (y : List ℕ). before (magic ∷ be32 t.version ∷ na ∷ nm ∷ []) y) c₄
     ∙ ap (λ (y : List ℕ). before (magic ∷ be32 t.version ∷ na ∷ []) y) c₃
-    ∙ ap (λ (y : List ℕ). before (magic ∷ be32 t.version ∷ []) y) c₂
-    ∙ ap (λ (y : List ℕ). before (magic ∷ []) y) c₁
+    ∙ ap (λ (y : List ℕ). before (magic ∷ be32 t.version ∷ []) y) c₂ ∙ ap (λ (y : List ℕ). before (magic ∷ []) y) c₁
     ∙ c₀
 
 body_front : (bytes : List ℕ) (l : Layout) → IsLaidOut bytes l
@@ -206,20 +171,17 @@ body_front bytes l f h =
 signed_whole : (bytes b : List ℕ) (n : ℕ) → n + 32 ≡ length bytes → HasDigest bytes → b ++ drop n bytes ≡ bytes → bytes
     ≡ b ++ sha256 b
 signed_whole bytes b n e s w =
-    let same : length bytes - 32 ≡ n = omega (arith, e) in
-    let size : length b ≡ length (take n bytes) =
-    omega (
+    let same : length bytes - 32 ≡ n = omega arith in
+    let size : length b ≡ length (take n bytes) = omega (
       arith,
       ap length w,
       length-append b (drop n bytes),
       length-drop n bytes,
-      length_part n bytes (omega (arith, e)),
+      length_part n bytes (omega arith),
       e,
     ) in
-    let front : b ≡ take n bytes = (split b (take n bytes) (drop n bytes) (drop n bytes) size
-    (w ∙ sym (take-append-drop n bytes))).0 in
-    let digest : drop n bytes ≡ sha256 (take n bytes) = ap (λ (k : ℕ). drop k bytes) (sym same) ∙ s
-    ∙ ap (λ (k : ℕ). sha256 (take k bytes)) same in
+    let front = (split b _ _ (drop n _) size (w ∙ sym (take-append-drop n _))).0 in
+    let digest = ap (λ (k : ℕ). drop k bytes) (sym same) ∙ s ∙ ap (λ (k : ℕ). sha256 (take k bytes)) same in
     sym w ∙ ap (λ (y : List ℕ). b ++ y) (digest ∙ ap sha256 (sym front))
 
 pub is_file : (bytes : List ℕ) (l : Layout) → IsLaidOut bytes l
@@ -227,35 +189,34 @@ pub is_file : (bytes : List ℕ) (l : Layout) → IsLaidOut bytes l
 unfolding index_file
 is_file bytes l f h =
     let t = table_of l in
-    let archives : length t.archives ≡ l.archive_count =
-    read_count (version_number l.version) l.archive_count l.archives.now in
-    let messages : length t.messages ≡ l.message_count = count_records l.message_count l.records.now in
-    let keys : length t.keys ≡ l.key_count = length-map (entries_of l) key_of
-    ∙ count_entries l.texts.now l.postings.now l.key_count l.directory.now in
-    let told : version_told bytes ≡ t.version = sym f.layout.version in
+    let archives = read_count (version_number l.version) l.archive_count l.archives.now in
+    let messages = count_records l.message_count l.records.now in
+    let keys = length-map (entries_of l) key_of ∙ count_entries l.texts.now l.postings.now l.key_count l.directory.now
+    in
+    let told = sym f.layout.version in
     let w : IsWellFormed t = record {
-      version = subst IsVersion told f.counts.0.known;
-      archive_count = omega (arith, archives, f.few_archives);
-      message_count = omega (arith, messages, f.few_messages);
-      key_count = omega (arith, keys, f.few_keys);
+      version = rw (← told) f.counts.0.known;
+      archive_count = omega arith;
+      message_count = omega arith;
+      key_count = omega arith;
       archives = subst (λ (v : ℕ). AllByRecursion (IsArchive v) t.archives) told h.before.before.before.each;
       messages = h.before.before.each;
       in_order = h.before.before.in_order;
-      keys = subst (λ (v : ℕ). AllByRecursion (IsKey v (length t.messages)) t.keys) told h.each;
-      sorted = keys_in_order t.keys h.before.sorted;
+      keys = rw (← told) h.each;
+      sorted = keys_in_order _ h.before.sorted;
     } in
-    (w, signed_whole bytes (body t) (digest_start bytes) f.layout.adds_up f.counts.0.digest (body_front bytes l f h))
+    (w, signed_whole _ (body t) _ f.layout.adds_up f.counts.0.digest (body_front _ l f h))
 
 pub checked : (bytes : List ℕ) (l : Layout) → IsLaidOut bytes l → HoldsRecords l
     → AreEntries (version_number l.version) l.texts.now (length l.postings.now) 0 0 0 [] l.key_count l.directory.now
     → AreLists l.message_count l.postings.now l.key_count l.directory.now → IsChecked l
 checked bytes l f r d p = record {
   archives = r.archives;
-  record_bytes = record_section bytes l f;
+  record_bytes = record_section _ l f;
   records = r.records;
-  directory_bytes = directory_section bytes l f;
+  directory_bytes = directory_section _ l f;
   entries = d;
   few_messages = f.few_messages;
   lists = p;
-  formed = (is_file bytes l f (has_postings bytes l f r d p)).0;
+  formed = (is_file _ l f (has_postings _ l f r d p)).0;
 }

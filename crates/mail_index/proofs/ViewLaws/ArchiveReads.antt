@@ -11,17 +11,14 @@ unfolding read_archive after_archive
 archive_back version a x h =
     let r = archive_bytes a ++ x in
     let d = unwrap_or a.digest [] in
-    let size : u32_at r 8 ≡ length a.path = from_be_bytes-to_be_bytes_4 (length a.path) (omega (arith, h.0.most)) in
-    let tail : drop 12 r ≡ a.path ++ (d ++ x) = append_assoc a.path (d ++ []) x
-    ∙ ap (λ (y : List ℕ). a.path ++ (y ++ x)) (append-nil d) in
-    let span : u64_at r 0 ≡ a.length = from_be_bytes-to_be_bytes_8 a.length (omega (arith, h.1)) in
-    let path : take (u32_at r 8) (drop 12 r) ≡ a.path = ap (λ (n : ℕ). take n (drop 12 r)) size
-    ∙ ap (take (length a.path)) tail ∙ take-append_seam a.path (d ++ x) in
-    let after : after_path r ≡ d ++ x = ap (λ (n : ℕ). drop n (drop 12 r)) size ∙ ap (drop (length a.path)) tail
-    ∙ drop-append_seam a.path (d ++ x) in
-    let back = digest_back version a.digest x h.2 in
-    let digest : read_digest version (after_path r) ≡ a.digest = ap (read_digest version) after ∙ back.0 in
-    let later : after_digest version (after_path r) ≡ x = ap (after_digest version) after ∙ back.1 in
+    let size = from_be_bytes-to_be_bytes_4 (length a.path) (omega arith) in
+    let tail = append_assoc a.path (d ++ []) x ∙ ap (λ (y : List ℕ). a.path ++ (y ++ x)) (append-nil d) in
+    let span = from_be_bytes-to_be_bytes_8 a.length (omega arith) in
+    let path = ap (λ (n : ℕ). take n (drop 12 r)) size ∙ ap (take _) tail ∙ take-append_seam a.path (d ++ x) in
+    let after = ap (λ (n : ℕ). drop n (drop 12 r)) size ∙ ap (drop _) tail ∙ drop-append_seam a.path (d ++ x) in
+    let back = digest_back _ _ x h.2 in
+    let digest = ap (read_digest version) after ∙ back.0 in
+    let later = ap (after_digest version) after ∙ back.1 in
     ((λ i. record { path = path i; length = span i; digest = digest i }), later)
 
 -- bytes begin with an archive if they have room for a path, this is a valid path, and a digest follows it
@@ -33,16 +30,15 @@ has_archive version r h l n p s t =
     let path = take (u32_at r 8) (drop 12 r) in
     let digest = unwrap_or (read_digest version (after_path r)) [] in
     let later = after_digest version (after_path r) in
-    let size : length path ≡ u32_at r 8 = length_part (u32_at r 8) (drop 12 r) n in
-    let tail : path ++ after_path r ≡ drop 12 r = take-append-drop (u32_at r 8) (drop 12 r) in
+    let size = length_part _ _ n in
+    let tail = take-append-drop (u32_at r 8) (drop 12 r) in
     let e : archive_bytes (read_archive version r) ++ later ≡ r =
     concat_then (be64 (u64_at r 0) ∷ be32 (length path) ∷ path ∷ digest ∷ []) later
-    ∙ ap (λ (x : List ℕ). be64 (u64_at r 0) ++ (be32 (length path) ++ (path ++ x)))
-    (digest_kept version (after_path r))
+    ∙ ap (λ (x : List ℕ). be64 (u64_at r 0) ++ (be32 (length path) ++ (path ++ x))) (digest_kept version _)
     ∙ ap (λ (x : List ℕ). be64 (u64_at r 0) ++ (be32 (length path) ++ x)) tail
     ∙ ap (λ (k : ℕ). be64 (u64_at r 0) ++ (be32 k ++ drop 12 r)) size
-    ∙ ap (λ (x : List ℕ). be64 (u64_at r 0) ++ x) (u32_back r 8 12 h (omega (arith, l)) refl)
-    ∙ u64_back r 0 8 h (omega (arith, l)) refl in
+    ∙ ap (λ (x : List ℕ). be64 (u64_at r 0) ++ x) (u32_back r 8 _ h (omega arith) refl)
+    ∙ u64_back r 0 8 h (omega arith) refl in
     record { spelled = sym e; valid = (p, s, t) }
 
 length_archive : (a : Archive) (x : List ℕ) → length (archive_bytes a ++ x)
@@ -62,39 +58,32 @@ pub archive_front_of : (version : ℕ) (r : List ℕ) → HasArchive version r �
 unfolding read_archive after_archive
 archive_front_of version r h =
     let a = read_archive version r in
-    let n : length r ≡ 12 + length a.path + length (unwrap_or a.digest []) + length (after_archive version r) =
-    ap length h.spelled ∙ length_archive a (after_archive version r) in
-    let size : u32_at r 8 ≡ length a.path = ap (λ (x : List ℕ). u32_at x 8) h.spelled
-    ∙ from_be_bytes-to_be_bytes_4 (length a.path) (omega (arith, h.valid.0.most)) in
+    let n = ap length h.spelled ∙ length_archive a (after_archive version r) in
+    let size = ap (λ (x : List ℕ). u32_at x 8) h.spelled ∙ from_be_bytes-to_be_bytes_4 (length a.path) (omega arith) in
     let path : u32_at r 8 ≤ length (drop 12 r) = omega (arith, n, size, length-drop 12 r) in
     record {
-      long = omega (arith, n);
+      long = omega arith;
       path = path;
       valid = h.valid.0;
       size = h.valid.1;
       digest = h.valid.2;
-      room =
-          digest_room version (after_path r) h.valid.2;
+      room = digest_room _ _ h.valid.2;
     }
 
 -- the first of these archives, and the others
 after_spelled : (version n : ℕ) (r : List ℕ) → SpellsArchives version (suc n) r → after_archive version r
     ≡ flat_map archive_bytes (read_archives version n (after_archive version r))
-after_spelled version n r h = ap (after_archive version) h.spelled
-    ∙ (archive_back version (read_archive version r)
-    (flat_map archive_bytes (read_archives version n (after_archive version r))) h.each.0).1
+after_spelled version n r h = ap (after_archive version) h.spelled ∙ (archive_back _ _ _ h.each.0).1
 
 pub spells_front : (version n : ℕ) (r : List ℕ) → SpellsArchives version (suc n) r → HasArchive version r
 spells_front version n r h = record {
-  spelled = h.spelled
-      ∙ ap (λ (x : List ℕ). archive_bytes (read_archive version r) ++ x) (sym (after_spelled version n r h));
-  valid =
-      h.each.0;
+  spelled = h.spelled ∙ ap (λ (x : List ℕ). archive_bytes (read_archive version r) ++ x) (sym (after_spelled _ n r h));
+  valid = h.each.0;
 }
 
 pub spells_rest : (version n : ℕ) (r : List ℕ) → SpellsArchives version (suc n) r
     → SpellsArchives version n (after_archive version r)
-spells_rest version n r h = record { spelled = after_spelled version n r h; each = h.each.1 }
+spells_rest version n r h = record { spelled = after_spelled _ n r h; each = h.each.1 }
 
 pub spells_more : (version n : ℕ) (r : List ℕ) → HasArchive version r
     → SpellsArchives version n (after_archive version r) → SpellsArchives version (suc n) r
@@ -107,36 +96,33 @@ spells_more version n r h s = record {
 -- archives are read back from their bytes
 pub archives_back : (version : ℕ) (archives : List Archive) → AllByRecursion (IsArchive version) archives
     → read_archives version (length archives) (flat_map archive_bytes archives) ≡ archives
-archives_back version [] h = refl
+archives_back _ [] h = refl
 archives_back version (a ∷ rest) h =
-    let b = archive_back version a (flat_map archive_bytes rest) h.0 in
-    let head : read_archive version (flat_map archive_bytes (a ∷ rest)) ≡ a = b.0 in
-    let tail : read_archives version (length rest) (after_archive version (flat_map archive_bytes (a ∷ rest))) ≡ rest =
-    ap (read_archives version (length rest)) b.1 ∙ archives_back version rest h.1 in
+    let b = archive_back _ a (flat_map archive_bytes rest) h.0 in
+    let head = b.0 in
+    let tail = ap (read_archives version (length rest)) b.1 ∙ archives_back version rest h.1 in
     cc
 
 -- ---- the reader of one archive, from the results of its calls
 
 pub cut_has_none : (version : ℕ) (r tail : List ℕ) (n : ℕ) → n ≡ u32_at r 8 → tail ≡ drop 12 r → length tail < n
     → HasArchive version r → ⊥
-cut_has_none version r tail n e t l h = let f = archive_front_of version r h
-    in absurd (omega (arith, e, ap length t, l, f.path))
+cut_has_none version r _ n e t l h = let f = archive_front_of _ r h in absurd (omega (arith, ap length t))
 
 pub unnamed_has_none : (version : ℕ) (r tail path : List ℕ) (n : ℕ) → n ≡ u32_at r 8 → tail ≡ drop 12 r → path
     ≡ take n tail → (IsPath path → ⊥) → HasArchive version r → ⊥
 unnamed_has_none version r tail path n e t p refuses h =
-    let f = archive_front_of version r h in
-    let same : take (u32_at r 8) (drop 12 r) ≡ path = sym (p ∙ ap (λ (k : ℕ). take k tail) e ∙ ap (take (u32_at r 8)) t)
-    in
-    refuses (subst IsPath same f.valid)
+    let f = archive_front_of _ r h in
+    let same = sym (p ∙ ap (λ (k : ℕ). take k tail) e ∙ ap (take _) t) in
+    refuses (rw (← same) f.valid)
 
 pub undigested_has_none : (version : ℕ) (r tail later : List ℕ) (n : ℕ) → n ≡ u32_at r 8 → tail ≡ drop 12 r → later
     ≡ drop n tail → (IsDigest version (read_digest version later) → ⊥)
     → HasArchive version r → ⊥
 undigested_has_none version r tail later n e t b refuses h =
-    let f = archive_front_of version r h in
-    let same : after_path r ≡ later = sym (b ∙ ap (λ (k : ℕ). drop k tail) e ∙ ap (drop (u32_at r 8)) t) in
-    refuses (subst (λ (y : List ℕ). IsDigest version (read_digest version y)) same f.digest)
+    let f = archive_front_of _ r h in
+    let same = sym (b ∙ ap (λ (k : ℕ). drop k tail) e ∙ ap (drop _) t) in
+    refuses (rw (← same) f.digest)
 
 pub found : (version : ℕ) (r tail path later : List ℕ) (n s : ℕ) (digest : Option (List ℕ)) (rest : List ℕ)
     → AreBytes r → 12 ≤ length r → s ≡ u64_at r 0 → n ≡ u32_at r 8
@@ -146,13 +132,12 @@ pub found : (version : ℕ) (r tail path later : List ℕ) (n s : ℕ) (digest :
     → HasArchive version r × (record { path = path; length = s; digest = digest } ≡ read_archive version r)
     × (rest ≡ after_archive version r)
 unfolding read_archive after_archive
-found version r tail path later n s digest rest h l es en et nl ep eb valid most its ed er =
-    let same : path ≡ take (u32_at r 8) (drop 12 r) = ep ∙ ap (λ (k : ℕ). take k tail) en ∙ ap (take (u32_at r 8)) et in
-    let after : later ≡ after_path r = eb ∙ ap (λ (k : ℕ). drop k tail) en ∙ ap (drop (u32_at r 8)) et in
-    let d : digest ≡ read_digest version (after_path r) = ed ∙ ap (read_digest version) after in
+found version r tail path later n s digest _ h l es en et nl ep eb valid most its ed er =
+    let same = ep ∙ ap (λ (k : ℕ). take k tail) en ∙ ap (take _) et in
+    let after = eb ∙ ap (λ (k : ℕ). drop k tail) en ∙ ap (drop _) et in
+    let d = ed ∙ ap (read_digest version) after in
     let front = subst (λ (y : List ℕ). IsDigest version (read_digest version y)) after its in (
-      has_archive version r h l (omega (arith, en, ap length et, nl)) (subst IsPath same valid)
-          (omega (arith, es, most)) front,
+      has_archive _ r h l (omega (arith, ap length et)) (rw (← same) valid) (omega arith) front,
       (λ i. record { path = same i; length = es i; digest = d i }),
       er ∙ ap (after_digest version) after,
     )
@@ -164,21 +149,19 @@ pub spells_step : (version n i : ℕ) (s r later : List ℕ) → i < n
     ≡ after_archive version r
     → SpellsArchives version n s ↔ SpellsArchives version (n - (i + 1)) later
 spells_step version n i s r later l h a b =
-    let e : n - i ≡ suc (n - (i + 1)) = omega (arith, l) in
+    let e : n - i ≡ suc (n - (i + 1)) = omega arith in
     let forth : SpellsArchives version n s → SpellsArchives version (n - (i + 1)) later =
-    λ p. subst (SpellsArchives version (n - (i + 1))) (sym b)
-    (spells_rest version (n - (i + 1)) r (subst (λ (k : ℕ). SpellsArchives version k r) e (h.0 p))) in
+    λ p. rw b (spells_rest _ _ r (rw (← e) (h.0 p))) in
     let back : SpellsArchives version (n - (i + 1)) later → SpellsArchives version n s =
-    λ p. h.1 (subst (λ (k : ℕ). SpellsArchives version k r) (sym e)
-    (spells_more version (n - (i + 1)) r a (subst (SpellsArchives version (n - (i + 1))) b p))) in
+    λ p. h.1 (rw e (spells_more _ _ r a (rw (← b) p))) in
     (forth, back)
 
 pub spells_stop : (version n i : ℕ) (s r : List ℕ) → i < n
     → (SpellsArchives version n s ↔ SpellsArchives version (n - i) r) → (HasArchive version r → ⊥)
     → SpellsArchives version n s → ⊥
 spells_stop version n i s r l h refuses p =
-    let e : n - i ≡ suc (n - (i + 1)) = omega (arith, l) in
-    refuses (spells_front version (n - (i + 1)) r (subst (λ (k : ℕ). SpellsArchives version k r) e (h.0 p)))
+    let e : n - i ≡ suc (n - (i + 1)) = omega arith in
+    refuses (spells_front _ (n - (i + 1)) r (rw (← e) (h.0 p)))
 
 -- ---- the walk past the first archives
 
@@ -186,26 +169,25 @@ pub pass_step : (version count n i : ℕ) (s r later : List ℕ) → i < n → n
     → after_archives version (n - i) r ≡ after_archives version n s → later ≡ after_archive version r
     → SpellsArchives version (count - (i + 1)) later
     × (after_archives version (n - (i + 1)) later ≡ after_archives version n s)
-pass_step version count n i s r later l b h e g =
-    let f : count - i ≡ suc (count - (i + 1)) = omega (arith, l, b) in
-    let k : n - i ≡ suc (n - (i + 1)) = omega (arith, l) in
-    let spelled = spells_rest version (count - (i + 1)) r (subst (λ (j : ℕ). SpellsArchives version j r) f h) in (
-      subst (SpellsArchives version (count - (i + 1))) (sym g) spelled,
-      ap (after_archives version (n - (i + 1))) g
-          ∙ ap (λ (j : ℕ). after_archives version j r) (sym k) ∙ e,
+pass_step version count n i s r _ l b h e g =
+    let f : count - i ≡ suc (count - (i + 1)) = omega arith in
+    let k : n - i ≡ suc (n - (i + 1)) = omega arith in
+    let spelled = spells_rest version (count - (i + 1)) r (rw (← f) h) in (
+      rw g spelled,
+      ap (after_archives version (n - (i + 1))) g ∙ ap (λ (j : ℕ). after_archives version j r) (sym k) ∙ e,
     )
 
 pub after_value : (version : ℕ) (r tail later rest : List ℕ) (n k : ℕ) → n ≡ u32_at r 8 → tail ≡ drop 12 r → later
     ≡ drop n tail → k ≡ digest_length version → rest ≡ drop k later
     → rest ≡ after_archive version r
 unfolding after_archive
-after_value version r tail later rest n k en et eb ek er =
-    let after : later ≡ after_path r = eb ∙ ap (λ (j : ℕ). drop j tail) en ∙ ap (drop (u32_at r 8)) et in
+after_value version r tail later _ n k en et eb ek er =
+    let after = eb ∙ ap (λ (j : ℕ). drop j tail) en ∙ ap (drop _) et in
     er ∙ ap (λ (j : ℕ). drop j later) ek ∙ ap (after_digest version) after
 
 pub after_some : (version count : ℕ) (r later : List ℕ) → 0 < count → SpellsArchives version count r → later
     ≡ after_archive version r → SpellsArchives version (count - 1) later
-after_some version count r later h h2 h3 = grind (arith, spells_rest)
+after_some _ _ r _ h h2 h3 = grind (arith, spells_rest)
 
 -- ---- lengths of archives
 
@@ -218,24 +200,24 @@ archives_after version (suc n) k r = ap (λ (j : ℕ). after_archives version j 
 pub length_at : (version count n : ℕ) (r : List ℕ) → n < count → archive_length (read_archives version count r) n
     ≡ u64_at (after_archives version n r) 0
 unfolding read_archive
-length_at version zero n r l = absurd (omega (arith, l))
-length_at version (suc count) zero r l = refl
-length_at version (suc count) (suc n) r l = length_at version count n (after_archive version r) (omega (arith, l))
+length_at _ zero n r l = absurd (omega arith)
+length_at _ (suc count) zero r l = refl
+length_at version (suc count) (suc n) r l = length_at version count n (after_archive version r) (omega arith)
 
 pub read_count : (version count : ℕ) (r : List ℕ) → length (read_archives version count r) ≡ count
-read_count version zero r = refl
+read_count _ zero r = refl
 read_count version (suc n) r = ap suc (read_count version n (after_archive version r))
 
 pub front_of_some : (version count : ℕ) (r : List ℕ) → 0 < count → SpellsArchives version count r
     → ArchiveFront version r
-front_of_some version zero r l h = absurd (omega (arith, l))
-front_of_some version (suc n) r l h = archive_front_of version r (spells_front version n r h)
+front_of_some _ zero r l h = absurd (omega arith)
+front_of_some version (suc n) r l h = archive_front_of _ r (spells_front _ n r h)
 
 pub has_first : (version count : ℕ) (r : List ℕ) → 0 < count → SpellsArchives version count r → HasArchive version r
-has_first version count r h h2 = grind (arith, spells_front)
+has_first _ _ r h h2 = grind (arith, spells_front)
 
 pub archive_at : (version count n : ℕ) (r : List ℕ) → n < count → slice_get (read_archives version count r) n
     ≡ Some (read_archive version (after_archives version n r))
-archive_at version zero n r l = absurd (omega (arith, l))
-archive_at version (suc count) zero r l = refl
-archive_at version (suc count) (suc n) r l = archive_at version count n (after_archive version r) (omega (arith, l))
+archive_at _ zero n r l = absurd (omega arith)
+archive_at _ (suc count) zero r l = refl
+archive_at version (suc count) (suc n) r l = archive_at version count n (after_archive version r) (omega arith)

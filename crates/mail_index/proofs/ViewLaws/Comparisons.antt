@@ -17,19 +17,19 @@ comparisons-more : (most : ℕ) (kind : Kind) (text : List ℕ) (ks : List Key) 
     (o : Ordering)
     → drop (length ks / 2) ks ≡ k ∷ after → take (length ks / 2) ks ≡ before → lies_to kind text k ≡ o
     → comparisons_within (suc most) kind text ks ≡ suc (left most kind text o before after)
-comparisons-more most kind text ks k before after o h h2 h3 = grind (arith, comparisons_within)
+comparisons-more _ _ _ _ k _ _ o h h2 h3 = grind (arith, comparisons_within)
 
 -- ---- there are few comparisons
 
 left-few : (most : ℕ) (kind : Kind) (text : List ℕ) (o : Ordering) (before after : List Key) (few : ℕ)
     → comparisons_within most kind text before ≤ few → comparisons_within most kind text after ≤ few
     → left most kind text o before after ≤ few
-left-few most kind text o before after few h h2 = grind arith
+left-few _ _ _ o _ _ _ h h2 = grind arith
 
 pub comparisons-few : (most : ℕ) (kind : Kind) (text : List ℕ) (ks : List Key) (digits : ℕ) → length ks < 2 ^ digits
     → comparisons_within most kind text ks ≤ digits
-comparisons-few zero kind text ks digits h = omega arith
-comparisons-few (suc most) kind text [] digits h = omega arith
+comparisons-few zero _ _ _ _ h = omega arith
+comparisons-few (suc most) _ _ [] _ h = omega arith
 comparisons-few (suc most) kind text (k ∷ ks) digits h =
     let keys : List Key = k ∷ ks in
     let n : ℕ = length keys / 2 in
@@ -51,15 +51,14 @@ left-many : (most : ℕ) (kind : Kind) (text : List ℕ) (o : Ordering) (before 
     ≡ false
     → many ≤ comparisons_within most kind text before → many ≤ comparisons_within most kind text after
     → many ≤ left most kind text o before after
-left-many most kind text o before after many other h h2 = grind arith
+left-many _ _ _ o _ _ _ other h h2 = grind arith
 
 pub comparisons-many : (most : ℕ) (kind : Kind) (text : List ℕ) (ks : List Key) (digits : ℕ) → length ks ≤ most
     → AllByRecursion (λ k. is_key kind text k ≡ false) ks
     → 2 ^ digits ≤ suc (length ks) → digits ≤ comparisons_within most kind text ks
-comparisons-many most kind text ks zero enough none h = omega arith
-comparisons-many zero kind text ks (suc fewer) enough none h =
-    absurd (omega (arith, enough, half_digits (length ks) fewer h))
-comparisons-many (suc most) kind text [] (suc fewer) enough none h = absurd (omega (arith, half_digits 0 fewer h))
+comparisons-many _ _ _ _ zero enough none h = omega arith
+comparisons-many zero _ _ ks (suc fewer) enough none h = absurd (omega (arith, enough, half_digits (length ks) fewer h))
+comparisons-many (suc most) _ _ [] (suc fewer) enough none h = absurd (omega (arith, half_digits 0 fewer h))
 comparisons-many (suc most) kind text (k ∷ ks) (suc fewer) enough none h =
     let keys : List Key = k ∷ ks in
     let n : ℕ = length keys / 2 in
@@ -81,7 +80,7 @@ comparisons-many (suc most) kind text (k ∷ ks) (suc fewer) enough none h =
     omega (arith, counted, many)
 
 pub comparisons-some : (kind : Kind) (text : List ℕ) (ks : List Key) → 0 < length ks → 0 < comparisons kind text ks
-comparisons-some kind text [] h = absurd (omega (arith, h))
+comparisons-some _ _ [] h = absurd (omega (arith, h))
 comparisons-some kind text (k ∷ ks) h =
     let keys : List Key = k ∷ ks in
     let n : ℕ = length keys / 2 in
@@ -94,20 +93,18 @@ comparisons-some kind text (k ∷ ks) h =
 -- ---- keys from one number to another
 
 length-between : (low high : ℕ) (ks : List Key) → high ≤ length ks → length (keys_between low high ks) ≡ high - low
-length-between low high ks within = length-take-le (high - low) (drop low ks)
-    (omega (arith, within, length-drop low ks))
+length-between low high ks within = length-take-le _ _ (omega (arith, within, length-drop low ks))
 
 from_place : (low high n : ℕ) (ks : List Key) (d : Key) → low + n < high → high ≤ length ks
     → drop n (keys_between low high ks) ≡ get_or ks (low + n) d ∷ keys_between (low + n + 1) high ks
 from_place low high n ks d less within =
-    let rest : high - low ≡ n + (high - (low + n)) = omega (arith, less) in
-    ap (λ (m : ℕ). drop n (take m (drop low ks))) rest ∙ drop-take n (high - (low + n)) (drop low ks)
-    ∙ ap (take (high - (low + n))) (drop-drop n low ks)
-    ∙ between-next (low + n) high ks d less within
+    let rest : high - low ≡ n + (high - (low + n)) = omega arith in
+    ap (λ (m : ℕ). drop n (take m (drop low ks))) rest ∙ drop-take n _ _ ∙ ap (take _) (drop-drop n _ _)
+    ∙ between-next _ _ _ d less within
 
 before_place : (low high n : ℕ) (ks : List Key) → low + n < high → take n (keys_between low high ks)
     ≡ keys_between low (low + n) ks
-before_place low high n ks less = grind (arith, take-take)
+before_place _ _ n _ less = grind (arith, take-take)
 
 -- how a search goes on after the key in the middle compared in this way
 pub record Compared (most : ℕ) (kind : Kind) (text : List ℕ) (ks : List Key) (low high : ℕ) (o : Ordering) : Type 0
@@ -121,17 +118,15 @@ pub record Compared (most : ℕ) (kind : Kind) (text : List ℕ) (ks : List Key)
 pub compared : (most : ℕ) (kind : Kind) (text : List ℕ) (ks : List Key) (low high : ℕ) (d : Key) (o : Ordering)
     → low < high → high ≤ length ks → high - low ≤ most
     → lies_to kind text (get_or ks (low + (high - low) / 2) d) ≡ o → Compared most kind text ks low high o
-compared zero kind text ks low high d o some within enough lies = absurd (omega (arith, some, enough))
+compared zero _ _ _ _ _ d o some within enough lies = absurd (omega arith)
 compared (suc most) kind text ks low high d o some within enough lies =
     let n : ℕ = (high - low) / 2 in
-    let row : List Key = keys_between low high ks in
-    let half : length row / 2 ≡ n = ap (λ (k : ℕ). k / 2) (length-between low high ks within) in
-    let inside : low + n < high = omega (arith, some) in
+    let row = keys_between low high ks in
+    let half = ap (λ (k : ℕ). k / 2) (length-between _ _ _ within) in
+    let inside : low + n < high = omega arith in
     record {
       fewer = most;
       enough = enough;
-      counted = comparisons-more most kind text row (get_or ks (low + n) d) (keys_between low (low + n) ks)
-          (keys_between (low + n + 1) high ks) o
-          (ap (λ (k : ℕ). drop k row) half ∙ from_place low high n ks d inside within)
-          (ap (λ (k : ℕ). take k row) half ∙ before_place low high n ks inside) lies;
+      counted = comparisons-more _ _ _ _ _ _ _ o (ap (λ (k : ℕ). drop k row) half ∙ from_place _ _ n _ d inside within)
+          (ap (λ (k : ℕ). take k row) half ∙ before_place _ _ n _ inside) lies;
     }

@@ -4,16 +4,16 @@ use Rattle.mail_index.specs.declared.version.Version.{Version}
 use Rattle.mail_index.specs.declared.version.Version.TheVariants.{Two}
 
 pub digest_size : (version : ℕ) (d : List ℕ) → IsDigest version (Some d) → length d ≡ 32
-digest_size version d h = h.1
+digest_size _ d h = h.1
 
 -- a digest is read back from its bytes, with whatever follows them
 pub digest_back : (version : ℕ) (d : Option (List ℕ)) (x : List ℕ) → IsDigest version d
     → (read_digest version (unwrap_or d [] ++ x) ≡ d) × (after_digest version (unwrap_or d [] ++ x) ≡ x)
-digest_back version None x h = rw h (refl, refl)
+digest_back _ None x h = rw h (refl, refl)
 digest_back version (Some d) x h =
-    let size : 32 ≡ length d = sym (digest_size version d h) in
-    let front : take 32 (d ++ x) ≡ d = ap (λ (n : ℕ). take n (d ++ x)) size ∙ take-append_seam d x in
-    let after : drop 32 (d ++ x) ≡ x = ap (λ (n : ℕ). drop n (d ++ x)) size ∙ drop-append_seam d x in
+    let size = sym (digest_size _ d h) in
+    let front = ap (λ (n : ℕ). take n (d ++ x)) size ∙ take-append_seam d x in
+    let after = ap (λ (n : ℕ). drop n (d ++ x)) size ∙ drop-append_seam d x in
     rw h.0 (ap Some front, after)
 
 -- the bytes of the digest that is read, and those after it, are all bytes
@@ -35,7 +35,7 @@ digest_room version y = elim (nat_eq version 1) as
 
 pub cut_digest : (v : Version) (y : List ℕ) → v ≡ Two → length y < 32
     → IsDigest (version_number v) (read_digest (version_number v) y) → ⊥
-cut_digest v y e l = rw e (λ h. absurd (omega (arith, digest_room 2 y h, l)))
+cut_digest v y e l = rw e (λ h. absurd (omega (arith, digest_room)))
 
 -- 32 bytes and what follows them
 pub whole_digest : (v : Version) (y d x : List ℕ) → v ≡ Two → (d ≡ take 32 y) × (x ≡ drop 32 y)
@@ -49,9 +49,9 @@ whole_digest v y d x e cut =
 -- two digests of a version have the same number of bytes
 pub same_size : (version : ℕ) (d e : Option (List ℕ)) → IsDigest version d → IsDigest version e
     → length (unwrap_or d []) ≡ length (unwrap_or e [])
-same_size version d e h h2 = grind (arith, digest_size)
+same_size _ d e h h2 = grind (arith, digest_size)
 
 -- digests with the same bytes are the same
 pub digest_is : (version : ℕ) (d e : Option (List ℕ)) → IsDigest version d → IsDigest version e → unwrap_or d []
     ≡ unwrap_or e [] → d ≡ e
-digest_is version d e h h2 h3 = grind arith
+digest_is _ d e h h2 h3 = grind arith

@@ -1,6 +1,6 @@
 -- The walk over a directory accepts exactly the directories of tables: what it reads has the section's bytes, entry by
 -- entry.
-use Rattle.mail_index.proofs.Words.{◌≡◌, ℕ, zero, suc, ◌+◌, ◌-◌, ◌*◌, ◌^◌, ◌<◌, ◌≤◌, Bool, true, false, cond, ◌&&◌, List, [], ◌∷◌, ◌++◌, length, take, drop, refl, sym, ap, subst, ◌∙◌, arith, length-drop, length-append, nat_eq, Less, AllByRecursion, transport, take-append_seam, drop-append_seam, take-append-drop, drop-drop, nat_tests, from_be_bytes-to_be_bytes_4, from_be_bytes-to_be_bytes_8, kind_number, kind_of_number, is_kind_number, last_kind, are_zeros_at, byte_at, u32_at, u64_at, zeros, be32, be64, DirectoryEntry, entry_bytes, directory_from, texts_of, postings_of, AllNext, IsEntry, EntryBefore, key_cmp, is_entry, end_before, text_at, read_entry, read_entries, IsEntryAt, AreEntries}
+use Rattle.mail_index.proofs.Words.{◌≡◌, ℕ, zero, suc, ◌+◌, ◌-◌, ◌*◌, ◌^◌, ◌<◌, ◌≤◌, Bool, true, false, cond, ◌&&◌, List, [], ◌∷◌, ◌++◌, length, take, drop, refl, sym, ap, subst, ◌∙◌, arith, length-drop, length-append, nat_eq, Less, AllByRecursion, transport, take-append_seam, drop-append_seam, take-append-drop, drop-drop, nat_tests, from_be_bytes-to_be_bytes_4, from_be_bytes-to_be_bytes_8, kind_number, kind_of_number, is_kind_number, last_kind, byte_at, u32_at, u64_at, zeros, be32, be64, DirectoryEntry, entry_bytes, directory_from, texts_of, postings_of, AllNext, IsEntry, EntryBefore, key_cmp, is_entry, end_before, text_at, read_entry, read_entries, IsEntryAt, AreEntries}
 use Rattle.mail_index.proofs.Items.{empty_list}
 use Rattle.mail_index.proofs.FileLaws.Fronts.{before, concat_then}
 use Rattle.mail_index.proofs.FileLaws.Bytes.{AreBytes, bytes_after, bytes_before, u32_back, u64_back, byte_back, both, length_part}
@@ -13,9 +13,9 @@ AreAfter number text (e ∷ es) = (key_cmp number text (kind_number e.kind) e.te
     × AreAfter (kind_number e.kind) e.text es
 
 pub sorted : (number : ℕ) (text : List ℕ) (es : List DirectoryEntry) → AreAfter number text es → AllNext EntryBefore es
-sorted number text [] h = tt
-sorted number text (e ∷ []) h = tt
-sorted number text (e ∷ f ∷ es) h = (h.1.0, sorted (kind_number e.kind) e.text (f ∷ es) h.1)
+sorted _ _ [] h = tt
+sorted _ _ (e ∷ []) h = tt
+sorted _ text (e ∷ f ∷ es) h = (h.1.0, sorted (kind_number e.kind) e.text (f ∷ es) h.1)
 
 after_first : (e : DirectoryEntry) (es : List DirectoryEntry) → AllNext EntryBefore (e ∷ es)
     → AreAfter (kind_number e.kind) e.text es
@@ -24,7 +24,7 @@ after_first e (f ∷ es) h = (h.0, after_first f es h.1)
 
 pub are_after : (es : List DirectoryEntry) → AllNext EntryBefore es → AreAfter 0 [] es
 are_after [] h = tt
-are_after (e ∷ es) h = (first_less [] e.kind e.text, after_first e es h)
+are_after (e ∷ es) h = (first_less [] e.kind e.text, after_first e _ h)
 
 -- ---- what the walk finds
 
@@ -38,7 +38,7 @@ pub record ShowsEntries (version : ℕ) (texts postings : List ℕ) (tp pp numbe
 
 pub u32_small : (d : List ℕ) (i : ℕ) → AreBytes d → u32_at d i < 2 ^ 32
 u32_small d i h =
-    let t = bytes_before 4 (drop i d) (bytes_after i d h) in
+    let t = bytes_before 4 _ (bytes_after i d h) in
     omega (arith, t.below 0, t.below 1, t.below 2, t.below 3)
 
 entry_kept : (version : ℕ) (d : List ℕ) (tp pp : ℕ) (e : DirectoryEntry) → AreBytes d → 24 ≤ length d
@@ -48,56 +48,50 @@ entry_kept : (version : ℕ) (d : List ℕ) (tp pp : ℕ) (e : DirectoryEntry) �
 unfolding is_entry
 entry_kept version d tp pp e h l t ek et etp epp =
     let k = byte_at d 0 in
-    let t₁ = both (is_kind_number (last_kind version) k) (are_zeros_at d 1) t in
-    let t₂ = both (nat_eq (byte_at d 1) 0 && nat_eq (byte_at d 2) 0) (nat_eq (byte_at d 3) 0) t₁.1 in
+    let t₁ = both _ _ t in
+    let t₂ = both _ (nat_eq (byte_at d 3) 0) t₁.1 in
     let t₃ = both (nat_eq (byte_at d 1) 0) (nat_eq (byte_at d 2) 0) t₂.0 in
-    let kind : kind_number e.kind ≡ k = ap kind_number ek ∙ kind_kept (last_kind version) k (few_kinds version) t₁.0 in
-    let zero₁ : byte_at d 1 ≡ 0 = grind (arith, nat_tests, t₃.0) in
-    let zero₂ : byte_at d 2 ≡ 0 = grind (arith, nat_tests, t₃.1) in
-    let zero₃ : byte_at d 3 ≡ 0 = grind (arith, nat_tests, t₂.1) in
-    let s₃ : be64 pp ++ drop 24 d ≡ drop 16 d = ap (λ (n : ℕ). be64 n ++ drop 24 d) epp
-    ∙ u64_back d 16 24 h (omega (arith, l)) refl in
-    let s₂ : be64 tp ++ drop 16 d ≡ drop 8 d = ap (λ (n : ℕ). be64 n ++ drop 16 d) etp
-    ∙ u64_back d 8 16 h (omega (arith, l)) refl in
-    let s₁ : be32 (length e.text) ++ drop 8 d ≡ drop 4 d = ap (λ (n : ℕ). be32 n ++ drop 8 d) et
-    ∙ u32_back d 4 8 h (omega (arith, l)) refl in
-    let b₃ : byte_at d 3 ∷ drop 4 d ≡ drop 3 d = byte_back d 3 4 (omega (arith, l)) refl in
-    let b₂ : byte_at d 2 ∷ drop 3 d ≡ drop 2 d = byte_back d 2 3 (omega (arith, l)) refl in
-    let b₁ : byte_at d 1 ∷ drop 2 d ≡ drop 1 d = byte_back d 1 2 (omega (arith, l)) refl in
-    let b₀ : byte_at d 0 ∷ drop 1 d ≡ d = byte_back d 0 1 (omega (arith, l)) refl in
+    let kind = ap kind_number ek ∙ kind_kept _ k (few_kinds _) t₁.0 in
+    let zero₁ : byte_at d 1 ≡ 0 = grind (arith, nat_tests) in
+    let zero₂ : byte_at d 2 ≡ 0 = grind (arith, nat_tests) in
+    let zero₃ : byte_at d 3 ≡ 0 = grind (arith, nat_tests) in
+    let s₃ = ap (λ (n : ℕ). be64 n ++ drop 24 d) epp ∙ u64_back d 16 24 h (omega arith) refl in
+    let s₂ = ap (λ (n : ℕ). be64 n ++ drop 16 d) etp ∙ u64_back d 8 16 h (omega arith) refl in
+    let s₁ = ap (λ (n : ℕ). be32 n ++ drop 8 d) et ∙ u32_back d 4 8 h (omega arith) refl in
+    let b₃ = byte_back d 3 4 (omega arith) refl in
+    let b₂ = byte_back d 2 3 (omega arith) refl in
+    let b₁ = byte_back d 1 2 (omega arith) refl in
+    let b₀ = byte_back d 0 1 (omega arith) refl in
     let s₀ : kind_number e.kind ∷ 0 ∷ 0 ∷ 0 ∷ drop 4 d ≡ d = cc in
     concat_then ((kind_number e.kind ∷ zeros) ∷ be32 (length e.text) ∷ be64 tp ∷ be64 pp ∷ []) (drop 24 d)
     ∙ ap (λ (x : List ℕ). before ((kind_number e.kind ∷ zeros) ∷ be32 (length e.text) ∷ be64 tp ∷ []) x) s₃
     ∙ ap (λ (x : List ℕ). before ((kind_number e.kind ∷ zeros) ∷ be32 (length e.text) ∷ []) x) s₂
-    ∙ ap (λ (x : List ℕ). before ((kind_number e.kind ∷ zeros) ∷ []) x) s₁
-    ∙ s₀
+    ∙ ap (λ (x : List ℕ). before ((kind_number e.kind ∷ zeros) ∷ []) x) s₁ ∙ s₀
 
 part_then : (a b c : ℕ) (xs : List ℕ) → a + b ≡ c → take b (drop a xs) ++ drop c xs ≡ drop a xs
 part_then a b c xs e = ap (λ (k : List ℕ). take b (drop a xs) ++ k)
-    (ap (λ (n : ℕ). drop n xs) (sym e) ∙ sym (drop-drop b a xs)) ∙ take-append-drop b (drop a xs)
+    (ap (λ (n : ℕ). drop n xs) (sym e) ∙ sym (drop-drop b a _)) ∙ take-append-drop b _
 
 past_all : (n : ℕ) (xs : List ℕ) → n ≡ length xs → drop n xs ≡ []
-past_all n xs e = empty_list (drop n xs) (omega (arith, e, length-drop n xs))
+past_all n xs e = empty_list _ (omega (arith, e, length-drop n xs))
 
 pub entry_kind : (version : ℕ) (d : List ℕ) → is_entry version d ≡ true
     → is_kind_number (last_kind version) (byte_at d 0) ≡ true
 unfolding is_entry
-entry_kind version d t = (both (is_kind_number (last_kind version) (byte_at d 0)) (are_zeros_at d 1) t).0
+entry_kind version d t = (both _ _ t).0
 
 pub shows_entries : (version : ℕ) (texts postings : List ℕ) (tp pp number : ℕ) (text : List ℕ) (n : ℕ) (d : List ℕ)
     → AreBytes d → length d ≡ 24 * n
     → AreEntries version texts (length postings) tp pp number text n d
     → ShowsEntries version texts postings tp pp number text n d
 unfolding read_entry
-shows_entries version texts postings tp pp number text zero d b l h =
-    record {
-      spelled = empty_list d (omega (arith, l));
-      texts_spelled = past_all tp texts h.0;
-      postings_spelled =
-          past_all pp postings h.1;
-      each = tt;
-      after = tt;
-    }
+shows_entries _ texts postings tp pp _ _ zero d b l h = record {
+  spelled = empty_list d (omega (arith, l));
+  texts_spelled = past_all tp texts h.0;
+  postings_spelled = past_all pp postings h.1;
+  each = tt;
+  after = tt;
+}
 shows_entries version texts postings tp pp number text (suc n) d b l h =
     let x = h.0 in
     let e = read_entry texts postings d in
@@ -158,10 +152,10 @@ some_length x xs total n = let e : nat_eq (suc (length xs)) 0 ≡ false = grind 
 -- where the postings of an entry end
 end_of : (tp pp total : ℕ) (es : List DirectoryEntry) → pp < 2 ^ 64 → total ≡ pp + length (postings_of es)
     → end_before (directory_from tp pp es) total ≡ pp
-end_of tp pp total [] l e = omega (arith, e)
+end_of _ _ _ [] l e = omega arith
 end_of tp pp total (f ∷ fs) l e = some_length (kind_number f.kind)
     (zeros ++ (be32 (length f.text) ++ (be64 tp ++ (be64 pp ++ []))) ++ directory_from (tp + length f.text)
-    (pp + length f.postings) fs) total (u64_at (directory_from tp pp (f ∷ fs)) 16) ∙ from_be_bytes-to_be_bytes_8 pp l
+    (pp + length f.postings) fs) total _ ∙ from_be_bytes-to_be_bytes_8 _ l
 
 -- the rest of the texts and of the postings is that of these entries
 pub record IsAhead (texts postings : List ℕ) (tp pp : ℕ) (es : List DirectoryEntry) : Type 0 where
@@ -245,8 +239,8 @@ entry_back : (version : ℕ) (texts postings : List ℕ) (tp pp : ℕ) (e : Dire
     (d : List ℕ)
     → FrontOf version texts postings tp pp e es d → byte_at d 0 ≡ kind_number e.kind → read_entry texts postings d ≡ e
 unfolding read_entry
-entry_back version texts postings tp pp e es d f k =
-    let kind : kind_of_number (byte_at d 0) ≡ e.kind = ap kind_of_number k ∙ kind_of-number e.kind in
+entry_back _ _ postings _ _ e _ d f k =
+    let kind = ap kind_of_number k ∙ kind_of-number e.kind in
     let text = f.text in
     let its = f.its in
     λ i. record { kind = kind i; text = text i; postings = its i }
@@ -254,25 +248,23 @@ entry_back version texts postings tp pp e es d f k =
 pub entries_back : (version : ℕ) (texts postings : List ℕ) (tp pp : ℕ) (es : List DirectoryEntry)
     → AllByRecursion (IsEntry version) es → IsAhead texts postings tp pp es
     → read_entries texts postings (length es) (directory_from tp pp es) ≡ es
-entries_back version texts postings tp pp [] h a = refl
+entries_back _ _ _ _ _ [] h a = refl
 entries_back version texts postings tp pp (e ∷ es) h a =
-    let f = front_entry version texts postings tp pp e es h.0 a in
-    let head : read_entry texts postings (directory_from tp pp (e ∷ es)) ≡ e =
-    entry_back version texts postings tp pp e es (directory_from tp pp (e ∷ es)) f refl in
-    let tail : read_entries texts postings (length es) (directory_from (tp + length e.text) (pp + length e.postings) es)
-    ≡ es = entries_back version texts postings (tp + length e.text) (pp + length e.postings) es h.1 f.ahead in
+    let f = front_entry _ _ _ _ _ e _ h.0 a in
+    let head = entry_back _ _ _ _ _ e _ _ f refl in
+    let tail = entries_back version texts postings (tp + length e.text) (pp + length e.postings) es h.1 f.ahead in
     λ i. head i ∷ tail i
 
 moved : (version : ℕ) (texts : List ℕ) (total a a' b b' c : ℕ) (t t' : List ℕ) (n : ℕ) (d : List ℕ) → a ≡ a' → b ≡ b'
     → t ≡ t' → AreEntries version texts total a b c t n d → AreEntries version texts total a' b' c t' n d
-moved version texts total a a' b b' c t t' n d p q r h =
+moved version texts total a _ b _ c t _ n d p q r h =
     transport (λ i. AreEntries version texts total (p i) (q i) c (r i) n d) h
 
 pub are_entries_of : (version : ℕ) (texts postings : List ℕ) (tp pp number : ℕ) (text : List ℕ)
     (es : List DirectoryEntry)
     → AllByRecursion (IsEntry version) es → IsAhead texts postings tp pp es → AreAfter number text es
     → AreEntries version texts (length postings) tp pp number text (length es) (directory_from tp pp es)
-are_entries_of version texts postings tp pp number text [] h a s =
+are_entries_of _ texts postings tp pp _ _ [] h a s =
     let n₁ : length texts - tp ≡ 0 = sym (length-drop tp texts) ∙ ap length a.texts_spelled in
     let n₂ : length postings - pp ≡ 0 = sym (length-drop pp postings) ∙ ap length a.postings_spelled in
     (omega (arith, n₁, a.text_bound), omega (arith, n₂, a.bound))
@@ -283,18 +275,15 @@ are_entries_of version texts postings tp pp number text (e ∷ es) h a s =
       spelled = f.passes;
       text_begins = f.text_begins;
       begins = f.begins;
-      some_text = omega (arith, f.size, h.0.1);
-      within = omega (arith, f.size, f.text_room);
-      some = omega (arith, f.end, h.0.3);
-      end = omega (arith, f.end, f.room);
+      some_text = omega arith;
+      within = omega arith;
+      some = omega arith;
+      end = omega arith;
       after = ap (λ (y : List ℕ). key_cmp number text (kind_number e.kind) y) f.text ∙ s.0;
     } in
     let more = are_entries_of version texts postings (tp + length e.text) (pp + length e.postings) (kind_number e.kind)
     e.text es h.1 f.ahead s.1 in
-    let same : tp + length e.text ≡ tp + u32_at d 4 = omega (arith, f.size) in (
+    let same : tp + length e.text ≡ tp + u32_at d 4 = omega arith in (
       x,
-      moved version texts (length postings) (tp + length e.text) (tp + u32_at d 4) (pp + length e.postings)
-          (end_before (drop 24 d) (length postings)) (kind_number e.kind) e.text (text_at texts d)
-          (length es) (directory_from (tp + length e.text) (pp + length e.postings) es) same (sym f.end) (sym f.text)
-          more,
+      moved _ _ _ _ _ _ _ _ _ _ _ _ same (sym f.end) (sym f.text) more,
     )

@@ -4,7 +4,7 @@ use Rattle.mail_index.proofs.Words.{◌≡◌, ◌↔◌, ℕ, suc, ◌+◌, ◌
 first_of : (version : ℕ) (texts : List ℕ) (total tp pp number : ℕ) (text : List ℕ) (n i : ℕ) (d : List ℕ) → i < n
     → AreEntries version texts total tp pp number text (n - i) d
     → AreEntries version texts total tp pp number text (suc (n - (i + 1))) d
-first_of version texts total tp pp number text n i d l h = let e : n - i ≡ suc (n - (i + 1)) = omega (arith, l)
+first_of version texts total tp pp number text n i d l h = let e : n - i ≡ suc (n - (i + 1)) = omega arith
     in subst (λ (k : ℕ). AreEntries version texts total tp pp number text k d) e h
 
 pub entries_step : (P : Type 0) (version : ℕ) (texts : List ℕ) (total tp pp number : ℕ) (text : List ℕ) (n i : ℕ)
@@ -15,14 +15,13 @@ pub entries_step : (P : Type 0) (version : ℕ) (texts : List ℕ) (total tp pp 
     ≡ drop 24 d
     → P ↔ AreEntries version texts total tp' pp' number' text' (n - (i + 1)) d'
 entries_step P version texts total tp pp number text n i d tp' pp' number' text' d' l h x et ep en ex ed =
-    let e : n - i ≡ suc (n - (i + 1)) = omega (arith, l) in
+    let e : n - i ≡ suc (n - (i + 1)) = omega arith in
     let same : AreEntries version texts total (tp + u32_at d 4) (end_before (drop 24 d) total) (byte_at d 0)
     (text_at texts d) (n - (i + 1)) (drop 24 d)
     ≡ AreEntries version texts total tp' pp' number' text' (n - (i + 1)) d' =
     rw (et, ep, en, ex, ed) refl in (
-      λ q. transport same (first_of version texts total tp pp number text n i d l (h.0 q)).1,
-      λ q. h.1 (subst (λ (k : ℕ). AreEntries version texts total tp pp number text k d) (sym e)
-          (x, transport (sym same) q)),
+      λ q. transport same (first_of version texts _ _ _ _ _ n i d l (h.0 q)).1,
+      λ q. h.1 (rw e (x, transport (sym same) q)),
     )
 
 pub entries_stop : (P : Type 0) (version : ℕ) (texts : List ℕ) (total tp pp number : ℕ) (text : List ℕ) (n i : ℕ)
@@ -30,4 +29,4 @@ pub entries_stop : (P : Type 0) (version : ℕ) (texts : List ℕ) (total tp pp 
     → (P ↔ AreEntries version texts total tp pp number text (n - i) d)
     → (IsEntryAt version texts total tp pp number text d → ⊥) → P → ⊥
 entries_stop P version texts total tp pp number text n i d l h refuses q =
-    refuses (first_of version texts total tp pp number text n i d l (h.0 q)).0
+    refuses (first_of _ _ _ _ _ _ _ n i d l (h.0 q)).0

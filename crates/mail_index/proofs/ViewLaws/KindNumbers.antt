@@ -6,7 +6,7 @@ kind_of-number k = grind arith
 
 -- a number that is one of a kind is the number of the kind that is read from it
 pub kind_kept : (last n : ℕ) → last ≤ 9 → is_kind_number last n ≡ true → kind_number (kind_of_number n) ≡ n
-kind_kept last n h h2 = grind (arith, nat_tests)
+kind_kept _ n h h2 = grind (arith, nat_tests)
 
 pub kind_is : (j k : Kind) → kind_number j ≡ kind_number k → j ≡ k
 kind_is j k e = sym (kind_of-number j) ∙ ap kind_of_number e ∙ kind_of-number k
@@ -15,10 +15,10 @@ pub kind_some : (k : Kind) → 0 < kind_number k
 kind_some k = grind arith
 
 pub kind_passes : (last : ℕ) (k : Kind) → kind_number k ≤ last → is_kind_number last (kind_number k) ≡ true
-kind_passes last k h = let some : 1 ≤ kind_number k = omega (arith, kind_some k) in grind (arith, nat_tests, some, h)
+kind_passes _ k h = let some : 1 ≤ kind_number k = omega (arith, kind_some) in grind (arith, nat_tests)
 
 pub few_kinds : (version : ℕ) → last_kind version ≤ 9
-few_kinds version = grind arith
+few_kinds _ = grind arith
 
 -- ---- how numbers compare
 
@@ -30,5 +30,4 @@ tied x y h = grind (arith, nat_tests)
 
 -- a key comes after kind 0
 pub first_less : (xs : List ℕ) (k : Kind) (ys : List ℕ) → key_cmp 0 xs (kind_number k) ys ≡ Less
-first_less xs k ys = ap (λ (o : Ordering). ordering_then o (slice_cmp nat_cmp xs ys))
-    (lower 0 (kind_number k) (kind_some k))
+first_less xs k ys = ap (λ (o : Ordering). ordering_then o (slice_cmp nat_cmp xs ys)) (lower 0 _ (kind_some k))

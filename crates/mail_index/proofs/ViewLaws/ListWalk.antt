@@ -1,27 +1,26 @@
 -- Each step of the walk over posting lists keeps the question the same: whether the rest of the directory has such
 -- lists.
-use Rattle.mail_index.proofs.Words.{◌≡◌, ◌↔◌, ℕ, suc, ◌+◌, ◌-◌, ◌<◌, Bool, true, false, List, length, take, drop, sym, subst, arith, u64_at, end_before, list_at, IsList, AreLists}
+use Rattle.mail_index.proofs.Words.{◌≡◌, ◌↔◌, ℕ, suc, ◌+◌, ◌-◌, ◌<◌, Bool, true, false, List, length, take, drop, subst, arith, u64_at, end_before, list_at, IsList, AreLists}
 
 lists_first : (messages : ℕ) (postings : List ℕ) (n i : ℕ) (d : List ℕ) → i < n → AreLists messages postings (n - i) d
     → AreLists messages postings (suc (n - (i + 1))) d
-lists_first messages postings n i d l h = let e : n - i ≡ suc (n - (i + 1)) = omega (arith, l)
+lists_first messages postings n i d l h = let e : n - i ≡ suc (n - (i + 1)) = omega arith
     in subst (λ (k : ℕ). AreLists messages postings k d) e h
 
 pub lists_step : (P : Type 0) (messages : ℕ) (postings : List ℕ) (n i : ℕ) (d after list : List ℕ) (b : Bool) → i < n
     → (P ↔ AreLists messages postings (n - i) d) → after ≡ drop 24 d → list ≡ list_at postings d
     → ((b ≡ true) ↔ IsList messages list) → b ≡ true → P ↔ AreLists messages postings (n - (i + 1)) after
-lists_step P messages postings n i d after list b l h eb el s t =
-    let e : n - i ≡ suc (n - (i + 1)) = omega (arith, l) in (
-      λ q. subst (AreLists messages postings (n - (i + 1))) (sym eb) (lists_first messages postings n i d l (h.0 q)).1,
-      λ q. h.1 (subst (λ (k : ℕ). AreLists messages postings k d) (sym e)
-          (subst (IsList messages) el (s.0 t), subst (AreLists messages postings (n - (i + 1))) eb q)),
+lists_step P messages postings n i d _ _ b l h eb el s t =
+    let e : n - i ≡ suc (n - (i + 1)) = omega arith in (
+      λ q. rw eb (lists_first _ _ n i d l (h.0 q)).1,
+      λ q. h.1 (rw e (rw (← el) (s.0 t), rw (← eb) q)),
     )
 
 pub lists_stop : (P : Type 0) (messages : ℕ) (postings : List ℕ) (n i : ℕ) (d list : List ℕ) (b : Bool) → i < n
     → (P ↔ AreLists messages postings (n - i) d) → list ≡ list_at postings d
     → ((b ≡ true) ↔ IsList messages list) → b ≡ false → P → ⊥
-lists_stop P messages postings n i d list b l h el s f q = grind (arith, lists_first)
+lists_stop P _ _ n i d _ b l h el s f q = grind (arith, lists_first)
 
 pub list_is : (list postings d after : List ℕ) (p e : ℕ) → list ≡ take (e - p) (drop p postings) → p ≡ u64_at d 16 → e
     ≡ end_before after (length postings) → after ≡ drop 24 d → list ≡ list_at postings d
-list_is list postings d after p e h q r b = grind (arith, end_before)
+list_is _ _ d _ p e h q r b = grind (arith, end_before)

@@ -14,8 +14,7 @@ pub bytes_before-is : (v : List ℕ) → length v ≡ 16
     → 0 ∷ get_or v 0 0 ∷ get_or v 1 0 ∷ get_or v 2 0 ∷ get_or v 3 0 ∷ get_or v 4 0 ∷ get_or v 5 0 ∷ get_or v 6 0
     ∷ get_or v 7 0 ∷ get_or v 8 0 ∷ get_or v 9 0 ∷ get_or v 10 0 ∷ get_or v 11 0 ∷ get_or v 12 0 ∷ get_or v 13 0
     ∷ get_or v 14 0 ∷ [] ≡ take (length v) (0 ∷ v)
-bytes_before-is v long =
-    ap (λ (l : List ℕ). 0 ∷ l) (pick_l-range_with_len 0 v 0 15 (omega (arith, long)))
+bytes_before-is v long = ap (λ (l : List ℕ). 0 ∷ l) (pick_l-range_with_len 0 v 0 15 (omega arith))
     ∙ ap (λ (n : ℕ). take n (0 ∷ v)) (sym long)
 
 -- the last byte comes before no lane
@@ -49,21 +48,21 @@ may_follow p b h = (some, lower)
         ]
 
 no_bit : (b : Bool) (n : ℕ) → cond b 1 0 + 2 * n ≡ 0 → (b ≡ false) × (n ≡ 0)
-no_bit true n h = absurd (omega (arith, h))
-no_bit false n h = (refl, omega (arith, h))
+no_bit true n h = absurd (omega arith)
+no_bit false n h = (refl, omega arith)
 
 none_faulty : (p : ℕ) (bs : List ℕ) → mask_l (zip2 is_fault bs (p ∷ bs)) ≡ 0 → Each2 IsShortPair (p ∷ bs) bs
 none_faulty p [] h = tt
 none_faulty p (b ∷ bs) h =
-    let parts = no_bit (is_fault b p) (mask_l (zip2 is_fault bs (b ∷ bs))) h in
+    let parts = no_bit _ _ h in
     (may_follow p b parts.0, none_faulty b bs parts.1)
 
 -- ---- sums
 
 sel-fits : (ms : List Bool) (xs ys : List ℕ) → Each1 (Fits w8) xs → Each1 (Fits w8) ys
     → Each1 (Fits w8) (sel_l ms xs ys)
-sel-fits [] xs ys f g = tt
-sel-fits (m ∷ ms) [] ys f g = tt
+sel-fits [] _ _ f g = tt
+sel-fits (m ∷ ms) [] _ f g = tt
 sel-fits (m ∷ ms) (x ∷ xs) [] f g = tt
 sel-fits (true ∷ ms) (x ∷ xs) (y ∷ ys) f g = (f.0, sel-fits ms xs ys f.1 g.1)
 sel-fits (false ∷ ms) (x ∷ xs) (y ∷ ys) f g = (g.0, sel-fits ms xs ys f.1 g.1)
@@ -77,12 +76,11 @@ zeros-fit zero = tt
 zeros-fit (suc n) = (record { fits = omega arith }, zeros-fit n)
 
 sum_of_dots : (xs : List ℕ) → length xs ≡ 16 → sum_l (dots xs (replicate 16 1)) ≡ sum_l xs
-sum_of_dots xs long =
-    (sum_dots 4 xs (replicate 16 1) long refl).0
-    ∙ subst (λ (n : ℕ). sum_l (products xs (replicate n 1)) ≡ sum_l xs) long (sum_by-ones xs)
+sum_of_dots xs long = (sum_dots 4 _ _ long refl).0
+    ∙ subst (λ (n : ℕ). sum_l (products xs (replicate n 1)) ≡ sum_l xs) long (sum_by-ones _)
 
 pub sum_small : (xs : List ℕ) → length xs ≡ 16 → Each1 (Fits w8) xs → 0 + sum_l (dots xs (replicate 16 1)) < 2 ^ 32
-sum_small xs long fits = omega (arith, sum_of_dots xs long, sum_bound 255 xs (bytes_below xs fits), long)
+sum_small xs long fits = omega (arith, sum_of_dots _ long, sum_bound _ _ (bytes_below _ fits), long)
 
 -- sixteen bytes have a sum of twelve bits
 pub fold_small : (xs : List ℕ) (s : ℕ) → length xs ≡ 16 → Each1 (Fits w8) xs
@@ -91,8 +89,8 @@ fold_small xs s long fits is = omega (
   arith,
   is,
   fold-sum 0 (dots xs (replicate 16 1)),
-  sum_of_dots xs long,
-  sum_bound 255 xs (bytes_below xs fits),
+  sum_of_dots _ long,
+  sum_bound _ _ (bytes_below _ fits),
   long,
 )
 
@@ -103,11 +101,10 @@ weigh : (n : ℕ) (bs vs : List ℕ) → length bs ≡ n → length vs ≡ n
     → sum_l (map (λ b. b % 128) vs) + 127 * sum_l (sel_l (map (leb 128) bs) (map (λ b. b % 128) vs) (replicate n 0))
     ≡ sum_l (zip2 weight bs vs)
 weigh n [] [] p q = refl
-weigh n [] (v ∷ vs) p q = absurd (omega (arith, p, q))
-weigh n (b ∷ bs) [] p q = absurd (omega (arith, p, q))
-weigh zero (b ∷ bs) (v ∷ vs) p q = absurd (omega (arith, p))
-weigh (suc n) (b ∷ bs) (v ∷ vs) p q = omega
-    (arith, once b (v % 128), weigh n bs vs (omega (arith, p)) (omega (arith, q)))
+weigh n [] (v ∷ vs) p q = absurd (omega arith)
+weigh n (b ∷ bs) [] p q = absurd (omega arith)
+weigh zero (b ∷ bs) (v ∷ vs) p q = absurd (omega arith)
+weigh (suc n) (b ∷ bs) (v ∷ vs) p q = omega (arith, once, weigh n bs vs (omega arith) (omega arith))
 
 -- sixteen lanes, and the byte before each
 pub record IsLoad (v before : List ℕ) : Type 0 where

@@ -11,45 +11,44 @@ is_key-lies kind text k = is_eq-slice_cmp (key_bytes k) (kind_number kind ∷ te
 
 pub is_key-as : (kind : Kind) (text : List ℕ) (k : Key) (o : Ordering) → lies_to kind text k ≡ o → is_key kind text k
     ≡ is_eq o
-is_key-as kind text k o h = sym (is_key-lies kind text k) ∙ ap is_eq h
+is_key-as kind text k o h = sym (is_key-lies _ _ k) ∙ ap is_eq h
 
 pub is_key-greater : (kind : Kind) (text : List ℕ) (k : Key) → lies_to kind text k ≡ Greater → is_key kind text k
     ≡ false
-is_key-greater kind text k h = is_key-as kind text k Greater h
+is_key-greater kind text k h = is_key-as _ _ k _ h
 
 -- if the first key isn't the searched one, the numbers are those of the rest
 numbers_at-other : (kind : Kind) (text : List ℕ) (k : Key) (ks : List Key) → is_key kind text k ≡ false
     → numbers_at kind text (k ∷ ks) ≡ numbers_at kind text ks
-numbers_at-other kind text k ks e = rw (e, numbers_at) refl
+numbers_at-other _ _ k _ e = rw (e, numbers_at) refl
 
 numbers_at-this : (kind : Kind) (text : List ℕ) (k : Key) (ks : List Key) → is_key kind text k ≡ true
     → numbers_at kind text (k ∷ ks) ≡ k.numbers
-numbers_at-this kind text k ks e = rw (e, numbers_at) refl
+numbers_at-this _ _ k _ e = rw (e, numbers_at) refl
 
 -- the first keys aren't the searched one, and the next is
 pub numbers_at-found : (kind : Kind) (text : List ℕ) (ks : List Key) (i : ℕ) (d : Key) → i < length ks
     → ((j : ℕ) → j < i → lies_to kind text (get_or ks j d) ≡ Less) → lies_to kind text (get_or ks i d) ≡ Equal
     → numbers_at kind text ks ≡ (get_or ks i d).numbers
-numbers_at-found kind text [] i d h below here = absurd (omega (arith, h))
-numbers_at-found kind text (k ∷ ks) zero d h below here =
-    numbers_at-this kind text k ks (is_key-as kind text k Equal here)
+numbers_at-found _ _ [] i d h below here = absurd (omega arith)
+numbers_at-found kind text (k ∷ ks) zero d h _ here = numbers_at-this _ _ k _ (is_key-as _ _ k _ here)
 numbers_at-found kind text (k ∷ ks) (suc i) d h below here =
-    numbers_at-other kind text k ks (is_key-as kind text k Less (below 0 (omega arith)))
-    ∙ numbers_at-found kind text ks i d (omega (arith, h)) (λ j lt. below (suc j) (omega (arith, lt))) here
+    numbers_at-other _ _ k _ (is_key-as _ _ k _ (below 0 (omega arith)))
+    ∙ numbers_at-found kind text ks i d (omega arith) (λ j lt. below (suc j) (omega arith)) here
 
 -- the first keys are before the searched one, and all others after it
 pub numbers_at-none : (kind : Kind) (text : List ℕ) (ks : List Key) (i : ℕ) (d : Key)
     → ((j : ℕ) → j < i → lies_to kind text (get_or ks j d) ≡ Less)
     → ((j : ℕ) → i ≤ j → j < length ks → lies_to kind text (get_or ks j d) ≡ Greater) → numbers_at kind text ks ≡ []
-numbers_at-none kind text [] i d below above = refl
+numbers_at-none _ _ [] i d _ _ = refl
 numbers_at-none kind text (k ∷ ks) zero d below above =
-    numbers_at-other kind text k ks (is_key-greater kind text k (above 0 (omega arith) (omega arith)))
-    ∙ numbers_at-none kind text ks 0 d (λ j lt. absurd (omega (arith, lt)))
-    (λ j le lt. above (suc j) (omega arith) (omega (arith, lt)))
+    numbers_at-other _ _ k _ (is_key-greater _ _ k (above 0 (omega arith) (omega arith)))
+    ∙ numbers_at-none kind text ks 0 d (λ j lt. absurd (omega arith))
+    (λ j le lt. above (suc j) (omega arith) (omega arith))
 numbers_at-none kind text (k ∷ ks) (suc i) d below above =
-    numbers_at-other kind text k ks (is_key-as kind text k Less (below 0 (omega arith)))
-    ∙ numbers_at-none kind text ks i d (λ j lt. below (suc j) (omega (arith, lt)))
-    (λ j le lt. above (suc j) (omega (arith, le)) (omega (arith, lt)))
+    numbers_at-other _ _ k _ (is_key-as _ _ k _ (below 0 (omega arith)))
+    ∙ numbers_at-none kind text ks i d (λ j lt. below (suc j) (omega arith))
+    (λ j le lt. above (suc j) (omega arith) (omega arith))
 
 -- ---- among sorted keys
 
@@ -64,10 +63,9 @@ before-less kind text ks d m j sorted within less le = go (nat_eq j m) refl
     go false e =
         let lower : j < m = grind (arith, nat_tests) in
         let inside : m < length (map key_bytes ks) = omega (arith, within, length-map ks key_bytes) in
-        let here : slice_cmp nat_cmp (key_bytes (get_or ks j d)) (key_bytes (get_or ks m d)) ≡ Less =
-        ap₂ (slice_cmp nat_cmp) (sym (get_or-map key_bytes ks j d (key_bytes d) (omega (arith, lower, within))))
-        (sym (get_or-map key_bytes ks m d (key_bytes d) within))
-        ∙ Less-from_sorted (slice_cmp nat_cmp) (map key_bytes ks) j m (key_bytes d) sorted lower inside in
+        let here = ap₂ (slice_cmp nat_cmp) (sym (get_or-map _ _ j d (key_bytes d) (omega arith)))
+        (sym (get_or-map _ _ m d (key_bytes d) within)) ∙ Less-from_sorted _ _ j m (key_bytes d) sorted lower inside
+        in
         nat_list_cmp_total.trans (key_bytes (get_or ks j d)) (key_bytes (get_or ks m d)) (kind_number kind ∷ text) here
         less
 
@@ -87,15 +85,11 @@ after-greater kind text ks d m j sorted greater le within = go (nat_eq j m) refl
         let wanted : List ℕ = kind_number kind ∷ text in
         let higher : m < j = grind (arith, nat_tests) in
         let inside : j < length (map key_bytes ks) = omega (arith, within, length-map ks key_bytes) in
-        let here : slice_cmp nat_cmp (key_bytes (get_or ks m d)) (key_bytes (get_or ks j d)) ≡ Less =
-        ap₂ (slice_cmp nat_cmp) (sym (get_or-map key_bytes ks m d (key_bytes d) (omega (arith, higher, within))))
-        (sym (get_or-map key_bytes ks j d (key_bytes d) within))
-        ∙ Less-from_sorted (slice_cmp nat_cmp) (map key_bytes ks) m j (key_bytes d) sorted higher inside in
-        let first : slice_cmp nat_cmp wanted (key_bytes (get_or ks m d)) ≡ Less =
-        nat_list_cmp_total.antisymm wanted (key_bytes (get_or ks m d))
-        ∙ reversed (lies_to kind text (get_or ks m d)) greater in
-        let all : slice_cmp nat_cmp wanted (key_bytes (get_or ks j d)) ≡ Less =
-        nat_list_cmp_total.trans wanted (key_bytes (get_or ks m d)) (key_bytes (get_or ks j d)) first here in
+        let here = ap₂ (slice_cmp nat_cmp) (sym (get_or-map _ _ m d (key_bytes d) (omega arith)))
+        (sym (get_or-map _ _ j d (key_bytes d) within))
+        ∙ Less-from_sorted _ _ m j (key_bytes d) sorted higher inside in
+        let first = nat_list_cmp_total.antisymm wanted (key_bytes (get_or ks m d)) ∙ reversed _ greater in
+        let all = nat_list_cmp_total.trans wanted (key_bytes (get_or ks m d)) (key_bytes (get_or ks j d)) first here in
         nat_list_cmp_total.antisymm (key_bytes (get_or ks j d)) wanted ∙ ap ordering_reverse all
 
 -- ---- steps
@@ -108,21 +102,21 @@ pub record Halves (keys digits : ℕ) : Type 0 where
   pub upper : keys - keys / 2 - 1 < 2 ^ fewer
 
 pub halves : (keys digits : ℕ) → 0 < keys → keys < 2 ^ digits → Halves keys digits
-halves keys zero some h = absurd (omega (arith, some, h))
-halves keys (suc fewer) some h = grind (arith, pow-suc)
+halves _ zero some h = absurd (omega arith)
+halves _ (suc fewer) some h = grind (arith, pow-suc)
 
 pow_some : (n : ℕ) → 0 < 2 ^ n
 pow_some zero = omega arith
-pow_some (suc n) = let before = pow_some n in omega (arith, before, pow-suc 2 n)
+pow_some (suc n) = let before = pow_some n in omega (arith, pow-suc)
 
 pub half_digits : (keys fewer : ℕ) → 2 ^ suc fewer ≤ suc keys → (0 < keys) × (2 ^ fewer ≤ suc (keys / 2))
     × (2 ^ fewer ≤ suc (keys - (keys / 2 + 1)))
-half_digits keys fewer h =
+half_digits _ fewer h =
     let twice = pow-suc 2 fewer in
     let some = pow_some fewer in (
-      omega (arith, twice, some, h),
-      omega (arith, twice, some, h),
-      omega (arith, twice, some, h),
+      omega arith,
+      omega arith,
+      omega arith,
     )
 
 -- ---- a key that is found
@@ -133,14 +127,11 @@ pub numbers_at-met : (kind : Kind) (text : List ℕ) (ks : List Key) (m : ℕ) (
     → numbers_at kind text ks ≡ (get_or ks m d).numbers
 numbers_at-met kind text ks m d sorted within equal =
     let wanted : List ℕ = kind_number kind ∷ text in
-    numbers_at-found kind text ks m d within
-    (λ j lt.
+    numbers_at-found _ _ _ m d within (λ j lt.
     let inside : m < length (map key_bytes ks) = omega (arith, within, length-map ks key_bytes) in
-    let here : slice_cmp nat_cmp (key_bytes (get_or ks j d)) (key_bytes (get_or ks m d)) ≡ Less =
-    ap₂ (slice_cmp nat_cmp) (sym (get_or-map key_bytes ks j d (key_bytes d) (omega (arith, lt, within))))
-    (sym (get_or-map key_bytes ks m d (key_bytes d) within))
-    ∙ Less-from_sorted (slice_cmp nat_cmp) (map key_bytes ks) j m (key_bytes d) sorted lt inside in
-    let after : slice_cmp nat_cmp wanted (key_bytes (get_or ks j d)) ≡ Greater =
-    sym (nat_list_cmp_total.congr (key_bytes (get_or ks m d)) wanted (key_bytes (get_or ks j d)) equal)
-    ∙ nat_list_cmp_total.antisymm (key_bytes (get_or ks m d)) (key_bytes (get_or ks j d)) ∙ ap ordering_reverse here in
+    let here = ap₂ (slice_cmp nat_cmp) (sym (get_or-map _ _ j d (key_bytes d) (omega arith)))
+    (sym (get_or-map _ _ m d (key_bytes d) within)) ∙ Less-from_sorted _ _ j m (key_bytes d) sorted lt inside in
+    let after = sym (nat_list_cmp_total.congr (key_bytes (get_or ks m d)) wanted (key_bytes (get_or ks j d)) equal)
+    ∙ nat_list_cmp_total.antisymm (key_bytes (get_or ks m d)) (key_bytes (get_or ks j d)) ∙ ap ordering_reverse here
+    in
     nat_list_cmp_total.antisymm (key_bytes (get_or ks j d)) wanted ∙ ap ordering_reverse after) equal

@@ -1,5 +1,5 @@
 -- Postings are read back: the bytes of rising numbers give these numbers, difference by difference.
-use Rattle.mail_index.proofs.Words.{◌≡◌, ◌∙◌, ℕ, zero, suc, ◌+◌, ◌-◌, ◌*◌, ◌/◌, ◌%◌, ◌^◌, ◌<◌, ◌≤◌, Bool, true, false, cond, nat_lt, List, [], ◌∷◌, ◌++◌, length, Option, Some, None, refl, sym, ap, ap₂, subst, arith, length-append, AllByRecursion, is_some, false≢true, nat_tests, add-mul, mul_assoc, RisesFrom, leb128, postings_from, IsShort, numbers_after, numbers_read, ArePostings, ArePosted}
+use Rattle.mail_index.proofs.Words.{◌≡◌, ◌∙◌, ℕ, zero, suc, ◌+◌, ◌-◌, ◌*◌, ◌/◌, ◌%◌, ◌^◌, ◌<◌, ◌≤◌, Bool, true, false, cond, nat_lt, List, [], ◌∷◌, ◌++◌, length, Option, Some, None, refl, sym, ap, ap₂, arith, length-append, AllByRecursion, is_some, false≢true, nat_tests, add-mul, mul_assoc, RisesFrom, leb128, postings_from, IsShort, numbers_after, numbers_read, ArePostings, ArePosted}
 use Rattle.mail_index.proofs.FileLaws.RecordFronts.{leb_front, leb_some}
 
 -- ---- a difference
@@ -10,11 +10,11 @@ weights k p w = grind (arith, mul_assoc, add-mul)
 
 after-last : (low p w b : ℕ) (bs : List ℕ) → b < 128 → numbers_after low p w (b ∷ bs)
     ≡ (low + (p + b * w) - 1) ∷ numbers_after (low + (p + b * w)) 0 1 bs
-after-last low p w b bs h = let e : nat_lt b 128 ≡ true = grind (arith, nat_tests) in rw (e, numbers_after) refl
+after-last _ p w b _ h = let e : nat_lt b 128 ≡ true = grind (arith, nat_tests) in rw (e, numbers_after) refl
 
 after-more : (low p w b : ℕ) (bs : List ℕ) → 128 ≤ b → numbers_after low p w (b ∷ bs)
     ≡ numbers_after low (p + (b - 128) * w) (128 * w) bs
-after-more low p w b bs h = let e : nat_lt b 128 ≡ false = grind (arith, nat_tests) in rw (e, numbers_after) refl
+after-more _ p w b _ h = let e : nat_lt b 128 ≡ false = grind (arith, nat_tests) in rw (e, numbers_after) refl
 
 -- the numbers after a difference k has been read to its end
 abbrev told : ℕ → ℕ → List ℕ → List ℕ
@@ -22,18 +22,17 @@ told low difference bs = (low + difference - 1) ∷ numbers_after (low + differe
 
 numbers_after-leb128 : (groups low p w k : ℕ) (bs : List ℕ) → IsShort (suc groups) k
     → numbers_after low p w (leb128 (suc groups) k ++ bs) ≡ told low (p + k * w) bs
-numbers_after-leb128 zero low p w k bs h = grind (arith, nat_tests, after-last)
+numbers_after-leb128 zero _ p w k _ h = grind (arith, nat_tests, after-last)
 numbers_after-leb128 (suc groups) low p w k bs h =
-    go (nat_lt k 128) refl (numbers_after-leb128 groups low (p + (128 + k % 128 - 128) * w) (128 * w) (k / 128) bs h)
+    go _ refl (numbers_after-leb128 groups low (p + (128 + k % 128 - 128) * w) (128 * w) (k / 128) bs h)
   where
     go : (t : Bool) → nat_lt k 128 ≡ t
         → numbers_after low (p + (128 + k % 128 - 128) * w) (128 * w) (leb128 (suc groups) (k / 128) ++ bs)
         ≡ told low ((p + (128 + k % 128 - 128) * w) + (k / 128) * (128 * w)) bs
         → numbers_after low p w (cond t (k ∷ []) ((128 + k % 128) ∷ leb128 (suc groups) (k / 128)) ++ bs)
         ≡ told low (p + k * w) bs
-    go true e later = let small : k < 128 = grind (arith, nat_tests, e) in after-last low p w k bs small
-    go false e later =
-        after-more low p w (128 + k % 128) (leb128 (suc groups) (k / 128) ++ bs) (omega arith) ∙ later
+    go true e later = let small : k < 128 = grind (arith, nat_tests) in after-last _ p w k bs small
+    go false e later = after-more _ p w _ (leb128 (suc groups) (k / 128) ++ bs) (omega arith) ∙ later
         ∙ ap (λ d. told low d bs) (weights k p w)
 
 pub numbers_read-first : (low k : ℕ) (bs : List ℕ) → IsShort 5 k → numbers_read low (leb128 5 k ++ bs)
@@ -41,26 +40,26 @@ pub numbers_read-first : (low k : ℕ) (bs : List ℕ) → IsShort 5 k → numbe
 unfolding numbers_read
 numbers_read-first low k bs h =
     let same : 0 + k * 1 ≡ k = omega arith in
-    numbers_after-leb128 4 low 0 1 k bs h ∙ ap (λ d. told low d bs) same
+    numbers_after-leb128 4 _ 0 1 k _ h ∙ ap (λ d. told low d bs) same
 
 -- ---- all numbers
 
 short-difference : (n low : ℕ) → n < 2 ^ 32 → IsShort 5 (suc n - low)
-short-difference n low h = omega (arith, h)
+short-difference n _ h = omega arith
 
 pub numbers_read-postings : (low : ℕ) (ns : List ℕ) → RisesFrom low ns → AllByRecursion (λ n. n < 2 ^ 32) ns
     → numbers_read low (postings_from low ns) ≡ ns
 unfolding numbers_read
-numbers_read-postings low [] rises below = refl
+numbers_read-postings _ [] _ _ = refl
 numbers_read-postings low (n ∷ ns) rises below =
-    let here : low + (suc n - low) - 1 ≡ n = omega (arith, rises.0) in
-    let next : low + (suc n - low) ≡ suc n = omega (arith, rises.0) in
-    numbers_read-first low (suc n - low) (postings_from (suc n) ns) (short-difference n low below.0)
+    let here : low + (suc n - low) - 1 ≡ n = omega arith in
+    let next : low + (suc n - low) ≡ suc n = omega arith in
+    numbers_read-first _ _ _ (short-difference n _ below.0)
     ∙ ap₂ (λ (m k : ℕ). m ∷ numbers_read k (postings_from (suc n) ns)) here next
     ∙ ap (λ l. n ∷ l) (numbers_read-postings (suc n) ns rises.1 below.1)
 
 pub read-posted : (low : ℕ) (bytes ns : List ℕ) → ArePostings (2 ^ 32) low bytes ns → numbers_read low bytes ≡ ns
-read-posted low bytes ns h = ap (numbers_read low) h.spelled ∙ numbers_read-postings low ns h.rises h.below
+read-posted low _ ns h = ap (numbers_read low) h.spelled ∙ numbers_read-postings _ _ h.rises h.below
 
 -- ---- the first difference of postings
 
@@ -68,9 +67,8 @@ read-posted low bytes ns h = ap (numbers_read low) h.spelled ∙ numbers_read-po
 pub posted-none : (limit low : ℕ) (bytes ns : List ℕ) (r : Option (ℕ × List ℕ)) → limit ≤ 2 ^ 32
     → ((k : ℕ) (rest : List ℕ) → IsShort 5 k → bytes ≡ leb128 5 k ++ rest → r ≡ Some (k, rest)) → r ≡ None
     → ArePostings limit low bytes ns → ns ≡ []
-posted-none limit low bytes [] r le only none h = refl
-posted-none limit low bytes (n ∷ ns) r le only none h =
-    grind (arith, postings_from, short-difference, false≢true, is_some)
+posted-none _ _ _ [] r _ _ _ h = refl
+posted-none _ _ _ (n ∷ ns) r le only none h = grind (arith, postings_from, short-difference, false≢true, is_some)
 
 -- a number, and the numbers after it
 pub record Front (limit low difference : ℕ) (after ns : List ℕ) : Type 0 where
@@ -83,20 +81,19 @@ pub record Front (limit low difference : ℕ) (after ns : List ℕ) : Type 0 whe
 pub posted-front : (limit low difference : ℕ) (bytes after ns : List ℕ) → limit ≤ 2 ^ 32 → IsShort 5 difference → bytes
     ≡ leb128 5 difference ++ after
     → ArePostings limit low bytes ns → Front limit low difference after ns
-posted-front limit low d bytes after [] le short split h = grind (arith, leb128, leb_some)
-posted-front limit low d bytes after (n ∷ ns) le short split h =
-    let small : n < 2 ^ 32 = omega (arith, le, h.below.0) in
-    let same = leb_front 5 d (suc n - low) after (postings_from (suc n) ns) short (short-difference n low small)
-    (sym split ∙ h.spelled) in
-    let next : suc n ≡ low + d = omega (arith, same.0, h.rises.0) in
-    let here : n ≡ low + d - 1 = omega (arith, next) in
+posted-front _ _ d _ _ [] le short split h = grind (arith, leb128, leb_some)
+posted-front _ low d _ after (n ∷ ns) le short split h =
+    let small : n < 2 ^ 32 = omega arith in
+    let same = leb_front 5 d _ _ _ short (short-difference n _ small) (sym split ∙ h.spelled) in
+    let next : suc n ≡ low + d = omega arith in
+    let here : n ≡ low + d - 1 = omega arith in
     record {
-      some = omega (arith, same.0, h.rises.0);
-      below = omega (arith, next, h.below.0);
+      some = omega arith;
+      below = omega arith;
       later = ns;
       numbers = ap (λ (m : ℕ). m ∷ ns) here;
       posted = record {
-        rises = subst (λ (m : ℕ). RisesFrom m ns) next h.rises.1;
+        rises = rw (← next) h.rises.1;
         below = h.below.1;
         spelled = same.1 ∙ ap (λ (m : ℕ). postings_from m ns) next;
       };
@@ -106,14 +103,14 @@ posted-front limit low d bytes after (n ∷ ns) le short split h =
 pub posted-back : (limit low difference : ℕ) (bytes after : List ℕ) → 0 < difference → low + difference ≤ limit → bytes
     ≡ leb128 5 difference ++ after
     → ArePosted limit (low + difference) after → ArePosted limit low bytes
-posted-back limit low d bytes after some below split h =
+posted-back _ low d _ _ some below split h =
     let n : ℕ = low + d - 1 in
-    let next : low + d ≡ suc n = omega (arith, some) in
-    let again : d ≡ suc n - low = omega (arith, some) in (
+    let next : low + d ≡ suc n = omega arith in
+    let again : d ≡ suc n - low = omega arith in (
       n ∷ h.0,
       record {
-        rises = (omega (arith, some), subst (λ (m : ℕ). RisesFrom m h.0) next h.1.rises);
-        below = (omega (arith, some, below), h.1.below);
+        rises = (omega arith, rw (← next) h.1.rises);
+        below = (omega arith, h.1.below);
         spelled = split ∙ ap₂ (λ (k : ℕ) (l : List ℕ). leb128 5 k ++ l) again
             (h.1.spelled ∙ ap (λ (m : ℕ). postings_from m h.0) next);
       },
@@ -122,13 +119,13 @@ posted-back limit low d bytes after some below split h =
 -- a difference has at least one byte
 pub posted-shorter : (difference : ℕ) (bytes after : List ℕ) → bytes ≡ leb128 5 difference ++ after
     → length after < length bytes
-posted-shorter d bytes after split = grind (arith, leb128, length-append)
+posted-shorter d _ _ split = grind (arith, leb128, length-append)
 
 -- bytes that aren't empty and begin with no difference are no postings
 pub posted-refused : (limit low : ℕ) (bytes : List ℕ) (r : Option (ℕ × List ℕ)) → limit ≤ 2 ^ 32
     → ((k : ℕ) (rest : List ℕ) → IsShort 5 k → bytes ≡ leb128 5 k ++ rest → r ≡ Some (k, rest)) → r ≡ None
     → 0 < length bytes → ArePosted limit low bytes → ⊥
 posted-refused limit low bytes r le only none some h =
-    let nothing : h.0 ≡ [] = posted-none limit low bytes h.0 r le only none h.1 in
-    let bare : bytes ≡ [] = h.1.spelled ∙ ap (postings_from low) nothing in
-    absurd (omega (arith, ap length bare, some))
+    let nothing = posted-none _ _ _ _ r le only none h.1 in
+    let bare = h.1.spelled ∙ ap (postings_from low) nothing in
+    absurd (omega (arith, ap length bare))

@@ -17,31 +17,29 @@ bits_back a b c d = grind arith
 
 date_back : (f : ℕ) (date : Option ℤ) → IfSome date (FitsSigned w64) → has_bit f 8 ≡ is_some date → (n : ℕ) → n
     ≡ date_number date → read_date f n ≡ date
-date_back f date h h2 n h3 = grind (arith, to_z-of_z, w64)
+date_back f _ h h2 n h3 = grind (arith, to_z-of_z, w64)
 
 date_small : (date : Option ℤ) → IfSome date (FitsSigned w64) → date_number date < 2 ^ 64
-date_small date h = grind (arith, Fits-lt-pow, Fits-of_z)
+date_small _ h = grind (arith, Fits-lt-pow, Fits-of_z)
 
 -- a record is read back from its bytes
 pub record_back : (m : Record) (x : List ℕ) → HasSmallFields m → read_record (record_bytes m ++ x) ≡ m
 unfolding read_record
 record_back m x h =
-    let archive = from_be_bytes-to_be_bytes_4 m.archive h.archive in
-    let offset = from_be_bytes-to_be_bytes_8 m.offset h.offset in
-    let span = from_be_bytes-to_be_bytes_8 m.length h.span in
-    let size = from_be_bytes-to_be_bytes_8 m.size h.size in
+    let archive = from_be_bytes-to_be_bytes_4 _ h.archive in
+    let offset = from_be_bytes-to_be_bytes_8 _ h.offset in
+    let span = from_be_bytes-to_be_bytes_8 _ h.span in
+    let size = from_be_bytes-to_be_bytes_8 _ h.size in
     let bits = bits_back m.flags.seen m.flags.replied m.flags.flagged (is_some m.date) in
     let flags = bits.0 in
-    let date = date_back (flags_byte m) m.date h.date bits.1 _
-    (from_be_bytes-to_be_bytes_8 (date_number m.date) (date_small m.date h.date)) in
+    let date = date_back _ _ h.date bits.1 _ (from_be_bytes-to_be_bytes_8 _ (date_small _ h.date)) in
     λ i. record {
       archive = archive i;
       offset = offset i;
       length = span i;
       size = size i;
       date = date i;
-      flags =
-          flags i;
+      flags = flags i;
     }
 
 pub after_record : (m : Record) (x : List ℕ) → drop 40 (record_bytes m ++ x) ≡ x
@@ -70,7 +68,7 @@ flags_kept (suc (suc (suc (suc (suc (suc (suc (suc (suc (suc (suc (suc (suc zero
 flags_kept (suc (suc (suc (suc (suc (suc (suc (suc (suc (suc (suc (suc (suc (suc zero)))))))))))))) h = refl
 flags_kept (suc (suc (suc (suc (suc (suc (suc (suc (suc (suc (suc (suc (suc (suc (suc zero))))))))))))))) h = refl
 flags_kept (suc (suc (suc (suc (suc (suc (suc (suc (suc (suc (suc (suc (suc (suc (suc (suc n)))))))))))))))) h =
-    absurd (omega (arith, h))
+    absurd (omega arith)
 
 some_date : (b : Bool) (z : ℤ) → is_some (cond b (Some z) None) ≡ b
 some_date b z = grind arith
@@ -81,7 +79,7 @@ date_kept b n h h2 = grind (arith, of_z-to_z, w64, nat_tests)
 
 u64_small : (r : List ℕ) (i : ℕ) → AreBytes r → i + 8 ≤ length r → u64_at r i < 2 ^ 64
 u64_small r i h l =
-    let t = bytes_before 8 (drop i r) (bytes_after i r h) in
+    let t = bytes_before 8 _ (bytes_after i r h) in
     omega (arith, t.below 0, t.below 1, t.below 2, t.below 3, t.below 4, t.below 5, t.below 6, t.below 7)
 
 -- the bytes of a record that was read are those that it was read from
@@ -133,11 +131,10 @@ few_flags : (a b c d : Bool) (n : ℕ) → (d ≡ false → n ≡ 0)
 few_flags a b c d n h = grind arith
 
 no_date : (date : Option ℤ) → is_some date ≡ false → date_number date ≡ 0
-no_date date h = grind arith
+no_date _ h = grind arith
 
 -- the bytes of a record pass the test
 pub record_passes : (m : Record) (x : List ℕ) → HasSmallFields m → is_record (record_bytes m ++ x) ≡ true
 unfolding is_record
-record_passes m x h =
-    few_flags m.flags.seen m.flags.replied m.flags.flagged (is_some m.date) _
-    (λ e. from_be_bytes-to_be_bytes_8 (date_number m.date) (date_small m.date h.date) ∙ no_date m.date e)
+record_passes m x h = few_flags m.flags.seen m.flags.replied m.flags.flagged (is_some m.date) _
+    (λ e. from_be_bytes-to_be_bytes_8 _ (date_small _ h.date) ∙ no_date m.date e)

@@ -1,5 +1,5 @@
 -- The walk over records accepts exactly the records of tables: what it reads has the section's bytes, record by record.
-use Rattle.mail_index.proofs.Words.{◌≡◌, ℕ, zero, suc, ◌+◌, ◌-◌, ◌*◌, ◌^◌, ◌<◌, ◌≤◌, Bool, true, cond, List, [], ◌∷◌, ◌++◌, length, drop, Some, None, refl, sym, ap, ◌∙◌, arith, length-drop, flat_map, IfSome, FitsSigned, w64, cast_signed, AllByRecursion, nat_tests, Record, byte_at, u64_at, record_bytes, Archive, IsArchive, IsMessage, Follows, AllNext, archive_length, has_bit, is_after, after_archives, read_archives, IsNextRecord, AreRecords, read_record, read_records, is_record}
+use Rattle.mail_index.proofs.Words.{◌≡◌, ℕ, zero, suc, ◌+◌, ◌-◌, ◌*◌, ◌^◌, ◌<◌, ◌≤◌, Bool, true, cond, List, [], ◌∷◌, ◌++◌, length, drop, Some, None, refl, sym, ap, ◌∙◌, arith, length-drop, flat_map, IfSome, FitsSigned, w64, cast_signed, AllByRecursion, nat_tests, Record, u64_at, record_bytes, Archive, IsArchive, IsMessage, Follows, AllNext, is_after, after_archives, read_archives, IsNextRecord, AreRecords, read_record, read_records, is_record}
 use Rattle.mail_index.proofs.Items.{empty_list}
 use Rattle.mail_index.proofs.FileLaws.Bytes.{AreBytes, bytes_after}
 use Rattle.mail_index.proofs.FileLaws.OneTable.{small_archive}
@@ -13,9 +13,9 @@ AreRecordsAfter archive place (m ∷ ms) = (is_after archive place m ≡ true)
     × AreRecordsAfter m.archive (m.offset + m.length) ms
 
 pub in_order : (archive place : ℕ) (ms : List Record) → AreRecordsAfter archive place ms → AllNext Follows ms
-in_order archive place [] h = tt
-in_order archive place (m ∷ []) h = tt
-in_order archive place (m ∷ n ∷ ms) h = grind
+in_order _ _ [] h = tt
+in_order _ _ (m ∷ []) h = tt
+in_order archive _ (m ∷ n ∷ ms) h = grind
     (arith, is_after, nat_tests, in_order m.archive (m.offset + m.length) (n ∷ ms) h.1)
 
 is_after_of : (m n : Record) → Follows m n → is_after m.archive (m.offset + m.length) n ≡ true
@@ -31,7 +31,7 @@ from_start m = grind (arith, nat_tests)
 
 pub are_records_after : (ms : List Record) → AllNext Follows ms → AreRecordsAfter 0 0 ms
 are_records_after [] h = tt
-are_records_after (m ∷ ms) h = (from_start m, after_next m ms h)
+are_records_after (m ∷ ms) h = (from_start m, after_next m _ h)
 
 date_fits : (b : Bool) (n : ℕ) → IfSome (cond b (Some (cast_signed w64 n)) None) (FitsSigned w64)
 date_fits b n = grind (arith, w64)
@@ -45,40 +45,33 @@ pub record ShowsRecords (archives : List Archive) (archive place n : ℕ) (r : L
 
 after_later : (version a b : ℕ) (s rest : List ℕ) → a ≤ b → rest ≡ after_archives version a s
     → after_archives version (b - a) rest ≡ after_archives version b s
-after_later version a b s rest l e =
-    let f : a + (b - a) ≡ b = omega (arith, l) in
-    ap (after_archives version (b - a)) e ∙ sym (archives_after version a (b - a) s)
-    ∙ ap (λ (k : ℕ). after_archives version k s) f
+after_later version a b s _ l e =
+    let f : a + (b - a) ≡ b = omega arith in
+    ap (after_archives version (b - a)) e ∙ sym (archives_after _ a _ s) ∙ ap (λ (k : ℕ). after_archives version k s) f
 
 not_before : (archive place : ℕ) (m : Record) → is_after archive place m ≡ true → archive ≤ m.archive
-not_before archive place m h = grind (arith, nat_tests)
+not_before _ _ m h = grind (arith, nat_tests)
 
 date_of_read : (r : List ℕ) → IfSome (read_record r).date (FitsSigned w64)
 unfolding read_record
-date_of_read r = date_fits (has_bit (byte_at r 4) 8) (u64_at r 32)
+date_of_read r = date_fits _ _
 
 pub shows_records : (version count : ℕ) (s : List ℕ) (archive place : ℕ) (rest : List ℕ) (n : ℕ) (r : List ℕ) → rest
     ≡ after_archives version archive s → AreBytes r → length r ≡ 40 * n
     → AreRecords version count archive place rest n r → ShowsRecords (read_archives version count s) archive place n r
-shows_records version count s archive place rest zero r e b l h =
-    record { spelled = empty_list r (omega (arith, l)); each = tt; after = tt }
+shows_records _ _ s _ _ _ zero r e b l h = record { spelled = empty_list r (omega arith); each = tt; after = tt }
 shows_records version count s archive place rest (suc n) r e b l h =
     let m = read_record r in
-    let below : archive ≤ m.archive = not_before archive place m h.1.follows in
-    let later : after_archives version (m.archive - archive) rest ≡ after_archives version m.archive s =
-    after_later version archive m.archive s rest below e in
-    let most : archive_length (read_archives version count s) m.archive
-    ≡ u64_at (after_archives version (m.archive - archive) rest) 0 = length_at version count m.archive s h.1.exists
-    ∙ ap (λ (x : List ℕ). u64_at x 0) (sym later) in
-    let long : 40 ≤ length r = omega (arith, l) in
+    let below = not_before _ _ m h.1.follows in
+    let later = after_later _ _ _ s _ below e in
+    let most = length_at version _ _ s h.1.exists ∙ ap (λ (x : List ℕ). u64_at x 0) (sym later) in
+    let long : 40 ≤ length r = omega arith in
     let more = shows_records version count s m.archive (m.offset + m.length)
     (after_archives version (m.archive - archive) rest) n (drop 40 r) later (bytes_after 40 r b)
     (omega (arith, l, length-drop 40 r)) h.2 in
-    let valid : IsMessage (read_archives version count s) m =
-    record {
-      exists = omega (arith, h.1.exists, read_count version count s);
-      within =
-          omega (arith, h.1.within, most);
+    let valid : IsMessage (read_archives version count s) m = record {
+      exists = omega (arith, read_count);
+      within = omega arith;
       size = h.1.size;
       date = date_of_read r;
     } in
@@ -92,44 +85,39 @@ shows_records version count s archive place rest (suc n) r e b l h =
 
 pub small_fields : (version : ℕ) (archives : List Archive) (m : Record) → length archives < 2 ^ 32
     → AllByRecursion (IsArchive version) archives → IsMessage archives m → HasSmallFields m
-small_fields version archives m l a h = grind (arith, small_archive)
+small_fields _ _ m l a h = grind (arith, small_archive)
 
 pub records_back : (version : ℕ) (archives : List Archive) (ms : List Record) → length archives < 2 ^ 32
     → AllByRecursion (IsArchive version) archives → AllByRecursion (IsMessage archives) ms
     → read_records (length ms) (flat_map record_bytes ms) ≡ ms
-records_back version archives [] l a h = refl
+records_back _ _ [] l a h = refl
 records_back version archives (m ∷ ms) l a h =
-    let head : read_record (record_bytes m ++ flat_map record_bytes ms) ≡ m =
-    record_back m (flat_map record_bytes ms) (small_fields version archives m l a h.0) in
-    let tail : read_records (length ms) (flat_map record_bytes ms) ≡ ms = records_back version archives ms l a h.1 in
+    let head = record_back m (flat_map record_bytes ms) (small_fields _ _ m l a h.0) in
+    let tail = records_back version archives ms l a h.1 in
     λ i. head i ∷ tail i
 
 one_more : (version count archive place : ℕ) (rest : List ℕ) (n : ℕ) (r after : List ℕ) (m : Record) → read_record r
     ≡ m → drop 40 r ≡ after → is_record r ≡ true → IsNextRecord version count archive place rest m
     → AreRecords version count m.archive (m.offset + m.length) (after_archives version (m.archive - archive) rest) n
     after → AreRecords version count archive place rest (suc n) r
-one_more version count archive place rest n r after m e d t x h = grind (arith, after_archives)
+one_more _ _ _ _ _ n r _ m e d t x h = grind (arith, after_archives)
 
 pub are_records_of : (version count : ℕ) (s : List ℕ) (archive place : ℕ) (rest : List ℕ) (ms : List Record)
     → count < 2 ^ 32 → AllByRecursion (IsArchive version) (read_archives version count s) → rest
     ≡ after_archives version archive s
     → AllByRecursion (IsMessage (read_archives version count s)) ms → AreRecordsAfter archive place ms
     → AreRecords version count archive place rest (length ms) (flat_map record_bytes ms)
-are_records_of version count s archive place rest [] l a e h b = tt
+are_records_of _ _ s _ _ _ [] l a e h b = tt
 are_records_of version count s archive place rest (m ∷ ms) l a e h b =
     let r = flat_map record_bytes ms in
-    let few : length (read_archives version count s) < 2 ^ 32 = omega (arith, l, read_count version count s) in
-    let small = small_fields version (read_archives version count s) m few a h.0 in
-    let exists : m.archive < count = omega (arith, h.0.exists, read_count version count s) in
-    let below : archive ≤ m.archive = not_before archive place m b.0 in
-    let later : after_archives version (m.archive - archive) rest ≡ after_archives version m.archive s =
-    after_later version archive m.archive s rest below e in
-    let most : archive_length (read_archives version count s) m.archive
-    ≡ u64_at (after_archives version (m.archive - archive) rest) 0 = length_at version count m.archive s exists
-    ∙ ap (λ (x : List ℕ). u64_at x 0) (sym later) in
+    let few : length (read_archives version count s) < 2 ^ 32 = omega (arith, read_count) in
+    let small = small_fields _ _ m few a h.0 in
+    let exists : m.archive < count = omega (arith, read_count) in
+    let below = not_before _ _ m b.0 in
+    let later = after_later _ _ _ s _ below e in
+    let most = length_at version _ _ s exists ∙ ap (λ (x : List ℕ). u64_at x 0) (sym later) in
     let next : IsNextRecord version count archive place rest m =
-    record { exists = exists; follows = b.0; within = omega (arith, h.0.within, most); size = h.0.size } in
-    one_more version count archive place rest (length ms) (record_bytes m ++ r) r m (record_back m r small)
-    (after_record m r) (record_passes m r small) next
-    (are_records_of version count s m.archive (m.offset + m.length) (after_archives version (m.archive - archive) rest)
-    ms l a later h.1 b.1)
+    record { exists = exists; follows = b.0; within = omega arith; size = h.0.size } in
+    one_more _ _ _ _ _ _ _ r m (record_back m r small) (after_record m r) (record_passes m r small) next
+    (are_records_of version count s m.archive (m.offset + m.length)
+    (after_archives version (m.archive - archive) rest) ms l a later h.1 b.1)

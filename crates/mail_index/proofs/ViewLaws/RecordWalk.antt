@@ -6,7 +6,7 @@ use Rattle.mail_index.proofs.Words.{transport, ◌≡◌, ◌↔◌, ℕ, suc, �
 first_of : (version count archive place : ℕ) (rest : List ℕ) (n i : ℕ) (r : List ℕ) → i < n
     → AreRecords version count archive place rest (n - i) r
     → AreRecords version count archive place rest (suc (n - (i + 1))) r
-first_of version count archive place rest n i r l h = let e : n - i ≡ suc (n - (i + 1)) = omega (arith, l)
+first_of version count archive place rest n i r l h = let e : n - i ≡ suc (n - (i + 1)) = omega arith
     in subst (λ (k : ℕ). AreRecords version count archive place rest k r) e h
 
 pub records_step : (P : Type 0) (version count archive place : ℕ) (rest : List ℕ) (n i : ℕ) (r : List ℕ) (m : Record)
@@ -17,26 +17,24 @@ pub records_step : (P : Type 0) (version count archive place : ℕ) (rest : List
     ≡ drop 40 r
     → P ↔ AreRecords version count a p archives (n - (i + 1)) after
 records_step P version count archive place rest n i r m a p archives after l h t em x ea ep eb er =
-    let e : n - i ≡ suc (n - (i + 1)) = omega (arith, l) in
+    let e : n - i ≡ suc (n - (i + 1)) = omega arith in
     let m' = read_record r in
     let same : AreRecords version count m'.archive (m'.offset + m'.length)
     (after_archives version (m'.archive - archive) rest) (n - (i + 1)) (drop 40 r)
     ≡ AreRecords version count a p archives (n - (i + 1)) after =
     rw (ea, ep, eb, er, em) refl in (
-      λ q. transport same (first_of version count archive place rest n i r l (h.0 q)).2,
-      λ q. h.1 (subst (λ (k : ℕ). AreRecords version count archive place rest k r) (sym e)
-          (t, subst (IsNextRecord version count archive place rest) em x, transport (sym same) q)),
+      λ q. transport same (first_of version _ _ _ _ n i r l (h.0 q)).2,
+      λ q. h.1 (rw e (t, rw (← em) x, transport (sym same) q)),
     )
 
 pub records_stop : (P : Type 0) (version count archive place : ℕ) (rest : List ℕ) (n i : ℕ) (r : List ℕ) → i < n
     → (P ↔ AreRecords version count archive place rest (n - i) r) → is_record r ≡ false → P → ⊥
 records_stop P version count archive place rest n i r l h t q = let u =
-    (first_of version count archive place rest n i r l (h.0 q)).0 in let g : true ≡ false = sym u ∙ t in cc
+    (first_of _ _ _ _ _ n i r l (h.0 q)).0 in let g = sym u ∙ t in cc
 
 pub records_stray : (P : Type 0) (version count archive place : ℕ) (rest : List ℕ) (n i : ℕ) (r : List ℕ) (m : Record)
     → i < n
     → (P ↔ AreRecords version count archive place rest (n - i) r) → m ≡ read_record r
     → (IsNextRecord version count archive place rest m → ⊥) → P → ⊥
 records_stray P version count archive place rest n i r m l h em refuses q =
-    refuses (subst (IsNextRecord version count archive place rest) (sym em)
-    (first_of version count archive place rest n i r l (h.0 q)).1)
+    refuses (rw em (first_of _ _ _ _ _ n i r l (h.0 q)).1)

@@ -1,6 +1,6 @@
 -- The keys of a kind whose texts begin with a text follow one another, because sorted keys compare with them in rising
 -- order.
-use Rattle.mail_index.proofs.Words.{◌≡◌, ◌∙◌, ℕ, zero, suc, ◌+◌, ◌-◌, ◌<◌, ◌≤◌, Bool, true, false, cond, ◌&&◌, List, [], ◌∷◌, length, map, take, drop, get_or, refl, sym, ap, ap₂, subst, arith, length-drop, nat_eq, bytes_eq, Ordering, Less, Equal, Greater, nat_cmp, is_eq, is_lt, ordering_index, ordering_then, slice_cmp, filter, starts_with, length-map, get_or-map, get_or-drop, drop_more, nat_tests, same_from_decides, Decides-like, ranked, is_eq-slice_cmp, Less-from_sorted, bytes_eq-Decides, Kind, kind_number, Key, is_of_kind, AreSorted, keys_of, keys_beginning}
+use Rattle.mail_index.proofs.Words.{◌≡◌, ◌∙◌, ℕ, zero, suc, ◌+◌, ◌-◌, ◌<◌, ◌≤◌, Bool, true, false, cond, ◌&&◌, List, [], ◌∷◌, length, map, take, drop, get_or, refl, sym, ap, ap₂, arith, length-drop, nat_eq, bytes_eq, Ordering, Less, Equal, Greater, nat_cmp, is_eq, is_lt, ordering_index, ordering_then, slice_cmp, filter, starts_with, length-map, get_or-map, get_or-drop, drop_more, nat_tests, same_from_decides, Decides-like, ranked, is_eq-slice_cmp, Less-from_sorted, bytes_eq-Decides, Kind, kind_number, Key, is_of_kind, AreSorted, keys_of, keys_beginning}
 use Rattle.mail_index.specs.Inside.KeyRuns.{lies_to_run, keys_between}
 use Rattle.mail_index.proofs.ViewLaws.KindNumbers.{tied}
 use Rattle.mail_index.proofs.ViewLaws.LookUpLemmas.{key_bytes}
@@ -16,7 +16,7 @@ fronts-rise : (wanted a b : List ℕ) → slice_cmp nat_cmp a b ≡ Less
 fronts-rise [] a b h = omega arith
 fronts-rise (w ∷ ws) [] b h = omega arith
 fronts-rise (w ∷ ws) (x ∷ xs) [] h = absurd cc
-fronts-rise (w ∷ ws) (x ∷ xs) (y ∷ ys) h = go (nat_cmp x y) (nat_cmp x w) refl refl h (λ e. fronts-rise ws xs ys e)
+fronts-rise (w ∷ ws) (x ∷ xs) (y ∷ ys) h = go _ _ refl refl h (λ e. fronts-rise ws xs ys e)
   where
     go : (o p : Ordering) → nat_cmp x y ≡ o → nat_cmp x w ≡ p → ordering_then o (slice_cmp nat_cmp xs ys) ≡ Less
         → (slice_cmp nat_cmp xs ys ≡ Less → ordering_index (front_lies ws xs) ≤ ordering_index (front_lies ws ys))
@@ -35,9 +35,8 @@ runs-rise kind text ks d i j sorted le within = go (nat_eq i j) refl
         let lower : i < j = grind (arith, nat_tests) in
         let inside : j < length (map key_bytes ks) = omega (arith, within, length-map ks key_bytes) in
         fronts-rise (kind_number kind ∷ text) (key_bytes (get_or ks i d)) (key_bytes (get_or ks j d))
-        (ap₂ (slice_cmp nat_cmp) (sym (get_or-map key_bytes ks i d (key_bytes d) (omega (arith, lower, within))))
-        (sym (get_or-map key_bytes ks j d (key_bytes d) within))
-        ∙ Less-from_sorted (slice_cmp nat_cmp) (map key_bytes ks) i j (key_bytes d) sorted lower inside)
+        (ap₂ (slice_cmp nat_cmp) (sym (get_or-map _ _ i d (key_bytes d) (omega arith)))
+        (sym (get_or-map _ _ j d (key_bytes d) within)) ∙ Less-from_sorted _ _ i j _ sorted lower inside)
 
 -- what a comparison of two orderings says about them
 pub less_index : (o p : Ordering) → is_lt (nat_cmp (ordering_index o) (ordering_index p)) ≡ true
@@ -52,22 +51,22 @@ no_less_index o p h = grind (arith, nat_cmp, ordering_index, is_lt, ranked)
 
 pub bytes_turned : (xs ys : List ℕ) → bytes_eq xs ys ≡ bytes_eq ys xs
 bytes_turned xs ys = same_from_decides (bytes_eq xs ys) (bytes_eq ys xs) (bytes_eq-Decides xs ys)
-    (Decides-like (bytes_eq ys xs) sym sym (bytes_eq-Decides ys xs))
+    (Decides-like _ sym sym (bytes_eq-Decides _ _))
 
 -- a key compares as equal with a run exactly if it is one of its keys
 in_run : (kind : Kind) (text : List ℕ) (k : Key) → (is_of_kind kind k && starts_with nat_eq k.text text)
     ≡ is_eq (lies_to_run kind text k)
-in_run kind text k = grind (arith, is_of_kind, bytes_turned, is_eq-slice_cmp, kind_number)
+in_run _ _ k = grind (arith, is_of_kind, bytes_turned, is_eq-slice_cmp, kind_number)
 
 beginning-more : (kind : Kind) (text : List ℕ) (k : Key) (ks : List Key) (b : Bool) → is_eq (lies_to_run kind text k)
     ≡ b
     → keys_beginning kind text (k ∷ ks) ≡ cond b (k ∷ keys_beginning kind text ks) (keys_beginning kind text ks)
-beginning-more kind text k ks b e = go (is_of_kind kind k) (in_run kind text k ∙ e)
+beginning-more kind text k ks b e = go _ (in_run _ _ k ∙ e)
   where
     go : (of : Bool) → (of && starts_with nat_eq k.text text) ≡ b
         → filter (λ key. starts_with nat_eq key.text text) (cond of (k ∷ keys_of kind ks) (keys_of kind ks))
         ≡ cond b (k ∷ keys_beginning kind text ks) (keys_beginning kind text ks)
-    go of h = grind (arith, keys_beginning)
+    go _ h = grind (arith, keys_beginning)
 
 lies_before : (o : Ordering) → ordering_index o < ordering_index Equal → is_eq o ≡ false
 lies_before o h = grind arith
@@ -83,28 +82,25 @@ lies_among o h h2 = grind arith
 beginning-after : (kind : Kind) (text : List ℕ) (ks : List Key) (n : ℕ) (d : Key) → n ≤ length ks
     → ((j : ℕ) → j < n → is_eq (lies_to_run kind text (get_or ks j d)) ≡ false) → keys_beginning kind text ks
     ≡ keys_beginning kind text (drop n ks)
-beginning-after kind text ks zero d within before = refl
-beginning-after kind text [] (suc n) d within before = absurd (omega (arith, within))
-beginning-after kind text (k ∷ ks) (suc n) d within before =
-    beginning-more kind text k ks false (before 0 (omega arith))
-    ∙ beginning-after kind text ks n d (omega (arith, within)) (λ j lt. before (suc j) (omega (arith, lt)))
+beginning-after _ _ _ zero d _ _ = refl
+beginning-after _ _ [] (suc n) d within before = absurd (omega arith)
+beginning-after kind text (k ∷ ks) (suc n) d within before = beginning-more _ _ k _ _ (before 0 (omega arith))
+    ∙ beginning-after kind text ks n d (omega arith) (λ j lt. before (suc j) (omega arith))
 
 -- the first keys are the run
 beginning-first : (kind : Kind) (text : List ℕ) (ks : List Key) (n : ℕ) (d : Key)
     → ((j : ℕ) → j < n → j < length ks → is_eq (lies_to_run kind text (get_or ks j d)) ≡ true)
     → ((j : ℕ) → n ≤ j → j < length ks → is_eq (lies_to_run kind text (get_or ks j d)) ≡ false)
     → keys_beginning kind text ks ≡ take n ks
-beginning-first kind text [] zero d among after = refl
-beginning-first kind text [] (suc n) d among after = refl
-beginning-first kind text (k ∷ ks) zero d among after =
-    beginning-more kind text k ks false (after 0 (omega arith) (omega arith))
-    ∙ beginning-first kind text ks zero d (λ j lt. absurd (omega (arith, lt)))
-    (λ j le lt. after (suc j) (omega arith) (omega (arith, lt)))
+beginning-first _ _ [] zero d _ _ = refl
+beginning-first _ _ [] (suc n) d _ _ = refl
+beginning-first kind text (k ∷ ks) zero d among after = beginning-more _ _ k _ _ (after 0 (omega arith) (omega arith))
+    ∙ beginning-first kind text ks zero d (λ j lt. absurd (omega arith))
+    (λ j le lt. after (suc j) (omega arith) (omega arith))
 beginning-first kind text (k ∷ ks) (suc n) d among after =
-    beginning-more kind text k ks true (among 0 (omega arith) (omega arith))
+    beginning-more _ _ k _ _ (among 0 (omega arith) (omega arith))
     ∙ ap (λ (l : List Key). k ∷ l) (beginning-first kind text ks n d
-    (λ j lt less. among (suc j) (omega (arith, lt)) (omega (arith, less)))
-    (λ j le lt. after (suc j) (omega (arith, le)) (omega (arith, lt))))
+    (λ j lt less. among (suc j) (omega arith) (omega arith)) (λ j le lt. after (suc j) (omega arith) (omega arith)))
 
 -- the run begins at the first key that isn't before it and ends at the first key after it
 pub keys_beginning-between : (kind : Kind) (text : List ℕ) (ks : List Key) (low high : ℕ) (d : Key) → low ≤ length ks
@@ -116,18 +112,14 @@ pub keys_beginning-between : (kind : Kind) (text : List ℕ) (ks : List Key) (lo
     (lies_to_run kind text (get_or ks j d)))
     → keys_beginning kind text ks ≡ keys_between low high ks
 keys_beginning-between kind text ks low high d within before from until after =
-    beginning-after kind text ks low d within
-    (λ j lt. lies_before (lies_to_run kind text (get_or ks j d)) (before j lt))
-    ∙ beginning-first kind text (drop low ks) (high - low) d
-    (λ j lt less. at j (λ k. is_eq (lies_to_run kind text k) ≡ true)
-    (lies_among (lies_to_run kind text (get_or ks (low + j) d))
-    (from (low + j) (omega arith) (omega (arith, less, length-drop low ks))) (until (low + j) (omega (arith, lt)))))
-    (λ j le less. at j (λ k. is_eq (lies_to_run kind text k) ≡ false)
-    (lies_after (lies_to_run kind text (get_or ks (low + j) d))
-    (after (low + j) (omega (arith, le)) (omega (arith, less, length-drop low ks)))))
+    beginning-after _ _ _ _ d within (λ j lt. lies_before _ (before j lt))
+    ∙ beginning-first _ _ _ _ d (λ j lt less. at j (λ k. is_eq (lies_to_run kind text k) ≡ true)
+    (lies_among _ (from (low + j) (omega arith) (omega (arith, less, length-drop low ks)))
+    (until (low + j) (omega arith)))) (λ j le less. at j (λ k. is_eq (lies_to_run kind text k) ≡ false)
+    (lies_after _ (after (low + j) (omega arith) (omega (arith, less, length-drop low ks)))))
   where
     at : (j : ℕ) (P : Key → Type 0) → P (get_or ks (low + j) d) → P (get_or (drop low ks) j d)
-    at j P p = subst P (sym (get_or-drop low ks j d)) p
+    at j P p = rw (get_or-drop _ _ j d) p
 
 -- ---- the keys of a kind are those that begin with no byte
 
@@ -136,13 +128,13 @@ all-kept [] = refl
 all-kept (k ∷ ks) = ap (λ (l : List Key). k ∷ l) (all-kept ks)
 
 pub keys_beginning-none : (kind : Kind) (ks : List Key) → keys_beginning kind [] ks ≡ keys_of kind ks
-keys_beginning-none kind ks = all-kept (keys_of kind ks)
+keys_beginning-none kind ks = all-kept _
 
 -- ---- the next key of a run
 
 pub between-none : (low high : ℕ) (ks : List Key) → high ≤ low → keys_between low high ks ≡ []
-between-none low high ks le = let none : high - low ≡ 0 = omega (arith, le) in ap (λ n. take n (drop low ks)) none
+between-none low high ks le = let none : high - low ≡ 0 = omega arith in ap (λ n. take n (drop low ks)) none
 
 pub between-next : (low high : ℕ) (ks : List Key) (d : Key) → low < high → high ≤ length ks → keys_between low high ks
     ≡ get_or ks low d ∷ keys_between (low + 1) high ks
-between-next low high ks d less within = grind (arith, drop_more)
+between-next _ _ _ d less within = grind (arith, drop_more)

@@ -45,7 +45,7 @@ split-nil : (p : ℕ) → p < 128 → Split p []
 split-nil p h = record {
   differences = [];
   each = tt;
-  total = omega (arith, h);
+  total = omega arith;
   spelled = sym (begun-none p h);
 }
 
@@ -53,59 +53,56 @@ split-begun : (p b : ℕ) → p < 128 → 128 ≤ b → b < 256 → Split p (b �
 split-begun p b h high small = record {
   differences = [];
   each = tt;
-  total = omega (arith, light p b h, high, small);
+  total = omega (arith, light);
   spelled = sym (begun-one b high);
 }
 
 split-one : (p b : ℕ) (bs : List ℕ) → p < 128 → 0 < b → b < 128 → Split b bs → Split p (b ∷ bs)
-split-one p b bs h some low s = record {
+split-one p b _ h some low s = record {
   differences = b ∷ s.differences;
-  each = ((some, omega (arith, low)), s.each);
-  total = omega (arith, light p b h, low, s.total);
+  each = ((some, omega arith), s.each);
+  total = omega (arith, light);
   spelled = rw (leb-one b low) (ap (λ l. b ∷ l) s.spelled);
 }
 
 split-two : (p b c : ℕ) (bs : List ℕ) → p < 128 → 128 ≤ b → b < 256 → 0 < c → c < 128 → Split c bs
     → Split p (b ∷ c ∷ bs)
-split-two p b c bs h high small some low s =
+split-two p b c _ h high small some low s =
     let d : ℕ = (b - 128) + 128 * c in
-    let back : 128 + (b - 128) ≡ b = omega (arith, high) in
-    let bytes : leb128 5 d ≡ b ∷ c ∷ [] =
-    leb-two (b - 128) c (omega (arith, small)) some low ∙ ap (λ (n : ℕ). n ∷ c ∷ []) back in
+    let back : 128 + (b - 128) ≡ b = omega arith in
+    let bytes = leb-two (b - 128) c (omega arith) some low ∙ ap (λ (n : ℕ). n ∷ c ∷ []) back in
     record {
       differences = d ∷ s.differences;
-      each = ((omega (arith, some), omega (arith, small, low)), s.each);
-      total = omega (arith, light p b h, heavy b c high, high, small, low, s.total);
+      each = ((omega arith, omega arith), s.each);
+      total = omega (arith, light, heavy);
       spelled = rw bytes (ap (λ (l : List ℕ). b ∷ c ∷ l) s.spelled);
     }
 
 second : (b c : ℕ) → 128 ≤ b → IsShortPair b c → c < 128
-second b c high (some, inl low) = absurd (omega (arith, high, low))
-second b c high (some, inr low) = low
+second b c high (some, inl low) = absurd (omega arith)
+second b c _ (some, inr low) = low
 
 pub split : (p : ℕ) (bs : List ℕ) → p < 128 → Each1 (λ b. b < 256) bs → Each2 IsShortPair (p ∷ bs) bs → Split p bs
 split p [] h f m = split-nil p h
-split p (b ∷ []) h f m =
-    elim (cases_lt b 128) [
-      | inl low ↦ split-one p b [] h m.0.0 low (split-nil b low)
-      | inr high ↦ split-begun p b h high f.0
-    ]
-split p (b ∷ c ∷ bs) h f m =
-    elim (cases_lt b 128) [
-      | inl low ↦ split-one p b (c ∷ bs) h m.0.0 low (split b (c ∷ bs) low f.1 m.1)
-      | inr high ↦
-          let low : c < 128 = second b c high m.1.0 in
-          split-two p b c bs h high f.0 m.1.0.0 low (split c bs low f.1.1 m.1.1)
-    ]
+split p (b ∷ []) h f m = elim (cases_lt b 128) [
+  | inl low ↦ split-one p b _ h m.0.0 low (split-nil b low)
+  | inr high ↦ split-begun p b h high f.0
+]
+split p (b ∷ c ∷ bs) h f m = elim (cases_lt b 128) [
+  | inl low ↦ split-one p b _ h m.0.0 low (split b (c ∷ bs) low f.1 m.1)
+  | inr high ↦
+      let low = second b c high m.1.0 in
+      split-two p b c _ h high f.0 m.1.0.0 low (split c bs low f.1.1 m.1.1)
+]
 
 -- ---- a load
 
 pub last_of-get : (p n : ℕ) (bs : List ℕ) → length bs ≡ suc n → last_of p bs ≡ get_or bs n 0
-last_of-get p n [] h = absurd (omega (arith, h))
+last_of-get p n [] h = absurd (omega arith)
 last_of-get p zero (b ∷ []) h = refl
-last_of-get p (suc n) (b ∷ []) h = absurd (omega (arith, h))
-last_of-get p zero (b ∷ c ∷ bs) h = absurd (omega (arith, h))
-last_of-get p (suc n) (b ∷ c ∷ bs) h = last_of-get b n (c ∷ bs) (omega (arith, h))
+last_of-get p (suc n) (b ∷ []) h = absurd (omega arith)
+last_of-get p zero (b ∷ c ∷ bs) h = absurd (omega arith)
+last_of-get p (suc n) (b ∷ c ∷ bs) h = last_of-get b n (c ∷ bs) (omega arith)
 
 module _ (bytes : List ℕ) (long : 16 ≤ length bytes) (fits : Each1 (λ b. b < 256) (take 16 bytes))
     (short : AreShort (take 16 bytes)) where
@@ -153,7 +150,7 @@ module _ (bytes : List ℕ) (long : 16 ≤ length bytes) (fits : Each1 (λ b. b 
 -- ---- postings that begin with such differences
 
 short-is : (d : ℕ) → d < 2 ^ 14 → IsShort 5 d
-short-is d h = omega (arith, h)
+short-is d h = omega arith
 
 module _ (limit : ℕ) (le : limit ≤ 2 ^ 32) where
   posted-forward : (low : ℕ) (ds rest : List ℕ) → AllByRecursion (λ d. (0 < d) × (d < 2 ^ 14)) ds

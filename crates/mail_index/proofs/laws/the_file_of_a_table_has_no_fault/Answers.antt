@@ -3,4 +3,4 @@ use Rattle.mail_index.proofs.FileLaws.Accepts.{no_fault}
 use Rattle.mail_index.proofs.laws.the_file_of_a_table_has_no_fault.Goals as goal
 
 pub returns : goal.returns
-returns c bytes t fault few w h = no_fault bytes t few w fault h
+returns c bytes t fault few w h = no_fault _ t few w _ h

@@ -13,13 +13,12 @@ nothing = record { ref_ptr = (0, 0); now = [] }
 
 front : (parts : List (Bor (List ℕ))) (i : ℕ) → i < length parts → told (drop i parts)
     ≡ (get_or parts i nothing).now ++ told (drop (i + 1) parts)
-front parts i low = ap told (from-place parts i nothing low)
+front parts i low = ap told (from-place _ i _ low)
 
 pub returns-in_err-send_signed-clause-written : goal.returns-in_err-send_signed-clause-written
 returns-in_err-send_signed-clause-written g c =
-    signing-stop c.from_residual.result _ _ (get_or c.args.parts.now c.loop-part.part-index nothing).now _
-    c.from_residual.ensures.0 c.loop-part.invariant.0
-    (front c.args.parts.now c.loop-part.part-index c.loop-part-test.true) c.in_err-send_signed.ensures.written
+    signing-stop _ _ _ _ _ c.from_residual.ensures.0 c.loop-part.invariant.0 (front _ _ c.loop-part-test.true)
+    c.in_err-send_signed.ensures.written
 
 pub loop-part-preserved : goal.loop-part-preserved
 loop-part-preserved g c = grind (arith, signing-next, front)

@@ -11,7 +11,7 @@ returns-clause-part c i a = part-same c.if-is_small_for.order c.begin.new.self c
     (elim c.if-is_small_for.branch [
       | then-is_small_for+in_ok-grow w ↦ subst (λ order. IsAmong i (numbers_in order)) (sym w.order-is)
           (w.grow.ensures.part i a)
-      | else-is_small_for w ↦ subst (λ order. IsAmong i (numbers_in order)) (sym w.order-is) a
+      | else-is_small_for w ↦ rw w.order-is a
     ])
 
 pub returns-clause-kept : goal.returns-clause-kept
@@ -20,12 +20,6 @@ returns-clause-kept c = kept-part c.args.entries.now c.if-is_small_for.table c.i
     (elim c.if-is_small_for.branch [
       | then-is_small_for+in_ok-grow w ↦
           subst (λ order. AreReachable c.args.entries.now c.if-is_small_for.table order (length c.args.entries.now))
-          (sym w.order-is)
-          (subst (λ table. AreReachable c.args.entries.now table w.grow.new.order (length c.args.entries.now))
-          (sym w.table-is) w.grow.ensures.kept)
-      | else-is_small_for w ↦
-          subst (λ order. AreReachable c.args.entries.now c.if-is_small_for.table order (length c.args.entries.now))
-          (sym w.order-is)
-          (subst (λ table. AreReachable c.args.entries.now table c.args.order.now (length c.args.entries.now))
-          (sym w.table-is) c.requires.kept)
+          (sym w.order-is) (rw w.table-is w.grow.ensures.kept)
+      | else-is_small_for w ↦ rw w.order-is (rw w.table-is c.requires.kept)
     ])

@@ -1,6 +1,6 @@
 -- `put_all_in_order` sorts all entries, or puts those that aren't in order at their places in turn.
 use Rattle.std.proofs.Common.{arith}
-use Rattle.mail_index.proofs.Words.{◌≡◌, ◌+◌, ◌<◌, ℕ, Bool, true, false, nat_eq, nat_tests, refl, subst}
+use Rattle.mail_index.proofs.Words.{◌≡◌, ◌+◌, ◌<◌, ℕ, Bool, true, false, nat_eq, nat_tests, refl}
 use Rattle.mail_index.specs.Inside.KeyMaps.{numbers_in, IsAmong}
 use Rattle.mail_index.proofs.build.key_map.put_all_in_order.Goals as goal
 
@@ -17,5 +17,5 @@ loop-number-preserved c = record {
     first : (i : ℕ) → i < c.loop-number.number + 1 → (b : Bool) → nat_eq i c.loop-number.number ≡ b
         → IsAmong i (numbers_in c.put_in_order.new.order)
     first i h true e = let same : c.loop-number.number ≡ i = grind (arith, nat_tests)
-        in subst (λ n. IsAmong n (numbers_in c.put_in_order.new.order)) same c.in_ok-put_in_order.ensures.has
+        in rw (← same) c.in_ok-put_in_order.ensures.has
     first i h false e = c.put_in_order.ensures.part i (c.loop-number.invariant.first i (grind (arith, nat_tests)))

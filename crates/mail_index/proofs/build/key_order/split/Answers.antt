@@ -16,6 +16,6 @@ returns-then-is_ok-clause-same c =
     let inside : c.args.half < length row = grind (arith, row-is) in
     first_of (
       search (rules, from-place row c.args.half none inside),
-      grind (arith, common_steps, from-place row c.args.half none inside),
+      grind (arith, common_steps, from-place),
     ) in
-    grind (arith, row-is, set, parted, map-set, get_or-map, cut)
+    grind (arith, row-is, set, parted, map-set, get_or-map)

@@ -23,13 +23,11 @@ loop-key-init g c = grind (arith, texts_of, entry_of_key, postings_of, signing-s
 
 pub returns-in_err-send_key-clause-written : goal.returns-in_err-send_key-clause-written
 returns-in_err-send_key-clause-written g c =
-    signing-stop c.from_residual.result _ _
-    (key_part c.args.part c.loop-key.text_place c.loop-key.place (entry_of_key c.in-Some.key.now)) _
+    signing-stop _ _ _ (key_part c.args.part c.loop-key.text_place c.loop-key.place (entry_of_key c.in-Some.key.now)) _
     c.from_residual.ensures.0 c.loop-key.invariant.0
     (ap (λ (keys : List Key). keys_from c.args.part c.loop-key.text_place c.loop-key.place (map entry_of_key keys))
-    c.in-Some.ensures.steps
-    ∙ keys_from-next c.args.part c.loop-key.text_place c.loop-key.place (entry_of_key c.in-Some.key.now)
-    (map entry_of_key c.next.new.self)) c.in_err-send_key.ensures.written
+    c.in-Some.ensures.steps ∙ keys_from-next c.args.part c.loop-key.text_place c.loop-key.place
+    (entry_of_key c.in-Some.key.now) (map _ _)) c.in_err-send_key.ensures.written
 
 pub loop-key-preserved : goal.loop-key-preserved
 loop-key-preserved g c =

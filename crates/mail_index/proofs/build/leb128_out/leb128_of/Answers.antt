@@ -7,7 +7,7 @@ followed : (rest more : ℕ) (front : List ℕ) → 128 ≤ rest → length fron
     = front ++ (128 + rest % 128) ∷ [] in
     (m : ℕ) × (length next + m ≡ 4) × IsShort (suc m) (rest / 128)
     × (next ++ leb128 (suc m) (rest / 128) ≡ front ++ leb128 (suc more) rest)
-followed rest zero front large count short = absurd (omega (arith, large, short))
+followed rest zero front large count short = absurd (omega arith)
 followed rest (suc m) front large count short = (m, grind (arith, length-append), short, grind (arith, append_assoc))
 
 pub loop-rest-init : goal.loop-rest-init

@@ -18,19 +18,15 @@ pub returns-in_err-send_parts-clause-written : goal.returns-in_err-send_parts-cl
 returns-in_err-send_parts-clause-written g c =
     let whole : c.as_flattened.result.now ++ (c.as_flattened-in-loop-message.result.now ++ [])
     ≡ record_bytes (get_or c.args.messages.now c.loop-message.message-index none) = grind (arith, common_steps) in
-    signing-stop c.from_residual.result _ _
-    (record_bytes (get_or c.args.messages.now c.loop-message.message-index none)) _ c.from_residual.ensures.0
-    c.loop-message.invariant.0
-    (bytes-from record_bytes c.args.messages.now c.loop-message.message-index none c.loop-message-test.true)
+    signing-stop _ _ _ (record_bytes (get_or c.args.messages.now c.loop-message.message-index none)) _
+    c.from_residual.ensures.0 c.loop-message.invariant.0 (bytes-from record_bytes _ _ none c.loop-message-test.true)
     (rw whole at c.in_err-send_parts.ensures.written)
 
 pub loop-message-preserved : goal.loop-message-preserved
 loop-message-preserved g c =
     let whole : c.as_flattened.result.now ++ (c.as_flattened-in-loop-message.result.now ++ [])
     ≡ record_bytes (get_or c.args.messages.now c.loop-message.message-index none) = grind (arith, common_steps) in (
-      signing-next (record_bytes (get_or c.args.messages.now c.loop-message.message-index none)) _
-          c.loop-message.invariant.0
-          (bytes-from record_bytes c.args.messages.now c.loop-message.message-index none c.loop-message-test.true)
+      signing-next _ _ c.loop-message.invariant.0 (bytes-from record_bytes _ _ none c.loop-message-test.true)
           (rw whole at c.in_ok-send_parts.ensures.written),
       c.in_ok-send_parts.ensures.count ∙ c.loop-message.invariant.1,
     )

@@ -14,5 +14,4 @@ pub returns-clause-value : goal.returns-clause-value
 returns-clause-value c = grind (arith, after_value, version_number)
 
 pub returns-clause-spelled : goal.returns-clause-spelled
-returns-clause-spelled c = after_some (version_number c.args.version) c.args.count c.args.section.now
-    c.split_at-3.result.1.now c.requires.some c.requires.spelled (returns-clause-value c)
+returns-clause-spelled c = after_some _ _ _ _ c.requires.some c.requires.spelled (returns-clause-value c)

@@ -13,7 +13,7 @@ returns-in_default c = unnamed_has_none _ _ _ _ _ c.u32_at-size.ensures c.split_
 pub returns-then-not-is_path : goal.returns-then-not-is_path
 returns-then-not-is_path c = unnamed_has_none _ _ _ _ _ c.u32_at-size.ensures c.split_at.ensures.back
     (c.in-Ok.ensures.cases.0 ∙ c.split_at-2.ensures.front)
-    (λ p. let g : false ≡ true = sym c.if-not-is_path.true ∙ c.is_path.ensures.1 p in cc)
+    (λ p. let g = sym c.if-not-is_path.true ∙ c.is_path.ensures.1 p in cc)
 
 pub returns-in_err-digest : goal.returns-in_err-digest
 returns-in_err-digest c = rw c.from_residual.ensures

@@ -4,8 +4,7 @@ use Rattle.mail_index.proofs.view.archive.split_digest.Goals as goal
 
 pub returns-in_err-digest-in-Two : goal.returns-in_err-digest-in-Two
 returns-in_err-digest-in-Two c = rw c.from_residual.ensures
-    (cut_digest c.args.version c.args.bytes.now c.in-Two.is c.in_err-digest-in-Two.ensures.cases)
+    (cut_digest _ _ c.in-Two.is c.in_err-digest-in-Two.ensures.cases)
 
 pub returns-in_ok-digest-in-Two : goal.returns-in_ok-digest-in-Two
-returns-in_ok-digest-in-Two c = whole_digest c.args.version c.args.bytes.now c.in_ok-digest-in-Two.digest.now
-    c.in_ok-digest-in-Two.after.now c.in-Two.is c.in_ok-digest-in-Two.ensures.cases
+returns-in_ok-digest-in-Two c = whole_digest _ _ _ _ c.in-Two.is c.in_ok-digest-in-Two.ensures.cases

@@ -4,10 +4,9 @@ use Rattle.mail_index.proofs.FileLaws.LebLemmas.{IsShort-small, IsShort-last, Is
 use Rattle.mail_index.proofs.view.leb128.+split_leb128.Goals as goal
 
 pub returns-then-first-lt128-clause-short : goal.returns-then-first-lt128-clause-short
-returns-then-first-lt128-clause-short t c = IsShort-last c.args.most c.from.result c.if-most-eq0.false (omega arith)
+returns-then-first-lt128-clause-short t c = IsShort-last _ _ c.if-most-eq0.false (omega arith)
 
 pub returns-in-Some-clause-small : goal.returns-in-Some-clause-small
 returns-in-Some-clause-small t c =
     let bound : c.from-in-Some.result < 128 = omega arith in
-    IsShort-small c.args.most (c.from-in-Some.result + 128 * c.in-Some.high) c.requires
-    (IsShort-more c.args.most c.from-in-Some.result c.in-Some.high c.if-most-eq0.false bound c.in-Some.ensures.short)
+    IsShort-small _ _ c.requires (IsShort-more _ _ _ c.if-most-eq0.false bound c.in-Some.ensures.short)

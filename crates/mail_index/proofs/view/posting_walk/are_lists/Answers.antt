@@ -5,21 +5,16 @@ use Rattle.mail_index.proofs.view.posting_walk.are_lists.Goals as goal
 
 pub returns-then-not-are_postings : goal.returns-then-not-are_postings
 returns-then-not-are_postings c = (
-  λ h. absurd (let g : false ≡ true = h in cc),
-  λ q. absurd (lists_stop _ c.args.messages c.args.postings.now c.args.count c.loop-number.number c.loop-number.rest.now
-      c.part.result.now c.are_postings.result c.loop-number-test.true c.loop-number.invariant.same
-      (list_is c.part.result.now c.args.postings.now c.loop-number.rest.now c.split_at.result.1.now _ _ c.part.ensures
-      c.u64_at-place.ensures c.end_before-end.ensures c.split_at.ensures.back) c.are_postings.ensures
-      c.if-not-are_postings.true q),
+  λ h. absurd (let g = h in cc),
+  λ q. absurd (lists_stop _ _ _ _ _ _ _ _ c.loop-number-test.true c.loop-number.invariant.same
+      (list_is _ _ c.loop-number.rest.now _ _ _ c.part.ensures c.u64_at-place.ensures c.end_before-end.ensures
+      c.split_at.ensures.back) c.are_postings.ensures c.if-not-are_postings.true q),
 )
 
 pub loop-number-preserved : goal.loop-number-preserved
 loop-number-preserved c = record {
-  left = omega (arith, c.split_at.ensures.back_len, c.loop-number.invariant.left, c.loop-number-test.true);
-  same = lists_step _ c.args.messages c.args.postings.now c.args.count c.loop-number.number c.loop-number.rest.now
-      c.split_at.result.1.now c.part.result.now c.are_postings.result c.loop-number-test.true
-      c.loop-number.invariant.same
-      c.split_at.ensures.back (list_is c.part.result.now c.args.postings.now c.loop-number.rest.now
-      c.split_at.result.1.now _ _ c.part.ensures c.u64_at-place.ensures c.end_before-end.ensures
+  left = omega arith;
+  same = lists_step _ _ _ _ _ _ _ _ _ c.loop-number-test.true c.loop-number.invariant.same c.split_at.ensures.back
+      (list_is _ _ c.loop-number.rest.now _ _ _ c.part.ensures c.u64_at-place.ensures c.end_before-end.ensures
       c.split_at.ensures.back) c.are_postings.ensures c.if-not-are_postings.false;
 }

@@ -7,8 +7,8 @@ use Rattle.mail_index.proofs.view.short_differences.after_load.Goals as goal
 pub overflow_sub-result : goal.overflow_sub-result
 overflow_sub-result c =
     let bytes = c.args.bytes.now in
-    let long : 16 ≤ length bytes = omega (arith, c.if-bytes-lt-LANES.false) in
-    let fits = below_from_Fits w8 _ (chunk-fits w8 0 16 bytes c.type_inv.bytes) in
+    let long : 16 ≤ length bytes = omega arith in
+    let fits = below_from_Fits w8 _ (chunk-fits _ 0 16 _ c.type_inv.bytes) in
     omega (arith, load_enough bytes long fits c.in_ok-sum.ensures.sum.0, c.in_ok-sum.ensures.sum.1)
 
 pub returns-clause-small : goal.returns-clause-small
@@ -17,7 +17,7 @@ returns-clause-small c = omega (arith, c.in_ok-sum.ensures.small)
 pub returns-clause-passed : goal.returns-clause-passed
 returns-clause-passed c =
     let bytes = c.args.bytes.now in
-    let long : 16 ≤ length bytes = omega (arith, c.if-bytes-lt-LANES.false) in
-    let fits = below_from_Fits w8 _ (chunk-fits w8 0 16 bytes c.type_inv.bytes) in
+    let long : 16 ≤ length bytes = omega arith in
+    let fits = below_from_Fits w8 _ (chunk-fits _ 0 16 _ c.type_inv.bytes) in
     load_passed bytes long fits c.in_ok-sum.ensures.sum.0 _ _ (cc (c.in_ok-sum.ensures.sum.1))
     (cc (c.split_at.ensures.back))

@@ -5,8 +5,8 @@ use Rattle.mail_index.proofs.view.short_differences.after_short_differences.Goal
 
 pub loop-after-preserved : goal.loop-after-preserved
 loop-after-preserved c =
-    let step = posted-passed c.args.count (omega (arith, c.ranges.count.fits)) c.loop-after.low c.in-Some.sum
-    c.loop-after.rest.now c.in-Some.after.now c.in-Some.ensures.passed (omega arith) in
+    let step = posted-passed c.args.count (omega arith) c.loop-after.low c.in-Some.sum c.loop-after.rest.now
+    c.in-Some.after.now c.in-Some.ensures.passed (omega arith) in
     record {
       within = omega arith;
       same = (

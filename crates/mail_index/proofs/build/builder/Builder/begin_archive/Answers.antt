@@ -1,20 +1,18 @@
 -- `Builder::begin_archive` keeps a draft valid, and the new archive has no message, because all belong to earlier
 -- archives.
-use Rattle.mail_index.proofs.Words.{◌≡◌, None, false, string_bytes, sym, subst, rules, arith, common_steps, IsPath, Draft}
+use Rattle.mail_index.proofs.Words.{◌≡◌, None, false, rules, arith, common_steps}
 use Rattle.mail_index.specs.Inside.Drafts.{draft_of_fields}
 use Rattle.mail_index.proofs.BuildLaws.Placing.{archive-opened, none-of-next}
 use Rattle.mail_index.proofs.build.builder.Builder.begin_archive.Goals as goal
 
 pub invariant_of-self : goal.invariant_of-self
 invariant_of-self c =
-    let d : Draft = draft_of_fields c.self.inside.most c.self.inside.path c.self.inside.in_message
-    c.self.inside.archives.items
+    let d = draft_of_fields c.self.inside.most c.self.inside.path c.self.inside.in_message c.self.inside.archives.items
     c.self.inside.records.items c.self.inside.keys.keys c.self.inside.failed in
     let kept : d.failed ≡ false = grind arith in
     let closed : d.path ≡ None = grind arith in (
-      archive-opened d (string_bytes c.in-Ok.path) c.self.invariant.0 kept closed
-          (first_of (search rules, grind (arith, common_steps)))
-          (subst IsPath (sym c.in-Ok.ensures.ok) (c.requires.path (grind arith))),
+      archive-opened d _ c.self.invariant.0 kept closed (first_of (search rules, grind (arith, common_steps)))
+          (rw c.in-Ok.ensures.ok (c.requires.path (grind arith))),
       λ none. absurd cc,
     )
 

@@ -10,16 +10,13 @@ returns-in_err-flush-clause-written g c = grind (arith, writes-failed, sends-lon
 pub returns-in_err-send-clause-written : goal.returns-in_err-send-clause-written
 returns-in_err-send-clause-written g c =
     let all : List ℕ = c.args.self.now.pending ++ c.args.bytes.now in
-    let parts : all ≡ c.args.self.now.pending ++ (c.args.bytes.now ++ []) =
-    ap (λ (l : List ℕ). c.args.self.now.pending ++ l) (sym (append-nil c.args.bytes.now)) in
-    writes-failed c.from_residual-in_err-send.result _ _ _ _ _ c.from_residual-in_err-send.ensures.0
-    (sends_more (g.O.Out.taken c.args.out.now) (g.O.Out.taken c.flush.new.out) (g.O.Out.taken c.send.new.out) all
-    c.args.self.now.pending c.args.bytes.now [] parts c.in_ok-flush.ensures.ok c.in_err-send.ensures.err)
+    let parts = ap (λ (l : List ℕ). c.args.self.now.pending ++ l) (sym (append-nil _)) in
+    writes-failed _ _ _ _ _ _ c.from_residual-in_err-send.ensures.0
+    (sends_more _ _ _ _ _ _ _ parts c.in_ok-flush.ensures.ok c.in_err-send.ensures.err)
 
 pub returns-clause-written : goal.returns-clause-written
-returns-clause-written g c =
-    signs-join [] c.args.bytes.now (signs-flushed c.in_ok-flush.ensures.ok c.in_ok-flush.ensures.seal
-    c.in_ok-flush.ensures.all)
+returns-clause-written g c = signs-join _ _
+    (signs-flushed c.in_ok-flush.ensures.ok c.in_ok-flush.ensures.seal c.in_ok-flush.ensures.all)
     (signs-at-once c.in_ok-flush.ensures.all c.in_ok-send.ensures.ok c.update.ensures c.in_ok-flush.ensures.all)
 
 pub returns-then-bytes-le-ROOM-clause-written : goal.returns-then-bytes-le-ROOM-clause-written

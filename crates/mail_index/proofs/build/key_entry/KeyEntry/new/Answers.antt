@@ -5,12 +5,9 @@ use Rattle.mail_index.proofs.build.key_entry.KeyEntry.new.Goals as goal
 
 pub invariant_of-result : goal.invariant_of-result
 invariant_of-result c = (
-  entry-new c.args.kind c.args.text.now c.in_ok-front.front c.in_ok-front.bytes.items c.leb128_of.result
-      c.args.number c.in_ok-front.ensures c.leb128_of.ensures.bytes (omega arith),
+  entry-new _ _ _ _ _ _ c.in_ok-front.ensures c.leb128_of.ensures.bytes (omega arith),
   c.in_ok-front.ensures.long,
 )
 
 pub returns : goal.returns
-returns c =
-    key-new c.args.kind c.args.text.now c.in_ok-front.front c.in_ok-front.bytes.items c.leb128_of.result c.args.number
-    c.in_ok-front.ensures c.leb128_of.ensures.bytes (omega arith)
+returns c = key-new _ _ _ _ _ _ c.in_ok-front.ensures c.leb128_of.ensures.bytes (omega arith)

@@ -1,5 +1,5 @@
 -- `KeyEntry::postings` returns the bytes after the front, wherever the front is kept.
-use Rattle.mail_index.proofs.Words.{◌≡◌, ◌∙◌, ℕ, List, ◌+◌, ◌++◌, length, drop, ap, sym, arith, length-append, Key, postings}
+use Rattle.mail_index.proofs.Words.{◌≡◌, ◌∙◌, ℕ, ◌+◌, ◌++◌, length, ap, sym, arith, length-append, Key, postings}
 use Rattle.mail_index.specs.Inside.KeyMaps.{key_bytes}
 use Rattle.mail_index.proofs.BuildLaws.EntryLemmas.{after-short, after-long}
 use Rattle.mail_index.proofs.build.key_entry.KeyEntry.postings.Goals as goal
@@ -11,11 +11,9 @@ returns-clause-bytes c = grind (arith, then-length-lt-SHORT, after-short, else-l
 pub returns-clause-small : goal.returns-clause-small
 returns-clause-small c =
     let front : ℕ = c.self.inside.text_length + 1 in
-    let whole : List ℕ = key_bytes c.self.inside.front front c.self.inside.bytes.items c.self.inside.recent in
-    let told : postings c.args.self.now.numbers ≡ drop front whole =
-    ap (λ (k : Key). postings k.numbers) (sym c.self.view_is) ∙ c.self.invariant.0.posted.spelled in
-    let long : length (c.if-length-lt-SHORT.older.now ++ c.as_slice.result.now) ≡ length (drop front whole) =
-    ap length (returns-clause-bytes c ∙ told) in
+    let whole = key_bytes c.self.inside.front front c.self.inside.bytes.items c.self.inside.recent in
+    let told = ap (λ (k : Key). postings k.numbers) (sym c.self.view_is) ∙ c.self.invariant.0.posted.spelled in
+    let long = ap length (returns-clause-bytes c ∙ told) in
     omega (
       arith,
       long,

@@ -8,15 +8,11 @@ pub put_all_in_order-requires-clause-fits : goal.put_all_in_order-requires-claus
 put_all_in_order-requires-clause-fits c = grind (arith, length-in_key_order)
 
 pub invariant_of-self : goal.invariant_of-self
-invariant_of-self c = map-ordered c.self.inside.entries.items c.as_slice.result.now c.self.inside.table
-    c.self.inside.order c.put_all_in_order.new.order c.self.inside.sorted c.as_slice.ensures.value c.self.invariant
-    c.put_all_in_order.ensures.step c.put_all_in_order.ensures.part
+invariant_of-self c = map-ordered _ _ _ _ _ _ c.as_slice.ensures.value c.self.invariant c.put_all_in_order.ensures.step
+    c.put_all_in_order.ensures.part
 
 pub invariant_of-self-2 : goal.invariant_of-self-2
 invariant_of-self-2 c =
     let count : c.len-self-inside.result ≡ length c.self.inside.entries.items = grind arith in
-    map-sorted c.self.inside.entries.items c.as_slice.result.now c.self.inside.table
-    c.self.inside.order c.put_all_in_order.new.order c.self.inside.sorted c.len-self-inside.result
-    c.as_slice.ensures.value
-    count c.self.invariant c.put_all_in_order.ensures.step c.put_all_in_order.ensures.part
-    c.in_ok-put_all_in_order.ensures.all
+    map-sorted _ _ _ _ _ _ _ c.as_slice.ensures.value count c.self.invariant c.put_all_in_order.ensures.step
+    c.put_all_in_order.ensures.part c.in_ok-put_all_in_order.ensures.all

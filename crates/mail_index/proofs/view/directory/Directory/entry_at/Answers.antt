@@ -7,13 +7,7 @@ pub split_at-requires : goal.split_at-requires
 split_at-requires c = grind (arith, number-below)
 
 pub invariant_of-result : goal.invariant_of-result
-invariant_of-result c =
-    (rest-at c.self.inside.texts.now c.self.inside.postings.now c.self.inside.count c.self.inside.entries.now
-    c.args.self.now c.args.number c.split_at.result.1.now
-    c.self.invariant c.self.view_is c.requires c.split_at.ensures.back).front
+invariant_of-result c = (rest-at _ _ _ _ _ _ _ c.self.invariant c.self.view_is c.requires c.split_at.ensures.back).front
 
 pub returns : goal.returns
-returns c =
-    sym (rest-at c.self.inside.texts.now c.self.inside.postings.now c.self.inside.count c.self.inside.entries.now
-    c.args.self.now c.args.number c.split_at.result.1.now
-    c.self.invariant c.self.view_is c.requires c.split_at.ensures.back).key
+returns c = sym (rest-at _ _ _ _ _ _ _ c.self.invariant c.self.view_is c.requires c.split_at.ensures.back).key

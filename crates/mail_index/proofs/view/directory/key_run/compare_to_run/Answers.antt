@@ -9,15 +9,13 @@ front-is own text front n e e2 = grind (arith, common_steps)
 pub returns : goal.returns
 unfolding read_entry
 returns c =
-    let text : List ℕ = c.args.text.now in
-    let key : Key = key_at c.args.directory.now c.args.number in
-    let is : c.entry_at-entry.result ≡ key = c.entry_at-entry.ensures in
-    let kind : byte_at c.entry.inside.entries.now 0 ≡ kind_number key.kind = sym c.entry.invariant.kind
-    ∙ ap (λ (k : Key). kind_number k.kind) (c.entry.view_is ∙ is) in
+    let text = c.args.text.now in
+    let key = key_at c.args.directory.now c.args.number in
+    let is = c.entry_at-entry.ensures in
+    let kind = sym c.entry.invariant.kind ∙ ap (λ (k : Key). kind_number k.kind) (c.entry.view_is ∙ is) in
     let read : c.compare_keys.result ≡ key_cmp (byte_at c.entry.inside.entries.now 0) c.split_at.result.0.now
     (kind_number c.args.kind) text = search rules in
-    let front : c.split_at.result.0.now ≡ take (length text) c.text-own.result.now =
-    front-is c.text-own.result.now text _ _ c.min.ensures c.split_at.ensures.front in
+    let front = front-is _ _ _ _ c.min.ensures c.split_at.ensures.front in
     read ∙ ap (λ (own : List ℕ). key_cmp (byte_at c.entry.inside.entries.now 0) own (kind_number c.args.kind) text)
     front ∙ ap₂ (λ (k : ℕ) (own : List ℕ). key_cmp k (take (length text) own) (kind_number c.args.kind) text) kind
     (c.text-own.ensures ∙ ap (λ (k : Key). k.text) is)

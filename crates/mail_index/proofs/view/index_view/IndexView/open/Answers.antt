@@ -1,6 +1,6 @@
 -- `IndexView::open` accepts exactly the files of tables, because each walk refuses only what no table has.
 use Rattle.std.proofs.Common.{arith}
-use Rattle.mail_index.proofs.Words.{◌≡◌, true, false, sym, ◌∙◌, Fits-lt-pow, table_of}
+use Rattle.mail_index.proofs.Words.{◌≡◌, true, false, sym, ◌∙◌, Fits-lt-pow}
 use Rattle.mail_index.proofs.FileLaws.SameTable.{same-table}
 use Rattle.mail_index.proofs.FileLaws.FileLemmas.{these_archives, has_archives, has_records, these_records}
 use Rattle.mail_index.specs.declared.view.fault.IndexFault.TheVariants.{BadLayout}
@@ -19,8 +19,7 @@ returns-then-not-are_records-clause-fault c =
     let a = c.are_archives.ensures.0 c.if-not-are_archives.false in (
       _,
       has_archives _ _ f a,
-      λ ms h. let g : false ≡ true = sym c.if-not-are_records.true
-          ∙ c.are_records.ensures.1 (these_records _ _ f a ms h) in cc,
+      λ ms h. let g = sym c.if-not-are_records.true ∙ c.are_records.ensures.1 (these_records _ _ f a _ h) in cc,
     )
 
 pub returns-then-not-has_entries-clause-fault : goal.returns-then-not-has_entries-clause-fault
@@ -32,8 +31,7 @@ returns-then-not-has_entries-clause-fault c =
       _,
       _,
       has_records _ _ f a r,
-      λ es h. let g : false ≡ true = sym c.if-not-has_entries.true
-          ∙ c.has_entries.ensures.1 (these_entries _ _ f es h) in cc,
+      λ es h. let g = sym c.if-not-has_entries.true ∙ c.has_entries.ensures.1 (these_entries _ _ f _ h) in cc,
     )
 
 pub returns-then-not-has_lists-clause-fault : goal.returns-then-not-has_lists-clause-fault
@@ -47,8 +45,7 @@ returns-then-not-has_lists-clause-fault c =
       _,
       _,
       has_directory _ _ f (record { archives = a; records = r }) d,
-      λ ks h. let g : false ≡ true =
-          sym c.if-not-has_lists.true ∙ c.has_lists.ensures.1 (these_lists _ _ f ks h) in cc,
+      λ ks h. let g = sym c.if-not-has_lists.true ∙ c.has_lists.ensures.1 (these_lists _ _ f _ h) in cc,
     )
 
 pub returns-clause-ok : goal.returns-clause-ok
@@ -57,37 +54,30 @@ returns-clause-ok c = grind (arith, laid_out, Fits-lt-pow, is_file, has_postings
 -- ---- bytes with a fault are the file of no table
 
 pub returns-in_err-version-clause-accepts : goal.returns-in_err-version-clause-accepts
-returns-in_err-version-clause-accepts c t f =
-    absurd (no_fault c.args.bytes.now t c.well_formed.0.0 f c.in_err-version.field-0.0 c.in_err-version.ensures)
+returns-in_err-version-clause-accepts c t f = absurd (no_fault _ t c.well_formed.0.0 f _ c.in_err-version.ensures)
 
 pub returns-in_default-clause-accepts : goal.returns-in_default-clause-accepts
 returns-in_default-clause-accepts c t f =
-    absurd (no_fault c.args.bytes.now t c.well_formed.0.0 f (BadLayout Counts)
-    (c.in_ok-version.ensures.0, c.in_default.ensures))
+    absurd (no_fault _ t c.well_formed.0.0 f (BadLayout Counts) (c.in_ok-version.ensures.0, c.in_default.ensures))
 
 pub returns-then-not-are_archives-clause-accepts : goal.returns-then-not-are_archives-clause-accepts
 returns-then-not-are_archives-clause-accepts c t f =
-    absurd (no_fault c.args.bytes.now t c.well_formed.0.0 f (BadLayout Archives)
-    (returns-then-not-are_archives-clause-fault c))
+    absurd (no_fault _ t c.well_formed.0.0 f (BadLayout Archives) (returns-then-not-are_archives-clause-fault c))
 
 pub returns-then-not-are_records-clause-accepts : goal.returns-then-not-are_records-clause-accepts
 returns-then-not-are_records-clause-accepts c t f =
-    absurd (no_fault c.args.bytes.now t c.well_formed.0.0 f (BadLayout Records)
-    (returns-then-not-are_records-clause-fault c))
+    absurd (no_fault _ t c.well_formed.0.0 f (BadLayout Records) (returns-then-not-are_records-clause-fault c))
 
 pub returns-then-not-has_entries-clause-accepts : goal.returns-then-not-has_entries-clause-accepts
 returns-then-not-has_entries-clause-accepts c t f =
-    absurd (no_fault c.args.bytes.now t c.well_formed.0.0 f (BadLayout Directory)
-    (returns-then-not-has_entries-clause-fault c))
+    absurd (no_fault _ t c.well_formed.0.0 f (BadLayout Directory) (returns-then-not-has_entries-clause-fault c))
 
 pub returns-then-not-has_lists-clause-accepts : goal.returns-then-not-has_lists-clause-accepts
 returns-then-not-has_lists-clause-accepts c t f =
-    absurd (no_fault c.args.bytes.now t c.well_formed.0.0 f (BadLayout Postings)
-    (returns-then-not-has_lists-clause-fault c))
+    absurd (no_fault _ t c.well_formed.0.0 f (BadLayout Postings) (returns-then-not-has_lists-clause-fault c))
 
 pub returns-clause-same : goal.returns-clause-same
-returns-clause-same c t f = same-table c.args.bytes.now t (table_of c.in-Some.layout) c.well_formed.0.0 f
-    (returns-clause-ok c)
+returns-clause-same c t f = same-table _ t _ c.well_formed.0.0 f (returns-clause-ok c)
 
 pub invariant_of-result : goal.invariant_of-result
 invariant_of-result c =

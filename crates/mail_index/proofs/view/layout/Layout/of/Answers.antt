@@ -6,13 +6,13 @@ pub returns : goal.returns
 returns c =
     let bytes = c.args.bytes.now in
     let low : c.saturating_add-digest.result < 2 ^ 64 - 1 = grind arith in
-    let records : c.saturating_add-records.result ≡ records_start bytes = grind (arith, low) in
-    let directory : c.saturating_add-directory.result ≡ directory_start bytes = grind (arith, low, records) in
-    let texts : c.saturating_add-texts.result ≡ texts_start bytes = grind (arith, low, directory) in
-    let postings : c.saturating_add-postings.result ≡ postings_start bytes = grind (arith, low, texts) in
-    let digest : c.saturating_add-digest.result ≡ digest_start bytes = grind (arith, low, postings) in
+    let records : c.saturating_add-records.result ≡ records_start bytes = grind arith in
+    let directory : c.saturating_add-directory.result ≡ directory_start bytes = grind arith in
+    let texts : c.saturating_add-texts.result ≡ texts_start bytes = grind arith in
+    let postings : c.saturating_add-postings.result ≡ postings_start bytes = grind arith in
+    let digest : c.saturating_add-digest.result ≡ digest_start bytes = grind arith in
     record {
-      adds_up = first_of (search (rules, digest), grind (arith, common_steps, digest));
+      adds_up = first_of (search (rules, digest), grind (arith, common_steps));
       few = first_of (search rules, grind (arith, common_steps));
       version = c.requires.version;
       archive_count = c.u32_at.ensures;

@@ -37,7 +37,7 @@ pub overflow_cast-result : goal.overflow_cast-result
 overflow_cast-result c =
     let f = front c.self.inside.low c.in_ok-difference.difference c.self.inside.bytes.now c.in_ok-difference.after.now
     c.in_ok-difference.ensures.short c.in_ok-difference.ensures.some c.self.invariant in
-    omega (arith, f.some, f.below)
+    omega arith
 
 pub invariant_of-self : goal.invariant_of-self
 invariant_of-self c =
@@ -49,9 +49,7 @@ returns c = grind (arith, numbers)
 
 pub returns-in_err-difference : goal.returns-in_err-difference
 returns-in_err-difference c =
-    let nothing : numbers_read c.self.inside.low c.self.inside.bytes.now ≡ [] =
-    posted-none (2 ^ 32) c.self.inside.low c.self.inside.bytes.now
-    (numbers_read c.self.inside.low c.self.inside.bytes.now) (shown_split c.split_difference.result) (omega arith)
-    c.split_difference.ensures.only (ap shown_split c.in_err-difference.was) c.self.invariant in
-    let empty : c.args.self.now ≡ [] = sym c.self.view_is ∙ nothing in
+    let nothing = posted-none _ _ _ _ _ (omega arith) c.split_difference.ensures.only
+    (ap shown_split c.in_err-difference.was) c.self.invariant in
+    let empty = sym c.self.view_is ∙ nothing in
     rw c.from_residual.ensures (empty, empty, refl)

@@ -10,19 +10,18 @@ loop-number-init c = grind (arith, add_steps-none, add_steps)
 pub loop-number-preserved : goal.loop-number-preserved
 loop-number-preserved c =
     let sofar = c.loop-number.invariant.split in
-    let rest : List ℕ = c.next.new.self in
-    let n : ℕ = c.in-Some.number in
-    let all : c.args.self.now ≡ (sofar.0 ++ n ∷ []) ++ rest = sofar.2
-    ∙ ap (λ (l : List ℕ). sofar.0 ++ l) c.in-Some.ensures.0 ∙ sym (append_assoc sofar.0 (n ∷ []) rest) in
+    let rest = c.next.new.self in
+    let n = c.in-Some.number in
+    let all = sofar.2 ∙ ap (λ (l : List ℕ). sofar.0 ++ l) c.in-Some.ensures.0 ∙ sym (append_assoc sofar.0 (n ∷ []) rest)
+    in
     let count : suc (length c.args.self.now - length c.loop-number.self) ≡ length c.args.self.now - length rest =
     omega (arith, ap length sofar.2, ap length c.in-Some.ensures.0, length-append sofar.0 c.loop-number.self) in
     record {
       split = (
         sofar.0 ++ n ∷ [],
-        all-snoc (λ m. m < c.args.n) sofar.0 n sofar.1 (omega (arith, c.if-number-n.false)),
+        all-snoc _ _ n sofar.1 (omega arith),
         all,
       );
-      steps = c.in-Some.ensures.1 ∙ ap (λ (s : ℕ). add_steps s 1) c.loop-number.invariant.steps
-          ∙ add_steps-one c.args.steps.now (length c.args.self.now - length c.loop-number.self)
+      steps = c.in-Some.ensures.1 ∙ ap (λ (s : ℕ). add_steps s 1) c.loop-number.invariant.steps ∙ add_steps-one _ _
           ∙ ap (add_steps c.args.steps.now) count;
     }

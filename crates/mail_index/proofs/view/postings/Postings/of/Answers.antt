@@ -7,4 +7,4 @@ pub invariant_of-result : goal.invariant_of-result
 invariant_of-result c = grind (arith, read-posted)
 
 pub returns : goal.returns
-returns c = λ ns h. read-posted 0 c.args.bytes.now ns h
+returns c = λ ns h. read-posted 0 _ _ h

@@ -5,10 +5,9 @@ use Rattle.mail_index.proofs.view.directory.compared_keys.ComparedKeys.compare.G
 pub returns-clause-order : goal.returns-clause-order
 unfolding read_entry
 returns-clause-order c =
-    let key : Key = key_at c.args.self.now.directory c.args.number in
-    let is : c.entry_at-entry.result ≡ key = c.entry_at-entry.ensures in
-    let kind : byte_at c.entry.inside.entries.now 0 ≡ kind_number key.kind = sym c.entry.invariant.kind
-    ∙ ap (λ (k : Key). kind_number k.kind) (c.entry.view_is ∙ is) in
+    let key = key_at c.args.self.now.directory c.args.number in
+    let is = c.entry_at-entry.ensures in
+    let kind = sym c.entry.invariant.kind ∙ ap (λ (k : Key). kind_number k.kind) (c.entry.view_is ∙ is) in
     let read : c.compare_keys.result ≡ key_cmp (byte_at c.entry.inside.entries.now 0) c.text.result.now
     (kind_number c.args.kind) c.args.text.now = search rules in
     read ∙ ap₂ (λ (k : ℕ) (own : List ℕ). key_cmp k own (kind_number c.args.kind) c.args.text.now) kind
