@@ -2,7 +2,7 @@
 pub use Rattle.contract_words.proofs.Sending.{appends-nil, appends_join}
 pub use Rattle.contract_words.specs.Archives.{IsReadFromArchive, archive_at}
 pub use Rattle.contract_words.specs.Knowledge.{WasKnown}
-pub use Rattle.header_text.specs.Headers.{HeaderField, fields_in, lines_before_empty, lines_within, most_in_header}
+pub use Rattle.header_text.specs.Headers.{HeaderField, lines_before_empty}
 unfoldable pub use Rattle.header_text.specs.Headers.{fields_of}
 pub use Rattle.mail_answer.specs.Answers.{SendsKnown, SendsSpans}
 pub use Rattle.mail_answer.specs.Asked.{Agree, HoldsArchives, TellLengths, indexed_lengths}
@@ -16,7 +16,7 @@ unfoldable pub use Rattle.mail_answer.specs.Excerpts.{excerpt}
 pub use Rattle.mail_answer.specs.Inside.Calls.{KeepsArchives}
 pub use Rattle.mail_answer.specs.Inside.CursorLists.{AreNumbers, is_before, numbers_ahead, truths_among}
 pub use Rattle.mail_answer.specs.Inside.CursorMarks.{AreFew, HaveMarks, IsFirstMark, marked_or_listed, those_from, marks_in, truths_marked}
-pub use Rattle.mail_answer.specs.Inside.CursorScans.{IsFound, Scans, is_ahead, satisfies, truths_scanned}
+pub use Rattle.mail_answer.specs.Inside.CursorScans.{IsFound, Scans, satisfies, truths_scanned}
 pub use Rattle.mail_answer.specs.Inside.CursorTexts.{HaveNumbers, any_text, compared_by, looked_up_by, numbers_fitting, numbers_passing, some_has, some_of_kinds}
 pub use Rattle.mail_answer.specs.Inside.Digests.{AbsorbsPart, ReadsDigest, front_digest}
 pub use Rattle.mail_answer.specs.Inside.Endings.{ending_of_bytes, ending_of_line, feeds_of, line_of, with_byte}
@@ -46,7 +46,7 @@ pub use Rattle.mail_answer.specs.declared.output.ending.Ending.TheVariants.{Empt
 pub use Rattle.mail_answer.specs.declared.output.sheet.Sheet.{Sheet}
 pub use Rattle.mail_index.proofs.ViewLaws.RunLemmas.{bytes_turned}
 pub use Rattle.mail_index.specs.Layouts.{archive_of}
-pub use Rattle.mail_index.specs.LookUps.{AreSorted, TakesDigits, is_key, keys_beginning, keys_of, lies_to, numbers_at, text_and_numbers}
+pub use Rattle.mail_index.specs.LookUps.{AreSorted, TakesDigits, is_key, keys_beginning, keys_of, numbers_at, text_and_numbers}
 pub use Rattle.mail_index.specs.Steps.{add_steps}
 pub use Rattle.mail_index.specs.Tables.{AllNext, Archive, IsArchive, IsKey, IsMessage, IsWellFormed, Key, KeyBefore, RisesFrom, Table, archive_length}
 pub use Rattle.mail_index.specs.Versions.{newest}
@@ -64,9 +64,8 @@ pub use Rattle.mbox_cutter.proofs.LineLists.{lines-cons, lines-nil}
 pub use Rattle.mbox_cutter.specs.Archives.{Message, spans_of, grouped_lines, is_refused, marked_lines, messages_from, span_length, total}
 unfoldable pub use Rattle.mbox_cutter.specs.Archives.{messages}
 pub use Rattle.mbox_cutter.specs.LineReaders.{TakesFirstLine, known_bytes}
-pub use Rattle.mbox_cutter.specs.Lines.{AreCut, AreLines, IsLine, length_before_feed}
+pub use Rattle.mbox_cutter.specs.Lines.{AreCut, IsLine, length_before_feed}
 unfoldable pub use Rattle.mbox_cutter.specs.Lines.{first_length, is_empty, line_end_of, lines}
-pub use Rattle.mbox_cutter.specs.Separators.{has_time_then_year, separator_tokens}
 unfoldable pub use Rattle.mbox_cutter.specs.Separators.{has_form, is_separator, without_break}
 pub use Rattle.mbox_cutter.specs.declared.device.DeviceFault.{DeviceFault}
 pub use Rattle.sha2.specs.Sha256.{sha256}

@@ -1,5 +1,5 @@
 -- Archives whose lengths are read in order agree with the index, one archive after another.
-use Rattle.mail_answer.proofs.Words.{◌≡◌, ℕ, ◌+◌, ◌<◌, List, [], ◌∷◌, ◌++◌, map, length, length-take, take, take-add, drop, drop-cons, Option, IfSome, Ok, ap, sym, ◌∙◌, subst, arith, length-map, map-append, WasKnown, Archive, archive_at, TellLengths, indexed_lengths, Agree, Ghosts}
+use Rattle.mail_answer.proofs.Words.{◌≡◌, ℕ, ◌+◌, ◌<◌, List, [], ◌∷◌, ◌++◌, map, length, length-take, take, take-add, drop, drop-cons, Option, IfSome, Ok, ap, ◌∙◌, arith, length-map, map-append, WasKnown, Archive, archive_at, TellLengths, indexed_lengths, Agree, Ghosts}
 use Rattle.mail_answer.proofs.ArchiveLaws.KnowledgeLemmas.{some_later}
 
 -- the length of one more archive was read
@@ -7,18 +7,17 @@ tell_more : {A : Type 0} (g : Ghosts A) (n : ℕ) (lengths : List ℕ) (l : ℕ)
     → TellLengths g n lengths old before → g.measures before (n + length lengths) (Ok l) new
     → TellLengths g n (lengths ++ l ∷ []) old new
 tell_more {A} g n [] l old before new e m = grind arith
-tell_more {A} g n (k ∷ lengths) l old before new told m =
-    let after : n + length (k ∷ lengths) ≡ n + 1 + length lengths = omega arith in (
-      told.0,
-      told.1,
-      tell_more g (n + 1) lengths l told.0 before new told.2
-          (subst (λ (i : ℕ). g.measures before i (Ok l) new) after m),
-    )
+tell_more {A} g n (k ∷ lengths) l old before new told m = (
+  told.0,
+  told.1,
+  tell_more g (n + 1) lengths l _ _ _ told.2
+      (grind arith),
+)
 
 map_one_more : {X : Type 0} (f : X → ℕ) (xs : List X) (n : ℕ) (x : X) (rest : List X) → drop n xs ≡ x ∷ rest
     → map f (take (n + 1) xs) ≡ map f (take n xs) ++ f x ∷ []
 map_one_more {X} f xs n x rest e = ap (map f) (take-add n 1 xs ∙ ap (λ ys. take n xs ++ take 1 ys) e)
-    ∙ map-append f (take n xs) (x ∷ [])
+    ∙ map-append f _ _
 
 known_more : (held : Option (List (List ℕ))) (named : List Archive) (n number : ℕ) (a : Archive) (rest : List Archive)
     → n < number → drop n named ≡ a ∷ rest
@@ -26,7 +25,7 @@ known_more : (held : Option (List (List ℕ))) (named : List Archive) (n number 
     → IfSome held (λ archives. a.length ≡ length (archive_at archives n))
     → IfSome held (λ archives. map length (take n archives) ≡ indexed_lengths (take n named))
     → IfSome held (λ archives. map length (take (n + 1) archives) ≡ indexed_lengths (take (n + 1) named))
-known_more held named n number a rest h h2 h3 h4 h5 = grind (arith, map_one_more, drop-cons)
+known_more = grind (arith, map_one_more, drop-cons)
 
 -- one archive more agrees
 pub agree_more : {A : Type 0} (g : Ghosts A) (named : List Archive) (n number : ℕ) (a : Archive) (rest : List Archive)
@@ -36,15 +35,11 @@ pub agree_more : {A : Type 0} (g : Ghosts A) (named : List Archive) (n number : 
     → g.measures before n (Ok a.length) new → Agree g named n old before → Agree g named (n + 1) old new
 agree_more {A} g named n number a rest old before new h as_many e was count known measured so_far =
     let many : 0 + length (indexed_lengths (take n named)) ≡ n =
-    omega (arith, length-map (take n named) (λ (t : Archive). t.length), length-take n named, h, as_many) in
-    let next : g.measures before (0 + length (indexed_lengths (take n named))) (Ok a.length) new =
-    subst (λ (k : ℕ). g.measures before k (Ok a.length) new) (sym many) measured in
+    omega (arith, length-map (take n named) (λ t. t.length), length-take n named, h, as_many) in
     record {
-      told = subst (λ (lengths : List ℕ). TellLengths g 0 lengths old new)
-          (sym (map_one_more (λ (t : Archive). t.length) named n a rest e))
-          (tell_more g 0 (indexed_lengths (take n named)) a.length old before new so_far.told next);
-      known = known_more (g.held new) named n number a rest h e count known
-          (some_later (λ archives. map length (take n archives) ≡ indexed_lengths (take n named)) (g.held before)
-          (g.held new)
+      told = grind (arith, map_one_more, tell_more);
+      known = known_more _ _ n _ a _ h e count known
+          (some_later _ _
+          _
           was so_far.known);
     }

@@ -28,30 +28,29 @@ more_pieces {A} g n offset (p ∷ pieces) piece old before new so_far told =
     omega (arith, length-append p (concat pieces)) in (
       so_far.0,
       so_far.1,
-      more_pieces g n (offset + length p) pieces piece so_far.0 before new so_far.2
-          (subst (λ (k : ℕ). g.reads before n k (Ok piece) new) after told),
+      more_pieces g n (offset + length p) pieces _ _ _ _ so_far.2
+          (grind arith),
     )
 
 -- the bytes that were read before an offset
 front_at : (held : Option (List (List ℕ))) (archive at : ℕ) (bytes : List ℕ) → length bytes ≡ at
     → IfSome held (λ archives. bytes ≡ take (length bytes) (archive_at archives archive))
     → IfSome held (λ archives. bytes ≡ take at (archive_at archives archive))
-front_at held archive at bytes number known =
-    subst (λ (k : ℕ). IfSome held (λ archives. bytes ≡ take k (archive_at archives archive))) number known
+front_at held archive at bytes number known = grind arith
 
 pub more_absorbed : {A : Type 0} (g : Ghosts A) (archive at count : ℕ) (first before now : A) (h k : Sha256)
     → WasKnown (g.held before) (g.held now) → AbsorbedTo g archive at first before h
     → AbsorbsPart g archive at count (g.held now) before now h k → AbsorbedTo g archive (at + count) first now k
 more_absorbed {A} g archive at count first before now h k was so_far next =
-    let pieces : List (List ℕ) = so_far.read.pieces in
-    let more : List ℕ = next.bytes in
-    let bytes : List ℕ = so_far.bytes ++ more in
+    let pieces = so_far.read.pieces in
+    let more = next.bytes in
+    let bytes = so_far.bytes ++ more in
     let number : length bytes ≡ at + count = omega (arith, length-append so_far.bytes more, so_far.number, next.number)
     in
-    let known = some_later (λ archives. so_far.bytes ≡ take (length so_far.bytes) (archive_at archives archive))
-    (g.held before) (g.held now) was so_far.read.known in
-    let front_before = front_at (g.held now) archive at so_far.bytes so_far.number known in
-    let front = more_in_front (g.held now) archive at count so_far.bytes more next.number front_before next.read in
+    let known = some_later _
+    _ _ was so_far.read.known in
+    let front_before = front_at _ _ at so_far.bytes so_far.number known in
+    let front = more_in_front _ _ at count so_far.bytes more next.number front_before next.read in
     let place : at ≡ 0 + length (concat pieces) = omega (arith, so_far.number, ap length so_far.read.joined) in
     record {
       bytes = bytes;
@@ -60,9 +59,9 @@ more_absorbed {A} g archive at count first before now h k was so_far next =
       read = record {
         pieces = pieces ++ more ∷ [];
         joined = concat-append pieces (more ∷ []) ∙ ap₂ (λ xs ys. xs ++ ys) so_far.read.joined (append-nil more);
-        told = more_pieces g archive 0 pieces more first before now so_far.read.told
-            (subst (λ (o : ℕ). g.reads before archive o (Ok more) now) place next.told);
-        known = subst (λ (n : ℕ). IfSome (g.held now) (λ archives. bytes ≡ take n (archive_at archives archive)))
+        told = more_pieces g _ 0 _ _ _ _ _ so_far.read.told
+            (subst (λ o. g.reads before archive o (Ok more) now) place next.told);
+        known = subst (λ n. IfSome (g.held now) (λ archives. bytes ≡ take n (archive_at archives archive)))
             (sym number) front;
       };
     }
@@ -71,10 +70,9 @@ more_absorbed {A} g archive at count first before now h k was so_far next =
 pub all_read : {A : Type 0} (g : Ghosts A) (archive at indexed : ℕ) (first now : A) (h : Sha256) (digest : List ℕ)
     → AbsorbedTo g archive at first now h → at ≡ indexed
     → ((m : List ℕ) → Holds256 h m → digest ≡ sha256 m) → ReadsDigest g archive indexed first now (Some digest)
-all_read g archive at indexed first now h digest so_far end told =
-    (so_far.bytes, so_far.read, so_far.number ∙ end, told so_far.bytes so_far.holds)
+all_read g archive at indexed first now h digest so_far end told = grind arith
 
 -- an archive that is as long as it was indexed is read whole
 pub whole_digest : (bytes : List ℕ) (indexed : ℕ) → length bytes ≡ indexed → front_digest indexed bytes
     ≡ Some (sha256 bytes)
-whole_digest bytes indexed e = grind (arith, le-leb, take_all)
+whole_digest = grind (arith, le-leb, take_all)

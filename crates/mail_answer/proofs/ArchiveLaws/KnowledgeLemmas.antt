@@ -8,7 +8,7 @@ known_later {X} P old None was nothing holds = nothing
 known_later {X} P old (Some x) was nothing holds = subst P was holds
 
 pub some_later : {X : Type 0} (P : X → Type 0) (old new : Option X) → WasKnown old new → IfSome old P → IfSome new P
-some_later {X} P old new was holds = known_later (λ known. IfSome known P) old new was tt holds
+some_later {X} P old new was holds = known_later (λ known. IfSome known P) _ _ was tt holds
 
 pub was_known_self : {X : Type 0} (known : Option X) → WasKnown known known
 was_known_self None = tt
@@ -22,7 +22,7 @@ pub inside_later : (old new : Option (List (List ℕ))) (number : ℕ) (r : Read
     → IsInsideArchive number old r → IsInsideArchive number new r
 inside_later old new number r was inside =
     let unknown : IsInsideArchive number None r = record { exists = inside.exists; fits = inside.fits; within = tt } in
-    known_later (λ held. IsInsideArchive number held r) old new was unknown inside
+    known_later (λ held. IsInsideArchive number held r) _ _ was unknown inside
 
 -- what was copied of a part and what comes are still the whole part
 pub copied_later : (old new : Option (List (List ℕ))) (whole part : Reading) (text : List ℕ) → WasKnown old new
@@ -30,7 +30,7 @@ pub copied_later : (old new : Option (List (List ℕ))) (whole part : Reading) (
     → bytes_left new whole ≡ option_map (λ bytes. text ++ bytes) (bytes_left new part)
 copied_later old new whole part text was is =
     known_later (λ held. bytes_left held whole ≡ option_map (λ bytes. text ++ bytes) (bytes_left held part))
-    old new was refl is
+    _ _ was refl is
 
 -- what was added to an answer and what comes are still all of it
 pub answer_later : (format : Format) (t : Table) (old new : Option (List (List ℕ))) (all rest : List ℕ)
@@ -40,13 +40,13 @@ pub answer_later : (format : Format) (t : Table) (old new : Option (List (List �
 answer_later Raw t old new all rest known was is = is
 answer_later Excerpt t old new all rest None was is =
     known_later (λ held. known_answer Excerpt t held all ≡ joined_texts None (known_answer Excerpt t held rest))
-    old new was refl is
+    _ _ was refl is
 answer_later Excerpt t old new all rest (Some text) was is =
     known_later (λ held. known_answer Excerpt t held all ≡ joined_texts (Some text) (known_answer Excerpt t held rest))
-    old new was refl is
+    _ _ was refl is
 answer_later Mbox t old new all rest None was is =
     known_later (λ held. known_answer Mbox t held all ≡ joined_texts None (known_answer Mbox t held rest))
-    old new was refl is
+    _ _ was refl is
 answer_later Mbox t old new all rest (Some text) was is =
     known_later (λ held. known_answer Mbox t held all ≡ joined_texts (Some text) (known_answer Mbox t held rest))
-    old new was refl is
+    _ _ was refl is

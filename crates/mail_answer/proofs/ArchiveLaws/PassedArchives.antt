@@ -6,11 +6,11 @@ next_path : (archives : List Archive) (n : ℕ) (a : Archive) (rest : List Archi
     → path_at archives n ≡ a.path
 next_path [] zero a rest e = absurd cc
 next_path [] (suc n) a rest e = absurd cc
-next_path (b ∷ archives) zero a rest e = let first : b ≡ a = cc in ap (λ (t : Archive). t.path) first
-next_path (b ∷ archives) (suc n) a rest e = next_path archives n a rest e
+next_path (b ∷ archives) zero a rest e = let first : b ≡ a = cc in ap (λ t. t.path) first
+next_path (b ∷ archives) (suc n) a rest e = next_path archives n a _ e
 
 -- one more archive was passed
 pub passed_more : (archives : List Archive) (passed : ℕ) (rest : List Archive) (last : List ℕ) (a : Archive)
     (after : List Archive) → ArePassed archives passed rest last → rest ≡ a ∷ after
     → ArePassed archives (passed + 1) after a.path
-passed_more archives passed rest last a after are e = grind (arith, next_named, next_path)
+passed_more = grind (arith, next_named, next_path)

@@ -17,26 +17,26 @@ pub next_named : (named : List Archive) (n : ℕ) (a : Archive) (rest : List Arc
 next_named [] zero a rest e = absurd cc
 next_named [] (suc n) a rest e = absurd cc
 next_named (b ∷ named) zero a rest e = grind arith
-next_named (b ∷ named) (suc n) a rest e = grind (arith, next_named named n a rest e)
+next_named (b ∷ named) (suc n) a rest e = grind (arith, next_named named n a _ e)
 
 pub still_named : (named : List Archive) (n : ℕ) → n < length named → drop n named ≡ [] → ⊥
-still_named named n h e = let long : length (drop n named) ≡ 0 = ap length e
+still_named named n h e = let long = ap length e
     in absurd (omega (arith, long, length-drop n named))
 
 pub named_here : (named : List Archive) (n : ℕ) (a : Archive) (rest : List Archive) → drop n named ≡ a ∷ rest
     → n < length named
-named_here named n a rest e = let long : length (drop n named) ≡ suc (length rest) = ap length e
+named_here named n a rest e = let long = ap length e
     in omega (arith, long, length-drop n named)
 
 pub none_left : (named : List Archive) (n : ℕ) → n ≤ length named → drop n named ≡ [] → n ≡ length named
-none_left named n h e = let long : length (drop n named) ≡ 0 = ap length e in omega (arith, long, length-drop n named)
+none_left named n h e = let long = ap length e in omega (arith, long, length-drop n named)
 
 -- the result at an archive, and at those after it
 changed_next : (named : List Archive) (bytes : List (List ℕ)) (n : ℕ) → n < length named → n < length bytes
     → first_changed n (drop n named) (drop n bytes)
     ≡ cond (length (archive_at bytes n) == length_in_table named n)
     (first_changed (n + 1) (drop (n + 1) named) (drop (n + 1) bytes)) (Some n)
-changed_next named bytes n h k = grind (arith, drop-cons, no_archive, length_in, add-one)
+changed_next = grind (arith, drop-cons, no_archive, length_in, add-one)
 
 pub goes_on : (named : List Archive) (held : Option (List (List ℕ))) (n number : ℕ) → n < length named → number
     ≡ length named
@@ -45,9 +45,9 @@ pub goes_on : (named : List Archive) (held : Option (List (List ℕ))) (n number
     → IfSome held (λ bytes. length_in_table named n ≡ length (archive_at bytes n))
     → IfSome held (λ bytes. first_changed 0 named bytes
     ≡ first_changed (n + 1) (drop (n + 1) named) (drop (n + 1) bytes))
-goes_on named held n number h h2 h3 h4 h5 = grind (arith, eq-eqb, changed_next)
+goes_on = grind (arith, eq-eqb, changed_next)
 
 pub other_count : (named : List Archive) (held : Option (List (List ℕ))) (number : ℕ) → (number ≡ length named → ⊥)
     → IfSome held (λ bytes. length bytes ≡ number)
     → IfSome held (λ bytes. stale_archive named bytes ≡ Some (min number (length named)))
-other_count named held number h h2 = grind (arith, ne_eqb)
+other_count = grind (arith, ne_eqb)

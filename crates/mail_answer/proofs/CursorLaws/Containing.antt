@@ -5,16 +5,16 @@ use Rattle.memchr.specs.Find.{OccursAt, FindsNeedle}
 
 begins_from : (hay needle : List ℕ) → OccursAt hay needle 0 → starts_with nat_eq hay needle ≡ true
 begins_from hay needle at =
-    (bytes_eq-Decides needle (take (length needle) hay)).1 (
+    (bytes_eq-Decides _ _).1 (
     let fits : length needle ≤ length hay = omega (arith, at.fits) in
-    let long : length (take (length needle) hay) ≡ length needle = length-take-le (length needle) hay fits in
+    let long = length-take-le (length needle) hay fits in
     ext_get_or 0 needle (take (length needle) hay) (sym long) (λ i lt.
-    let here : slice_index hay (0 + i) ≡ slice_index needle i = at.reads i lt in
+    let here = at.reads i lt in
     let plain : 0 + i ≡ i = omega arith in
     sym (get_or-take (length needle) hay i 0 lt ∙ ap (slice_index hay) (sym plain) ∙ here)))
 
 begins_at : (hay needle : List ℕ) → starts_with nat_eq hay needle ≡ true → OccursAt hay needle 0
-begins_at hay needle begins = grind (arith, bytes_eq-Decides, length-take, get_or-take)
+begins_at = grind (arith, bytes_eq-Decides, length-take, get_or-take)
 
 -- the same place, one byte later
 later : (b : ℕ) (hay needle : List ℕ) (k : ℕ) → OccursAt hay needle k → OccursAt (b ∷ hay) needle (suc k)
@@ -24,23 +24,23 @@ earlier : (b : ℕ) (hay needle : List ℕ) (k : ℕ) → OccursAt (b ∷ hay) n
 earlier b hay needle k at = grind arith
 
 contained : (text hay : List ℕ) (k : ℕ) → OccursAt hay text k → contains_text text hay ≡ true
-contained text [] zero at = begins_from [] text at
+contained text [] zero at = begins_from _ _ at
 contained text [] (suc k) at = absurd (omega (arith, at.fits))
-contained text (b ∷ hay) zero at = or_left (starts_with nat_eq (b ∷ hay) text) (contains_text text hay)
-    (begins_from (b ∷ hay) text at)
-contained text (b ∷ hay) (suc k) at = or_right (starts_with nat_eq (b ∷ hay) text) (contains_text text hay)
-    (contained text hay k (earlier b hay text k at))
+contained text (b ∷ hay) zero at = or_left _ _
+    (begins_from _ _ at)
+contained text (b ∷ hay) (suc k) at = or_right _ _
+    (contained _ hay k (earlier b _ _ k at))
 
 not_contained : (text hay : List ℕ) → ((k : ℕ) → k < length hay + 1 → ¬ OccursAt hay text k) → contains_text text hay
     ≡ false
-not_contained text [] none = false_from_ne_true (starts_with nat_eq [] text)
-    (λ e. none 0 (omega arith) (begins_at [] text e))
+not_contained text [] none = false_from_ne_true _
+    (λ e. none 0 (omega arith) (begins_at _ _ e))
 not_contained text (b ∷ hay) none =
-    or_from (starts_with nat_eq (b ∷ hay) text) (contains_text text hay)
-    (false_from_ne_true (starts_with nat_eq (b ∷ hay) text) (λ e. none 0 (omega arith) (begins_at (b ∷ hay) text e)))
-    (not_contained text hay (λ k lt at. none (suc k) (omega (arith, lt)) (later b hay text k at)))
+    or_from _ _
+    (false_from_ne_true _ (λ e. none 0 (omega arith) (begins_at _ _ e)))
+    (not_contained _ hay (λ k lt at. none (suc k) (omega (arith, lt)) (later b _ _ k at)))
 
 -- what a search for the text finds
 pub found : (text hay : List ℕ) (r : Option ℕ) → FindsNeedle hay text 0 r → is_some r ≡ contains_text text hay
-found text hay None h = sym (not_contained text hay (λ k lt at. h k (omega arith) lt at))
-found text hay (Some k) h = sym (contained text hay k h.1)
+found text hay None h = sym (not_contained _ _ (λ k lt at. h k (omega arith) lt at))
+found text hay (Some k) h = sym (contained _ _ k h.1)

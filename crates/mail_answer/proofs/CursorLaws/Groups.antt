@@ -5,12 +5,12 @@ use Rattle.mail_answer.proofs.CursorLaws.Members.{united-at, some-append}
 use Rattle.mail_answer.proofs.CursorLaws.Texts.{left-append}
 
 or_swap : (a b c : Bool) → ((a || c) || b) ≡ (a || (b || c))
-or_swap a b c = grind arith
+or_swap = grind arith
 
 some-joined : (m : ℕ) (xs ys : List WalkAhead) → some_has m (xs ++ ys) ≡ (some_has m xs || some_has m ys)
 some-joined m [] ys = refl
-some-joined m (x ∷ xs) ys = ap (λ (b : Bool). truth_at x.truths m || b) (some-joined m xs ys)
-    ∙ sym (or_assoc (truth_at x.truths m) (some_has m xs) (some_has m ys))
+some-joined m (x ∷ xs) ys = ap (λ b. truth_at x.truths m || b) (some-joined m xs _)
+    ∙ sym (or_assoc (truth_at x.truths m) _ _)
 
 left-joined : (xs ys : List WalkAhead) → steps_left_in (xs ++ ys) ≡ steps_left_in xs + steps_left_in ys
 left-joined [] ys = omega arith
@@ -28,19 +28,12 @@ pub grouped_more : (all groups walks : List WalkAhead) (at : ℕ) (w : WalkAhead
     → w.truths ≡ union_of (drop at walks) → w.left ≡ steps_left_in (drop at walks) → HaveGrouped all groups walks
     → HaveGrouped all (groups ++ w ∷ []) (take at walks)
 grouped_more all groups walks at w is some told left have =
-    let parts : take at walks ++ drop at walks ≡ walks = take-append-drop at walks in
-    let long : length (take at walks) ≡ at = length-take-le at walks (omega (arith, is)) in
+    let parts = take-append-drop at walks in
+    let long = length-take-le at walks (omega (arith, is)) in
     let more : length (groups ++ w ∷ []) ≡ length groups + 1 = omega (arith, length-append groups (w ∷ [])) in
-    let before : 4 * length groups + length walks ≤ length all = have.whole some in
+    let before = have.whole some in
     record {
-      each = λ m.
-          ap (λ (b : Bool). b || some_has m (take at walks))
-          (some-append m groups w ∙ ap (λ (b : Bool). some_has m groups || b)
-          (ap (λ (xs : List Bool). truth_at xs m) told ∙ united-at m (drop at walks)))
-          ∙ or_swap (some_has m groups) (some_has m (take at walks)) (some_has m (drop at walks))
-          ∙ ap (λ (b : Bool). some_has m groups || b)
-          (sym (some-joined m (take at walks) (drop at walks)) ∙ ap (some_has m) parts)
-          ∙ have.each m;
+      each = grind (arith, some-append, united-at, or_swap, some-joined);
       left = omega (
         arith,
         left-append groups w,
@@ -50,16 +43,16 @@ grouped_more all groups walks at w is some told left have =
         have.left,
       );
       few = omega (arith, long, more, before, is, some);
-      whole = λ still. omega (arith, long, more, before, is, some, still);
+      whole = grind arith;
     }
 
 pub swap_last : (a b c : Bool) → ((a || c) || b) ≡ (a || (b || c))
-swap_last a b c = grind arith
+swap_last = grind arith
 
 pub alone_each : (m : ℕ) (ws ws' ls ls' : List WalkAhead) (l w : WalkAhead) → ws' ≡ ws ++ w ∷ [] → ls ≡ ls' ++ l ∷ []
     → w.truths
     ≡ l.truths → (some_has m ws' || some_has m ls') ≡ (some_has m ws || some_has m ls)
-alone_each m ws ws' ls ls' l w more less same = grind (arith, some-append, swap_last)
+alone_each = grind (arith, some-append, swap_last)
 
 pub alone_left : (ws ws' ls ls' : List WalkAhead) (l w : WalkAhead) → ws' ≡ ws ++ w ∷ [] → ls ≡ ls' ++ l ∷ [] → w.left
     ≡ l.left

@@ -9,7 +9,7 @@ if_always (Err e) p = tt
 if_always (Ok a) p = p
 
 pub none_taken : (old new : ℕ) → new ≡ old → new ≡ add_steps old 0
-none_taken old new same = same ∙ add_steps-none old
+none_taken old new same = same ∙ add_steps-none _
 
 -- if no key is looked up, no comparison is made
 pub none_compared : (kinds : List Kind) → compared_in_all (λ kind. 0) kinds ≡ 0
@@ -20,8 +20,7 @@ none_compared (kind ∷ kinds) = omega (arith, none_compared kinds)
 pub steps_of : {A E : Type 0} (r : Result A E) (counts : Query → ℕ) (q p : Query) (old new n : ℕ) → q ≡ p
     → n ≡ counts p → IfOk r (λ _. new ≡ add_steps old n) → IfOk r (λ _. new ≡ add_steps old (counts q))
 steps_of (Err e) counts q p old new n is same taken = tt
-steps_of (Ok a) counts q p old new n is same taken =
-    taken ∙ ap (add_steps old) same ∙ ap (λ (x : Query). add_steps old (counts x)) (sym is)
+steps_of (Ok a) counts q p old new n is same taken = grind arith
 
 -- ---- kind by kind
 
@@ -31,25 +30,22 @@ module _ (compared : Kind → ℕ) (kinds : Kinds) (items : List Kind) (i : ℕ)
       → add_steps old (compared_in_all compared (filter (is_in kinds) (drop i items))) ≡ add_steps start total
       → add_steps new (compared_in_all compared (filter (is_in kinds) (drop (i + 1) items))) ≡ add_steps start total
   compared_more lt e taken before =
-      let rest : ℕ = compared_in_all compared (filter (is_in kinds) (drop (i + 1) items)) in
-      ap (λ (n : ℕ). add_steps n rest) taken ∙ add_steps-both old (compared (get_or items i d)) rest
-      ∙ ap (λ (ks : List Kind). add_steps old (compared_in_all compared ks)) (sym (coming_at kinds items i d true lt e))
+      let rest = compared_in_all compared (filter (is_in _) (drop (i + 1) items)) in
+      ap (λ n. add_steps n rest) taken ∙ add_steps-both _ _ _
+      ∙ ap (λ ks. add_steps old (compared_in_all compared ks)) (sym (coming_at _ _ i d _ lt e))
       ∙ before
 
   pub compared_skip : i < length items → is_in kinds (get_or items i d) ≡ false
       → add_steps old (compared_in_all compared (filter (is_in kinds) (drop i items))) ≡ add_steps start total
       → add_steps old (compared_in_all compared (filter (is_in kinds) (drop (i + 1) items))) ≡ add_steps start total
-  compared_skip lt e before = ap (λ (ks : List Kind). add_steps old (compared_in_all compared ks))
-      (sym (coming_at kinds items i d false lt e)) ∙ before
+  compared_skip lt e before = ap (λ ks. add_steps old (compared_in_all compared ks))
+      (sym (coming_at _ _ i d _ lt e)) ∙ before
 
 -- after the last kind
 pub all_compared : (compared : Kind → ℕ) (i : ℕ) (kinds : Kinds) (start old total : ℕ) → 8 ≤ i → i ≤ 8
     → add_steps old (compared_in_all compared (filter (is_in kinds) (drop i (map Text text_kinds ++ OwnId ∷ []))))
     ≡ add_steps start total → old ≡ add_steps start total
-all_compared compared i kinds start old total from to before =
-    let last : i ≡ 8 = omega (arith, from, to) in
-    let all = rw last at before in
-    add_steps-none old ∙ all
+all_compared = grind (arith, add_steps-none)
 
 -- ---- member by member
 
@@ -59,14 +55,8 @@ module _ (counts : Query → ℕ) (counts_all : Queries → ℕ) (start old tota
       → (q : Query) (last coming : List Query) (new : ℕ) → last ≡ q ∷ coming → new ≡ add_steps old (counts q)
       → add_steps old (counts_all (members_of last)) ≡ add_steps start total
       → add_steps new (counts_all (members_of coming)) ≡ add_steps start total
-  member_more more q last coming new split taken before =
-      let rest : ℕ = counts_all (members_of coming) in
-      ap (λ (n : ℕ). add_steps n rest) taken ∙ add_steps-both old (counts q) rest
-      ∙ ap (add_steps old) (sym (more q (members_of coming)))
-      ∙ ap (λ (qs : List Query). add_steps old (counts_all (members_of qs))) (sym split) ∙ before
+  member_more = grind (arith, add_steps-both)
 
   pub no_member_more : counts_all End ≡ 0 → (last : List Query) → last ≡ []
       → add_steps old (counts_all (members_of last)) ≡ add_steps start total → old ≡ add_steps start total
-  no_member_more none last is before =
-      add_steps-none old ∙ ap (add_steps old) (sym none)
-      ∙ ap (λ (qs : List Query). add_steps old (counts_all (members_of qs))) (sym is) ∙ before
+  no_member_more = grind (arith, add_steps-none)

@@ -1,5 +1,5 @@
 -- The marks of a window and the rest of the lists have the same messages as the lists had, list by list.
-use Rattle.mail_answer.proofs.Words.{◌≡◌, ◌∙◌, ◌+◌, ◌-◌, ◌^◌, ◌<◌, ◌≤◌, ℕ, zero, suc, Bool, true, false, ◌||◌, max, List, [], ◌∷◌, ◌++◌, length, take, replicate, get_or, Option, Some, None, Result, IfOk, refl, sym, ap, subst, arith, inl, inr, list_any, sum_by, swap_remove, set, length-set, length-replicate, get_or-set_same, get_or-replicate, get_or_past, get_or_append_left, get_or-append-add, take-set, take-take, take_more_set, cases_lt, both_ways, or_left, or_from, lt-leb, or_assoc, or_comm, add_steps, truth_at, Adds, WalkAhead, CountsSteps, Drops, IsFirst, steps_left_in, union_of, lesser_of, AreFew, HaveMarks, IsFirstMark, marked_or_listed, those_from, truths_marked, some_has, marks_in}
+use Rattle.mail_answer.proofs.Words.{◌≡◌, ◌∙◌, ◌+◌, ◌-◌, ◌<◌, ◌≤◌, ℕ, zero, suc, Bool, true, false, ◌||◌, max, List, [], ◌∷◌, ◌++◌, length, take, replicate, get_or, Option, Some, None, Result, IfOk, refl, sym, ap, subst, arith, inl, inr, list_any, sum_by, swap_remove, set, length-set, length-replicate, get_or-set_same, get_or-replicate, get_or_past, get_or_append_left, get_or-append-add, take-set, take-take, take_more_set, cases_lt, both_ways, or_left, or_from, lt-leb, or_assoc, or_comm, add_steps, truth_at, Adds, WalkAhead, CountsSteps, Drops, IsFirst, steps_left_in, union_of, lesser_of, AreFew, HaveMarks, IsFirstMark, marked_or_listed, those_from, truths_marked, some_has, marks_in}
 use Rattle.std.proofs.lemmas.List.{take_all}
 use Rattle.std.proofs.lemmas.List.Sorted.{IsPermutation-swap_remove, list_any-IsPermutation}
 use Rattle.std.proofs.lemmas.List.Sums.{sum_by-swap_remove, sum_by-cons}
@@ -19,17 +19,15 @@ or_with_false false b lacks = lacks
 
 -- what isn't true is false
 lacks : (b : Bool) → (b ≡ true → ⊥) → b ≡ false
-lacks b h = grind arith
+lacks = grind arith
 
 -- ---- one of many lists changes, or is taken out
 
 some-set_same : (m : ℕ) (ws : List WalkAhead) (i : ℕ) (w v : WalkAhead) → i < length ws → w ≡ get_or ws i w
     → truth_at v.truths m ≡ truth_at w.truths m → some_has m (set ws i v) ≡ some_has m ws
 some-set_same m [] i w v lt is same = refl
-some-set_same m (x ∷ ws) zero w v lt is same =
-    ap (λ (b : Bool). b || some_has m ws) (same ∙ ap (λ (a : WalkAhead). truth_at a.truths m) is)
-some-set_same m (x ∷ ws) (suc i) w v lt is same =
-    ap (λ (b : Bool). truth_at x.truths m || b) (some-set_same m ws i w v (omega (arith, lt)) is same)
+some-set_same m (x ∷ ws) zero w v lt is same = grind arith
+some-set_same m (x ∷ ws) (suc i) w v lt is same = grind (arith, some-set_same m ws i w v (omega (arith, lt)) is same)
 
 -- the list doesn't have the message any more
 some-set_gone : (m : ℕ) (ws : List WalkAhead) (i : ℕ) (w v : WalkAhead) → i < length ws → w ≡ get_or ws i w
@@ -41,49 +39,49 @@ some-set_gone m (x ∷ ws) (suc i) w v lt is gone =
 
 some-any : (m : ℕ) (ws : List WalkAhead) → some_has m ws ≡ list_any (λ (w : WalkAhead). truth_at w.truths m) ws
 some-any m [] = refl
-some-any m (w ∷ ws) = ap (λ (b : Bool). truth_at w.truths m || b) (some-any m ws)
+some-any m (w ∷ ws) = ap (λ b. truth_at w.truths m || b) (some-any m ws)
 
 some-removed : (m : ℕ) (ws : List WalkAhead) (i : ℕ) (v : WalkAhead) → i < length ws → v ≡ get_or ws i v
     → truth_at v.truths m
     ≡ false → some_has m (swap_remove ws i v) ≡ some_has m ws
 some-removed m ws i v lt is none =
-    let test : WalkAhead → Bool = λ (w : WalkAhead). truth_at w.truths m in
+    let test : WalkAhead → Bool = λ w. truth_at w.truths m in
     some-any m (swap_remove ws i v)
-    ∙ ap (λ (b : Bool). b || list_any test (swap_remove ws i v)) (sym none)
-    ∙ sym (list_any-IsPermutation test ws (v ∷ swap_remove ws i v) (IsPermutation-swap_remove ws i v lt is))
+    ∙ ap (λ b. b || list_any test (swap_remove ws i v)) (sym none)
+    ∙ sym (list_any-IsPermutation test _ _ (IsPermutation-swap_remove ws i v lt is))
     ∙ sym (some-any m ws)
 
 left-sum : (ws : List WalkAhead) → steps_left_in ws ≡ sum_by (λ (w : WalkAhead). w.left) ws
 left-sum [] = refl
-left-sum (w ∷ ws) = omega (arith, left-sum ws, sum_by-cons (λ (a : WalkAhead). a.left) w ws)
+left-sum (w ∷ ws) = omega (arith, left-sum ws, sum_by-cons (λ a. a.left) w ws)
 
 left-removed : (ws : List WalkAhead) (i : ℕ) (v : WalkAhead) → i < length ws → v ≡ get_or ws i v → v.left ≡ 0
     → steps_left_in (swap_remove ws i v) ≡ steps_left_in ws
-left-removed ws i v lt is none = grind (arith, left-sum, sum_by-swap_remove)
+left-removed = grind (arith, left-sum, sum_by-swap_remove)
 
 front-removed : (ws : List WalkAhead) (i : ℕ) (v : WalkAhead) → i < length ws → take i (swap_remove ws i v) ≡ take i ws
-front-removed ws i v lt = grind (arith, take-take, set, take-set)
+front-removed = grind (arith, take-take, set, take-set)
 
 -- ---- steps
 
 add_more : (steps a b : ℕ) → add_steps (add_steps steps a) b ≡ add_steps steps (a + b)
-add_more steps a b = omega arith
+add_more = omega arith
 
 pub counts_more : (left0 left left1 steps0 steps steps1 : ℕ) → CountsSteps left0 left steps0 steps
     → CountsSteps left left1 steps steps1 → CountsSteps left0 left1 steps0 steps1
-counts_more left0 left left1 steps0 steps steps1 earlier here = grind (arith, add_more)
+counts_more = grind (arith, add_more)
 
 pub turn_counts : (ws : List WalkAhead) (i left0 steps0 steps steps1 : ℕ) (w v : WalkAhead) → i < length ws → w
     ≡ get_or ws i w
     → CountsSteps left0 (steps_left_in ws) steps0 steps → CountsSteps w.left v.left steps steps1
     → CountsSteps left0 (steps_left_in (set ws i v)) steps0 steps1
-turn_counts ws i left0 steps0 steps steps1 w v lt is earlier here = grind (arith, counts_more, set, left-set)
+turn_counts = grind (arith, counts_more, set, left-set)
 
 -- ---- the messages of all lists
 
 -- what dropping leaves was there before
 kept : (n : ℕ) (xs ys : List Bool) → Drops n xs ys → (m : ℕ) → truth_at ys m ≡ true → truth_at xs m ≡ true
-kept n xs ys drops m here = grind (arith, cases_lt, both_ways)
+kept = grind (arith, cases_lt, both_ways)
 
 -- messages of the lists in the window are marked or still come; those of the first lists up to its end are dropped
 pub record HaveMarked (start : ℕ) (lists : List WalkAhead) (marks : List Bool) (place : ℕ) (now_lists : List WalkAhead)
@@ -102,14 +100,14 @@ module _ (start : ℕ) (lists : List WalkAhead) (marks : List Bool) (place : ℕ
   module _ (v : WalkAhead) (now' : List Bool) (dropped : Drops (start + length now) w.truths v.truths)
       (adds : Adds (λ k. truth_at w.truths (start + k)) now now') where
     drops : Drops (start + length marks) w.truths v.truths
-    drops = subst (λ (n : ℕ). Drops (start + n) w.truths v.truths) have.long dropped
+    drops = subst (λ n. Drops (start + n) w.truths v.truths) have.long dropped
 
     some_before : (m : ℕ) → m < start + length marks → (some_has m (set ws place v) || truth_at w.truths m)
         ≡ some_has m ws
-    some_before m less = some-set_gone m ws place w v lt is (drops.below m less)
+    some_before m less = some-set_gone m _ _ w v lt is (drops.below m less)
 
     some_after : (m : ℕ) → start + length marks ≤ m → some_has m (set ws place v) ≡ some_has m ws
-    some_after m le = some-set_same m ws place w v lt is (drops.rest m le)
+    some_after m le = some-set_same m _ _ w v lt is (drops.rest m le)
 
     -- for a list that stays, or for one that has come to its end
     after : (vs : List WalkAhead) (place' : ℕ) (least' : Option ℕ)
@@ -117,26 +115,21 @@ module _ (start : ℕ) (lists : List WalkAhead) (marks : List Bool) (place : ℕ
         → ((m : ℕ) → m < start + length marks → some_has m (take place' vs) ≡ false)
         → Firsts (λ m. some_has m (take place' vs)) least' → HaveMarked start lists marks place' vs now' least'
     after vs place' least' same gone first = record {
-      long = adds.long ∙ have.long;
-      moved = λ k less.
-          ap (λ (b : Bool). b || some_has (start + k) vs) (adds.each k (omega (arith, less, have.long)))
-          ∙ ap (λ (b : Bool). (truth_at now k || truth_at w.truths (start + k)) || b) (same (start + k))
-          ∙ swap_last (truth_at now k) (some_has (start + k) (set ws place v)) (truth_at w.truths (start + k))
-          ∙ ap (λ (b : Bool). truth_at now k || b) (some_before (start + k) (omega (arith, less)))
-          ∙ have.moved k less;
-      after = λ m le. same m ∙ some_after m le ∙ have.after m le;
+      long = grind arith;
+      moved = grind (arith, swap_last, some_before);
+      after = grind (arith, some_after);
       gone = gone;
       first = first;
       few = λ m here.
-          let set_here : some_has m (set ws place v) ≡ true = sym (same m) ∙ here in
+          let set_here = sym (same m) ∙ here in
           have.few m (elim (cases_lt m (start + length marks)) [
-            | inl less ↦ sym (some_before m less) ∙ or_left (some_has m (set ws place v)) (truth_at w.truths m) set_here
+            | inl less ↦ sym (some_before m less) ∙ or_left _ _ set_here
             | inr le ↦ sym (some_after m le) ∙ set_here
           ]);
     }
 
     front : take (place + 1) (set ws place v) ≡ take place ws ++ v ∷ []
-    front = take_more_set ws place v lt
+    front = take_more_set _ _ v lt
 
     front-at : (m : ℕ) → some_has m (take (place + 1) (set ws place v))
         ≡ (some_has m (take place ws) || truth_at v.truths m)
@@ -156,38 +149,37 @@ module _ (start : ℕ) (lists : List WalkAhead) (marks : List Bool) (place : ℕ
     within = omega (arith, lt, length-set ws place v)
 
     front_kept : take place (swap_remove (set ws place v) place v) ≡ take place ws
-    front_kept = front-removed (set ws place v) place v within ∙ take-set ws place v
+    front_kept = front-removed _ _ v within ∙ take-set _ _ v
 
     marked_out : IsFirst v.truths None → HaveMarked start lists marks place (swap_remove (set ws place v) place v) now'
         least
     marked_out none =
-        after (swap_remove (set ws place v) place v) place least
-        (λ m. some-removed m (set ws place v) place v within (sym (get_or-set_same ws place v v lt)) (none m))
+        after _ place least
+        (λ m. some-removed m _ _ v within (sym (get_or-set_same ws place v v lt)) (none m))
         (λ m less. ap (some_has m) front_kept ∙ have.gone m less)
-        (firsts_same (λ m. some_has m (take place ws))
-        (λ m. some_has m (take place (swap_remove (set ws place v) place v))) least
+        (firsts_same _
+        _ _
         (λ m. ap (some_has m) front_kept) have.first)
 
     left_out : v.left ≡ 0 → steps_left_in (swap_remove (set ws place v) place v) ≡ steps_left_in (set ws place v)
-    left_out none = left-removed (set ws place v) place v within (sym (get_or-set_same ws place v v lt)) none
+    left_out none = left-removed _ _ v within (sym (get_or-set_same ws place v v lt)) none
 
     -- the list that is taken out is the one that has come to its end
     module _ (x : WalkAhead) (vs : List WalkAhead) (out : x ≡ get_or (set ws place v) place x)
         (removed : vs ≡ swap_remove (set ws place v) place x) where
       same_out : swap_remove (set ws place v) place v ≡ vs
-      same_out = sym (removed ∙ ap (λ (y : WalkAhead). swap_remove (set ws place v) place y)
+      same_out = sym (removed ∙ ap (λ y. swap_remove (set ws place v) place y)
           (out ∙ get_or-set_same ws place v x lt))
 
       pub goes_out : IsFirst v.truths None → HaveMarked start lists marks place vs now' least
-      goes_out none = subst (λ (us : List WalkAhead). HaveMarked start lists marks place us now' least) same_out
-          (marked_out none)
+      goes_out = grind (arith, same_out, marked_out)
 
       pub goes_out_steps : v.left ≡ 0 → (left0 steps0 steps steps1 : ℕ)
           → CountsSteps left0 (steps_left_in ws) steps0 steps
           → CountsSteps w.left v.left steps steps1 → CountsSteps left0 (steps_left_in vs) steps0 steps1
       goes_out_steps none left0 steps0 steps steps1 earlier here =
-          subst (λ (n : ℕ). CountsSteps left0 n steps0 steps1) (sym (left_out none) ∙ ap steps_left_in same_out)
-          (turn_counts ws place left0 steps0 steps steps1 w v lt is earlier here)
+          subst (λ n. CountsSteps left0 n steps0 steps1) (sym (left_out none) ∙ ap steps_left_in same_out)
+          (turn_counts _ _ _ _ _ _ w v lt is earlier here)
 
 module _ (start : ℕ) (lists : List WalkAhead) (marks : List Bool) (place : ℕ) (ws : List WalkAhead) (now : List Bool)
     (least : Option ℕ) (have : HaveMarked start lists marks place ws now least) (past : length ws ≤ place) where
@@ -201,53 +193,50 @@ module _ (start : ℕ) (lists : List WalkAhead) (marks : List Bool) (place : ℕ
   all_drops = grind (arith, united-at, none_before)
 
   pub all_first : IsFirst (union_of ws) least
-  all_first = firsts_same (λ m. some_has m (take place ws)) (truth_at (union_of ws)) least
+  all_first = firsts_same _ _ _
       (λ m. united-at m ws ∙ whole m)
       have.first
 
   pub all_marks : Adds (λ k. truth_at (union_of lists) (start + k)) marks now
   all_marks = record {
     long = have.long;
-    each = λ k lt.
-        sym (or_with_false (truth_at now k) (some_has (start + k) ws) (none_before (start + k) (omega (arith, lt))))
-        ∙ have.moved k lt
-        ∙ ap (λ (b : Bool). truth_at marks k || b) (sym (united-at (start + k) lists));
+    each = grind (arith, or_with_false, none_before, united-at);
   }
 
 -- ---- marks in their window
 
 padded-before : (start : ℕ) (marks : List Bool) (m : ℕ) → m < start → truth_at (replicate start false ++ marks) m
     ≡ false
-padded-before start marks m lt = grind (arith, get_or_append_left, length-replicate, get_or-replicate)
+padded-before = grind (arith, get_or_append_left, length-replicate, get_or-replicate)
 
 padded-at : (start : ℕ) (marks : List Bool) (k : ℕ) → truth_at (replicate start false ++ marks) (start + k)
     ≡ truth_at marks k
-padded-at start marks k = grind (arith, length-replicate, get_or-append-add)
+padded-at = grind (arith, length-replicate, get_or-append-add)
 
 padded-from : (start : ℕ) (marks : List Bool) (m : ℕ) → start ≤ m → truth_at (replicate start false ++ marks) m
     ≡ truth_at marks (m - start)
-padded-from start marks m le = grind (arith, padded-at)
+padded-from = grind (arith, padded-at)
 
 both-at : (start : ℕ) (marks : List Bool) (lists : List WalkAhead) (m : ℕ)
     → truth_at (marked_or_listed start marks lists) m
     ≡ (truth_at (replicate start false ++ marks) m || some_has m lists)
-both-at start marks lists m = grind (arith, one_or_other-at, united-at)
+both-at = grind (arith, one_or_other-at, united-at)
 
 -- if the marks from a number on are false, the messages of the lists are left
 unmarked-at : (start low : ℕ) (marks : List Bool) (lists : List WalkAhead)
     → ((k : ℕ) → low ≤ start + k → truth_at marks k ≡ false) → (m : ℕ) → low ≤ m
     → truth_at (marked_or_listed start marks lists) m ≡ truth_at (union_of lists) m
-unmarked-at start low marks lists none m le = grind (arith, both-at, cases_lt, padded-before, padded-from, united-at)
+unmarked-at = grind (arith, both-at, cases_lt, padded-before, padded-from, united-at)
 
 -- ---- a window begins anew
 
 -- a window without messages
 pub drops_at_once : (n : ℕ) (old new : List Bool) → Drops (n + 0) old new → Drops n old new
-drops_at_once n old new drops = let same : n + 0 ≡ n = omega arith in subst (λ (k : ℕ). Drops k old new) same drops
+drops_at_once = grind (arith, Drops)
 
 few_kept : (n : ℕ) (old new : List WalkAhead) → AreFew old → Drops n (union_of old) (union_of new) → AreFew new
 few_kept n old new few drops = λ m here. few m
-    (sym (united-at m old) ∙ kept n (union_of old) (union_of new) drops m (united-at m new ∙ here))
+    (sym (united-at m old) ∙ kept n _ _ drops m (united-at m new ∙ here))
 
 module _ (n start : ℕ) (words : List ℕ) (lists cut : List WalkAhead) (few : AreFew lists)
     (drops : Drops n (union_of lists) (union_of cut)) (clear : words ≡ replicate 512 0) where
@@ -255,19 +244,19 @@ module _ (n start : ℕ) (words : List ℕ) (lists cut : List WalkAhead) (few : 
   cleared = marks_in words
 
   unmarked : (k : ℕ) → truth_at cleared k ≡ false
-  unmarked k = ap (λ (ws : List ℕ). truth_at (marks_in ws) k) clear ∙ unmarked-in 512 k
+  unmarked k = ap (λ ws. truth_at (marks_in ws) k) clear ∙ unmarked-in 512 k
 
   long : length cleared ≡ 32768
-  long = ap (λ (ws : List ℕ). length (marks_in ws)) clear ∙ blank-long 512
+  long = ap (λ ws. length (marks_in ws)) clear ∙ blank-long 512
 
   pub few_cut : AreFew cut
   few_cut = few_kept n lists cut few drops
 
   same_as_cut : (m : ℕ) → truth_at (marked_or_listed start cleared cut) m ≡ truth_at (union_of cut) m
-  same_as_cut m = unmarked-at start 0 cleared cut (λ k le. unmarked k) m (omega arith)
+  same_as_cut m = unmarked-at start 0 _ cut (λ k le. unmarked k) m (omega arith)
 
   pub none_marks : (number : Option ℕ) → IsFirst (union_of cut) number → HaveMarks start cleared cut (Asked number)
-  none_marks number first = grind (arith, long, few_cut, both_ways, unmarked)
+  none_marks = grind (arith, long, few_cut, both_ways, unmarked)
 
   pub none_drops : Drops n (union_of lists) (marked_or_listed start cleared cut)
   none_drops = grind (arith, same_as_cut)
@@ -281,13 +270,13 @@ module _ (n start : ℕ) (words : List ℕ) (lists cut : List WalkAhead) (few : 
       (taken : Drops (first + length cleared) (union_of cut) (union_of left))
       (adds : Adds (λ k. truth_at (union_of cut) (first + k)) cleared now) where
     marked-as : (k : ℕ) → k < length cleared → truth_at now k ≡ truth_at (union_of cut) (first + k)
-    marked-as k lt = adds.each k lt ∙ ap (λ (b : Bool). b || truth_at (union_of cut) (first + k)) (unmarked k)
+    marked-as = grind (arith, unmarked)
 
     left-in : (m : ℕ) → m < first + length cleared → some_has m left ≡ false
     left-in m lt = sym (united-at m left) ∙ taken.below m lt
 
     same_as_moved : (m : ℕ) → truth_at (marked_or_listed first now left) m ≡ truth_at (union_of cut) m
-    same_as_moved m = grind (
+    same_as_moved = grind (
       arith,
       both-at,
       cases_lt,
@@ -301,54 +290,40 @@ module _ (n start : ℕ) (words : List ℕ) (lists cut : List WalkAhead) (few : 
     )
 
     inside_marks : (k : ℕ) → truth_at now k ≡ true → k < length cleared
-    inside_marks k here = grind (arith, cases_lt, both_ways, get_or_past)
+    inside_marks = grind (arith, cases_lt, both_ways, get_or_past)
 
     pub begun_marks : (number : Option ℕ) → IsFirst (union_of left) number → HaveMarks first now left (Asked number)
-    begun_marks number next = record {
-      window = adds.long ∙ long;
-      listed = few_kept (first + length cleared) cut left few_cut taken;
-      next = next;
-      marked = λ k here.
-          let fits : (first + k) + 1 < 2 ^ 32 =
-          few_cut (first + k) (sym (united-at (first + k) cut) ∙ sym (marked-as k (inside_marks k here)) ∙ here) in
-          omega (arith, fits);
-      before = λ k m here there.
-          let inside : k < length cleared = inside_marks k here in
-          elim (cases_lt m (first + length cleared)) [
-            | inl lt ↦ absurd (both_ways (some_has m left) (left-in m lt) there)
-            | inr past ↦ omega (arith, inside, past)
-          ];
-    }
+    begun_marks = grind (arith, long, few_kept, few_cut, united-at, marked-as, inside_marks, left-in)
 
     pub begun_drops : Drops n (union_of lists) (marked_or_listed first now left)
     begun_drops = grind (arith, same_as_moved)
 
     pub begun_first : IsFirst (marked_or_listed first now left) (Some first)
-    begun_first = firsts_same (truth_at (union_of cut)) (truth_at (marked_or_listed first now left)) (Some first)
+    begun_first = firsts_same _ _ (Some first)
         same_as_moved is
 
 -- ---- the messages from a number on
 
 those-from : (low : ℕ) (xs : List Bool) (m : ℕ) → low ≤ m → truth_at (those_from low xs) m ≡ truth_at xs m
-those-from low xs m le = grind (arith, cases_lt, each-at, le-leb, each-past, get_or_past)
+those-from = grind (arith, cases_lt, each-at, le-leb, each-past, get_or_past)
 
 those-before : (low : ℕ) (xs : List Bool) (m : ℕ) → m < low → truth_at (those_from low xs) m ≡ false
-those-before low xs m before = grind (arith, cases_lt, each-at, lt-leb, each-past)
+those-before = grind (arith, cases_lt, each-at, lt-leb, each-past)
 
 -- of these, the ones below n are dropped
 drops_from : (n low low' : ℕ) (xs ys : List Bool) → low' ≡ max n low
     → ((m : ℕ) → low' ≤ m → truth_at ys m ≡ truth_at xs m) → Drops n (those_from low xs) (those_from low' ys)
-drops_from n low low' xs ys is same = grind (arith, cases_lt, those-before, those-from)
+drops_from = grind (arith, cases_lt, those-before, those-from)
 
 module _ (n low low' start : ℕ) (marks : List Bool) (lists : List WalkAhead) (ahead : Head)
     (have : HaveMarks start marks lists ahead) (is : low' ≡ max n low) where
   pub found_drops : Drops n (truths_marked low start marks lists) (truths_marked low' start marks lists)
-  found_drops = drops_from n low low' (marked_or_listed start marks lists) (marked_or_listed start marks lists) is
+  found_drops = drops_from n _ _ _ _ is
       (λ m le. refl)
 
   pub found_first : (number : ℕ) → IsFirstMark start low' marks (Some number)
       → IsFirst (truths_marked low' start marks lists) (Some number)
-  found_first number found = grind (
+  found_first = grind (
     arith,
     those-from,
     both-at,
@@ -369,25 +344,25 @@ module _ (n low low' start : ℕ) (marks : List Bool) (lists : List WalkAhead) (
 
     pub windowed_first : (number : Option ℕ) → IsFirst (marked_or_listed start' now left) number
         → IsFirst (truths_marked low' start' now left) number
-    windowed_first number first = grind (arith, firsts_same, cases_lt, those-before, those-from)
+    windowed_first = grind (arith, firsts_same, cases_lt, those-before, those-from)
 
 -- ---- a walk begins
 
 pub begins_marked : (lists : List WalkAhead) (words : List ℕ) → words ≡ replicate 512 0 → (m : ℕ)
     → truth_at (truths_marked 0 0 (marks_in words) lists) m ≡ some_has m lists
 begins_marked lists words clear m =
-    those-from 0 (marked_or_listed 0 (marks_in words) lists) m (omega arith)
-    ∙ unmarked-at 0 0 (marks_in words) lists
-    (λ k le. ap (λ (ws : List ℕ). truth_at (marks_in ws) k) clear ∙ unmarked-in 512 k) m (omega arith)
+    those-from 0 _ m (omega arith)
+    ∙ unmarked-at 0 0 _ lists
+    (λ k le. ap (λ ws. truth_at (marks_in ws) k) clear ∙ unmarked-in 512 k) m (omega arith)
     ∙ united-at m lists
 
 pub begins_window : (lists : List WalkAhead) (words : List ℕ) → words ≡ replicate 512 0 → AreFew lists
     → HaveMarks 0 (marks_in words) lists Unasked
 begins_window lists words clear few =
     let unmarked : (k : ℕ) → truth_at (marks_in words) k ≡ false =
-    λ k. ap (λ (ws : List ℕ). truth_at (marks_in ws) k) clear ∙ unmarked-in 512 k in
+    λ k. ap (λ ws. truth_at (marks_in ws) k) clear ∙ unmarked-in 512 k in
     record {
-      window = ap (λ (ws : List ℕ). length (marks_in ws)) clear ∙ blank-long 512;
+      window = ap (λ ws. length (marks_in ws)) clear ∙ blank-long 512;
       listed = few;
       next = tt;
       marked = λ k here. absurd (both_ways (truth_at (marks_in words) k) (unmarked k) here);
@@ -397,4 +372,4 @@ begins_window lists words clear few =
 pub if_marked : {E : Type 0} (r : Result WalkAhead E) (xs : List Bool) (ws : List WalkAhead)
     → ((m : ℕ) → truth_at xs m ≡ some_has m ws) → IfOk r (λ w. w.truths ≡ xs)
     → IfOk r (λ w. (m : ℕ) → truth_at w.truths m ≡ some_has m ws)
-if_marked r xs ws h h2 = grind arith
+if_marked = grind arith

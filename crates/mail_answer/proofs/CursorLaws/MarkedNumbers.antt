@@ -1,6 +1,5 @@
 -- The numbers of one list that are in a window are marked one after another, because they rise.
-use Rattle.mail_answer.proofs.Words.{◌≡◌, ◌∙◌, ◌+◌, ◌-◌, ◌<◌, ◌≤◌, ℕ, suc, Bool, false, ◌||◌, List, [], ◌∷◌, ◌++◌, length, append_assoc, nat_eq, Option, Some, None, refl, sym, ap, ap₂, subst, arith, inl, inr, AllByRecursion, IfNone, RisesFrom, is_number_among, truth_at, Adds, numbers_ahead, MatchOption, CountsSteps, add_steps, eq-eqb, ne_eqb, or-false, or_assoc}
-use Rattle.std.proofs.lemmas.Bool.{cases_eq}
+use Rattle.mail_answer.proofs.Words.{◌≡◌, ◌∙◌, ◌+◌, ◌-◌, ◌<◌, ◌≤◌, ℕ, Bool, false, ◌||◌, List, [], ◌∷◌, ◌++◌, length, append_assoc, nat_eq, Option, Some, None, refl, sym, ap, ap₂, subst, arith, AllByRecursion, IfNone, RisesFrom, is_number_among, truth_at, Adds, numbers_ahead, MatchOption, CountsSteps, add_steps, ne_eqb, or-false, or_assoc}
 use Rattle.mail_answer.specs.Inside.CursorLists.{AreDroppedBelow}
 use Rattle.mail_answer.proofs.CursorLaws.Lists.{all_joined, not_below, rises_lower}
 
@@ -38,10 +37,9 @@ begun start numbers marks first after cut = record {
   dropped = cut.dropped;
   split = cut.split;
   rises = cut.rises;
-  within = all_below start (start + length marks) cut.dropped (omega arith) cut.below;
+  within = grind (arith, all_below);
   long = refl;
-  each = λ k lt. sym (ap (λ (b : Bool). truth_at marks k || b)
-      (among_none (start + k) start cut.dropped cut.below (omega arith)) ∙ or-false (truth_at marks k));
+  each = grind (arith, among_none, or-false);
 }
 
 -- ---- one more is marked
@@ -52,33 +50,25 @@ module _ (start : ℕ) (numbers : List ℕ) (marks : List Bool) (number : ℕ) (
   not_before = are.rises.0
 
   alone : (k : ℕ) → nat_eq (number - start) k ≡ is_number_among (start + k) (number ∷ [])
-  alone k = elim (cases_eq (number - start) k) [
-    | inl same ↦
-        let is : start + k ≡ number = omega (arith, same, not_before) in
-        eq-eqb (number - start) k same
-        ∙ sym (ap (λ (b : Bool). b || false) (eq-eqb (start + k) number is))
-    | inr other ↦
-        ne_eqb (number - start) k other
-        ∙ sym (ap (λ (b : Bool). b || false) (ne_eqb (start + k) number (λ e. other (omega (arith, e)))))
-  ]
+  alone = grind (arith, not_before)
 
   module _ (now' : List Bool) (first : Option ℕ) (rest : List ℕ) (within : number - start < length now)
       (adds : Adds (nat_eq (number - start)) now now') (is : after ≡ numbers_ahead first rest) where
     pub marked_more : AreMarked start numbers marks first rest now'
     marked_more = record {
       dropped = are.dropped ++ number ∷ [];
-      split = are.split ∙ ap (λ (ns : List ℕ). are.dropped ++ number ∷ ns) is
+      split = are.split ∙ ap (λ ns. are.dropped ++ number ∷ ns) is
           ∙ sym (append_assoc are.dropped (number ∷ []) (numbers_ahead first rest));
-      rises = subst (RisesFrom start) is (rises_lower start (suc number) after (omega (arith, not_before)) are.rises.1);
-      within = all_joined (λ m. m < start + length marks) are.dropped (number ∷ []) are.within
-          (omega (arith, within, are.long, not_before), tt);
+      rises = subst (RisesFrom start) is (rises_lower _ _ _ (omega (arith, not_before)) are.rises.1);
+      within = all_joined _ _ _ are.within
+          (grind (arith, not_before));
       long = adds.long ∙ are.long;
       each = λ k lt. adds.each k (omega (arith, lt, are.long))
-          ∙ ap₂ (λ (a b : Bool). a || b) (are.each k lt) (alone k)
-          ∙ or_assoc (truth_at marks k) (is_number_among (start + k) are.dropped)
-          (is_number_among (start + k) (number ∷ []))
-          ∙ ap (λ (b : Bool). truth_at marks k || b)
-          (sym (among_joined (start + k) are.dropped (number ∷ [])));
+          ∙ ap₂ (λ a b. a || b) (are.each k lt) (alone k)
+          ∙ or_assoc (truth_at marks k) _
+          _
+          ∙ ap (λ b. truth_at marks k || b)
+          (sym (among_joined (start + k) _ _));
     }
 
 -- ---- all others are past the window
@@ -88,16 +78,12 @@ module _ (start : ℕ) (numbers : List ℕ) (marks : List Bool) (first : Option 
     (past : RisesFrom (start + length marks) (numbers_ahead first after)) where
   among_dropped : (k : ℕ) → k < length marks → is_number_among (start + k) numbers
       ≡ is_number_among (start + k) are.dropped
-  among_dropped k lt = ap (is_number_among (start + k)) are.split
-      ∙ among_joined (start + k) are.dropped (numbers_ahead first after)
-      ∙ ap (λ (b : Bool). is_number_among (start + k) are.dropped || b)
-      (not_below (start + length marks) (start + k) (numbers_ahead first after) (omega (arith, lt)) past)
-      ∙ or-false (is_number_among (start + k) are.dropped)
+  among_dropped = grind (arith, among_joined, not_below, or-false)
 
   pub marked_all : Adds (λ k. is_number_among (start + k) numbers) marks now
   marked_all = record {
     long = are.long;
-    each = λ k lt. are.each k lt ∙ ap (λ (b : Bool). truth_at marks k || b) (sym (among_dropped k lt));
+    each = grind (arith, among_dropped);
   }
 
 -- ---- what a list gives next
@@ -106,8 +92,8 @@ pub gives_next : (old new : List ℕ) (first : Option ℕ) (steps steps1 : ℕ)
     → MatchOption first ((old ≡ []) × (new ≡ []) × (steps1 ≡ steps))
     (λ n. (old ≡ n ∷ new) × (steps1 ≡ add_steps steps 1))
     → (old ≡ numbers_ahead first new) × IfNone first (new ≡ []) × CountsSteps (length old) (length new) steps steps1
-gives_next old new None steps steps1 gave = grind arith
-gives_next old new (Some n) steps steps1 gave = grind arith
+gives_next old new None = grind arith
+gives_next old new (Some n) = grind arith
 
 -- a place past the window marks nothing
 pub marked_past : (start : ℕ) (numbers : List ℕ) (marks : List Bool) (first : Option ℕ) (after : List ℕ)
@@ -119,16 +105,11 @@ marked_past start numbers marks first after now now' place are adds past = recor
   rises = are.rises;
   within = are.within;
   long = adds.long ∙ are.long;
-  each = λ k lt. adds.each k (omega (arith, lt, are.long))
-      ∙ ap (λ (b : Bool). truth_at now k || b)
-      (ne_eqb place k (λ e. absurd (omega (arith, e, lt, past, are.long))))
-      ∙ or-false (truth_at now k) ∙ are.each k lt;
+  each = grind (arith, or-false);
 }
 
 pub past_window : (start : ℕ) (numbers : List ℕ) (marks : List Bool) (first : Option ℕ) (after : List ℕ)
     (now : List Bool) → AreMarked start numbers marks first after now → (number : ℕ) → first ≡ Some number
     → length now ≤ number - start → RisesFrom (start + length marks) (numbers_ahead first after)
 past_window start numbers marks None after now are number is past = absurd cc
-past_window start numbers marks (Some n) after now are number is past =
-    let same : n ≡ number = cc in
-    (omega (arith, same, past, are.long, are.rises.0), are.rises.1)
+past_window start numbers marks (Some n) after now are number is past = grind arith

@@ -6,14 +6,14 @@ pub query_of-Any : query_of node.Any ≡ Any
 query_of-Any = search (rules, the_lemmas)
 
 pub query_of-Word : (kinds : Kinds) (text : List ℕ) → query_of (node.Word kinds text) ≡ Word kinds text
-query_of-Word kinds text = search (rules, the_lemmas)
+query_of-Word = search (rules, the_lemmas)
 
 pub query_of-Part : (kinds : Kinds) (text : List ℕ) → query_of (node.Part kinds text) ≡ Part kinds text
-query_of-Part kinds text = search (rules, the_lemmas)
+query_of-Part = search (rules, the_lemmas)
 
 pub query_of-Prefix : (kinds : Kinds) (text : List ℕ) → query_of (node.Prefix kinds text) ≡ Prefix kinds text
-query_of-Prefix kinds text = search (rules, the_lemmas)
+query_of-Prefix = search (rules, the_lemmas)
 
 pub query_of-Either : (members : Vec Node Global) → query_of (node.Either members)
     ≡ Either (members_of (queries_of members.items))
-query_of-Either members = search (rules, the_lemmas)
+query_of-Either = search (rules, the_lemmas)

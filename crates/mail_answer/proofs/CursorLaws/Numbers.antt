@@ -1,5 +1,5 @@
 -- A cursor returns the numbers of its walk in order, because it goes on past each number that it returned.
-use Rattle.mail_answer.proofs.Words.{◌≡◌, ◌∙◌, ◌+◌, ◌<◌, ◌≤◌, ℕ, zero, suc, Bool, true, false, cond, ◌&&◌, max, List, [], ◌∷◌, ◌++◌, Option, Some, None, refl, sym, ap, subst, arith, inl, inr, nat_le, filter, range_with_len, AllByRecursion, cases_lt, lt-leb, both_ways, truth_at, Drops, IsFirst, numbers_to_come, AreWithin, TakesFirst, TakesFrom}
+use Rattle.mail_answer.proofs.Words.{◌≡◌, ◌∙◌, ◌+◌, ◌<◌, ◌≤◌, ℕ, zero, suc, Bool, true, false, ◌&&◌, max, List, [], ◌∷◌, ◌++◌, Option, Some, None, refl, sym, ap, arith, inl, inr, nat_le, filter, range_with_len, AllByRecursion, cases_lt, lt-leb, both_ways, truth_at, Drops, IsFirst, numbers_to_come, AreWithin, TakesFirst, TakesFrom}
 use Rattle.std.proofs.lemmas.List.{append-nil}
 use Rattle.std.proofs.lemmas.Bool.{le-leb}
 use Rattle.mail_answer.proofs.CursorLaws.Turns.{first_from}
@@ -7,68 +7,43 @@ use Rattle.mail_answer.proofs.CursorLaws.Turns.{first_from}
 pub filter_alike : (f g : ℕ → Bool) (a n : ℕ) → ((k : ℕ) → a ≤ k → k < a + n → f k ≡ g k)
     → filter f (range_with_len a n) ≡ filter g (range_with_len a n)
 filter_alike f g a zero same = refl
-filter_alike f g a (suc n) same =
-    ap (λ (b : Bool). cond b (a ∷ filter f (range_with_len (a + 1) n)) (filter f (range_with_len (a + 1) n)))
-    (same a (omega arith) (omega arith))
-    ∙ ap (λ (ns : List ℕ). cond (g a) (a ∷ ns) ns)
-    (filter_alike f g (a + 1) n (λ k le lt. same k (omega (arith, le)) (omega (arith, lt))))
+filter_alike f g a (suc n) same = grind (arith, filter_alike f g (a + 1) n)
 
 none_pass : (f : ℕ → Bool) (a n : ℕ) → ((k : ℕ) → a ≤ k → k < a + n → f k ≡ false) → filter f (range_with_len a n) ≡ []
 none_pass f a zero none = refl
-none_pass f a (suc n) none =
-    ap (λ (b : Bool). cond b (a ∷ filter f (range_with_len (a + 1) n)) (filter f (range_with_len (a + 1) n)))
-    (none a (omega arith) (omega arith))
-    ∙ none_pass f (a + 1) n (λ k le lt. none k (omega (arith, le)) (omega (arith, lt)))
+none_pass f a (suc n) none = grind (arith, none_pass f (a + 1) n)
 
 skips : (f : ℕ → Bool) (a n : ℕ) → f a ≡ false → filter f (range_with_len a (suc n))
     ≡ filter f (range_with_len (a + 1) n)
-skips f a n fails = ap (λ (b : Bool). cond b (a ∷ filter f (range_with_len (a + 1) n))
-    (filter f (range_with_len (a + 1) n))) fails
+skips = grind arith
 
 takes : (f : ℕ → Bool) (a n : ℕ) → f a ≡ true → filter f (range_with_len a (suc n))
     ≡ a ∷ filter f (range_with_len (a + 1) n)
-takes f a n holds = ap (λ (b : Bool). cond b (a ∷ filter f (range_with_len (a + 1) n))
-    (filter f (range_with_len (a + 1) n))) holds
+takes = grind arith
 
 -- whether a number passes and isn't below `low`
 abbrev from : ℕ → (ℕ → Bool) → ℕ → Bool
 from low f n = nat_le low n && f n
 
 from-before : (low : ℕ) (f : ℕ → Bool) (n : ℕ) → n < low → from low f n ≡ false
-from-before low f n lt = ap (λ (b : Bool). b && f n) (lt-leb low n lt)
+from-before low f n lt = ap (λ b. b && f n) (lt-leb low n lt)
 
 from-after : (low : ℕ) (f : ℕ → Bool) (n : ℕ) → low ≤ n → from low f n ≡ f n
-from-after low f n le = ap (λ (b : Bool). b && f n) (le-leb low n le)
+from-after low f n le = ap (λ b. b && f n) (le-leb low n le)
 
 first_of_range : (f : ℕ → Bool) (k a n : ℕ) → a ≤ k → k < a + n → f k ≡ true → ((m : ℕ) → m < k → f m ≡ false)
     → filter f (range_with_len a n) ≡ k ∷ filter (from (suc k) f) (range_with_len a n)
 first_of_range f k a zero le lt holds none = absurd (omega (arith, le, lt))
 first_of_range f k a (suc n) le lt holds none =
-    elim (cases_lt a k) [
-      | inl before ↦
-          let skip : filter (from (suc k) f) (range_with_len a (suc n))
-          ≡ filter (from (suc k) f) (range_with_len (a + 1) n) =
-          skips (from (suc k) f) a n (from-before (suc k) f a (omega (arith, before))) in
-          skips f a n (none a before) ∙ first_of_range f k (a + 1) n (omega (arith, before)) (omega (arith, lt)) holds
-          none ∙ ap (λ (ns : List ℕ). k ∷ ns) (sym skip)
-      | inr after ↦
-          let same : a ≡ k = omega (arith, le, after) in
-          let here : f a ≡ true = ap f same ∙ holds in
-          let skip : filter (from (suc k) f) (range_with_len a (suc n))
-          ≡ filter (from (suc k) f) (range_with_len (a + 1) n) =
-          skips (from (suc k) f) a n (from-before (suc k) f a (omega (arith, same))) in
-          takes f a n here ∙ ap (λ (m : ℕ). m ∷ filter f (range_with_len (a + 1) n)) same
-          ∙ ap (λ (ns : List ℕ). k ∷ ns) (filter_alike f (from (suc k) f) (a + 1) n
-          (λ m above below. sym (from-after (suc k) f m (omega (arith, above, same)))) ∙ sym skip)
-    ]
+    grind (arith, skips, from-before, takes, filter_alike, from-after, first_of_range f k (a + 1) n)
 
 -- dropping the numbers below n leaves exactly the numbers from n on
 same_from : (n count : ℕ) (old new : List Bool) → Drops n old new → numbers_to_come n count old
     ≡ filter (truth_at new) (range_with_len 0 count)
-same_from n count old new drops = grind (arith, filter_alike, cases_lt, from-before, from-after)
+same_from = grind (arith, filter_alike, cases_lt, from-before, from-after)
 
 pub within_still : (n count : ℕ) (old new : List Bool) → Drops n old new → AreWithin count old → AreWithin count new
-within_still n count old new drops within m holds = grind (arith, cases_lt, both_ways)
+within_still = grind (arith, cases_lt, both_ways)
 
 -- ---- the numbers below n come first
 
@@ -81,18 +56,14 @@ split_range : (n low : ℕ) (f : ℕ → Bool) (a k : ℕ) → Split n low f (ra
 split_range n low f a zero = record { dropped = []; below = tt; split = refl }
 split_range n low f a (suc k) = elim (cases_lt a n) [
   | inl before ↦
-      let rest : Split n low f (range_with_len (a + 1) k) = split_range n low f (a + 1) k in
-      let gone : filter (from (max n low) f) (range_with_len a (suc k))
-      ≡ filter (from (max n low) f) (range_with_len (a + 1) k) =
-      skips (from (max n low) f) a k (from-before (max n low) f a (omega (arith, before))) in
-      split_one n low f a k before rest gone (from low f a) refl
+      let rest = split_range n low f (a + 1) k in
+      let gone =
+      skips _ a k (grind (arith, from-before)) in
+      split_one n _ f a k before rest gone _ refl
   | inr after ↦ record {
     dropped = [];
     below = tt;
-    split = filter_alike (from low f) (from (max n low) f) a (suc k) (λ m above lt. elim (cases_lt m low) [
-      | inl under ↦ from-before low f m under ∙ sym (from-before (max n low) f m (omega (arith, under)))
-      | inr over ↦ from-after low f m over ∙ sym (from-after (max n low) f m (omega (arith, over, above, after)))
-    ]);
+    split = grind (arith, filter_alike, from-before, from-after);
   }
 ]
   where
@@ -103,13 +74,12 @@ split_range n low f a (suc k) = elim (cases_lt a n) [
     split_one n low f a k before rest gone true holds = record {
       dropped = a ∷ rest.dropped;
       below = (before, rest.below);
-      split = takes (from low f) a k holds ∙ ap (λ (ns : List ℕ). a ∷ ns)
-          (rest.split ∙ ap (λ (ns : List ℕ). rest.dropped ++ ns) (sym gone));
+      split = grind (arith, takes);
     }
     split_one n low f a k before rest gone false fails = record {
       dropped = rest.dropped;
       below = rest.below;
-      split = skips (from low f) a k fails ∙ rest.split ∙ ap (λ (ns : List ℕ). rest.dropped ++ ns) (sym gone);
+      split = grind (arith, skips);
     }
 
 -- no number is below 0, so the least number from 0 on is the first
@@ -118,31 +88,28 @@ none_below [] all = refl
 none_below (n ∷ ns) all = absurd (omega (arith, all.0))
 
 pub takes_first : (old new : List ℕ) (number : Option ℕ) → TakesFrom 0 old new number → TakesFirst old new number
-takes_first old new None h = (none_below old h.0, h.1)
-takes_first old new (Some m) h = h.1.2 ∙ ap (λ (ns : List ℕ). ns ++ m ∷ new) (none_below h.1.0 h.1.1)
+takes_first old new None h = (none_below _ h.0, h.1)
+takes_first old new (Some m) h = h.1.2 ∙ ap (λ ns. ns ++ m ∷ new) (none_below _ h.1.1)
 
 -- a walk from the greater of n and low gives the least number from n on
 pub takes_none : (n low start count : ℕ) (old new : List Bool) → start ≡ max n low → Drops start old new
     → IsFirst new None → TakesFrom n (numbers_to_come low count old) (numbers_to_come low count new) None
 takes_none n low start count old new is drops none =
-    let s : Split n low (truth_at old) (range_with_len 0 count) = split_range n low (truth_at old) 0 count in
-    let gone : numbers_to_come (max n low) count old ≡ [] = ap (λ (m : ℕ). numbers_to_come m count old) (sym is)
-    ∙ same_from start count old new drops ∙ none_pass (truth_at new) 0 count (λ m a b. none m) in
-    let all : numbers_to_come low count old ≡ s.dropped = s.split ∙ ap (λ (ns : List ℕ). s.dropped ++ ns) gone
-    ∙ append-nil s.dropped in (
-      subst (AllByRecursion (λ m. m < n)) (sym all) s.below,
-      grind (arith, none_pass, cases_lt, from-before, from-after),
-    )
+    let s = split_range n _ _ 0 _ in
+    let gone = ap (λ m. numbers_to_come m count old) (sym is)
+    ∙ same_from _ _ _ _ drops ∙ none_pass _ 0 _ (λ m a b. none m) in
+    let all = s.split ∙ ap (λ ns. s.dropped ++ ns) gone
+    ∙ append-nil s.dropped in grind (arith, none_pass, from-before, from-after)
 
 pub takes_one : (n low start count k : ℕ) (old new : List Bool) → start ≡ max n low → Drops start old new
     → IsFirst new (Some k) → k < count
     → TakesFrom n (numbers_to_come low count old) (numbers_to_come (k + 1) count new) (Some k)
 takes_one n low start count k old new is drops first lt =
-    let s : Split n low (truth_at old) (range_with_len 0 count) = split_range n low (truth_at old) 0 count in
-    let one : numbers_to_come (max n low) count old ≡ k ∷ numbers_to_come (k + 1) count new =
-    ap (λ (m : ℕ). numbers_to_come m count old) (sym is) ∙ same_from start count old new drops
-    ∙ first_of_range (truth_at new) k 0 count (omega arith) (omega (arith, lt)) first.0 first.1
-    ∙ ap (λ (m : ℕ). k ∷ numbers_to_come m count new) (omega arith) in (
-      omega (arith, is, first_from start old new k drops first),
-      (s.dropped, s.below, s.split ∙ ap (λ (ns : List ℕ). s.dropped ++ ns) one),
+    let s = split_range n _ _ 0 _ in
+    let one =
+    ap (λ m. numbers_to_come m count old) (sym is) ∙ same_from _ _ _ _ drops
+    ∙ first_of_range _ k 0 _ (omega arith) (omega (arith, lt)) first.0 first.1
+    ∙ ap (λ m. k ∷ numbers_to_come m count new) (omega arith) in (
+      omega (arith, is, first_from _ _ _ k drops first),
+      (s.dropped, s.below, s.split ∙ ap (λ ns. s.dropped ++ ns) one),
     )

@@ -1,7 +1,7 @@
 -- The numbers of a look-up are those of the messages that have the text, because sorted keys have it only once.
-use Rattle.mail_answer.proofs.Words.{◌≡◌, ◌∙◌, ℕ, Bool, true, false, ◌&&◌, List, [], ◌∷◌, map, refl, sym, ap, arith, bytes_eq, list_any, filter, AllByRecursion, and_left, and_right, and_from, and-false, and-true, Kind, Key, KeyBefore, AllNext, is_key, lies_to, numbers_at, AreSorted, text_and_numbers, bytes_turned, is_number_among, texts_with, some_key, any_text}
+use Rattle.mail_answer.proofs.Words.{◌≡◌, ◌∙◌, ℕ, Bool, true, false, ◌&&◌, List, [], ◌∷◌, map, refl, sym, ap, arith, bytes_eq, list_any, filter, AllByRecursion, and_left, and_right, and_from, and-false, and-true, Kind, Key, KeyBefore, AllNext, is_key, numbers_at, AreSorted, text_and_numbers, bytes_turned, is_number_among, texts_with, some_key, any_text}
 use Rattle.std.specs.declared.cmp.Ordering.{Ordering}
-use Rattle.std.specs.declared.cmp.Ordering.TheVariants.{Less, Equal, Greater}
+use Rattle.std.specs.declared.cmp.Ordering.TheVariants.{Less, Equal}
 use Rattle.std.specs.Ordering.{nat_cmp, is_eq, ordering_reverse}
 use Rattle.std.specs.Cmp.Lexicographic.{slice_cmp}
 use Rattle.std.specs.List.Sorted.{IsStrictlySortedBy}
@@ -43,37 +43,36 @@ sorted_keys [] h = tt
 sorted_keys (k ∷ []) h = (tt, tt)
 sorted_keys (a ∷ b ∷ ks) h =
     let rest = sorted_keys (b ∷ ks) h.1 in
-    let first : slice_cmp nat_cmp (key_bytes a) (key_bytes b) ≡ Less = h.0 in
-    ((first, after a b ks first rest.0), rest)
+    let first = h.0 in
+    ((first, after a b _ first rest.0), rest)
 
 equal_from : (o : Ordering) → is_eq o ≡ true → o ≡ Equal
-equal_from o h = grind arith
+equal_from = grind arith
 
 -- no key after this one is the same
 no_second : (kind : Kind) (text : List ℕ) (k : Key) (ks : List Key) → is_key kind text k ≡ true
     → AllByRecursion (λ y. slice_cmp nat_cmp (key_bytes k) y ≡ Less) (map key_bytes ks) → numbers_at kind text ks ≡ []
 no_second kind text k [] this later = refl
 no_second kind text k (other ∷ ks) this later =
-    let wanted : List ℕ = kind_number kind ∷ text in
-    let same : slice_cmp nat_cmp (key_bytes k) wanted ≡ Equal =
-    equal_from (lies_to kind text k) (is_eq-slice_cmp (key_bytes k) wanted ∙ this) in
-    let here : slice_cmp nat_cmp wanted (key_bytes other) ≡ Less =
+    let wanted = kind_number kind ∷ text in
+    let same =
+    equal_from _ (grind (arith, is_eq-slice_cmp)) in
+    let here =
     sym (nat_list_cmp_total.congr (key_bytes k) wanted (key_bytes other) same) ∙ later.0 in
-    let greater : lies_to kind text other ≡ Greater = nat_list_cmp_total.antisymm (key_bytes other) wanted
+    let greater = nat_list_cmp_total.antisymm (key_bytes other) wanted
     ∙ ap ordering_reverse here in
-    rw (is_key-greater kind text other greater, numbers_at) (no_second kind text k ks this later.1)
+    grind (arith, is_key-greater, no_second _ _ k ks this later.1)
 
 -- one more key: of another kind, of this kind without the number, or with it
 numbers_here : (kind : Kind) (text : List ℕ) (k : Key) (ks : List Key) (here : Bool) → is_key kind text k ≡ here
     → numbers_at kind text (k ∷ ks) ≡ (elim here [ true ↦ k.numbers | false ↦ numbers_at kind text ks ])
-numbers_here kind text k ks here e = ap (λ (b : Bool). elim b as (λ _. List ℕ)
-    [ true ↦ k.numbers | false ↦ numbers_at kind text ks ]) e
+numbers_here = grind arith
 
 looked_up_more : (kind : Kind) (text : List ℕ) (n : ℕ) (k : Key) (ks : List Key)
     → AllByRecursion (λ y. slice_cmp nat_cmp (key_bytes k) y ≡ Less) (map key_bytes ks)
     → list_any (bytes_eq text) (texts_with kind n ks) ≡ is_number_among n (numbers_at kind text ks)
     → list_any (bytes_eq text) (texts_with kind n (k ∷ ks)) ≡ is_number_among n (numbers_at kind text (k ∷ ks))
-looked_up_more kind text n k ks later rest =
+looked_up_more =
     grind (arith, and_left, numbers_here, and_right, bytes_turned, and_from, no_second)
 
 -- the numbers of a look-up are those of the messages that have the text
@@ -81,4 +80,4 @@ pub looked_up : (kind : Kind) (text : List ℕ) (n : ℕ) (ks : List Key) → Ar
     → list_any (bytes_eq text) (texts_with kind n ks) ≡ is_number_among n (numbers_at kind text ks)
 unfolding IsStrictlySortedBy
 looked_up kind text n [] sorted = refl
-looked_up kind text n (k ∷ ks) sorted = looked_up_more kind text n k ks sorted.0 (looked_up kind text n ks sorted.1)
+looked_up kind text n (k ∷ ks) sorted = looked_up_more _ _ n k _ sorted.0 (looked_up _ _ n ks sorted.1)

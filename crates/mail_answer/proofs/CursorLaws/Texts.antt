@@ -1,5 +1,5 @@
 -- The walks along the posting lists of a text have the messages with this text, kind by kind and list by list.
-use Rattle.mail_answer.proofs.Words.{◌≡◌, ◌∙◌, ◌+◌, ◌*◌, ◌^◌, ◌<◌, ◌≤◌, ℕ, suc, Bool, true, false, cond, ◌&&◌, ◌||◌, List, [], ◌∷◌, ◌++◌, length, map, drop, get_or, refl, sym, ap, subst, arith, Result, IfOk, bytes_eq, list_any, filter, AllByRecursion, add-mul, suc-mul, drop_more, or-false, or_assoc, Kind, Text, OwnId, Key, Table, IsKey, IsWellFormed, numbers_at, keys_of, keys_beginning, text_and_numbers, TakesDigits, bytes_turned, Kinds, has_kind, some_word, word_begins_with, text_kinds, is_number_among, texts_with, facts_at, is_in, kinds_in, numbers_of_keys, numbers_named, LooksUp, WalkAhead, steps_left_in, AreNumbers, truths_among, some_has, HaveNumbers, numbers_passing, numbers_fitting, some_of_kinds, any_text}
+use Rattle.mail_answer.proofs.Words.{◌≡◌, ◌∙◌, ◌+◌, ◌*◌, ◌^◌, ◌<◌, ◌≤◌, ℕ, suc, Bool, true, false, cond, ◌&&◌, ◌||◌, List, [], ◌∷◌, ◌++◌, length, map, drop, get_or, refl, sym, ap, subst, arith, Result, IfOk, bytes_eq, list_any, filter, AllByRecursion, add-mul, suc-mul, drop_more, or-false, or_assoc, Kind, Text, OwnId, Key, Table, IsKey, IsWellFormed, numbers_at, keys_of, keys_beginning, text_and_numbers, TakesDigits, bytes_turned, Kinds, has_kind, some_word, text_kinds, is_number_among, texts_with, facts_at, is_in, kinds_in, numbers_of_keys, numbers_named, LooksUp, WalkAhead, steps_left_in, AreNumbers, truths_among, some_has, HaveNumbers, numbers_passing, numbers_fitting, some_of_kinds, any_text}
 use Rattle.mail_words.specs.declared.kind.TextKind.{TextKind}
 use Rattle.mail_answer.specs.Inside.CursorTexts.{AddsMatches}
 use Rattle.mail_answer.proofs.CursorLaws.Lists.{among-at, past_all}
@@ -12,11 +12,11 @@ left-append (v ∷ ws) w = omega (arith, left-append ws w)
 pub joins_list : (count : ℕ) (ns : List ℕ) (w : WalkAhead) (old new : List WalkAhead) → AreNumbers count ns → w.truths
     ≡ truths_among count ns → w.left ≡ length ns → new ≡ old ++ w ∷ []
     → AddsMatches (λ n. is_number_among n ns) (length ns) old new
-joins_list count ns w old new are told left is = grind (arith, some-append, among-at, left-append)
+joins_list = grind (arith, some-append, among-at, left-append)
 
 pub joins_more : (f g : ℕ → Bool) (p q : ℕ) (ws bs cs : List WalkAhead) → AddsMatches f p ws bs → AddsMatches g q bs cs
     → AddsMatches (λ n. f n || g n) (p + q) ws cs
-joins_more f g p q ws bs cs first then = grind (arith, or_assoc)
+joins_more = grind (arith, or_assoc)
 
 -- ---- keys of a kind
 
@@ -35,13 +35,12 @@ pub beginning_numbers : (t : Table) (kind : Kind) (text : List ℕ) (keys : List
     → HaveNumbers (length t.messages) keys
 beginning_numbers t kind text keys well is =
     subst (HaveNumbers (length t.messages)) (sym is)
-    (kept_numbers (length t.messages) (word_begins_with text) (keys_of kind t.keys)
-    (kind_numbers t.version (length t.messages) kind t.keys well.keys))
+    (kept_numbers _ _ _
+    (kind_numbers _ _ _ _ well.keys))
 
 pub keys_numbers : (t : Table) (kind : Kind) (keys : List (List ℕ × List ℕ)) → IsWellFormed t → keys
     ≡ map text_and_numbers (keys_of kind t.keys) → HaveNumbers (length t.messages) keys
-keys_numbers t kind keys well is = subst (HaveNumbers (length t.messages)) (sym is)
-    (kind_numbers t.version (length t.messages) kind t.keys well.keys)
+keys_numbers = grind (arith, kind_numbers)
 
 found_numbers : (version count : ℕ) (kind : Kind) (text : List ℕ) (ks : List Key)
     → AllByRecursion (IsKey version count) ks → AreNumbers count (numbers_at kind text ks)
@@ -51,7 +50,7 @@ found_numbers version count kind text (k ∷ ks) all = grind (arith, found_numbe
 pub list_numbers : (t : Table) (kind : Kind) (text ns : List ℕ) → IsWellFormed t → ns ≡ numbers_at kind text t.keys
     → AreNumbers (length t.messages) ns
 list_numbers t kind text ns well is = subst (AreNumbers (length t.messages)) (sym is)
-    (found_numbers t.version (length t.messages) kind text t.keys well.keys)
+    (found_numbers _ _ _ _ _ well.keys)
 
 pub fitting_left : (passes : List ℕ → Bool) (ks : List Key) → numbers_passing passes (map text_and_numbers ks)
     ≡ numbers_of_keys (filter (λ k. passes k.text) ks)
@@ -60,7 +59,7 @@ fitting_left passes (k ∷ ks) = grind (arith, fitting_left passes ks)
 
 pub all_left : (ks : List Key) → numbers_passing any_text (map text_and_numbers ks) ≡ numbers_of_keys ks
 all_left [] = refl
-all_left (k ∷ ks) = ap (λ (n : ℕ). length k.numbers + n) (all_left ks)
+all_left (k ∷ ks) = ap (λ n. length k.numbers + n) (all_left ks)
 
 -- the list of a look-up counts among those of the keys that fit
 pub found_left : (kind : Kind) (text : List ℕ) (ks : List Key)
@@ -88,11 +87,11 @@ looks_up_digits keys old new few takes =
     let once = takes 32 few in
     record {
       rises = omega (arith, once.2);
-      most = λ digits lt. let taken = takes digits lt in omega (arith, taken.1, taken.2);
+      most = grind arith;
     }
 
 pub looks_up_none : (keys old new : ℕ) → new ≡ old → LooksUp keys 0 old new
-looks_up_none keys old new same = record { rises = omega (arith, same); most = λ digits lt. omega (arith, same) }
+looks_up_none keys old new same = record { rises = omega (arith, same); most = omega (arith, same) }
 
 -- the walks so far, and those of the kinds that still come
 pub record HaveKinds (passes : List ℕ → Bool) (keys : List Key) (each_kind : ℕ) (all coming : List Kind)
@@ -105,7 +104,7 @@ pub record HaveKinds (passes : List ℕ → Bool) (keys : List Key) (each_kind :
       → steps_new + (length coming * each_kind) * digits ≤ steps_old + (length all * each_kind) * digits
 
 times_suc : (n a d : ℕ) → (suc n * a) * d ≡ (n * a) * d + a * d
-times_suc n a d = ap (λ (x : ℕ). x * d) (suc-mul n a) ∙ add-mul (n * a) a d
+times_suc n a d = ap (λ x. x * d) (suc-mul n a) ∙ add-mul (n * a) a d
 
 more_times : (n a d : ℕ) → (suc n * a) * d ≡ a * d + (n * a) * d
 more_times n a d = omega (arith, times_suc n a d)
@@ -115,12 +114,12 @@ module _ (passes : List ℕ → Bool) (keys : List Key) (a : ℕ) (all : List Ki
       → HaveKinds passes keys a all (kind ∷ coming) old ws steps0 steps1
       → AddsMatches (λ n. list_any passes (texts_with kind n keys)) (numbers_fitting passes keys kind) ws vs
       → LooksUp (length keys) a steps1 steps2 → HaveKinds passes keys a all coming old vs steps0 steps2
-  kinds_more kind coming ws vs steps1 steps2 have joins looks = grind (arith, or_assoc, more_times)
+  kinds_more = grind (arith, or_assoc, more_times)
 
   pub kinds_steps : (kind : Kind) (coming : List Kind) (ws : List WalkAhead) (steps1 steps2 : ℕ)
       → HaveKinds passes keys a all (kind ∷ coming) old ws steps0 steps1
       → LooksUp (length keys) a steps1 steps2 → LooksUp (length keys) (length all * a) steps0 steps2
-  kinds_steps kind coming ws steps1 steps2 have looks = grind (arith, more_times)
+  kinds_steps = grind (arith, more_times)
 
 -- after the last kind
 pub all_kinds : (passes : List ℕ → Bool) (keys : List Key) (a i : ℕ) (kinds : Kinds) (new : List WalkAhead)
@@ -133,41 +132,39 @@ pub all_kinds : (passes : List ℕ → Bool) (keys : List Key) (a i : ℕ) (kind
 all_kinds passes keys a i kinds new steps0 steps from to have =
     let last : i ≡ 8 = omega (arith, from, to) in
     let all = rw last at have in (
-      λ m. sym (or-false (some_has m new)) ∙ all.each m,
+      λ m. sym (or-false _) ∙ all.each m,
       omega (arith, all.left),
-      record { rises = all.rises; most = λ digits lt. omega (arith, all.most digits lt) },
+      record { rises = all.rises; most = grind arith },
     )
 
 pub next_kind : (kinds : Kinds) (kind : Kind) (rest : List Kind) (b : Bool) → is_in kinds kind ≡ b
     → filter (is_in kinds) (kind ∷ rest) ≡ cond b (kind ∷ filter (is_in kinds) rest) (filter (is_in kinds) rest)
-next_kind kinds kind rest b e = ap (λ (x : Bool). cond x (kind ∷ filter (is_in kinds) rest) (filter (is_in kinds) rest))
-    e
+next_kind = grind arith
 
 pub if_joins : {A E : Type 0} (r : Result A E) (f g : ℕ → Bool) (p q : ℕ) (ws bs : List WalkAhead)
     → IfOk r (λ _. AddsMatches f p ws bs) → ((m : ℕ) → g m ≡ f m) → p ≤ q → IfOk r (λ _. AddsMatches g q ws bs)
-if_joins r f g p q ws bs h h2 h3 = grind arith
+if_joins = grind arith
 
 -- the next kind, in the set or not
 pub coming_at : (kinds : Kinds) (items : List Kind) (i : ℕ) (d : Kind) (b : Bool) → i < length items
     → is_in kinds (get_or items i d) ≡ b
     → filter (is_in kinds) (drop i items) ≡ cond b (get_or items i d ∷ filter (is_in kinds) (drop (i + 1) items))
     (filter (is_in kinds) (drop (i + 1) items))
-coming_at kinds items i d b lt e = ap (filter (is_in kinds)) (drop_more items i d lt)
-    ∙ next_kind kinds (get_or items i d) (drop (i + 1) items) b e
+coming_at = grind (arith, drop_more, next_kind)
 
 module _ (passes : List ℕ → Bool) (keys : List Key) (a : ℕ) (all : List Kind) (old : List WalkAhead) (steps0 : ℕ)
     (kinds : Kinds) (items : List Kind) (i : ℕ) (d : Kind) (ws : List WalkAhead) (steps : ℕ) where
   pub kinds_next : i < length items → is_in kinds (get_or items i d) ≡ true
       → HaveKinds passes keys a all (filter (is_in kinds) (drop i items)) old ws steps0 steps
       → HaveKinds passes keys a all (get_or items i d ∷ filter (is_in kinds) (drop (i + 1) items)) old ws steps0 steps
-  kinds_next lt e have = subst (λ (ks : List Kind). HaveKinds passes keys a all ks old ws steps0 steps)
-      (coming_at kinds items i d true lt e) have
+  kinds_next lt e have = subst (λ ks. HaveKinds passes keys a all ks old ws steps0 steps)
+      (coming_at _ _ i d _ lt e) have
 
   pub kinds_skip : i < length items → is_in kinds (get_or items i d) ≡ false
       → HaveKinds passes keys a all (filter (is_in kinds) (drop i items)) old ws steps0 steps
       → HaveKinds passes keys a all (filter (is_in kinds) (drop (i + 1) items)) old ws steps0 steps
-  kinds_skip lt e have = subst (λ (ks : List Kind). HaveKinds passes keys a all ks old ws steps0 steps)
-      (coming_at kinds items i d false lt e) have
+  kinds_skip lt e have = subst (λ ks. HaveKinds passes keys a all ks old ws steps0 steps)
+      (coming_at _ _ i d _ lt e) have
 
 -- ---- past the last message
 
@@ -186,4 +183,4 @@ kinds_past version count m (kind ∷ kinds) passes ks past all =
 pub word_past : (kinds : Kinds) (passes : List ℕ → Bool) (t : Table) (m : ℕ) → IsWellFormed t → length t.messages ≤ m
     → some_word passes kinds (facts_at t m) ≡ false
 word_past kinds passes t m well past = sym (some_of_all kinds passes t m)
-    ∙ kinds_past t.version (length t.messages) m (kinds_in kinds) passes t.keys past well.keys
+    ∙ kinds_past _ _ m (kinds_in kinds) passes _ past well.keys

@@ -12,15 +12,13 @@ record_known (m ∷ ms) (suc n) lt = record_known ms n (omega (arith, lt))
 -- as many truths as messages, each given by the test
 pub told : (count : ℕ) (test : ℕ → Bool) (xs : List Bool) → length xs ≡ count
     → ((n : ℕ) → n < count → truth_at xs n ≡ test n) → xs ≡ each_number count test
-told count test xs long each = fill_by_all test xs count false long each
+told count test xs long each = fill_by_all _ _ _ _ long each
 
 -- each truth is negated
 pub turned : (xs ys : List Bool) → length ys ≡ length xs
     → ((n : ℕ) → n < length xs → truth_at ys n ≡ not (truth_at xs n)) → ys ≡ map not xs
 turned xs ys long each =
-    ext_get_or false ys (map not xs) (long ∙ sym (length-map xs not)) (λ n lt.
-    let within : n < length xs = omega (arith, long, lt) in
-    each n within ∙ sym (get_or-map not xs n false false within))
+    ext_get_or false ys (map not xs) (long ∙ sym (length-map xs not)) (grind (arith, get_or-map))
 
 -- ---- the numbers of the messages that are true
 
@@ -29,20 +27,20 @@ pub filter_more : (test : ℕ → Bool) (n : ℕ) → filter test (range_with_le
     ≡ filter test (range_with_len 0 n) ++ cond (test n) (n ∷ []) []
 filter_more test n =
     sym (ap (filter test) (map-id (range_with_len 0 (n + 1))))
-    ∙ filter_of_map_range_with_len_more test (λ (m : ℕ). m) 0 n n (omega arith)
-    ∙ ap (λ (ms : List ℕ). filter test ms ++ cond (test n) (n ∷ []) []) (map-id (range_with_len 0 n))
+    ∙ filter_of_map_range_with_len_more _ _ 0 n n (omega arith)
+    ∙ ap (λ ms. filter test ms ++ cond (test n) (n ∷ []) []) (map-id (range_with_len 0 n))
 
 -- the number passes and is added
 pub filter_true : (test : ℕ → Bool) (n : ℕ) (xs ys : List ℕ) → xs ≡ filter test (range_with_len 0 n) → test n ≡ true
     → ys ≡ xs ++ n ∷ [] → ys ≡ filter test (range_with_len 0 (n + 1))
-filter_true test n xs ys front here whole = grind (arith, filter_more)
+filter_true = grind (arith, filter_more)
 
 -- the number doesn't pass
 pub filter_false : (test : ℕ → Bool) (n : ℕ) (xs : List ℕ) → xs ≡ filter test (range_with_len 0 n) → test n ≡ false → xs
     ≡ filter test (range_with_len 0 (n + 1))
-filter_false test n xs front here = grind (arith, append-nil, filter_more)
+filter_false = grind (arith, append-nil, filter_more)
 
 -- truths that were added to none
 pub adds_to_none : (f : ℕ → Bool) (count : ℕ) (xs ys : List Bool) → xs ≡ replicate count false → Adds f xs ys → ys
     ≡ each_number count f
-adds_to_none f count xs ys none adds = grind (arith, length-replicate, told, get_or-replicate)
+adds_to_none = grind (arith, length-replicate, told, get_or-replicate)

@@ -1,5 +1,5 @@
 -- A bit that is set in a word is one more mark of the window, because every place has its own bit.
-use Rattle.mail_answer.proofs.Words.{◌≡◌, ◌∙◌, ◌+◌, ◌*◌, ◌/◌, ◌%◌, ◌-◌, ◌^◌, ◌<◌, ◌≤◌, ℕ, Bool, true, false, ◌||◌, List, length, set, get_or, replicate, nat_eq, sym, ap, arith, inl, inr, cases_lt, get_or-set_other, get_or-set_same, get_or_past, get_or-replicate, length-set, length-replicate, length-map-range_with_len, eq-eqb, ne_eqb, or-false, or_right, truth_at, Adds, Some, ap₂, subst, marks_in}
+use Rattle.mail_answer.proofs.Words.{◌≡◌, ◌∙◌, ◌+◌, ◌*◌, ◌/◌, ◌%◌, ◌-◌, ◌^◌, ◌<◌, ◌≤◌, ℕ, Bool, true, false, ◌||◌, List, length, set, get_or, replicate, nat_eq, sym, ap, arith, inl, inr, cases_lt, get_or-set_other, get_or-set_same, get_or_past, get_or-replicate, length-set, length-replicate, length-map-range_with_len, or-false, or_right, truth_at, Adds, Some, marks_in}
 use Rattle.mail_answer.specs.Inside.CursorMarks.{IsFirstPlace}
 use Rattle.std.specs.Prelude.{bit_and, bit_or}
 use Rattle.std.specs.Int.{bit_at, trailing_zeros, w64}
@@ -13,21 +13,16 @@ abbrev pub bit_of : List ℕ → ℕ → ℕ
 bit_of words k = bit_at (get_or words (k / 64) 0) (k % 64)
 
 pub marks-long : (words : List ℕ) → length (marks_in words) ≡ 64 * length words
-marks-long words = length-map-range_with_len (λ (k : ℕ). nat_eq (bit_of words k) 1) 0 (64 * length words)
+marks-long words = length-map-range_with_len _ 0 _
 
 pub marks-at : (words : List ℕ) (k : ℕ) → truth_at (marks_in words) k ≡ nat_eq (bit_of words k) 1
-marks-at words k = elim (cases_lt k (64 * length words)) [
-  | inl lt ↦ each-at (64 * length words) (λ (n : ℕ). nat_eq (bit_of words n) 1) k lt
-  | inr past ↦ each-past (64 * length words) (λ (n : ℕ). nat_eq (bit_of words n) 1) k past
-      ∙ sym (ap (λ (w : ℕ). nat_eq (bit_at w (k % 64)) 1) (get_or_past words (k / 64) 0 (omega (arith, past)))
-      ∙ ap (λ (b : ℕ). nat_eq b 1) (bit_at-zero (k % 64)))
-]
+marks-at = grind (arith, each-at, each-past, get_or_past, bit_at-zero)
 
 -- no bit is set
 pub unmarked-in : (count k : ℕ) → truth_at (marks_in (replicate count 0)) k ≡ false
 unmarked-in count k =
-    marks-at (replicate count 0) k ∙ ap (λ (b : ℕ). nat_eq b 1) (
-    ap (λ (w : ℕ). bit_at w (k % 64)) (blank (k / 64)) ∙ bit_at-zero (k % 64)
+    marks-at _ k ∙ ap (λ b. nat_eq b 1) (
+    ap (λ w. bit_at w (k % 64)) (blank _) ∙ bit_at-zero _
     )
   where
     none : ℕ
@@ -36,13 +31,13 @@ unmarked-in count k =
     blank : (i : ℕ) → get_or (replicate count none) i 0 ≡ none
     blank i = elim (cases_lt i count) [
       | inl lt ↦ get_or-replicate count i none 0 lt
-      | inr past ↦ get_or_past (replicate count none) i 0 (omega (arith, past, length-replicate count none))
+      | inr past ↦ get_or_past _ i 0 (omega (arith, past, length-replicate count none))
     ]
 
 pub blank-long : (count : ℕ) → length (marks_in (replicate count 0)) ≡ 64 * count
 blank-long count =
     let none : ℕ = 0 in
-    marks-long (replicate count none) ∙ ap (λ (n : ℕ). 64 * n) (length-replicate count none)
+    marks-long _ ∙ ap (λ n. 64 * n) (length-replicate count none)
 
 module _ (words : List ℕ) (place : ℕ) (lt : place / 64 < length words) where
   abbrev pub word : ℕ
@@ -70,10 +65,7 @@ module _ (words : List ℕ) (place : ℕ) (lt : place / 64 < length words) where
   ]
 
   bit_after : (k : ℕ) → nat_eq (bit_of words_after k) 1 ≡ (nat_eq (bit_of words k) 1 || nat_eq place k)
-  bit_after k = elim (cases_eq k place) [
-    | inl same ↦ grind (arith, set_here, eq-eqb, or_right)
-    | inr other ↦ grind (arith, set_other, ne_eqb, or-false)
-  ]
+  bit_after = grind (arith, set_here, or_right, set_other, or-false)
 
   pub marks_place : Adds (nat_eq place) (marks_in words) (marks_in words_after)
   marks_place = record {
@@ -99,14 +91,10 @@ pub record IsInHand (words : List ℕ) (place number word : ℕ) : Type 0 where
 module _ (words : List ℕ) (place : ℕ) where
   marks-in-word : (number j : ℕ) → j < 64 → truth_at (marks_in words) (64 * number + j)
       ≡ nat_eq (bit_at (get_or words number 0) j) 1
-  marks-in-word number j lt =
-      let high : (64 * number + j) / 64 ≡ number = omega (arith, lt) in
-      let low : (64 * number + j) % 64 ≡ j = omega (arith, lt) in
-      marks-at words (64 * number + j)
-      ∙ ap₂ (λ (i b : ℕ). nat_eq (bit_at (get_or words i 0) b) 1) high low
+  marks-in-word = grind (arith, marks-at)
 
   pub none_past : length words ≤ place / 64 → (k : ℕ) → place ≤ k → truth_at (marks_in words) k ≡ false
-  none_past past k le = get_or_past (marks_in words) k false (omega (arith, past, le, marks-long words))
+  none_past = grind (arith, get_or_past, marks-long)
 
   abbrev pub whole : ℕ
   whole = get_or words (place / 64) 0
@@ -116,12 +104,12 @@ module _ (words : List ℕ) (place : ℕ) where
   mask = (2 ^ 64 - 1) * 2 ^ (place % 64) % 2 ^ 64
 
   low : (j : ℕ) → j < place % 64 → bit_at mask j ≡ 0
-  low j below = ap (λ (m : ℕ). bit_at m j) (ones_shl 64 (place % 64) (omega arith))
-      ∙ bit_at_mask_below (place % 64) 64 j below
+  low j below = ap (λ m. bit_at m j) (ones_shl 64 (place % 64) (omega arith))
+      ∙ bit_at_mask_below _ 64 j below
 
   high : (j : ℕ) → place % 64 ≤ j → j < 64 → bit_at mask j ≡ 1
-  high j from less = ap (λ (m : ℕ). bit_at m j) (ones_shl 64 (place % 64) (omega arith))
-      ∙ bit_at_mask_inside (place % 64) 64 j from less
+  high j from less = ap (λ m. bit_at m j) (ones_shl 64 (place % 64) (omega arith))
+      ∙ bit_at_mask_inside _ _ j from less
 
   dropped : (j : ℕ) → j < place % 64 → bit_at (bit_and whole mask) j ≡ 0
   dropped j below = omega (arith, bit_at_and whole mask j, low j below)
@@ -135,36 +123,23 @@ module _ (words : List ℕ) (place : ℕ) where
     within = lt;
     from = omega arith;
     fits = omega (arith, fit (place / 64), and_le_l whole mask);
-    passed = λ k le less. absurd (omega (arith, le, less));
-    marked = λ j less set. elim (cases_lt j (place % 64)) [
-      | inl below ↦ absurd (omega (arith, set, dropped j below))
-      | inr from ↦ (
-        omega (arith, from),
-        marks-in-word (place / 64) j less
-            ∙ eq-eqb (bit_at whole j) 1 (kept j from less ∙ set),
-      )
-    ];
-    others = λ j less le unset. marks-in-word (place / 64) j less
-        ∙ ap (λ (b : ℕ). nat_eq b 1) (kept j (omega (arith, le)) less ∙ unset);
+    passed = grind arith;
+    marked = grind (arith, dropped, marks-in-word, kept);
+    others = grind (arith, marks-in-word, kept);
   }
 
   module _ (number word : ℕ) (hand : IsInHand words place number word) where
     -- the word has no bits
     passed_on : word ≡ 0 → (k : ℕ) → place ≤ k → k < 64 * (number + 1) → truth_at (marks_in words) k ≡ false
     passed_on none k le less = elim (cases_lt k (64 * number)) [
-      | inl before ↦ hand.passed k le before
+      | inl before ↦ grind arith
       | inr here ↦
           let is : 64 * number + (k - 64 * number) ≡ k = omega (arith, here) in
-          subst (λ (n : ℕ). truth_at (marks_in words) n ≡ false) is
-          (hand.others (k - 64 * number) (omega (arith, here, less)) (omega (arith, here, le))
-          (ap (λ (w : ℕ). bit_at w (k - 64 * number)) none ∙ bit_at-zero (k - 64 * number)))
+          grind (arith, bit_at-zero)
     ]
 
     pub none_left : word ≡ 0 → length words ≤ number + 1 → (k : ℕ) → place ≤ k → truth_at (marks_in words) k ≡ false
-    none_left none past k le = elim (cases_lt k (64 * (number + 1))) [
-      | inl less ↦ passed_on none k le less
-      | inr beyond ↦ get_or_past (marks_in words) k false (omega (arith, past, beyond, marks-long words))
-    ]
+    none_left = grind (arith, passed_on, get_or_past, marks-long)
 
     pub goes_on : word ≡ 0 → number + 1 < length words → ((i : ℕ) → get_or words i 0 < 2 ^ 64)
         → IsInHand words place (number + 1) (get_or words (number + 1) 0)
@@ -173,34 +148,28 @@ module _ (words : List ℕ) (place : ℕ) where
       from = omega (arith, hand.from);
       fits = fit (number + 1);
       passed = passed_on none;
-      marked = λ j less set. (
-        omega (arith, hand.from),
-        marks-in-word (number + 1) j less ∙ eq-eqb (bit_at (get_or words (number + 1) 0) j) 1 set,
-      );
-      others = λ j less le unset. marks-in-word (number + 1) j less
-          ∙ ap (λ (b : ℕ). nat_eq b 1) unset;
+      marked = grind (arith, marks-in-word);
+      others = grind (arith, marks-in-word);
     }
 
     module _ (some : 0 < word) where
       pub in_word : trailing_zeros w64 word < 64
-      in_word = (bit_at-trailing_zeros w64 word some hand.fits).0
+      in_word = (bit_at-trailing_zeros w64 _ some hand.fits).0
 
       is_set : bit_at word (trailing_zeros w64 word) ≡ 1
-      is_set = (bit_at-trailing_zeros w64 word some hand.fits).1
+      is_set = (bit_at-trailing_zeros w64 _ some hand.fits).1
 
       unset_before : (j : ℕ) → j < trailing_zeros w64 word → bit_at word j ≡ 0
-      unset_before = (bit_at-trailing_zeros w64 word some hand.fits).2
+      unset_before = (bit_at-trailing_zeros w64 _ some hand.fits).2
 
       pub found : IsFirstPlace place (marks_in words) (Some (64 * number + trailing_zeros w64 word))
       found = (
         (hand.marked (trailing_zeros w64 word) in_word is_set).0,
         (hand.marked (trailing_zeros w64 word) in_word is_set).1,
         λ k le less. elim (cases_lt k (64 * number)) [
-          | inl before ↦ hand.passed k le before
+          | inl before ↦ grind arith
           | inr here ↦
               let is : 64 * number + (k - 64 * number) ≡ k = omega (arith, here) in
-              subst (λ (n : ℕ). truth_at (marks_in words) n ≡ false) is
-              (hand.others (k - 64 * number) (omega (arith, here, less, in_word)) (omega (arith, here, le))
-              (unset_before (k - 64 * number) (omega (arith, here, less))))
+              grind (arith, in_word, unset_before)
         ],
       )

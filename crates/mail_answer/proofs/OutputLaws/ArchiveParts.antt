@@ -1,5 +1,5 @@
 -- A part of an archive gives the archive's bytes, and its reads leave of the archives what reads of these leave.
-use Rattle.mail_answer.proofs.Words.{◌≡◌, ℕ, zero, suc, ◌+◌, ◌-◌, ◌<◌, ◌≤◌, Bool, true, false, List, ◌++◌, Option, None, Some, IfSome, Result, Err, length, take, drop, refl, ap, sym, ◌∙◌, subst, arith, take-append-le, length-drop, length-take-le, WasKnown, archive_at, span, IsReadFromArchive, Reading, IsInsideArchive, bytes_left, span_reading, Record, Ghosts, AnswerFaultKind, Stale, reading}
+use Rattle.mail_answer.proofs.Words.{◌≡◌, ℕ, zero, suc, ◌+◌, ◌-◌, ◌<◌, ◌≤◌, Bool, true, false, List, ◌++◌, Option, None, Some, IfSome, Result, Err, length, take, drop, refl, ap, sym, ◌∙◌, arith, take-append-le, length-drop, length-take-le, WasKnown, archive_at, span, IsReadFromArchive, Reading, IsInsideArchive, bytes_left, span_reading, Record, Ghosts, AnswerFaultKind, Stale, reading}
 use Rattle.std.specs.Io.KnownBytes.{Consumes}
 use Rattle.contract_words.specs.Devices.{Counted}
 use Rattle.contract_words.specs.Knowledge.{still_known}
@@ -24,9 +24,8 @@ ends_early (Some archives) archive next left bytes some none read within =
 -- where a part is within an archive, so is no byte of it
 pub none_inside : (number : ℕ) (held : Option (List (List ℕ))) (archive next left : ℕ)
     → IsInsideArchive number held (reading archive next left) → IsInsideArchive number held (reading archive next 0)
-none_inside number None archive next left h = record { exists = h.exists; fits = omega (arith, h.fits); within = tt }
-none_inside number (Some archives) archive next left h =
-    record { exists = h.exists; fits = omega (arith, h.fits); within = omega (arith, h.within) }
+none_inside number None = grind arith
+none_inside number (Some archives) = grind arith
 
 -- while bytes are left, the archive hasn't ended early since the first read
 pub fresh_yet : (now first left : ℕ) → 0 < left → first ≤ now → (0 < now → left ≡ 0) → now ≡ first
@@ -42,8 +41,8 @@ pub gives_part : (old new : Option (List (List ℕ))) (archive next left n : ℕ
 gives_part old None archive next left n into more some le within was read = tt
 gives_part None (Some archives) archive next left n into more some le within was read = absurd (cc was)
 gives_part (Some before) (Some archives) archive next left n into more some le within was read =
-    ap (λ (held : List (List ℕ)). take left (drop next (archive_at held archive))) same
-    ∙ piece_first bytes next left n le ∙ ap (λ (l : List ℕ). l ++ take (left - n) (drop (next + n) bytes)) front
+    ap (λ held. take left (drop next (archive_at held archive))) same
+    ∙ piece_first bytes next _ n le ∙ ap (λ l. l ++ take (left - n) (drop (next + n) bytes)) front
   where
     bytes : List ℕ
     bytes = archive_at archives archive
@@ -53,7 +52,7 @@ gives_part (Some before) (Some archives) archive next left n into more some le w
 
     front : take n (drop next bytes) ≡ take n (into ++ more)
     front = sym (take-append-le n into more within ∙ read.0
-        ∙ ap (λ (k : ℕ). take k (drop next bytes)) (length-take-le n into within))
+        ∙ ap (λ k. take k (drop next bytes)) (length-take-le n into within))
 
 -- what holds of the bytes of a part, if something is still known of it, holds of the archive's bytes
 pub part_told : (old new : Option (List (List ℕ))) (m : Record) (after : Reading) (P : List ℕ → Type 0)
@@ -61,9 +60,7 @@ pub part_told : (old new : Option (List (List ℕ))) (m : Record) (after : Readi
     → IfSome (still_known (bytes_left old (span_reading m)) (bytes_left new after)) P
     → IfSome new (λ archives. P (span archives m))
 part_told old None m after P was holds = tt
-part_told old (Some archives) m after P was holds =
-    subst (λ (held : Option (List (List ℕ))). IfSome (still_known (bytes_left held (span_reading m))
-    (bytes_left (Some archives) after)) P) was holds
+part_told old (Some archives) m after P was holds = grind arith
 
 counted_same : (failed : Bool) (f f' e e' : ℕ) → e ≡ 0 → e' ≡ 0 → Counted failed (f + e) (f' + e') → Counted failed f f'
 counted_same true f f' e e' none none' count = omega (arith, none, none', count)
@@ -75,14 +72,7 @@ counted_early false f f' e e' none some rises count = absurd (omega (arith, none
 
 module _ {A : Type 0} (g : Ghosts A) where
   pub part_self : (part : ArchivePart A g) → ReadsPart g part part
-  part_self part = record {
-    name = refl;
-    keeps = keeps_self g part.archives.now;
-    failures = omega arith;
-    early_ends = omega arith;
-    read = λ same none. until_self g part.archives.now (reading part.archive part.next part.left);
-    ended = λ same some. absurd (omega (arith, some));
-  }
+  part_self = grind (arith, keeps_self, until_self)
 
   module _ (first now : ArchivePart A g) (reads : ReadsPart g first now) (none : first.early_ends ≡ 0) (failed : Bool)
       (count : Counted failed (g.failures first.archives.now + first.early_ends)
@@ -90,31 +80,18 @@ module _ {A : Type 0} (g : Ghosts A) where
     -- the archive ended early, and nothing was read after that
     pub part_ended : 0 < now.early_ends
         → EndsWithin g first.archive first.next first.left first.archives.now now.archives.now
-    part_ended some =
-        reads.ended (counted_early failed _ _ _ _ none some reads.failures count) (omega (arith, none, some))
+    part_ended = grind (arith, counted_early)
 
     -- no archive ended early
     pub part_reads : {T : Type 0} (result : Result T AnswerFaultKind) → now.early_ends ≡ 0
         → has_fault is_of_archives result ≡ failed → has_fault is_stale result ≡ false
         → ReadsArchives g first.archives.now now.archives.now result
-    part_reads result none' is fresh = record {
-      keeps = reads.keeps;
-      count = rw is (counted_same failed _ _ _ _ none none' count);
-      fresh = known (g.held now.archives.now);
-    }
-      where
-        known : (held : Option (List (List ℕ))) → IfSome held (λ _. has_fault is_stale result ≡ false)
-        known None = tt
-        known (Some archives) = fresh
+    part_reads = grind (arith, counted_same)
 
     -- the archive ended early
     pub part_ends_early : (T : Type 0) (n : ℕ) → 0 < now.early_ends
         → ReadsArchives {A = A} {T = T} g first.archives.now now.archives.now (Err (Stale n))
-    part_ends_early T n some = record {
-      keeps = reads.keeps;
-      count = counted_early failed _ _ _ _ none some reads.failures count;
-      fresh = rw (now.fresh some) tt;
-    }
+    part_ends_early T = grind (arith, counted_early)
 
   -- no read failed
   pub part_read : (first now : ArchivePart A g) → ReadsPart g first now → first.early_ends ≡ 0
@@ -122,5 +99,4 @@ module _ {A : Type 0} (g : Ghosts A) where
       → now.early_ends ≡ 0
       → ReadsUntil g first.archives.now now.archives.now (reading first.archive first.next first.left)
       (reading now.archive now.next now.left)
-  part_read first now reads none count none' =
-      reads.read (counted_same false _ _ _ _ none none' count) (omega (arith, none, none'))
+  part_read = grind (arith, counted_same)

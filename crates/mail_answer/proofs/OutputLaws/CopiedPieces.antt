@@ -1,5 +1,5 @@
 -- A span that is copied piece by piece is copied whole and closed, because its last line decides what closes it.
-use Rattle.mail_answer.proofs.Words.{◌≡◌, ◌∙◌, ℕ, zero, suc, ◌+◌, ◌-◌, ◌<◌, ◌≤◌, Bool, true, false, cond, List, [], ◌∷◌, ◌++◌, Option, None, Some, Result, IsErr, length, take, drop, refl, ap, sym, append_assoc, append-nil, arith, inl, inr, option_map, cases_lt, drop-append-le, drop_all, take-append-drop, take_rest, lines, first_length, first_length-le, first_length-positive, archive_at, feed, feeds_after, after_next, ending_of_bytes, feeds_of, Reading, bytes_left, IsInsideArchive, AppendsRead, closed_text, is_closed, last_line_of, IsIfKnown, JoinsFront, Ending, AnswerFaultKind, Sheet, Table, reading, span_reading, record_at, known_message, Mbox}
+use Rattle.mail_answer.proofs.Words.{◌≡◌, ◌∙◌, ℕ, zero, suc, ◌+◌, ◌-◌, ◌<◌, ◌≤◌, Bool, true, false, cond, List, [], ◌∷◌, ◌++◌, Option, None, Some, Result, IsErr, length, take, drop, refl, ap, sym, append_assoc, append-nil, arith, inl, inr, option_map, cases_lt, drop-append-le, drop_all, take-append-drop, take_rest, lines, first_length, first_length-le, first_length-positive, archive_at, feed, feeds_after, after_next, ending_of_bytes, feeds_of, Reading, bytes_left, IsInsideArchive, AppendsRead, closed_text, last_line_of, IsIfKnown, JoinsFront, Ending, AnswerFaultKind, Sheet, Table, reading, span_reading, record_at, known_message, Mbox}
 use Rattle.std.proofs.lemmas.List.{length-drop}
 use Rattle.mail_answer.specs.Inside.Copies.{Copies}
 use Rattle.mail_answer.proofs.OutputLaws.ClosedLemmas.{closed_more, next_front, last_after, one_line}
@@ -12,7 +12,7 @@ pub copies_err : (t u : Option (List ℕ)) (a b : Sheet) (coming rest : Option (
     (before : Ending) (r : Result Ending AnswerFaultKind) → IsErr r
     → ((text : List ℕ) × IsIfKnown coming text × JoinsFront t u a b text × (length text ≡ count))
     → Copies t u a b coming rest count left before r
-copies_err t u a b coming rest count left before r h h2 = grind arith
+copies_err = grind arith
 
 -- there are bytes of this length
 pub some_bytes : (count : ℕ) → (bytes : List ℕ) × (length bytes ≡ count)
@@ -23,15 +23,14 @@ some_bytes (suc count) = let bytes = some_bytes count in (0 ∷ bytes.0, omega (
 pub some_coming : (held : Option (List (List ℕ))) (number : ℕ) (r : Reading) → IsInsideArchive number held r
     → (text : List ℕ)
     × IsIfKnown (bytes_left held r) text × (length text ≡ r.left)
-some_coming None number r inside = let bytes = some_bytes r.left in (bytes.0, tt, bytes.1)
-some_coming (Some archives) number r inside =
-    (take r.left (drop r.next (archive_at archives r.archive)), refl, count_known archives number r inside)
+some_coming None number r inside = let bytes = some_bytes _ in (bytes.0, tt, bytes.1)
+some_coming (Some archives) number r inside = search (arith, count_known)
 
 -- the part after a piece
 pub inside_after : (number : ℕ) (held : Option (List (List ℕ))) (archive next left n : ℕ) → n ≤ left
     → IsInsideArchive number held (reading archive next left)
     → IsInsideArchive number held (reading archive (next + n) (left - n))
-inside_after number held archive next left n le h = grind arith
+inside_after = grind arith
 
 -- ---- bytes are closed as their last line is
 
@@ -39,36 +38,35 @@ closed_by_last-from : (most : ℕ) (b : List ℕ) → length b ≤ most → 0 < 
     ≡ b ++ feeds_after (last_line_of (lines b))
 closed_by_last-from zero b le some = absurd (omega (arith, le, some))
 closed_by_last-from (suc most) b le some =
-    let positive : 0 < first_length b = first_length-positive b some in
-    let within : first_length b ≤ length b = first_length-le b in
-    let rest : List ℕ = after_next b in
-    let front : List ℕ = take (first_length b) b in
+    let positive = first_length-positive b some in
+    let within = first_length-le b in
+    let rest = after_next b in
+    let front = take (first_length b) b in
     elim (cases_lt (first_length b) (length b)) [
       | inl more ↦
-          let after : length rest ≡ length b - first_length b = length-drop (first_length b) b in
-          let same : last_line_of (lines b) ≡ last_line_of (lines rest) =
-          ap (λ (l : List ℕ). last_line_of (lines l)) (sym (append-nil b)) ∙ last_after b [] more
-          ∙ ap (λ (l : List ℕ). last_line_of (lines l)) (append-nil rest) in
-          closed_more b (omega (arith, after, more)) ∙ ap (λ (l : List ℕ). l ++ closed_text rest) (next_front b more)
-          ∙ ap (λ (l : List ℕ). front ++ l) (closed_by_last-from most rest (omega (arith, after, positive, le))
+          let after = length-drop (first_length b) b in
+          let same =
+          ap (λ l. last_line_of (lines l)) (sym (append-nil b)) ∙ last_after b _ more
+          ∙ ap (λ l. last_line_of (lines l)) (append-nil rest) in
+          closed_more b (omega (arith, after, more)) ∙ ap (λ l. l ++ closed_text rest) (next_front b more)
+          ∙ ap (λ l. front ++ l) (closed_by_last-from most _ (omega (arith, after, positive, le))
           (omega (arith, after, more)))
           ∙ sym (append_assoc front rest (feeds_after (last_line_of (lines rest))))
-          ∙ ap (λ (l : List ℕ). l ++ feeds_after (last_line_of (lines rest))) (take-append-drop (first_length b) b)
-          ∙ ap (λ (l : List ℕ). b ++ feeds_after l) (sym same)
+          ∙ ap (λ l. l ++ feeds_after (last_line_of (lines rest))) (take-append-drop (first_length b) b)
+          ∙ ap (λ l. b ++ feeds_after l) (sym same)
       | inr last ↦
           let whole : first_length b ≡ length b = omega (arith, last, within) in
-          one_line b some whole ∙ ap (λ (ls : List (List ℕ)). b ++ feeds_after (last_line_of ls))
+          one_line b some whole ∙ ap (λ ls. b ++ feeds_after (last_line_of ls))
           (sym (lines_single b some whole))
     ]
 
 pub closed_by_last : (b : List ℕ) → 0 < length b → closed_text b ≡ b ++ feeds_of (ending_of_bytes b)
-closed_by_last b some = closed_by_last-from (length b) b (omega arith) some
-    ∙ ap (λ (l : List ℕ). b ++ l) (sym (feeds_told (last_line_of (lines b))))
+closed_by_last = grind (arith, closed_by_last-from, feeds_told)
 
 -- bytes are a front of the closed bytes
 pub closed_begins : (b : List ℕ) → (feeds : List ℕ) × (closed_text b ≡ b ++ feeds)
 unfolding closed_text
-closed_begins b = go (is_closed b) (is_closed (b ++ feed))
+closed_begins b = go _ _
   where
     go : (v w : Bool) → (feeds : List ℕ) × (cond v b (cond w (b ++ feed) (b ++ feed ++ feed)) ≡ b ++ feeds)
     go true w = ([], sym (append-nil b))
@@ -83,9 +81,7 @@ pub piece_read : (archive next left n : ℕ) (held : Option (List (List ℕ))) (
     → bytes_left held (reading archive next left)
     ≡ option_map (λ bytes. r.bytes ++ bytes) (bytes_left held (reading archive (next + n) (left - n)))
 piece_read archive next left n None old new r le = refl
-piece_read archive next left n (Some archives) old new r le =
-    ap Some (piece_first (archive_at archives archive) next left n le
-    ∙ ap (λ l. l ++ take (left - n) (drop (next + n) (archive_at archives archive))) (sym r.known))
+piece_read archive next left n (Some archives) old new r le = grind (arith, piece_first)
 
 -- the bytes after those that were there
 pub after_gathered : (old piece items : List ℕ) (at : ℕ) → items ≡ old ++ piece → at ≡ length old
@@ -95,13 +91,13 @@ after_gathered old piece items at is long = grind (arith, take_rest, drop-append
 -- a piece and what comes after it
 pub tells_after : (known : Option (List ℕ)) (piece rest : List ℕ) → IsIfKnown known rest
     → IsIfKnown (option_map (λ bytes. piece ++ bytes) known) (piece ++ rest)
-tells_after known piece rest h = grind arith
+tells_after = grind arith
 
 -- two pieces, one after the other
 pub pieces_more : (known : Option (List ℕ)) (text piece : List ℕ)
     → option_map (λ bytes. text ++ bytes) (option_map (λ bytes. piece ++ bytes) known)
     ≡ option_map (λ bytes. (text ++ piece) ++ bytes) known
-pieces_more known text piece = grind (arith, append_assoc)
+pieces_more = grind (arith, append_assoc)
 
 -- only a front of a closed span was copied
 pub front_told : (span part : Option (List ℕ)) (text rest : List ℕ) → span ≡ option_map (λ bytes. text ++ bytes) part
@@ -110,7 +106,7 @@ pub front_told : (span part : Option (List ℕ)) (text rest : List ℕ) → span
 front_told span None text rest is told = ([], rw is tt)
 front_told span (Some k) text rest is told =
     let begins = closed_begins (text ++ rest) in
-    (begins.0, rw is (ap (λ (l : List ℕ). closed_text (text ++ l)) told ∙ begins.1))
+    grind arith
 
 -- the whole span was copied
 pub closed_told : (held : Option (List (List ℕ))) (number : ℕ) (span part : Reading) (text : List ℕ)

@@ -19,18 +19,18 @@ closed_group g = (closed_first g.0 g.1, closed_rest g.0 g.1)
 one-more : (g : Group) (text : List ℕ) → IsText g text → ends_in_return text ≡ false
     → (gs : List Group) (texts : List (List ℕ)) → AreMessages gs texts
     → AreMessages (closed_group g ∷ gs) (text ∷ texts)
-one-more g text h other gs texts rest = grind
+one-more = grind
     (arith, text_of, text-closed, separator-same, inside-closed, is-closed, cut-closed)
 
 gathered : (texts : List (List ℕ)) → All IsCutOut texts → All (λ text. ends_in_return text ≡ false) texts
     → (gs : List Group) × AreMessages gs texts
 gathered [] out other = ([], record { are = refl; messages = tt; closing = tt; each_line = tt })
 gathered (text ∷ texts) out other =
-    let rest : (gs : List Group) × AreMessages gs texts =
+    let rest =
     gathered texts (λ k d h. out (suc k) d (omega arith)) (λ k d h. other (suc k) d (omega arith)) in
-    let here : (g : Group) × IsText g text = cut-out text (out 0 [] (omega arith)) in
-    (closed_group here.0 ∷ rest.0, one-more here.0 text here.1 (other 0 [] (omega arith)) rest.0 texts rest.1)
+    let here = cut-out _ (out 0 [] (omega arith)) in
+    (closed_group here.0 ∷ rest.0, one-more _ _ here.1 (other 0 [] (omega arith)) _ _ rest.1)
 
 pub cut-again : (texts : List (List ℕ)) → All IsCutOut texts → All (λ text. ends_in_return text ≡ false) texts
     → IsCutInto (flat_map closed_text texts) (map closed_text texts)
-cut-again texts out other = grind (arith, gathered, concat_is, flat_map-map, messages-cut)
+cut-again = grind (arith, gathered, concat_is, flat_map-map, messages-cut)

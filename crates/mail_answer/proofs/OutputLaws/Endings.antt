@@ -1,5 +1,5 @@
 -- The ending of bytes after one more byte is known from the ending before it, by the cases of the last line.
-use Rattle.mail_answer.proofs.Words.{◌≡◌, ◌∙◌, ℕ, zero, suc, ◌+◌, ◌<◌, ◌≤◌, Bool, true, false, cond, ◌||◌, ◌&&◌, ◌==◌, nat_lt, List, [], ◌∷◌, ◌++◌, length, refl, ap, sym, append_assoc, append-nil, arith, inl, inr, cases_lt, eqb-true, nat_tests, drop-append-le, drop_all, is_empty, lines, first_length, length_before_feed, line_end-more, first_length-le, first_length-positive, length_before_feed-le, length_before_feed-append_out, lines-cons, lines-nil, feed, has_feed, feeds_after, after_next, ending_of_line, ending_of_bytes, line_of, with_byte, feeds_of, last_line_of, Ending, Empty, Ended, Return, Open}
+use Rattle.mail_answer.proofs.Words.{◌≡◌, ◌∙◌, ℕ, zero, suc, ◌+◌, ◌<◌, ◌≤◌, Bool, true, false, cond, ◌||◌, ◌==◌, nat_lt, List, [], ◌∷◌, ◌++◌, length, refl, ap, sym, append_assoc, append-nil, arith, inl, inr, cases_lt, nat_tests, drop-append-le, drop_all, is_empty, lines, first_length, length_before_feed, line_end-more, first_length-le, first_length-positive, length_before_feed-le, length_before_feed-append_out, lines-cons, lines-nil, feed, has_feed, feeds_after, after_next, ending_of_line, ending_of_bytes, line_of, with_byte, feeds_of, last_line_of, Ending, Return, Open}
 use Rattle.std.specs.Str.{bytes_eq}
 use Rattle.std.proofs.lemmas.List.{length-append, length-drop, take_all}
 use Rattle.mail_answer.proofs.OutputLaws.ClosedLemmas.{last_after, last-cons, whole_end, whole_feed, has_feed-is, cr_line}
@@ -12,75 +12,48 @@ no_lines = refl
 
 one_byte : (b : ℕ) → ending_of_line (b ∷ []) ≡ line_of b
 unfolding is_empty
-one_byte b = go (b == 10) (b == 13)
-  where
-    go : (x y : Bool) → cond ((x && true) || (y && false)) Empty
-        (cond (x || false) Ended (cond (y && true) Return (Open 1))) ≡ cond x Empty (cond y Return (Open 1))
-    go x y = grind arith
+one_byte = grind arith
 
 pub lines_single : (b : List ℕ) → 0 < length b → first_length b ≡ length b → lines b ≡ b ∷ []
-lines_single b h e = grind (arith, lines-cons, drop_all, lines-nil, take_all)
+lines_single = grind (arith, lines-cons, drop_all, lines-nil, take_all)
 
 single_ending : (b : List ℕ) → 0 < length b → first_length b ≡ length b → ending_of_bytes b ≡ ending_of_line b
-single_ending b h e = ap (λ (ls : List (List ℕ)). ending_of_line (last_line_of ls)) (lines_single b h e)
+single_ending = grind (arith, lines_single)
 
 one_length : (b : ℕ) → first_length (b ∷ []) ≡ 1
 unfolding first_length
-one_length b = elim (b == 10) as (λ v. cond (nat_lt 65536 (cond v 0 1)) 65536
-    (cond (nat_lt (cond v 0 1) 1) (cond v 0 1 + 1) 1) ≡ 1) [ true ↦ refl | false ↦ refl ]
+one_length = grind arith
 
 one_line_of : (b : ℕ) → ending_of_bytes (b ∷ []) ≡ line_of b
-one_line_of b = single_ending (b ∷ []) (omega arith) (one_length b) ∙ one_byte b
+one_line_of b = single_ending _ (omega arith) (one_length b) ∙ one_byte b
 
 -- a line that the next byte isn't part of
 cut_after : (b x : List ℕ) → 0 < length b → 0 < length x → length b ≡ first_length (b ++ x)
     → last_line_of (lines (b ++ x))
     ≡ last_line_of (lines x)
-cut_after b x h some same = grind (arith, length-append, lines-cons, drop-append-le, drop_all, last-cons)
+cut_after = grind (arith, length-append, lines-cons, drop-append-le, drop_all, last-cons)
 
 not_empty : (b : List ℕ) → has_feed b ≡ false → is_empty b ≡ false
 unfolding is_empty
 not_empty [] none = refl
-not_empty (x ∷ []) none = go (x == 10) (x == 13) none
-  where
-    go : (a b : Bool) → (a || false) ≡ false → ((a && true) || (b && false)) ≡ false
-    go a b h = grind arith
-not_empty (x ∷ y ∷ []) none = go (x == 10) (x == 13) (y == 10) none
-  where
-    go : (a b c : Bool) → (a || (c || false)) ≡ false → ((a && false) || (b && (c && true))) ≡ false
-    go a b c h = grind arith
-not_empty (x ∷ y ∷ z ∷ rest) none = go (x == 10) (x == 13) (y == 10)
-  where
-    go : (a b c : Bool) → ((a && false) || (b && (c && false))) ≡ false
-    go a b c = grind arith
+not_empty (x ∷ []) none = grind arith
+not_empty (x ∷ y ∷ []) none = grind arith
+not_empty (x ∷ y ∷ z ∷ rest) none = grind arith
 
 -- CR alone is one byte
 return_long : (b : List ℕ) → bytes_eq b (13 ∷ []) ≡ true → length b ≡ 1
 return_long [] is = absurd (cc is)
 return_long (x ∷ []) is = refl
-return_long (x ∷ y ∷ rest) is = absurd (go (x == 13) is)
-  where
-    go : (a : Bool) → (a && false) ≡ true → ⊥
-    go true is = cc is
-    go false is = cc is
+return_long (x ∷ y ∷ rest) is = grind arith
 
 not_return : (b : List ℕ) → 1 < length b → bytes_eq b (13 ∷ []) ≡ false
 not_return [] long = absurd (omega arith)
 not_return (x ∷ []) long = absurd (omega arith)
-not_return (x ∷ y ∷ rest) long = go (x == 13)
-  where
-    go : (a : Bool) → (a && false) ≡ false
-    go true = refl
-    go false = refl
+not_return (x ∷ y ∷ rest) long = grind arith
 
 has_feed-append : (a b : List ℕ) → has_feed (a ++ b) ≡ (has_feed a || has_feed b)
 has_feed-append [] b = refl
-has_feed-append (x ∷ xs) b = go (x == 10) (has_feed-append xs b)
-  where
-    go : (v : Bool) → has_feed (xs ++ b) ≡ (has_feed xs || has_feed b) → (v || has_feed (xs ++ b))
-        ≡ ((v || has_feed xs) || has_feed b)
-    go true rest = refl
-    go false rest = rest
+has_feed-append (x ∷ xs) b = grind (arith, has_feed-append xs b)
 
 -- ---- one more byte
 
@@ -91,7 +64,7 @@ open_ending b none = rw (not_empty b none, none) refl
 
 feed_more : (b : List ℕ) → 0 < length b → first_length b ≡ length b → has_feed b ≡ false → ending_of_bytes (b ++ feed)
     ≡ with_byte (ending_of_line b) 10
-feed_more b h e none = grind (
+feed_more = grind (
   arith,
   length-append,
   has_feed-append,
@@ -105,27 +78,27 @@ feed_more b h e none = grind (
 
 at_most : (b : List ℕ) → first_length b ≡ length b → length_before_feed b ≡ length b → length b ≤ 65536
 unfolding first_length
-at_most b e free = grind (arith, nat_tests)
+at_most = grind (arith, nat_tests)
 
 whole_line : (b : List ℕ) → length_before_feed b ≡ length b → length b ≤ 65536 → first_length b ≡ length b
 unfolding first_length
-whole_line b free most = grind (arith, nat_tests)
+whole_line = grind (arith, nat_tests)
 
 cut_line : (b : List ℕ) → 65536 < length_before_feed b → first_length b ≡ 65536
 unfolding first_length
-cut_line b full = grind (arith, nat_tests)
+cut_line = grind (arith, nat_tests)
 
 byte_more : (b : List ℕ) (x : ℕ) → 0 < length b → first_length b ≡ length b → has_feed b ≡ false → (x == 10) ≡ false
     → ending_of_bytes (b ++ x ∷ []) ≡ with_byte (ending_of_line b) x
 byte_more b x h e none other =
     elim (cases_lt (length b) 65536) [
       | inl short ↦
-          single_ending (b ++ x ∷ []) (omega (arith, long)) (whole (omega arith)) ∙ open_ending (b ++ x ∷ []) without
-          ∙ ap (λ (v : Bool). cond v Return (Open (length (b ++ x ∷ []))))
+          single_ending _ (omega (arith, long)) (whole (omega arith)) ∙ open_ending _ without
+          ∙ ap (λ v. cond v Return (Open (length (b ++ x ∷ []))))
           (not_return (b ++ x ∷ []) (omega (arith, long, h)))
-          ∙ ap Open long ∙ rw (open_ending b none) (parts (bytes_eq b (13 ∷ [])) refl short)
+          ∙ ap Open long ∙ rw (open_ending b none) (parts _ refl short)
       | inr full ↦
-          ap ending_of_line (cut_after b (x ∷ []) h (omega arith) (cut (omega arith))) ∙ one_line_of x
+          ap ending_of_line (cut_after b _ h (omega arith) (cut (omega arith))) ∙ one_line_of x
           ∙ rw (open_ending b none, not_return b (omega arith)) (begins (omega arith))
     ]
   where
@@ -133,28 +106,28 @@ byte_more b x h e none other =
     long = length-append b (x ∷ [])
 
     free : length_before_feed b ≡ length b
-    free = let le : length_before_feed b ≤ length b = length_before_feed-le b
-        in let is : nat_lt (length_before_feed b) (length b) ≡ false = sym (has_feed-is b) ∙ none
+    free = let le = length_before_feed-le b
+        in let is = sym (has_feed-is b) ∙ none
         in grind (arith, nat_tests)
 
     without : has_feed (b ++ x ∷ []) ≡ false
-    without = has_feed-append b (x ∷ []) ∙ rw (none, other) refl
+    without = has_feed-append b _ ∙ rw (none, other) refl
 
     free_more : length_before_feed (b ++ x ∷ []) ≡ length b + 1
-    free_more = length_before_feed-append_out b (x ∷ []) free ∙ ap (λ (v : Bool). length b + cond v 0 1) other
+    free_more = length_before_feed-append_out b _ free ∙ ap (λ v. length b + cond v 0 1) other
 
     most : length b ≤ 65536
     most = at_most b e free
 
     whole : length b < 65536 → first_length (b ++ x ∷ []) ≡ length (b ++ x ∷ [])
-    whole short = whole_line (b ++ x ∷ []) (omega (arith, free_more, long)) (omega (arith, long, short))
+    whole short = whole_line _ (omega (arith, free_more, long)) (omega (arith, long, short))
 
     cut : 65536 ≤ length b → length b ≡ first_length (b ++ x ∷ [])
-    cut full = sym (cut_line (b ++ x ∷ []) (omega (arith, free_more, full)) ∙ omega (arith, full, most))
+    cut full = sym (cut_line _ (omega (arith, free_more, full)) ∙ omega (arith, full, most))
 
     parts : (v : Bool) → bytes_eq b (13 ∷ []) ≡ v → length b < 65536 → Open (length b + 1)
         ≡ with_byte (cond v Return (Open (length b))) x
-    parts true is short = let one : length b ≡ 1 = return_long b is in rw (one, other) refl
+    parts true is short = let one = return_long b is in rw (one, other) refl
     parts false is short =
         let some : (length b == 0) ≡ false = grind (arith, nat_tests) in
         let fits : nat_lt (length b) 65536 ≡ true = grind (arith, nat_tests) in
@@ -162,26 +135,16 @@ byte_more b x h e none other =
 
     begins : 65536 ≤ length b → line_of x ≡ with_byte (Open (length b)) x
     begins full =
-        let some : (length b == 0) ≡ false = grind (arith, nat_tests) in
-        let fits : nat_lt (length b) 65536 ≡ false = grind (arith, nat_tests) in
-        rw (some, other, fits) refl
+        grind arith
 
 -- a line that has its LF
 ended_more : (b : List ℕ) (x : ℕ) → 0 < length b → first_length b ≡ length b → has_feed b ≡ true
     → ending_of_bytes (b ++ x ∷ []) ≡ with_byte (ending_of_line b) x
-ended_more b x h e ended = grind (arith, line_end-more, whole_end, has_feed-is, cut_after, one_line_of)
+ended_more = grind (arith, line_end-more, whole_end, has_feed-is, cut_after, one_line_of)
 
 single_more : (b : List ℕ) (x : ℕ) → 0 < length b → first_length b ≡ length b → ending_of_bytes (b ++ x ∷ [])
     ≡ with_byte (ending_of_bytes b) x
-single_more b x h e = go (has_feed b) refl (x == 10) refl
-    ∙ ap (λ (a : Ending). with_byte a x) (sym (single_ending b h e))
-  where
-    go : (v : Bool) → has_feed b ≡ v → (w : Bool) → (x == 10) ≡ w → ending_of_bytes (b ++ x ∷ [])
-        ≡ with_byte (ending_of_line b) x
-    go true ended w is = ended_more b x h e ended
-    go false none true is = let ten : x ≡ 10 = eqb-true x 10 is in ap (λ (y : ℕ). ending_of_bytes (b ++ y ∷ [])) ten
-        ∙ feed_more b h e none ∙ ap (with_byte (ending_of_line b)) (sym ten)
-    go false none false is = byte_more b x h e none is
+single_more = grind (arith, single_ending, ended_more, feed_more, byte_more)
 
 ending_more-from : (most : ℕ) (b : List ℕ) (x : ℕ) → length b ≤ most → ending_of_bytes (b ++ x ∷ [])
     ≡ with_byte (ending_of_bytes b) x
@@ -232,11 +195,4 @@ ending_after b (x ∷ xs) some =
 -- ---- what closes the last line
 
 pub feeds_told : (line : List ℕ) → feeds_of (ending_of_line line) ≡ feeds_after line
-feeds_told line = go (is_empty line) (has_feed line) (bytes_eq line (13 ∷ []))
-  where
-    go : (e f r : Bool) → feeds_of (cond e Empty (cond f Ended (cond r Return (Open (length line)))))
-        ≡ cond e [] (cond (f || r) feed (feed ++ feed))
-    go true f r = refl
-    go false true r = refl
-    go false false true = refl
-    go false false false = refl
+feeds_told = grind arith

@@ -1,5 +1,5 @@
 -- A header that is read line by line has the fields of the message, because lines after the empty line don't count.
-use Rattle.mail_answer.proofs.Words.{◌≡◌, ℕ, zero, suc, ◌<◌, ◌≤◌, true, List, [], ◌∷◌, ◌++◌, Option, None, Some, IfSome, length, drop, refl, ap, sym, ◌∙◌, subst, append_assoc, append-nil, arith, lines, length-drop, first_length, first_length-le, first_length-positive, lines-cons, lines-nil, HeaderField, fields_of, lines_before_empty, lines_within, fields_in, most_in_header, HasFields, WillHaveFields, HasFieldsAfter, Record, TakesFirstLine, Table, excerpt, excerpt_lines, known_message, path_at, span, IsIfKnown, record_at, Excerpt}
+use Rattle.mail_answer.proofs.Words.{◌≡◌, ℕ, zero, suc, ◌<◌, ◌≤◌, true, List, [], ◌∷◌, ◌++◌, Option, None, Some, IfSome, length, drop, refl, ap, sym, ◌∙◌, subst, append_assoc, append-nil, arith, lines, length-drop, first_length, first_length-le, first_length-positive, lines-cons, lines-nil, HeaderField, fields_of, lines_before_empty, HasFields, WillHaveFields, HasFieldsAfter, Record, TakesFirstLine, Table, excerpt, excerpt_lines, known_message, path_at, span, IsIfKnown, record_at, Excerpt}
 use Rattle.std.specs.Io.KnownBytes.{prepend_known}
 use Rattle.contract_words.specs.Knowledge.{still_known}
 use Rattle.header_text.specs.HeldLines.{HasLines, taken_of}
@@ -16,8 +16,7 @@ before_empty-more (k ∷ ks) more h = grind (arith, before_empty-more ks more)
 
 fields_ended : (ls more : List (List ℕ)) → has_empty ls ≡ true → fields_of (ls ++ more) ≡ fields_of ls
 unfolding fields_of
-fields_ended ls more h = ap (λ (ks : List (List ℕ)). fields_in (lines_within most_in_header ks))
-    (before_empty-more ls more h)
+fields_ended = grind (arith, before_empty-more)
 
 -- in this call the first line was taken, and this many bytes before it
 abbrev TakesFrom : Option (List ℕ) → ℕ → List ℕ → Option (List ℕ) → Type 0
@@ -26,13 +25,12 @@ TakesFrom old n line new = IfSome new (λ after. (bytes : List ℕ) × (old ≡ 
 
 nothing : (b : List ℕ) → 0 ≡ first_length b → b ≡ []
 nothing [] e = refl
-nothing (x ∷ xs) e = let some : 0 < first_length (x ∷ xs) = first_length-positive (x ∷ xs) (omega arith) in
-    absurd (omega arith)
+nothing (x ∷ xs) e = grind (arith, first_length-positive)
 
 -- the first line, and those after it
 next_line : (bytes line after : List ℕ) (n : ℕ) → 0 < n → TakesFirstLine bytes n line after
     → lines bytes ≡ line ∷ lines after
-next_line bytes line after n some t = grind (arith, lines-cons, first_length-le)
+next_line = grind (arith, lines-cons, first_length-le)
 
 -- no line came any more
 pub none_comes : (old new : Option (List ℕ)) (line : List ℕ) (h : Header) → TakesFrom old 0 line new
@@ -41,7 +39,7 @@ none_comes old None line h t fields w = tt
 none_comes old (Some after) line h t fields w = grind (arith, nothing, append-nil, lines-nil)
 
 ended_is : (ls : List (List ℕ)) → Ended ≡ taken_of ls → has_empty ls ≡ true
-ended_is ls e = grind arith
+ended_is = grind arith
 
 -- the header was given the next line
 pub line_given : (old new : Option (List ℕ)) (n : ℕ) (line : List ℕ) (h h' : Header) (taken : Taken)
@@ -50,21 +48,21 @@ pub line_given : (old new : Option (List ℕ)) (n : ℕ) (line : List ℕ) (h h'
     → (fields : List HeaderField) → WillHaveFields old h fields → HasFieldsAfter taken new h' fields
 line_given old None n line h h' More t some push told fields w = tt
 line_given old None n line h h' Ended t some push told fields w = tt
-line_given old (Some after) n line h h' taken t some push told fields w = given taken (told before.0 before.1)
+line_given old (Some after) n line h h' taken t some push told fields w = given _ (told before.0 before.1)
   where
     before : (ls : List (List ℕ)) × HasLines h ls × (fields_of (ls ++ lines t.0) ≡ fields)
-    before = subst (λ (o : Option (List ℕ)). WillHaveFields o h fields) t.1 w
+    before = subst (λ o. WillHaveFields o h fields) t.1 w
 
     whole : fields_of ((before.0 ++ line ∷ []) ++ lines after) ≡ fields
     whole = ap fields_of (append_assoc before.0 (line ∷ []) (lines after)
-        ∙ ap (λ (ls : List (List ℕ)). before.0 ++ ls) (sym (next_line t.0 line after n some t.2))) ∙ before.2
+        ∙ ap (λ ls. before.0 ++ ls) (sym (next_line _ _ _ n some t.2))) ∙ before.2
 
     given : (t : Taken) → t ≡ taken_of (before.0 ++ line ∷ []) → HasFieldsAfter t (Some after) h' fields
     given More e = (before.0 ++ line ∷ [], push before.0 before.1, whole)
     given Ended e = (
       before.0 ++ line ∷ [],
       push before.0 before.1,
-      sym (fields_ended (before.0 ++ line ∷ []) (lines after) (ended_is (before.0 ++ line ∷ []) e)) ∙ whole,
+      sym (fields_ended _ _ (ended_is (before.0 ++ line ∷ []) e)) ∙ whole,
     )
 
 -- the first line was passed, and the header has no line yet
@@ -74,7 +72,7 @@ first_passed None new n line h t none = tt
 first_passed (Some bytes) None n line h t none = tt
 first_passed (Some bytes) (Some after) zero line h t none = ([], none, grind (arith, nothing, lines-nil))
 first_passed (Some bytes) (Some after) (suc n) line h t none =
-    ([], none, grind (arith, next_line t.0 line after (suc n) (omega arith) t.2))
+    ([], none, grind (arith, next_line _ _ _ _ (omega arith) t.2))
 
 -- no more bytes come after a line than before it
 pub fewer_come : (old new : Option (List ℕ)) (n : ℕ) (line : List ℕ) (most : ℕ) → TakesFrom old n line new
@@ -107,7 +105,4 @@ pub excerpt_told : (t : Table) (held : Option (List (List ℕ))) (n : ℕ) (m : 
     → IsIfKnown (known_message Excerpt t held n) text
 unfolding excerpt
 excerpt_told t None n m path text h e p f w = tt
-excerpt_told t (Some archives) n m path text h e p f w =
-    ap (λ (r : Record). excerpt (path_at t.archives r.archive) (span archives r)) (sym e)
-    ∙ ap (λ (l : List ℕ). l ++ 10 ∷ excerpt_lines (fields_of (drop 1 (lines (span archives m))))) (sym p)
-    ∙ ap (λ (fs : List HeaderField). path ++ 10 ∷ excerpt_lines fs) (sym f.2) ∙ sym (w f.0 f.1)
+excerpt_told t (Some archives) n m path text h e p f w = grind arith

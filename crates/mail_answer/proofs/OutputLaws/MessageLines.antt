@@ -1,5 +1,5 @@
 -- Messages with a closing line that follow one another are cut into these messages, line by line.
-use Rattle.mail_answer.proofs.Words.{◌≡◌, ◌∙◌, ℕ, ◌+◌, Bool, true, false, cond, ◌&&◌, ◌||◌, ◌==◌, suc, List, [], ◌∷◌, ◌++◌, Some, length, map, refl, ap, sym, arith, append-nil, length-append, concat, eqb-true, concat-append, Message, spans_of, messages, messages_from, marked_lines, grouped_lines, is_refused, total, span_length, lines, is_empty, length_before_feed, AreCut, is_separator, places_from}
+use Rattle.mail_answer.proofs.Words.{◌≡◌, ◌∙◌, ℕ, ◌+◌, Bool, true, false, ◌&&◌, List, [], ◌∷◌, ◌++◌, Some, length, map, refl, ap, sym, arith, append-nil, length-append, concat, concat-append, Message, spans_of, messages, messages_from, marked_lines, grouped_lines, is_refused, total, span_length, lines, is_empty, length_before_feed, AreCut, is_separator, places_from}
 use Rattle.mbox_cutter.proofs.OnlyLines.{only_lines}
 
 -- each element has the property
@@ -59,18 +59,15 @@ grouped-messages (g ∷ gs) is closed = grind (arith, grouped-after, append-nil,
 pub separator-some : (l : List ℕ) → is_separator l ≡ true → is_empty l ≡ false
 unfolding is_separator is_empty
 separator-some [] h = absurd (cc h)
-separator-some (x ∷ xs) h = go (x == 70) refl h
-  where
-    go : (v : Bool) → (x == 70) ≡ v → is_separator (x ∷ xs) ≡ true → is_empty (x ∷ xs) ≡ false
-    go v h h2 = grind (arith, eqb-true)
+separator-some (x ∷ xs) h = grind arith
 
 accepted : (gs : List Group) → Each IsMessage gs → is_refused (marked_lines true (all_lines gs)) ≡ false
 accepted [] is = refl
-accepted (g ∷ gs) is = rw (separator-some g.0 is.0.starts, is.0.starts) refl
+accepted (g ∷ gs) is = rw (separator-some _ is.0.starts, is.0.starts) refl
 
 pub total-length : (ls : List (List ℕ)) → total ls ≡ length (concat ls)
 total-length [] = refl
-total-length (l ∷ ls) = ap (λ (n : ℕ). length l + n) (total-length ls) ∙ sym (length-append l (concat ls))
+total-length (l ∷ ls) = ap (λ n. length l + n) (total-length ls) ∙ sym (length-append l (concat ls))
 
 -- the span of a message
 abbrev pub span_of : Message → ℕ × ℕ
@@ -80,32 +77,22 @@ spans : (offset : ℕ) (gs : List Group) → map span_of (messages_from offset g
 spans offset [] = refl
 spans offset (g ∷ gs) =
     let n : length g.0 + total g.1 ≡ length (text_of g) = total-length (lines_of g) in
-    rw n (ap (λ (rest : List (ℕ × ℕ)). (offset, length (text_of g)) ∷ rest) (spans (offset + length (text_of g)) gs))
+    grind (arith, spans (offset + length (text_of g)) gs)
 
 joined : (gs : List Group) → concat (all_lines gs) ≡ concat (map text_of gs)
 joined [] = refl
-joined (g ∷ gs) = concat-append (lines_of g) (all_lines gs) ∙ ap (λ (rest : List ℕ). text_of g ++ rest) (joined gs)
+joined (g ∷ gs) = concat-append (lines_of g) (all_lines gs) ∙ ap (λ rest. text_of g ++ rest) (joined gs)
 
 pub lines-concat : (ls : List (List ℕ)) → AreCut ls → lines (concat ls) ≡ ls
-lines-concat ls c = sym (only_lines (concat ls) ls (record { joined = refl; each = c }))
+lines-concat ls c = sym (only_lines _ _ (record { joined = refl; each = c }))
 
 -- an empty line has its LF
 empty-feed : (l : List ℕ) → is_empty l ≡ true → length_before_feed l ≡ length l → ⊥
 unfolding is_empty
 empty-feed [] e n = absurd (cc e)
-empty-feed (x ∷ []) e n = tests (x == 10) (x == 13) e n
-  where
-    tests : (a b : Bool) → ((a && true) || (b && false)) ≡ true → ◌≡◌ {A = ℕ} (cond a 0 1) 1 → ⊥
-    tests a b h h2 = grind arith
-empty-feed (x ∷ y ∷ []) e n = tests (x == 10) (x == 13) (y == 10) e n
-  where
-    tests : (a b c : Bool) → ((a && false) || (b && (c && true))) ≡ true → ◌≡◌ {A = ℕ} (cond a 0 (suc (cond c 0 1))) 2
-        → ⊥
-    tests a b c h h2 = grind arith
-empty-feed (x ∷ y ∷ z ∷ xs) e n = tests (x == 10) (x == 13) (y == 10) e
-  where
-    tests : (a b c : Bool) → ((a && false) || (b && (c && false))) ≡ true → ⊥
-    tests a b c h = grind arith
+empty-feed (x ∷ []) e n = grind arith
+empty-feed (x ∷ y ∷ []) e n = grind arith
+empty-feed (x ∷ y ∷ z ∷ xs) e n = grind arith
 
 -- the lines after an empty one
 after-closed : (l : List ℕ) (ls ms : List (List ℕ)) → AreCut (l ∷ ls) → may_after (is_empty l) ls ≡ true → AreCut ms
@@ -116,7 +103,7 @@ after-closed l (k ∷ ls) ms c closed d = (c.0, c.1, after-closed k ls ms c.2 cl
 
 all-cut : (gs : List Group) → Each IsClosed gs → Each (λ g. AreCut (lines_of g)) gs → AreCut (all_lines gs)
 all-cut [] closed each = tt
-all-cut (g ∷ gs) closed each = after-closed g.0 g.1 (all_lines gs) each.0 closed.0 (all-cut gs closed.1 each.1)
+all-cut (g ∷ gs) closed each = grind (arith, after-closed, all-cut gs closed.1 each.1)
 
 -- messages with a closing line, joined, are cut into these messages
 pub messages-cut : (gs : List Group) → Each IsMessage gs → Each IsClosed gs → Each (λ g. AreCut (lines_of g)) gs
@@ -124,5 +111,5 @@ pub messages-cut : (gs : List Group) → Each IsMessage gs → Each IsClosed gs 
 unfolding messages
 messages-cut gs is closed each =
     let all : lines (concat (map text_of gs)) ≡ all_lines gs = ap lines (sym (joined gs))
-    ∙ lines-concat (all_lines gs) (all-cut gs closed each) in
-    rw (all, accepted gs is, grouped-messages gs is closed) (ap Some (spans 0 gs))
+    ∙ lines-concat _ (all-cut _ closed each) in
+    grind (arith, accepted, grouped-messages, spans)

@@ -10,21 +10,21 @@ use Rattle.mail_answer.specs.declared.format.Format.{Format}
 each_join : (P : List ℕ → Type 0) (xs ys : List (List ℕ)) → AllByRecursion P xs → AllByRecursion P ys
     → AllByRecursion P (xs ++ ys)
 each_join P [] ys first second = second
-each_join P (x ∷ xs) ys first second = (first.0, each_join P xs ys first.1 second)
+each_join P (x ∷ xs) ys first second = (first.0, each_join P xs _ first.1 second)
 
 module _ {A : Type 0} (g : Ghosts A) where
   tell_join : (n offset : ℕ) (xs ys : List (List ℕ)) (a b c : A) → TellPieces g n offset xs a b
       → TellPieces g n (offset + length (concat xs)) ys b c → TellPieces g n offset (xs ++ ys) a c
   tell_join n offset [] ys a b c first second =
-      subst (λ (s : A). TellPieces g n offset ys s c) first
-      (subst (λ (k : ℕ). TellPieces g n k ys b c) (omega arith) second)
+      subst (λ s. TellPieces g n offset ys s c) first
+      (subst (λ k. TellPieces g n k ys b c) (omega arith) second)
   tell_join n offset (x ∷ xs) ys a b c first second =
       let place : offset + length (x ++ concat xs) ≡ offset + length x + length (concat xs) =
       omega (arith, length-append x (concat xs)) in (
         first.0,
         first.1,
-        tell_join n (offset + length x) xs ys first.0 b c first.2
-            (subst (λ (k : ℕ). TellPieces g n k ys b c) place second),
+        tell_join n (offset + length x) xs _ _ b c first.2
+            (grind arith),
       )
 
   bytes_join : (n offset : ℕ) (xs ys : List ℕ) (a b c : A) → ReadsBytes g n offset xs a b
@@ -32,28 +32,22 @@ module _ {A : Type 0} (g : Ghosts A) where
   bytes_join n offset xs ys a b c first second = record {
     pieces = first.pieces ++ second.pieces;
     joined = concat-append first.pieces second.pieces ∙ ap₂ (λ ps qs. ps ++ qs) first.joined second.joined;
-    some = each_join (λ piece. 0 < length piece) first.pieces second.pieces first.some second.some;
-    told = tell_join n offset first.pieces second.pieces a b c first.told
-        (subst (λ (bytes : List ℕ). TellPieces g n (offset + length bytes) second.pieces b c) (sym first.joined)
+    some = each_join _ _ _ first.some second.some;
+    told = tell_join n _ _ _ a b c first.told
+        (subst (λ bytes. TellPieces g n (offset + length bytes) second.pieces b c) (sym first.joined)
         second.told);
   }
 
   pub until_self : (a : A) (r : Reading) → ReadsUntil g a a r r
-  until_self a r = record {
-    bytes = [];
-    read = record { pieces = []; joined = refl; some = tt; told = refl };
-    archive = refl;
-    next = omega arith;
-    left = omega arith;
-  }
+  until_self = grind arith
 
   -- a part was read on, and then once more
   pub until_join : (r s t : Reading) (a b c : A) → ReadsUntil g a b r s → ReadsUntil g b c s t → ReadsUntil g a c r t
   until_join r s t a b c first second = record {
     bytes = first.bytes ++ second.bytes;
-    read = bytes_join r.archive r.next first.bytes second.bytes a b c first.read
-        (subst (λ (k : ℕ). ReadsBytes g r.archive k second.bytes b c) first.next
-        (subst (λ (n : ℕ). ReadsBytes g n s.next second.bytes b c) first.archive second.read));
+    read = bytes_join _ _ _ _ a b c first.read
+        (subst (λ k. ReadsBytes g r.archive k second.bytes b c) first.next
+        (subst (λ n. ReadsBytes g n s.next second.bytes b c) first.archive second.read));
     archive = second.archive ∙ first.archive;
     next = omega (arith, first.next, second.next, length-append first.bytes second.bytes);
     left = omega (arith, first.left, second.left, length-append first.bytes second.bytes);
@@ -68,7 +62,7 @@ module _ {A : Type 0} (g : Ghosts A) where
     read = record {
       pieces = piece ∷ [];
       joined = append-nil piece;
-      some = (omega (arith, long, some), tt);
+      some = grind arith;
       told = (b, told, refl);
     };
     archive = refl;
@@ -79,14 +73,7 @@ module _ {A : Type 0} (g : Ghosts A) where
   -- the archive has no byte where the part goes on
   pub until_ends : (r s : Reading) (a b c : A) → ReadsUntil g a b r s → 0 < s.left
       → g.reads b s.archive s.next (Ok []) c → EndsWithin g r.archive r.next r.left a c
-  until_ends r s a b c so_far some last = record {
-    bytes = so_far.bytes;
-    before = b;
-    front = so_far.read;
-    few = omega (arith, so_far.left, some);
-    last = subst (λ (k : ℕ). g.reads b r.archive k (Ok []) c) so_far.next
-        (subst (λ (n : ℕ). g.reads b n s.next (Ok []) c) so_far.archive last);
-  }
+  until_ends = grind arith
 
   -- ---- messages
 
@@ -115,27 +102,12 @@ module _ {A : Type 0} (g : Ghosts A) where
       → s.archive ≡ m.archive → IfStale kind (λ n. n ≡ s.archive)
       → IfStale kind (λ _. g.reads b s.archive s.next (Ok []) c) → ReadsOrEnds g format m a c r
   ends_read format m s a b c kind (Ok x) err reads some same own last = absurd err
-  ends_read format m s a b c kind (Err k) err reads some same own last =
-      subst (λ (fault : AnswerFaultKind). IfStale fault (λ archive. (archive ≡ m.archive)
-      × EndsWithin g archive m.offset m.length a c)) (sym err) (told kind own last)
-    where
-      told : (fault : AnswerFaultKind) → IfStale fault (λ n. n ≡ s.archive)
-          → IfStale fault (λ _. g.reads b s.archive s.next (Ok []) c)
-          → IfStale fault (λ archive. (archive ≡ m.archive) × EndsWithin g archive m.offset m.length a c)
-      told (Stale n) is none = (
-        is ∙ same,
-        subst (λ (k : ℕ). EndsWithin g k m.offset m.length a c) (sym (is ∙ same))
-            (until_ends (span_reading m) s a b c reads some none),
-      )
-      told Device is none = tt
-      told OutOfMemory is none = tt
-      told OutFailed is none = tt
+  ends_read format m s a b c kind (Err k) err reads some same own last = grind (arith, until_ends)
 
   -- one more message was read
   pub each_more : (format : Format) (ms : List Record) (done : List ℕ) (n : ℕ) (a b c : A)
       → ReadsEach g format ms done a b
       → ReadsMessage g format (record_at ms n) b c → ReadsEach g format ms (done ++ n ∷ []) a c
-  each_more format ms [] n a b c so_far reads =
-      (c, subst (λ (s : A). ReadsMessage g format (record_at ms n) s c) so_far reads, refl)
+  each_more format ms [] n a b c so_far reads = grind arith
   each_more format ms (m ∷ done) n a b c so_far reads =
-      (so_far.0, so_far.1, each_more format ms done n so_far.0 b c so_far.2 reads)
+      (so_far.0, so_far.1, each_more _ _ done n _ b c so_far.2 reads)

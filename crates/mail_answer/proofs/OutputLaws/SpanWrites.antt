@@ -8,13 +8,13 @@ use Rattle.mail_answer.proofs.OutputLaws.SheetLemmas.{joins_more, writes_next, w
 pub some_spans : (t : Table) (numbers : List ℕ) → (spans : List (List ℕ)) × AreSpansOf t numbers spans
 some_spans t [] = ([], refl)
 some_spans t (n ∷ numbers) =
-    let bytes = some_bytes (record_at t.messages n).length in
+    let bytes = some_bytes _ in
     let rest = some_spans t numbers in
     (bytes.0 ∷ rest.0, ap₂ (λ k ks. k ∷ ks) bytes.1 rest.1)
 
 are_spans : (t : Table) (done numbers : List ℕ) (spans more : List (List ℕ)) → AreSpansOf t done spans
     → AreSpansOf t numbers more → AreSpansOf t (done ++ numbers) (spans ++ more)
-are_spans t done numbers spans more are then = grind (arith, map-append)
+are_spans = grind (arith, map-append)
 
 -- one more span
 pub spans_more : {t u v : Option (List ℕ)} {a b c : Sheet} (table : Table) (done : List ℕ) (n : ℕ)
@@ -23,13 +23,13 @@ pub spans_more : {t u v : Option (List ℕ)} {a b c : Sheet} (table : Table) (do
     × ((text : List ℕ) × (closed_text bytes ≡ text) × AddsBytes u v b c text))
     → (spans : List (List ℕ)) × AreSpansOf table (done ++ n ∷ []) spans × AddsBytes t v a c (flat_map closed_text spans)
 spans_more {t} {u} {v} {a} {b} {c} table done n so_far next =
-    let spans : List (List ℕ) = so_far.0 in
-    let bytes : List ℕ = next.0 in
-    let text : flat_map closed_text spans ++ next.2.0 ≡ flat_map closed_text (spans ++ bytes ∷ []) =
-    ap (λ (l : List ℕ). flat_map closed_text spans ++ l) (sym next.2.1 ∙ sym (append-nil (closed_text bytes)))
-    ∙ sym (flat_map-append closed_text spans (bytes ∷ [])) in (
+    let spans = so_far.0 in
+    let bytes = next.0 in
+    let text =
+    ap (λ l. flat_map closed_text spans ++ l) (sym next.2.1 ∙ sym (append-nil (closed_text bytes)))
+    ∙ sym (flat_map-append closed_text _ _) in (
       spans ++ bytes ∷ [],
-      are_spans table done (n ∷ []) spans (bytes ∷ []) so_far.1 (ap (λ (k : ℕ). k ∷ []) next.1),
+      are_spans table _ _ _ _ so_far.1 (grind arith),
       subst (AddsBytes t v a c) text (joins_more so_far.2 next.2.2),
     )
 
@@ -41,14 +41,13 @@ pub spans_stop : {T E : Type 0} (t u v : Option (List ℕ)) (a b c : Sheet) (tab
     × ((text : List ℕ) × (closed_text bytes ≡ text) × JoinsFront u v b c text))
     → WritesSpans t v a c table (done ++ n ∷ after) r
 spans_stop {T} {E} t u v a b c table done n after r err so_far next =
-    let spans : List (List ℕ) = so_far.0 in
-    let bytes : List ℕ = next.0 in
-    let rest = some_spans table after in
-    let text : flat_map closed_text spans ++ (closed_text bytes ++ flat_map closed_text rest.0)
-    ≡ flat_map closed_text (spans ++ bytes ∷ rest.0) = sym (flat_map-append closed_text spans (bytes ∷ rest.0)) in (
+    let spans = so_far.0 in
+    let bytes = next.0 in
+    let rest = some_spans table _ in
+    let text = sym (flat_map-append closed_text spans _) in (
       spans ++ bytes ∷ rest.0,
-      are_spans table done (n ∷ after) spans (bytes ∷ rest.0) so_far.1 (ap₂ (λ k ks. k ∷ ks) next.1 rest.1),
-      subst (λ (l : List ℕ). WritesText t v a c (Some l) r) text
+      are_spans table _ _ _ _ so_far.1 (ap₂ (λ k ks. k ∷ ks) next.1 rest.1),
+      subst (λ l. WritesText t v a c (Some l) r) text
           (writes_next t u v a b c (Some (flat_map closed_text spans))
           (Some (closed_text bytes ++ flat_map closed_text rest.0)) r
           (flat_map closed_text spans, refl, so_far.2)
@@ -61,9 +60,9 @@ pub spans_end : {T E : Type 0} (t u v : Option (List ℕ)) (a b c : Sheet) (tabl
     → ((spans : List (List ℕ)) × AreSpansOf table numbers spans × AddsBytes t u a b (flat_map closed_text spans))
     → WritesText u v b c (Some []) r → WritesSpans t v a c table numbers r
 spans_end {T} {E} t u v a b c table numbers r so_far last =
-    let text : List ℕ = flat_map closed_text so_far.0 in (
+    let text = flat_map closed_text so_far.0 in (
       so_far.0,
       so_far.1,
-      subst (λ (l : List ℕ). WritesText t v a c (Some l) r) (append-nil text)
+      subst (λ l. WritesText t v a c (Some l) r) (append-nil text)
           (writes_next t u v a b c (Some text) (Some []) r (text, refl, so_far.2) last),
     )

@@ -19,16 +19,15 @@ by_link t m n linked = (n ∷ [], (linked, refl))
 
 path_joined : (t : Table) (l m n : ℕ) (front back : List ℕ) → IsPathOfLinks t l front m → IsPathOfLinks t m back n
     → IsPathOfLinks t l (front ++ back) n
-path_joined t l m n [] back here rest = subst (λ (k : ℕ). IsPathOfLinks t k back n) (sym here) rest
-path_joined t l m n (k ∷ front) back given rest = (given.0, path_joined t k m n front back given.1 rest)
+path_joined t l m n [] back here rest = subst (λ k. IsPathOfLinks t k back n) (sym here) rest
+path_joined t l m n (k ∷ front) back given rest = (given.0, path_joined t k m n front _ given.1 rest)
 
 pub through : (t : Table) (l m n : ℕ) → IsInThread t l m → IsInThread t m n → IsInThread t l n
-through t l m n first rest = (first.0 ++ rest.0, path_joined t l m n first.0 rest.0 first.1 rest.1)
+through t l m n first rest = (first.0 ++ rest.0, path_joined t l m n _ _ first.1 rest.1)
 
 turned_path : (t : Table) (m n : ℕ) (path : List ℕ) → IsPathOfLinks t m path n → IsInThread t n m
 turned_path t m n [] here = ([], sym here)
-turned_path t m n (l ∷ path) given = through t n l m (turned_path t l n path given.1)
-    (by_link t l m (linked_turned t m l given.0))
+turned_path t m n (l ∷ path) given = search (arith, through, by_link, linked_turned, turned_path t l n path given.1)
 
 pub back_again : (t : Table) (m n : ℕ) → IsInThread t m n → IsInThread t n m
-back_again t m n given = turned_path t m n given.0 given.1
+back_again t m n given = turned_path t m n _ given.1

@@ -9,8 +9,8 @@ returns-in-Err-clause-answered g c = λ a is. nothing_sent _ _ a.messages (Err c
 
 pub returns-clause-answered : goal.returns-clause-answered
 returns-clause-answered g c =
-    answered_sent c.args.index.now (search_of c.args.query.now c.args.threads c.args.format)
-    (g.A.Archives.held c.write.new.archives) _ _ _ c.in-Ok.numbers (grind arith)
+    answered_sent _ _
+    _ _ _ _ _ (grind arith)
     (rw (c.new.ensures.table, c.new.ensures.format) at c.write.ensures.messages.text)
 
 pub returns-in_default-chosen-clause-answered : goal.returns-in_default-chosen-clause-answered

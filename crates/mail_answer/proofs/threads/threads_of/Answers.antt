@@ -1,6 +1,6 @@
 -- `threads_of` returns the list of threads: without links or numbers the numbers themselves, otherwise those with the
 -- same roots.
-use Rattle.mail_answer.proofs.Words.{◌≡◌, ◌∙◌, ◌⊎◌, ℕ, nat_eq, [], length, get_or, inl, inr, sym, ap, subst, arith, length-map, list_any, eqb-true, LinkId, keys_of, each_number, AreThreads, AreThreadRoots}
+use Rattle.mail_answer.proofs.Words.{◌≡◌, ◌∙◌, ◌⊎◌, nat_eq, [], length, get_or, inl, inr, sym, ap, subst, arith, length-map, list_any, eqb-true, LinkId, keys_of, each_number, AreThreads, AreThreadRoots}
 use Rattle.mail_answer.proofs.CursorLaws.LookUpSteps.{if_always}
 use Rattle.mail_answer.proofs.ThreadLaws.ChosenThreads.{ok_then, empty_is, no_keys, threads_without, chosen_by_marks}
 use Rattle.mail_answer.proofs.threads.threads_of.Goals as goal
@@ -11,25 +11,25 @@ returns-then-is_empty-clause-threads c =
     let none : (keys_of LinkId c.args.index.now.keys ≡ []) ⊎ (c.args.numbers.now ≡ []) =
     elim c.then-is_empty.branch [
       | then-is_empty-via-then-is_empty w ↦ inr
-          (empty_is c.args.numbers.now (eqb-true (length c.args.numbers.now) 0
+          (empty_is _ (eqb-true (length c.args.numbers.now) 0
           (sym c.is_empty.ensures ∙ w.if-is_empty.true)))
       | then-is_empty-via-else-is_empty+then-is_none w ↦ inl
-          (no_keys (keys_of LinkId c.args.index.now.keys) (λ some. grind (arith, length-map)))
+          (no_keys _ (grind (arith, length-map)))
     ] in
-    ok_then c.from_slice.result (λ v. v.items ≡ c.args.numbers.now)
-    (λ v. AreThreads c.args.index.now c.args.numbers.now v.items) c.from_slice.ensures.items
+    ok_then _ _
+    _ c.from_slice.ensures.items
     (λ v same. subst (AreThreads c.args.index.now c.args.numbers.now) (sym same)
-    (threads_without c.args.index.now c.args.numbers.now none c.requires.rises c.requires.within))
+    (threads_without c.args.index.now _ none c.requires.rises c.requires.within))
 
 pub returns-clause-threads : goal.returns-clause-threads
 returns-clause-threads c =
     let t = c.args.index.now in
-    let tells : AreThreadRoots t c.as_slice.result.now =
+    let tells =
     subst (AreThreadRoots t) (sym c.as_slice.ensures.value) c.in_ok-roots.ensures.roots in
-    let marks = ap (λ (count : ℕ). each_number count
+    let marks = ap (λ count. each_number count
     (λ r. list_any (λ n. nat_eq r (get_or c.as_slice.result.now n 0)) c.args.numbers.now)) tells.long in
-    ok_then c.with_same_root.result _ (λ v. AreThreads t c.args.numbers.now v.items) c.with_same_root.ensures
-    (λ v are. chosen_by_marks t c.args.numbers.now c.as_slice.result.now v.items _ tells c.requires.within marks are)
+    ok_then _ _ _ c.with_same_root.ensures
+    (λ v are. chosen_by_marks t _ _ _ _ tells c.requires.within marks are)
 
 pub returns-then-is_empty-clause-steps : goal.returns-then-is_empty-clause-steps
 returns-then-is_empty-clause-steps c =

@@ -5,4 +5,4 @@ use Rattle.mail_answer.proofs.threads.with_marked_root.Goals as goal
 use Rattle.mail_answer.proofs.threads.with_marked_root.Goals.{then-marks-roots+in_ok-push, else-marks-roots}
 
 pub loop-number-preserved : goal.loop-number-preserved
-loop-number-preserved c = grind (arith, then-marks-roots+in_ok-push, filter_true, else-marks-roots, filter_false)
+loop-number-preserved = grind (arith, then-marks-roots+in_ok-push, filter_true, else-marks-roots, filter_false)

@@ -37,13 +37,13 @@ loop-archive-preserved g c =
     }
 
 pub returns-then-length-archive-clause-asked : goal.returns-then-length-archive-clause-asked
-returns-then-length-archive-clause-asked g c = grind (arith, next_named, named_here)
+returns-then-length-archive-clause-asked = grind (arith, next_named, named_here)
 
 pub returns-clause-asked : goal.returns-clause-asked
 returns-clause-asked g c =
     let i = c.loop-archive.invariant in
     λ _. subst (λ count. Agree g.A.Archives c.args.index.now.archives count c.args.archives.now c.loop-archive.archives)
-    (none_left _ c.loop-archive.n i.within (sym i.coming ∙ c.in_default.ensures.0)) i.agree
+    (none_left _ _ i.within (sym i.coming ∙ c.in_default.ensures.0)) i.agree
 
 pub returns-then-count-indexed-clause-stale : goal.returns-then-count-indexed-clause-stale
-returns-then-count-indexed-clause-stale g c = grind arith
+returns-then-count-indexed-clause-stale = grind arith

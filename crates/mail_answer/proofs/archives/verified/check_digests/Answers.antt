@@ -15,18 +15,18 @@ returns-then-ne-clause-altered g c =
     let named = c.args.index.now.archives in
     let held = g.A.Archives.held c.read_digest.new.archives in
     let was = c.in_ok-digest.ensures.keeps.held in
-    let fresh = some_later (λ archives. stale_archive named archives ≡ None)
-    (g.A.Archives.held c.args.archives.now) held (was_known_join _ _ held i.keeps.held was) c.requires.indexed.fresh in
+    let fresh = some_later _
+    _ _ (was_known_join _ _ _ i.keeps.held was) c.requires.indexed.fresh in
     let so_far = known_later (λ known. UnalteredTo named known c.loop-archive.n (drop c.loop-archive.n named))
-    (g.A.Archives.held c.loop-archive.archives) held was tt i.so_far in
+    _ _ was tt i.so_far in
     rw other at
-    (told_next named held c.loop-archive.n (archive_of c.in-Some.archive) c.next.new.self c.in_ok-digest.digest
+    (told_next _ _ _ _ _ _
     (named_here _ _ _ _ coming) coming fresh so_far c.in_ok-digest.ensures.digest)
 
 pub returns-then-ne-clause-found : goal.returns-then-ne-clause-found
 returns-then-ne-clause-found g c =
     let i = c.loop-archive.invariant in
-    let a : Archive = archive_of c.in-Some.archive in
+    let a = archive_of c.in-Some.archive in
     let read = c.in_ok-digest in
     let other : option_eq bytes_eq a.digest read.digest ≡ false = grind arith in
     record {
@@ -35,7 +35,7 @@ returns-then-ne-clause-found g c =
       place = sym i.coming ∙ c.in-Some.ensures;
       before = c.loop-archive.archives;
       read = i.read;
-      last = other_read g.A.Archives c.loop-archive.n a read.digest c.loop-archive.archives c.read_digest.new.archives
+      last = other_read _ _ a _ _ _
           other read.ensures.read;
       held = read.ensures.keeps.held;
     }
@@ -76,7 +76,7 @@ returns-clause-found g c =
     let i = c.loop-archive.invariant in
     subst (λ count. AreReadOnce g.A.Archives c.args.index.now.archives count c.args.archives.now
     c.loop-archive.archives)
-    (none_left _ c.loop-archive.n i.within (sym i.coming ∙ c.in_default.ensures.0)) i.read
+    (none_left _ _ i.within (sym i.coming ∙ c.in_default.ensures.0)) i.read
 
 pub returns-then-ne-clause-keeps : goal.returns-then-ne-clause-keeps
-returns-then-ne-clause-keeps g c = grind arith
+returns-then-ne-clause-keeps = grind arith

@@ -9,12 +9,12 @@ pieces-preserved g c =
     let i = c.pieces.invariant in
     let read = c.in-Ok.ensures in
     record {
-      keeps = keeps_join g.A.Archives _ _ _ i.keeps
+      keeps = keeps_join _ _ _ _ i.keeps
           (record { held = read.held; whole = read.whole; number = read.number; asked = read.asked });
       count = read.count ∙ i.count;
       within = grind (arith, length-take-le);
-      absorbed = more_absorbed g.A.Archives c.args.archive c.pieces.at c.in-Ok.count c.args.archives.now
-          c.pieces.archives c.read_at.new.self c.pieces.hasher c.update.new.self read.held i.absorbed (record {
+      absorbed = more_absorbed _ _ _ _ _
+          _ _ _ _ read.held i.absorbed (record {
             bytes = take c.in-Ok.count c.read_at.new.into;
             number = length-take-le c.in-Ok.count c.read_at.new.into read.bound;
             part = c.update.ensures;

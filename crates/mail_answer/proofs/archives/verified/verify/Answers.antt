@@ -1,5 +1,5 @@
 -- `verify` finds the first altered archive, because it compares digests only if no length has changed.
-use Rattle.mail_answer.proofs.Words.{◌≡◌, ◌∙◌, ◌<◌, ℕ, List, None, Ok, length, ap, subst, arith, stale_archive, AreVerified}
+use Rattle.mail_answer.proofs.Words.{◌∙◌, ◌<◌, ℕ, List, Ok, length, ap, subst, arith, AreVerified}
 use Rattle.mail_answer.specs.Faults.{has_fault, is_of_archives, IfStale}
 use Rattle.mail_answer.specs.Verified.{LooksThrough}
 use Rattle.mail_answer.proofs.ArchiveLaws.CallLemmas.{holds_join}
@@ -21,35 +21,35 @@ check_digests-requires-clause-count g c =
 pub returns-clause-keeps : goal.returns-clause-keeps
 returns-clause-keeps g c =
     let reads = c.check_digests.ensures.keeps in
-    holds_join g.A.Archives c.args.archives.now c.check_archives.new.archives c.check_digests.new.archives
+    holds_join _ _ _ _
     c.check_archives.ensures.keeps (record { held = reads.held; whole = reads.whole; number = reads.number })
 
 pub returns-clause-verified : goal.returns-clause-verified
 returns-clause-verified g c =
-    rw (unsent_kind c.check_digests.result c.map_err.result c.map_err.ensures.cases) at
-    (told_by_digests c.args.index.now.archives (g.A.Archives.held c.check_digests.new.archives) c.check_digests.result
-    (some_later (λ archives. stale_archive c.args.index.now.archives archives ≡ None)
-    (g.A.Archives.held c.check_archives.new.archives) (g.A.Archives.held c.check_digests.new.archives)
+    rw (unsent_kind _ _ c.map_err.ensures.cases) at
+    (told_by_digests _ _ _
+    (some_later _
+    _ _
     c.check_digests.ensures.keeps.held
     (rw c.again-index.ensures.same at (rw c.in_default.is at c.check_archives.ensures.stale)))
     (rw c.again-index.ensures.same at c.check_digests.ensures.altered))
 
 pub returns-clause-read : goal.returns-clause-read
 returns-clause-read g c =
-    unsent_ok ((read : List (List ℕ)) × AreVerified c.args.index.now.archives read) c.map_err.result
-    (rw (unsent_kind c.check_digests.result c.map_err.result c.map_err.ensures.cases) at
-    (read_of_all g.A.Archives c.args.index.now.archives c.check_archives.new.archives c.check_digests.new.archives
-    c.check_digests.result (rw c.again-index.ensures.same at c.check_digests.ensures.found)))
+    unsent_ok ((read : List (List ℕ)) × AreVerified c.args.index.now.archives read) _
+    (rw (unsent_kind _ _ c.map_err.ensures.cases) at
+    (read_of_all _ _ _ _
+    _ (rw c.again-index.ensures.same at c.check_digests.ensures.found)))
 
 pub returns-clause-same_count : goal.returns-clause-same_count
 returns-clause-same_count g c =
-    always_ok _ c.map_err.result (rw c.again-index.ensures.same at
+    always_ok _ _ (rw c.again-index.ensures.same at
     (rw c.in_default.is at c.check_archives.ensures.same_count))
 
 pub returns-clause-found : goal.returns-clause-found
 returns-clause-found g c = λ same.
     let asked = rw c.again-index.ensures.same at (rw c.in_default.is at c.check_archives.ensures.asked) in
-    let kind = unsent_kind c.check_digests.result c.map_err.result c.map_err.ensures.cases in
+    let kind = unsent_kind _ _ c.map_err.ensures.cases in
     record {
       through = subst (LooksThrough g.A.Archives c.args.index.now.archives c.args.archives.now
           c.check_digests.new.archives) kind (
@@ -58,7 +58,7 @@ returns-clause-found g c = λ same.
             asked same,
             (c.check_digests.ensures.keeps.held, rw c.again-index.ensures.same at c.check_digests.ensures.found),
           );
-      below = unsent_err (λ kind. IfStale kind (λ n. n < length c.args.index.now.archives)) c.map_err.result
+      below = unsent_err (λ kind. IfStale kind (λ n. n < length c.args.index.now.archives)) _
           (rw (kind, c.again-index.ensures.same) at c.check_digests.ensures.below);
     }
 
@@ -69,5 +69,5 @@ returns-clause-archives_count g c =
     ∙ unsent_fails is_of_archives c.map_err.result) at (rw same at c.check_digests.ensures.count)
 
 pub returns-clause-unwritten : goal.returns-clause-unwritten
-returns-clause-unwritten g c = unsent_written c.check_digests.result c.map_err.result c.map_err.ensures.cases
+returns-clause-unwritten g c = unsent_written _ _ c.map_err.ensures.cases
     c.check_digests.ensures.own

@@ -4,4 +4,4 @@ use Rattle.mail_answer.proofs.CursorLaws.Begins.{tells_chosen}
 use Rattle.mail_answer.proofs.cursor.Cursor.new.Goals as goal
 
 pub returns-clause-numbers : goal.returns-clause-numbers
-returns-clause-numbers c = grind (arith, tells_chosen)
+returns-clause-numbers = grind (arith, tells_chosen)

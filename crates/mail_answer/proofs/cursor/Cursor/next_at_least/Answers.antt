@@ -4,13 +4,13 @@ use Rattle.mail_answer.proofs.CursorLaws.Numbers.{within_still, takes_none, take
 use Rattle.mail_answer.proofs.cursor.Cursor.next_at_least.Goals as goal
 
 pub returns-in_err-number-clause-number : goal.returns-in_err-number-clause-number
-returns-in_err-number-clause-number c = grind (arith, takes_none)
+returns-in_err-number-clause-number = grind (arith, takes_none)
 
 pub returns-clause-number : goal.returns-clause-number
 returns-clause-number c =
     rw (← c.self.view_is)
-    (takes_one c.args.n c.self.inside.low c.max.result c.self.inside.count c.in_ok-number.number
-    c.self.inside.walk.truths c.least_from.new.self.truths c.max.ensures c.in_ok-number.ensures.rest
+    (takes_one _ _ _ _ _
+    _ _ c.max.ensures c.in_ok-number.ensures.rest
     c.in_ok-number.ensures.number
-    (within_still c.max.result c.self.inside.count c.self.inside.walk.truths c.least_from.new.self.truths
+    (within_still _ _ _ _
     c.in_ok-number.ensures.rest c.self.invariant c.in_ok-number.number c.in_ok-number.ensures.number.0))

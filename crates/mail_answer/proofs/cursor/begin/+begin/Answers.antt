@@ -1,5 +1,5 @@
 -- `walk_of` makes the walk of a node, by the kind of the node and from the walks of its members.
-use Rattle.mail_answer.proofs.Words.{◌≡◌, ◌∙◌, ◌+◌, ◌≤◌, ℕ, add_steps, kinds_in, look_up_steps, look_up_steps_of_all, List, length, drop, refl, sym, ap, subst, arith, IfOk, eqb-true, Node, Query, query_of, queries_of, members_of, fits, Whole, Within, Front, most_left}
+use Rattle.mail_answer.proofs.Words.{◌∙◌, ◌+◌, ◌≤◌, ℕ, add_steps, look_up_steps, look_up_steps_of_all, drop, refl, sym, ap, subst, arith, IfOk, eqb-true, Query, query_of, queries_of, members_of, fits, Whole, Within, Front, most_left}
 use Rattle.std.specs.Vec.{vec_len}
 use Rattle.mail_answer.specs.declared.cursor.scanned.Asked.TheVariants as asked
 use Rattle.mail_query.specs.Query as query
@@ -13,55 +13,55 @@ use Rattle.mail_answer.proofs.cursor.begin.+begin.Goals as goal
 
 pub walk_of-returns-in-Any-clause-truths : goal.walk_of-returns-in-Any-clause-truths
 walk_of-returns-in-Any-clause-truths t c =
-    tells_scanned c.args.index.now (query_of c.args.node.now) query.Any c.records.result asked.Any
-    c.scanned.result (ap query_of c.in-Any.is ∙ query_of-Any) refl c.records.ensures
+    tells_scanned _ _ _ _ asked.Any
+    _ (ap query_of c.in-Any.is ∙ query_of-Any) refl c.records.ensures
     c.scanned.ensures.truths
 
 pub walk_of-returns-in-Date-clause-truths : goal.walk_of-returns-in-Date-clause-truths
 walk_of-returns-in-Date-clause-truths t c =
-    tells_scanned c.args.index.now (query_of c.args.node.now) (query.Date c.in-Date.range)
-    c.records-in-Date.result (asked.Date c.in-Date.range) c.scanned-in-Date.result
-    (ap query_of c.in-Date.is ∙ query_of-Date c.in-Date.range) refl c.records-in-Date.ensures
+    tells_scanned _ _ _
+    _ (asked.Date c.in-Date.range) _
+    (ap query_of c.in-Date.is ∙ query_of-Date _) refl c.records-in-Date.ensures
     c.scanned-in-Date.ensures.truths
 
 pub walk_of-returns-in-Size-clause-truths : goal.walk_of-returns-in-Size-clause-truths
 walk_of-returns-in-Size-clause-truths t c =
-    tells_scanned c.args.index.now (query_of c.args.node.now) (query.Size c.in-Size.low c.in-Size.high)
-    c.records-in-Size.result (asked.Size c.in-Size.low c.in-Size.high) c.scanned-in-Size.result
-    (ap query_of c.in-Size.is ∙ query_of-Size c.in-Size.low c.in-Size.high) refl c.records-in-Size.ensures
+    tells_scanned _ _ _
+    _ (asked.Size c.in-Size.low c.in-Size.high) _
+    (ap query_of c.in-Size.is ∙ query_of-Size _ _) refl c.records-in-Size.ensures
     c.scanned-in-Size.ensures.truths
 
 pub walk_of-returns-in-Flag-clause-truths : goal.walk_of-returns-in-Flag-clause-truths
 walk_of-returns-in-Flag-clause-truths t c =
-    tells_scanned c.args.index.now (query_of c.args.node.now) (query.HasFlag c.in-Flag.flag c.in-Flag.wanted)
-    c.records-in-Flag.result (asked.Flag c.in-Flag.flag c.in-Flag.wanted) c.scanned-in-Flag.result
-    (ap query_of c.in-Flag.is ∙ query_of-Flag c.in-Flag.flag c.in-Flag.wanted) refl c.records-in-Flag.ensures
+    tells_scanned _ _ _
+    _ (asked.Flag c.in-Flag.flag c.in-Flag.wanted) _
+    (ap query_of c.in-Flag.is ∙ query_of-Flag _ _) refl c.records-in-Flag.ensures
     c.scanned-in-Flag.ensures.truths
 
 pub walk_of-returns-in-Any-clause-left : goal.walk_of-returns-in-Any-clause-left
 walk_of-returns-in-Any-clause-left t c =
-    left_scanned c.args.index.now (query_of c.args.node.now) query.Any c.records.result c.scanned.result
+    left_scanned _ _ _ _ _
     (ap query_of c.in-Any.is ∙ query_of-Any) refl c.records.ensures c.scanned.ensures.left
 
 pub walk_of-returns-in-Date-clause-left : goal.walk_of-returns-in-Date-clause-left
 walk_of-returns-in-Date-clause-left t c =
-    left_scanned c.args.index.now (query_of c.args.node.now) (query.Date c.in-Date.range) c.records-in-Date.result
-    c.scanned-in-Date.result (ap query_of c.in-Date.is ∙ query_of-Date c.in-Date.range) refl
+    left_scanned _ _ _ _
+    _ (ap query_of c.in-Date.is ∙ query_of-Date _) refl
     c.records-in-Date.ensures
     c.scanned-in-Date.ensures.left
 
 pub walk_of-returns-in-Size-clause-left : goal.walk_of-returns-in-Size-clause-left
 walk_of-returns-in-Size-clause-left t c =
-    left_scanned c.args.index.now (query_of c.args.node.now) (query.Size c.in-Size.low c.in-Size.high)
-    c.records-in-Size.result c.scanned-in-Size.result
-    (ap query_of c.in-Size.is ∙ query_of-Size c.in-Size.low c.in-Size.high) refl c.records-in-Size.ensures
+    left_scanned _ _ _
+    _ _
+    (ap query_of c.in-Size.is ∙ query_of-Size _ _) refl c.records-in-Size.ensures
     c.scanned-in-Size.ensures.left
 
 pub walk_of-returns-in-Flag-clause-left : goal.walk_of-returns-in-Flag-clause-left
 walk_of-returns-in-Flag-clause-left t c =
-    left_scanned c.args.index.now (query_of c.args.node.now) (query.HasFlag c.in-Flag.flag c.in-Flag.wanted)
-    c.records-in-Flag.result c.scanned-in-Flag.result
-    (ap query_of c.in-Flag.is ∙ query_of-Flag c.in-Flag.flag c.in-Flag.wanted) refl c.records-in-Flag.ensures
+    left_scanned _ _ _
+    _ _
+    (ap query_of c.in-Flag.is ∙ query_of-Flag _ _) refl c.records-in-Flag.ensures
     c.scanned-in-Flag.ensures.left
 
 pub walk_of-returns-in-Word-clause-truths : goal.walk_of-returns-in-Word-clause-truths
@@ -80,8 +80,8 @@ walk_of-returns-in-Part-clause-truths t c =
 
 pub walk_of-returns-in-Part-clause-left : goal.walk_of-returns-in-Part-clause-left
 walk_of-returns-in-Part-clause-left t c =
-    subst (λ (q : Query). IfOk c.with_text-in-Part.result (λ w. w.left ≤ most_left c.args.index.now q))
-    (sym (ap query_of c.in-Part.is ∙ query_of-Part c.in-Part.kinds c.in-Part.text)) c.with_text-in-Part.ensures.left
+    subst (λ q. IfOk c.with_text-in-Part.result (λ w. w.left ≤ most_left c.args.index.now q))
+    (sym (ap query_of c.in-Part.is ∙ query_of-Part _ _)) c.with_text-in-Part.ensures.left
 
 pub walk_of-returns-in-Prefix-clause-truths : goal.walk_of-returns-in-Prefix-clause-truths
 walk_of-returns-in-Prefix-clause-truths t c =
@@ -92,19 +92,19 @@ walk_of-returns-in-Prefix-clause-truths t c =
 
 pub walk_of-returns-in_ok-inner-in-Not-clause-truths : goal.walk_of-returns-in_ok-inner-in-Not-clause-truths
 walk_of-returns-in_ok-inner-in-Not-clause-truths t c =
-    tells_not c.args.index.now (query_of c.args.node.now) (query_of c.deref.result.now)
-    c.message_count-count.result c.in_ok-inner-in-Not.inner.truths c.others.result
-    (ap query_of c.in-Not.is ∙ query_of-Not c.in-Not.inner ∙ ap (λ (n : Node). query.Not (query_of n))
+    tells_not _ _ _
+    _ _ _
+    (ap query_of c.in-Not.is ∙ query_of-Not _ ∙ ap (λ n. query.Not (query_of n))
     (sym c.deref.ensures)) c.message_count-count.ensures.count c.in_ok-inner-in-Not.ensures.truths
     c.others.ensures.truths
 
 pub walk_of-returns-then-is_empty-clause-truths : goal.walk_of-returns-then-is_empty-clause-truths
 walk_of-returns-then-is_empty-clause-truths t c =
-    tells_none c.args.index.now (query_of c.args.node.now) (queries_of c.as_slice.result.now)
-    c.in_ok-walks-in-All.walks.items c.message_count-count.result c.united.result.truths
-    c.others-then-is_empty.result
-    (ap query_of c.in-All.is ∙ query_of-All c.in-All.members
-    ∙ ap (λ (ns : List Node). query.All (members_of (queries_of ns))) (sym c.as_slice.ensures.value))
+    tells_none _ _ _
+    _ _ _
+    _
+    (ap query_of c.in-All.is ∙ query_of-All _
+    ∙ ap (λ ns. query.All (members_of (queries_of ns))) (sym c.as_slice.ensures.value))
     (omega (
       arith,
       c.in_ok-walks-in-All.walks.ok.0,
@@ -115,148 +115,148 @@ walk_of-returns-then-is_empty-clause-truths t c =
 
 pub walk_of-returns-else-is_empty-clause-truths : goal.walk_of-returns-else-is_empty-clause-truths
 walk_of-returns-else-is_empty-clause-truths t c =
-    tells_common c.args.index.now (query_of c.args.node.now) (queries_of c.as_slice.result.now)
-    c.in_ok-walks-in-All.walks.items c.common.result.truths
-    (ap query_of c.in-All.is ∙ query_of-All c.in-All.members
-    ∙ ap (λ (ns : List Node). query.All (members_of (queries_of ns))) (sym c.as_slice.ensures.value))
-    (some_walk (vec_len c.in_ok-walks-in-All.walks) (length c.in_ok-walks-in-All.walks.items)
+    tells_common _ _ _
+    _ _
+    (ap query_of c.in-All.is ∙ query_of-All _
+    ∙ ap (λ ns. query.All (members_of (queries_of ns))) (sym c.as_slice.ensures.value))
+    (some_walk _ _
     c.in_ok-walks-in-All.walks.ok.0 (sym c.is_empty.ensures ∙ c.if-is_empty.false)) c.common.ensures.truths
     c.in_ok-walks-in-All.ensures.truths
 
 pub walk_of-returns-in_ok-walks-in-Either-clause-truths : goal.walk_of-returns-in_ok-walks-in-Either-clause-truths
 walk_of-returns-in_ok-walks-in-Either-clause-truths t c =
-    tells_grouped c.args.index.now (query_of c.args.node.now) (queries_of c.as_slice-in-Either.result.now)
-    c.in_ok-walks-in-Either.walks.items c.united_in_groups.result
-    (ap query_of c.in-Either.is ∙ query_of-Either c.in-Either.members
-    ∙ ap (λ (ns : List Node). query.Either (members_of (queries_of ns))) (sym c.as_slice-in-Either.ensures.value))
+    tells_grouped _ _ _
+    _ _
+    (ap query_of c.in-Either.is ∙ query_of-Either _
+    ∙ ap (λ ns. query.Either (members_of (queries_of ns))) (sym c.as_slice-in-Either.ensures.value))
     c.in_ok-walks-in-Either.ensures.truths c.united_in_groups.ensures.truths
 
 pub walk_of-returns-in-Any-clause-exact : goal.walk_of-returns-in-Any-clause-exact
 walk_of-returns-in-Any-clause-exact t c =
-    steps_of c.scanned.result (look_up_steps c.args.index.now.keys) (query_of c.args.node.now) query.Any
-    c.args.steps.now c.args.steps.now 0 (ap query_of c.in-Any.is ∙ query_of-Any) refl
-    (if_always c.scanned.result (none_taken c.args.steps.now c.args.steps.now refl))
+    steps_of _ (look_up_steps c.args.index.now.keys) _ _
+    _ _ 0 (ap query_of c.in-Any.is ∙ query_of-Any) refl
+    (if_always _ (none_taken _ _ refl))
 
 pub walk_of-returns-in-Date-clause-exact : goal.walk_of-returns-in-Date-clause-exact
 walk_of-returns-in-Date-clause-exact t c =
-    steps_of c.scanned-in-Date.result (look_up_steps c.args.index.now.keys) (query_of c.args.node.now)
-    (query.Date c.in-Date.range) c.args.steps.now c.args.steps.now 0
-    (ap query_of c.in-Date.is ∙ query_of-Date c.in-Date.range) refl
-    (if_always c.scanned-in-Date.result (none_taken c.args.steps.now c.args.steps.now refl))
+    steps_of _ (look_up_steps c.args.index.now.keys) _
+    _ _ _ 0
+    (ap query_of c.in-Date.is ∙ query_of-Date _) refl
+    (if_always _ (none_taken _ _ refl))
 
 pub walk_of-returns-in-Size-clause-exact : goal.walk_of-returns-in-Size-clause-exact
 walk_of-returns-in-Size-clause-exact t c =
-    steps_of c.scanned-in-Size.result (look_up_steps c.args.index.now.keys) (query_of c.args.node.now)
-    (query.Size c.in-Size.low c.in-Size.high) c.args.steps.now c.args.steps.now 0
-    (ap query_of c.in-Size.is ∙ query_of-Size c.in-Size.low c.in-Size.high) refl
-    (if_always c.scanned-in-Size.result (none_taken c.args.steps.now c.args.steps.now refl))
+    steps_of _ (look_up_steps c.args.index.now.keys) _
+    _ _ _ 0
+    (ap query_of c.in-Size.is ∙ query_of-Size _ _) refl
+    (if_always _ (none_taken _ _ refl))
 
 pub walk_of-returns-in-Flag-clause-exact : goal.walk_of-returns-in-Flag-clause-exact
 walk_of-returns-in-Flag-clause-exact t c =
-    steps_of c.scanned-in-Flag.result (look_up_steps c.args.index.now.keys) (query_of c.args.node.now)
-    (query.HasFlag c.in-Flag.flag c.in-Flag.wanted) c.args.steps.now c.args.steps.now 0
-    (ap query_of c.in-Flag.is ∙ query_of-Flag c.in-Flag.flag c.in-Flag.wanted) refl
-    (if_always c.scanned-in-Flag.result (none_taken c.args.steps.now c.args.steps.now refl))
+    steps_of _ (look_up_steps c.args.index.now.keys) _
+    _ _ _ 0
+    (ap query_of c.in-Flag.is ∙ query_of-Flag _ _) refl
+    (if_always _ (none_taken _ _ refl))
 
 pub walk_of-returns-in-Word-clause-exact : goal.walk_of-returns-in-Word-clause-exact
 walk_of-returns-in-Word-clause-exact t c =
-    steps_of c.with_text.result (look_up_steps c.args.index.now.keys) (query_of c.args.node.now)
-    (query.Word c.in-Word.kinds c.in-Word.text) c.args.steps.now _ _
-    (ap query_of c.in-Word.is ∙ query_of-Word c.in-Word.kinds c.in-Word.text) refl c.with_text.ensures.exact
+    steps_of _ (look_up_steps c.args.index.now.keys) _
+    _ _ _ _
+    (ap query_of c.in-Word.is ∙ query_of-Word _ _) refl c.with_text.ensures.exact
 
 pub walk_of-returns-in-Part-clause-exact : goal.walk_of-returns-in-Part-clause-exact
 walk_of-returns-in-Part-clause-exact t c =
-    steps_of c.with_text-in-Part.result (look_up_steps c.args.index.now.keys) (query_of c.args.node.now)
-    (query.Part c.in-Part.kinds c.in-Part.text) c.args.steps.now _ _
-    (ap query_of c.in-Part.is ∙ query_of-Part c.in-Part.kinds c.in-Part.text) (none_compared (kinds_in c.in-Part.kinds))
+    steps_of _ (look_up_steps c.args.index.now.keys) _
+    _ _ _ _
+    (ap query_of c.in-Part.is ∙ query_of-Part _ _) (none_compared _)
     c.with_text-in-Part.ensures.exact
 
 pub walk_of-returns-in-Prefix-clause-exact : goal.walk_of-returns-in-Prefix-clause-exact
 walk_of-returns-in-Prefix-clause-exact t c =
-    steps_of c.with_text-in-Prefix.result (look_up_steps c.args.index.now.keys) (query_of c.args.node.now)
-    (query.Prefix c.in-Prefix.kinds c.in-Prefix.text) c.args.steps.now _ _
-    (ap query_of c.in-Prefix.is ∙ query_of-Prefix c.in-Prefix.kinds c.in-Prefix.text)
-    (none_compared (kinds_in c.in-Prefix.kinds)) c.with_text-in-Prefix.ensures.exact
+    steps_of _ (look_up_steps c.args.index.now.keys) _
+    _ _ _ _
+    (ap query_of c.in-Prefix.is ∙ query_of-Prefix _ _)
+    (none_compared _) c.with_text-in-Prefix.ensures.exact
 
 pub walk_of-returns-in_ok-inner-in-Not-clause-exact : goal.walk_of-returns-in_ok-inner-in-Not-clause-exact
 walk_of-returns-in_ok-inner-in-Not-clause-exact t c =
-    steps_of c.others.result (look_up_steps c.args.index.now.keys) (query_of c.args.node.now)
-    (query.Not (query_of c.deref.result.now)) c.args.steps.now _ _
-    (ap query_of c.in-Not.is ∙ query_of-Not c.in-Not.inner ∙ ap (λ (n : Node). query.Not (query_of n))
+    steps_of _ (look_up_steps c.args.index.now.keys) _
+    _ _ _ _
+    (ap query_of c.in-Not.is ∙ query_of-Not _ ∙ ap (λ n. query.Not (query_of n))
     (sym c.deref.ensures)) refl
-    (if_always c.others.result c.in_ok-inner-in-Not.ensures.exact)
+    (if_always _ c.in_ok-inner-in-Not.ensures.exact)
 
 pub walk_of-returns-then-is_empty-clause-exact : goal.walk_of-returns-then-is_empty-clause-exact
 walk_of-returns-then-is_empty-clause-exact t c =
-    steps_of c.others-then-is_empty.result (look_up_steps c.args.index.now.keys) (query_of c.args.node.now)
-    (query.All (members_of (queries_of c.as_slice.result.now))) c.args.steps.now _ _
-    (ap query_of c.in-All.is ∙ query_of-All c.in-All.members ∙ ap
-    (λ (ns : List Node). query.All (members_of (queries_of ns))) (sym c.as_slice.ensures.value)) refl
-    (if_always c.others-then-is_empty.result c.in_ok-walks-in-All.ensures.exact)
+    steps_of _ (look_up_steps c.args.index.now.keys) _
+    _ _ _ _
+    (ap query_of c.in-All.is ∙ query_of-All _ ∙ ap
+    (λ ns. query.All (members_of (queries_of ns))) (sym c.as_slice.ensures.value)) refl
+    (if_always _ c.in_ok-walks-in-All.ensures.exact)
 
 pub walk_of-returns-else-is_empty-clause-exact : goal.walk_of-returns-else-is_empty-clause-exact
 walk_of-returns-else-is_empty-clause-exact t c =
     c.in_ok-walks-in-All.ensures.exact ∙ ap
-    (λ (x : Query). add_steps c.args.steps.now (look_up_steps c.args.index.now.keys x))
-    (sym (ap query_of c.in-All.is ∙ query_of-All c.in-All.members
-    ∙ ap (λ (ns : List Node). query.All (members_of (queries_of ns))) (sym c.as_slice.ensures.value)))
+    (λ x. add_steps c.args.steps.now (look_up_steps c.args.index.now.keys x))
+    (sym (ap query_of c.in-All.is ∙ query_of-All _
+    ∙ ap (λ ns. query.All (members_of (queries_of ns))) (sym c.as_slice.ensures.value)))
 
 pub walk_of-returns-in_ok-walks-in-Either-clause-exact : goal.walk_of-returns-in_ok-walks-in-Either-clause-exact
 walk_of-returns-in_ok-walks-in-Either-clause-exact t c =
-    steps_of c.united_in_groups.result (look_up_steps c.args.index.now.keys) (query_of c.args.node.now)
-    (query.Either (members_of (queries_of c.as_slice-in-Either.result.now))) c.args.steps.now _ _
-    (ap query_of c.in-Either.is ∙ query_of-Either c.in-Either.members
-    ∙ ap (λ (ns : List Node). query.Either (members_of (queries_of ns))) (sym c.as_slice-in-Either.ensures.value))
+    steps_of _ (look_up_steps c.args.index.now.keys) _
+    _ _ _ _
+    (ap query_of c.in-Either.is ∙ query_of-Either _
+    ∙ ap (λ ns. query.Either (members_of (queries_of ns))) (sym c.as_slice-in-Either.ensures.value))
     refl
-    (if_always c.united_in_groups.result c.in_ok-walks-in-Either.ensures.exact)
+    (if_always _ c.in_ok-walks-in-Either.ensures.exact)
 
 pub walks_of-loop-node-preserved : goal.walks_of-loop-node-preserved
 walks_of-loop-node-preserved t c =
-    let nodes : List Node = c.args.nodes.now in
-    let i : ℕ = c.loop-node.node-index in
-    let q : Query = query_of c.node-item.result in
+    let nodes = c.args.nodes.now in
+    let i = c.loop-node.node-index in
+    let q = query_of c.node-item.result in
     record {
       walks =
-          walks_more c.args.index.now (queries_of nodes) c.args.steps.now q (queries_of (drop i nodes))
-          (queries_of (drop (i + 1) nodes)) c.loop-node.walks.items c.push.new.self.items c.in_ok-walk.walk
-          c.loop-node.steps c.walk_of.new.steps c.loop-node.invariant.walks
-          (next_member nodes i c.node-item.result c.loop-node-test.true c.node-item.is) c.in_ok-push.ensures.items
+          walks_more _ _ _ q _
+          _ _ _ _
+          _ _ c.loop-node.invariant.walks
+          (next_member _ i _ c.loop-node-test.true c.node-item.is) c.in_ok-push.ensures.items
           c.in_ok-walk.ensures.truths c.in_ok-walk.ensures.left c.walk_of.ensures.steps;
       exact =
           member_more (look_up_steps c.args.index.now.keys) (look_up_steps_of_all c.args.index.now.keys)
-          c.args.steps.now c.loop-node.steps _ (λ _ _. refl) q (queries_of (drop i nodes))
-          (queries_of (drop (i + 1) nodes)) c.walk_of.new.steps
-          (next_member nodes i c.node-item.result c.loop-node-test.true c.node-item.is)
+          _ _ _ (λ _ _. refl) q _
+          _ _
+          (next_member _ i _ c.loop-node-test.true c.node-item.is)
           c.in_ok-walk.ensures.exact c.loop-node.invariant.exact;
     }
 
 pub walks_of-returns-in_err-walk-clause-steps : goal.walks_of-returns-in_err-walk-clause-steps
 walks_of-returns-in_err-walk-clause-steps t c =
-    let nodes : List Node = c.args.nodes.now in
-    let i : ℕ = c.loop-node.node-index in
-    let q : Query = query_of c.node-item.result in
-    walks_steps c.args.index.now (queries_of nodes) c.args.steps.now q (queries_of (drop i nodes))
-    (queries_of (drop (i + 1) nodes)) c.loop-node.walks.items c.loop-node.steps c.walk_of.new.steps
-    c.loop-node.invariant.walks (next_member nodes i c.node-item.result c.loop-node-test.true c.node-item.is)
+    let nodes = c.args.nodes.now in
+    let i = c.loop-node.node-index in
+    let q = query_of c.node-item.result in
+    walks_steps _ _ _ q _
+    _ _ _ _
+    c.loop-node.invariant.walks (next_member _ i _ c.loop-node-test.true c.node-item.is)
     c.walk_of.ensures.steps
 
 pub walks_of-returns-in_err-push-clause-steps : goal.walks_of-returns-in_err-push-clause-steps
 walks_of-returns-in_err-push-clause-steps t c =
-    let nodes : List Node = c.args.nodes.now in
-    let i : ℕ = c.loop-node.node-index in
-    let q : Query = query_of c.node-item.result in
-    walks_steps c.args.index.now (queries_of nodes) c.args.steps.now q (queries_of (drop i nodes))
-    (queries_of (drop (i + 1) nodes)) c.loop-node.walks.items c.loop-node.steps c.walk_of.new.steps
-    c.loop-node.invariant.walks (next_member nodes i c.node-item.result c.loop-node-test.true c.node-item.is)
+    let nodes = c.args.nodes.now in
+    let i = c.loop-node.node-index in
+    let q = query_of c.node-item.result in
+    walks_steps _ _ _ q _
+    _ _ _ _
+    c.loop-node.invariant.walks (next_member _ i _ c.loop-node-test.true c.node-item.is)
     c.walk_of.ensures.steps
 
 pub walks_of-returns-clause-truths : goal.walks_of-returns-clause-truths
 walks_of-returns-clause-truths t c =
-    let nodes : List Node = c.args.nodes.now in
-    let i : ℕ = c.loop-node.node-index in
-    walks_told c.args.index.now (queries_of nodes) c.args.steps.now (queries_of (drop i nodes))
-    c.loop-node.walks.items c.loop-node.steps c.loop-node.invariant.walks
-    (no_member nodes i (omega (arith, c.loop-node-test.false)))
+    let nodes = c.args.nodes.now in
+    let i = c.loop-node.node-index in
+    walks_told _ _ _ _
+    _ _ c.loop-node.invariant.walks
+    (no_member _ i (omega (arith, c.loop-node-test.false)))
 
 pub walks_of-returns-clause-exact : goal.walks_of-returns-clause-exact
 walks_of-returns-clause-exact t c =

@@ -5,5 +5,5 @@ use Rattle.mail_answer.proofs.cursor.listed.first_from.Goals as goal
 
 pub returns-clause-rest : goal.returns-clause-rest
 returns-clause-rest c =
-    cut_more c.args.first c.args.n c.args.after.now c.next_at_least.new.self c.next_at_least.result
+    cut_more _ _ _ _ _
     (sym c.is_before.ensures ∙ c.if-not-is_before.false) c.requires c.next_at_least.ensures.number

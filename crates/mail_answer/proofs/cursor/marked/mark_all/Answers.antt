@@ -51,7 +51,7 @@ loop-place-preserved c =
     }
 
 pub returns-clause-rest : goal.returns-clause-rest
-returns-clause-rest c = grind (arith, all_drops)
+returns-clause-rest = grind (arith, all_drops)
 
 pub returns-clause-number : goal.returns-clause-number
 returns-clause-number c =

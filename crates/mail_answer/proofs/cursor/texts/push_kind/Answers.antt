@@ -7,27 +7,27 @@ use Rattle.mail_answer.proofs.cursor.texts.push_kind.Goals as goal
 
 pub push_list-requires : goal.push_list-requires
 push_list-requires c =
-    subst (λ (n : ℕ). AreNumbers n c.look_up.result) (sym c.message_count-count.ensures.count)
-    (list_numbers c.args.index.now c.args.kind c.args.text.now c.look_up.result c.requires
+    subst (λ n. AreNumbers n c.look_up.result) (sym c.message_count-count.ensures.count)
+    (list_numbers _ _ _ _ c.requires
     c.look_up.ensures.numbers)
 
 pub push_containing-requires : goal.push_containing-requires
-push_containing-requires c = grind (arith, keys_numbers)
+push_containing-requires = grind (arith, keys_numbers)
 
 pub push_all-requires : goal.push_all-requires
-push_all-requires c = grind (arith, beginning_numbers)
+push_all-requires = grind (arith, beginning_numbers)
 
 pub returns-in-Whole-clause-joins : goal.returns-in-Whole-clause-joins
-returns-in-Whole-clause-joins c = grind (arith, if_joins, looked_up, sorted_keys, found_left)
+returns-in-Whole-clause-joins = grind (arith, if_joins, looked_up, sorted_keys, found_left)
 
 pub returns-in-Whole-clause-steps : goal.returns-in-Whole-clause-steps
-returns-in-Whole-clause-steps c = grind (arith, looks_up_digits)
+returns-in-Whole-clause-steps = grind (arith, looks_up_digits)
 
 pub returns-in-Whole-clause-exact : goal.returns-in-Whole-clause-exact
 returns-in-Whole-clause-exact c = rw c.in-Whole.is c.look_up.ensures.exact
 
 pub returns-in-Within : goal.returns-in-Within
-returns-in-Within c = grind (arith, if_joins, fitting_keys, fitting_left, looks_up_none, none_taken)
+returns-in-Within = grind (arith, if_joins, fitting_keys, fitting_left, looks_up_none, none_taken)
 
 pub returns-in-Front : goal.returns-in-Front
 returns-in-Front c =

@@ -4,5 +4,5 @@ use Rattle.mail_answer.proofs.cursor.texts.push_list.Goals as goal
 
 pub returns : goal.returns
 returns c =
-    joins_list c.args.count c.args.postings c.new.result c.args.members.now.items c.push.new.self.items c.requires
+    joins_list _ _ _ _ _ c.requires
     c.new.ensures.truths c.new.ensures.left c.in_ok-push.ensures.items

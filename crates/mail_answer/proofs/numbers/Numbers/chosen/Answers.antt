@@ -7,7 +7,7 @@ use Rattle.mail_answer.proofs.numbers.Numbers.chosen.Goals as goal
 use Rattle.mail_answer.proofs.numbers.Numbers.chosen.Goals.{then-threads+in_ok-satisfying+in_ok-numbers, else-threads+in_ok-cursor}
 
 pub threads_of-requires-clause-rises : goal.threads_of-requires-clause-rises
-threads_of-requires-clause-rises c = grind (arith, numbers_chosen)
+threads_of-requires-clause-rises = grind (arith, numbers_chosen)
 
 pub threads_of-requires-clause-within : goal.threads_of-requires-clause-within
 threads_of-requires-clause-within c =

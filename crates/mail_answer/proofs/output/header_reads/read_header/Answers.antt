@@ -1,9 +1,7 @@
 -- `read_header` reads the fields of a message, because the part of the archive gives the bytes of the message.
-use Rattle.mail_answer.proofs.Words.{◌≡◌, ℕ, Ok, Err, List, IfSome, Stale, drop, refl, arith, lines, span, fields_of, HasFields, reading, Excerpt}
+use Rattle.mail_answer.proofs.Words.{◌≡◌, ℕ, Ok, Err, List, IfSome, Stale, drop, refl, arith, lines, span, fields_of, HasFields, reading}
 use Rattle.header_text.specs.declared.header.Header.{Header}
 use Rattle.mail_answer.specs.Inside.Calls.{ReadsArchives}
-use Rattle.mail_answer.specs.MessageReads.{ReadsMessage}
-use Rattle.mail_answer.specs.Pieces.{EndsWithin}
 use Rattle.mail_answer.proofs.OutputLaws.ArchiveParts.{part_self, part_read, part_reads, part_ended, part_ends_early, part_told}
 use Rattle.mail_answer.proofs.OutputLaws.PartReads.{front_read}
 use Rattle.mail_answer.proofs.output.header_reads.read_header.Goals as goal
@@ -49,18 +47,16 @@ returns-in_err-read-clause-archives g c =
 pub returns-then-part-gt0-clause-read : goal.returns-then-part-gt0-clause-read
 returns-then-part-gt0-clause-read g c =
     let call = c.read_source-read.ensures in
-    let reads = call.stays.was _ (part_self g.A.Archives _) in
-    let told : EndsWithin g.A.Archives c.args.message.archive c.args.message.offset c.args.message.length
-    c.args.archives.now c.read_source-read.new.source.archives.now =
-    part_ended g.A.Archives _ _ reads refl _ call.count c.if-part-gt0.true in
+    let reads = call.stays.was _ (part_self _ _) in
+    let told =
+    part_ended _ _ _ reads refl _ call.count c.if-part-gt0.true in
     grind (arith, told)
 
 pub returns-clause-read : goal.returns-clause-read
 returns-clause-read g c =
     let call = c.in_ok-read.ensures in
-    let reads = call.stays.was _ (part_self g.A.Archives _) in
+    let reads = call.stays.was _ (part_self _ _) in
     let none : c.read_source-read.new.source.early_ends ≡ 0 = omega (arith, c.if-part-gt0.false) in
-    let told : ReadsMessage g.A.Archives Excerpt c.args.message c.args.archives.now
-    c.read_source-read.new.source.archives.now =
-    front_read g.A.Archives c.args.message _ _ _ (part_read g.A.Archives _ _ reads refl call.count none) in
+    let told =
+    front_read _ c.args.message _ _ _ (part_read g.A.Archives _ _ reads refl call.count none) in
     grind (arith, told)

@@ -10,8 +10,8 @@ lines-init g c =
     let taken = c.in-Ok.ensures.line in
     record {
       reads = c.in-Ok.ensures.reads;
-      few = fewer_come (known c.args.reader.now) (known c.next_line.new.self) _ _ c.args.most taken c.requires.few;
-      fields = first_passed (known c.args.reader.now) (known c.next_line.new.self) _ _ c.args.header.now taken
+      few = fewer_come _ _ _ _ _ taken c.requires.few;
+      fields = first_passed _ _ _ _ c.args.header.now taken
           c.requires.none;
     }
 

@@ -13,39 +13,39 @@ pub pieces-init : goal.pieces-init
 pieces-init g c =
     let t = c.args.index.now in
     let m = record_at t.messages c.args.n in
-    let is : c.message.result ≡ m = cc (c.message.ensures, record_known t.messages c.args.n c.requires.below) in
-    let part : c.of-part.result ≡ span_reading m = c.of-part.ensures ∙ ap span_reading is in
-    let inside = message_inside t (g.A.Archives.held c.args.archives.now) (g.A.Archives.number c.args.archives.now)
-    c.args.n c.requires.table c.requires.below c.requires.indexed.number c.requires.indexed.fresh in
+    let is : c.message.result ≡ m = cc (c.message.ensures, record_known _ _ c.requires.below) in
+    let part = c.of-part.ensures ∙ ap span_reading is in
+    let inside = message_inside t _ _
+    _ c.requires.table c.requires.below c.requires.indexed.number c.requires.indexed.fresh in
     rw part (grind (arith, keeps_self, joins_gathered, append-nil, inside, until_self))
 
 pub copy_piece-requires-clause-some : goal.copy_piece-requires-clause-some
-copy_piece-requires-clause-some g c = grind (arith, nat_tests)
+copy_piece-requires-clause-some = grind (arith, nat_tests)
 
 pub pieces-preserved : goal.pieces-preserved
 pieces-preserved g c =
-    let held : Option (List (List ℕ)) = g.A.Archives.held c.copy_piece.new.archives in
-    let span : Reading = span_reading (record_at c.args.index.now.messages c.args.n) in
+    let held = g.A.Archives.held c.copy_piece.new.archives in
+    let span = span_reading (record_at c.args.index.now.messages c.args.n) in
     let i = c.pieces.invariant in
     let j = i.joins in
     let w = c.in_ok-ending.ensures.copies in
     let so_far =
-    copied_later (g.A.Archives.held c.pieces.archives) held span c.pieces.part j.0
+    copied_later _ _ _ _ _
     c.in_ok-ending.ensures.archives.keeps.held j.1 in
     record {
-      keeps = keeps_join g.A.Archives _ _ _ i.keeps c.in_ok-ending.ensures.archives.keeps;
+      keeps = keeps_join _ _ _ _ i.keeps c.in_ok-ending.ensures.archives.keeps;
       inside = c.in_ok-ending.ensures.inside;
       archive = c.in_ok-ending.ensures.archive ∙ i.archive;
       joins = (
         j.0 ++ w.0,
         so_far ∙ ap (option_map (λ bytes. j.0 ++ bytes)) w.1
-            ∙ pieces_more (bytes_left held c.copy_piece.new.self) j.0 w.0,
+            ∙ pieces_more _ _ _,
         w.3 j.0 j.2,
         joins_more j.3 w.2,
         omega (arith, j.4, w.4, length-append j.0 w.0),
       );
-      read = until_join g.A.Archives span c.pieces.part c.copy_piece.new.self c.args.archives.now c.pieces.archives
-          c.copy_piece.new.archives i.read c.in_ok-ending.ensures.read;
+      read = until_join _ _ _ _ _ _
+          _ i.read c.in_ok-ending.ensures.read;
       kept = λ unsent. c.in_ok-ending.ensures.out.kept unsent refl ∙ i.kept (unsent_before w.2 unsent);
       out_count = c.in_ok-ending.ensures.out.count ∙ i.out_count;
       archives_count = c.in_ok-ending.ensures.archives.count ∙ i.archives_count;
@@ -53,23 +53,23 @@ pieces-preserved g c =
 
 pub returns-in_err-ending-clause-writes : goal.returns-in_err-ending-clause-writes
 returns-in_err-ending-clause-writes g c =
-    let held : Option (List (List ℕ)) = g.A.Archives.held c.copy_piece.new.archives in
-    let span : Reading = span_reading (record_at c.args.index.now.messages c.args.n) in
+    let held = g.A.Archives.held c.copy_piece.new.archives in
+    let span = span_reading (record_at c.args.index.now.messages c.args.n) in
     let i = c.pieces.invariant in
     let j = i.joins in
     let w = c.in_err-ending.ensures.copies in
     let so_far =
-    copied_later (g.A.Archives.held c.pieces.archives) held span c.pieces.part j.0
+    copied_later _ _ _ _ _
     c.in_err-ending.ensures.archives.keeps.held j.1 in
-    let told = front_told (bytes_left held span) (bytes_left held c.pieces.part) j.0 w.0 so_far w.1 in
-    rw (← known_closed c.args.index.now held c.args.n)
-    (writes_err (g.O.Out.taken c.args.out.now) (g.O.Out.taken c.copy_piece.new.out) c.args.sheet.now
-    c.copy_piece.new.sheet (option_map closed_text (bytes_left held span)) c.from_residual.result
+    let told = front_told _ _ _ _ so_far w.1 in
+    rw (← known_closed _ _ _)
+    (writes_err _ _ _
+    _ _ _
     c.from_residual.ensures.0
-    ((j.0 ++ w.0) ++ told.0, told.1, front_more told.0 (joins_front j.3 w.2)))
+    ((j.0 ++ w.0) ++ told.0, told.1, front_more _ (joins_front j.3 w.2)))
 
 pub returns-in_err-ending-clause-out : goal.returns-in_err-ending-clause-out
-returns-in_err-ending-clause-out g c = grind (arith, err_from_is_err_and, unsent_before_front)
+returns-in_err-ending-clause-out = grind (arith, err_from_is_err_and, unsent_before_front)
 
 pub returns-clause-writes : goal.returns-clause-writes
 returns-clause-writes g c =
@@ -103,13 +103,13 @@ returns-in_err-ending-clause-span g c =
     let i = c.pieces.invariant in
     let j = i.joins in
     let w = c.in_err-ending.ensures.copies in
-    let bytes : List ℕ = j.0 ++ w.0 in
+    let bytes = j.0 ++ w.0 in
     let begins = closed_begins bytes in (
       bytes,
       omega (arith, length-append j.0 w.0, j.4, w.3),
-      writes_err (g.O.Out.taken c.args.out.now) (g.O.Out.taken c.copy_piece.new.out) c.args.sheet.now
-          c.copy_piece.new.sheet (Some (closed_text bytes)) c.from_residual.result c.from_residual.ensures.0
-          (bytes ++ begins.0, begins.1, front_more begins.0 (joins_front j.3 w.2)),
+      writes_err _ _ _
+          _ (Some (closed_text bytes)) _ c.from_residual.ensures.0
+          (bytes ++ begins.0, begins.1, front_more _ (joins_front j.3 w.2)),
     )
 
 pub returns-clause-span : goal.returns-clause-span
@@ -133,14 +133,14 @@ returns-clause-span g c =
     )
 
 pub returns-clause-out : goal.returns-clause-out
-returns-clause-out g c = grind (arith, unsent_before_writes)
+returns-clause-out = grind (arith, unsent_before_writes)
 
 pub returns-in_err-ending-clause-read : goal.returns-in_err-ending-clause-read
 returns-in_err-ending-clause-read g c =
     let i = c.pieces.invariant in
     let some : 0 < c.pieces.part.left = grind (arith, nat_tests) in
-    ends_read g.A.Archives Mbox (record_at c.args.index.now.messages c.args.n) c.pieces.part c.args.archives.now
-    c.pieces.archives c.copy_piece.new.archives c.in_err-ending.field-0.0 c.from_residual.result
+    ends_read _ Mbox (record_at c.args.index.now.messages c.args.n) _ _
+    _ _ _ _
     (grind (arith, err_from_is_err_and)) i.read some i.archive c.in_err-ending.ensures.stale
     c.in_err-ending.ensures.read
 
@@ -148,5 +148,5 @@ pub returns-clause-read : goal.returns-clause-read
 returns-clause-read g c =
     let m = record_at c.args.index.now.messages c.args.n in
     let none : c.pieces.part.left ≡ 0 = grind (arith, nat_tests) in
-    read_fresh g.A.Archives Mbox m c.args.archives.now c.pieces.archives c.push.result c.push.ensures.own.1
-    (whole_read g.A.Archives m c.pieces.part c.args.archives.now c.pieces.archives c.pieces.invariant.read none)
+    read_fresh _ Mbox m _ _ _ c.push.ensures.own.1
+    (whole_read _ m _ _ _ c.pieces.invariant.read none)

@@ -1,23 +1,23 @@
 -- `Listed::mark_from` marks the messages whose numbers it drops.
-use Rattle.mail_answer.proofs.Words.{◌+◌, WalkAhead, arith, length, subst, truth_at, Adds, marks_in, numbers_ahead}
+use Rattle.mail_answer.proofs.Words.{◌+◌, WalkAhead, arith, subst, truth_at, Adds, marks_in, numbers_ahead}
 use Rattle.mail_answer.proofs.CursorLaws.Lists.{cut_drops, cut_first, cut_marks, cut_numbers}
 use Rattle.mail_answer.proofs.cursor.listed.Listed.mark_from.Goals as goal
 
 pub invariant_of-self : goal.invariant_of-self
 invariant_of-self c =
-    cut_numbers c.self.inside.count (c.args.start + length (marks_in c.args.words.now))
-    (numbers_ahead c.self.inside.first c.self.inside.postings)
-    (numbers_ahead c.mark_numbers-self-inside.result c.mark_numbers-self-inside.new.after) c.self.invariant
+    cut_numbers _ _
+    _
+    _ c.self.invariant
     c.mark_numbers-self-inside.ensures.rest
 
 pub returns-clause-rest : goal.returns-clause-rest
-returns-clause-rest c = grind (arith, cut_drops)
+returns-clause-rest = grind (arith, cut_drops)
 
 pub returns-clause-number : goal.returns-clause-number
 returns-clause-number c =
-    cut_first c.self.inside.count (c.args.start + length (marks_in c.args.words.now))
-    (numbers_ahead c.self.inside.first c.self.inside.postings) c.mark_numbers-self-inside.result
-    c.mark_numbers-self-inside.new.after c.self.invariant c.mark_numbers-self-inside.ensures.rest
+    cut_first _ _
+    _ _
+    _ c.self.invariant c.mark_numbers-self-inside.ensures.rest
     c.mark_numbers-self-inside.ensures.ended
 
 pub returns-clause-marks : goal.returns-clause-marks

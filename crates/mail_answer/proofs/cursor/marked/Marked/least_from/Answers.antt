@@ -4,7 +4,7 @@ use Rattle.mail_answer.proofs.CursorLaws.MarkedLists.{found_drops, found_first, 
 use Rattle.mail_answer.proofs.cursor.marked.Marked.least_from.Goals as goal
 
 pub returns-in-Some-clause-rest : goal.returns-in-Some-clause-rest
-returns-in-Some-clause-rest c = grind (arith, found_drops)
+returns-in-Some-clause-rest = grind (arith, found_drops)
 
 pub returns-in-Some-clause-number : goal.returns-in-Some-clause-number
 returns-in-Some-clause-number c =
@@ -15,7 +15,7 @@ returns-in-Some-clause-number c =
     c.as_slice.ensures c.in-Some.ensures)
 
 pub returns-clause-rest : goal.returns-clause-rest
-returns-clause-rest c = grind (arith, windowed_drops)
+returns-clause-rest = grind (arith, windowed_drops)
 
 pub returns-clause-number : goal.returns-clause-number
 returns-clause-number c =

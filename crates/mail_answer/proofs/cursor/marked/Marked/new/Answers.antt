@@ -4,7 +4,7 @@ use Rattle.mail_answer.proofs.CursorLaws.MarkedLists.{begins_marked, begins_wind
 use Rattle.mail_answer.proofs.cursor.marked.Marked.new.Goals as goal
 
 pub invariant_of-result : goal.invariant_of-result
-invariant_of-result c = begins_window c.args.lists.items _ refl c.requires
+invariant_of-result c = begins_window _ _ refl c.requires
 
 pub returns-clause-truths : goal.returns-clause-truths
 returns-clause-truths c = begins_marked c.args.lists.items _ refl

@@ -1,5 +1,5 @@
 -- `Walk::along_some` has the messages of its lists, list by list.
-use Rattle.mail_answer.proofs.Words.{◌∙◌, Bool, List, ap, arith, truth_at, WalkAhead}
+use Rattle.mail_answer.proofs.Words.{◌∙◌, Bool, List, ap, arith, truth_at}
 use Rattle.mail_answer.proofs.CursorLaws.Groups.{alone_each, alone_left}
 use Rattle.mail_answer.proofs.CursorLaws.Members.{united-at}
 use Rattle.mail_answer.proofs.cursor.walk.Walk.along_some.Goals as goal
@@ -7,14 +7,14 @@ use Rattle.mail_answer.proofs.cursor.walk.Walk.along_some.Goals as goal
 pub loop-list-preserved : goal.loop-list-preserved
 loop-list-preserved c = record {
   each = λ m.
-      alone_each m c.loop-list.walks.items c.push.new.self.items c.loop-list.lists.items c.pop.new.self.items
-      c.in-Some.list c.of-in-Some.result c.in_ok-push.ensures.items c.in-Some.ensures.items
-      (ap (λ (w : WalkAhead). w.truths) c.of-in-Some.ensures)
+      alone_each m _ _ _ _
+      _ _ c.in_ok-push.ensures.items c.in-Some.ensures.items
+      (ap (λ w. w.truths) c.of-in-Some.ensures)
       ∙ c.loop-list.invariant.each m;
   left =
-      alone_left c.loop-list.walks.items c.push.new.self.items c.loop-list.lists.items c.pop.new.self.items
-      c.in-Some.list c.of-in-Some.result c.in_ok-push.ensures.items c.in-Some.ensures.items
-      (ap (λ (w : WalkAhead). w.left) c.of-in-Some.ensures)
+      alone_left _ _ _ _
+      _ _ c.in_ok-push.ensures.items c.in-Some.ensures.items
+      (ap (λ w. w.left) c.of-in-Some.ensures)
       ∙ c.loop-list.invariant.left;
 }
 

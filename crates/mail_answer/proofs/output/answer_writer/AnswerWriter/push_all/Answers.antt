@@ -1,5 +1,5 @@
 -- `AnswerWriter::push_all` adds the messages to the answer, message by message.
-use Rattle.mail_answer.proofs.Words.{◌≡◌, ℕ, List, [], ◌∷◌, ◌++◌, length, Option, Some, Result, Ok, refl, ap, subst, sym, ◌∙◌, append_assoc, append-nil, arith, err_from_is_err_and, AreNumbers, known_answer, known_message, joined_texts, IsIfKnown, WritesText}
+use Rattle.mail_answer.proofs.Words.{◌≡◌, ℕ, List, [], ◌∷◌, ◌++◌, length, Option, Some, Result, Ok, refl, ap, subst, sym, ◌∙◌, append_assoc, append-nil, arith, err_from_is_err_and, AreNumbers, known_answer, known_message, joined_texts, IsIfKnown}
 use Rattle.mail_answer.proofs.ThreadLaws.NumberLists.{numbers_next, few_numbers, known_first, known_none}
 use Rattle.mail_answer.proofs.OutputLaws.SheetLemmas.{joins_gathered, writes_next, writes_stop, writes_less, writes_err, tells-joined, joins_more, unsent_before, joined-nothing, joined-assoc}
 use Rattle.mail_answer.proofs.OutputLaws.ChosenBelow.{is_among_after}
@@ -13,16 +13,15 @@ use Rattle.mail_answer.proofs.output.answer_writer.AnswerWriter.push_all.Goals a
 pub loop-n-init : goal.loop-n-init
 loop-n-init g c = record {
   same = record { table = refl; format = refl };
-  keeps = keeps_self g.A.Archives c.args.archives.now;
+  keeps = keeps_self _ _;
   numbers = c.requires.numbers;
   counted = omega arith;
   joins = (
     Some [],
     [],
-    joined-nothing (known_answer c.args.self.now.format c.args.self.now.places.table
-        (g.A.Archives.held c.args.archives.now) c.args.numbers.now),
+    joined-nothing _,
     refl,
-    joins_gathered (g.O.Out.taken c.args.out.now) c.args.self.now.sheet c.args.self.now.sheet []
+    joins_gathered _ _ _ _
         (sym (append-nil c.args.self.now.sheet.text)) refl,
   );
   kept = λ unsent. refl;
@@ -33,8 +32,8 @@ loop-n-init g c = record {
     λ mbox. (
       [],
       refl,
-      joins_gathered (g.O.Out.taken c.args.out.now) c.args.self.now.sheet
-          c.args.self.now.sheet [] (sym (append-nil c.args.self.now.sheet.text)) refl,
+      joins_gathered _ _
+          _ _ (sym (append-nil c.args.self.now.sheet.text)) refl,
     ),
     refl,
   );
@@ -43,7 +42,7 @@ loop-n-init g c = record {
 }
 
 pub push-requires-clause-ready : goal.push-requires-clause-ready
-push-requires-clause-ready g c = grind (arith, still_ready)
+push-requires-clause-ready = grind (arith, still_ready)
 
 pub returns-in_err-push-clause-messages : goal.returns-in_err-push-clause-messages
 returns-in_err-push-clause-messages g c =
@@ -51,78 +50,78 @@ returns-in_err-push-clause-messages g c =
     let t = c.args.self.now.places.table in
     let i = c.loop-n.invariant in
     let j = i.joins in
-    let held : Option (List (List ℕ)) = g.A.Archives.held c.push.new.archives in
+    let held = g.A.Archives.held c.push.new.archives in
     let so_far =
-    answer_later f t (g.A.Archives.held c.loop-n.archives) held c.args.numbers.now c.loop-n.numbers j.0
+    answer_later f t _ _ _ _ _
     c.in_err-push.ensures.archives.keeps.held j.2 in
-    let next : Option (List ℕ) = known_message f t held c.in-Some.n in
-    let rest : Option (List ℕ) = known_answer f t held c.next.new.self in
-    let took : c.loop-n.numbers ≡ c.in-Some.n ∷ c.next.new.self = c.in-Some.ensures in
-    let all : c.args.numbers.now ≡ i.passed.0 ++ c.in-Some.n ∷ c.next.new.self = i.passed.1
-    ∙ ap (λ (ns : List ℕ). i.passed.0 ++ ns) took in
+    let next = known_message f t held c.in-Some.n in
+    let rest = known_answer f t held c.next.new.self in
+    let took = c.in-Some.ensures in
+    let all = i.passed.1
+    ∙ ap (λ ns. i.passed.0 ++ ns) took in
     record {
-      text = rw (so_far, ap (known_answer f t held) took ∙ known_first f t held c.in-Some.n c.next.new.self)
-          (writes_next (g.O.Out.taken c.args.out.now) (g.O.Out.taken c.loop-n.out) (g.O.Out.taken c.push.new.out)
-          c.args.self.now.sheet c.loop-n.self.sheet c.push.new.self.sheet j.0 (joined_texts next rest)
-          c.from_residual.result (j.1, j.3, j.4)
-          (writes_stop (g.O.Out.taken c.loop-n.out) (g.O.Out.taken c.push.new.out) c.loop-n.self.sheet
-          c.push.new.self.sheet next rest c.from_residual.result c.from_residual.ensures.0
+      text = rw (so_far, ap (known_answer f t held) took ∙ known_first f t _ _ _)
+          (writes_next _ _ _
+          _ _ _ _ _
+          _ (j.1, j.3, j.4)
+          (writes_stop _ _ _
+          _ _ _ _ c.from_residual.ensures.0
           (rw (i.same.table, i.same.format) at c.in_err-push.ensures.message.text)));
       spans = λ mbox. rw all
-          (spans_stop (g.O.Out.taken c.args.out.now) (g.O.Out.taken c.loop-n.out) (g.O.Out.taken c.push.new.out)
-          c.args.self.now.sheet c.loop-n.self.sheet c.push.new.self.sheet t i.passed.0 c.in-Some.n c.next.new.self
-          c.from_residual.result
+          (spans_stop _ _ _
+          _ _ _ t _ _ _
+          _
           c.from_residual.ensures.0 (i.passed.2 mbox)
           (rw i.same.table at (c.in_err-push.ensures.message.span (i.same.format ∙ mbox))));
     }
 
 pub returns-in_err-push-clause-stale : goal.returns-in_err-push-clause-stale
-returns-in_err-push-clause-stale g c = grind (arith, err_from_is_err_and, is_among_after)
+returns-in_err-push-clause-stale = grind (arith, err_from_is_err_and, is_among_after)
 
 pub overflow_add-count : goal.overflow_add-count
-overflow_add-count g c = grind (arith, few_numbers)
+overflow_add-count = grind (arith, few_numbers)
 
 pub loop-n-preserved : goal.loop-n-preserved
 loop-n-preserved g c =
     let t = c.args.self.now.places.table in
     let i = c.loop-n.invariant in
     let j = i.joins in
-    let held : Option (List (List ℕ)) = g.A.Archives.held c.push.new.archives in
+    let held = g.A.Archives.held c.push.new.archives in
     let so_far =
-    answer_later c.args.self.now.format t (g.A.Archives.held c.loop-n.archives) held c.args.numbers.now
-    c.loop-n.numbers j.0 c.in_ok-push.ensures.archives.keeps.held j.2 in
-    let next : Option (List ℕ) = known_message c.args.self.now.format t held c.in-Some.n in
-    let rest : Option (List ℕ) = known_answer c.args.self.now.format t held c.next.new.self in
-    let took : c.loop-n.numbers ≡ c.in-Some.n ∷ c.next.new.self = c.in-Some.ensures in
+    answer_later _ t _ _ _
+    _ _ c.in_ok-push.ensures.archives.keeps.held j.2 in
+    let next = known_message c.args.self.now.format t held c.in-Some.n in
+    let rest = known_answer c.args.self.now.format t held c.next.new.self in
+    let took = c.in-Some.ensures in
     let w = rw (i.same.table, i.same.format) at c.in_ok-push.ensures.message.text in
     record {
       same = record {
         table = c.in_ok-push.ensures.same.table ∙ i.same.table;
         format = c.in_ok-push.ensures.same.format ∙ i.same.format;
       };
-      keeps = keeps_join g.A.Archives _ _ _ i.keeps c.in_ok-push.ensures.archives.keeps;
-      numbers = numbers_next (length t.messages) c.in-Some.n c.next.new.self
+      keeps = keeps_join _ _ _ _ i.keeps c.in_ok-push.ensures.archives.keeps;
+      numbers = numbers_next _ _ _
           (subst (AreNumbers (length t.messages)) took i.numbers);
       counted = omega (arith, i.counted, ap length took);
       joins = (
         joined_texts j.0 next,
         j.1 ++ w.0,
-        so_far ∙ ap (λ (k : Option (List ℕ)). joined_texts j.0 k)
+        so_far ∙ ap (λ k. joined_texts j.0 k)
             (ap (known_answer c.args.self.now.format t held) took
-            ∙ known_first c.args.self.now.format t held c.in-Some.n c.next.new.self) ∙ joined-assoc j.0 next rest,
-        tells-joined j.0 next j.1 w.0 j.3 w.1,
+            ∙ known_first _ t _ _ _) ∙ joined-assoc _ _ _,
+        tells-joined _ _ _ _ j.3 w.1,
         joins_more j.4 w.2,
       );
       kept = λ unsent. c.in_ok-push.ensures.out.kept unsent refl ∙ i.kept (unsent_before w.2 unsent);
       out_count = c.in_ok-push.ensures.out.count ∙ i.out_count;
       passed = (
         i.passed.0 ++ c.in-Some.n ∷ [],
-        i.passed.1 ∙ ap (λ (ns : List ℕ). i.passed.0 ++ ns) took
+        i.passed.1 ∙ ap (λ ns. i.passed.0 ++ ns) took
             ∙ sym (append_assoc i.passed.0 (c.in-Some.n ∷ []) c.next.new.self),
-        λ mbox. spans_more t i.passed.0 c.in-Some.n (i.passed.2 mbox)
+        λ mbox. spans_more t _ _ (i.passed.2 mbox)
             (rw i.same.table at (c.in_ok-push.ensures.message.span (i.same.format ∙ mbox))),
-        each_more g.A.Archives c.args.self.now.format t.messages i.passed.0 c.in-Some.n c.args.archives.now
-            c.loop-n.archives c.push.new.archives i.passed.3
+        each_more _ _ _ _ _ _
+            _ _ i.passed.3
             (rw (i.same.table, i.same.format) at c.in_ok-push.ensures.read),
       );
       unasked = λ raw. (c.in_ok-push.ensures.raw (i.same.format ∙ raw)).2 ∙ i.unasked raw;
@@ -135,28 +134,26 @@ returns-in_err-send-clause-messages g c =
     let t = c.args.self.now.places.table in
     let i = c.loop-n.invariant in
     let j = i.joins in
-    let held : Option (List (List ℕ)) = g.A.Archives.held c.loop-n.archives in
-    let rest : Option (List ℕ) = known_answer f t held c.loop-n.numbers in
-    let ended : c.loop-n.numbers ≡ [] = c.in_default.ensures.0 in
-    let nothing : IsIfKnown rest [] = rw ended (known_none f t held) in
-    let all : i.passed.0 ≡ c.args.numbers.now =
-    sym (i.passed.1 ∙ ap (λ (ns : List ℕ). i.passed.0 ++ ns) ended ∙ append-nil i.passed.0) in
-    let last : WritesText (g.O.Out.taken c.loop-n.out) (g.O.Out.taken c.send.new.out) c.loop-n.self.sheet
-    c.send.new.self
-    (Some []) c.from_residual-in_err-send.result =
-    writes_err (g.O.Out.taken c.loop-n.out) (g.O.Out.taken c.send.new.out) c.loop-n.self.sheet c.send.new.self (Some [])
-    c.from_residual-in_err-send.result c.from_residual-in_err-send.ensures.0 c.in_err-send.ensures.writes in
+    let held = g.A.Archives.held c.loop-n.archives in
+    let rest = known_answer f t held c.loop-n.numbers in
+    let ended = c.in_default.ensures.0 in
+    let nothing : IsIfKnown rest [] = rw ended (known_none f t _) in
+    let all =
+    sym (i.passed.1 ∙ ap (λ ns. i.passed.0 ++ ns) ended ∙ append-nil i.passed.0) in
+    let last =
+    writes_err _ _ _ _ (Some [])
+    _ c.from_residual-in_err-send.ensures.0 c.in_err-send.ensures.writes in
     record {
       text = rw j.2
-          (writes_next (g.O.Out.taken c.args.out.now) (g.O.Out.taken c.loop-n.out) (g.O.Out.taken c.send.new.out)
-          c.args.self.now.sheet c.loop-n.self.sheet c.send.new.self j.0 rest c.from_residual-in_err-send.result
+          (writes_next _ _ _
+          _ _ _ _ _ _
           (j.1, j.3, j.4)
-          (writes_less (g.O.Out.taken c.loop-n.out) (g.O.Out.taken c.send.new.out) c.loop-n.self.sheet c.send.new.self
-          rest [] c.from_residual-in_err-send.result nothing last));
+          (writes_less _ _ _ _
+          _ _ _ nothing last));
       spans = λ mbox.
-          spans_end (g.O.Out.taken c.args.out.now) (g.O.Out.taken c.loop-n.out) (g.O.Out.taken c.send.new.out)
-          c.args.self.now.sheet c.loop-n.self.sheet c.send.new.self t c.args.numbers.now
-          c.from_residual-in_err-send.result
+          spans_end _ _ _
+          _ _ _ t _
+          _
           (rw all at (i.passed.2 mbox)) last;
     }
 
@@ -186,4 +183,4 @@ returns-clause-messages g c =
     }
 
 pub returns-clause-count : goal.returns-clause-count
-returns-clause-count g c = grind arith
+returns-clause-count = grind arith

@@ -3,4 +3,4 @@ use Rattle.mail_answer.proofs.Words.{arith}
 use Rattle.mail_answer.proofs.output.answer_writer.AnswerWriter.write.Goals as goal
 
 pub returns-in-Err-clause-messages : goal.returns-in-Err-clause-messages
-returns-in-Err-clause-messages g c = grind arith
+returns-in-Err-clause-messages = grind arith

@@ -1,5 +1,5 @@
 -- `read_next` gives the bytes that come first, because it reads the archive where they are.
-use Rattle.mail_answer.proofs.Words.{ℕ, ◌+◌, ◌-◌, ◌<◌, ◌≤◌, [], Ok, length, take, drop, refl, ap, arith, rules, length-take-le, reading}
+use Rattle.mail_answer.proofs.Words.{◌-◌, ◌<◌, ◌≤◌, [], Ok, length, take, refl, ap, arith, rules, length-take-le, reading}
 use Rattle.mail_answer.proofs.ArchiveLaws.CallLemmas.{keeps_join}
 use Rattle.mail_answer.proofs.ArchiveLaws.KnowledgeLemmas.{inside_later}
 use Rattle.mail_answer.proofs.OutputLaws.ArchiveParts.{ends_early, fresh_yet, gives_part, none_inside}
@@ -13,8 +13,8 @@ invariant_of-self-then-n-eq0 g c =
     let inside = inside_later _ _ _ _ c.in_ok-n.ensures.held part.inside in
     record {
       inside = none_inside _ _ part.archive part.next part.left (rw c.in_ok-n.ensures.number inside);
-      fresh = λ _. ends_early _ part.archive part.next part.left _ some
-          (ap (λ (n : ℕ). length (take n c.read_at.new.into)) c.if-n-eq0.true) c.in_ok-n.ensures.bytes inside.within;
+      fresh = λ _. ends_early _ _ _ _ _ some
+          (ap (λ n. length (take n c.read_at.new.into)) c.if-n-eq0.true) c.in_ok-n.ensures.bytes inside.within;
       ended = λ _. refl;
     }
 
@@ -28,37 +28,37 @@ returns-then-n-eq0-clause-was g c = λ first was.
     rw c.if-n-eq0.true at told.read in
     record {
       name = was.name;
-      keeps = keeps_join g.A.Archives _ _ _ was.keeps
+      keeps = keeps_join _ _ _ _ was.keeps
           (record { held = told.held; whole = told.whole; number = told.number; asked = told.asked });
       failures = omega (arith, was.failures, told.count);
       early_ends = omega (arith, was.early_ends);
       read = λ same ends. absurd (omega (arith, was.early_ends, ends));
-      ended = λ same ends. until_ends g.A.Archives from (reading part.archive part.next part.left) first.archives.now
-          part.archives.now c.read_at.new.self
+      ended = λ same ends. until_ends _ _ _ _
+          _ _
           (was.read (omega (arith, same, told.count))
-          (fresh_yet part.early_ends first.early_ends part.left some was.early_ends part.ended)) some none;
+          (fresh_yet _ _ _ some was.early_ends part.ended)) some none;
     }
 
 pub returns-clause-was : goal.returns-clause-was
 returns-clause-was g c = λ first was.
     let part = c.args.self.now in
     let told = c.in_ok-n.ensures in
-    let n : ℕ = c.in_ok-n.n in
+    let n = c.in_ok-n.n in
     let some : 0 < n = omega (arith, c.if-n-eq0.false) in
     let le : n ≤ part.left = search rules in
     let from = reading first.archive first.next first.left in
     record {
       name = was.name;
-      keeps = keeps_join g.A.Archives _ _ _ was.keeps
+      keeps = keeps_join _ _ _ _ was.keeps
           (record { held = told.held; whole = told.whole; number = told.number; asked = told.asked });
       failures = omega (arith, was.failures, told.count);
       early_ends = was.early_ends;
-      read = λ same ends. until_join g.A.Archives from (reading part.archive part.next part.left)
-          (reading part.archive (part.next + n) (part.left - n)) first.archives.now part.archives.now
-          c.read_at.new.self
+      read = λ same ends. until_join _ _ _
+          _ _ _
+          _
           (was.read (omega (arith, same, told.count)) ends)
-          (until_piece g.A.Archives part.archive part.next part.left n (take n c.read_at.new.into) part.archives.now
-          c.read_at.new.self told.read (length-take-le n c.read_at.new.into told.bound) some le);
+          (until_piece _ _ _ _ n _ _
+          _ told.read (length-take-le n c.read_at.new.into told.bound) some le);
       ended = λ same ends. absurd (omega (arith, part.ended (omega (arith, ends)), le, some));
     }
 
@@ -67,9 +67,9 @@ returns-clause-bytes g c =
     let part = c.args.self.now in
     let some : 0 < c.in_ok-n.n = omega (arith, c.if-n-eq0.false) in
     let le : c.in_ok-n.n ≤ part.left = search rules in (
-      gives_part _ (g.A.Archives.held c.read_at.new.self) part.archive part.next part.left c.in_ok-n.n
-          c.read_at.new.into
-          (drop c.min-most.result c.args.into.now) some le c.in_ok-n.ensures.bound c.in_ok-n.ensures.held
+      gives_part _ _ _ _ _ _
+          _
+          _ some le c.in_ok-n.ensures.bound c.in_ok-n.ensures.held
           c.in_ok-n.ensures.bytes,
       λ zero room. absurd (c.if-n-eq0.false zero),
     )

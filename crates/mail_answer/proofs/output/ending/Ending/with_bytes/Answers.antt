@@ -13,16 +13,16 @@ split_at bytes at most lt le is = grind (arith, get_or-take, eqb-true, take-appe
 pub returns-in-Some : goal.returns-in-Some
 returns-in-Some c =
     λ bytes is.
-    let more : List ℕ = c.args.more.now in
-    let at : ℕ = c.in-Some.at in
-    let most : ℕ = c.saturating_sub-most.result in
-    let low : at < length (take most more) = c.in-Some.ensures.0.high in
-    let after : take (length more - (at + 1)) (drop (at + 1) more) ≡ drop (at + 1) more = take_rest more (at + 1) in
+    let more = c.args.more.now in
+    let at = c.in-Some.at in
+    let most = c.saturating_sub-most.result in
+    let low = c.in-Some.ensures.0.high in
+    let after = take_rest more (at + 1) in
     let before : at < most = omega (arith, low, length-take most more) in
-    let split : more ≡ take at more ++ 10 ∷ drop (at + 1) more =
-    split_at more at most before (omega arith) c.in-Some.ensures.1 in
+    let split =
+    split_at _ at most before (omega arith) c.in-Some.ensures.1 in
     c.with_each.ensures [] c.new.ensures ∙ ap ending_of_bytes after
-    ∙ sym (ending_after (bytes ++ take at more) (drop (at + 1) more)
+    ∙ sym (ending_after _ _
     (omega (arith, before, length-drop (at + 1) more)))
     ∙ ap ending_of_bytes (append_assoc bytes (take at more) (10 ∷ drop (at + 1) more)
-    ∙ ap (λ (l : List ℕ). bytes ++ l) (sym split))
+    ∙ ap (λ l. bytes ++ l) (sym split))

@@ -9,16 +9,16 @@ use Rattle.mail_answer.proofs.output.mbox.Part.copy_piece.Goals as goal
 
 pub returns-in_err-n-clause-copies : goal.returns-in_err-n-clause-copies
 returns-in_err-n-clause-copies g c =
-    let taken : Option (List ℕ) = g.O.Out.taken c.args.out.now in
-    let held : Option (List (List ℕ)) = g.A.Archives.held c.read.new.archives in
-    let number : ℕ = g.A.Archives.number c.args.archives.now in
-    let known : Option (List ℕ) = bytes_left held c.args.self.now in
+    let taken = g.O.Out.taken c.args.out.now in
+    let held = g.A.Archives.held c.read.new.archives in
+    let number = g.A.Archives.number c.args.archives.now in
+    let known = bytes_left held c.args.self.now in
     let inside =
-    inside_later (g.A.Archives.held c.args.archives.now) held number c.args.self.now c.in_err-n.ensures.keeps.held
+    inside_later _ _ _ _ c.in_err-n.ensures.keeps.held
     c.requires.inside in
-    let some = some_coming held number c.args.self.now inside in
-    copies_err taken taken c.args.sheet.now _ known _ _ _ c.args.before c.from_residual.result c.from_residual.ensures.0
-    (some.0, some.1, nothing_went taken c.args.sheet.now _ some.0 refl, some.2)
+    let some = some_coming _ _ _ inside in
+    copies_err _ _ _ _ _ _ _ _ _ _ c.from_residual.ensures.0
+    (some.0, some.1, nothing_went _ _ _ _ refl, some.2)
 
 pub returns-in_err-send_full-clause-copies : goal.returns-in_err-send_full-clause-copies
 returns-in_err-send_full-clause-copies g c =
@@ -80,7 +80,7 @@ returns-clause-read g c =
     let s = c.self.inside in
     let reads = c.in_ok-n.ensures.bytes in
     let few : c.in_ok-n.n ≤ s.left = omega (arith, c.in_ok-n.ensures.bound) in
-    let piece : List ℕ = drop (length c.args.sheet.now.text) c.read.new.self in
+    let piece = drop (length c.args.sheet.now.text) c.read.new.self in
     let long : length piece ≡ c.in_ok-n.n =
     omega (
       arith,
@@ -89,7 +89,7 @@ returns-clause-read g c =
       length-append c.args.sheet.now.text reads.bytes,
       reads.number,
     ) in
-    subst (λ (r : Reading). ReadsUntil g.A.Archives c.args.archives.now c.read.new.archives r
+    subst (λ r. ReadsUntil g.A.Archives c.args.archives.now c.read.new.archives r
     (reading s.archive (s.next + c.in_ok-n.n) (s.left - c.in_ok-n.n))) c.self.view_is
-    (until_piece g.A.Archives s.archive s.next s.left c.in_ok-n.n piece c.args.archives.now c.read.new.archives
+    (until_piece _ _ _ _ _ _ _ _
     c.in_ok-n.ensures.read long reads.some few)

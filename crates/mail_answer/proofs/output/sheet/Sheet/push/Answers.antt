@@ -6,8 +6,8 @@ use Rattle.mail_answer.proofs.output.sheet.Sheet.push.Goals as goal
 pub returns-in_err-extend-clause-writes :
     goal.returns-in_err-extend-clause-writes
 returns-in_err-extend-clause-writes g c =
-    writes_nothing (g.O.Out.taken c.args.out.now) c.args.self.now _ (Some c.args.bytes.now) c.from_residual.result
+    writes_nothing (g.O.Out.taken c.args.out.now) _ _ (Some c.args.bytes.now) _
     c.from_residual.ensures.0 refl
 
 pub returns-clause-writes : goal.returns-clause-writes
-returns-clause-writes g c = grind (arith, gathered_went)
+returns-clause-writes = grind (arith, gathered_went)

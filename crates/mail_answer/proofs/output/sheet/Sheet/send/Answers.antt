@@ -4,7 +4,7 @@ use Rattle.mail_answer.proofs.OutputLaws.SheetLemmas.{appends_step, counted_step
 use Rattle.mail_answer.proofs.output.sheet.Sheet.send.Goals as goal
 
 pub loop-at-preserved : goal.loop-at-preserved
-loop-at-preserved g c = grind (arith, appends_step, counted_step)
+loop-at-preserved = grind (arith, appends_step, counted_step)
 
 pub returns-in_default-clause-writes : goal.returns-in_default-clause-writes
-returns-in_default-clause-writes g c = grind (arith, front_went)
+returns-in_default-clause-writes = grind (arith, front_went)

@@ -4,4 +4,4 @@ use Rattle.mail_answer.proofs.OutputLaws.SheetLemmas.{joins_gathered}
 use Rattle.mail_answer.proofs.output.sheet.Sheet.send_full.Goals as goal
 
 pub returns-then-len-lt-FULL-clause-writes : goal.returns-then-len-lt-FULL-clause-writes
-returns-then-len-lt-FULL-clause-writes g c = grind (arith, joins_gathered, append-nil)
+returns-then-len-lt-FULL-clause-writes = grind (arith, joins_gathered, append-nil)
