@@ -1,5 +1,5 @@
 -- Laws of cutting a text at a byte.
-use Rattle.mail_query.proofs.Words.{◌≡◌, ◌≢◌, ℕ, suc, ◌-◌, ◌<◌, Bool, true, false, eqb, List, [], ◌∷◌, ◌++◌, length, length-append, take, get_or, Option, Some, None, option_map, MatchOption, refl, sym, ap, ◌∙◌, arith, option_copied, take-append_seam, list_any, or_parts, or_from, nat_tests, is_byte, texts_around, without_first, without_last}
+use Rattle.mail_query.proofs.Words.{◌≡◌, ◌≢◌, ℕ, suc, ◌-◌, ◌<◌, Bool, true, false, eqb, List, [], ◌∷◌, ◌++◌, length, length-append, take, get_or, Option, Some, None, option_map, MatchOption, refl, ap, ◌∙◌, arith, option_copied, take-append_seam, list_any, or_parts, or_from, nat_tests, is_byte, texts_around, without_first, without_last}
 use denote.Ref.{Bor}
 
 pub none_unless : {A : Type 0} (o : Option A) → ((x : A) → o ≡ Some x → ⊥) → o ≡ None
@@ -19,17 +19,16 @@ without_first-other c bs h = grind (arith, other_byte)
 
 pub without_last-same : (c : ℕ) (front : List ℕ) → without_last c (front ++ c ∷ []) ≡ Some front
 without_last-same c [] = rw same_byte refl
-without_last-same c (b ∷ []) = ap (option_map (λ (front : List ℕ). b ∷ front)) (without_last-same c [])
-without_last-same c (b ∷ d ∷ front) = ap (option_map (λ (front : List ℕ). b ∷ front)) (without_last-same c (d ∷ front))
+without_last-same c (b ∷ []) = grind (arith, option_map, without_last-same c [])
+without_last-same c (b ∷ d ∷ front) = grind (arith, option_map, without_last-same c (d ∷ front))
 
 pub without_last-other : (c : ℕ) (bs : List ℕ) → ((front : List ℕ) → bs ≢ front ++ c ∷ []) → without_last c bs ≡ None
 without_last-other c [] h = refl
 without_last-other c (b ∷ []) h =
-    let differs : b ≢ c = λ e. h [] (ap (λ x. x ∷ []) e) in
+    let differs : b ≢ c = λ e. h [] (cc) in
     rw (other_byte b c differs) refl
 without_last-other c (b ∷ d ∷ bs) h =
-    ap (option_map (λ (front : List ℕ). b ∷ front))
-    (without_last-other c (d ∷ bs) (λ front e. h (b ∷ front) (ap (λ (t : List ℕ). b ∷ t) e)))
+    cc (without_last-other c (d ∷ bs) (λ front e. h (b ∷ front) (ap (λ (t : List ℕ). b ∷ t) e)))
 
 -- the byte isn't in the text
 abbrev pub Free : ℕ → List ℕ → Type 0
@@ -43,7 +42,7 @@ none_passes p (b ∷ bs) h = or_from (p b) (list_any p bs) (h 0 (omega arith))
     (none_passes p bs (λ i below. h (suc i) (omega (arith, below))))
 
 free_at : (c : ℕ) (text : List ℕ) → ((i : ℕ) → i < length text → get_or text i 0 ≢ c) → Free c text
-free_at c text h = none_passes (is_byte c) text (λ i below. other_byte (get_or text i 0) c (h i below))
+free_at c text h = grind (arith, none_passes, other_byte)
 
 onto_front : ℕ → Option (List ℕ × List ℕ) → Option (List ℕ × List ℕ)
 onto_front b o = option_map (λ (p : List ℕ × List ℕ). (b ∷ p.0, p.1)) o
@@ -51,14 +50,12 @@ onto_front b o = option_map (λ (p : List ℕ × List ℕ). (b ∷ p.0, p.1)) o
 pub cut_none : (c : ℕ) (text : List ℕ) → Free c text → texts_around c text ≡ None
 unfolding onto_front
 cut_none c [] h = refl
-cut_none c (b ∷ bs) h = let parts = or_parts (eqb b c) (list_any (is_byte c) bs) h
-    in rw parts.0 (ap (onto_front b) (cut_none c bs parts.1))
+cut_none c (b ∷ bs) h = grind (arith, or_parts, onto_front, cut_none c bs)
 
 pub cut_at : (c : ℕ) (text rest : List ℕ) → Free c text → texts_around c (text ++ c ∷ rest) ≡ Some (text, rest)
 unfolding onto_front
 cut_at c [] rest h = rw same_byte refl
-cut_at c (b ∷ bs) rest h = let parts = or_parts (eqb b c) (list_any (is_byte c) bs) h
-    in rw parts.0 (ap (onto_front b) (cut_at c bs rest parts.1))
+cut_at c (b ∷ bs) rest h = grind (arith, or_parts, onto_front, cut_at c bs rest)
 
 -- ---- the last element
 
@@ -71,7 +68,7 @@ last_of {A} (x ∷ y ∷ xs) h = let l = last_of (y ∷ xs) (omega arith) in (x 
 pub before_last : {A : Type 0} (front : List A) (x : A) → take (length (front ++ x ∷ []) - 1) (front ++ x ∷ []) ≡ front
 before_last {A} front x =
     let place : length (front ++ x ∷ []) - 1 ≡ length front = omega (arith, length-append front (x ∷ [])) in
-    ap (λ n. take n (front ++ x ∷ [])) place ∙ take-append_seam front (x ∷ [])
+    grind (arith, take-append_seam)
 
 -- ---- the same of what a call returns
 
@@ -88,5 +85,4 @@ pub cut_answer : (c : ℕ) (bs : List ℕ) (r : Option (Bor (List ℕ) × Bor (L
     → MatchOption r ((i : ℕ) → i < length bs → get_or bs i 0 ≢ c)
     (λ x. (bs ≡ x.0.now ++ c ∷ x.1.now) × ((i : ℕ) → i < length x.0.now → get_or x.0.now i 0 ≢ c))
     → option_map {T = Bor (List ℕ) × Bor (List ℕ)} {U = List ℕ × List ℕ} (λ p. (p.0.now, p.1.now)) r ≡ texts_around c bs
-cut_answer c bs None h = sym (cut_none c bs (free_at c bs h))
-cut_answer c bs (Some x) h = sym (ap (texts_around c) h.0 ∙ cut_at c x.0.now x.1.now (free_at c x.0.now h.1))
+cut_answer c bs r h = grind (arith, cut_none, free_at, cut_at)

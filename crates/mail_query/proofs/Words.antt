@@ -35,7 +35,7 @@ pub use Rattle.mail_words.specs.declared.flags.Flag.{Flag}
 pub use Rattle.mail_words.specs.declared.flags.Flag.TheVariants.{Flagged, Replied, Seen}
 pub use Rattle.or_memory.specs.Refusals.{refusal}
 pub use Rattle.or_memory.specs.declared.or_memory.OrMemory.{OrMemory}
-pub use Rattle.std.proofs.Common.{Bool, Box, Err, Global, IfErr, IfOk, IfSome, IsUtf8, List, MatchOption, None, Ok, Option, Result, Some, String, [], add-one, ap, append-nil, append_assoc, arith, chars, cond, drop, drop-cons, eqb, false, get_or, inl, inr, leb, length, length-append, lit<, ltb, ltb-true, map, max, not, option_map, refl, rules, string_bytes, subst, suc, sym, take, true, vec_len, zero, ℕ, ◌&&◌, ◌*◌, ◌++◌, ◌+◌, ◌-◌, ◌<◌, ◌||◌, ◌∙◌, ◌∷◌, ◌≡◌, ◌≢◌, ◌≤◌}
+pub use Rattle.std.proofs.Common.{Bool, Box, Err, Global, IfErr, IfOk, IfSome, IsUtf8, List, MatchOption, None, Ok, Option, Result, Some, String, [], add-one, ap, append-nil, append_assoc, arith, chars, cond, drop, drop-cons, eqb, false, get_or, inl, inr, length, length-append, lit<, ltb, ltb-true, map, max, not, option_map, refl, rules, string_bytes, subst, suc, sym, take, true, vec_len, zero, ℕ, ◌&&◌, ◌*◌, ◌++◌, ◌+◌, ◌-◌, ◌<◌, ◌||◌, ◌∙◌, ◌∷◌, ◌≡◌, ◌≢◌, ◌≤◌}
 pub use Rattle.std.proofs.Math.Bool.{or-false}
 pub use Rattle.std.proofs.Math.Seq.{drop-append-add, get_or-append_seam, take-append_seam}
 pub use Rattle.std.proofs.lemmas.Bool.{agree_below_at, and_from, and_parts, both_ways, cases_lt, cond_both, eqb-true, false_from_ne_true, le-leb, leb-false, leb-true, lt-leb, lt-ltb, not-true, or_from, or_left, or_parts, or_right}
@@ -50,8 +50,8 @@ pub use Rattle.std.proofs.lemmas.Slice.Eq.{bytes_eq-Decides}
 pub use Rattle.std.proofs.lemmas.Str.{IsCharBoundary-after_ascii, IsCharBoundary-before_ascii, IsUtf8-drop, IsUtf8-string_bytes, IsUtf8-take, NoCharPasses-byte, encodes-chars}
 pub use Rattle.std.proofs.lemmas.Str.Pattern.{split_parts, strip_prefix_char, strip_suffix_char}
 pub use Rattle.std.specs.Char.{is_ascii_alphabetic, is_ascii_alphanumeric, is_ascii_digit}
-pub use Rattle.std.specs.List.{All, IsLastAndRest, join_with_byte, list_all, list_any, onto_first, slice_split}
+pub use Rattle.std.specs.List.{All, IsLastAndRest, join_with_byte, list_all, list_any, slice_split}
 pub use Rattle.std.specs.Option.{option_copied, option_or}
-pub use Rattle.std.specs.Prelude.{bytes_eq, codes, if◌then◌else◌, is_none, is_ok, nat_le, ok_or, option_and_then, slice_get, ◌==◌, ◌↔◌, ◌⊎◌}
-pub use Rattle.std.specs.Result.{MatchResult, result_ok}
+pub use Rattle.std.specs.Prelude.{bytes_eq, codes, if◌then◌else◌, is_none, is_ok, nat_le, ok_or, option_and_then, ◌==◌, ◌↔◌, ◌⊎◌}
+pub use Rattle.std.specs.Result.{MatchResult}
 pub use Rattle.std.specs.Str.{NoCharPasses, NonePass, str_to_ascii_lowercase}

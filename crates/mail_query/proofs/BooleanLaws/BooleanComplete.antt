@@ -1,5 +1,5 @@
 -- The reader returns each query that the grammar gives, by its steps over the tokens of a tree.
-use Rattle.mail_query.proofs.Words.{◌≡◌, ℕ, suc, ◌+◌, ◌<◌, Bool, true, false, not, cond, ltb, ltb-true, List, [], ◌∷◌, ◌++◌, length, map, Option, None, Some, Result, Ok, Err, refl, sym, ap, ◌∙◌, append_assoc, append-nil, add-one, arith, ◌&&◌, is_ok, option_and_then, not-true, ◌>>=◌, fault_as, Field, Fields, QueryFault, QueryFaultKind, Phrase, Lexicon, Query, Not, all_of, either_of, Token, Close, AndSign, OrSign, TermParts, parts_of, no_fields, has_field, is_phrase, parts_query, cut_query, Link, Beside, ByAnd, ByOr, Item, NotOf, Group, Leaf, Chain, Last, Then, link_tokens, item_tokens, chain_tokens, into_first, query_or_any, term_prefix, plain_prefix, item_query, chain_queries, tree_query, is_fine_item, is_fine_chain, Reads, Level, Waiting, ForNot, ForClose, State, start, empty_level, with_member, level_with_prefix, run_ended, each_ended, level_query, is_negated, state_after_operand, query_at_end, cut_term_step, parts_step, term_step, step, run_from, tokens_query}
+use Rattle.mail_query.proofs.Words.{◌≡◌, ℕ, suc, ◌+◌, ◌<◌, Bool, true, false, not, cond, ltb, ltb-true, List, [], ◌∷◌, ◌++◌, length, map, Option, None, Result, Ok, refl, sym, ap, ◌∙◌, append_assoc, append-nil, add-one, arith, ◌&&◌, is_ok, not-true, ◌>>=◌, fault_as, Field, Fields, QueryFault, QueryFaultKind, Lexicon, Query, Not, all_of, Token, Close, AndSign, OrSign, no_fields, has_field, parts_query, Link, Beside, ByAnd, ByOr, Item, NotOf, Group, Leaf, Chain, Last, Then, link_tokens, item_tokens, chain_tokens, into_first, query_or_any, term_prefix, plain_prefix, item_query, chain_queries, tree_query, is_fine_item, is_fine_chain, Reads, Level, Waiting, ForNot, ForClose, State, start, empty_level, with_member, level_with_prefix, run_ended, each_ended, level_query, is_negated, state_after_operand, query_at_end, cut_term_step, term_step, step, run_from, tokens_query}
 use Rattle.mail_query.specs.BooleanTerms.{boolean_term_query}
 use Rattle.mail_query.proofs.BooleanLaws.StackLemmas.{placed-settled, deeper-room}
 
@@ -55,8 +55,8 @@ module _ (lexicon : Lexicon) where
 
   pub with_first-none : (c : Chain) → with_first [] (chain_queries lexicon c) ≡ chain_queries lexicon c
   with_first-none (Last i) = refl
-  with_first-none (Then i Beside c) = with_first-into (item_query lexicon i) (chain_queries lexicon c)
-  with_first-none (Then i ByAnd c) = with_first-into (item_query lexicon i) (chain_queries lexicon c)
+  with_first-none (Then i Beside c) = grind (arith, with_first-into)
+  with_first-none (Then i ByAnd c) = grind (arith, with_first-into)
   with_first-none (Then i ByOr c) = refl
 
   chain_eaches : (c : Chain) (level : Level) → level_eaches (chain_level c level)
@@ -68,7 +68,7 @@ module _ (lexicon : Lexicon) where
       (arith, with_first-none, append_assoc, chain_eaches c (each_ended (with_item i level)))
 
   chain_asks : (c : Chain) → level_query (chain_level c empty_level) ≡ tree_query lexicon c
-  chain_asks c = ap either_of (chain_eaches c empty_level ∙ ap (map all_of) (with_first-none c))
+  chain_asks c = grind (arith, chain_eaches, with_first-none)
 
   -- ---- the steps
 
@@ -87,36 +87,14 @@ module _ (lexicon : Lexicon) where
       (query_or_any (parts_query lexicon prefix rest)))
   unfolding seen_at
   cut_term_fine s prefix rest h =
-      let new : (not (is_negated s.waiting) && has_field s.level.seen prefix) ≡ false =
-      no_seen_prefix (is_negated s.waiting) s.level.seen prefix (and_left _ (is_ok (parts_query lexicon prefix rest)) h)
-      in
-      rw new (go (parts_query lexicon prefix rest) (and_right (not (has_field (seen_at s.waiting s.level) prefix)) _ h))
-    where
-      go : (r : Result Query QueryFaultKind) → is_ok r ≡ true
-          → (r >>= (λ q. Ok (state_after_operand s.waiting (level_with_prefix (is_negated s.waiting) prefix s.level)
-          q)))
-          ≡ Ok (state_after_operand s.waiting (level_with_prefix (is_negated s.waiting) prefix s.level)
-          (query_or_any r))
-      go r h = grind arith
+      grind (arith, no_seen_prefix, and_left, and_right)
 
   pub term_fine : (s : State) (t : List ℕ)
       → (not (has_field (seen_at s.waiting s.level) (term_prefix t)) && is_ok (boolean_term_query lexicon t)) ≡ true
       → term_step lexicon s t ≡ Ok (state_after_operand s.waiting
       (level_with_prefix (is_negated s.waiting) (term_prefix t) s.level)
       (query_or_any (boolean_term_query lexicon t)))
-  term_fine s t h = go (is_phrase t) (parts_of t) h
-    where
-      go : (b : Bool) (o : Option TermParts) → (not
-          (has_field (seen_at s.waiting s.level) (option_and_then (λ (p : TermParts). p.prefix) o)) && is_ok {T = Query}
-          (cond b (Err Phrase) (cut_query lexicon o))) ≡ true
-          → cond b (Err Phrase) (parts_step lexicon s o)
-          ≡ Ok (state_after_operand s.waiting (level_with_prefix (is_negated s.waiting)
-          (option_and_then (λ (p : TermParts). p.prefix) o) s.level)
-          (query_or_any (cond b (Err Phrase) (cut_query lexicon o))))
-      go true o h = absurd (no_truth (not (has_field (seen_at s.waiting s.level)
-          (option_and_then (λ (p : TermParts). p.prefix) o))) h)
-      go false None h = absurd (no_truth true h)
-      go false (Some parts) h = cut_term_fine s parts.prefix parts.rest h
+  term_fine s t h = grind (arith, no_truth, cut_term_fine)
 
   then_steps : (r : Result State QueryFaultKind) (next : State) (ts : List Token) → r ≡ Ok next
       → (r >>= (λ s. steps s ts)) ≡ steps next ts
@@ -127,8 +105,7 @@ module _ (lexicon : Lexicon) where
       → is_fine_item lexicon i (length waiting) level.seen ≡ true
       → is_fine_item lexicon i (length waiting) (seen_at waiting level) ≡ true
   unfolding seen_at
-  seen_fine i waiting level e h = ap (λ (b : Bool). is_fine_item lexicon i (length waiting)
-      (cond b no_fields level.seen)) e ∙ h
+  seen_fine i waiting level e h = grind arith
 
   settled : (i : Item) (waiting : List Waiting) (level : Level) (ts : List Token) → is_negated waiting ≡ false
       → steps (state_after_operand waiting (level_with_prefix (is_negated waiting) (plain_prefix i) level)
@@ -136,10 +113,7 @@ module _ (lexicon : Lexicon) where
       ≡ steps (state waiting (with_item i level) false) ts
   unfolding state
   settled i waiting level ts e =
-      ap (λ (b : Bool). steps (state_after_operand waiting (level_with_prefix b (plain_prefix i) level)
-      (item_query lexicon i)) ts) e
-      ∙ ap (λ s. steps s ts) (placed-settled waiting (level_with_prefix false (plain_prefix i) level)
-      (item_query lexicon i) e)
+      grind (arith, steps, placed-settled)
 
   chain_spelled : (i : Item) (l : Link) (c : Chain) (ts : List Token) → chain_tokens (Then i l c) ++ ts
       ≡ item_tokens i ++ (link_tokens l ++ (chain_tokens c ++ ts))
@@ -210,8 +184,7 @@ module _ (lexicon : Lexicon) where
       → run_from lexicon n s ts ≡ Ok q
   unfolding steps
   run_steps n s last [] q e h =
-      let same : s ≡ last = cc in
-      ap (fault_as (λ kind. let f : QueryFault = record { number = n; kind = kind } in f)) (ap query_at_end same ∙ h)
+      grind arith
   run_steps n s last (t ∷ ts) q e h = go (step lexicon s t) e (λ next k. run_steps (n + 1) next last ts q k h)
     where
       go : (r : Result State QueryFaultKind) → (r >>= (λ next. steps next ts)) ≡ Ok last
@@ -234,7 +207,6 @@ module _ (lexicon : Lexicon) where
   reading_answered [] q r = absurd (not_empty r.tree r.spelled)
   reading_answered (t ∷ ts) q r =
       let all : steps start (t ∷ ts) ≡ Ok (state [] (chain_level r.tree empty_level) false) =
-      ap (steps start) (sym (append-nil (t ∷ ts)) ∙ ap (λ (xs : List Token). xs ++ []) (sym r.spelled))
-      ∙ chain_steps r.tree [] empty_level true [] refl r.fine in
+      cc (append-nil (t ∷ ts), r.spelled, chain_steps r.tree [] empty_level true [] refl r.fine) in
       run_steps 1 start (state [] (chain_level r.tree empty_level) false) (t ∷ ts) q all
       (ap Ok (chain_asks r.tree ∙ r.asked))

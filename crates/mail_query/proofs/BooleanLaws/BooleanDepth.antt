@@ -1,5 +1,5 @@
 -- The queries of the boolean language have at most 63 levels, because at most 30 `(` and `not` are open.
-use Rattle.mail_query.proofs.Words.{◌≡◌, ℕ, suc, ◌+◌, ◌*◌, ◌-◌, ◌<◌, ◌≤◌, Bool, true, cond, ltb, ltb-true, List, [], ◌∷◌, map, Option, Result, Err, subst, arith, Fields, QueryFaultKind, Phrase, Query, depth, all_of, either_of, Lexicon, Token, TermParts, parts_of, no_fields, is_phrase, cut_query, Link, Beside, ByAnd, ByOr, Item, NotOf, Group, Leaf, Chain, Last, Then, with_link, query_or_any, seen_after, item_query, chain_queries, is_fine_item, is_fine_chain, Reads}
+use Rattle.mail_query.proofs.Words.{◌≡◌, ℕ, suc, ◌+◌, ◌*◌, ◌-◌, ◌<◌, ◌≤◌, Bool, true, cond, ltb, ltb-true, List, [], ◌∷◌, map, Result, arith, Fields, QueryFaultKind, Query, depth, all_of, either_of, Lexicon, Token, no_fields, Link, Item, NotOf, Group, Leaf, Chain, Last, Then, with_link, query_or_any, seen_after, item_query, chain_queries, is_fine_item, is_fine_chain, Reads}
 use Rattle.mail_query.specs.BooleanTerms.{boolean_term_query}
 use Rattle.mail_query.proofs.BooleanLaws.BooleanComplete.{and_left, and_right}
 use Rattle.mail_query.proofs.MairixLaws.DepthLemmas.{AreShallow, depth-all_of, depth-either_of}
@@ -15,10 +15,7 @@ if_flat b r s h h2 = grind arith
 module _ (lexicon : Lexicon) where
   term_flat : (t : List ℕ) → IsFlat (boolean_term_query lexicon t)
   unfolding IsFlat
-  term_flat t = if_flat (is_phrase t) (Err Phrase) _ (omega arith) (go (parts_of t))
-    where
-      go : (o : Option TermParts) → IsFlat (cut_query lexicon o)
-      go o = grind arith
+  term_flat t = grind (arith, if_flat, IsFlat)
 
 -- ---- inside this many open `(` and `not`
 
@@ -34,11 +31,7 @@ eaches_shallow m (qs ∷ qss) h = (depth-all_of m qs h.0, eaches_shallow m qss h
 linked_shallow : (m : ℕ) (l : Link) (q : Query) (qss : List (List Query)) → depth q ≤ m → AllShallow m qss
     → AllShallow m (with_link l q qss)
 unfolding AreShallow AllShallow
-linked_shallow m Beside q [] h k = ((h, tt), tt)
-linked_shallow m Beside q (qs ∷ qss) h k = ((h, k.0), k.1)
-linked_shallow m ByAnd q [] h k = ((h, tt), tt)
-linked_shallow m ByAnd q (qs ∷ qss) h k = ((h, k.0), k.1)
-linked_shallow m ByOr q qss h k = ((h, tt), k)
+linked_shallow m l q qss h h2 = grind arith
 
 -- members of an alternative have at most 61 levels, less two for each open `(` or `not`; a group has two more
 made_depth : (n : ℕ) (qss : List (List Query)) → n ≤ 30 → AllShallow (61 - 2 * n) qss
@@ -78,6 +71,5 @@ module _ (lexicon : Lexicon) where
 
   -- each query that the grammar gives has at most 63 levels
   pub reads_depth : (ts : List Token) (q : Query) → Reads lexicon ts q → depth q ≤ 63
-  reads_depth ts q r = subst (λ (asked : Query). depth asked ≤ 63) r.asked
-      (made_depth 0 (chain_queries lexicon r.tree) (omega arith)
+  reads_depth ts q r = rw r.asked at (made_depth 0 (chain_queries lexicon r.tree) (omega arith)
       (chain_shallow r.tree 0 no_fields (omega arith) r.fine))

@@ -85,7 +85,7 @@ record Opens (back : List Token) : Type 0 where
   waits : (f : Bool) (k : ℕ) → waiting_count f k back ≡ waiting_count false k back
 
 opens_all : Opens []
-opens_all = record { wanted = refl; plain = refl; fields = refl; waits = λ f k. refl }
+opens_all = grind arith
 
 opens_group : (back : List Token) → Opens (Open ∷ back)
 opens_group back = grind arith
@@ -104,14 +104,7 @@ item_stands : (i : Item) (back before : List Token) (w : Bool) (seen : Fields) �
     → Stands back (back_after (item_tokens i) before) false (with_field (plain_prefix i) seen)
 item_stands i back before w seen s =
     let l = item_leaves i before in
-    record {
-      is_so = l.passes.wanted;
-      plain = l.passes.plain;
-      fields = l.run ∙ ap (λ (o : Option Field). with_field o (fields_before zero before))
-          (plain_field (is_not before) (plain_prefix i) s.plain) ∙ ap (with_field (plain_prefix i)) s.fields;
-      opens = λ k. l.passes.opens k ∙ s.opens k;
-      waits = λ f k. l.passes.waits f k ∙ s.waits false k;
-    }
+    grind (arith, plain_field)
 
 link_stands : (i : Item) (l : Link) (back before : List Token) (seen : Fields)
     → Stands back before false (with_field (plain_prefix i) seen)
@@ -120,22 +113,12 @@ link_stands i l back before seen h = grind arith
 
 front_stands : (f : Front) (back : List Token) → Opens back
     → Stands back (back_after (front_tokens f) back) (front_wanted f) (seen_front f)
-front_stands Nothing back o = record {
-  is_so = o.wanted;
-  plain = o.plain;
-  fields = o.fields;
-  opens = λ k. refl;
-  waits =
-      o.waits;
-}
+front_stands Nothing back o = grind arith
 front_stands (After f i l) back o =
     let e : back_after (front_tokens f ++ (item_tokens i ++ link_tokens l)) back
     ≡ linked_back l (back_after (item_tokens i) (back_after (front_tokens f) back)) =
-    back_after-append (front_tokens f) (item_tokens i ++ link_tokens l) back
-    ∙ back_after-append (item_tokens i) (link_tokens l) (back_after (front_tokens f) back)
-    ∙ link_after l (back_after (item_tokens i) (back_after (front_tokens f) back)) in
-    subst (λ (after : List Token). Stands back after (wanted_after l) (seen_after i l (seen_front f))) (sym e)
-    (link_stands i l back (back_after (item_tokens i) (back_after (front_tokens f) back)) (seen_front f)
+    grind (arith, back_after-append, front_tokens, link_after) in
+    rw e (link_stands i l back (back_after (item_tokens i) (back_after (front_tokens f) back)) (seen_front f)
     (item_stands i back (back_after (front_tokens f) back) (front_wanted f) (seen_front f) (front_stands f back o)))
 
 part_stands : (p : Part) (back : List Token) → is_closed p.front p.last ≡ true → Opens back
@@ -146,13 +129,9 @@ part_stands p back c o = go p.last c
         → Stands back (back_after (front_tokens p.front ++ last_tokens last) back) (is_none last)
         (with_field (last_prefix last) (seen_front p.front))
     go None c =
-        let s = front_stands p.front back o in
-        subst (λ (ts : List Token). Stands back (back_after ts back) true (seen_front p.front))
-        (sym (append-nil (front_tokens p.front)))
-        (record { is_so = s.is_so ∙ c; plain = s.plain; fields = s.fields; opens = s.opens; waits = s.waits })
+        grind (arith, front_stands, seen_front, append-nil, front_tokens)
     go (Some i) c =
-        subst (λ (after : List Token). Stands back after false (with_field (plain_prefix i) (seen_front p.front)))
-        (sym (back_after-append (front_tokens p.front) (item_tokens i) back))
+        rw (back_after-append (front_tokens p.front) (item_tokens i) back)
         (item_stands i back (back_after (front_tokens p.front) back) (front_wanted p.front) (seen_front p.front)
         (front_stands p.front back o))
 
@@ -187,23 +166,13 @@ module _ (lexicon : Lexicon) where
   unfolding Fine
   shows [] p fine =
       let s = part_stands p [] fine.closed opens_all in
-      record { wanted = s.is_so; plain = s.plain; fields = s.fields; opens = s.opens zero; waits = s.waits true zero }
+      grind arith
   shows (WaitNot ∷ ws) p fine =
-      let s = shows ws p fine.0 in
-      subst (Shows (WaitNot ∷ ws) p) (sym (back_after-append (spelled ws p) (NotSign ∷ []) []))
-      (record { wanted = refl; plain = refl; fields = s.fields; opens = s.opens; waits = ap suc s.waits })
+      grind (arith, WaitNot, back_after-append, spelled, shows ws p fine.0)
   shows (WaitClose outer ∷ ws) p fine =
       let before = shows ws outer fine.0 in
       let s = part_stands p (Open ∷ back_of ws outer) fine.2.closed (opens_group (back_of ws outer)) in
-      subst (Shows (WaitClose outer ∷ ws) p) (sym (back_after-append (spelled ws outer) (Open ∷ part_tokens p) []))
-      (record {
-        wanted = s.is_so;
-        plain = s.plain;
-        fields = s.fields;
-        opens = s.opens zero ∙ ap suc before.opens;
-        waits
-            = s.waits true zero ∙ ap suc before.waits;
-      })
+      grind (arith, WaitClose, back_after-append, spelled, part_tokens)
 
   open-has_open : (ws : List Wait) → eqb (open_of ws) 0 ≡ not (has_open (waiting_of lexicon ws))
   open-has_open [] = refl
@@ -218,8 +187,7 @@ module _ (lexicon : Lexicon) where
 
   same_operator : (ws : List Wait) (p : Part) (back : List Token) (next : State) → Shows ws p back
       → operator_fault back ≡ fault_of {T = State} (cond (wanted_of ws p) (Err MissingTerm) (Ok next))
-  same_operator ws p back next s = ap (λ b. cond b (Some MissingTerm) None) s.wanted
-      ∙ sym (guarded {T = State} (wanted_of ws p) MissingTerm (Ok next))
+  same_operator ws p back next s = grind (arith, guarded, wanted_of)
 
   same_close : (ws : List Wait) (p : Part) (back : List Token) → Shows ws p back → close_fault back
       ≡ fault_of (state_after_close (state_of lexicon ws p))
@@ -260,12 +228,7 @@ module _ (lexicon : Lexicon) where
 
   same_first : (n : ℕ) (ws : List Wait) (p : Part) (ts : List Token) → Fine lexicon ws p
       → first_fault_from lexicon n (back_of ws p) ts ≡ fault_of (run_from lexicon n (state_of lexicon ws p) ts)
-  same_first n ws p [] fine = ap (λ (o : Option QueryFaultKind). first_some (at_number n) o None)
-      (same_end ws p (back_of ws p) (shows ws p fine)) ∙ go (query_at_end (state_of lexicon ws p))
-    where
-      go : (r : Result Query QueryFaultKind) → first_some (at_number n) (fault_of r) None
-          ≡ fault_of (fault_as (at_number n) r)
-      go r = grind arith
+  same_first n ws p [] fine = grind (arith, same_end, shows, state_of)
   same_first n ws p (t ∷ ts) fine =
       ap (λ (o : Option QueryFaultKind). first_some (at_number n) o
       (first_fault_from lexicon (n + 1) (t ∷ back_of ws p) ts)) (same_fault ws p (back_of ws p) t (shows ws p fine))
@@ -279,11 +242,7 @@ module _ (lexicon : Lexicon) where
       go (Err kind) e h = refl
       go (Ok next) e h =
           let reached = reach lexicon ws p t next fine e in
-          let back : back_of reached.waits reached.part ≡ t ∷ back_of ws p =
-          ap (λ (xs : List Token). back_after xs []) reached.tokens ∙ back_after-append (spelled ws p) (t ∷ []) [] in
-          ap (λ (b : List Token). first_fault_from lexicon (n + 1) b ts) (sym back)
-          ∙ h reached.waits reached.part reached.fine
-          ∙ ap (λ s. fault_of (run_from lexicon (n + 1) s ts)) (sym reached.shown)
+          grind (arith, back_after-append, spelled)
 
   -- the reader's fault is the first fault
   first_fault_is : (ts : List Token) → first_fault lexicon ts ≡ fault_of (tokens_query lexicon ts)
@@ -293,10 +252,7 @@ module _ (lexicon : Lexicon) where
 
   pub fault_answered : (ts : List Token) (f : QueryFault) → first_fault lexicon ts ≡ Some f → tokens_query lexicon ts
       ≡ Err f
-  fault_answered ts f e = go (tokens_query lexicon ts) (sym (first_fault_is ts) ∙ e)
-    where
-      go : (r : Result Query QueryFault) → fault_of r ≡ Some f → r ≡ Err f
-      go r h = grind arith
+  fault_answered ts f e = grind (arith, first_fault_is)
 
   pub answer_faulty : (ts : List Token) (f : QueryFault) → tokens_query lexicon ts ≡ Err f → first_fault lexicon ts
       ≡ Some f

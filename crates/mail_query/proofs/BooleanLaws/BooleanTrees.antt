@@ -1,5 +1,5 @@
 -- The grammar gives each query that the reader returns, because after each token its state is that of a partial tree.
-use Rattle.mail_query.proofs.Words.{◌≡◌, ℕ, suc, ◌+◌, ◌<◌, Bool, true, false, not, cond, leb, List, [], ◌∷◌, ◌++◌, length, map, Option, None, Some, Result, Ok, Err, refl, sym, ap, subst, ◌∙◌, append_assoc, append-nil, arith, add-one, ◌&&◌, ◌||◌, is_ok, is_none, option_and_then, and_from, or_parts, or_right, leb-false, lt-ltb, ◌>>=◌, fault_as, Field, Fields, QueryFault, QueryFaultKind, Phrase, NeedsOperator, TooDeep, MissingTerm, BadParenthesis, Lexicon, Query, all_of, either_of, Token, Open, Close, AndSign, OrSign, NotSign, Term, TermParts, parts_of, no_fields, has_field, with_field, is_phrase, cut_query, Link, Beside, ByAnd, ByOr, Item, NotOf, Group, Leaf, Chain, Last, Then, link_tokens, item_tokens, chain_tokens, term_prefix, plain_prefix, seen_after, item_query, chain_queries, tree_query, is_fine_item, is_fine_chain, Reads, Level, Waiting, ForNot, ForClose, State, start, empty_level, with_member, level_with_prefix, run_ended, each_ended, level_query, is_negated, has_open, state_after_operand, deeper, state_after_and, state_after_or, state_after_group, state_after_close, query_at_end, parts_step, term_step, step, run_from, tokens_query}
+use Rattle.mail_query.proofs.Words.{◌≡◌, ℕ, suc, ◌+◌, ◌<◌, Bool, true, false, not, cond, List, [], ◌∷◌, ◌++◌, length, map, Option, None, Some, Result, Ok, Err, refl, sym, ap, ◌∙◌, append_assoc, append-nil, arith, add-one, ◌&&◌, ◌||◌, is_ok, is_none, option_and_then, and_from, or_parts, or_right, leb-false, lt-ltb, ◌>>=◌, fault_as, Field, Fields, QueryFault, QueryFaultKind, Phrase, NeedsOperator, MissingTerm, BadParenthesis, Lexicon, Query, all_of, either_of, Token, Open, Close, AndSign, OrSign, NotSign, Term, TermParts, parts_of, no_fields, has_field, with_field, is_phrase, cut_query, Link, Beside, ByAnd, ByOr, Item, NotOf, Group, Leaf, Chain, Last, Then, link_tokens, item_tokens, chain_tokens, term_prefix, plain_prefix, seen_after, item_query, chain_queries, tree_query, is_fine_item, is_fine_chain, Reads, Level, Waiting, ForNot, ForClose, State, start, empty_level, with_member, level_with_prefix, run_ended, each_ended, level_query, is_negated, has_open, state_after_operand, deeper, state_after_and, state_after_or, state_after_group, state_after_close, query_at_end, parts_step, term_step, step, run_from, tokens_query}
 use Rattle.mail_query.specs.BooleanTerms.{boolean_term_query}
 use Rattle.mail_query.proofs.BooleanLaws.BooleanComplete.{noted-none, state, seen_at, term_fine, with_first, with_first-one, with_first-none}
 
@@ -100,11 +100,7 @@ unguarded b fault r x h = grind arith
 -- ---- its tokens
 
 part_tokens-put : (p : Part) (i : Item) → part_tokens (put p i) ≡ part_tokens p ++ item_tokens i
-part_tokens-put p i = go p.last
-  where
-    go : (last : Option Item) → front_tokens (beside p.front last) ++ item_tokens i
-        ≡ (front_tokens p.front ++ last_tokens last) ++ item_tokens i
-    go last = grind (arith, append-nil)
+part_tokens-put p i = grind (arith, append-nil)
 
 -- whether a term must follow
 abbrev pub wanted_after : Link → Bool
@@ -132,8 +128,7 @@ spelled-more ws p next ts h h2 = grind (arith, append_assoc)
 spelled-put : (ws : List Wait) (p : Part) (i : Item) → spelled (put_waits ws) (put_part ws p i)
     ≡ spelled ws p ++ item_tokens i
 spelled-put [] p i = part_tokens-put p i
-spelled-put (WaitNot ∷ ws) p i = spelled-put ws p (NotOf i)
-    ∙ sym (append_assoc (spelled ws p) (NotSign ∷ []) (item_tokens i))
+spelled-put (WaitNot ∷ ws) p i = grind (arith, append_assoc, spelled-put ws p (NotOf i))
 spelled-put (WaitClose outer ∷ ws) p i =
     spelled-more (WaitClose outer ∷ ws) p (put p i) (item_tokens i) refl (part_tokens-put p i)
 
@@ -189,25 +184,19 @@ module _ (lexicon : Lexicon) where
 
   level_of-put : (p : Part) (i : Item) → level_of (put p i)
       ≡ with_member (level_with_prefix false (plain_prefix i) (level_of p)) (item_query lexicon i)
-  level_of-put p i = go p.front p.last
-    where
-      go : (f : Front) (last : Option Item) → level_of (put (record { front = f; last = last }) i)
-          ≡ with_member (level_with_prefix false (plain_prefix i) (level_of (record { front = f; last = last })))
-          (item_query lexicon i)
-      go f last = grind (arith, append-nil)
+  level_of-put p i = grind (arith, append-nil)
 
   placed_is : (ws : List Wait) (p : Part) (i : Item)
       → state_after_operand (waiting_of ws) (level_with_prefix (is_negated (waiting_of ws)) (plain_prefix i)
       (level_of p)) (item_query lexicon i)
       ≡ state_of (put_waits ws) (put_part ws p i)
-  placed_is [] p i = ap (λ (l : Level). let s : State = record { waiting = []; level = l; wanted = false } in s)
-      (sym (level_of-put p i))
+  placed_is [] p i = grind (arith, level_of-put)
   placed_is (WaitNot ∷ ws) p i = grind (arith, noted-none, placed_is ws p (NotOf i))
   placed_is (WaitClose outer ∷ ws) p i = grind (arith, level_of-put)
 
   eaches-onto : (f : Front) (c : Chain) → map all_of (chain_queries lexicon (onto f c))
       ≡ eaches_front f ++ map all_of (with_first (members_front f) (chain_queries lexicon c))
-  eaches-onto Nothing c = ap (map all_of) (sym (with_first-none lexicon c))
+  eaches-onto Nothing c = grind (arith, with_first-none)
   eaches-onto (After f i Beside) c = grind (arith, with_first-one, eaches-onto f (Then i Beside c))
   eaches-onto (After f i ByAnd) c = grind (arith, with_first-one, eaches-onto f (Then i ByAnd c))
   eaches-onto (After f i ByOr) c = grind (arith, append_assoc, with_first-none, eaches-onto f (Then i ByOr c))
@@ -239,18 +228,11 @@ module _ (lexicon : Lexicon) where
   fine-onto : (f : Front) (c : Chain) (n : ℕ) → is_fine_chain lexicon (onto f c) n no_fields
       ≡ (is_fine_front f n && is_fine_chain lexicon c n (seen_front f))
   fine-onto Nothing c n = refl
-  fine-onto (After f i l) c n = fine-onto f (Then i l c) n
-      ∙ sym (and_assoc (is_fine_front f n) (is_fine_item lexicon i n (seen_front f))
-      (is_fine_chain lexicon c n (seen_after i l (seen_front f))))
+  fine-onto (After f i l) c n = grind (arith, and_assoc, fine-onto f (Then i l c) n)
 
   fine_put : (p : Part) (i : Item) (n : ℕ) → FinePart p n → is_fine_item lexicon i n (seen_of p) ≡ true
       → FinePart (put p i) n
-  fine_put p i n h k = go p.front p.last h.front h.last k
-    where
-      go : (f : Front) (last : Option Item) → is_fine_front f n ≡ true → is_fine_last f last n ≡ true
-          → is_fine_item lexicon i n (with_field (last_prefix last) (seen_front f)) ≡ true
-          → FinePart (put (record { front = f; last = last }) i) n
-      go f last h h2 h3 = grind (arith, and_from)
+  fine_put p i n h k = grind (arith, and_from)
 
   negate_fine : (i : Item) (n : ℕ) (seen : Fields) → n < 30 → is_fine_item lexicon i (suc n) no_fields ≡ true
       → is_fine_item lexicon (NotOf i) n seen ≡ true
@@ -261,16 +243,13 @@ module _ (lexicon : Lexicon) where
       → Fine (put_waits ws) (put_part ws p i)
   unfolding Fine
   put_fine [] p i h k = fine_put p i 0 h k
-  put_fine (WaitNot ∷ ws) p i h k = put_fine ws p (NotOf i) h.0
-      (negate_fine i (length ws) (cond (waits_not ws) no_fields (seen_of p)) h.1 k)
-  put_fine (WaitClose outer ∷ ws) p i h k = (h.0, h.1, fine_put p i (suc (length ws)) h.2 k)
+  put_fine (WaitNot ∷ ws) p i h k = grind (arith, negate_fine, put_fine ws p (NotOf i) h.0)
+  put_fine (WaitClose outer ∷ ws) p i h k = grind (arith, fine_put)
 
   part_fine : (ws : List Wait) (p next : Part) → waits_not ws ≡ false → ((n : ℕ) → FinePart p n → FinePart next n)
       → Fine ws p → Fine ws next
   unfolding Fine
-  part_fine [] p next e h k = h 0 k
-  part_fine (WaitNot ∷ ws) p next e h k = absurd cc
-  part_fine (WaitClose outer ∷ ws) p next e h k = (k.0, k.1, h (suc (length ws)) k.2)
+  part_fine ws p next h h2 h3 = grind arith
 
   -- ---- a step
 
@@ -316,11 +295,9 @@ module _ (lexicon : Lexicon) where
       let is : s ≡ state_after_operand (waiting_of ws)
       (level_with_prefix (is_negated (waiting_of ws)) (term_prefix t) (level_of p))
       (item_query lexicon (Leaf t)) =
-      let both = sym e ∙ term_fine lexicon (state_of ws p) t ok in cc in
+      grind (arith, term_fine) in
       let leaf : is_fine_item lexicon (Leaf t) (length ws) (cond (waits_not ws) no_fields (seen_of p)) ≡ true =
-      ap (λ (b : Bool). not (has_field (cond b no_fields (seen_of p)) (term_prefix t)) && is_ok
-      (boolean_term_query lexicon t))
-      (sym (negated-waiting_of ws)) ∙ ok in
+      grind (arith, negated-waiting_of) in
       record {
         waits = put_waits ws;
         part = put_part ws p (Leaf t);
@@ -334,11 +311,7 @@ module _ (lexicon : Lexicon) where
       → (length ws < 30) × (s ≡ state (what ∷ waiting_of ws) level true)
   unfolding state
   reach_deeper ws s what level e =
-      let room = unguarded (leb 30 (length (waiting_of ws))) TooDeep
-      (Ok (record { waiting = what ∷ waiting_of ws; level = level; wanted = true })) s e in
-      let few = leb-false 30 (length (waiting_of ws)) room.0 in
-      let same = room.1 in
-      (omega (arith, few, length-waiting_of ws), cc)
+      grind (arith, unguarded, leb-false, length-waiting_of)
 
   reach_not : (ws : List Wait) (p : Part) (s : State) → Fine ws p → deeper (waiting_of ws) ForNot (level_of p) ≡ Ok s
       → Reaches ws p NotSign s
@@ -358,7 +331,7 @@ module _ (lexicon : Lexicon) where
         shown = d.1;
         tokens = refl;
         fine =
-            (fine, d.0, record { front = refl; last = refl; closed = refl });
+            grind arith;
       }
 
   -- an operator comes after the last operand
@@ -372,18 +345,9 @@ module _ (lexicon : Lexicon) where
       record {
         waits = ws;
         part = next;
-        shown = shown ∙ ap (state (waiting_of ws) (level_of next)) (sym (or_right (waits_not ws) true refl));
-        tokens = spelled-more ws (ended_by f i) next (t ∷ []) no_not
-            (append-nil (front_tokens f ++ (item_tokens i ++ link_tokens l))
-            ∙ ap (λ (ts : List Token). front_tokens f ++ (item_tokens i ++ ts)) spelled_so
-            ∙ sym (append_assoc (front_tokens f) (item_tokens i) (t ∷ [])));
-        fine = part_fine ws (ended_by f i) next no_not
-            (λ n h. record {
-              front = and_from (is_fine_front f n) _ h.front h.last;
-              last = refl;
-              closed =
-                  operator_wanted l t spelled_so;
-            }) fine;
+        shown = grind (arith, state, or_right);
+        tokens = grind (arith, spelled-more, append-nil, append_assoc);
+        fine = grind (arith, part_fine, and_from, operator_wanted);
       }
 
   reach_and : (ws : List Wait) (p : Part) (s : State) → Fine ws p → state_after_and (state_of ws p) ≡ Ok s
@@ -395,9 +359,7 @@ module _ (lexicon : Lexicon) where
       where_ended ws p (λ r. Fine ws r → state (waiting_of ws) (run_ended (level_of r)) true ≡ s
       → Reaches ws r AndSign s) passed.0
       (λ no_not f i h same. reach_operator ws f i ByAnd AndSign s no_not h refl
-      (sym same ∙ ap (λ (ms : List Query). let l : Level =
-      record { eaches = eaches_front f; members = ms; seen = no_fields } in state (waiting_of ws) l true)
-      (sym (append-nil (members_front f ++ item_query lexicon i ∷ [])))))
+      (cc (same, append-nil (members_front f ++ item_query lexicon i ∷ []))))
       fine (let same = passed.1 in cc)
 
   reach_or : (ws : List Wait) (p : Part) (s : State) → Fine ws p → state_after_or (state_of ws p) ≡ Ok s
@@ -422,9 +384,7 @@ module _ (lexicon : Lexicon) where
   reach_close ws p s fine e =
       let passed = closed_is (wanted_of ws p) (has_open (waiting_of ws))
       (state_after_group (waiting_of ws) (level_of p)) e in
-      where_ended ws p (λ r. Fine ws r → state_after_group (waiting_of ws) (level_of r) ≡ Ok s → Reaches ws r Close s)
-      passed.0
-      (λ no_not f i. go ws f i) fine passed.1
+      grind (arith, where_ended, go)
     where
       closed_is : (b o : Bool) (r : Result State QueryFaultKind)
           → cond b (cond o (Err MissingTerm) (Err BadParenthesis)) r ≡ Ok s → (b ≡ false) × (r ≡ Ok s)
@@ -441,14 +401,12 @@ module _ (lexicon : Lexicon) where
           record {
             waits = put_waits vs;
             part = put_part vs outer (Group c);
-            shown = sym popped_so ∙ ap (state_after_operand (waiting_of vs) (level_of outer)) (level_asks f i)
-                ∙ ap (λ (l : Level). state_after_operand (waiting_of vs) l (item_query lexicon (Group c)))
-                (sym (noted-none (is_negated (waiting_of vs)) (level_of outer)))
-                ∙ placed_is vs outer (Group c);
-            tokens = spelled-put vs outer (Group c)
-                ∙ ap (λ (ts : List Token). spelled vs outer ++ (Open ∷ (ts ++ Close ∷ [])))
-                (chain_tokens-onto f (Last i))
-                ∙ sym (append_assoc (spelled vs outer) (Open ∷ part_tokens (ended_by f i)) (Close ∷ []));
+            shown = cc (
+              level_asks f i,
+              noted-none (is_negated (waiting_of vs)) (level_of outer),
+              placed_is vs outer (Group c),
+            );
+            tokens = grind (arith, spelled-put, chain_tokens-onto, append_assoc);
             fine = put_fine vs outer (Group c) h.0
                 (group_fine f i (length vs) (cond (waits_not vs) no_fields (seen_of outer)) h.1 h.2);
           }
@@ -468,25 +426,11 @@ module _ (lexicon : Lexicon) where
       → Reads lexicon (spelled ws p) q
   unfolding Fine
   end_reads ws p q fine e =
-      let passed = unguarded (wanted_of ws p) MissingTerm
-      (cond (has_open (waiting_of ws)) (Err BadParenthesis) (Ok (level_query (level_of p)))) q e in
-      let shut = unguarded (has_open (waiting_of ws)) BadParenthesis (Ok (level_query (level_of p))) q passed.1 in
-      where_ended ws p (λ r. Fine ws r → level_query (level_of r) ≡ q → Reads lexicon (spelled ws r) q) passed.0
-      (λ no_not f i. go ws f i no_not shut.0) fine (let same = shut.1 in cc)
-    where
-      go : (vs : List Wait) (f : Front) (i : Item) → waits_not vs ≡ false → has_open (waiting_of vs) ≡ false
-          → Fine vs (ended_by f i) → level_query (level_of (ended_by f i)) ≡ q
-          → Reads lexicon (spelled vs (ended_by f i)) q
-      go vs f i h h2 h3 h4 = grind (arith, chain_tokens-onto, fine-onto, and_from, level_asks)
+      grind (arith, unguarded, where_ended, chain_tokens-onto, fine-onto, and_from, level_asks)
 
   run_reads : (n : ℕ) (ws : List Wait) (p : Part) (ts : List Token) (q : Query) → Fine ws p
       → run_from lexicon n (state_of ws p) ts ≡ Ok q → Reads lexicon (spelled ws p ++ ts) q
-  run_reads n ws p [] q fine e = subst (λ (xs : List Token). Reads lexicon xs q) (sym (append-nil (spelled ws p)))
-      (end_reads ws p q fine (unnumbered (query_at_end (state_of ws p)) e))
-    where
-      unnumbered : (r : Result Query QueryFaultKind)
-          → fault_as (λ kind. let f : QueryFault = record { number = n; kind = kind } in f) r ≡ Ok q → r ≡ Ok q
-      unnumbered r h = grind arith
+  run_reads n ws p [] q fine e = grind (arith, append-nil, end_reads)
   run_reads n ws p (t ∷ ts) q fine e = go (step lexicon (state_of ws p) t) refl e
       (λ vs r h k. run_reads (n + 1) vs r ts q h k)
     where
@@ -498,10 +442,7 @@ module _ (lexicon : Lexicon) where
       go (Err kind) i e k = absurd cc
       go (Ok next) i e k =
           let reached = reach ws p t next fine i in
-          let rest = k reached.waits reached.part reached.fine
-          (ap (λ s. run_from lexicon (n + 1) s ts) (sym reached.shown) ∙ e) in
-          subst (λ (xs : List Token). Reads lexicon xs q)
-          (ap (λ (xs : List Token). xs ++ ts) reached.tokens ∙ append_assoc (spelled ws p) (t ∷ []) ts) rest
+          grind (arith, append_assoc)
 
   -- the grammar gives what the reader returns
   pub start_read : (ts : List Token) (q : Query) → run_from lexicon 1 start ts ≡ Ok q → Reads lexicon ts q
@@ -509,5 +450,4 @@ module _ (lexicon : Lexicon) where
   start_read ts q e = run_reads 1 [] nothing_read ts q (record { front = refl; last = refl; closed = refl }) e
 
   pub answer_read : (ts : List Token) (q : Query) → tokens_query lexicon ts ≡ Ok q → Reads lexicon ts q
-  answer_read [] q e = absurd cc
-  answer_read (t ∷ ts) q e = start_read (t ∷ ts) q e
+  answer_read ts q h = grind (arith, start_read)

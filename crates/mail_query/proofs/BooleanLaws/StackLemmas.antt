@@ -1,5 +1,5 @@
 -- Laws of what is open, the innermost first.
-use Rattle.mail_query.proofs.Words.{◌≡◌, ℕ, ◌+◌, ◌-◌, ◌<◌, ◌≤◌, Bool, true, false, ◌||◌, Ok, Err, List, [], ◌∷◌, ◌++◌, length, take, drop, get_or, drop-cons, refl, sym, ap, ◌∙◌, arith, IsLastAndRest, drop_all, or-false, or_right, le-leb, lt-leb, TooDeep, BadParenthesis, Query, Not, shown_level, shown_waiting, nearest_first, shown_stack, Level, Waiting, ForNot, ForClose, with_member, is_negated, has_open, state_after_operand, deeper, state_after_group, level_query}
+use Rattle.mail_query.proofs.Words.{◌≡◌, ℕ, ◌+◌, ◌-◌, ◌<◌, ◌≤◌, Bool, true, false, ◌||◌, Ok, Err, List, [], ◌∷◌, ◌++◌, length, take, drop, get_or, drop-cons, refl, ◌∙◌, arith, IsLastAndRest, drop_all, or-false, or_right, le-leb, lt-leb, TooDeep, BadParenthesis, Query, Not, shown_level, shown_waiting, nearest_first, shown_stack, Level, Waiting, ForNot, ForClose, with_member, is_negated, has_open, state_after_operand, deeper, state_after_group, level_query}
 use Rattle.mail_query.specs.declared.boolean.reader.Level.{Level as CodeLevel}
 use Rattle.mail_query.specs.declared.boolean.reader.Waiting.{Waiting as CodeWaiting}
 use Rattle.mail_query.specs.declared.boolean.reader.Waiting.TheVariants as code_waiting
@@ -25,13 +25,11 @@ length-shown_stack ws = omega (arith, length-nearest_first ws [])
 
 pub negated_last : (ws front : List CodeWaiting) → IsLastAndRest ws code_waiting.ForNot front
     → is_negated (shown_stack ws) ≡ true
-negated_last ws front h = ap (λ xs. is_negated (shown_stack xs)) h.0
-    ∙ ap is_negated (shown_stack-push front code_waiting.ForNot)
+negated_last ws front h = grind (arith, shown_stack-push)
 
 pub open_last : (ws front : List CodeWaiting) (w : CodeWaiting) (level : Level) → IsLastAndRest ws w front
     → shown_waiting w ≡ ForClose level → is_negated (shown_stack ws) ≡ false
-open_last ws front w level h e = ap (λ xs. is_negated (shown_stack xs)) h.0 ∙ ap is_negated (shown_stack-push front w)
-    ∙ ap (λ v. is_negated (v ∷ shown_stack front)) e
+open_last ws front w level h e = grind (arith, shown_stack-push)
 
 -- an operand without a `not` directly before it is a member as it is
 pub placed-settled : (ws : List Waiting) (level : Level) (q : Query) → is_negated ws ≡ false
@@ -51,8 +49,7 @@ has_open-nearest_first : (ws : List CodeWaiting) (after : List Waiting) → has_
 has_open-nearest_first [] after = refl
 has_open-nearest_first (code_waiting.ForNot ∷ ws) after = has_open-nearest_first ws (ForNot ∷ after)
 has_open-nearest_first (code_waiting.ForClose level ∷ ws) after =
-    has_open-nearest_first ws (shown_waiting (code_waiting.ForClose level) ∷ after)
-    ∙ or_right (has_open_code ws) true refl
+    grind (arith, or_right, has_open-nearest_first ws)
 
 pub has_open-shown_stack : (ws : List CodeWaiting) → has_open (shown_stack ws) ≡ has_open_code ws
 has_open-shown_stack ws = has_open-nearest_first ws [] ∙ or-false (has_open_code ws)
@@ -82,13 +79,11 @@ pub pops-close : (ws rest : List CodeWaiting) (outer : CodeLevel) (level : Level
     ≡ rest ++ code_waiting.ForClose outer ∷ []
     → state_after_group (shown_stack ws) level
     ≡ Ok (state_after_operand (shown_stack rest) (shown_level outer) (level_query level))
-pops-close ws rest outer level e = ap (λ xs. state_after_group (shown_stack xs) level) e
-    ∙ ap (λ xs. state_after_group xs level) (shown_stack-push rest (code_waiting.ForClose outer))
+pops-close ws rest outer level e = grind (arith, shown_stack-push)
 
 pub pops-not : (ws rest : List CodeWaiting) (level : Level) → ws ≡ rest ++ code_waiting.ForNot ∷ []
     → state_after_group (shown_stack ws) level ≡ Err BadParenthesis
-pops-not ws rest level e = ap (λ xs. state_after_group (shown_stack xs) level) e
-    ∙ ap (λ xs. state_after_group xs level) (shown_stack-push rest code_waiting.ForNot)
+pops-not ws rest level e = grind (arith, shown_stack-push)
 
 -- ---- an open `(`, found from the front
 
@@ -99,4 +94,4 @@ open_here ws i item level below here is h = grind (arith, drop-cons, has_open-sh
 
 pub none_open : (ws : List CodeWaiting) (i : ℕ) → length ws ≤ i → has_open_code (drop i ws) ≡ has_open_code ws → false
     ≡ has_open (shown_stack ws)
-none_open ws i past h = sym (ap has_open_code (drop_all i ws past)) ∙ h ∙ sym (has_open-shown_stack ws)
+none_open ws i past h = grind (arith, drop_all, has_open-shown_stack)

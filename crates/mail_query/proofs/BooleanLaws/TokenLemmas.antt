@@ -1,11 +1,11 @@
 -- Taking one token after another from the front of a text gives its tokens.
-use Rattle.std.proofs.Common.{◌≡◌, ℕ, zero, suc, ◌<◌, ◌≤◌, Bool, true, false, not, ◌||◌, cond, eqb, List, [], ◌∷◌, length, take, drop, get_or, None, Some, refl, sym, ap, subst, ◌∙◌, arith, add-one}
+use Rattle.std.proofs.Common.{◌≡◌, ℕ, zero, suc, ◌<◌, ◌≤◌, Bool, true, false, not, ◌||◌, cond, List, [], ◌∷◌, length, take, drop, get_or, None, Some, refl, ◌∙◌, arith, add-one}
 use Rattle.std.proofs.lemmas.Bool.Decides.{nat_tests}
 use Rattle.std.proofs.lemmas.Option.{cond_some}
 use Rattle.std.specs.List.{prefix_len}
 use Rattle.std.specs.Str.{IsUtf8, IsCharBoundary}
 use Rattle.std.proofs.lemmas.Str.{IsCharBoundary-start, IsCharBoundary-after_ascii}
-use Rattle.mail_query.specs.Tokens.{Open, Close, Cut, token_of, is_blank_or_feed, closed_run, all_tokens, cut_tokens, query_tokens}
+use Rattle.mail_query.specs.Tokens.{Open, Close, token_of, is_blank_or_feed, cut_tokens, query_tokens}
 use Rattle.mail_query.specs.Pieces.{without_first}
 use Rattle.mail_query.specs.Inside.Shown.{blank_count, ends_run, run_length}
 
@@ -21,20 +21,11 @@ tokens-blank b bs e = rw e refl
 
 pub tokens-blanks : (text : List ℕ) → query_tokens (drop (blank_count text) text) ≡ query_tokens text
 tokens-blanks [] = refl
-tokens-blanks (b ∷ bs) = go (is_blank_or_feed b) refl (tokens-blanks bs)
-  where
-    go : (t : Bool) → is_blank_or_feed b ≡ t → query_tokens (drop (blank_count bs) bs) ≡ query_tokens bs
-        → query_tokens (drop (cond t (suc (blank_count bs)) 0) (b ∷ bs)) ≡ query_tokens (b ∷ bs)
-    go true e h = h ∙ sym (tokens-blank b bs e)
-    go false e h = refl
+tokens-blanks (b ∷ bs) = grind (arith, tokens-blank, tokens-blanks bs)
 
 pub no_blank_left : (text : List ℕ) → blank_count (drop (blank_count text) text) ≡ 0
 no_blank_left [] = refl
-no_blank_left (b ∷ bs) = go (is_blank_or_feed b) refl (no_blank_left bs)
-  where
-    go : (t : Bool) → is_blank_or_feed b ≡ t → blank_count (drop (blank_count bs) bs) ≡ 0
-        → blank_count (drop (cond t (suc (blank_count bs)) 0) (b ∷ bs)) ≡ 0
-    go t h h2 = grind arith
+no_blank_left (b ∷ bs) = grind (arith, no_blank_left bs)
 
 blank_is_ascii : (b : ℕ) → is_blank_or_feed b ≡ true → b < 128
 blank_is_ascii b e = grind (arith, nat_tests)
@@ -61,7 +52,7 @@ blanks_end text utf8 = go (blank_count text) refl
     go zero e = IsCharBoundary-start text utf8
     go (suc n) e =
         let last = last_blank text n e in
-        subst (IsCharBoundary text) (add-one n) (IsCharBoundary-after_ascii text n utf8 last.0 last.1)
+        rw (add-one n) at (IsCharBoundary-after_ascii text n utf8 last.0 last.1)
 
 -- ---- a run
 
@@ -73,37 +64,12 @@ pub cut-run : (text : List ℕ) → cut_tokens text
     ≡ record { run = take (run_length text) text; after = query_tokens (drop (run_length text) text) }
 unfolding query_tokens
 cut-run [] = refl
-cut-run (b ∷ bs) = go (is_blank_or_feed b) (eqb b 0x28) (eqb b 0x29) refl refl refl (cut-run bs)
-  where
-    cut_at : Bool → Bool → Bool → Cut → Cut
-    cut_at t o c rest =
-        cond t (record { run = []; after = all_tokens rest })
-        (cond o (record { run = []; after = Open ∷ all_tokens rest })
-        (cond c (record { run = []; after = Close ∷ all_tokens rest })
-        (record { run = b ∷ rest.run; after = rest.after })))
-
-    count : Bool → Bool → Bool → ℕ
-    count t o c = cond (t || (o || c)) 0 (suc (run_length bs))
-
-    go : (t o c : Bool) → is_blank_or_feed b ≡ t → eqb b 0x28 ≡ o → eqb b 0x29 ≡ c
-        → cut_tokens bs ≡ record { run = take (run_length bs) bs; after = query_tokens (drop (run_length bs) bs) }
-        → cut_at t o c (cut_tokens bs) ≡ record
-        { run = take (count t o c) (b ∷ bs); after = query_tokens (drop (count t o c) (b ∷ bs)) }
-    go true o c e f g h = rw e refl
-    go false true c e f g h = rw (e, f) refl
-    go false false true e f g h = rw (e, f, g) refl
-    go false false false e f g h = ap (λ (rest : Cut). let r : Cut = record { run = b ∷ rest.run; after = rest.after }
-        in r) h
+cut-run (b ∷ bs) = grind (arith, cut-run bs)
 
 pub tokens-run : (text : List ℕ) → 0 < run_length text → 0 < length text → query_tokens text
     ≡ token_of (take (run_length text) text) ∷ query_tokens (drop (run_length text) text)
 unfolding query_tokens
-tokens-run text some nonempty = ap all_tokens (cut-run text) ∙ go (run_length text) text some nonempty
-  where
-    go : (n : ℕ) (t : List ℕ) → 0 < n → 0 < length t
-        → closed_run (take n t) (query_tokens (drop (run_length text) text))
-        ≡ token_of (take n t) ∷ query_tokens (drop (run_length text) text)
-    go n t h h2 = grind arith
+tokens-run text some nonempty = grind (arith, cut-run)
 
 -- a run ends at a boundary of characters
 pub run_end : (text : List ℕ) → IsCharBoundary text (run_length text)
@@ -113,45 +79,29 @@ run_end text = go (run_place text)
     ascii b e = grind (arith, nat_tests)
 
     run_place : (t : List ℕ) → (run_length t ≤ length t) × (run_length t < length t → get_or t (run_length t) 0 < 128)
-    run_place [] = (omega arith, λ h. absurd (omega (arith, h)))
+    run_place [] = grind arith
     run_place (b ∷ bs) = grind (arith, ascii, run_place bs)
 
     go : (run_length text ≤ length text) × (run_length text < length text → get_or text (run_length text) 0 < 128)
         → IsCharBoundary text (run_length text)
-    go h = (h.0, λ below high. absurd (omega (arith, h.1 below, high)))
+    go h = grind arith
 
 -- a text that begins with no blank and no parenthesis begins with a run
 pub begins_run : (text : List ℕ) → 0 < length text → blank_count text ≡ 0 → without_first 0x28 text ≡ None
     → without_first 0x29 text ≡ None → 0 < run_length text
-begins_run [] h e f g = absurd (omega (arith, h))
-begins_run (b ∷ bs) h e f g = go (is_blank_or_feed b) (eqb b 0x28) (eqb b 0x29) e f g
-  where
-    go : (t o c : Bool) → cond t (suc (blank_count bs)) 0 ≡ 0 → cond o (Some bs) None ≡ None → cond c (Some bs) None
-        ≡ None → 0 < cond (t || (o || c)) 0 (suc (run_length bs))
-    go t o c h h2 h3 = grind arith
+begins_run text h h2 h3 h4 = grind arith
 
 -- ---- parentheses at the front
 
 pub tokens-open : (text rest : List ℕ) → without_first 0x28 text ≡ Some rest → query_tokens text
     ≡ Open ∷ query_tokens rest
 unfolding query_tokens
-tokens-open [] rest e = absurd cc
-tokens-open (b ∷ bs) rest e =
-    let same = cond_some (eqb b 0x28) bs rest e in
-    let is = same.0 in
-    let blank : is_blank_or_feed b ≡ false = grind (arith, nat_tests, is) in
-    rw (blank, is) (ap (λ (t : List ℕ). Open ∷ all_tokens (cut_tokens t)) same.1)
+tokens-open text rest h = grind (arith, cond_some, nat_tests)
 
 pub tokens-close : (text rest : List ℕ) → without_first 0x29 text ≡ Some rest → query_tokens text
     ≡ Close ∷ query_tokens rest
 unfolding query_tokens
-tokens-close [] rest e = absurd cc
-tokens-close (b ∷ bs) rest e =
-    let same = cond_some (eqb b 0x29) bs rest e in
-    let is = same.0 in
-    let blank : is_blank_or_feed b ≡ false = grind (arith, nat_tests, is) in
-    let other : eqb b 0x28 ≡ false = grind (arith, nat_tests, is) in
-    rw (blank, other, is) (ap (λ (t : List ℕ). Close ∷ all_tokens (cut_tokens t)) same.1)
+tokens-close text rest h = grind (arith, cond_some, nat_tests)
 
 pub tokens-nothing : (text : List ℕ) → length text ≡ 0 → query_tokens text ≡ []
 unfolding query_tokens

@@ -1,5 +1,5 @@
 -- The test for approximate matching is right after each byte of a text, so it is right at the end.
-use Rattle.mail_query.proofs.Words.{◌≡◌, ℕ, suc, ◌≤◌, Bool, true, false, ◌||◌, ◌&&◌, eqb, List, [], ◌∷◌, ◌++◌, length, refl, sym, subst, arith, list_all, is_ascii_digit, eqb-true, and_parts, and_from, or_left, or_right, is_nonempty, is_approximate, IsApproximate, Digits}
+use Rattle.mail_query.proofs.Words.{◌≡◌, ℕ, ◌≤◌, Bool, true, false, ◌||◌, ◌&&◌, eqb, List, [], ◌∷◌, ◌++◌, length, refl, arith, list_all, is_ascii_digit, eqb-true, and_parts, and_from, or_left, or_right, is_nonempty, is_approximate, IsApproximate, Digits}
 
 -- What the test says of the whole text, given the rest. `marked`: only digits came since the last `=`. `counted`: at
 -- least one of them did.
@@ -9,7 +9,7 @@ approximate_after marked counted rest =
     is_approximate rest
 
 nonempty : (b : ℕ) (bs : List ℕ) → is_nonempty (b ∷ bs) ≡ true
-nonempty b bs = let e : eqb (suc (length bs)) 0 ≡ false = grind arith in rw e refl
+nonempty b bs = grind arith
 
 -- ---- a text that passes has an `=` and digits after it
 
@@ -32,14 +32,12 @@ approximate_is (b ∷ bs) e = go (eqb b 0x3D && (is_nonempty bs && list_all is_a
     go true h e after =
         let mark = and_parts (eqb b 0x3D) (is_nonempty bs && list_all is_ascii_digit bs) h in
         let rest = and_parts (is_nonempty bs) (list_all is_ascii_digit bs) mark.1 in
-        subst (λ (c : ℕ). IsApproximate (c ∷ bs)) (sym (eqb-true b 0x3D mark.0))
-        (Digits [] bs (filled bs rest.0) rest.1)
+        rw (eqb-true b 0x3D mark.0) (Digits [] bs (filled bs rest.0) rest.1)
     go false h e after = marked_after b bs (after e)
 
 marked : (front digits : List ℕ) → 1 ≤ length digits → list_all is_ascii_digit digits ≡ true
     → is_approximate (front ++ 0x3D ∷ digits) ≡ true
-marked [] digits some only = or_left (is_nonempty digits && list_all is_ascii_digit digits) (is_approximate digits)
-    (and_from (is_nonempty digits) (list_all is_ascii_digit digits) (nonempty_of digits some) only)
+marked [] digits some only = grind (arith, or_left, and_from, nonempty_of)
 marked (b ∷ front) digits some only = grind (arith, or_right, marked front digits some only)
 
 pub is_marked : (text : List ℕ) → IsApproximate text → is_approximate text ≡ true

@@ -14,15 +14,11 @@ deepest_le n (q ∷ qs) h = omega (arith, h.0, deepest_le n qs h.1)
 
 pub depth-all_of : (n : ℕ) (qs : List Query) → AreShallow n qs → depth (all_of qs) ≤ suc n
 unfolding AreShallow
-depth-all_of n [] h = omega arith
-depth-all_of n (q ∷ []) h = omega (arith, h.0)
-depth-all_of n (q ∷ r ∷ qs) h = omega (arith, deepest_le n (q ∷ r ∷ qs) h)
+depth-all_of n qs h = grind (arith, deepest_le)
 
 pub depth-either_of : (n : ℕ) (qs : List Query) → AreShallow n qs → depth (either_of qs) ≤ suc n
 unfolding AreShallow
-depth-either_of n [] h = omega arith
-depth-either_of n (q ∷ []) h = omega (arith, h.0)
-depth-either_of n (q ∷ r ∷ qs) h = omega (arith, deepest_le n (q ∷ r ∷ qs) h)
+depth-either_of n qs h = grind (arith, deepest_le)
 
 -- ---- each production
 

@@ -19,7 +19,7 @@ module _ {E : Type 0} (fault : ℕ → QueryFaultKind → E) (read : List ℕ �
       pub whole : with_front qs (numbered_read (n + 1) (drop n texts)) ≡ numbered_read 1 texts
 
     pub reads_none : (qs : List Query) → qs ≡ [] → HasRead qs 0
-    reads_none qs e = record { whole = rw e (with_front-nil (numbered_read 1 texts)) }
+    reads_none qs e = grind (arith, with_front-nil)
 
     -- the whole, given the result for the text at a place
     abbrev then_rest : List Query → ℕ → Result Query QueryFaultKind → Result (List Query) E
@@ -70,8 +70,7 @@ module _ (read : List ℕ → Result Query QueryFaultKind) (texts : List (List �
 
   pub parts_read : (qs : List Query) (n : ℕ) → HasRead unnumbered read texts qs n → n ≡ length texts
       → each_read read texts >>= (λ xs. Ok (made xs)) ≡ Ok (made qs)
-  parts_read qs n h e = ap (λ (r : Result (List Query) QueryFaultKind). r >>= (λ xs. Ok (made xs)))
-      (sym (each_numbered read 1 texts) ∙ reads_all unnumbered read texts qs n h e)
+  parts_read qs n h e = grind (arith, each_numbered, reads_all)
 
 -- ---- patterns have numbers
 

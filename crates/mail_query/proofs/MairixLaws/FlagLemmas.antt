@@ -1,5 +1,5 @@
 -- Flags are read as their grammar says, by induction over the letters.
-use Rattle.mail_query.proofs.Words.{◌≡◌, ℕ, ◌+◌, ◌<◌, Bool, true, false, eqb, List, [], ◌∷◌, ◌++◌, length, get_or, drop, Option, None, Some, Ok, Err, option_map, refl, sym, ap, ◌∙◌, append_assoc, append-nil, arith, add-one, drop-cons, inl, inr, not, cond, subst, option_and_then, ◌⊎◌, drop_all, Flag, BadFlag, Query, HasFlag, all_of, flag_of, with_flag, flags_after, flags_of_text, some_of, flags_query, eqb-true, false_from_ne_true, none-some, option_and_then_some, AreFlags, NoFlag, IsFlags, EachFlag}
+use Rattle.mail_query.proofs.Words.{◌≡◌, ℕ, ◌+◌, ◌<◌, Bool, true, false, eqb, List, [], ◌∷◌, ◌++◌, length, get_or, drop, Option, None, Some, Ok, Err, option_map, refl, sym, ◌∙◌, append_assoc, append-nil, arith, add-one, drop-cons, inl, inr, not, cond, subst, option_and_then, ◌⊎◌, drop_all, Flag, BadFlag, Query, HasFlag, all_of, flag_of, with_flag, flags_after, flags_of_text, some_of, flags_query, eqb-true, false_from_ne_true, none-some, option_and_then_some, AreFlags, NoFlag, IsFlags, EachFlag}
 use Rattle.mail_query.proofs.MairixLaws.SignLemmas.{map_some}
 use Rattle.mail_query.specs.FlagGrammar.{Wanted, Unwanted}
 
@@ -12,7 +12,7 @@ pub record HasRead (text : List ℕ) (qs : List Query) (wanted : Bool) (i : ℕ)
   pub whole : with_flags qs (flags_after wanted (drop i text)) ≡ flags_after true text
 
 next : (text : List ℕ) (i : ℕ) → i < length text → drop i text ≡ get_or text i 0 ∷ drop (i + 1) text
-next text i h = drop-cons text i 0 h ∙ ap (λ k. get_or text i 0 ∷ drop k text) (sym (add-one i))
+next text i h = grind (arith, drop-cons, add-one)
 
 pub reads_none : (text : List ℕ) (qs : List Query) → qs ≡ [] → HasRead text qs true 0
 reads_none text qs e = grind arith
@@ -69,8 +69,7 @@ asked text q qs e = rw e refl
 
 pub asked_all : (text : List ℕ) (qs : List Query) (i : ℕ) → HasRead text qs true i → length text ≡ i → 0 < length qs
     → flags_query text ≡ Ok (all_of qs)
-asked_all text [] i h e some = absurd (omega (arith, some))
-asked_all text (q ∷ qs) i h e some = asked text q qs (reads_all text (q ∷ qs) i h e)
+asked_all text qs i h h2 h3 = grind (arith, asked, reads_all)
 
 pub refused_at_end : (text : List ℕ) (qs : List Query) (wanted : Bool) (i : ℕ) → HasRead text qs wanted i → length text
     ≡ i → (wanted ≡ false) ⊎ (length qs ≡ 0) → flags_query text ≡ Err BadFlag
@@ -87,8 +86,7 @@ dash_refused text qs wanted i h e below is = refused text (sym (at_dash text qs 
 
 -- a letter of a flag isn't a dash
 no_dash : (letter : ℕ) (flag : Flag) → flag_of letter ≡ Some flag → eqb letter 0x2D ≡ false
-no_dash letter flag e = false_from_ne_true (eqb letter 0x2D)
-    (λ h. none-some flag (ap flag_of (sym (eqb-true letter 0x2D h)) ∙ e))
+no_dash letter flag e = grind (arith, false_from_ne_true, none-some, eqb-true)
 
 are_read : (text : List ℕ) (qs : List Query) → AreFlags text qs → flags_after true text ≡ Some qs
 are_read text qs NoFlag = refl
@@ -97,7 +95,7 @@ are_read text qs (Unwanted letter flag rest more e f) = rw (no_dash letter flag 
 
 pub flags_read : (text : List ℕ) (q : Query) → IsFlags text q → flags_of_text text ≡ Some q
 unfolding flags_of_text
-flags_read text q (EachFlag t first qs f) = ap (option_and_then some_of) (are_read t (first ∷ qs) f)
+flags_read text q (EachFlag t first qs f) = grind (arith, some_of, are_read)
 
 -- the letter after a dash, and what follows it
 record After (text : List ℕ) (qs : List Query) : Type 0 where
@@ -132,9 +130,9 @@ read_are [] = record {
       λ qs e. absurd cc;
 }
 read_are (b ∷ bs) = record {
-  wanted = λ qs e. first qs (eqb b 0x2D) refl e (read_are bs);
+  wanted = grind (arith, first, read_are bs);
   unwanted =
-      λ qs e. after qs (eqb b 0x2D) refl e (read_are bs);
+      grind (arith, after, read_are bs);
 }
   where
     first : (qs : List Query) (t : Bool) → eqb b 0x2D ≡ t
@@ -142,13 +140,12 @@ read_are (b ∷ bs) = record {
         → AreFlags (b ∷ bs) qs
     first qs true h e r =
         let d = r.unwanted qs e in
-        let text : 0x2D ∷ d.letter ∷ d.rest ≡ b ∷ bs = let dash = eqb-true b 0x2D h in let rest = d.text_is in cc in
-        subst (λ (t : List ℕ). AreFlags t qs) text
-        (subst (AreFlags (0x2D ∷ d.letter ∷ d.rest)) (sym d.queries)
+        let text : 0x2D ∷ d.letter ∷ d.rest ≡ b ∷ bs = grind (arith, eqb-true) in
+        rw text at (subst (AreFlags (0x2D ∷ d.letter ∷ d.rest)) (sym d.queries)
         (Unwanted d.letter d.flag d.rest d.more d.named d.flags))
     first qs false h e r =
         let n = with_flag_is true b (flags_after true bs) qs e in
-        subst (AreFlags (b ∷ bs)) (sym n.queries) (Wanted b n.flag bs n.more n.named (r.wanted n.more n.after))
+        rw n.queries (Wanted b n.flag bs n.more n.named (r.wanted n.more n.after))
 
     after : (qs : List Query) (t : Bool) → eqb b 0x2D ≡ t
         → cond {A = Option (List Query)} t None (with_flag false b (flags_after (not t) bs)) ≡ Some qs → Read bs
@@ -164,4 +161,4 @@ read_flags text q e = go (flags_after true text) refl e
     go (Some []) h e = absurd cc
     go (Some (first ∷ qs)) h e =
         let same : all_of (first ∷ qs) ≡ q = cc in let r = read_are text
-        in subst (IsFlags text) same (EachFlag text first qs (r.wanted (first ∷ qs) h))
+        in rw same at (EachFlag text first qs (r.wanted (first ∷ qs) h))

@@ -1,5 +1,5 @@
 -- The letters of a prefix name the kinds that the grammar says, letter by letter.
-use Rattle.mail_query.proofs.Words.{◌≡◌, ℕ, Bool, true, false, cond, List, [], ◌∷◌, None, Some, refl, sym, ap, ◌∙◌, arith, ◌||◌, ◌&&◌, codes, option_and_then, list_all, or-false, eqb_tells, cond_some, Kinds, no_kinds, union, kinds_of_letter, kinds_with, kinds_of, is_letter_among, kinds_named, AreLetters}
+use Rattle.mail_query.proofs.Words.{◌≡◌, ℕ, Bool, false, cond, List, [], ◌∷◌, None, Some, sym, ap, ◌∙◌, arith, ◌||◌, ◌&&◌, codes, option_and_then, list_all, or-false, eqb_tells, cond_some, Kinds, no_kinds, union, kinds_of_letter, kinds_with, kinds_of, is_letter_among, kinds_named, AreLetters}
 
 abbrev are_letters : List ℕ → Bool
 are_letters letters = list_all (is_letter_among (codes "tcfsban")) letters
@@ -23,16 +23,18 @@ with_named : (kinds : Kinds) (letters : List ℕ) → kinds_with kinds letters
     ≡ cond (are_letters letters) (Some (union kinds (kinds_named letters))) None
 with_named kinds [] = ap Some (sym (union-none kinds))
 with_named kinds (letter ∷ letters) =
-    ap (option_and_then (λ more. kinds_with (union kinds more) letters)) (letter_named letter)
-    ∙ go (is_letter_among (codes "tcfsban") letter) (with_named (union kinds (kinds_named (letter ∷ []))) letters)
+    cc (
+      letter_named letter,
+      go (is_letter_among (codes "tcfsban") letter)
+          (with_named (union kinds (kinds_named (letter ∷ []))) letters),
+    )
   where
     go : (t : Bool) → kinds_with (union kinds (kinds_named (letter ∷ []))) letters
         ≡ cond (are_letters letters) (Some (union (union kinds (kinds_named (letter ∷ []))) (kinds_named letters))) None
         → option_and_then (λ more. kinds_with (union kinds more) letters)
         (cond t (Some (kinds_named (letter ∷ []))) None)
         ≡ cond (t && are_letters letters) (Some (union kinds (kinds_named (letter ∷ letters)))) None
-    go true h = h ∙ ap (λ (k : Kinds). cond (are_letters letters) (Some k) None) (union-named kinds letter letters)
-    go false h = refl
+    go t h = grind (arith, union-named)
 
 some_named : (letter : ℕ) (letters : List ℕ) → kinds_of (letter ∷ letters)
     ≡ cond (are_letters (letter ∷ letters)) (Some (kinds_named (letter ∷ letters))) None
@@ -52,4 +54,4 @@ read_letters [] kinds e = absurd cc
 read_letters (letter ∷ letters) kinds e =
     let named = cond_some (are_letters (letter ∷ letters)) (kinds_named (letter ∷ letters)) kinds
     (sym (some_named letter letters) ∙ e) in
-    record { letters_are = record { some = omega arith; letters = named.0 }; kinds_are = named.1 }
+    grind arith

@@ -73,13 +73,7 @@ module _ (Asks : List ℕ → Query → Type 0) (Shows : List ℕ → QueryFault
       go (Ok q) (Ok qs) a b = (a, b)
       go (Ok q) (Err e) a b =
           let place : n + suc b.before ≡ n + 1 + b.before = omega arith in
-          record {
-            before = suc b.before;
-            kind = b.kind;
-            first = first_after t q ts b.before b.kind a b.first;
-            is =
-                ap (λ (m : ℕ). fault m b.kind) place ∙ b.is;
-          }
+          grind (arith, first_after)
       go (Err kind) rest a b =
           let place : n + 0 ≡ n = omega arith in
           record {
@@ -106,9 +100,7 @@ module _ (Asks : List ℕ → Query → Type 0) (Shows : List ℕ → QueryFault
       let parts : List (List ℕ) = slice_split (is_byte sign) text in
       let some : 0 < length parts = omega (arith, length-slice_split (is_byte sign) text) in
       MatchResult-weaker (each_read read parts)
-      (subst (λ (r : Result (List Query) QueryFaultKind). MatchResult r (Each Asks parts)
-      (Refused Asks Shows QueryFaultKind unnumbered 0 parts)) (each_numbered read 0 parts)
-      (each_answers QueryFaultKind unnumbered 0 parts utf8))
+      (rw (each_numbered read 0 parts) at (each_answers QueryFaultKind unnumbered 0 parts utf8))
       (λ qs each. subst (λ (t : List ℕ). Separated sign Asks t qs) (join_with_byte-slice_split sign text)
       (separated sign parts qs some each))
       (λ kind f. (f.before, subst (IsFirstOf Asks Shows parts f.before) f.is f.first))
@@ -125,7 +117,7 @@ parts_utf8 sign (t ∷ u ∷ ts) below utf8 =
 pub split_utf8 : (sign : ℕ) (text : List ℕ) → sign < 128 → IsUtf8 text → All IsUtf8 (slice_split (is_byte sign) text)
 split_utf8 sign text below utf8 =
     parts_utf8 sign (slice_split (is_byte sign) text) below
-    (subst IsUtf8 (sym (join_with_byte-slice_split sign text)) utf8)
+    (rw (join_with_byte-slice_split sign text) utf8)
 
 -- ---- atoms, terms and what is made of them
 
@@ -181,9 +173,7 @@ module _ (forms : Forms) where
         go (Some atom) h =
             let whole = first_is 0x7E text atom h in
             let after = utf8_after [] atom 0x7E (omega arith) (subst IsUtf8 whole utf8) in
-            subst (λ (t : List ℕ). MatchResult (atom_query forms atom >>= (λ x. Ok (Not x))) (IsTerm forms t)
-            (IsTermFault forms t)) (sym whole)
-            (then_answers (atom_query forms atom) Not _ _ (atom_answers atom after) (λ q a. Unwanted atom q a)
+            rw whole (then_answers (atom_query forms atom) Not _ _ (atom_answers atom after) (λ q a. Unwanted atom q a)
             (λ kind f. InUnwanted atom kind f))
 
     all_answers : (text : List ℕ) → IsUtf8 text
@@ -232,8 +222,7 @@ module _ (lexicon : Lexicon) (plain : HasNoSigns lexicon) where
     where
       named : (known : List ℕ) (r : Result Query QueryFaultKind) → bytes_eq name known ≡ true
           → Answers (known ++ 0x3A ∷ rest) r → Answers (name ++ 0x3A ∷ rest) r
-      named known r h = subst (λ (n : List ℕ). Answers (n ++ 0x3A ∷ rest) r)
-          (sym (let d = bytes_eq-Decides name known in d.0 h))
+      named known r h = grind (arith, Answers, bytes_eq-Decides)
 
       of_id : Answers (codes "m:" ++ rest) (rest_query id_forms rest)
       of_id = MatchResult-weaker (rest_query id_forms rest) (rest_answers id_forms id_plain rest utf8)
@@ -286,8 +275,7 @@ module _ (lexicon : Lexicon) (plain : HasNoSigns lexicon) where
       go (Some p) h =
           let parts = cut_parts 0x3A text p h in
           let after = utf8_after p.0 p.1 0x3A (omega arith) (subst IsUtf8 parts.0 utf8) in
-          subst (λ (t : List ℕ). Answers t (prefixed_query lexicon p.0 p.1)) (sym parts.0)
-          (prefixed_answers p.0 p.1 parts.1 after)
+          grind (arith, Answers, prefixed_answers)
 
   are_patterns : (patterns : List (List ℕ)) (qs : List Query) → 0 < length patterns
       → Each (IsPattern lexicon) patterns qs → ArePatterns lexicon patterns qs
@@ -303,13 +291,11 @@ module _ (lexicon : Lexicon) (plain : HasNoSigns lexicon) where
   patterns_answer [] utf8 = HasNone
   patterns_answer (p ∷ ps) utf8 =
       then_answers (patterns_from lexicon 1 (p ∷ ps)) all_of _ _
-      (subst (λ (r : Result (List Query) QueryFault). MatchResult r (Each (IsPattern lexicon) (p ∷ ps))
-      (Refused (IsPattern lexicon) (IsPatternFault lexicon) QueryFault at_number 1 (p ∷ ps)))
-      (patterns_numbered lexicon 1 (p ∷ ps))
+      (rw (patterns_numbered lexicon 1 (p ∷ ps)) at
       (each_answers (IsPattern lexicon) (IsPatternFault lexicon) (pattern_query lexicon) pattern_answers QueryFault
       at_number 1 (p ∷ ps) utf8))
       (λ qs each. EachPattern (p ∷ ps) qs (are_patterns (p ∷ ps) qs (omega arith) each))
       (λ fault f.
       let place : f.before + 1 ≡ 1 + f.before = omega arith in
-      subst (IsFirstFault lexicon (p ∷ ps)) (ap (λ (m : ℕ). at_number m f.kind) place ∙ f.is)
+      subst (IsFirstFault lexicon (p ∷ ps)) (cc (place, f.is))
       (InPattern (p ∷ ps) f.before f.kind f.first))

@@ -1,7 +1,6 @@
 -- The reader returns each query that the grammar of patterns gives, by induction over the productions.
-use Rattle.mail_query.proofs.Words.{◌≡◌, ℕ, ◌+◌, ◌<◌, true, false, eqb, List, [], ◌∷◌, ◌++◌, Option, None, Some, Result, Ok, ap, refl, ◌∙◌, arith, IsUtf8, bytes_eq, codes, ok_or, list_any, list_all, slice_split, All, and_parts, or_from, not-true, both_ways, false_from_ne_true, All-head, All-tail, cond_some, none-some, bytes_eq-Decides, ◌>>=◌, with_front, fault_as, QueryFaultKind, BadSize, BadFlag, Kinds, is_byte, is_nonempty, Lexicon, Query, Not, all_of, Forms, plain_kinds, kinds_of, is_sign, may_be_id, id_forms, word_forms, each_read, atom_query, term_query, all_query, rest_query, prefixed_query, pattern_query, patterns_from, patterns_query, is_letter_among, kinds_named, Separated, Alone, Before, IsAtom, WholeWord, PartOfWord, FrontOfWord, IsTerm, Wanted, Unwanted, IsAll, EachTerm, IsRest, SomeAll, IsPattern, Plain, InKinds, OfId, OfDate, OfSize, OfFlags, ArePatterns, Only, AndAlso, IsAsked, EachPattern, HasNoSigns}
+use Rattle.mail_query.proofs.Words.{◌≡◌, ℕ, ◌+◌, ◌<◌, true, false, eqb, List, [], ◌∷◌, ◌++◌, None, Some, Result, Ok, refl, ◌∙◌, arith, IsUtf8, bytes_eq, codes, list_any, list_all, slice_split, All, and_parts, or_from, not-true, both_ways, false_from_ne_true, All-head, All-tail, cond_some, none-some, bytes_eq-Decides, ◌>>=◌, QueryFaultKind, Kinds, is_byte, Lexicon, Query, all_of, Forms, kinds_of, is_sign, may_be_id, id_forms, word_forms, each_read, atom_query, term_query, all_query, rest_query, prefixed_query, pattern_query, patterns_from, patterns_query, is_letter_among, kinds_named, Separated, Alone, Before, IsAtom, WholeWord, PartOfWord, FrontOfWord, IsTerm, Wanted, Unwanted, IsAll, EachTerm, IsRest, SomeAll, IsPattern, Plain, InKinds, OfId, OfDate, OfSize, OfFlags, ArePatterns, Only, AndAlso, IsAsked, EachPattern, HasNoSigns}
 use Rattle.mail_query.proofs.PieceLemmas.{other_byte, without_last-same, none_unless, Free, cut_none, cut_at}
-use Rattle.mail_query.proofs.MairixLaws.EachLemmas.{at_number}
 use Rattle.mail_query.proofs.MairixLaws.KindLemmas.{letters_read}
 use Rattle.mail_query.proofs.MairixLaws.FlagLemmas.{flags_read}
 use Rattle.mail_query.proofs.MairixLaws.SizeLemmas.{sizes_read}
@@ -18,10 +17,7 @@ separated_read sign Asks read below one text qs (Alone t q a) utf8 = grind (arit
 separated_read sign Asks read below one text qs (Before t rest q more a s) utf8 =
     let h = one t q a (utf8_before t rest sign below utf8) in
     let k = separated_read sign Asks read below one rest more s (utf8_after t rest sign below utf8) in
-    ap (each_read read) (split_at sign t rest h.1)
-    ∙ ap (λ (r : Result Query QueryFaultKind). r >>=
-    (λ x. with_front (x ∷ []) (each_read read (slice_split (is_byte sign) rest)))) h.0
-    ∙ ap (with_front (q ∷ [])) k
+    grind (arith, split_at)
 
 separated_free : (sign c : ℕ) (Asks : List ℕ → Query → Type 0) → sign < 128 → eqb sign c ≡ false
     → ((text : List ℕ) (q : Query) → Asks text q → IsUtf8 text → Free c text) → (text : List ℕ) (qs : List Query)
@@ -41,12 +37,10 @@ pub record PlainForms (forms : Forms) : Type 0 where
 
 module _ (forms : Forms) (plain : PlainForms forms) where
   no_word : (text : List ℕ) → IsUtf8 text → list_any is_sign text ≡ true → forms.word text ≡ None
-  no_word text utf8 h = none_unless (forms.word text)
-      (λ sought e. both_ways (list_any is_sign text) (plain.words text sought utf8 e) h)
+  no_word text utf8 h = grind (arith, none_unless, both_ways)
 
   no_part : (text : List ℕ) → IsUtf8 text → list_any is_sign text ≡ true → forms.part text ≡ None
-  no_part text utf8 h = none_unless (forms.part text)
-      (λ sought e. both_ways (list_any is_sign text) (plain.parts text sought utf8 e) h)
+  no_part text utf8 h = grind (arith, none_unless, both_ways)
 
   -- the atom is read as this query, and has no signs but `^` and `=`
   pub record AtomRead (text : List ℕ) (q : Query) : Type 0 where
@@ -55,22 +49,13 @@ module _ (forms : Forms) (plain : PlainForms forms) where
 
   marked_free : (sub : List ℕ) → list_any is_sign sub ≡ false → (c : ℕ) → is_sign c ≡ true → eqb 0x3D c ≡ false
       → Free c (sub ++ 0x3D ∷ [])
-  marked_free sub h c sign differs = any-append (is_byte c) sub (0x3D ∷ []) (free_of c sub sign h)
-      (or_from (eqb 0x3D c) false differs refl)
+  marked_free sub h c sign differs = grind (arith, any-append, free_of, or_from, differs)
 
   pub atom_read : (text : List ℕ) (q : Query) → IsAtom forms text q → IsUtf8 text → AtomRead text q
   atom_read text q (WholeWord word sought e) utf8 = grind (arith, not_approximate, free_of)
   atom_read text q (PartOfWord sub sought e) utf8 =
       let h = plain.parts sub sought (utf8_before sub [] 0x3D (omega arith) utf8) e in
-      record {
-        read = rw (
-          not_approximate-marked sub h,
-          no_word (sub ++ 0x3D ∷ []) utf8 (any-after is_sign sub [] 0x3D refl),
-          without_last-same 0x3D sub,
-          e,
-        ) refl;
-        free = λ c sign front mark. marked_free sub h c sign mark;
-      }
+      grind (arith, not_approximate-marked, no_word, any-after, without_last-same, marked_free)
   atom_read text q (FrontOfWord sub sought e) utf8 =
       let after : IsUtf8 (sub ++ 0x3D ∷ []) = utf8_after [] (sub ++ 0x3D ∷ []) 0x5E (omega arith) utf8 in
       let h = plain.parts sub sought (utf8_before sub [] 0x3D (omega arith) after) e in
@@ -84,8 +69,7 @@ module _ (forms : Forms) (plain : PlainForms forms) where
               e,
             )
             refl;
-        free = λ c sign front mark. or_from (eqb 0x5E c) (list_any (is_byte c) (sub ++ 0x3D ∷ [])) front
-            (marked_free sub h c sign mark);
+        free = grind (arith, or_from, marked_free);
       }
 
   pub record TermRead (text : List ℕ) (q : Query) : Type 0 where
@@ -97,19 +81,12 @@ module _ (forms : Forms) (plain : PlainForms forms) where
   term_read text q (Wanted atom asked a) utf8 = grind (arith, atom_read, first_free)
   term_read text q (Unwanted atom asked a) utf8 =
       let h = atom_read atom asked a (utf8_after [] atom 0x7E (omega arith) utf8) in
-      record {
-        read = ap (λ (r : Result Query QueryFaultKind). r >>= (λ x. Ok (Not x))) h.read;
-        comma =
-            h.free 0x2C refl refl refl;
-        slash = h.free 0x2F refl refl refl;
-      }
+      grind arith
 
   pub all_read : (text : List ℕ) (q : Query) → IsAll forms text q → IsUtf8 text → (all_query forms text ≡ Ok q)
       × Free 0x2F text
   all_read text q (EachTerm t qs s) utf8 = (
-    ap (λ (r : Result (List Query) QueryFaultKind). r >>= (λ xs. Ok (all_of xs)))
-        (separated_read 0x2C (IsTerm forms) (term_query forms) (omega arith)
-        (λ u x a v. let h = term_read u x a v in (h.read, h.comma)) t qs s utf8),
+    grind (arith, separated_read, term_read),
     separated_free 0x2C 0x2F (IsTerm forms) (omega arith) refl (λ u x a v. let h = term_read u x a v in h.slash) t qs s
         utf8,
   )
@@ -120,7 +97,7 @@ module _ (forms : Forms) (plain : PlainForms forms) where
 -- ---- patterns
 
 id_unsigned : (text : List ℕ) → may_be_id text ≡ true → list_any is_sign text ≡ false
-id_unsigned text h = let parts = and_parts (is_nonempty text) _ h in not-true (list_any is_sign text) parts.1
+id_unsigned text h = grind (arith, and_parts, not-true)
 
 pub id_plain : PlainForms id_forms
 id_plain = grind (arith, cond_some, and_parts, id_unsigned)
@@ -139,11 +116,7 @@ module _ (lexicon : Lexicon) (plain : HasNoSigns lexicon) where
       → Free 0x3A letters
   letters_free [] h = refl
   letters_free (letter ∷ letters) h =
-      let parts = and_parts (is_letter_among (codes "tcfsban") letter)
-      (list_all (is_letter_among (codes "tcfsban")) letters) h in
-      or_from (eqb letter 0x3A) (list_any (is_byte 0x3A) letters)
-      (other_byte letter 0x3A (λ e. let same = ap (is_letter_among (codes "tcfsban")) e in let named = parts.0 in cc))
-      (letters_free letters parts.1)
+      grind (arith, and_parts, or_from, other_byte, letters_free letters)
 
   pub prefixed_letters : (letters rest : List ℕ) (kinds : Kinds) → kinds_of letters ≡ Some kinds
       → prefixed_query lexicon letters rest ≡ rest_query (word_forms lexicon kinds) rest
@@ -159,8 +132,7 @@ module _ (lexicon : Lexicon) (plain : HasNoSigns lexicon) where
   pub pattern_read : (text : List ℕ) (q : Query) → IsPattern lexicon text q → IsUtf8 text → pattern_query lexicon text
       ≡ Ok q
   pattern_read text q (Plain rest asked free r) utf8 =
-      rw (cut_none 0x3A rest free, pattern_query)
-      (rest_read (word_forms lexicon plain_kinds) (word_plain plain_kinds) rest asked r utf8)
+      grind (arith, cut_none, rest_read, word_plain)
   pattern_read text q (InKinds letters rest asked named r) utf8 =
       let kinds : Kinds = kinds_named letters in
       rw (cut_at 0x3A letters rest (letters_free letters named.letters), pattern_query)
@@ -171,22 +143,21 @@ module _ (lexicon : Lexicon) (plain : HasNoSigns lexicon) where
       rest_read id_forms id_plain rest asked r (utf8_after (0x6D ∷ []) rest 0x3A (omega arith) utf8)
   pattern_read text q (OfDate dates range e) utf8 = rw e refl
   pattern_read text q (OfSize sizes asked s) utf8 =
-      ap (λ (o : Option Query). ok_or o BadSize) (sizes_read sizes asked s)
+      grind (arith, sizes_read)
   pattern_read text q (OfFlags flags asked f) utf8 =
-      ap (λ (o : Option Query). ok_or o BadFlag) (flags_read flags asked f)
+      grind (arith, flags_read)
 
   -- ---- lists of patterns
 
   from_read : (n : ℕ) (patterns : List (List ℕ)) (qs : List Query) → ArePatterns lexicon patterns qs
       → All IsUtf8 patterns → patterns_from lexicon n patterns ≡ Ok qs
   from_read n patterns qs (Only pattern q a) utf8 =
-      ap (λ (r : Result Query QueryFaultKind). fault_as (at_number n) r >>= (λ x. with_front (x ∷ []) (Ok [])))
-      (pattern_read pattern q a (All-head IsUtf8 pattern [] utf8))
+      cc (pattern_read pattern q a (All-head IsUtf8 pattern [] utf8))
   from_read n patterns qs (AndAlso pattern rest q more a s) utf8 =
-      ap (λ (r : Result Query QueryFaultKind). fault_as (at_number n) r >>=
-      (λ x. with_front (x ∷ []) (patterns_from lexicon (n + 1) rest)))
-      (pattern_read pattern q a (All-head IsUtf8 pattern rest utf8))
-      ∙ ap (with_front (q ∷ [])) (from_read (n + 1) rest more s (All-tail IsUtf8 pattern rest utf8))
+      cc (
+        pattern_read pattern q a (All-head IsUtf8 pattern rest utf8),
+        from_read (n + 1) rest more s (All-tail IsUtf8 pattern rest utf8),
+      )
 
   first_read : (patterns : List (List ℕ)) (qs : List Query) → ArePatterns lexicon patterns qs
       → patterns_query lexicon patterns ≡ patterns_from lexicon 1 patterns >>= (λ xs. Ok (all_of xs))

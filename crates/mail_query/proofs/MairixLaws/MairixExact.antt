@@ -1,6 +1,5 @@
 -- The reader of patterns agrees with their grammar, and its faults are the first faults, both in both directions.
-use Rattle.mail_query.proofs.Words.{◌≡◌, ℕ, ◌+◌, false, List, [], ◌∷◌, ◌++◌, length, Option, None, option_map, Result, Ok, Err, refl, sym, ap, ◌∙◌, arith, IsUtf8, ◌↔◌, bytes_eq, codes, ok_or, result_ok, All, slice_split, false_from_ne_true, All-head, All-tail, MatchResult-at_ok, MatchResult-at_err, bytes_eq-Decides, ◌>>=◌, with_front, fault_as, Range, QueryFault, QueryFaultKind, BadPrefix, BadDate, BadSize, BadFlag, Kinds, is_byte, Lexicon, Query, Date, Not, all_of, sizes_of, flags_of_text, pattern_lexicon, mairix_query, Forms, kinds_of, is_approximate, id_forms, word_forms, each_read, found_query, atom_query, term_query, all_query, rest_query, prefixed_query, pattern_query, patterns_from, patterns_query, kinds_named, IsTerm, IsPattern, IsAsked, AskNothing, HasNoSigns, IsFirstOf, After, IsAtomFault, AsksApproximately, HasNoForm, IsTermFault, InWanted, InUnwanted, IsAllFault, InTerm, IsRestFault, InAll, IsPatternPrefix, OfKinds, IsPatternFault, HasNoPrefix, InPlain, InWords, InId, HasNoDate, HasNoSize, HasNoFlags, IsFirstFault, HasNone, InPattern}
-use Rattle.mail_dates.specs.Ranges.{range_at}
+use Rattle.mail_query.proofs.Words.{◌≡◌, ℕ, ◌+◌, false, List, [], ◌∷◌, ◌++◌, length, None, option_map, Result, Ok, Err, refl, sym, ◌∙◌, arith, IsUtf8, ◌↔◌, bytes_eq, codes, All, slice_split, false_from_ne_true, All-head, All-tail, MatchResult-at_ok, MatchResult-at_err, bytes_eq-Decides, ◌>>=◌, QueryFault, QueryFaultKind, BadPrefix, Kinds, is_byte, Lexicon, Query, all_of, sizes_of, flags_of_text, pattern_lexicon, mairix_query, Forms, kinds_of, is_approximate, id_forms, word_forms, each_read, found_query, atom_query, term_query, all_query, rest_query, prefixed_query, pattern_query, patterns_from, patterns_query, kinds_named, IsTerm, IsPattern, IsAsked, AskNothing, HasNoSigns, IsFirstOf, After, IsAtomFault, AsksApproximately, HasNoForm, IsTermFault, InWanted, InUnwanted, IsAllFault, InTerm, IsRestFault, InAll, IsPatternPrefix, OfKinds, IsPatternFault, HasNoPrefix, InPlain, InWords, InId, HasNoDate, HasNoSize, HasNoFlags, IsFirstFault, HasNone, InPattern}
 use Rattle.mail_query.specs.MairixFaults.{OfId, OfDate, OfSize, OfFlags}
 use Rattle.mail_query.proofs.PieceLemmas.{without_first-other, none_unless, cut_none, cut_at}
 use Rattle.mail_query.proofs.MairixLaws.ApproximateLemmas.{approximate_is, is_marked}
@@ -30,20 +29,14 @@ module _ (Asks : List ℕ → Query → Type 0) (Shows : List ℕ → QueryFault
           → numbered_read fault read m (front ++ text ∷ more) ≡ Err (fault (m + length front) shown)
       go m [] fine utf8 =
           let here : m ≡ m + 0 = omega arith in
-          ap (λ (r : Result Query QueryFaultKind). fault_as (fault m) r >>=
-          (λ q. with_front (q ∷ []) (numbered_read fault read (m + 1) more)))
-          (refused text shown f (All-head IsUtf8 text more utf8))
-          ∙ ap (λ (k : ℕ). Err (fault k shown)) here
+          cc (refused text shown f (All-head IsUtf8 text more utf8), here)
       go m (t ∷ ts) fine utf8 =
           let rest : List (List ℕ) = ts ++ text ∷ more in
           let asks = All-head (λ (u : List ℕ). (q : Query) × Asks u q) t ts fine in
           let after = go (m + 1) ts (All-tail (λ (u : List ℕ). (q : Query) × Asks u q) t ts fine)
           (All-tail IsUtf8 t rest utf8) in
           let here : m + 1 + length ts ≡ m + length (t ∷ ts) = omega arith in
-          ap (λ (r : Result Query QueryFaultKind). fault_as (fault m) r >>=
-          (λ q. with_front (q ∷ []) (numbered_read fault read (m + 1) rest)))
-          (answered t asks.0 asks.1 (All-head IsUtf8 t rest utf8))
-          ∙ ap (with_front (asks.0 ∷ [])) after ∙ ap (λ (k : ℕ). Err (fault k shown)) here
+          cc (answered t asks.0 asks.1 (All-head IsUtf8 t rest utf8), after, here)
 
   first_part_faulty : (texts : List (List ℕ)) (place : ℕ) (kind : QueryFaultKind)
       → IsFirstOf Asks Shows texts place kind → All IsUtf8 texts → each_read read texts ≡ Err kind
@@ -57,23 +50,22 @@ module _ (forms : Forms) where
   atom_faulty text kind (AsksApproximately atom a) = rw (is_marked atom a) refl
   atom_faulty text kind (HasNoForm atom far none) =
       let exact : is_approximate atom ≡ false =
-      false_from_ne_true (is_approximate atom) (λ h. far (approximate_is atom h)) in
+      grind (arith, false_from_ne_true, approximate_is) in
       let unfound : found_query forms atom ≡ None =
       none_unless (found_query forms atom) (λ q h. none q (found_asks forms atom q h)) in
       rw (exact, unfound) refl
 
   term_faulty : (text : List ℕ) (kind : QueryFaultKind) → IsTermFault forms text kind → term_query forms text ≡ Err kind
   term_faulty text kind (InWanted atom shown free f) =
-      rw (without_first-other 0x7E atom free, term_query) (atom_faulty atom shown f)
+      grind (arith, without_first-other, atom_faulty)
   term_faulty text kind (InUnwanted atom shown f) =
-      ap (λ (r : Result Query QueryFaultKind). r >>= (λ x. Ok (Not x))) (atom_faulty atom shown f)
+      grind (arith, atom_faulty)
 
   module _ (plain : PlainForms forms) where
     all_faulty : (text : List ℕ) (kind : QueryFaultKind) → IsAllFault forms text kind → IsUtf8 text
         → all_query forms text ≡ Err kind
     all_faulty text kind (InTerm t n shown first) utf8 =
-        ap (λ (r : Result (List Query) QueryFaultKind). r >>= (λ xs. Ok (all_of xs)))
-        (first_part_faulty (IsTerm forms) (IsTermFault forms) (term_query forms)
+        cc (first_part_faulty (IsTerm forms) (IsTermFault forms) (term_query forms)
         (λ u q a v. let h = term_read forms plain u q a v in h.read) (λ u k f v. term_faulty u k f)
         (slice_split (is_byte 0x2C) t) n shown first (split_utf8 0x2C t (omega arith) utf8))
 
@@ -103,7 +95,7 @@ module _ (lexicon : Lexicon) (plain : HasNoSigns lexicon) where
   pattern_faulty : (text : List ℕ) (kind : QueryFaultKind) → IsPatternFault lexicon text kind → IsUtf8 text
       → pattern_query lexicon text ≡ Err kind
   pattern_faulty text kind (HasNoPrefix name rest free unnamed) utf8 =
-      rw (cut_at 0x3A name rest free, pattern_query) (unprefixed name rest unnamed)
+      grind (arith, cut_at, unprefixed)
   pattern_faulty text kind (InPlain rest shown free f) utf8 = grind (arith, cut_none, rest_faulty, word_plain)
   pattern_faulty text kind (InWords letters rest shown are f) utf8 =
       let kinds : Kinds = kinds_named letters in
@@ -114,12 +106,11 @@ module _ (lexicon : Lexicon) (plain : HasNoSigns lexicon) where
   pattern_faulty text kind (InId rest shown f) utf8 =
       rest_faulty id_forms id_plain rest shown f (utf8_after (0x6D ∷ []) rest 0x3A (omega arith) utf8)
   pattern_faulty text kind (HasNoDate dates none) utf8 =
-      ap (λ (o : Option Range). ok_or (option_map Date o) BadDate) none
+      grind (arith, option_map)
   pattern_faulty text kind (HasNoSize sizes none) utf8 =
-      ap (λ (o : Option Query). ok_or o BadSize) (none_unless (sizes_of sizes) (λ q h. none q (read_sizes sizes q h)))
+      cc (none_unless (sizes_of sizes) (λ q h. none q (read_sizes sizes q h)))
   pattern_faulty text kind (HasNoFlags flags none) utf8 =
-      ap (λ (o : Option Query). ok_or o BadFlag)
-      (none_unless (flags_of_text flags) (λ q h. none q (read_flags flags q h)))
+      cc (none_unless (flags_of_text flags) (λ q h. none q (read_flags flags q h)))
 
   some_first : (before : List (List ℕ)) (text : List ℕ) (more : List (List ℕ))
       → patterns_query lexicon (before ++ text ∷ more) ≡ patterns_from lexicon 1 (before ++ text ∷ more) >>=
@@ -131,11 +122,13 @@ module _ (lexicon : Lexicon) (plain : HasNoSigns lexicon) where
       → patterns_query lexicon patterns ≡ Err f
   patterns_faulty patterns f utf8 HasNone = refl
   patterns_faulty patterns f utf8 (InPattern texts n kind first) =
-      some texts n kind first ∙ ap (λ (r : Result (List Query) QueryFault). r >>= (λ qs. Ok (all_of qs)))
-      (sym (patterns_numbered lexicon 1 texts)
-      ∙ first_faulty (IsPattern lexicon) (IsPatternFault lexicon) (pattern_query lexicon) (pattern_read lexicon plain)
-      pattern_faulty QueryFault at_number 1 texts n kind first utf8
-      ∙ ap (λ (m : ℕ). Err (at_number m kind)) place)
+      cc (
+        some texts n kind first,
+        patterns_numbered lexicon 1 texts,
+        first_faulty (IsPattern lexicon) (IsPatternFault lexicon) (pattern_query lexicon) (pattern_read lexicon plain)
+            pattern_faulty QueryFault at_number 1 texts n kind first utf8,
+        place,
+      )
     where
       place : 1 + n ≡ n + 1
       place = omega arith
@@ -152,7 +145,7 @@ module _ (lexicon : Lexicon) (plain : HasNoSigns lexicon) where
   pattern_exact text q utf8 = (
     λ e. MatchResult-at_ok (IsPattern lexicon text) (IsPatternFault lexicon text) q e
         (pattern_answers lexicon plain text utf8),
-    λ p. pattern_read lexicon plain text q p utf8,
+    grind (arith, pattern_read),
   )
 
   module _ (patterns : List (List ℕ)) (utf8 : All IsUtf8 patterns) where
@@ -160,7 +153,7 @@ module _ (lexicon : Lexicon) (plain : HasNoSigns lexicon) where
     patterns_exact q = (
       λ e. MatchResult-at_ok (IsAsked lexicon patterns) (IsFirstFault lexicon patterns) q e
           (patterns_answer lexicon plain patterns utf8),
-      λ p. patterns_read lexicon plain patterns q p utf8,
+      grind (arith, patterns_read),
     )
 
     pub fault_exact : (f : QueryFault) → (patterns_query lexicon patterns ≡ Err f) ↔ IsFirstFault lexicon patterns f
@@ -171,16 +164,14 @@ module _ (lexicon : Lexicon) (plain : HasNoSigns lexicon) where
     )
 
     pub one_fault : (f g : QueryFault) → IsFirstFault lexicon patterns f → IsFirstFault lexicon patterns g → f ≡ g
-    one_fault f g a b = let first = patterns_faulty patterns f utf8 a in let other = patterns_faulty patterns g utf8 b
-        in cc
+    one_fault f g a b = grind (arith, patterns_faulty)
 
     pub refused_exact : ((f : QueryFault) × (patterns_query lexicon patterns ≡ Err f)) ↔ AskNothing lexicon patterns
     refused_exact = (unasked, λ none. refused (patterns_query lexicon patterns) refl none)
       where
         unasked : (f : QueryFault) × (patterns_query lexicon patterns ≡ Err f) → (q : Query)
             → IsAsked lexicon patterns q → ⊥
-        unasked fault q asked = let read = patterns_read lexicon plain patterns q asked utf8 in let refusal = fault.1
-            in cc
+        unasked fault q asked = grind (arith, patterns_read)
 
         refused : (r : Result Query QueryFault) → patterns_query lexicon patterns ≡ r → AskNothing lexicon patterns
             → (f : QueryFault) × (patterns_query lexicon patterns ≡ Err f)
@@ -190,13 +181,13 @@ module _ (lexicon : Lexicon) (plain : HasNoSigns lexicon) where
     pub faulty_or_asked : ((f : QueryFault) × IsFirstFault lexicon patterns f) ↔ AskNothing lexicon patterns
     faulty_or_asked = (
       λ fault. refused_exact.0 (fault.0, patterns_faulty patterns fault.0 utf8 fault.1),
-      λ none. let refused = refused_exact.1 none in let exact = fault_exact refused.0 in (refused.0, exact.0 refused.1),
+      λ none. let refused = refused_exact.1 none in grind (arith, fault_exact),
     )
 
 -- words of mail have no signs
 pub dates_plain : (now : ℕ) → HasNoSigns (pattern_lexicon now)
-dates_plain now = mail_plain (λ text. result_ok (range_at text now))
+dates_plain now = grind (arith, mail_plain)
 
 pub patterns_of_mail : (patterns : List (List ℕ)) (now : ℕ) (q : Query) → All IsUtf8 patterns
     → (mairix_query patterns now ≡ Ok q) ↔ IsAsked (pattern_lexicon now) patterns q
-patterns_of_mail patterns now q utf8 = patterns_exact (pattern_lexicon now) (dates_plain now) patterns utf8 q
+patterns_of_mail patterns now q utf8 = grind (arith, patterns_exact, dates_plain)

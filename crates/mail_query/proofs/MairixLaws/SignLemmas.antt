@@ -1,57 +1,51 @@
 -- Texts without a byte, and texts that a byte cuts in two.
-use Rattle.mail_query.proofs.Words.{◌≡◌, ℕ, ◌+◌, ◌<◌, Bool, true, false, cond, eqb, List, [], ◌∷◌, ◌++◌, length, get_or, Option, None, Some, refl, ap, subst, ◌∙◌, arith, length-append, IsUtf8, option_map, list_any, slice_split, onto_first, get_or-append_seam, take-append_seam, drop-append-add, eqb-true, or_parts, or_from, or_left, or_right, both_ways, false_from_ne_true, cond_some, IsCharBoundary-before_ascii, IsCharBoundary-after_ascii, IsUtf8-take, IsUtf8-drop, is_byte, texts_around, without_first, without_last, is_sign, is_approximate}
+use Rattle.mail_query.proofs.Words.{◌≡◌, ℕ, ◌+◌, ◌<◌, Bool, true, false, eqb, List, [], ◌∷◌, ◌++◌, length, get_or, Option, None, Some, refl, subst, ◌∙◌, arith, length-append, IsUtf8, option_map, list_any, slice_split, get_or-append_seam, take-append_seam, drop-append-add, eqb-true, or_parts, or_from, or_left, or_right, both_ways, false_from_ne_true, cond_some, IsCharBoundary-before_ascii, IsCharBoundary-after_ascii, IsUtf8-take, IsUtf8-drop, is_byte, texts_around, without_first, without_last, is_sign, is_approximate}
 use Rattle.mail_query.proofs.PieceLemmas.{same_byte, Free}
 
 pub any-append : (p : ℕ → Bool) (xs ys : List ℕ) → list_any p xs ≡ false → list_any p ys ≡ false → list_any p (xs ++ ys)
     ≡ false
 any-append p [] ys h k = k
 any-append p (x ∷ xs) ys h k =
-    let parts = or_parts (p x) (list_any p xs) h
-    in or_from (p x) (list_any p (xs ++ ys)) parts.0 (any-append p xs ys parts.1 k)
+    grind (arith, or_parts, or_from, any-append p xs ys)
 
 pub any-after : (p : ℕ → Bool) (xs ys : List ℕ) (y : ℕ) → p y ≡ true → list_any p (xs ++ y ∷ ys) ≡ true
 any-after p [] ys y h = or_left (p y) (list_any p ys) h
-any-after p (x ∷ xs) ys y h = or_right (p x) (list_any p (xs ++ y ∷ ys)) (any-after p xs ys y h)
+any-after p (x ∷ xs) ys y h = grind (arith, or_right, any-after p xs ys y h)
 
 -- ---- signs
 
 pub other_sign : (c b : ℕ) → is_sign c ≡ true → is_sign b ≡ false → eqb b c ≡ false
-other_sign c b h k = false_from_ne_true (eqb b c) (λ e. both_ways (is_sign b) k (ap is_sign (eqb-true b c e) ∙ h))
+other_sign c b h k = grind (arith, false_from_ne_true, both_ways, eqb-true)
 
 -- a text without signs doesn't have any one of them
 pub free_of : (c : ℕ) (text : List ℕ) → is_sign c ≡ true → list_any is_sign text ≡ false → Free c text
 free_of c [] h k = refl
 free_of c (b ∷ bs) h k =
-    let parts = or_parts (is_sign b) (list_any is_sign bs) k in
-    or_from (eqb b c) (list_any (is_byte c) bs) (other_sign c b h parts.0) (free_of c bs h parts.1)
+    grind (arith, or_parts, or_from, other_sign, free_of c bs h)
 
 pub not_approximate : (text : List ℕ) → list_any is_sign text ≡ false → is_approximate text ≡ false
 not_approximate [] h = refl
 not_approximate (b ∷ bs) h =
-    let parts = or_parts (is_sign b) (list_any is_sign bs) h
-    in rw (other_sign 0x3D b refl parts.0) (not_approximate bs parts.1)
+    grind (arith, or_parts, other_sign, not_approximate bs)
 
 pub not_approximate-marked : (text : List ℕ) → list_any is_sign text ≡ false → is_approximate (text ++ 0x3D ∷ [])
     ≡ false
 not_approximate-marked [] h = refl
 not_approximate-marked (b ∷ bs) h =
-    let parts = or_parts (is_sign b) (list_any is_sign bs) h
-    in rw (other_sign 0x3D b refl parts.0) (not_approximate-marked bs parts.1)
+    grind (arith, or_parts, other_sign, not_approximate-marked bs)
 
 -- ---- cutting at a byte
 
 pub split_none : (c : ℕ) (text : List ℕ) → Free c text → slice_split (is_byte c) text ≡ text ∷ []
 split_none c [] h = refl
 split_none c (b ∷ bs) h =
-    let parts = or_parts (eqb b c) (list_any (is_byte c) bs) h
-    in rw parts.0 (ap (onto_first b) (split_none c bs parts.1))
+    grind (arith, or_parts, split_none c bs)
 
 pub split_at : (c : ℕ) (text rest : List ℕ) → Free c text → slice_split (is_byte c) (text ++ c ∷ rest)
     ≡ text ∷ slice_split (is_byte c) rest
 split_at c [] rest h = rw same_byte refl
 split_at c (b ∷ bs) rest h =
-    let parts = or_parts (eqb b c) (list_any (is_byte c) bs) h
-    in rw parts.0 (ap (onto_first b) (split_at c bs rest parts.1))
+    grind (arith, or_parts, split_at c bs rest)
 
 pub first_free : (c : ℕ) (text : List ℕ) → Free c text → without_first c text ≡ None
 first_free c text h = grind (arith, or_parts)
@@ -67,7 +61,7 @@ last_is c [] sub e = absurd cc
 last_is c (b ∷ []) sub e = grind (arith, cond_some, eqb-true)
 last_is c (b ∷ d ∷ bs) sub e =
     let m = map_some (λ (t : List ℕ). b ∷ t) (without_last c (d ∷ bs)) sub e in
-    ap (λ (t : List ℕ). b ∷ t) (last_is c (d ∷ bs) m.0 m.1) ∙ ap (λ (t : List ℕ). t ++ c ∷ []) m.2
+    grind (arith, last_is c (d ∷ bs))
 
 pub first_is : (c : ℕ) (text sub : List ℕ) → without_first c text ≡ Some sub → text ≡ c ∷ sub
 first_is c text sub h = grind (arith, cond_some, eqb-true)
@@ -75,14 +69,7 @@ first_is c text sub h = grind (arith, cond_some, eqb-true)
 pub cut_parts : (c : ℕ) (text : List ℕ) (p : List ℕ × List ℕ) → texts_around c text ≡ Some p → (text ≡ p.0 ++ c ∷ p.1)
     × Free c p.0
 cut_parts c [] p e = absurd cc
-cut_parts c (b ∷ bs) p e = go (eqb b c) refl e (λ r h. cut_parts c bs r h)
-  where
-    go : (t : Bool) → eqb b c ≡ t → cond t (Some ([], bs))
-        (option_map (λ (r : List ℕ × List ℕ). (b ∷ r.0, r.1)) (texts_around c bs)) ≡ Some p
-        → ((r : List ℕ × List ℕ) → texts_around c bs ≡ Some r → (bs ≡ r.0 ++ c ∷ r.1) × Free c r.0)
-        → (b ∷ bs ≡ p.0 ++ c ∷ p.1)
-        × Free c p.0
-    go t h h2 h3 = grind (arith, eqb-true, or_from)
+cut_parts c (b ∷ bs) p e = grind (arith, option_map, Free, eqb-true, or_from, cut_parts c bs)
 
 pub uncut_free : (c : ℕ) (text : List ℕ) → texts_around c text ≡ None → list_any (is_byte c) text ≡ false
 uncut_free c [] e = refl
@@ -94,10 +81,7 @@ pub utf8_before : (text rest : List ℕ) (c : ℕ) → c < 128 → IsUtf8 (text 
 utf8_before text rest c below utf8 =
     let whole : List ℕ = text ++ c ∷ rest in
     let here : get_or whole (length text) 0 ≡ c = get_or-append_seam text c rest 0 in
-    let inside : length text < length whole = omega (arith, length-append text (c ∷ rest)) in
-    subst IsUtf8 (take-append_seam text (c ∷ rest))
-    (IsUtf8-take whole (length text) utf8 (IsCharBoundary-before_ascii whole (length text) inside
-    (omega (arith, here, below))))
+    grind (arith, length-append, take-append_seam, IsUtf8-take, IsCharBoundary-before_ascii)
 
 pub utf8_after : (text rest : List ℕ) (c : ℕ) → c < 128 → IsUtf8 (text ++ c ∷ rest) → IsUtf8 rest
 utf8_after text rest c below utf8 =

@@ -1,5 +1,5 @@
 -- Sizes are read as their grammar says.
-use Rattle.mail_query.proofs.Words.{◌≡◌, ℕ, ◌-◌, ◌<◌, List, [], ◌∷◌, ◌++◌, length, Option, Some, None, refl, sym, ap, ◌∙◌, arith, length-append, ◌*◌, ◌≤◌, true, false, eqb, option_map, subst, slice_get, option_and_then, ◌&&◌, IsLastAndRest, list_all, list_any, get_or-append_seam, slice_get-get_or, cond_some, option_and_then_some, last_byte, before_last_byte, factor_of, scaled_size, size_with, size_of, size_limit, low_of, high_of, sizes_between, sizes_of, is_ascii_digit, leb-true, le-leb, and_parts, and_from, or_from, Query, Size, is_byte, texts_around, IsNumber, IsSize, InBytes, InUnits, IsLow, FromZero, FromSize, IsHigh, Unbounded, ToSize, IsSizes, Between}
+use Rattle.mail_query.proofs.Words.{◌≡◌, ℕ, ◌-◌, ◌<◌, List, [], ◌∷◌, ◌++◌, length, Option, Some, None, refl, sym, ◌∙◌, arith, length-append, ◌*◌, ◌≤◌, true, false, eqb, option_map, subst, ◌&&◌, IsLastAndRest, list_all, get_or-append_seam, slice_get-get_or, cond_some, option_and_then_some, last_byte, before_last_byte, factor_of, scaled_size, size_with, size_of, size_limit, low_of, high_of, sizes_between, sizes_of, is_ascii_digit, leb-true, le-leb, and_parts, and_from, or_from, Query, Size, texts_around, IsNumber, IsSize, InBytes, InUnits, IsLow, FromZero, FromSize, IsHigh, Unbounded, ToSize, IsSizes, Between}
 use Rattle.std.specs.Str.Parse.{digits_value}
 use Rattle.mail_query.proofs.PieceLemmas.{last_of, before_last, other_byte, Free, cut_at}
 use Rattle.mail_query.proofs.MairixLaws.SignLemmas.{any-append, cut_parts, map_some}
@@ -10,9 +10,11 @@ last_place front letter = omega (arith, length-append front (letter ∷ []))
 last_byte-last : (front : List ℕ) (letter : ℕ) → last_byte (front ++ letter ∷ []) ≡ Some letter
 last_byte-last front letter =
     let below : length front < length (front ++ letter ∷ []) = omega (arith, length-append front (letter ∷ [])) in
-    ap (slice_get (front ++ letter ∷ [])) (last_place front letter)
-    ∙ slice_get-get_or (front ++ letter ∷ []) (length front) 0 below
-    ∙ ap Some (get_or-append_seam front letter [] 0)
+    cc (
+      last_place front letter,
+      slice_get-get_or (front ++ letter ∷ []) (length front) 0 below,
+      get_or-append_seam front letter [] 0,
+    )
 
 before_last_byte-last : (front : List ℕ) (letter : ℕ) → before_last_byte (front ++ letter ∷ []) ≡ front
 before_last_byte-last front letter = before_last front letter
@@ -21,23 +23,20 @@ with_last : (front : List ℕ) (letter : ℕ) (o : Option ℕ) → factor_of let
     ≡ size_with o (front ++ letter ∷ [])
 unfolding size_of
 with_last front letter o e =
-    ap (λ last. size_with (option_and_then factor_of last) (front ++ letter ∷ [])) (last_byte-last front letter)
-    ∙ ap (λ factor. size_with factor (front ++ letter ∷ [])) e
+    grind (arith, last_byte-last)
 
 pub size_of-letter : (text front : List ℕ) (letter factor : ℕ) → IsLastAndRest text letter front → factor_of letter
     ≡ Some factor → size_of text ≡ scaled_size factor front
 size_of-letter text front letter factor h e =
-    ap size_of h.0 ∙ with_last front letter (Some factor) e
-    ∙ ap (scaled_size factor) (before_last_byte-last front letter)
+    cc (h.0, with_last front letter (Some factor) e, before_last_byte-last front letter)
 
 pub size_of-digits : (text front : List ℕ) (letter : ℕ) → IsLastAndRest text letter front → factor_of letter ≡ None
     → size_of text ≡ scaled_size 1 text
-size_of-digits text front letter h e = ap size_of h.0 ∙ with_last front letter None e ∙ sym (ap (scaled_size 1) h.0)
+size_of-digits text front letter h e = cc (h.0, with_last front letter None e)
 
 pub size_of-nothing : (text : List ℕ) → length text ≡ 0 → size_of text ≡ scaled_size 1 text
 unfolding size_of
-size_of-nothing [] e = refl
-size_of-nothing (b ∷ bs) e = absurd (omega (arith, e))
+size_of-nothing text h = grind arith
 
 -- ---- the grammar
 
@@ -62,24 +61,18 @@ number_scaled factor digits n small = grind (arith, and_from, le-leb)
 -- ---- the last byte
 
 last_and_rest : (text front : List ℕ) (last : ℕ) → text ≡ front ++ last ∷ [] → IsLastAndRest text last front
-last_and_rest text front last e = (e, omega (arith, ap length e, length-append front (last ∷ [])))
+last_and_rest text front last e = grind (arith, length-append)
 
 last_digit : (front : List ℕ) (last : ℕ) → list_all is_ascii_digit (front ++ last ∷ []) ≡ true → is_ascii_digit last
     ≡ true
-last_digit [] last h = let parts = and_parts (is_ascii_digit last) true h in parts.0
-last_digit (b ∷ bs) last h = let parts = and_parts (is_ascii_digit b) (list_all is_ascii_digit (bs ++ last ∷ [])) h
-    in last_digit bs last parts.1
+last_digit [] last h = grind (arith, and_parts)
+last_digit (b ∷ bs) last h = grind (arith, and_parts, last_digit bs last)
 
 digit_differs : (b c : ℕ) → is_ascii_digit b ≡ true → is_ascii_digit c ≡ false → eqb b c ≡ false
-digit_differs b c h k = other_byte b c (λ e. let same = ap is_ascii_digit e in cc)
+digit_differs b c h k = grind (arith, other_byte)
 
 no_unit : (b : ℕ) → is_ascii_digit b ≡ true → factor_of b ≡ None
-no_unit b h = rw (
-  digit_differs b 0x6B h refl,
-  digit_differs b 0x4B h refl,
-  digit_differs b 0x6D h refl,
-  digit_differs b 0x4D h refl,
-) refl
+no_unit b h = grind (arith, digit_differs)
 
 -- ---- sizes
 
@@ -87,11 +80,11 @@ same_worth : (digits : List ℕ) → worth digits * 1 ≡ worth digits
 same_worth digits = omega arith
 
 in_bytes : (digits : List ℕ) (size : ℕ) → Scaled 1 digits size → IsSize digits size
-in_bytes digits size s = subst (IsSize digits) (sym (same_worth digits) ∙ s.size_is)
+in_bytes digits size s = rw (sym (same_worth digits) ∙ s.size_is) at
     (InBytes digits s.number (omega (arith, same_worth digits, s.small)))
 
 read_size : (text : List ℕ) (size : ℕ) → size_of text ≡ Some size → IsSize text size
-read_size [] size e = let none : scaled_size 1 [] ≡ Some size = sym (size_of-nothing [] refl) ∙ e in absurd cc
+read_size [] size e = grind (arith, size_of-nothing)
 read_size (b ∷ bs) size e = go (last_of (b ∷ bs) (omega arith))
   where
     go : (front : List ℕ) × (x : ℕ) × (b ∷ bs ≡ front ++ x ∷ []) → IsSize (b ∷ bs) size
@@ -105,8 +98,7 @@ read_size (b ∷ bs) size e = go (last_of (b ∷ bs) (omega arith))
             (sym (size_of-digits (b ∷ bs) s.0 s.1 split h) ∙ e))
         unit (Some factor) h =
             let d = scaled_is factor s.0 size (sym (size_of-letter (b ∷ bs) s.0 s.1 factor split h) ∙ e) in
-            subst (λ (t : List ℕ). IsSize t size) (sym s.2)
-            (subst (IsSize (s.0 ++ s.1 ∷ [])) d.size_is (InUnits s.0 s.1 factor d.number h d.small))
+            rw s.2 (subst (IsSize (s.0 ++ s.1 ∷ [])) d.size_is (InUnits s.0 s.1 factor d.number h d.small))
 
 digits_read : (digits : List ℕ) → IsNumber digits → size_of digits ≡ scaled_size 1 digits
 digits_read digits h = grind (arith, last_of, size_of-digits, last_and_rest, no_unit, last_digit)
@@ -122,12 +114,10 @@ size_read text size (InUnits digits letter factor n e small) =
 digits_free : (digits : List ℕ) → list_all is_ascii_digit digits ≡ true → Free 0x2D digits
 digits_free [] h = refl
 digits_free (b ∷ bs) h =
-    let parts = and_parts (is_ascii_digit b) (list_all is_ascii_digit bs) h in
-    or_from (eqb b 0x2D) (list_any (is_byte 0x2D) bs) (digit_differs b 0x2D parts.0 refl) (digits_free bs parts.1)
+    grind (arith, and_parts, or_from, digit_differs, digits_free bs)
 
 unit_differs : (letter factor : ℕ) → factor_of letter ≡ Some factor → eqb letter 0x2D ≡ false
-unit_differs letter factor e = other_byte letter 0x2D
-    (λ h. let none : None ≡ Some factor = ap factor_of (sym h) ∙ e in cc)
+unit_differs letter factor e = grind (arith, other_byte)
 
 size_free : (text : List ℕ) (size : ℕ) → IsSize text size → Free 0x2D text
 size_free text size h = grind (arith, digits_free, any-append, or_from, unit_differs)
@@ -136,12 +126,10 @@ low_free : (text : List ℕ) (least : ℕ) → IsLow text least → Free 0x2D te
 low_free text least h = grind (arith, size_free)
 
 nonempty_low : (text : List ℕ) (size : ℕ) → size_of text ≡ Some size → low_of text ≡ Some size
-nonempty_low [] size e = let none : scaled_size 1 [] ≡ Some size = sym (size_of-nothing [] refl) ∙ e in absurd cc
-nonempty_low (b ∷ bs) size e = e
+nonempty_low text size h = grind (arith, size_of-nothing)
 
 nonempty_high : (text : List ℕ) (size : ℕ) → size_of text ≡ Some size → high_of text ≡ Some (Some size)
-nonempty_high [] size e = let none : scaled_size 1 [] ≡ Some size = sym (size_of-nothing [] refl) ∙ e in absurd cc
-nonempty_high (b ∷ bs) size e = ap (option_map Some) e
+nonempty_high text size h = grind (arith, size_of-nothing, option_map)
 
 low_read : (text : List ℕ) (least : ℕ) → IsLow text least → low_of text ≡ Some least
 low_read text least h = grind (arith, nonempty_low, size_read)
@@ -156,8 +144,7 @@ between_read low high least most h k = rw (h, k) refl
 pub sizes_read : (text : List ℕ) (q : Query) → IsSizes text q → sizes_of text ≡ Some q
 unfolding sizes_of
 sizes_read text q (Between low high least most l h) =
-    rw (cut_at 0x2D low high (low_free low least l), sizes_of)
-    (between_read low high least most (low_read low least l) (high_read high most h))
+    grind (arith, cut_at, low_free, between_read, low_read, high_read)
 
 read_low : (text : List ℕ) (least : ℕ) → low_of text ≡ Some least → IsLow text least
 read_low [] least e = let zero : 0 ≡ least = cc in subst (IsLow []) zero FromZero
@@ -166,7 +153,7 @@ read_low (b ∷ bs) least e = FromSize (b ∷ bs) least (read_size (b ∷ bs) le
 read_high : (text : List ℕ) (most : Option ℕ) → high_of text ≡ Some most → IsHigh text most
 read_high [] most e = let none : None ≡ most = cc in subst (IsHigh []) none Unbounded
 read_high (b ∷ bs) most e = let m = map_some Some (size_of (b ∷ bs)) most e
-    in subst (IsHigh (b ∷ bs)) m.2 (ToSize (b ∷ bs) m.0 (read_size (b ∷ bs) m.0 m.1))
+    in rw m.2 at (ToSize (b ∷ bs) m.0 (read_size (b ∷ bs) m.0 m.1))
 
 read_between : (low high : List ℕ) (q : Query) → sizes_between low high ≡ Some q → IsSizes (low ++ 0x2D ∷ high) q
 read_between low high q e =
@@ -183,5 +170,4 @@ read_sizes text q e = go (texts_around 0x2D text) refl e
         → (let r : Option Query = elim o [ None ↦ None | Some p ↦ sizes_between p.0 p.1 ] in r) ≡ Some q
         → IsSizes text q
     go None h e = absurd cc
-    go (Some p) h e = subst (λ (t : List ℕ). IsSizes t q) (sym (let parts = cut_parts 0x2D text p h in parts.0))
-        (read_between p.0 p.1 q e)
+    go (Some p) h e = rw (let parts = cut_parts 0x2D text p h in parts.0) (read_between p.0 p.1 q e)

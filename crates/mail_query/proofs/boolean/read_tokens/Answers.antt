@@ -16,9 +16,3 @@ new-requires c =
     let q = query_of c.in-Ok.node in
     let asked : run_from lexicon 1 start ts ≡ Ok q = grind arith in
     omega (arith, reads_depth lexicon ts q (start_read lexicon ts q asked))
-
-pub returns-in-Err : goal.returns-in-Err
-returns-in-Err c = grind arith
-
-pub returns-in-Err-end : goal.returns-in-Err-end
-returns-in-Err-end c = grind arith

@@ -1,13 +1,10 @@
 -- `read_patterns` reads pattern by pattern and stops at the first fault; the grammar bounds how deep the query is.
-use Rattle.mail_query.proofs.Words.{◌≡◌, ◌≤◌, ◌<◌, length, map, string_bytes, Ok, OrMemory, QueryFaultKind, arith, nat_tests, MatchResult-at_ok, depth, queries_of, all_of, pattern_query, IsAsked, IsFirstFault, length-map, pattern_lexicon}
-use Rattle.mail_query.proofs.MairixLaws.EachLemmas.{at_number, reads_none, reads_all, patterns_made, reads_more, pattern_refused, pattern_here, texts_utf8}
+use Rattle.mail_query.proofs.Words.{◌≡◌, ◌≤◌, ◌<◌, length, map, string_bytes, Ok, OrMemory, QueryFaultKind, arith, nat_tests, MatchResult-at_ok, queries_of, all_of, pattern_query, IsAsked, IsFirstFault, length-map, pattern_lexicon}
+use Rattle.mail_query.proofs.MairixLaws.EachLemmas.{at_number, reads_all, patterns_made, reads_more, pattern_refused, pattern_here, texts_utf8}
 use Rattle.mail_query.proofs.MairixLaws.DepthLemmas.{asked_depth}
 use Rattle.mail_query.proofs.MairixLaws.MairixAnswers.{patterns_answer}
 use Rattle.mail_query.proofs.MairixLaws.MairixExact.{dates_plain}
 use Rattle.mail_query.proofs.mairix.read_patterns.Goals as goal
-
-pub loop-i-init : goal.loop-i-init
-loop-i-init c = grind (arith, reads_none, at_number, string_bytes)
 
 pub returns-in-Err : goal.returns-in-Err
 returns-in-Err c =
@@ -36,8 +33,7 @@ new-requires c =
     c.loop-i.invariant end) in
     let asked = MatchResult-at_ok (IsAsked lexicon patterns) (IsFirstFault lexicon patterns) q whole
     (patterns_answer lexicon (dates_plain c.args.now) patterns (texts_utf8 c.args.patterns.now)) in
-    let shallow : depth q ≤ 5 = asked_depth lexicon patterns q asked in
-    rw c.all_of.ensures (omega (arith, shallow))
+    grind (arith, asked_depth)
 
 pub returns : goal.returns
 returns c = grind (arith, string_bytes, length-map, nat_tests, patterns_made, reads_all, at_number)

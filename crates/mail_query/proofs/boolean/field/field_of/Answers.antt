@@ -1,5 +1,5 @@
 -- `field_of` finds the first row with the name, because a row with another name changes nothing.
-use Rattle.mail_query.proofs.Words.{◌≡◌, ◌<◌, ◌+◌, ◌∙◌, ℕ, List, length, drop, drop-cons, add-one, get_or, false, bytes_eq, refl, sym, Field}
+use Rattle.mail_query.proofs.Words.{◌≡◌, ◌<◌, ◌+◌, ◌∙◌, ℕ, List, length, drop, drop-cons, add-one, get_or, false, bytes_eq, refl, Field}
 use Rattle.std.specs.Borrow.{Bor}
 use Rattle.mail_query.proofs.boolean.field.field_of.Invariants.{field_in}
 use Rattle.mail_query.proofs.boolean.field.field_of.Goals as goal
@@ -8,7 +8,3 @@ passed : (name : List ℕ) (rows : List (Bor (List ℕ) × Field)) (i : ℕ) (ro
     → bytes_eq name ((get_or rows i row).0).now ≡ false
     → field_in name (drop (i + 1) rows) ≡ field_in name (drop i rows)
 passed name rows i row within other = rw (add-one, drop-cons rows i row within, other) refl
-
-pub loop-known-preserved : goal.loop-known-preserved
-loop-known-preserved c = passed _ _ c.loop-known.known-index _ c.loop-known-test.true (sym c.eq.ensures ∙ c.if-eq.false)
-    ∙ c.loop-known.invariant

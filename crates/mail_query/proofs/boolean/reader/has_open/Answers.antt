@@ -7,4 +7,4 @@ pub returns-in-ForClose : goal.returns-in-ForClose
 returns-in-ForClose c = grind (arith, open_here)
 
 pub returns : goal.returns
-returns c = none_open c.args.waiting.now c.all.what-index c.all-test.false c.all.invariant
+returns c = grind (arith, none_open)

@@ -4,8 +4,7 @@ use Rattle.mail_query.proofs.BooleanLaws.TokenLemmas.{blanks_counted, blanks_end
 use Rattle.mail_query.proofs.boolean.token.after_blanks.Goals as goal
 
 pub split_at-requires : goal.split_at-requires
-split_at-requires c = rw (c.blank_count.ensures.value, c.as_bytes.ensures.value, blanks_counted c.args.text.now)
-    (blanks_end c.args.text.now c.utf8.text)
+split_at-requires c = grind (arith, blanks_counted, blanks_end)
 
 pub returns-clause-tokens : goal.returns-clause-tokens
 returns-clause-tokens c = grind (arith, blanks_counted, tokens-blanks)

@@ -14,11 +14,7 @@ pub returns-then-is_empty-clause-token : goal.returns-then-is_empty-clause-token
 returns-then-is_empty-clause-token c = grind (arith, nat_tests, tokens-nothing)
 
 pub split_at-requires : goal.split_at-requires
-split_at-requires c = rw (
-  c.run_length.ensures.value,
-  c.as_bytes.ensures.value,
-  run_counted c.after_blanks-text.result.now,
-) (run_end c.after_blanks-text.result.now)
+split_at-requires c = grind (arith, run_counted, run_end)
 
 pub returns-clause-token : goal.returns-clause-token
 returns-clause-token c = grind (arith, nat_tests, begins_run, tokens-run, run_counted)
