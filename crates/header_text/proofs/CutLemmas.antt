@@ -1,5 +1,5 @@
 -- Cutting bytes at a byte, and when the byte isn't there.
-use Rattle.header_text.proofs.Words.{◌≡◌, ◌∙◌, ◌<◌, ◌≤◌, ◌-◌, ◌++◌, ◌==◌, ℕ, zero, suc, Bool, true, false, List, [], ◌∷◌, Option, Some, None, length, take, drop, get_or, slice_index, refl, sym, ap, arith, option_map, unwrap_or, not, split_while, eq-eqb, eqb-true, take_rest, cut_at}
+use Rattle.header_text.proofs.Words.{◌≡◌, ◌∙◌, ◌<◌, ◌≤◌, ◌-◌, ◌++◌, ◌==◌, ℕ, zero, suc, Bool, true, false, List, [], ◌∷◌, Option, Some, None, length, take, drop, get_or, slice_index, refl, ap, arith, option_map, unwrap_or, not, split_while, eq-eqb, eqb-true, take_rest, cut_at}
 
 -- the byte isn't among the bytes
 abbrev pub Lacks : ℕ → List ℕ → Type 0
@@ -24,8 +24,7 @@ cut_at-no c b bs e = rw (e, cut_at) refl
 pub cut_at-begins : (c : ℕ) (bs : List ℕ) → 1 ≤ length bs → get_or bs 0 0 ≡ c
     → Some ([], take (length bs - 1) (drop 1 bs)) ≡ cut_at c bs
 cut_at-begins c [] some is = absurd (omega arith)
-cut_at-begins c (b ∷ bs) some is = ap (λ (rest : List ℕ). Some ([], rest)) (take_rest (b ∷ bs) 1)
-    ∙ sym (cut_at-yes c b bs (eq-eqb b c is))
+cut_at-begins c (b ∷ bs) some is = cc (take_rest (b ∷ bs) 1, cut_at-yes c b bs (eq-eqb b c is))
 
 -- cut at a place: the first with this byte
 pub cut_at-first : (c : ℕ) (bs : List ℕ) (at : ℕ) → at < length bs → (slice_index bs at == c) ≡ true
@@ -47,11 +46,10 @@ cut_at-none c (b ∷ bs) before = cut_at-no c b bs (before 0 (omega arith))
 pub cut_at-is : (c : ℕ) (before after : List ℕ) → Lacks c before → cut_at c (before ++ c ∷ after)
     ≡ Some (before, after)
 cut_at-is c [] after free = cut_at-yes c c after (grind arith)
-cut_at-is c (b ∷ before) after free = cut_at-no c b (before ++ c ∷ after) free.0
-    ∙ ap (put b) (cut_at-is c before after free.1)
+cut_at-is c (b ∷ before) after free = grind (arith, cut_at-no, cut_at-is c before after free.1)
 
 same_parts : (p q : List ℕ × List ℕ) → Some p ≡ Some q → p ≡ q
-same_parts p q h = ap (λ (o : Option (List ℕ × List ℕ)). unwrap_or o p) h
+same_parts p q h = grind (arith, unwrap_or)
 
 pub IsCut-from : (c : ℕ) (bytes before after : List ℕ) → cut_at c bytes ≡ Some (before, after)
     → IsCut c bytes before after
@@ -64,18 +62,10 @@ IsCut-from c (b ∷ bs) before after e = go (b == c) refl (cut_at c bs) refl (Is
     go : (t : Bool) → (b == c) ≡ t → (o : Option (List ℕ × List ℕ)) → cut_at c bs ≡ o
         → ((x y : List ℕ) → cut_at c bs ≡ Some (x, y) → IsCut c bs x y) → IsCut c (b ∷ bs) before after
     go true t o f later = grind (arith, parts, eqb-true)
-    go false t None f later = absurd (cc (sym (cut_at-no c b bs t ∙ ap (put b) f) ∙ e))
+    go false t None f later = grind (arith, cut_at-no)
     go false t (Some (x, y)) f later =
         let inner = later x y f in
-        let here : List ℕ × List ℕ = (b ∷ x, y) in
-        let same : here ≡ parts = same_parts here parts (sym (cut_at-no c b bs t ∙ ap (put b) f) ∙ e) in
-        let front : b ∷ x ≡ before = ap (λ (p : List ℕ × List ℕ). p.0) same in
-        let back : y ≡ after = ap (λ (p : List ℕ × List ℕ). p.1) same in
-        record {
-          joined = rw (← front, ← back) (ap (λ (l : List ℕ). b ∷ l) inner.joined);
-          free =
-              rw (← front) (t, inner.free);
-        }
+        grind (arith, parts, same_parts, cut_at-no)
 
 pub Lacks-from : (c : ℕ) (bytes : List ℕ) → cut_at c bytes ≡ None → Lacks c bytes
 Lacks-from c [] e = tt
@@ -84,20 +74,19 @@ Lacks-from c (b ∷ bs) e = grind (arith, Lacks-from c bs)
 -- the front up to a byte is what is before it
 pub split_while-lacks : (c : ℕ) (before after : List ℕ) → Lacks c before
     → split_while (λ b. not (b == c)) (before ++ c ∷ after) ≡ (before, c ∷ after)
-split_while-lacks c [] after free = let is : (c == c) ≡ true = grind arith in rw (is, split_while) refl
+split_while-lacks c [] after free = grind arith
 split_while-lacks c (b ∷ before) after free = grind (arith, split_while-lacks c before after free.1)
 
 pub split_while-cut : (c : ℕ) (bytes before after : List ℕ) → cut_at c bytes ≡ Some (before, after)
     → (split_while (λ b. not (b == c)) bytes).0 ≡ before
 split_while-cut c bytes before after e =
     let cut = IsCut-from c bytes before after e in
-    rw cut.joined (ap (λ (p : List ℕ × List ℕ). p.0) (split_while-lacks c before after cut.free))
+    grind (arith, split_while-lacks)
 
 split_while-whole : (c : ℕ) (bytes : List ℕ) → Lacks c bytes → split_while (λ b. not (b == c)) bytes ≡ (bytes, [])
 split_while-whole c [] free = refl
-split_while-whole c (b ∷ bytes) free = rw (free.0, split_while)
-    (ap (λ (p : List ℕ × List ℕ). (b ∷ p.0, p.1)) (split_while-whole c bytes free.1))
+split_while-whole c (b ∷ bytes) free = grind (arith, split_while-whole c bytes free.1)
 
 pub split_while-free : (c : ℕ) (bytes : List ℕ) → cut_at c bytes ≡ None → (split_while (λ b. not (b == c)) bytes).0
     ≡ bytes
-split_while-free c bytes e = ap (λ (p : List ℕ × List ℕ). p.0) (split_while-whole c bytes (Lacks-from c bytes e))
+split_while-free c bytes e = grind (arith, split_while-whole, Lacks-from)

@@ -1,5 +1,5 @@
 -- The fields of lines with one more line.
-use Rattle.header_text.proofs.Words.{get_or, take, drop, take_rest, eq-eqb, ◌-◌, ◌≡◌, ◌∙◌, ◌+◌, ◌≤◌, ◌<◌, ◌++◌, ℕ, Bool, true, false, List, [], ◌∷◌, Option, Some, None, length, refl, sym, ap, arith, length-append, append_assoc, append-nil, is_some, HeaderField, is_continuation, field_of_line, with_continuations, continued_and_fields, fields_in, fields_size, field_of_name, is_field_name_byte, split_while, after_blanks, onto_last, is_field_open_after, is_field_open_after_lines, fields_with}
+use Rattle.header_text.proofs.Words.{get_or, take, drop, take_rest, eq-eqb, ◌-◌, ◌≡◌, ◌∙◌, ◌+◌, ◌≤◌, ◌<◌, ◌++◌, ℕ, Bool, true, false, List, [], ◌∷◌, Option, Some, None, length, refl, arith, length-append, append_assoc, append-nil, is_some, HeaderField, is_continuation, field_of_line, with_continuations, continued_and_fields, fields_in, fields_size, field_of_name, is_field_name_byte, split_while, after_blanks, onto_last, is_field_open_after, is_field_open_after_lines, fields_with}
 use Rattle.std.specs.Option.{option_to_list}
 use Rattle.header_text.proofs.Fronts.{split_while-joined}
 
@@ -18,8 +18,7 @@ with_continuations-grown o l more later = grind (arith, append_assoc)
 
 whole-cons_yes : (o : Option HeaderField) (l : List ℕ) (ls : List (List ℕ)) → is_continuation l ≡ true
     → whole o (l ∷ ls) ≡ whole (grown o l) ls
-whole-cons_yes o l ls e = rw (e, continued_and_fields)
-    (with_continuations-grown o l (continued_and_fields ls).0 (continued_and_fields ls).1)
+whole-cons_yes o l ls e = grind (arith, with_continuations-grown)
 
 whole-cons_no : (o : Option HeaderField) (l : List ℕ) (ls : List (List ℕ)) → is_continuation l ≡ false
     → whole o (l ∷ ls) ≡ with_continuations o [] (whole (field_of_line l) ls)
@@ -35,16 +34,13 @@ is_some-grown o l = grind arith
 -- a last line that isn't a continuation
 whole-push_no : (o : Option HeaderField) (ls : List (List ℕ)) (l : List ℕ) → is_continuation l ≡ false
     → whole o (ls ++ l ∷ []) ≡ whole o ls ++ whole (field_of_line l) []
-whole-push_no o [] l e = rw (e, continued_and_fields) (with_continuations-append o [] [] (whole (field_of_line l) []))
+whole-push_no o [] l e = grind (arith, with_continuations-append)
 whole-push_no o (k ∷ ks) l e = go (λ p. whole-push_no p ks l e) (is_continuation k) refl
   where
     go : ((p : Option HeaderField) → whole p (ks ++ l ∷ []) ≡ whole p ks ++ whole (field_of_line l) []) → (t : Bool)
         → is_continuation k ≡ t
         → whole o (k ∷ (ks ++ l ∷ [])) ≡ whole o (k ∷ ks) ++ whole (field_of_line l) []
-    go later true f =
-        whole-cons_yes o k (ks ++ l ∷ []) f ∙ later (grown o k)
-        ∙ ap (λ (fs : List HeaderField). fs ++ whole (field_of_line l) []) (sym (whole-cons_yes o k ks f))
-    go later false f = grind arith
+    go h t h2 = grind (arith, whole-cons_yes)
 
 -- a last line that is a continuation: it goes to the last field if that may be continued, and otherwise it is skipped
 record Continued (o : Option HeaderField) (ls : List (List ℕ)) (l : List ℕ) (opened : Bool) : Type 0 where
@@ -61,7 +57,7 @@ length-with_continuations o more fs = grind arith
 
 continued : (o : Option HeaderField) (ls : List (List ℕ)) (l : List ℕ) → is_continuation l ≡ true
     → Continued o ls l (is_field_open_after_lines (is_some o) ls)
-continued None [] l e = record { goes = λ no. absurd (cc); skips = λ _. rw (e, continued_and_fields) refl }
+continued None [] l e = grind arith
 continued (Some f) [] l e = grind (arith, append-nil)
 continued o (k ∷ ks) l e = go (λ p. continued p ks l e) (is_continuation k) refl
   where
@@ -69,28 +65,15 @@ continued o (k ∷ ks) l e = go (λ p. continued p ks l e) (is_continuation k) r
         → is_continuation k
         ≡ t
         → Continued o (k ∷ ks) l (is_field_open_after_lines (is_field_open_after (is_some o) k) ks)
-    go each true f =
-        let later = each (grown o k) in
-        let same : is_field_open_after (is_some o) k ≡ is_some (grown o k) = rw f (sym (is_some-grown o k)) in
-        let now = whole-cons_yes o k ks f in
-        let next = whole-cons_yes o k (ks ++ l ∷ []) f in
-        rw same (record {
-          goes = λ is. (next ∙ (later.goes is).0 ∙ ap (onto_last l) (sym now), rw now (later.goes is).1);
-          skips = λ is. next ∙ later.skips is ∙ sym now;
-        })
-    go each false f =
-        let later = each (field_of_line k) in
-        let same : is_field_open_after (is_some o) k ≡ is_some (field_of_line k) = rw f refl in
-        let now = whole-cons_no o k ks f in
-        let next = whole-cons_no o k (ks ++ l ∷ []) f in
-        rw same (record {
-          goes = λ is. (
-            next ∙ ap (λ (fs : List HeaderField). with_continuations o [] fs) (later.goes is).0
-                ∙ onto_last-front o l [] (whole (field_of_line k) ks) (later.goes is).1 ∙ ap (onto_last l) (sym now),
-            rw now (omega (arith, (later.goes is).1, length-with_continuations o [] (whole (field_of_line k) ks))),
-          );
-          skips = λ is. next ∙ ap (λ (fs : List HeaderField). with_continuations o [] fs) (later.skips is) ∙ sym now;
-        })
+    go h t h2 = grind (
+      arith,
+      is_some,
+      is_some-grown,
+      whole-cons_yes,
+      whole-cons_no,
+      onto_last-front,
+      length-with_continuations,
+    )
 
 -- one more line
 pub fields_in-push : (ls : List (List ℕ)) (l : List ℕ) → fields_in (ls ++ l ∷ [])
@@ -104,9 +87,9 @@ fields_in-push ls l = go (is_continuation l) refl (is_field_open_after_lines fal
         → fields_in (ls ++ l ∷ [])
         ≡ fields_with (is_field_open_after_lines false ls) l (fields_in ls)
     go false e u f = whole-push_no None ls l e
-        ∙ rw e (ap (λ (fs : List HeaderField). fields_in ls ++ fs) (last (field_of_line l)))
-    go true e true f = ((continued None ls l e).goes f).0 ∙ rw (e, f) refl
-    go true e false f = (continued None ls l e).skips f ∙ rw (e, f) refl
+        ∙ rw e (cc (last (field_of_line l)))
+    go true e true f = cc (((continued None ls l e).goes f).0)
+    go true e false f = cc ((continued None ls l e).skips f)
 
 pub is_open_after-push : (b : Bool) (ls : List (List ℕ)) (l : List ℕ) → is_field_open_after_lines b (ls ++ l ∷ [])
     ≡ is_field_open_after (is_field_open_after_lines b ls) l
@@ -134,8 +117,8 @@ named-size name rest = grind arith
 field_of_line-size : (l : List ℕ) → fields_size (option_to_list (field_of_line l)) ≤ length l
 field_of_line-size l =
     let parts = split_while is_field_name_byte l in
-    let sizes : length parts.0 + length parts.1 ≡ length l = sym (length-append parts.0 parts.1)
-    ∙ ap length (split_while-joined is_field_name_byte l) in
+    let sizes : length parts.0 + length parts.1 ≡ length l =
+    cc (length-append parts.0 parts.1, split_while-joined is_field_name_byte l) in
     omega (arith, named-size parts.0 (after_blanks parts.1), length-after_blanks parts.1, sizes)
 
 -- a name that isn't empty, and a colon
@@ -144,8 +127,7 @@ pub named-begins : (name rest : List ℕ) → 0 < length name → 1 ≤ length r
 named-begins [] rest some one is = absurd (omega arith)
 named-begins (b ∷ name) [] some one is = absurd (omega arith)
 named-begins (b ∷ name) (c ∷ rest) some one is =
-    rw (eq-eqb c 0x3A is, field_of_name) (ap (λ (l : List ℕ). Some (record { name = b ∷ name; body = l }))
-    (take_rest (c ∷ rest) 1))
+    rw (eq-eqb c 0x3A is, field_of_name) (cc (take_rest (c ∷ rest) 1))
 
 -- a line adds no more bytes than it has
 pub fields_size-with : (b : Bool) (l : List ℕ) (fs : List HeaderField)

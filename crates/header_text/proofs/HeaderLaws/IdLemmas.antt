@@ -1,5 +1,5 @@
 -- Reading text after text, each up to a `>`, gives the ids of a value.
-use Rattle.header_text.proofs.Words.{◌≡◌, ◌∙◌, ◌+◌, ◌<◌, ◌≤◌, ◌++◌, ◌==◌, ℕ, zero, suc, Bool, true, false, nat_lt, List, [], ◌∷◌, Option, Some, None, length, drop, get_or, slice_index, map, refl, sym, ap, subst, arith, filter, IfSome, Vec, filter_map, length-map, get_or-map, ltb-true, is_id_byte, ids_of, ids_size, onto_first, closed_texts, after_last_open, ids_of_texts}
+use Rattle.header_text.proofs.Words.{◌≡◌, ◌∙◌, ◌+◌, ◌<◌, ◌≤◌, ◌++◌, ◌==◌, ℕ, zero, suc, Bool, true, false, nat_lt, List, [], ◌∷◌, Option, Some, None, length, drop, get_or, slice_index, map, refl, ap, subst, arith, filter, IfSome, Vec, length-map, get_or-map, ltb-true, ids_of, ids_size, onto_first, closed_texts, after_last_open, ids_of_texts}
 use Rattle.std.specs.Global.{Global}
 use Rattle.std.specs.Prelude.{All}
 use Rattle.header_text.proofs.HeaderLaws.IdRanges.{ids_of-closed}
@@ -31,11 +31,11 @@ pub closed_texts-cut : (text after : List ℕ) → Lacks 0x3E text → closed_te
     ≡ text ∷ closed_texts after
 closed_texts-cut [] after free = refl
 closed_texts-cut (b ∷ text) after free =
-    rw (free.0, closed_texts) (ap (onto_first b) (closed_texts-cut text after free.1))
+    grind (arith, closed_texts-cut text after free.1)
 
 pub closed_texts-free : (text : List ℕ) → Lacks 0x3E text → closed_texts text ≡ []
 closed_texts-free [] free = refl
-closed_texts-free (b ∷ text) free = rw (free.0, closed_texts) (ap (onto_first b) (closed_texts-free text free.1))
+closed_texts-free (b ∷ text) free = grind (arith, closed_texts-free text free.1)
 
 -- ---- sizes
 
@@ -80,15 +80,7 @@ ids_in-sized n (t ∷ ts) h = go (after_last_open t) refl (after_last_open-short
     go : (o : Option (List ℕ)) → after_last_open t ≡ o → IfSome (after_last_open t) (λ u. length u < length t)
         → AreSized n (ids_of_texts ts) → AreSized n (ids_of_texts (t ∷ ts))
     go None e short later = rw e later
-    go (Some u) e short later = rw e (last (nat_lt 0 (length (filter is_id_byte u))) refl)
-      where
-        last : (v : Bool) → nat_lt 0 (length (filter is_id_byte u)) ≡ v
-            → AreSized n (filter (λ x. nat_lt 0 (length x))
-            (filter is_id_byte u ∷ map (filter is_id_byte) (filter_map after_last_open ts)))
-        last true f =
-            let fits : length u < length t = rw e at short in
-            rw f (ltb-true 0 (length (filter is_id_byte u)) f, omega (arith, filter-short is_id_byte u, h.0), later)
-        last false f = rw f later
+    go (Some u) e short later = grind (arith, nat_lt, ltb-true, filter-short)
 
 -- the number of bytes of texts that end at a `>`, with the `>`
 abbrev closed_size : List (List ℕ) → ℕ
@@ -106,7 +98,7 @@ ids_in-size (t ∷ ts) = grind (arith, after_last_open-short t, ids_in-size ts, 
 pub ids_of-size : (value : List ℕ) → ids_size (ids_of value) ≤ length value
 ids_of-size value =
     let found : ids_size (ids_of value) ≤ closed_size (closed_texts value) =
-    rw (ids_of-closed value) (ids_in-size (closed_texts value)) in
+    grind (arith, ids_of-closed, ids_in-size) in
     omega (arith, found, closed_texts-size value)
 
 All-sized : (n : ℕ) (ids : List (List ℕ)) → AreSized n ids → (k : ℕ) (d : List ℕ) → k < length ids
@@ -117,14 +109,12 @@ All-sized n (id ∷ ids) h (suc k) d lt = All-sized n ids h.2 k d (omega arith)
 
 pub ids_of-sized : (value : List ℕ) (k : ℕ) (d : List ℕ) → k < length (ids_of value)
     → (0 < length (get_or (ids_of value) k d)) × (length (get_or (ids_of value) k d) ≤ length value)
-ids_of-sized value = All-sized (length value) (ids_of value)
-    (rw (ids_of-closed value) (ids_in-sized (length value) (closed_texts value) (closed_texts-short value)))
+ids_of-sized value = grind (arith, All-sized, ids_of-closed, ids_in-sized, closed_texts-short)
 
 -- what is true of each text is true of each vector that has one of these texts
 pub each-kept : (P : List ℕ → Type 0) (ids : List (Vec ℕ Global)) (texts : List (List ℕ))
     → map (λ (id : Vec ℕ Global). id.items) ids ≡ texts → All P texts → All (λ (id : Vec ℕ Global). P id.items) ids
 each-kept P ids texts e all k d lt =
     let below : k < length texts = omega (arith, ap length e, length-map ids (λ (id : Vec ℕ Global). id.items)) in
-    let here : get_or texts k d.items ≡ (get_or ids k d).items = ap (λ (l : List (List ℕ)). get_or l k d.items) (sym e)
-    ∙ get_or-map (λ (id : Vec ℕ Global). id.items) ids k d d.items lt in
+    let here : get_or texts k d.items ≡ (get_or ids k d).items = grind (arith, get_or-map) in
     subst P here (all k d.items below)

@@ -1,5 +1,5 @@
 -- The ids found by their ranges are those of the texts up to each `>`.
-use Rattle.header_text.proofs.Words.{◌≡◌, ◌∙◌, ◌++◌, ◌&&◌, ◌==◌, ℕ, Bool, true, false, cond, List, [], ◌∷◌, Option, Some, None, refl, sym, ap, ap₂, append_assoc, append-nil, inl, inr, ◌⊎◌, nat_lt, arith, list_all, map-append, filter-append, filter_map-append, eqb-true, open_sign, close_sign, begins_with_byte, is_inside_id, is_id_range, kept_ids, ids_of, closed_texts, after_last_open, ids_of_texts}
+use Rattle.header_text.proofs.Words.{◌≡◌, ◌∙◌, ◌++◌, ◌&&◌, ◌==◌, ℕ, Bool, true, false, cond, List, [], ◌∷◌, Option, Some, None, refl, ap, ap₂, append_assoc, append-nil, inl, inr, ◌⊎◌, nat_lt, arith, list_all, map-append, filter-append, filter_map-append, eqb-true, open_sign, close_sign, begins_with_byte, is_inside_id, is_id_range, kept_ids, ids_of, closed_texts, after_last_open, ids_of_texts}
 use Rattle.std.proofs.lemmas.List.Folds.{list_all-append}
 use Rattle.contract_words.proofs.RangePlaces.{seen_on, seen_from, if_passes, seen_after-places}
 use Rattle.header_text.proofs.CutLemmas.{Lacks}
@@ -32,17 +32,17 @@ taken before inside after e = ap (λ (t : Bool). cond t (inside ∷ []) []) e
 -- one more byte inside
 inside_more : (inside : List ℕ) (b : ℕ) → list_all is_inside_id inside ≡ true → is_inside_id b ≡ true
     → list_all is_inside_id (inside ++ b ∷ []) ≡ true
-inside_more inside b e f = list_all-append is_inside_id inside (b ∷ []) ∙ rw (e, f) refl
+inside_more inside b e f = grind (arith, list_all-append)
 
 broken_more : (inside : List ℕ) (b : ℕ) → list_all is_inside_id inside ≡ false
     → list_all is_inside_id (inside ++ b ∷ []) ≡ false
-broken_more inside b e = list_all-append is_inside_id inside (b ∷ []) ∙ rw e refl
+broken_more inside b e = grind (arith, list_all-append)
 
 and_false : (a : Bool) → (a && false) ≡ false
 and_false a = grind arith
 
 broken_by : (inside : List ℕ) (b : ℕ) → is_inside_id b ≡ false → list_all is_inside_id (inside ++ b ∷ []) ≡ false
-broken_by inside b e = list_all-append is_inside_id inside (b ∷ []) ∙ rw e (and_false (list_all is_inside_id inside))
+broken_by inside b e = grind (arith, list_all-append, and_false)
 
 is_inside : (b : ℕ) → (b == open_sign) ≡ false → (b == close_sign) ≡ false → is_inside_id b ≡ true
 is_inside b e f = rw (e, f) refl
@@ -98,11 +98,7 @@ on-found before inside [] rest e f unopened unclosed = on-sign before inside res
 on-found before inside (b ∷ []) rest e f unopened unclosed =
     grind (arith, inside_more, is_inside, unopened, unclosed, taken, before, all_three, on-sign)
 on-found before inside (b ∷ c ∷ u) rest e f unopened unclosed =
-    let more : list_all is_inside_id (inside ++ b ∷ []) ≡ true =
-    inside_more inside b f (is_inside b unopened.0 unclosed.0) in
-    ap₂ ◌++◌ (refused_open before (inside ++ b ∷ []) (c ∷ (u ++ close_sign ∷ rest)) unclosed.1.0)
-    (on-found before (inside ++ b ∷ []) (c ∷ u) rest e more unopened.1 unclosed.1)
-    ∙ ap (λ (l : List ℕ). l ∷ []) (append_assoc inside (b ∷ []) (c ∷ u))
+    grind (arith, inside_more, is_inside, refused_open, append_assoc, on-found before (inside ++ b ∷ []) (c ∷ u) rest e)
 
 -- ---- of the bytes before, it matters only whether a `<` comes last
 
@@ -115,7 +111,7 @@ on-same x y inside (c ∷ cs) e = grind (arith, on-same x y (inside ++ c ∷ [])
 from-same : (x y rest : List ℕ) → begins_with_byte open_sign x ≡ begins_with_byte open_sign y → ids_from x rest
     ≡ ids_from y rest
 from-same x y [] e = refl
-from-same x y (c ∷ cs) e = ap₂ ◌++◌ (on-same x y [] (c ∷ cs) e) (from-same (c ∷ x) (c ∷ y) cs refl)
+from-same x y (c ∷ cs) e = grind (arith, on-same, from-same (c ∷ x) (c ∷ y) cs refl)
 
 from-reopened : (before x rest : List ℕ) → Lacks close_sign x → ids_from before (x ++ open_sign ∷ rest)
     ≡ ids_from (open_sign ∷ []) rest
@@ -126,10 +122,9 @@ from-reopened before (b ∷ x) rest free =
 
 from-unopened : (before u rest : List ℕ) → begins_with_byte open_sign before ≡ false → Lacks open_sign u
     → ids_from before (u ++ close_sign ∷ rest) ≡ ids_from [] rest
-from-unopened before [] rest e free = ap₂ ◌++◌ (on-unopened before [] (close_sign ∷ rest) e)
-    (from-same (close_sign ∷ before) [] rest refl)
+from-unopened before [] rest e free = grind (arith, on-unopened, from-same)
 from-unopened before (b ∷ u) rest e free =
-    ap₂ ◌++◌ (on-unopened before [] (b ∷ (u ++ close_sign ∷ rest)) e) (from-unopened (b ∷ before) u rest free.0 free.1)
+    grind (arith, on-unopened, from-unopened (b ∷ before) u rest free.0 free.1)
 
 from-found : (u rest : List ℕ) → Lacks open_sign u → Lacks close_sign u
     → ids_from (open_sign ∷ []) (u ++ close_sign ∷ rest) ≡ unless_none u u ++ ids_from [] rest
@@ -140,7 +135,7 @@ from-found (b ∷ u) rest unopened unclosed = grind (arith, on-found, unopened, 
 
 from-end : (before x : List ℕ) → Lacks close_sign x → ids_from before x ≡ []
 from-end before [] free = refl
-from-end before (b ∷ x) free = ap₂ ◌++◌ (on-end before [] (b ∷ x) free) (from-end (b ∷ before) x free.1)
+from-end before (b ∷ x) free = grind (arith, on-end, from-end (b ∷ before) x free.1)
 
 -- ---- a text up to its `>`
 
@@ -191,7 +186,7 @@ last_open (b ∷ bs) free = elim (last_open bs free.1) [
       unclosed_before = tt;
       unclosed = free.1;
     })
-    go false t none = inl (ap (judged b bs) none.0 ∙ rw (judged, t) refl, (t, none.1))
+    go false t none = grind arith
 
 from-text : (text rest : List ℕ) → Lacks close_sign text → kept_ids (ids_from [] (text ++ close_sign ∷ rest))
     ≡ ids_of_texts (text ∷ []) ++ kept_ids (ids_from [] rest)
@@ -214,26 +209,21 @@ lacks_more (a ∷ front) b free e = (free.0, lacks_more front b free.1 e)
 
 from-texts : (front bs : List ℕ) → Lacks close_sign front → kept_ids (ids_from [] (front ++ bs))
     ≡ ids_of_texts (onto_text front (closed_texts bs))
-from-texts front [] free = ap kept_ids (ap (ids_from []) (append-nil front) ∙ from-end [] front free)
-from-texts front (b ∷ bs) free = go (b == close_sign) refl (from-texts [] bs tt)
-    (λ e. from-texts (front ++ b ∷ []) bs (lacks_more front b free e))
-  where
-    go : (t : Bool) → (b == close_sign) ≡ t → kept_ids (ids_from [] bs) ≡ ids_of_texts (onto_text [] (closed_texts bs))
-        → ((b == close_sign) ≡ false → kept_ids (ids_from [] ((front ++ b ∷ []) ++ bs))
-        ≡ ids_of_texts (onto_text (front ++ b ∷ []) (closed_texts bs)))
-        → kept_ids (ids_from [] (front ++ b ∷ bs)) ≡ ids_of_texts (onto_text front (closed_texts (b ∷ bs)))
-    go true t after longer =
-        let texts : closed_texts (b ∷ bs) ≡ [] ∷ closed_texts bs = rw (t, closed_texts) refl in
-        let later : kept_ids (ids_from [] bs) ≡ ids_of_texts (closed_texts bs) = after
-        ∙ ap ids_of_texts (onto_text-nil (closed_texts bs)) in
-        ap (λ (c : ℕ). kept_ids (ids_from [] (front ++ c ∷ bs))) (eqb-true b close_sign t) ∙ from-text front bs free
-        ∙ ap (λ (l : List (List ℕ)). ids_of_texts (front ∷ []) ++ l) later ∙ sym (ids_in-cons front (closed_texts bs))
-        ∙ ap (λ (l : List ℕ). ids_of_texts (l ∷ closed_texts bs)) (sym (append-nil front))
-        ∙ ap (λ (l : List (List ℕ)). ids_of_texts (onto_text front l)) (sym texts)
-    go false t after longer = grind (arith, append_assoc)
+from-texts front [] free = grind (arith, append-nil, from-end)
+from-texts front (b ∷ bs) free = grind (
+  arith,
+  lacks_more,
+  onto_text-nil,
+  eqb-true,
+  from-text,
+  ids_in-cons,
+  append-nil,
+  append_assoc,
+  from-texts [] bs,
+  from-texts (front ++ b ∷ []) bs,
+)
 
 pub ids_of-closed : (value : List ℕ) → ids_of value ≡ ids_of_texts (closed_texts value)
 unfolding ids_of
 ids_of-closed value =
-    ap kept_ids (seen_after-places is_id_range (λ bs. bs) [] value) ∙ from-texts [] value tt
-    ∙ ap ids_of_texts (onto_text-nil (closed_texts value))
+    cc (seen_after-places is_id_range (λ bs. bs) [] value, from-texts [] value tt, onto_text-nil (closed_texts value))

@@ -1,11 +1,10 @@
 -- The fields at places stay the fields of a list as bytes and places are added.
-use Rattle.header_text.proofs.Words.{◌≡◌, ◌∙◌, ◌+◌, ◌-◌, ◌<◌, ◌≤◌, ◌++◌, ℕ, List, [], ◌∷◌, length, take, drop, refl, sym, ap, ap₂, arith, length-append, append_assoc, slice_range, take-append-le, drop-append-le, take_all, take_at, drop_at, length-take-le, FieldPlace, HeaderField, fields_size, most_in_header, onto_last}
+use Rattle.header_text.proofs.Words.{◌≡◌, ◌∙◌, ◌+◌, ◌-◌, ◌<◌, ◌≤◌, ◌++◌, ℕ, List, [], ◌∷◌, length, refl, ap, arith, length-append, append_assoc, slice_range, take-append-le, drop-append-le, take_all, take_at, drop_at, length-take-le, FieldPlace, HeaderField, fields_size, most_in_header, onto_last}
 use Rattle.std.proofs.lemmas.List.{length-drop}
 use Rattle.header_text.specs.Inside.Places.{next_start, ArePlacesInOrder, AreKept, fields_at}
 
 length-slice_range : (xs : List ℕ) (i j : ℕ) → i ≤ j → j ≤ length xs → length (slice_range xs i j) ≡ j - i
-length-slice_range xs i j low high = let left : length (drop i xs) ≡ length xs - i = length-drop i xs
-    in length-take-le (j - i) (drop i xs) (omega arith)
+length-slice_range xs i j low high = grind (arith, length-drop, length-take-le)
 
 -- a range inside the front
 pub slice_range-append : (xs ys : List ℕ) (i j : ℕ) → i ≤ j → j ≤ length xs → slice_range (xs ++ ys) i j
@@ -19,7 +18,7 @@ slice_range-append_end xs ys i low = grind (arith, length-append, length-drop, d
 
 pub next_start-le : (end : ℕ) (ps : List FieldPlace) → ArePlacesInOrder end ps → next_start ps end ≤ end
 next_start-le end [] h = omega arith
-next_start-le end (p ∷ ps) h = let later = next_start-le end ps h.2 in omega (arith, h.0, h.1, later)
+next_start-le end (p ∷ ps) h = grind (arith, next_start-le end ps h.2)
 
 -- places with one more field
 AreInOrder-push : (end : ℕ) (ps : List FieldPlace) (p : FieldPlace) (more : ℕ) → ArePlacesInOrder end ps → p.name ≡ end
@@ -65,23 +64,14 @@ last_field : (bytes name body : List ℕ) (at : ℕ) (from : ℕ) → at ≡ len
 last_field bytes name body at from e f =
     let all : List ℕ = bytes ++ (name ++ body) in
     let grouped : (bytes ++ name) ++ body ≡ all = append_assoc bytes name body in
-    let front : length (bytes ++ name) ≡ from = length-append bytes name ∙ sym f in
-    let named : slice_range all at from ≡ name =
-    ap (λ (l : List ℕ). take (from - at) l) (drop_at bytes (name ++ body) at (sym e))
-    ∙ take_at name body (from - at) (omega arith) in
-    let rest : drop from all ≡ body = ap (λ (l : List ℕ). drop from l) (sym grouped)
-    ∙ drop_at (bytes ++ name) body from front in
-    let size : length body ≤ length all - from =
-    omega (arith, length-append bytes (name ++ body), length-append name body) in
-    ap₂ (λ (x y : List ℕ). one x y) named (ap (λ (l : List ℕ). take (length all - from) l) rest
-    ∙ take_all (length all - from) body size)
+    grind (arith, length-append, drop_at, take_at, take_all)
 
 pub fields_at-push : (bytes name body : List ℕ) (ps : List FieldPlace) (p : FieldPlace)
     → ArePlacesInOrder (length bytes) ps
     → p.name ≡ length bytes → p.body ≡ length bytes + length name
     → fields_at (bytes ++ (name ++ body)) (ps ++ p ∷ []) ≡ fields_at bytes ps ++ one name body ∷ []
 fields_at-push bytes name body [] p h e f =
-    ap (λ (x : HeaderField). x ∷ []) (last_field bytes name body p.name p.body e f)
+    grind (arith, last_field)
 fields_at-push bytes name body (q ∷ []) p h e f = grind (arith, slice_range-append, last_field)
 fields_at-push bytes name body (q ∷ r ∷ ps) p h e f =
     grind (arith, next_start-le, slice_range-append, fields_at-push bytes name body (r ∷ ps) p h.2 e f)
@@ -103,7 +93,7 @@ fields_size-at bytes (p ∷ ps) h = grind (arith, next_start-le, length-slice_ra
 -- there are no other bytes
 pub fields_size-kept : (bytes : List ℕ) (ps : List FieldPlace) → AreKept bytes ps → fields_size (fields_at bytes ps)
     ≡ length bytes
-fields_size-kept bytes ps k = let size = fields_size-at bytes ps k.order in omega (arith, k.first)
+fields_size-kept bytes ps k = grind (arith, fields_size-at)
 
 -- a field was added, given what the two buffers hold
 pub record HoldsPushed (bytes name body : List ℕ) (ps : List FieldPlace) (new : List ℕ) (qs : List FieldPlace) : Type 0
@@ -117,14 +107,13 @@ pub pushed : (bytes new name body : List ℕ) (ps qs : List FieldPlace) (start f
     → 0 < length name → fields_size (fields_at bytes ps) + (length name + length body) ≤ most_in_header
     → HoldsPushed bytes name body ps new qs
 pushed bytes new name body ps qs start from k e f low high some room =
-    let size : length new ≡ length bytes + (length name + length body) = ap length e
-    ∙ length-append bytes (name ++ body) ∙ ap (λ (n : ℕ). length bytes + n) (length-append name body) in
+    let size : length new ≡ length bytes + (length name + length body) = grind (arith, length-append) in
     let few : length new ≤ most_in_header = omega (arith, fields_size-kept bytes ps k) in
     let p : FieldPlace = record { name = start; body = from } in
     record {
       kept = rw f (kept new (ps ++ p ∷ []) (AreInOrder-push (length bytes) ps p (length new) k.order low (omega arith)
           (omega arith)) (next_start-push (length bytes) ps p (length new) low ∙ k.first) few);
-      fields = rw (e, f) (fields_at-push bytes name body ps p k.order low (omega arith));
+      fields = grind (arith, fields_at-push);
     }
 
 -- more bytes for the last field, given what the buffers hold

@@ -1,5 +1,5 @@
 -- The state of a Header after one more line, for each stage before the line.
-use Rattle.header_text.proofs.Words.{◌≡◌, ◌∙◌, ◌+◌, ◌-◌, ◌≤◌, ◌<◌, ◌++◌, ◌||◌, ◌⊎◌, inl, inr, ℕ, Bool, true, false, nat_le, nat_lt, List, [], ◌∷◌, length, refl, sym, ap, ap₂, arith, length-append, cases_lt, nat_tests, is_empty, HeaderField, most_in_header, lines_before_empty, lines_within, header, fields_in, fields_of, is_field_open_after, is_field_open_after_lines, fields_with, has_empty, lines_size, stage_of, stage_after, Open, Full, Ended}
+use Rattle.header_text.proofs.Words.{◌≡◌, ◌∙◌, ◌+◌, ◌-◌, ◌≤◌, ◌<◌, ◌++◌, ◌||◌, ◌⊎◌, inl, inr, ℕ, Bool, true, false, nat_le, nat_lt, List, [], ◌∷◌, length, refl, sym, ap, arith, length-append, cases_lt, nat_tests, is_empty, HeaderField, most_in_header, lines_before_empty, lines_within, header, fields_of, is_field_open_after, fields_with, has_empty, lines_size, stage_of, stage_after, Open, Full, Ended}
 use Rattle.header_text.specs.HeldLines.{Holds, taken_of}
 use Rattle.header_text.specs.declared.header.Stage.{Stage}
 use Rattle.header_text.specs.declared.header.Taken.TheVariants.{More, Ended as HeaderEnded}
@@ -47,8 +47,7 @@ stops room (l ∷ ls) more h = grind (arith, stops (room - length l) ls more)
 -- a line that doesn't fit
 overflow : (room : ℕ) (ls : List (List ℕ)) (l : List ℕ) → lines_size ls ≤ room → room - lines_size ls < length l
     → lines_within room (ls ++ l ∷ []) ≡ ls
-overflow room [] l h over = let none : nat_le (length l) room ≡ false = grind (arith, nat_tests)
-    in rw (none, lines_within) refl
+overflow room [] l h over = grind (arith, nat_le, nat_tests)
 overflow room (k ∷ ks) l h over = grind (arith, nat_le, overflow (room - length k) ks l (omega arith) (omega arith))
 
 pub size-within : (room : ℕ) (ls : List (List ℕ)) → lines_size (lines_within room ls) ≤ room
@@ -63,8 +62,7 @@ stage_of-ended ls h = rw h refl
 
 stage_of-full : (ls : List (List ℕ)) → has_empty ls ≡ false → length (header ls) < length ls → stage_of ls ≡ Full
 unfolding stage_of
-stage_of-full ls h less = let short : nat_lt (length (header ls)) (length ls) ≡ true = grind (arith, nat_tests)
-    in rw (h, short) refl
+stage_of-full ls h less = grind (arith, nat_lt, nat_tests)
 
 stage_of-open : (ls : List (List ℕ)) → has_empty ls ≡ false → header ls ≡ ls → stage_of ls ≡ Open
 unfolding stage_of
@@ -87,92 +85,38 @@ header-none ls h = ap front (before_empty-none ls h)
 steps-ended : (ls : List (List ℕ)) (l : List ℕ) (stage : Stage) (size : ℕ) → has_empty ls ≡ true → stage ≡ stage_of ls
     → Steps ls l stage size
 steps-ended ls l stage size h e =
-    let was : stage ≡ Ended = e ∙ stage_of-ended ls h in
-    let now : stage_of (ls ++ l ∷ []) ≡ Ended = stage_of-ended (ls ++ l ∷ []) (rw (has_empty-push ls l, h) refl) in
-    record {
-      next = rw (was, now) refl;
-      counts = λ o. absurd (cc);
-      was_open = λ o. absurd (cc);
-      stays = λ _. ap front (before_empty-push_some ls l h);
-    }
+    grind (arith, stage_of-ended, has_empty-push, before_empty-push_some)
 
 -- the line ends it
 steps-end : (ls : List (List ℕ)) (l : List ℕ) (stage : Stage) (size : ℕ) → has_empty ls ≡ false → is_empty l ≡ true
     → Steps ls l stage size
 steps-end ls l stage size h e =
-    let some : has_empty (ls ++ l ∷ []) ≡ true = rw (has_empty-push ls l, h, e) refl in
-    let now : stage_of (ls ++ l ∷ []) ≡ Ended = stage_of-ended (ls ++ l ∷ []) some in
-    record {
-      next = ends stage now;
-      counts = λ o. absurd (cc);
-      was_open = λ o. absurd (cc);
-      stays = λ _. ap front (before_empty-push_end ls l e);
-    }
-  where
-    ends : (s : Stage) → stage_of (ls ++ l ∷ []) ≡ Ended → stage_after s size l ≡ stage_of (ls ++ l ∷ [])
-    ends s h = grind arith
+    grind (arith, has_empty-push, stage_of-ended, before_empty-push_end)
 
 -- a line didn't fit before this line
 steps-full : (ls : List (List ℕ)) (l : List ℕ) (stage : Stage) (size : ℕ) → has_empty ls ≡ false → is_empty l ≡ false
     → stage ≡ stage_of ls → most_in_header < lines_size ls → Steps ls l stage size
 steps-full ls l stage size h e s over =
-    let none : has_empty (ls ++ l ∷ []) ≡ false = rw (has_empty-push ls l, h, e) refl in
-    let stop = stops most_in_header ls (l ∷ []) over in
-    let before : header ls ≡ front ls = header-none ls h in
-    let same : header (ls ++ l ∷ []) ≡ header ls = header-none (ls ++ l ∷ []) none ∙ stop.same ∙ sym before in
-    let fewer : length (header ls) < length ls = rw before stop.fewer in
-    let was : stage ≡ Full = s ∙ stage_of-full ls h fewer in
-    let now : stage_of (ls ++ l ∷ []) ≡ Full =
-    stage_of-full (ls ++ l ∷ []) none (rw same (omega (arith, length-append ls (l ∷ [])))) in
-    record {
-      next = rw (was, e, now) refl;
-      counts = λ o. absurd (cc);
-      was_open = λ o. absurd (cc);
-      stays = λ _. same;
-    }
+    grind (arith, has_empty-push, stops, header-none, stage_of-full, length-append)
 
 -- all lines before this one count
 steps-open : (ls : List (List ℕ)) (l : List ℕ) (stage : Stage) (size : ℕ) → has_empty ls ≡ false → is_empty l ≡ false
     → stage ≡ stage_of ls → size ≡ lines_size (header ls) → lines_size ls ≤ most_in_header → Steps ls l stage size
-steps-open ls l stage size h e s n fits = go (cases_lt (most_in_header - lines_size ls) (length l))
-  where
-    none : has_empty (ls ++ l ∷ []) ≡ false
-    none = rw (has_empty-push ls l, h, e) refl
-
-    before : header ls ≡ ls
-    before = header-none ls h ∙ within-all most_in_header ls fits
-
-    was : stage ≡ Open
-    was = s ∙ stage_of-open ls h before
-
-    sized : size ≡ lines_size ls
-    sized = n ∙ ap lines_size before
-
-    go : (most_in_header - lines_size ls < length l) ⊎ (length l ≤ most_in_header - lines_size ls)
-        → Steps ls l stage size
-    go (inl over) =
-        let now : header (ls ++ l ∷ []) ≡ ls = header-none (ls ++ l ∷ []) none ∙ overflow most_in_header ls l fits over
-        in
-        let full : stage_of (ls ++ l ∷ []) ≡ Full =
-        stage_of-full (ls ++ l ∷ []) none (rw now (omega (arith, length-append ls (l ∷ [])))) in
-        let test : nat_lt (most_in_header - size) (length l) ≡ true = rw sized (grind (arith, nat_tests)) in
-        record {
-          next = rw (was, e, test, full) refl;
-          counts = λ o. absurd (cc);
-          was_open = λ o. absurd (cc);
-          stays = λ _. now ∙ sym before;
-        }
-    go (inr room) =
-        let now : header (ls ++ l ∷ []) ≡ ls ++ l ∷ [] = header-none (ls ++ l ∷ []) none
-        ∙ within-all most_in_header (ls ++ l ∷ []) (omega (arith, lines_size-push ls l)) in
-        let still : stage_of (ls ++ l ∷ []) ≡ Open = stage_of-open (ls ++ l ∷ []) none now in
-        let test : nat_lt (most_in_header - size) (length l) ≡ false = rw sized (grind (arith, nat_tests)) in
-        record {
-          next = rw (was, e, test, still) refl;
-          counts = λ _. now ∙ ap (λ (ks : List (List ℕ)). ks ++ l ∷ []) (sym before);
-          was_open = λ _. was;
-          stays = λ no. absurd (no still);
-        }
+steps-open ls l stage size h e s n fits =
+    grind (
+      arith,
+      cases_lt,
+      has_empty-push,
+      header-none,
+      within-all,
+      stage_of-open,
+      overflow,
+      stage_of-full,
+      length-append,
+      nat_lt,
+      nat_tests,
+      lines_size-push,
+    )
 
 pub steps : (ls : List (List ℕ)) (l : List ℕ) (stage : Stage) (size : ℕ) → stage ≡ stage_of ls → size
     ≡ lines_size (header ls) → Steps ls l stage size
@@ -199,7 +143,7 @@ taken-more ls goes_on = grind (arith, stage_of-ended ls)
 
 pub holds_new : (fs : List HeaderField) → fs ≡ [] → Holds fs 0 false Open []
 unfolding fields_of stage_of
-holds_new fs e = record { fields_are = e; size_is = refl; in_field_is = refl; stage_is = refl }
+holds_new fs e = grind arith
 
 module _ (fs : List HeaderField) (size : ℕ) (in_field : Bool) (stage : Stage) (ls : List (List ℕ)) (l : List ℕ)
     (h : Holds fs size in_field stage ls) where
@@ -214,15 +158,7 @@ module _ (fs : List HeaderField) (size : ℕ) (in_field : Bool) (stage : Stage) 
   holds-counted new after e f g =
       let still : stage_of (ls ++ l ∷ []) ≡ Open = sym stepped.next ∙ e in
       let more : header (ls ++ l ∷ []) ≡ header ls ++ l ∷ [] = stepped.counts still in
-      record {
-        fields_are = f ∙ ap₂ (λ (b : Bool) (gs : List HeaderField). fields_with b l gs) h.in_field_is h.fields_are
-            ∙ sym (fields_in-push (header ls) l) ∙ ap fields_in (sym more);
-        size_is = ap (λ (n : ℕ). n + length l) h.size_is ∙ sym (lines_size-push (header ls) l)
-            ∙ ap lines_size (sym more);
-        in_field_is = g ∙ ap (λ (b : Bool). is_field_open_after b l) h.in_field_is
-            ∙ sym (is_open_after-push false (header ls) l) ∙ ap (is_field_open_after_lines false) (sym more);
-        stage_is = stepped.was_open still ∙ sym still;
-      }
+      grind (arith, fields_in-push, lines_size-push, is_open_after-push)
 
   -- a line that doesn't count
   pub holds-skipped : (next : Stage) → stage_after stage size l ≡ next → (next ≡ Open → ⊥)
@@ -231,24 +167,17 @@ module _ (fs : List HeaderField) (size : ℕ) (in_field : Bool) (stage : Stage) 
   holds-skipped next e closed =
       let is : next ≡ stage_of (ls ++ l ∷ []) = sym e ∙ stepped.next in
       let same : header (ls ++ l ∷ []) ≡ header ls = stepped.stays (λ o. closed (is ∙ o)) in
-      record {
-        fields_are = h.fields_are ∙ ap fields_in (sym same);
-        size_is = h.size_is ∙ ap lines_size (sym same);
-        in_field_is = h.in_field_is ∙ ap (is_field_open_after_lines false) (sym same);
-        stage_is = is;
-      }
+      grind arith
 
   -- a line after the end
   pub holds-ended : stage ≡ Ended → Holds fs size in_field stage (ls ++ l ∷ [])
-  holds-ended e = let next : stage_after stage size l ≡ stage = rw e refl
-      in holds-skipped stage next (λ o. absurd (cc))
+  holds-ended e = grind (arith, holds-skipped)
 
   pub has_empty-ended : stage ≡ Ended → has_empty (ls ++ l ∷ []) ≡ true
-  has_empty-ended e = let some : has_empty ls ≡ true = stage_of-ended_only ls (sym h.stage_is ∙ e)
-      in rw (has_empty-push ls l, some) refl
+  has_empty-ended e = grind (arith, stage_of-ended_only, has_empty-push)
 
   pub never_ended : has_empty ls ≡ true → (stage ≡ Ended → ⊥) → ⊥
-  never_ended some goes_on = goes_on (h.stage_is ∙ stage_of-ended ls some)
+  never_ended some goes_on = grind (arith, stage_of-ended)
 
   -- what the line means for the header
   pub taken-next_ended : stage_after stage size l ≡ Ended → HeaderEnded ≡ taken_of (ls ++ l ∷ [])

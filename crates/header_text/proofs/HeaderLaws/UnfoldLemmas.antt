@@ -1,5 +1,5 @@
 -- Unfolding part by part gives the unfolded body.
-use Rattle.header_text.proofs.Words.{suc, Some, ◌≡◌, ◌+◌, ◌-◌, Bor, Option, MatchOption, unwrap_or, bytes_eq, ◌∙◌, ◌++◌, ◌&&◌, ℕ, Bool, true, false, nat_lt, List, [], ◌∷◌, None, length, take, drop, refl, sym, ap, ap₂, arith, length-append, append_assoc, append-nil, nat_tests, lt-ltb, take_at, drop_at, after_blanks, before_blanks, without_breaks, unfolded_body, without_final_cr, added_part, cut_at}
+use Rattle.header_text.proofs.Words.{suc, ◌≡◌, ◌+◌, ◌-◌, Bor, Option, MatchOption, unwrap_or, bytes_eq, ◌∙◌, ◌++◌, ◌&&◌, ℕ, Bool, true, false, nat_lt, List, [], ◌∷◌, None, length, take, drop, refl, arith, length-append, append_assoc, append-nil, nat_tests, lt-ltb, take_at, drop_at, after_blanks, before_blanks, without_breaks, unfolded_body, without_final_cr, added_part, cut_at}
 use Rattle.header_text.proofs.CutLemmas.{Lacks, IsCut, Lacks-from}
 
 -- ---- a CR at the end
@@ -12,14 +12,14 @@ cr-goes [] h = refl
 cr-goes (b ∷ []) h = grind arith
 cr-goes (b ∷ c ∷ bs) h =
     let e : length (b ∷ c ∷ bs) - 1 ≡ suc (length (c ∷ bs) - 1) = omega arith in
-    rw e (ap (λ (l : List ℕ). b ∷ l) (cr-goes (c ∷ bs) (rw e at h)))
+    grind (arith, cr-goes (c ∷ bs))
 
 no_cr-stays : (bs : List ℕ) → ends_in_cr bs ≡ false → without_final_cr bs ≡ bs
 no_cr-stays [] h = refl
 no_cr-stays (b ∷ []) h = grind arith
 no_cr-stays (b ∷ c ∷ bs) h =
     let e : length (b ∷ c ∷ bs) - 1 ≡ suc (length (c ∷ bs) - 1) = omega arith in
-    ap (λ (l : List ℕ). b ∷ l) (no_cr-stays (c ∷ bs) (rw e at h))
+    grind (arith, no_cr-stays (c ∷ bs))
 
 -- the result of `strip_suffix`
 pub without_final_cr-stripped : (bs : Bor (List ℕ)) (r : Option (Bor (List ℕ)))
@@ -27,8 +27,7 @@ pub without_final_cr-stripped : (bs : Bor (List ℕ)) (r : Option (Bor (List ℕ
     (λ x. (ends_in_cr bs.now ≡ true) × (x.now ≡ take (length bs.now - 1) bs.now)
     × (length x.now + 1 ≡ length bs.now))
     → (unwrap_or r bs).now ≡ without_final_cr bs.now
-without_final_cr-stripped bs None h = sym (no_cr-stays bs.now h)
-without_final_cr-stripped bs (Some x) h = h.1 ∙ sym (cr-goes bs.now h.0)
+without_final_cr-stripped bs r h = grind (arith, no_cr-stays, cr-goes)
 
 -- ---- breaks
 
@@ -84,36 +83,18 @@ pub record Unfolds (old body items rest : List ℕ) : Type 0 where
   pub items_are : items ≡ old ++ done
   pub sofar : done ++ added_part (is_some_bytes done) (without_breaks rest) ≡ after_blanks (without_breaks body)
 
-pub unfolds-start : (old body : List ℕ) → Unfolds old body old body
-unfolds-start old body = record { done = []; items_are = sym (append-nil old); sofar = refl }
-
 pub unfolds-line : (old body items rest line after new : List ℕ) → Unfolds old body items rest
     → IsCut 0x0A rest line after
     → new ≡ items ++ added_part (nat_lt (length old) (length items)) (without_final_cr line)
     → Unfolds old body new after
 unfolds-line old body items rest line after new h cut e =
-    let part : List ℕ = without_final_cr line in
-    let test : nat_lt (length old) (length items) ≡ is_some_bytes h.done = rw h.items_are (is_some-test old h.done) in
-    let more : List ℕ = added_part (is_some_bytes h.done) part in
-    let split : without_breaks rest ≡ part ++ without_breaks after = ap without_breaks cut.joined
-    ∙ breaks-cut line after cut.free in
-    record {
-      done = h.done ++ more;
-      items_are = e ∙ ap₂ (λ (l : List ℕ) (t : Bool). l ++ added_part t part) h.items_are test
-          ∙ append_assoc old h.done more;
-      sofar = led-append h.done part (without_breaks after)
-          ∙ ap (λ (l : List ℕ). h.done ++ added_part (is_some_bytes h.done) l) (sym split) ∙ h.sofar;
-    }
+    grind (arith, nat_lt, is_some-test, breaks-cut, append_assoc, led-append)
 
 pub unfolds-end : (old body items rest new : List ℕ) → Unfolds old body items rest → Lacks 0x0A rest
     → new ≡ items ++ added_part (nat_lt (length old) (length items)) rest → new
     ≡ old ++ after_blanks (without_breaks body)
 unfolds-end old body items rest new h free e =
-    let test : nat_lt (length old) (length items) ≡ is_some_bytes h.done = rw h.items_are (is_some-test old h.done) in
-    let more : List ℕ = added_part (is_some_bytes h.done) rest in
-    e ∙ ap₂ (λ (l : List ℕ) (t : Bool). l ++ added_part t rest) h.items_are test ∙ append_assoc old h.done more
-    ∙ ap (λ (l : List ℕ). old ++ l) (ap (λ (l : List ℕ). h.done ++ added_part (is_some_bytes h.done) l)
-    (sym (breaks-free rest free)) ∙ h.sofar)
+    grind (arith, nat_lt, is_some-test, append_assoc, breaks-free)
 
 -- the end is trimmed
 pub unfolded-trimmed : (old body items : List ℕ) → items ≡ old ++ after_blanks (without_breaks body)
@@ -127,4 +108,4 @@ pub unfolds-rest : (old body items rest new : List ℕ) (start : ℕ) → start 
     → new ≡ items ++ added_part (nat_lt start (length items)) rest → new ≡ old ++ after_blanks (without_breaks body)
 unfolds-rest old body items rest new start s h none e =
     unfolds-end old body items rest new h (Lacks-from 0x0A rest none)
-    (e ∙ ap (λ (n : ℕ). items ++ added_part (nat_lt n (length items)) rest) s)
+    (cc)

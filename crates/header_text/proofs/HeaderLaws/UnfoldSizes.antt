@@ -8,8 +8,7 @@ kept b bs t = elim t [ true ↦ bs | false ↦ b ∷ bs ]
 
 length-kept : (b : ℕ) (bs : List ℕ) (t : Bool) (n : ℕ) → length bs ≤ n → length (kept b bs t) ≤ suc n
 unfolding kept
-length-kept b bs true n h = omega (arith, h)
-length-kept b bs false n h = omega (arith, h)
+length-kept b bs t n h = grind arith
 
 length-without_breaks : (bs : List ℕ) → length (without_breaks bs) ≤ length bs
 unfolding kept

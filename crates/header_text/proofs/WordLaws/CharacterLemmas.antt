@@ -1,5 +1,5 @@
 -- The text of bytes in a charset in which each byte is a character.
-use Rattle.header_text.proofs.Words.{◌≡◌, ◌∙◌, ◌<◌, ◌≤◌, ◌+◌, ◌++◌, ℕ, suc, true, nat_lt, List, [], ◌∷◌, map, length, slice_index, take, drop, refl, sym, ap, ap₂, subst, arith, encode_utf8_all, append_assoc, encode_utf8, IsAscii, ne_eqb, cases_lt, lt-ltb, nat_tests, map-append, take-append-drop, drop_more, get_or-take, take_all, encodes-append, encodes-IsAscii, IsUtf8-from_ascii, length-encode, lossy_chars, lossy_chars-utf8, character, text_of, Charset, Utf8, Latin1, Latin9, Windows1252, Unknown}
+use Rattle.header_text.proofs.Words.{◌≡◌, ◌∙◌, ◌<◌, ◌≤◌, ◌+◌, ◌++◌, ℕ, suc, true, nat_lt, List, [], ◌∷◌, map, length, slice_index, take, drop, refl, arith, encode_utf8_all, append_assoc, encode_utf8, IsAscii, ne_eqb, cases_lt, lt-ltb, nat_tests, map-append, take-append-drop, drop_more, get_or-take, take_all, encodes-append, encodes-IsAscii, IsUtf8-from_ascii, length-encode, lossy_chars, lossy_chars-utf8, character, text_of, Charset, Utf8}
 use Rattle.std.proofs.lemmas.List.{length-take}
 use Rattle.std.proofs.lemmas.Str.Ascii.{IsAscii-from_reads}
 
@@ -9,14 +9,19 @@ character-ascii c b h = grind (arith, ne_eqb, nat_tests)
 
 map-character-ascii : (c : Charset) (bs : List ℕ) → IsAscii bs → map (character c) bs ≡ bs
 map-character-ascii c [] h = refl
-map-character-ascii c (b ∷ bs) h = ap₂ (λ (x : ℕ) (xs : List ℕ). x ∷ xs) (character-ascii c b (h 0))
-    (map-character-ascii c bs (λ i. h (suc i)))
+map-character-ascii c (b ∷ bs) h = cc (character-ascii c b (h 0), map-character-ascii c bs (λ i. h (suc i)))
 
 -- ASCII reads the same in each charset
 pub lossy-ascii : (c : Charset) (bs : List ℕ) → IsAscii bs → encode_utf8_all (lossy_chars bs)
     ≡ encode_utf8_all (map (character c) bs)
-lossy-ascii c bs h = lossy_chars-utf8 bs (IsUtf8-from_ascii bs h) ∙ sym (encodes-IsAscii bs h)
-    ∙ ap encode_utf8_all (sym (map-character-ascii c bs h))
+lossy-ascii c bs h = grind (
+  arith,
+  lossy_chars-utf8,
+  IsUtf8-from_ascii,
+  encodes-IsAscii,
+  encode_utf8_all,
+  map-character-ascii,
+)
 
 -- ASCII bytes, a byte that isn't ASCII, and the rest
 pub characters-split : (c : Charset) (bs : List ℕ) (at : ℕ) → at < length bs → IsAscii (take at bs)
@@ -26,13 +31,8 @@ pub characters-split : (c : Charset) (bs : List ℕ) (at : ℕ) → at < length 
 characters-split c bs at lt h =
     let ch : ℕ → ℕ = character c in
     let b = slice_index bs at in
-    let split : bs ≡ take at bs ++ b ∷ drop (at + 1) bs = sym (take-append-drop at bs)
-    ∙ ap (λ (l : List ℕ). take at bs ++ l) (drop_more bs at 0 lt) in
-    ap (λ (l : List ℕ). encode_utf8_all (map ch l)) split
-    ∙ ap encode_utf8_all (map-append ch (take at bs) (b ∷ drop (at + 1) bs))
-    ∙ encodes-append (map ch (take at bs)) (ch b ∷ map ch (drop (at + 1) bs))
-    ∙ ap (λ (l : List ℕ). l ++ (encode_utf8 (ch b) ++ encode_utf8_all (map ch (drop (at + 1) bs))))
-    (sym (lossy-ascii c (take at bs) h))
+    let split : bs ≡ take at bs ++ b ∷ drop (at + 1) bs = grind (arith, take-append-drop, drop_more) in
+    grind (arith, encode_utf8_all, map-append, encodes-append, encode_utf8, lossy-ascii)
 
 pub length-encode_small : (c : ℕ) → c < 65536 → length (encode_utf8 c) ≤ 3
 length-encode_small c lt = rw length-encode (grind (arith, nat_tests))
@@ -49,11 +49,7 @@ characters-step c bs old new newer at lt h e f =
 pub text_of-single : (c : Charset) → (c ≡ Utf8 → ⊥) → (bs : List ℕ) → text_of c bs
     ≡ encode_utf8_all (map (character c) bs)
 unfolding text_of
-text_of-single Utf8 other bs = absurd (other refl)
-text_of-single Latin1 other bs = refl
-text_of-single Latin9 other bs = refl
-text_of-single Windows1252 other bs = refl
-text_of-single Unknown other bs = refl
+text_of-single c h bs = grind arith
 
 -- the bytes before a place are ASCII
 pub IsAscii-before : (bs : List ℕ) (at : ℕ) → ((k : ℕ) → 0 ≤ k → k < at → nat_lt 127 (slice_index bs k) ≡ true → ⊥)
@@ -63,5 +59,4 @@ IsAscii-before bs at h = grind (arith, IsAscii-from_reads, length-take, get_or-t
 -- all bytes are ASCII
 pub IsAscii-all : (bs : List ℕ) → ((k : ℕ) → 0 ≤ k → k < length bs → nat_lt 127 (slice_index bs k) ≡ true → ⊥)
     → IsAscii bs
-IsAscii-all bs h = subst (λ (l : List ℕ). IsAscii l) (take_all (length bs) bs (omega arith))
-    (IsAscii-before bs (length bs) h)
+IsAscii-all bs h = rw (take_all (length bs) bs (omega arith)) at (IsAscii-before bs (length bs) h)

@@ -1,21 +1,20 @@
 -- The charset of a label, found in a table, and the size of a character.
 use Rattle.header_text.proofs.CutLemmas.{split_while-cut, split_while-free}
-use Rattle.header_text.proofs.Words.{◌≡◌, ◌∙◌, Option, Some, None, Bor, sym, option_map, unwrap_or, plain_label, cut_at, ◌<◌, ℕ, zero, suc, true, nat_lt, List, [], ◌∷◌, get_or, ap, arith, list_all, and_parts, ltb-true, charset_named, charset_of, is_named, Bool, refl, length, drop, add-one, if◌then◌else◌, ◌+◌, Charset, Utf8, Latin1, Latin9, Windows1252, Unknown}
+use Rattle.header_text.proofs.Words.{◌≡◌, ◌∙◌, Option, Some, None, Bor, sym, option_map, unwrap_or, plain_label, cut_at, ◌<◌, ℕ, zero, suc, true, nat_lt, List, [], ◌∷◌, get_or, arith, list_all, and_parts, ltb-true, charset_named, charset_of, is_named, Bool, refl, length, drop, add-one, if◌then◌else◌, ◌+◌, Charset, Unknown}
 use Rattle.std.specs.Prelude.{slice_index_or}
-use Rattle.std.specs.List.{list_any}
 
 -- the label before its first `*`, or the whole label if it has none
 before_star : (label e : Bor (List ℕ)) (o : Option (Bor (List ℕ) × Bor (List ℕ)))
     → option_map (λ p. (p.0.now, p.1.now)) o ≡ cut_at 0x2A label.now → (unwrap_or o (label, e)).0.now
     ≡ plain_label label.now
 before_star label e None h = sym (split_while-free 0x2A label.now (sym h))
-before_star label e (Some (front, rest)) h = sym (split_while-cut 0x2A label.now front.now rest.now (sym h))
+before_star label e (Some (front, rest)) h = grind (arith, split_while-cut)
 
 pub charset_of-named : (label e : Bor (List ℕ)) (o : Option (Bor (List ℕ) × Bor (List ℕ)))
     → option_map (λ p. (p.0.now, p.1.now)) o ≡ cut_at 0x2A label.now → (name : List ℕ) → name
     ≡ (unwrap_or o (label, e)).0.now → charset_named name ≡ charset_of label.now
 unfolding charset_of
-charset_of-named label e o h name n = ap charset_named (n ∙ before_star label e o h)
+charset_of-named label e o h name n = cc (n, before_star label e o h)
 
 -- the charset of a label in a table, by the first label that fits
 abbrev pub labelled : List (Bor (List ℕ) × Charset) → List ℕ → Charset
@@ -31,17 +30,8 @@ labelled-at (x ∷ xs) zero d name fits h e = rw e refl
 labelled-at (x ∷ xs) (suc i) d name fits h e =
     rw (add-one (suc i)) (labelled-at xs i d name fits (omega arith) e ∙ rw (add-one i) refl)
 
-pub labels-apart : (a b c d e f g h i j k l : Bool)
-    → (if list_any (λ (x : Bool). x) (a ∷ b ∷ c ∷ d ∷ e ∷ []) then Utf8
-    else if list_any (λ (x : Bool). x) (f ∷ g ∷ h ∷ []) then Latin1 else if list_any (λ (x : Bool). x) (i ∷ j ∷ [])
-    then Latin9 else if list_any (λ (x : Bool). x) (k ∷ l ∷ []) then Windows1252 else Unknown)
-    ≡ (if a then Utf8 else if b then Utf8 else if c then Utf8 else if d then Utf8 else if e then Utf8 else if f
-    then Latin1 else if g then Latin1 else if h then Latin1 else if i then Latin9 else if j then Latin9 else if k
-    then Windows1252 else if l then Windows1252 else Unknown)
-labels-apart a b c d e f g h i j k l = grind arith
-
 -- the characters of a table have at most three bytes each
 pub small-at : (xs : List ℕ) → list_all (λ x. nat_lt x 65536) xs ≡ true → (i : ℕ) → get_or xs i 0 < 65536
 small-at [] h i = omega arith
-small-at (x ∷ xs) h zero = ltb-true x 65536 (and_parts (nat_lt x 65536) (list_all (λ x. nat_lt x 65536) xs) h).0
-small-at (x ∷ xs) h (suc i) = small-at xs (and_parts (nat_lt x 65536) (list_all (λ x. nat_lt x 65536) xs) h).1 i
+small-at (x ∷ xs) h zero = grind (arith, ltb-true, and_parts, nat_lt)
+small-at (x ∷ xs) h (suc i) = grind (arith, and_parts, nat_lt, small-at xs)

@@ -1,5 +1,5 @@
 -- Decoding escapes part by part gives the whole text decoded.
-use Rattle.header_text.proofs.Words.{◌≡◌, ◌∙◌, ◌==◌, ◌≤◌, ◌++◌, ℕ, false, List, [], ◌∷◌, Option, Some, None, length, refl, sym, ap, arith, append_assoc, append-nil, if◌then◌else◌, escaped_byte, unescaped_by, unescaped_bytes, q_bytes, after_equals}
+use Rattle.header_text.proofs.Words.{◌≡◌, ◌∙◌, ◌==◌, ◌≤◌, ◌++◌, ℕ, false, List, [], ◌∷◌, Option, Some, None, length, refl, ap, arith, append_assoc, append-nil, if◌then◌else◌, escaped_byte, unescaped_by, unescaped_bytes, q_bytes, after_equals}
 use Rattle.header_text.proofs.CutLemmas.{Lacks, IsCut}
 
 module _ (other : ℕ → ℕ) where
@@ -43,15 +43,14 @@ length-unescaped bytes = u-size (λ b. b) bytes
 
 pub length-q_bytes : (bytes : List ℕ) → length (q_bytes bytes) ≤ length bytes
 unfolding q_bytes
-length-q_bytes bytes = u-size (λ b. if b == 0x5F then 0x20 else b) bytes
+length-q_bytes bytes = grind (arith, u-size)
 
 -- bytes without `=` stay
 pub unescaped-plain : (plain bytes : List ℕ) → Lacks 0x3D plain → unescaped_bytes (plain ++ bytes)
     ≡ plain ++ unescaped_bytes bytes
 unfolding unescaped_bytes
 unescaped-plain [] bytes free = refl
-unescaped-plain (a ∷ plain) bytes free = u-plain (λ b. b) a (plain ++ bytes) free.0
-    ∙ ap (λ (l : List ℕ). a ∷ l) (unescaped-plain plain bytes free.1)
+unescaped-plain (a ∷ plain) bytes free = grind (arith, u-plain, unescaped-plain plain bytes free.1)
 
 pub unescaped-nil : unescaped_bytes [] ≡ []
 unfolding unescaped_bytes
@@ -102,11 +101,9 @@ pub unescaped-step : (rest plain after later : List ℕ) (byte : ℕ) → IsCut 
 unescaped-step rest plain after later byte cut e f = grind (arith, unescaped-plain, unescaped-equals)
 
 pub unescaped-rest : (rest : List ℕ) → Lacks 0x3D rest → unescaped_bytes rest ≡ rest
-unescaped-rest rest free = ap unescaped_bytes (sym (append-nil rest)) ∙ unescaped-plain rest [] free
-    ∙ ap (λ (l : List ℕ). rest ++ l) unescaped-nil ∙ append-nil rest
+unescaped-rest rest free = cc (append-nil rest, unescaped-plain rest [] free, unescaped-nil)
 
 -- after what was written come a part, a byte and the rest
 pub written : (items plain later : List ℕ) (byte : ℕ) → ((items ++ plain) ++ byte ∷ []) ++ later
     ≡ items ++ (plain ++ byte ∷ later)
-written items plain later byte = append_assoc (items ++ plain) (byte ∷ []) later
-    ∙ append_assoc items plain (byte ∷ later)
+written items plain later byte = grind (arith, append_assoc)

@@ -1,8 +1,8 @@
 -- The decoder reads whole groups of base64 as the definition does.
-use Rattle.header_text.proofs.Words.{◌≡◌, ◌∙◌, ◌==◌, ◌&&◌, ◌<◌, ◌≤◌, ◌+◌, ◌-◌, ◌*◌, ◌/◌, ◌%◌, ◌++◌, ℕ, zero, suc, Bool, true, false, ◌⊎◌, inl, inr, nat_lt, List, [], ◌∷◌, Option, Some, None, length, slice_index, slice_set, take, drop, map, refl, sym, ap, subst, arith, length-append, append_assoc, append-nil, if◌then◌else◌, not, Ok, Result, OnOk, is_none, filter_map, and_parts, eqb-true, ne_eqb, not-true, cases_lt, cases_eq, filter_map-append, drop_more, drop_all, map-append, length-map, length-take-le, take-append-drop, take_at, take_all, take_more_set, length-set, get_or-set_same, get_or-set_other, get_or-take, nat_tests, sextet, bytes_of_sextets, bytes_of_symbols, is_symbol}
+use Rattle.header_text.proofs.Words.{◌≡◌, ◌∙◌, ◌==◌, ◌&&◌, ◌<◌, ◌≤◌, ◌+◌, ◌-◌, ◌*◌, ◌/◌, ◌%◌, ◌++◌, ℕ, zero, suc, Bool, true, false, ◌⊎◌, nat_lt, List, [], ◌∷◌, Option, Some, None, length, slice_index, slice_set, take, drop, map, refl, sym, ap, arith, length-append, append_assoc, append-nil, if◌then◌else◌, not, Ok, Result, OnOk, is_none, filter_map, and_parts, eqb-true, ne_eqb, not-true, cases_lt, cases_eq, filter_map-append, drop_more, drop_all, map-append, length-map, length-take-le, take-append-drop, take_at, take_all, take_more_set, length-set, get_or-set_same, get_or-set_other, get_or-take, nat_tests, sextet, bytes_of_sextets, bytes_of_symbols, is_symbol}
 use Rattle.base64.specs.Engines.{standard}
 use Rattle.base64.specs.GeneralPurpose.{decode_slice_of, decoded_bytes_of}
-use Rattle.base64.specs.Decode.{IsWrittenOver, push_leftover, no_leftover, scan, scan_last, suffix_error, suffix_bytes, decode_group, groups_error, groups_bytes, group_error, group_bytes, groups_before_last, symbol_error}
+use Rattle.base64.specs.Decode.{IsWrittenOver, push_leftover, no_leftover, scan_last, suffix_error, suffix_bytes, decode_group, groups_error, groups_bytes, group_error, group_bytes, groups_before_last, symbol_error}
 use Rattle.base64.specs.declared.decode.DecodeSliceError.{DecodeSliceError}
 use Rattle.base64.specs.declared.engine.DecodePaddingMode.TheVariants.{RequireCanonical}
 use Rattle.base64.proofs.Decoding.{length-groups_bytes, scan-cons_ok, scan-nil, suffix_error_of, suffix_bytes_of}
@@ -29,12 +29,10 @@ unfolding sextet is_value
 all = refl
 
 if_parts : (s p q : Bool) → s ≡ true → (if s then p else q) ≡ true → p ≡ true
-if_parts true p q e h = h
-if_parts false p q e h = absurd (cc)
+if_parts s p q h h2 = grind arith
 
 if_not_parts : (s p q : Bool) → s ≡ false → (if s then p else q) ≡ true → q ≡ true
-if_not_parts true p q e h = absurd (cc)
-if_not_parts false p q e h = h
+if_not_parts s p q h h2 = grind arith
 
 pub record IsSymbol (b : ℕ) : Type 0 where
   pub padding : (b == 61) ≡ false
@@ -43,21 +41,13 @@ pub record IsSymbol (b : ℕ) : Type 0 where
 
 from_value : (o : Option ℕ) (n : ℕ) → is_value o n ≡ true → o ≡ Some n
 unfolding is_value
-from_value None n h = absurd (cc)
-from_value (Some m) n h = ap (λ (k : ℕ). Some k) (eqb-true m n h)
+from_value o n h = grind (arith, eqb-true)
 
 pub symbol : (b : ℕ) → b < 256 → is_symbol b ≡ true → IsSymbol b
 symbol b lt is =
     let parts = if_parts (is_symbol b) (not (b == 61) && (not (value b == 255) && is_value (sextet b) (value b)))
     (is_none (sextet b)) is (all_below_at test 256 b all lt) in
-    let outer = and_parts (not (b == 61)) (not (value b == 255) && is_value (sextet b) (value b)) parts in
-    let inner = and_parts (not (value b == 255)) (is_value (sextet b) (value b)) outer.1 in
-    record {
-      padding = not-true (b == 61) outer.0;
-      valued = not-true (value b == 255) inner.0;
-      sextet_is =
-          from_value (sextet b) (value b) inner.1;
-    }
+    grind (arith, and_parts, is_value, not-true, from_value)
 
 pub sextet-other : (b : ℕ) → b < 256 → is_symbol b ≡ false → sextet b ≡ None
 sextet-other b lt no_symbol = none (sextet b)
@@ -98,7 +88,7 @@ pub sextets-symbols : (s : List ℕ) → AreSymbols s → AreBytes s → filter_
 sextets-symbols [] h b = refl
 sextets-symbols (x ∷ s) h b =
     let is = (symbol x (b 0) (h 0 (omega arith))).sextet_is in
-    rw is (ap (λ (l : List ℕ). value x ∷ l) (sextets-symbols s (λ k lt. h (suc k) (omega arith)) (λ k. b (suc k))))
+    rw is (cc (sextets-symbols s (λ k lt. h (suc k) (omega arith)) (λ k. b (suc k))))
 
 module _ (s : List ℕ) (h : AreSymbols s) (bytes : AreBytes s) where
   at : (i : ℕ) → i < length s → IsSymbol (slice_index s i)
@@ -113,7 +103,7 @@ module _ (s : List ℕ) (h : AreSymbols s) (bytes : AreBytes s) where
   groups_error-none : (j : ℕ) → 4 * j ≤ length s → groups_error dec s j ≡ None
   unfolding groups_error
   groups_error-none zero le = refl
-  groups_error-none (suc j) le = rw (groups_error-none j (omega arith), group_error-none (4 * j) (omega arith)) refl
+  groups_error-none (suc j) le = grind (arith, group_error-none, groups_error-none j)
 
   four : (i : ℕ) → i + 3 < length s → drop i s
       ≡ slice_index s i ∷ slice_index s (i + 1) ∷ slice_index s (i + 2) ∷ slice_index s (i + 3) ∷ drop (i + 4) s
@@ -130,9 +120,8 @@ module _ (s : List ℕ) (h : AreSymbols s) (bytes : AreBytes s) where
       let front : length (take i s) ≡ i = length-take-le i s (omega arith) in
       let size : length (take i s ++ group) ≡ 4 * suc j = omega (arith, length-append (take i s) group, front) in
       let split : s ≡ (take i s ++ group) ++ drop (i + 4) s =
-      sym (take-append-drop i s) ∙ ap (λ (l : List ℕ). take i s ++ l) (four i (omega arith))
-      ∙ sym (append_assoc (take i s) group (drop (i + 4) s)) in
-      ap (λ (l : List ℕ). take (4 * suc j) l) split ∙ take_at (take i s ++ group) (drop (i + 4) s) (4 * suc j) size
+      cc (take-append-drop i s, four i (omega arith), append_assoc (take i s) group (drop (i + 4) s)) in
+      grind (arith, take_at)
 
   -- the bytes of the groups, one after another
   groups_bytes-sextets : (j : ℕ) → 4 * j ≤ length s → groups_bytes dec s j
@@ -145,15 +134,16 @@ module _ (s : List ℕ) (h : AreSymbols s) (bytes : AreBytes s) where
       in
       let sum : 4 * suc j ≡ i + 4 = omega arith in
       let taken : take (4 * suc j) s ≡ take i s ++ group = taken_group j le in
-      let size : length (map value (take i s)) ≡ 4 * j = length-map (take i s) value ∙ length-take-le i s (omega arith)
+      let size : length (map value (take i s)) ≡ 4 * j = grind (arith, length-map, length-take-le)
       in
-      ap (λ (l : List ℕ). l ++ group_bytes dec s i) (groups_bytes-sextets j (omega arith))
-      ∙ ap (λ (l : List ℕ). bytes_of_sextets (map value (take i s)) ++ l)
-      (sym (one_group (value (slice_index s i)) (value (slice_index s (i + 1))) (value (slice_index s (i + 2)))
-      (value (slice_index s (i + 3)))))
-      ∙ sym (bytes_of_sextets-append j (map value (take i s)) (map value group) size)
-      ∙ ap bytes_of_sextets (sym (map-append value (take i s) group))
-      ∙ ap (λ (l : List ℕ). bytes_of_sextets (map value l)) (sym taken)
+      cc (
+        groups_bytes-sextets j (omega arith),
+        one_group (value (slice_index s i)) (value (slice_index s (i + 1))) (value (slice_index s (i + 2)))
+            (value (slice_index s (i + 3))),
+        bytes_of_sextets-append j (map value (take i s)) (map value group) size,
+        map-append value (take i s) group,
+        taken,
+      )
 
   -- the last group
   last_group : (i : ℕ) → i + 4 ≡ length s → (suffix_error dec 61 false RequireCanonical i s ≡ None)
@@ -195,19 +185,17 @@ module _ (s : List ℕ) (h : AreSymbols s) (bytes : AreBytes s) where
       let push2 : push_leftover dec 61 i st1 1 b ≡ Ok st2 = rw (fb.padding, fb.valued) refl in
       let push3 : push_leftover dec 61 i st2 2 c ≡ Ok st3 = rw (fc.padding, fc.valued) refl in
       let push4 : push_leftover dec 61 i st3 3 d ≡ Ok st4 = rw (fd.padding, fd.valued) refl in
-      let rest : drop i s ≡ a ∷ b ∷ c ∷ d ∷ [] = four i (omega arith)
-      ∙ ap (λ (l : List ℕ). a ∷ b ∷ c ∷ d ∷ l) (drop_all (i + 4) s (omega arith)) in
+      let rest : drop i s ≡ a ∷ b ∷ c ∷ d ∷ [] = grind (arith, four, drop_all) in
       let scanned : scan_last dec 61 i s ≡ Ok st4 =
-      ap (λ (l : List ℕ). scan dec 61 i no_leftover 0 l) rest
-      ∙ scan-cons_ok dec 61 i no_leftover 0 a (b ∷ c ∷ d ∷ []) st1 push1
-      ∙ scan-cons_ok dec 61 i st1 1 b (c ∷ d ∷ []) st2 push2
-      ∙ scan-cons_ok dec 61 i st2 2 c (d ∷ []) st3 push3
-      ∙ scan-cons_ok dec 61 i st3 3 d [] st4 push4
-      ∙ scan-nil dec 61 i st4 4 in
-      let some : (length s == 0) ≡ false = ne_eqb (length s) 0 (λ z. absurd (omega arith)) in (
-        suffix_error_of dec s 61 i false RequireCanonical st4 scanned ∙ rw some refl,
-        suffix_bytes_of dec s 61 i st4 scanned,
-      )
+      cc (
+        rest,
+        scan-cons_ok dec 61 i no_leftover 0 a (b ∷ c ∷ d ∷ []) st1 push1,
+        scan-cons_ok dec 61 i st1 1 b (c ∷ d ∷ []) st2 push2,
+        scan-cons_ok dec 61 i st2 2 c (d ∷ []) st3 push3,
+        scan-cons_ok dec 61 i st3 3 d [] st4 push4,
+        scan-nil dec 61 i st4 4,
+      ) in
+      grind (arith, ne_eqb, suffix_error_of, suffix_bytes_of)
 
   groups_bytes-suc : (j : ℕ) → groups_bytes dec s (suc j) ≡ groups_bytes dec s j ++ group_bytes dec s (4 * j)
   unfolding groups_bytes
@@ -221,7 +209,7 @@ module _ (s : List ℕ) (h : AreSymbols s) (bytes : AreBytes s) where
   decoded_is m e =
       let last : groups_before_last (length s) ≡ m = omega arith in
       let ends = last_group (4 * m) (omega arith) in
-      rw last (ap (λ (l : List ℕ). groups_bytes dec s m ++ l) ends.1) ∙ sym (groups_bytes-suc m)
+      rw last (cc ends.1) ∙ sym (groups_bytes-suc m)
       ∙ groups_bytes-sextets (suc m) (omega arith)
       ∙ ap (λ (l : List ℕ). bytes_of_sextets (map value l)) (take_all (4 * suc m) s (omega arith))
       ∙ ap bytes_of_sextets (sym (sextets-symbols s h bytes))
@@ -230,18 +218,17 @@ module _ (s : List ℕ) (h : AreSymbols s) (bytes : AreBytes s) where
   length-decoded m e =
       let last : groups_before_last (length s) ≡ m = omega arith in
       let ends = last_group (4 * m) (omega arith) in
-      rw last (ap length (ap (λ (l : List ℕ). groups_bytes dec s m ++ l) ends.1 ∙ sym (groups_bytes-suc m))
-      ∙ length-groups_bytes dec s (suc m))
+      rw last (cc (ends.1, groups_bytes-suc m, length-groups_bytes dec s (suc m)))
 
   pub decode_slice_is : (m : ℕ) → length s ≡ 4 * suc m → decode_slice_of standard s (3 * suc m) ≡ Ok (3 * suc m)
   decode_slice_is m e =
       let last : groups_before_last (length s) ≡ m = omega arith in
       let ends = last_group (4 * m) (omega arith) in
-      let lone : (length s % 4 == 1) ≡ false = ne_eqb (length s % 4) 1 (λ one. absurd (omega arith)) in
+      let lone : (length s % 4 == 1) ≡ false = grind (arith, ne_eqb) in
       let room : nat_lt (3 * suc m / 3) m ≡ false = grind (arith, nat_tests) in
       let fits : nat_lt (3 * suc m) (3 * suc m) ≡ false = grind (arith, nat_tests) in
       let len : length (decoded_bytes_of standard s) ≡ 3 * suc m = length-decoded m e in
-      rw (len, lone, last, room, groups_error-none m (omega arith), ends.0, fits) refl
+      grind (arith, groups_error-none)
 
 -- what the decoder wrote into a slice of the right length
 pub decoded-into : (s back new : List ℕ) (r : Result ℕ DecodeSliceError) → AreSymbols s → AreBytes s → 0 < length s
@@ -252,15 +239,13 @@ decoded-into s back new r h bytes some whole room e written =
     let m : ℕ = length s / 4 - 1 in
     let size : length s ≡ 4 * suc m = omega arith in
     let three : length back ≡ 3 * suc m = omega arith in
-    let ok : r ≡ Ok (3 * suc m) = e ∙ ap (λ (n : ℕ). decode_slice_of standard s n) three
-    ∙ decode_slice_is s h bytes m size in
+    let ok : r ≡ Ok (3 * suc m) = grind (arith, decode_slice_is) in
     let over : new ≡ decoded_bytes_of standard s ++ drop (length (decoded_bytes_of standard s)) back =
-    subst (λ (q : Result ℕ DecodeSliceError). OnOk q (IsWrittenOver (decoded_bytes_of standard s) back new)) ok written
+    grind arith
     in
     let none : drop (length (decoded_bytes_of standard s)) back ≡ [] =
-    drop_all (length (decoded_bytes_of standard s)) back (omega (arith, length-decoded s h bytes m size)) in
-    over ∙ ap (λ (l : List ℕ). decoded_bytes_of standard s ++ l) none ∙ append-nil (decoded_bytes_of standard s)
-    ∙ decoded_is s h bytes m size
+    grind (arith, drop_all, length-decoded) in
+    cc (none, append-nil (decoded_bytes_of standard s), decoded_is s h bytes m size)
 
 -- ---- symbols of any text
 
@@ -277,10 +262,13 @@ pub bytes_of_symbols-groups : (s later : List ℕ) → AreSymbols s → length s
     ≡ bytes_of_symbols s ++ bytes_of_symbols later
 bytes_of_symbols-groups s later h whole =
     let values : filter_map sextet s ≡ map value s = sextets-symbols s h (AreBytes-symbols s h) in
-    let size : length (filter_map sextet s) ≡ 4 * (length s / 4) = ap length values ∙ length-map s value ∙ omega arith
+    let size : length (filter_map sextet s) ≡ 4 * (length s / 4) = grind (arith, length-map)
     in
-    ap bytes_of_sextets (filter_map-append sextet s later)
-    ∙ bytes_of_sextets-append (length s / 4) (filter_map sextet s) (filter_map sextet later) size
+    cc (
+      filter_map-append sextet s later,
+      bytes_of_sextets-append (length s / 4) (filter_map sextet s)
+          (filter_map sextet later) size,
+    )
 
 -- a byte outside the alphabet is skipped
 pub bytes_of_symbols-other : (front later : List ℕ) (b : ℕ) → sextet b ≡ None → bytes_of_symbols (front ++ b ∷ later)
@@ -294,18 +282,11 @@ module _ (symbols : List ℕ) (count symbol : ℕ) (size : length symbols ≡ 4)
   pub hold-symbols : AreSymbols (slice_set symbols count symbol)
   hold-symbols k lt =
       let inside : count < length symbols = omega arith in
-      let same_size : length (slice_set symbols count symbol) ≡ length symbols = length-set symbols count symbol in
-      each inside (omega arith) (cases_eq k count)
+      grind (arith, symbol, length-set, each, cases_eq)
     where
       each : count < length symbols → k < 4 → (k ≡ count) ⊎ (k ≡ count → ⊥)
           → is_symbol (slice_index (slice_set symbols count symbol) k) ≡ true
-      each inside four (inl same) = rw (same, get_or-set_same symbols count symbol 0 inside) is
-      each inside four (inr other) = rw (get_or-set_other symbols count k symbol 0 other)
-          (held k (less (cases_lt k count)))
-        where
-          less : (k < count) ⊎ (count ≤ k) → k < count
-          less (inl lt) = lt
-          less (inr ge) = absurd (other (omega arith))
+      each h h2 h3 = grind (arith, get_or-set_same, symbol, get_or-set_other, cases_lt)
 
   pub hold-bytes : (later old new : List ℕ) → new ≡ old ++ bytes_of_symbols (slice_set symbols count symbol)
       → new ++ bytes_of_symbols later ≡ old ++ bytes_of_symbols (take count symbols ++ symbol ∷ later)
@@ -316,11 +297,12 @@ module _ (symbols : List ℕ) (count symbol : ℕ) (size : length symbols ≡ 4)
       let front : take count symbols ++ symbol ∷ [] ≡ group = sym (take_more_set symbols count symbol inside)
       ∙ take_all (count + 1) group (omega arith) in
       let whole : length group % 4 ≡ 0 = rw full refl in
-      ap (λ (l : List ℕ). l ++ bytes_of_symbols later) e
-      ∙ append_assoc old (bytes_of_symbols group) (bytes_of_symbols later)
-      ∙ ap (λ (l : List ℕ). old ++ l) (sym (bytes_of_symbols-groups group later hold-symbols whole)
-      ∙ ap (λ (l : List ℕ). bytes_of_symbols (l ++ later)) (sym front)
-      ∙ ap bytes_of_symbols (append_assoc (take count symbols) (symbol ∷ []) later))
+      cc (
+        append_assoc old (bytes_of_symbols group) (bytes_of_symbols later),
+        bytes_of_symbols-groups group later hold-symbols whole,
+        front,
+        append_assoc (take count symbols) (symbol ∷ []) later,
+      )
 
 -- ---- the groups of a text, if no symbol is held
 
@@ -332,14 +314,9 @@ pub text-groups : (symbols : List ℕ) (count : ℕ) (rest : List ℕ) (n : ℕ)
 text-groups symbols count rest n none fits whole are later old new e after f =
     let run : List ℕ = take n rest in
     let size : length run ≡ n = length-take-le n rest fits in
-    let symbols : AreSymbols run = λ k lt. let inside : k < n = omega (arith, lt, size)
-    in rw (get_or-take n rest k 0 inside) (are k inside) in
-    let split : run ++ (after ++ later) ≡ rest ++ later = sym (append_assoc run after later)
-    ∙ ap (λ (l : List ℕ). l ++ later) (ap (λ (l : List ℕ). run ++ l) f ∙ take-append-drop n rest) in
-    rw none (ap (λ (l : List ℕ). l ++ bytes_of_symbols (after ++ later)) e
-    ∙ append_assoc old (bytes_of_symbols run) (bytes_of_symbols (after ++ later))
-    ∙ ap (λ (l : List ℕ). old ++ l) (sym (bytes_of_symbols-groups run (after ++ later) symbols (rw size whole))
-    ∙ ap bytes_of_symbols split))
+    let symbols : AreSymbols run = grind (arith, get_or-take) in
+    let split : run ++ (after ++ later) ≡ rest ++ later = cc (append_assoc run after later, take-append-drop n rest) in
+    grind (arith, append_assoc, bytes_of_symbols-groups)
 
 -- a byte that is skipped
 pub text-other : (front rest others : List ℕ) (b : ℕ) → rest ≡ b ∷ others → sextet b ≡ None → (later : List ℕ)

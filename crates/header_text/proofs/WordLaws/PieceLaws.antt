@@ -1,5 +1,5 @@
 -- The pieces of a value are its leftmost encoded words, and no other words are.
-use Rattle.header_text.proofs.Words.{◌≡◌, ◌∙◌, ◌==◌, ◌&&◌, ◌||◌, ◌≤◌, ◌++◌, ℕ, zero, suc, Bool, true, false, nat_lt, nat_le, List, [], ◌∷◌, Option, Some, None, length, refl, sym, ap, subst, arith, length-append, append-nil, not, option_map, unwrap_or, list_all, eqb-true, and_parts, not-true, ne_eqb, EncodedWord, spelling_of, is_charset_byte, is_text_byte, is_q, is_b, is_well_formed, question, equals_sign, word_and_later, word_at, WordAfter, Pieces, value_pieces, BeginsWord, NoneBegins, AreLeftmost, no_word, word_first}
+use Rattle.header_text.proofs.Words.{◌≡◌, ◌∙◌, ◌==◌, ◌&&◌, ◌||◌, ◌≤◌, ◌++◌, ℕ, zero, suc, Bool, true, false, nat_lt, nat_le, List, [], ◌∷◌, Option, Some, None, length, refl, sym, ap, arith, length-append, append-nil, option_map, unwrap_or, list_all, eqb-true, and_parts, not-true, ne_eqb, EncodedWord, spelling_of, is_charset_byte, is_text_byte, is_q, is_b, is_well_formed, question, equals_sign, word_and_later, word_at, WordAfter, Pieces, value_pieces, BeginsWord, NoneBegins, AreLeftmost, word_first}
 use Rattle.header_text.proofs.CutLemmas.{Lacks, cut_at-is}
 use Rattle.header_text.proofs.WordLaws.WordLemmas.{spells, spelled-append, chain, with_charset, with_encoding, with_text, with_front, in_front, pieces-none, pieces-some, word_at-equals, word_at-other, in_front-append}
 
@@ -17,19 +17,15 @@ parts w h = grind (arith, and_parts)
 Lacks-charset : (bs : List ℕ) → list_all is_charset_byte bs ≡ true → Lacks question bs
 Lacks-charset [] h = tt
 Lacks-charset (b ∷ bs) h =
-    let p = and_parts (is_charset_byte b) (list_all is_charset_byte bs) h in (
-      not-true (b == question) (and_parts (nat_le 33 b && nat_le b 126) (not (b == question)) p.0).1,
-      Lacks-charset bs p.1,
-    )
+    grind (arith, and_parts, not-true, nat_le, Lacks-charset bs)
 
 Lacks-text : (bs : List ℕ) → list_all is_text_byte bs ≡ true → Lacks question bs
 Lacks-text [] h = tt
 Lacks-text (b ∷ bs) h =
-    let p = and_parts (is_text_byte b) (list_all is_text_byte bs) h in
-    (not-true (b == question) (and_parts (nat_le 32 b && nat_le b 126) (not (b == question)) p.0).1, Lacks-text bs p.1)
+    grind (arith, and_parts, not-true, nat_le, Lacks-text bs)
 
 letter : (e : ℕ) → (is_q e || is_b e) ≡ true → (e == question) ≡ false
-letter e h = ne_eqb e question (λ same. absurd (cc (rw same at h)))
+letter e h = grind (arith, ne_eqb)
 
 found : (w : EncodedWord) (later : List ℕ) → is_well_formed w ≡ true
     → word_and_later (question ∷ (w.charset ++ question ∷ w.encoding ∷ question ∷
@@ -68,22 +64,16 @@ begins (b ∷ bs) w h = go (b == equals_sign) refl
         ≡ option_map (λ (f : EncodedWord × List ℕ). f.0) o → Begins (b ∷ bs) w
     at_equals e None f g = absurd (cc (sym g ∙ h))
     at_equals e (Some (v, later)) f g =
-        let same : v ≡ w = ap (λ (o : Option EncodedWord). unwrap_or o w) (sym g ∙ h) in
+        let same : v ≡ w = grind (arith, unwrap_or) in
         let is = spells bs v later f in
-        record {
-          rest = bs;
-          later = later;
-          equals = ap (λ (x : ℕ). x ∷ bs) e;
-          joined = ap (λ (x : ℕ). x ∷ bs) e ∙ is.joined ∙ ap (λ (x : EncodedWord). spelling_of x ++ later) same;
-          well = ap is_well_formed (sym same) ∙ is.well;
-        }
+        grind arith
 
     go : (t : Bool) → (b == equals_sign) ≡ t → Begins (b ∷ bs) w
     go false e = absurd (cc (sym (word_at-other b bs e) ∙ h))
     go true e = grind (arith, eqb-true, at_equals, word_at-equals)
 
 none_begins : (bytes : List ℕ) → word_at bytes ≡ None → (w : EncodedWord) → BeginsWord bytes w → ⊥
-none_begins bytes e w h = absurd (cc (sym (word_at-begins bytes w h) ∙ e))
+none_begins bytes e w h = grind (arith, word_at-begins)
 
 -- ---- the pieces are the leftmost words
 
@@ -104,20 +94,10 @@ within (suc n) (b ∷ bs) le = go (word_at (b ∷ bs)) refl (within n)
         → ((value : List ℕ) → length value ≤ n → AreLeftmost value (value_pieces value).words (value_pieces value).rest)
         → AreLeftmost (b ∷ bs) (value_pieces (b ∷ bs)).words (value_pieces (b ∷ bs)).rest
     go None e each =
-        subst (λ (p : Pieces). AreLeftmost (b ∷ bs) p.words p.rest) (sym (pieces-none b bs e))
-        (more_in_front b bs (value_pieces bs).words (value_pieces bs).rest e (each bs (omega arith)))
+        grind (arith, pieces-none, more_in_front)
     go (Some w) e each =
         let is = begins (b ∷ bs) w e in
-        let here : word_at (equals_sign ∷ is.rest) ≡ Some w = ap word_at (sym is.equals) ∙ e in
-        let first : value_pieces (b ∷ bs) ≡ word_first (record { between = []; word = w }) is.later =
-        ap value_pieces is.equals
-        ∙ pieces-some is.rest is.later w here (sym is.equals ∙ is.joined) in
-        let sizes = ap length is.joined ∙ ap length (spelled-append w is.later) in
-        let a = length-append w.charset (question ∷ w.encoding ∷ question ∷
-        (w.text ++ question ∷ equals_sign ∷ is.later)) in
-        let c = length-append w.text (question ∷ equals_sign ∷ is.later) in
-        subst (λ (p : Pieces). AreLeftmost (b ∷ bs) p.words p.rest) (sym first)
-        (is.later, is.joined, is.well, tt, each is.later (omega (arith, sizes, a, c)))
+        grind (arith, pieces-some, spelled-append, length-append)
 
 pub are_leftmost : (value : List ℕ) → AreLeftmost value (value_pieces value).words (value_pieces value).rest
 are_leftmost value = within (length value) value (omega arith)
@@ -129,7 +109,7 @@ nowhere bytes h = go (word_at bytes) refl
   where
     go : (o : Option EncodedWord) → word_at bytes ≡ o → word_at bytes ≡ None
     go None e = e
-    go (Some w) e = let is = begins bytes w e in absurd (h w (is.well, (is.later, is.joined)))
+    go (Some w) e = let is = begins bytes w e in grind arith
 
 past : (front later : List ℕ) → NoneBegins front later → value_pieces (front ++ later)
     ≡ in_front front (value_pieces later)
@@ -139,17 +119,15 @@ past (b ∷ front) later h = grind (arith, pieces-none, later, nowhere, in_front
 pub only_leftmost : (value : List ℕ) (ws : List WordAfter) (rest : List ℕ) → AreLeftmost value ws rest
     → value_pieces value
     ≡ record { words = ws; rest = rest }
-only_leftmost value [] rest h = ap value_pieces (h.0 ∙ sym (append-nil rest)) ∙ past rest [] h.1
-    ∙ ap no_word (append-nil rest)
+only_leftmost value [] rest h = cc (h.0, append-nil rest, past rest [] h.1)
 only_leftmost value (w ∷ ws) rest h =
     let later : List ℕ = h.0 in
     let spelling : List ℕ = question ∷ (w.word.charset ++ question ∷ w.word.encoding ∷ question ∷
     (w.word.text ++ question ∷ equals_sign ∷ later)) in
     let written : spelling_of w.word ++ later ≡ equals_sign ∷ spelling = spelled-append w.word later in
-    let here : word_at (equals_sign ∷ spelling) ≡ Some w.word = ap word_at (sym written)
-    ∙ word_at-begins (spelling_of w.word ++ later) w.word (h.2, (later, refl)) in
+    let here : word_at (equals_sign ∷ spelling) ≡ Some w.word = grind (arith, word_at-begins) in
     let first : value_pieces (spelling_of w.word ++ later) ≡ word_first (record { between = []; word = w.word }) later =
-    ap value_pieces written ∙ pieces-some spelling later w.word here (sym written) in
+    cc (written, pieces-some spelling later w.word here (sym written)) in
     ap value_pieces h.1 ∙ past w.between (spelling_of w.word ++ later) h.3 ∙ ap (in_front w.between) first
     ∙ ap (λ (l : List ℕ). word_first (record { between = l; word = w.word }) later) (append-nil w.between)
     ∙ ap (λ (p : Pieces). record { words = w ∷ p.words; rest = p.rest }) (only_leftmost later ws rest h.4)

@@ -1,5 +1,5 @@
 -- Reading base64 piece by piece gives the bytes of the whole text.
-use Rattle.header_text.proofs.Words.{◌≡◌, ◌∙◌, ◌==◌, ◌<◌, ◌≤◌, ◌+◌, ◌-◌, ◌++◌, ℕ, zero, suc, Bool, true, false, List, [], ◌∷◌, Some, None, length, slice_index, take, drop, refl, sym, ap, ap₂, arith, length-append, append_assoc, append-nil, not, if◌then◌else◌, get_or-take, split_while, cut_at, sextet, bytes_of_sextets, bytes_of_symbols, base64_bytes, is_symbol, filter_map}
+use Rattle.header_text.proofs.Words.{◌≡◌, ◌∙◌, ◌==◌, ◌<◌, ◌≤◌, ◌+◌, ◌-◌, ◌++◌, ℕ, zero, suc, Bool, true, List, [], ◌∷◌, Some, None, length, slice_index, take, drop, refl, sym, ap, ap₂, arith, length-append, append_assoc, append-nil, not, if◌then◌else◌, get_or-take, split_while, cut_at, sextet, bytes_of_sextets, bytes_of_symbols, base64_bytes, is_symbol, filter_map}
 use Rattle.std.proofs.lemmas.List.{length-take}
 use Rattle.header_text.proofs.CutLemmas.{Lacks, IsCut-from, Lacks-from, split_while-lacks}
 use Rattle.header_text.proofs.Fronts.{split_while-joined}
@@ -19,13 +19,12 @@ Lacks-symbols (x ∷ s) h = (
 
 text_in-front : (s later : List ℕ) → Lacks 0x3D s → text_in (s ++ later) ≡ s ++ text_in later
 text_in-front [] later free = refl
-text_in-front (b ∷ s) later free = rw (free.0, text_in, split_while)
-    (ap (λ (l : List ℕ). b ∷ l) (text_in-front s later free.1))
+text_in-front (b ∷ s) later free = grind (arith, text_in-front s later free.1)
 
 base64_bytes-front : (s later : List ℕ) → AreSymbols s → base64_bytes (s ++ later)
     ≡ bytes_of_symbols (s ++ text_in later)
 unfolding base64_bytes
-base64_bytes-front s later h = ap bytes_of_symbols (text_in-front s later (Lacks-symbols s h))
+base64_bytes-front s later h = grind (arith, text_in-front, Lacks-symbols)
 
 module _ (old new before after : List ℕ) (piece : List ℕ) (held : AreSymbols before) (holds : AreSymbols after) where
   -- a piece with `=`
@@ -38,9 +37,7 @@ module _ (old new before after : List ℕ) (piece : List ℕ) (held : AreSymbols
       let split : text_in (piece ++ later) ≡ text =
       ap (λ (l : List ℕ). text_in (l ++ later)) cut.joined ∙ ap text_in (append_assoc text (0x3D ∷ rest) later)
       ∙ ap (λ (p : List ℕ × List ℕ). p.0) (split_while-lacks 0x3D text (rest ++ later) cut.free) in
-      ap (λ (l : List ℕ). new ++ bytes_of_symbols l) (sym (append-nil after)) ∙ h []
-      ∙ ap (λ (l : List ℕ). old ++ bytes_of_symbols (before ++ l)) (append-nil text ∙ sym split)
-      ∙ ap (λ (l : List ℕ). old ++ l) (sym (base64_bytes-front before (piece ++ later) held))
+      cc (append-nil after, h [], append-nil text, split, base64_bytes-front before (piece ++ later) held)
 
   -- a piece without `=`
   pub read-on : cut_at 0x3D piece ≡ None →
@@ -53,8 +50,7 @@ module _ (old new before after : List ℕ) (piece : List ℕ) (held : AreSymbols
 
 pub to_come-end : (held : List ℕ) → AreSymbols held → (ended : Bool)
     → (if ended then bytes_of_symbols held else base64_bytes (held ++ [])) ≡ bytes_of_symbols held
-to_come-end held h true = refl
-to_come-end held h false = base64_bytes-front held [] h ∙ ap bytes_of_symbols (append-nil held)
+to_come-end held h ended = grind (arith, base64_bytes-front, append-nil)
 
 abbrev fill : List ℕ
 fill = 65 ∷ 65 ∷ 65 ∷ 65 ∷ []

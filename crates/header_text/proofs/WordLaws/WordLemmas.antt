@@ -1,5 +1,5 @@
 -- Searching for encoded words one after another gives the pieces of a value.
-use Rattle.header_text.proofs.Words.{◌≡◌, ◌∙◌, ◌==◌, ◌<◌, ◌+◌, ◌-◌, ◌++◌, ℕ, zero, suc, true, false, List, [], ◌∷◌, Option, Some, None, length, take, drop, refl, sym, ap, ap₂, arith, length-append, append_assoc, append-nil, option_map, take_at, cut_at, EncodedWord, spelling_of, is_well_formed, question, equals_sign, after, word_of, ◌>>=◌, word_and_later, word_at, WordAfter, Pieces, onto_front, pieces_after, value_pieces, no_word, word_first}
+use Rattle.header_text.proofs.Words.{◌≡◌, ◌∙◌, ◌==◌, ◌<◌, ◌+◌, ◌-◌, ◌++◌, ℕ, zero, true, false, List, [], ◌∷◌, Option, Some, None, length, take, refl, sym, ap, arith, length-append, append_assoc, append-nil, option_map, take_at, cut_at, EncodedWord, spelling_of, is_well_formed, question, equals_sign, after, word_of, ◌>>=◌, word_and_later, word_at, WordAfter, Pieces, onto_front, pieces_after, value_pieces, no_word, word_first}
 use Rattle.header_text.proofs.CutLemmas.{Lacks, IsCut-from, Lacks-from}
 
 -- ---- the bytes of a word
@@ -70,14 +70,7 @@ joined_parts : (bytes a b0 b1 c0 c1 d0 d1 e later : List ℕ) (w : EncodedWord) 
     ≡ b0 ++ question ∷ b1 → b1 ≡ c0 ++ question ∷ c1 → c1 ≡ d0 ++ question ∷ d1
     → d1 ≡ equals_sign ∷ e → e ≡ later → IsWordOf b0 c0 d0 w → equals_sign ∷ bytes ≡ spelling_of w ++ later
 joined_parts bytes a b0 b1 c0 c1 d0 d1 e later w r0 r1 r2 r3 r4 r5 is =
-    let text : c1 ≡ w.text ++ question ∷ equals_sign ∷ later = r3
-    ∙ ap₂ (λ (x y : List ℕ). x ++ question ∷ y) is.text_is (r4 ∙ ap (λ (l : List ℕ). equals_sign ∷ l) r5) in
-    let encoding : b1 ≡ w.encoding ∷ question ∷ c1 = r2 ∙ ap (λ (l : List ℕ). l ++ question ∷ c1) is.encoding_is in
-    ap (λ (l : List ℕ). equals_sign ∷ l) (r0
-    ∙ ap (λ (l : List ℕ). question ∷ l) (r1
-    ∙ ap₂ (λ (x y : List ℕ). x ++ question ∷ y) is.charset_is
-    (encoding ∙ ap (λ (l : List ℕ). w.encoding ∷ question ∷ l) text)))
-    ∙ sym (spelled-append w later)
+    grind (arith, spelled-append)
 
 pub spells : (bytes : List ℕ) (w : EncodedWord) (later : List ℕ) → word_and_later bytes ≡ Some (w, later)
     → Spells bytes w later
@@ -92,12 +85,12 @@ spells bytes w later h =
     let is = word_of-is b.value.0 c.value.0 d.value.0 w made_is.0 in
     let r0 : bytes ≡ question ∷ a.value = after-one question bytes a.value a.was in
     let r1 : a.value ≡ b.value.0 ++ question ∷ b.value.1 =
-    (IsCut-from question a.value b.value.0 b.value.1 b.was).joined in
+    grind (arith, IsCut-from) in
     let r2 : b.value.1 ≡ c.value.0 ++ question ∷ c.value.1 =
-    (IsCut-from question b.value.1 c.value.0 c.value.1 c.was).joined in
+    grind (arith, IsCut-from) in
     let r3 : c.value.1 ≡ d.value.0 ++ question ∷ d.value.1 =
-    (IsCut-from question c.value.1 d.value.0 d.value.1 d.was).joined in
-    let r4 : d.value.1 ≡ equals_sign ∷ e.value = after-one equals_sign d.value.1 e.value e.was in
+    grind (arith, IsCut-from) in
+    let r4 : d.value.1 ≡ equals_sign ∷ e.value = grind (arith, after-one) in
     record {
       joined = joined_parts bytes a.value b.value.0 b.value.1 c.value.0 c.value.1 d.value.0 d.value.1 e.value
           later w r0 r1 r2 r3 r4 made_is.1 is;
@@ -151,14 +144,7 @@ pub pieces-some : (bytes later : List ℕ) (w : EncodedWord) → word_at (equals
     → value_pieces (equals_sign ∷ bytes) ≡ word_first (record { between = []; word = w }) later
 unfolding judged
 pieces-some bytes later w e joined =
-    let front : List ℕ = question ∷ (w.charset ++ question ∷ w.encoding ∷ question ∷
-    (w.text ++ question ∷ equals_sign ∷ [])) in
-    let rest : bytes ≡ front ++ later = ap (λ (l : List ℕ). drop 1 l) joined in
-    let size : length (spelling_of w) - 1 ≡ length front = omega arith in
-    let skipped : pieces_after (length (spelling_of w) - 1) bytes ≡ value_pieces later =
-    rw (size, rest) (pieces_after-skip front later) in
-    pieces-cons equals_sign bytes ∙ ap (judged equals_sign bytes) e
-    ∙ ap (λ (p : Pieces). record { words = record { between = []; word = w } ∷ p.words; rest = p.rest }) skipped
+    grind (arith, pieces_after-skip, pieces-cons, judged)
 
 -- no word begins at a byte other than `=`
 pub word_at-other : (b : ℕ) (bs : List ℕ) → (b == equals_sign) ≡ false → word_at (b ∷ bs) ≡ None
@@ -190,19 +176,13 @@ pub seen-more : (value rest plain after_sign : List ℕ) → Seen value rest →
     → word_and_later after_sign ≡ None → Seen value after_sign
 seen-more value rest plain after_sign s h e =
     let cut = IsCut-from equals_sign rest plain after_sign (sym h) in
-    let none : word_at (equals_sign ∷ after_sign) ≡ None = word_at-equals after_sign
-    ∙ ap (option_map (λ (found : EncodedWord × List ℕ). found.0)) e in
+    let none : word_at (equals_sign ∷ after_sign) ≡ None = grind (arith, word_at-equals, option_map) in
     let passed : value_pieces rest ≡ in_front (plain ++ equals_sign ∷ []) (value_pieces after_sign) =
-    ap value_pieces cut.joined ∙ pieces-plain plain (equals_sign ∷ after_sign) cut.free
-    ∙ ap (in_front plain) (pieces-none equals_sign after_sign none)
-    ∙ sym (in_front-append plain (equals_sign ∷ []) (value_pieces after_sign)) in
+    grind (arith, pieces-plain, pieces-none, in_front-append) in
     record {
       seen = s.seen ++ (plain ++ equals_sign ∷ []);
-      joined = s.joined ∙ ap (λ (l : List ℕ). s.seen ++ l)
-          (cut.joined ∙ sym (append_assoc plain (equals_sign ∷ []) after_sign))
-          ∙ sym (append_assoc s.seen (plain ++ equals_sign ∷ []) after_sign);
-      found = s.found ∙ ap (in_front s.seen) passed
-          ∙ sym (in_front-append s.seen (plain ++ equals_sign ∷ []) (value_pieces after_sign));
+      joined = grind (arith, append_assoc);
+      found = grind (arith, passed, in_front-append);
     }
 
 -- an `=` at which a word begins
@@ -218,39 +198,26 @@ pub seen-first : (value rest plain after_sign later : List ℕ) (w : EncodedWord
 seen-first value rest plain after_sign later w s h e =
     let cut = IsCut-from equals_sign rest plain after_sign (sym h) in
     let is = spells after_sign w later e in
-    let here : word_at (equals_sign ∷ after_sign) ≡ Some w = word_at-equals after_sign
-    ∙ ap (option_map (λ (found : EncodedWord × List ℕ). found.0)) e in
-    let front : List ℕ = s.seen ++ plain in
-    let split : value ≡ front ++ equals_sign ∷ after_sign = s.joined ∙ ap (λ (l : List ℕ). s.seen ++ l) cut.joined
-    ∙ sym (append_assoc s.seen plain (equals_sign ∷ after_sign)) in
-    let sizes : length value ≡ length front + suc (length after_sign) = ap length split
-    ∙ length-append front (equals_sign ∷ after_sign) in
-    let n : length front ≡ length value - length after_sign - 1 = omega arith in
-    let taken : take (length value - length after_sign - 1) value ≡ front =
-    ap (λ (l : List ℕ). take (length value - length after_sign - 1) l) split
-    ∙ take_at front (equals_sign ∷ after_sign) (length value - length after_sign - 1) n in
-    let first : value_pieces rest ≡ in_front plain (word_first (record { between = []; word = w }) later) =
-    ap value_pieces cut.joined ∙ pieces-plain plain (equals_sign ∷ after_sign) cut.free
-    ∙ ap (in_front plain) (pieces-some after_sign later w here is.joined) in
-    let all : value_pieces value ≡ word_first (record { between = front; word = w }) later =
-    s.found ∙ ap (in_front s.seen) first ∙ ap (λ (l : List ℕ). word_first (record { between = l; word = w }) later)
-    (ap (λ (l : List ℕ). s.seen ++ l) (append-nil plain)) in
-    let written = ap length (is.joined ∙ spelled-append w later) in
-    let a = length-append w.charset (question ∷ w.encoding ∷ question ∷ (w.text ++ question ∷ equals_sign ∷ later)) in
-    let b = length-append w.text (question ∷ equals_sign ∷ later) in
-    record {
-      found = all ∙ ap (λ (l : List ℕ). word_first (record { between = l; word = w }) later) (sym taken);
-      size = rw taken (omega (arith, sizes, written, a, b));
-    }
+    grind (
+      arith,
+      word_at-equals,
+      option_map,
+      append_assoc,
+      length-append,
+      take_at,
+      pieces-plain,
+      pieces-some,
+      append-nil,
+      spelled-append,
+    )
 
 -- no `=` is left
 pub seen-end : (value rest : List ℕ) → Seen value rest → cut_at equals_sign rest ≡ None → value_pieces value
     ≡ no_word value
 seen-end value rest s e =
     let free = Lacks-from equals_sign rest e in
-    let alone : value_pieces rest ≡ no_word rest = ap value_pieces (sym (append-nil rest)) ∙ pieces-plain rest [] free
-    ∙ ap no_word (append-nil rest) in
-    s.found ∙ ap (in_front s.seen) alone ∙ ap no_word (sym s.joined)
+    let alone : value_pieces rest ≡ no_word rest = cc (append-nil rest, pieces-plain rest [] free) in
+    grind (arith, no_word)
 
 -- what is after an `=` is shorter
 pub seen-shorter : (value rest plain after_sign : List ℕ) → Seen value rest → Some (plain, after_sign)

@@ -1,10 +1,7 @@
 -- `decode_text` decodes whole groups at once and other symbols one by one. Each step only adds at the end.
-use Rattle.header_text.proofs.Words.{◌∙◌, ◌++◌, ℕ, List, sym, ap, arith, take_rest, Extends-refl, Extends-trans, symbols_of}
+use Rattle.header_text.proofs.Words.{◌∙◌, ◌++◌, sym, arith, take_rest, Extends-trans, symbols_of}
 use Rattle.header_text.proofs.WordLaws.GroupLemmas.{text-groups, text-other, sextet-other}
 use Rattle.header_text.proofs.base64_reader.decode_text.Goals as goal
-
-pub loop-first-init : goal.loop-first-init
-loop-first-init c = grind (arith, Extends-refl)
 
 pub loop-first-preserved-then-count-gt0 : goal.loop-first-preserved-then-count-gt0
 loop-first-preserved-then-count-gt0 c = record {
@@ -14,10 +11,11 @@ loop-first-preserved-then-count-gt0 c = record {
 
 pub loop-first-preserved : goal.loop-first-preserved
 loop-first-preserved c = record {
-  sofar = λ later. ap (λ (l : List ℕ). c.loop-first.into.items ++ l)
-      (text-other (symbols_of c.loop-first.held) c.loop-first.rest.now c.in-Some.others.now c.in-Some.first.now
-      c.in-Some.ensures.cases.0
-      (sextet-other c.in-Some.first.now (omega arith) (sym c.is_symbol.ensures ∙ c.if-is_symbol.false)) later)
-      ∙ c.loop-first.invariant.sofar later;
+  sofar = λ later. cc (
+    text-other (symbols_of c.loop-first.held) c.loop-first.rest.now c.in-Some.others.now
+        c.in-Some.first.now c.in-Some.ensures.cases.0
+        (sextet-other c.in-Some.first.now (omega arith) (sym c.is_symbol.ensures ∙ c.if-is_symbol.false)) later,
+    c.loop-first.invariant.sofar later,
+  );
   kept = c.loop-first.invariant.kept;
 }

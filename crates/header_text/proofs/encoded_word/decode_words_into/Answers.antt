@@ -26,9 +26,6 @@ loop-found-preserved c = record {
       c.push_word.ensures.kept;
 }
 
-pub returns-clause-text : goal.returns-clause-text
-returns-clause-text c = grind arith
-
 pub returns-in_err-push_between-clause-kept : goal.returns-in_err-push_between-clause-kept
 returns-in_err-push_between-clause-kept c = Extends-trans _ _ _ c.loop-found.invariant.kept c.push_between.ensures.kept
 
@@ -54,6 +51,3 @@ returns-in_err-push_word-clause-front c =
     c.in-Some.ensures.pieces c.in_ok-push_between.ensures.text refl in
     front-more _ some (rest_text true (value_pieces c.in-Some.found.later.now)) _ c.push_word.ensures.front
     (step ∙ c.loop-found.invariant.sofar)
-
-pub returns-clause-front : goal.returns-clause-front
-returns-clause-front c = grind arith

@@ -38,8 +38,7 @@ loop-after-smaller c =
 
 pub loop-after-preserved : goal.loop-after-preserved
 loop-after-preserved c =
-    seen-more c.args.value.now c.loop-after.rest.now c.in-Some.field-0-0.now c.in-Some.after.now
-    c.loop-after.invariant c.in-Some.ensures (sym c.in_default-word_after.ensures)
+    grind (arith, seen-more)
 
 pub returns-clause-pieces : goal.returns-clause-pieces
 returns-clause-pieces c = seen-end c.args.value.now c.loop-after.rest.now c.loop-after.invariant

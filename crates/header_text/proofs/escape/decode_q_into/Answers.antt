@@ -17,11 +17,14 @@ loop-stretch-preserved c =
     let stretch = c.in-Some.stretch.now in
     let after = c.in-Some.after.now in
     let items : List ℕ = c.loop-stretch.into.items in
-    ap (λ (l : List ℕ). l ++ q_bytes after)
-    (c.in_ok-push.ensures.items ∙ ap (λ (l : List ℕ). l ++ 0x20 ∷ []) c.in_ok-unescape_into.ensures.bytes)
-    ∙ written items (unescaped_bytes stretch) (q_bytes after) 0x20
-    ∙ ap (λ (l : List ℕ). items ++ l) (sym (ap q_bytes (cut c).joined ∙ q_bytes-space stretch after (cut c).free))
-    ∙ c.loop-stretch.invariant
+    cc (
+      c.in_ok-push.ensures.items,
+      c.in_ok-unescape_into.ensures.bytes,
+      written items (unescaped_bytes stretch) (q_bytes after) 0x20,
+      (cut c).joined,
+      q_bytes-space stretch after (cut c).free,
+      c.loop-stretch.invariant,
+    )
 
 pub returns-clause-bytes : goal.returns-clause-bytes
 returns-clause-bytes c = grind (arith, Lacks-from, q_bytes-free)

@@ -1,14 +1,11 @@
 -- `push_each` adds the ids of a value text by text, because the text before each `>` has at most one.
-use Rattle.header_text.proofs.Words.{◌≡◌, ◌∙◌, ◌++◌, ℕ, List, [], ◌∷◌, length, map, sym, ap, arith, length-append, append_assoc, append-nil, ids_of_texts, closed_texts}
+use Rattle.header_text.proofs.Words.{◌≡◌, ◌∙◌, ◌++◌, [], ◌∷◌, length, sym, ap, arith, length-append, append_assoc, append-nil, closed_texts}
 use Rattle.header_text.proofs.CutLemmas.{IsCut, IsCut-from, Lacks-from}
 use Rattle.header_text.proofs.HeaderLaws.IdLemmas.{closed_texts-cut, closed_texts-free}
-use Rattle.header_text.proofs.TextFronts.{front-refl, front-trans}
+use Rattle.header_text.proofs.TextFronts.{front-trans}
 use Rattle.header_text.proofs.HeaderLaws.IdRanges.{ids_in-cons, ids_of-closed}
 use Rattle.header_text.proofs.message_id.push_each.Goals as goal
 use Rattle.header_text.proofs.message_id.push_each.Goals.{In_ok-push_id}
-
-pub loop-text-init : goal.loop-text-init
-loop-text-init c = grind (arith, front-refl)
 
 cut : (c : In_ok-push_id) → IsCut 0x3E c.loop-text.rest.now c.in-Some.text.now c.in-Some.after.now
 cut c = IsCut-from 0x3E c.loop-text.rest.now c.in-Some.text.now c.in-Some.after.now (sym c.in-Some.ensures)
@@ -21,16 +18,9 @@ pub loop-text-preserved : goal.loop-text-preserved
 loop-text-preserved c =
     let text = c.in-Some.text.now in
     let after = c.in-Some.after.now in
-    let texts : closed_texts c.loop-text.rest.now ≡ text ∷ closed_texts after = ap closed_texts (cut c).joined
-    ∙ closed_texts-cut text after (cut c).free in
-    let old = map (λ id. id.items) c.loop-text.ids.items in
-    record {
-      sofar = ap (λ (ids : List (List ℕ)). ids ++ ids_of_texts (closed_texts after)) c.in_ok-push_id.ensures.ids
-          ∙ append_assoc old (ids_of_texts (text ∷ [])) (ids_of_texts (closed_texts after))
-          ∙ ap (λ (ids : List (List ℕ)). old ++ ids)
-          (sym (ids_in-cons text (closed_texts after)) ∙ ap ids_of_texts (sym texts)) ∙ c.loop-text.invariant.sofar;
-      kept = front-trans _ _ _ c.loop-text.invariant.kept c.push_id.ensures.kept;
-    }
+    let texts : closed_texts c.loop-text.rest.now ≡ text ∷ closed_texts after =
+    cc ((cut c).joined, closed_texts-cut text after (cut c).free) in
+    grind (arith, append_assoc, ids_in-cons, front-trans)
 
 pub returns-clause-ids : goal.returns-clause-ids
 returns-clause-ids c = grind (arith, append-nil, Lacks-from, closed_texts-free, ids_of-closed)

@@ -1,5 +1,5 @@
 -- `push_characters` adds ASCII as it is and a character for each other byte. A fault leaves a front of the text.
-use Rattle.header_text.proofs.Words.{◌≡◌, ◌∙◌, ◌≤◌, ◌+◌, ◌-◌, ◌++◌, ℕ, map, length, take, drop, slice_index, encode_utf8_all, ap, sym, refl, arith, append_assoc, length-append, length-drop, length-take, string_bytes, encode_utf8, take_rest, lossy_chars, Extends-trans, Extends-append, Extends-tried, character}
+use Rattle.header_text.proofs.Words.{◌≡◌, ◌∙◌, ◌≤◌, ◌+◌, ◌-◌, ◌++◌, map, length, take, drop, slice_index, encode_utf8_all, ap, refl, arith, append_assoc, length-append, length-drop, length-take, string_bytes, encode_utf8, take_rest, lossy_chars, Extends-trans, Extends-append, Extends-tried, character}
 use Rattle.header_text.proofs.WordLaws.CharacterLemmas.{characters-step, IsAscii-before, IsAscii-all, length-encode_small, lossy-ascii}
 use Rattle.header_text.proofs.TextFronts.{front-more}
 use Rattle.header_text.proofs.text.push_characters.Goals as goal
@@ -11,30 +11,20 @@ loop-at-preserved c =
     let after : take (length rest - (at + 1)) (drop (at + 1) rest) ≡ drop (at + 1) rest = take_rest rest (at + 1) in
     let pushed : string_bytes c.push.new.self
     ≡ string_bytes c.push_lossy.new.into ++ encode_utf8 (character c.args.charset (slice_index rest at)) =
-    c.in_ok-push.ensures.bytes ∙ ap (λ (n : ℕ). string_bytes c.push_lossy.new.into ++ encode_utf8 n)
-    c.character.ensures.value in
+    grind (arith, string_bytes, encode_utf8) in
     let step = characters-step c.args.charset rest (string_bytes c.loop-at.into) (string_bytes c.push_lossy.new.into)
     (string_bytes c.push.new.self) at
     c.in-Some.ensures.0.high (IsAscii-before rest at c.in-Some.ensures.0.before) c.in_ok-push_lossy.ensures.text pushed
     in
     let one : length (encode_utf8 c.character.result) ≤ 3 =
-    length-encode_small c.character.result c.character.ensures.small in
+    grind (arith, length-encode_small) in
     let front : length (take at rest) ≤ at = omega (arith, length-take at rest) in
     let sizes = ap length c.in_ok-push.ensures.bytes
     ∙ length-append (string_bytes c.push_lossy.new.into) (encode_utf8 c.character.result) in
     let left = length-drop (at + 1) rest in
     record {
       sofar = rw after (step ∙ c.loop-at.invariant.sofar);
-      size = rw after (omega (
-        arith,
-        c.loop-at.invariant.size,
-        c.in_ok-push_lossy.ensures.size,
-        one,
-        front,
-        sizes,
-        left,
-        c.in-Some.ensures.0.high,
-      ));
+      size = grind arith;
       kept = Extends-append _ _ _ _ _ (Extends-trans _ _ _ c.loop-at.invariant.kept c.push_lossy.ensures.kept)
           c.push.ensures.bytes;
     }
@@ -51,8 +41,7 @@ returns-in_err-push_lossy-clause-front c =
     let later = encode_utf8_all (map (character c.args.charset) (drop (at + 1) rest)) in
     let step = characters-step c.args.charset rest (string_bytes c.loop-at.into) some (some ++ one) at
     c.in-Some.ensures.0.high (IsAscii-before rest at c.in-Some.ensures.0.before) refl refl in
-    front-more _ some (one ++ later) _ c.push_lossy.ensures.front
-    (sym (append_assoc some one later) ∙ step ∙ c.loop-at.invariant.sofar)
+    grind (arith, front-more, append_assoc)
 
 pub returns-in_err-push-clause-front : goal.returns-in_err-push-clause-front
 returns-in_err-push-clause-front c =
@@ -63,7 +52,7 @@ returns-in_err-push-clause-front c =
     let later = encode_utf8_all (map (character c.args.charset) (drop (at + 1) rest)) in
     let step = characters-step c.args.charset rest (string_bytes c.loop-at.into) before some at c.in-Some.ensures.0.high
     (IsAscii-before rest at c.in-Some.ensures.0.before)
-    c.in_ok-push_lossy.ensures.text (ap (λ (n : ℕ). before ++ encode_utf8 n) c.character.ensures.value) in
+    c.in_ok-push_lossy.ensures.text (cc c.character.ensures.value) in
     front-more _ some later _ (Extends-tried before _ (encode_utf8 c.character.result) _ c.push.ensures.bytes)
     (step ∙ c.loop-at.invariant.sofar)
 

@@ -1,16 +1,9 @@
 -- `add_lines` adds a body line by line without its breaks, and nothing before the first byte that isn't a blank.
-use Rattle.header_text.proofs.Words.{◌≡◌, Bor, ◌∙◌, ◌++◌, ℕ, List, ◌∷◌, length, nat_lt, sym, ap, ap₂, arith, length-append, Extends-refl, Extends-trans, added_part, without_final_cr}
+use Rattle.header_text.proofs.Words.{◌≡◌, ◌∙◌, ◌++◌, ℕ, List, ◌∷◌, length, nat_lt, sym, ap, arith, length-append, Extends-trans, added_part, without_final_cr}
 use Rattle.header_text.proofs.CutLemmas.{IsCut, IsCut-from}
-use Rattle.header_text.proofs.HeaderLaws.UnfoldLemmas.{without_final_cr-stripped, unfolds-start, unfolds-line, unfolds-rest}
+use Rattle.header_text.proofs.HeaderLaws.UnfoldLemmas.{without_final_cr-stripped, unfolds-line, unfolds-rest}
 use Rattle.header_text.proofs.unfolding.add_lines.Goals as goal
 use Rattle.header_text.proofs.unfolding.add_lines.Goals.{In_ok-add_part}
-
-pub loop-line-init : goal.loop-line-init
-loop-line-init c = record {
-  sofar = unfolds-start c.args.into.now.items c.args.body.now;
-  kept =
-      Extends-refl c.args.into.now.items;
-}
 
 cut : (c : In_ok-add_part) → IsCut 0x0A c.loop-line.rest.now c.in-Some.line.now c.in-Some.after.now
 cut c = IsCut-from 0x0A c.loop-line.rest.now c.in-Some.line.now c.in-Some.after.now (sym c.in-Some.ensures)
@@ -26,10 +19,7 @@ loop-line-preserved c =
     let items : List ℕ = c.loop-line.into.items in
     let added : c.add_part.new.into.items ≡ items ++ added_part (nat_lt (length c.args.into.now.items) (length items))
     (without_final_cr line) =
-    c.in_ok-add_part.ensures.part ∙ ap₂ (λ (n : ℕ) (part : List ℕ). items ++ added_part (nat_lt n (length items)) part)
-    c.requires
-    (ap (λ (b : Bor (List ℕ)). b.now) c.unwrap_or.ensures
-    ∙ without_final_cr-stripped c.in-Some.line c.strip_suffix.result c.strip_suffix.ensures.cases) in
+    grind (arith, nat_lt, without_final_cr-stripped) in
     record {
       sofar = unfolds-line c.args.into.now.items c.args.body.now items c.loop-line.rest.now line c.in-Some.after.now
           c.add_part.new.into.items c.loop-line.invariant.sofar (cut c) added;

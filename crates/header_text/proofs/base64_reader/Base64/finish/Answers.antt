@@ -1,5 +1,5 @@
 -- `Base64::finish` adds the bytes of two or three symbols, because these come first in the group that `A` fills up.
-use Rattle.header_text.proofs.Words.{◌≡◌, ◌++◌, ℕ, List, [], ◌∷◌, length, drop, sym, ap₂, subst, arith, append-nil, take_all, symbols_of}
+use Rattle.header_text.proofs.Words.{◌≡◌, ◌++◌, ℕ, List, [], ◌∷◌, length, arith, append-nil, take_all, symbols_of}
 use Rattle.std.proofs.lemmas.List.{length-take}
 use Rattle.header_text.proofs.WordLaws.GroupLemmas.{AreSymbols}
 use Rattle.header_text.proofs.WordLaws.ReaderLemmas.{short-bytes, kept, to_come-end, filled-symbols, held-symbols}
@@ -16,10 +16,8 @@ decode_groups-outcome-requires-clause-symbols c =
     let held : List ℕ = symbols_of c.args.self.held in
     let size : length held ≡ c.args.self.held.count =
     omega (arith, length-take c.args.self.held.count c.args.self.held.symbols) in
-    let are : AreSymbols held = held-symbols c.args.self.held.symbols c.args.self.held.count c.args.self.held.all in
-    subst (λ (l : List ℕ). AreSymbols l)
-    (ap₂ (λ (x : List ℕ) (n : ℕ). x ++ drop n (65 ∷ 65 ∷ 65 ∷ 65 ∷ [])) (sym c.copy_from_slice.ensures.after) size)
-    (filled-symbols held are (omega (arith, c.if-held-lt2.false)) (omega (arith, c.args.self.held.few)))
+    let are : AreSymbols held = grind (arith, held-symbols) in
+    grind (arith, AreSymbols, filled-symbols)
 
 pub returns-clause-bytes : goal.returns-clause-bytes
 returns-clause-bytes c = rw (to_come-end (symbols_of c.args.self.held)

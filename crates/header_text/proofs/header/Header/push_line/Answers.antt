@@ -1,5 +1,5 @@
 -- `Header::push_line` reads a line as the definition does, by the stage after it: open, full or ended.
-use Rattle.header_text.proofs.Words.{◌≡◌, refl, sym, arith, stage_after, Open, Full, Ended}
+use Rattle.header_text.proofs.Words.{◌≡◌, sym, arith, stage_after, Open, Full, Ended}
 use Rattle.header_text.proofs.HeaderLaws.HeaderLemmas.{fields_size-with}
 use Rattle.header_text.proofs.HeaderLaws.PushLemmas.{holds-counted, holds-skipped, holds-ended, has_empty-ended, never_ended, taken-next_ended, taken-next_more}
 use Rattle.header_text.proofs.header.Header.push_line.Goals as goal
@@ -8,11 +8,11 @@ pub returns-in-Ended-clause-lines : goal.returns-in-Ended-clause-lines
 returns-in-Ended-clause-lines c ls h = holds-ended _ _ _ _ ls c.args.line.now h c.in-Ended.is
 
 pub returns-in-Ended-clause-taken : goal.returns-in-Ended-clause-taken
-returns-in-Ended-clause-taken c ls h = rw (has_empty-ended _ _ _ _ ls c.args.line.now h c.in-Ended.is) refl
+returns-in-Ended-clause-taken c ls h = grind (arith, has_empty-ended)
 
 pub returns-in_err-self-in-Open-clause-ended : goal.returns-in_err-self-in-Open-clause-ended
 returns-in_err-self-in-Open-clause-ended c ls h some =
-    absurd (never_ended _ _ _ _ ls c.args.line.now h some c.in_default.not-Ended)
+    grind (arith, never_ended)
 
 pub invariant_of-self-in-Open : goal.invariant_of-self-in-Open
 invariant_of-self-in-Open c = grind (arith, fields_size-with)
@@ -24,8 +24,8 @@ returns-in_ok-self-in-Open c =
     record {
       lines = λ ls h. holds-counted _ _ _ _ ls c.args.line.now h _ _ opens c.in_ok-self-in-Open.ensures.fields
           c.in_ok-self-in-Open.ensures.in_field;
-      taken = λ ls h. taken-next_more _ _ _ _ ls c.args.line.now h (λ e. absurd (cc));
-      ended = λ ls h some. absurd (never_ended _ _ _ _ ls c.args.line.now h some c.in_default.not-Ended);
+      taken = grind (arith, taken-next_more);
+      ended = grind (arith, never_ended);
       refused = tt;
     }
 
@@ -35,8 +35,8 @@ returns-in-Full c =
     in
     record {
       lines = λ ls h. holds-skipped _ _ _ _ ls c.args.line.now h Full fills (λ e. absurd (cc));
-      taken = λ ls h. taken-next_more _ _ _ _ ls c.args.line.now h (λ e. absurd (cc));
-      ended = λ ls h some. absurd (never_ended _ _ _ _ ls c.args.line.now h some c.in_default.not-Ended);
+      taken = grind (arith, taken-next_more);
+      ended = grind (arith, never_ended);
       refused = tt;
     }
 
@@ -46,7 +46,7 @@ returns-in-Ended-stage_after c =
     sym c.in-Ended-stage_after.ensures in
     record {
       lines = λ ls h. holds-skipped _ _ _ _ ls c.args.line.now h Ended ends (λ e. absurd (cc));
-      taken = λ ls h. taken-next_ended _ _ _ _ ls c.args.line.now h ends;
-      ended = λ ls h some. absurd (never_ended _ _ _ _ ls c.args.line.now h some c.in_default.not-Ended);
+      taken = grind (arith, taken-next_ended);
+      ended = grind (arith, never_ended);
       refused = tt;
     }
