@@ -18,16 +18,16 @@ other_byte p b of_class ascii test fails ascii_test holds = grind (arith, ltb-tr
 -- a byte that passes is the next character
 pub next_byte : (text : List ℕ) (i : ℕ) → i < length text → get_or text i 0 < 128 → drop i text
     ≡ encode_utf8 (get_or text i 0) ++ drop (i + 1) text
-next_byte text i within ascii = rw (add-one, encode_ascii (get_or text i 0) ascii) (drop-cons text i 0 within)
+next_byte text i within ascii = grind (arith, add-one, encode_ascii, drop-cons)
 
 -- the text may be cut after the bytes read so far
 read_boundary : (text : List ℕ) (i : ℕ) → IsRead text i (drop i text) → IsCharBoundary text i
-read_boundary text i h = IsCharBoundary-from_drop text i (omega (arith, h.lengths)) h.utf8
+read_boundary text i h = grind (arith, IsCharBoundary-from_drop)
 
 -- ---- the characters at the front that pass
 
 pub front_bytes-start : (p : ℕ → Bool) (text : List ℕ) → IsUtf8 text → FrontRead p text 0 (drop 0 text)
-front_bytes-start p text utf8 = front_read-start p text (drop 0 text) utf8 refl
+front_bytes-start p text utf8 = grind (arith, front_read-start)
 
 pub front_bytes-pass : (p : ℕ → Bool) (text bytes : List ℕ) (i : ℕ) → FrontRead p text i (drop i text) → bytes ≡ text
     → i < length bytes → get_or bytes i 0 < 128
@@ -48,9 +48,7 @@ front_bytes-passed p text bytes zero utf8 same within passed = front_bytes-start
 front_bytes-passed p text bytes (suc n) utf8 same within passed =
     let byte = class_byte p (get_or bytes n 0) _ refl (passed n (omega arith)) in
     let next : n + 1 ≡ suc n = omega arith in
-    subst (λ m. FrontRead p text m (drop m text)) next
-    (front_bytes-pass p text bytes n (front_bytes-passed p text bytes n utf8 same (omega (arith, within))
-    (λ k below. passed k (omega (arith, below)))) same (omega (arith, within)) byte.0 byte.1)
+    grind (arith, FrontRead, front_bytes-pass, front_bytes-passed p text bytes n utf8 same)
 
 pub front_bytes-stop : (p : ℕ → Bool) (text bytes : List ℕ) (i : ℕ) → FrontRead p text i (drop i text) → bytes ≡ text
     → i < length bytes → get_or bytes i 0 < 128

@@ -1,6 +1,6 @@
 -- The bytes of a character, by how many they are, and a character of two bytes found by its first one.
 use lib.Utf8.{encode}
-use Rattle.mail_words.proofs.Imports.{◌≡◌, ℕ, ◌+◌, ◌%◌, ◌<◌, ◌≤◌, Bool, true, false, ltb, List, [], ◌∷◌, ◌++◌, length, drop, get_or, encode_utf8, encode_utf8_all, len_utf8, IsUtf8, inl, inr, refl, sym, ap, ◌∙◌, subst, arith, cases_lt, nat_tests, length-encode, encode_ascii, encodes-chars, front}
+use Rattle.mail_words.proofs.Imports.{◌≡◌, ℕ, ◌+◌, ◌%◌, ◌<◌, ◌≤◌, Bool, true, false, ltb, List, [], ◌∷◌, ◌++◌, length, drop, get_or, encode_utf8, encode_utf8_all, len_utf8, IsUtf8, sym, ap, ◌∙◌, subst, arith, cases_lt, nat_tests, length-encode, encode_ascii, encodes-chars, front}
 use Rattle.std.proofs.Common.{◌/◌, chars}
 use Rattle.std.proofs.lemmas.List.{get_or-drop, length-drop}
 use Rattle.std.proofs.lemmas.Str.{drop_past_char}
@@ -10,24 +10,19 @@ use Rattle.mail_words.proofs.FrontReads.{FrontRead, front_read-pass, front_read-
 pub two : (c : ℕ) → 128 ≤ c → c < 2048 → encode_utf8 c ≡ (192 + c / 64) ∷ (128 + c % 64) ∷ []
 unfolding encode
 two c beyond low =
-    let tests : (ltb c 128 ≡ false) × (ltb c 2048 ≡ true) = (grind (arith, nat_tests), grind (arith, nat_tests)) in
-    rw (tests.0, tests.1) refl
+    grind (arith, ltb, nat_tests)
 
 pub three : (c : ℕ) → 2048 ≤ c → c < 65536
     → encode_utf8 c ≡ (224 + c / 4096) ∷ (128 + c / 64 % 64) ∷ (128 + c % 64) ∷ []
 unfolding encode
 three c higher within =
-    let tests : (ltb c 128 ≡ false) × (ltb c 2048 ≡ false) × (ltb c 65536 ≡ true) =
-    (grind (arith, nat_tests), grind (arith, nat_tests), grind (arith, nat_tests)) in
-    rw (tests.0, tests.1, tests.2) refl
+    grind (arith, ltb, nat_tests)
 
 pub four : (c : ℕ) → 65536 ≤ c
     → encode_utf8 c ≡ (240 + c / 262144) ∷ (128 + c / 4096 % 64) ∷ (128 + c / 64 % 64) ∷ (128 + c % 64) ∷ []
 unfolding encode
 four c far =
-    let tests : (ltb c 128 ≡ false) × (ltb c 2048 ≡ false) × (ltb c 65536 ≡ false) =
-    (grind (arith, nat_tests), grind (arith, nat_tests), grind (arith, nat_tests)) in
-    rw (tests.0, tests.1, tests.2) refl
+    grind (arith, ltb, nat_tests)
 
 -- ---- a character of two bytes
 
@@ -36,21 +31,7 @@ of_pair : (c : ℕ) (rest : List ℕ) → 0xC0 ≤ get_or (encode_utf8 c ++ rest
     → get_or (encode_utf8 c ++ rest) 0 0 < 0xE0
     → (pair_code (get_or (encode_utf8 c ++ rest) 0 0) (get_or (encode_utf8 c ++ rest) 1 0) ≡ c) × (len_utf8 c ≡ 2)
 of_pair c rest from below =
-    elim (cases_lt c 128) [
-      | inl ascii ↦ absurd (omega (arith, from, ap (λ bs. get_or (bs ++ rest) 0 0) (encode_ascii c ascii), ascii))
-      | inr beyond ↦ elim (cases_lt c 2048) [
-        | inl low ↦
-            let is = two c beyond low in (
-              (λ i. pair_code (get_or (is i ++ rest) 0 0) (get_or (is i ++ rest) 1 0)) ∙ omega (arith, beyond, low),
-              omega (arith, length-encode c, ap length is),
-            )
-        | inr higher ↦ elim (cases_lt c 65536) [
-          | inl within ↦
-              absurd (omega (arith, below, ap (λ bs. get_or (bs ++ rest) 0 0) (three c higher within)))
-          | inr far ↦ absurd (omega (arith, below, ap (λ bs. get_or (bs ++ rest) 0 0) (four c far)))
-        ]
-      ]
-    ]
+    grind (arith, cases_lt, encode_ascii, two, length-encode, three, four)
 
 -- the character of two bytes at a place is the next one
 pair_next : (text bytes : List ℕ) (at c : ℕ) → IsUtf8 (drop at text) → bytes ≡ text → IsPairAt bytes at c
@@ -64,13 +45,7 @@ pair_next text bytes at c utf8 same pair =
     go (d ∷ cs) e found =
         let rest : List ℕ = encode_utf8_all cs in
         let here : at + 0 ≡ at = omega arith in
-        let first : get_or text at 0 ≡ get_or (encode_utf8 d ++ rest) 0 0 =
-        sym (ap (λ bs. get_or bs 0 0) e ∙ get_or-drop at text 0 0 ∙ ap (λ k. get_or text k 0) here) in
-        let second : get_or text (at + 1) 0 ≡ get_or (encode_utf8 d ++ rest) 1 0 =
-        sym (ap (λ bs. get_or bs 1 0) e ∙ get_or-drop at text 1 0) in
-        let is = of_pair d rest (subst (λ b. 0xC0 ≤ b) first found.from) (subst (λ b. b < 0xE0) first found.below) in
-        let own : d ≡ c = sym (found.code ∙ (λ i. pair_code (first i) (second i)) ∙ is.0) in
-        (rest, sym e ∙ ap (λ x. encode_utf8 x ++ rest) own, ap len_utf8 (sym own) ∙ is.1)
+        grind (arith, encode_utf8, get_or-drop, of_pair)
 
 module _ (p : ℕ → Bool) (text bytes : List ℕ) (at c : ℕ) (h : FrontRead p text at (drop at text)) (same : bytes ≡ text)
     (pair : IsPairAt bytes at c) where

@@ -23,29 +23,16 @@ joiner_is_no_word_character c joins =
     (all_below-at (λ n. not (is_joiner n && is_word_character n)) 128 c refl (joiner_below c joins)) joins
 
 pub word_character_is_no_joiner : (c : ℕ) → is_word_character c ≡ true → is_joiner c ≡ false
-word_character_is_no_joiner c of_word = go (is_joiner c) refl
-  where
-    go : (t : Bool) → is_joiner c ≡ t → is_joiner c ≡ false
-    go true joins = let no = joiner_is_no_word_character c joins in cc
-    go false apart = apart
+word_character_is_no_joiner c of_word = grind (arith, joiner_is_no_word_character)
 
 -- for a byte that isn't a word character by itself, the tests of a joiner and of a part of a run agree
 pub piece_byte : (b : ℕ) → (nat_lt b 128 && is_word_character b) ≡ false → is_joiner b ≡ (nat_lt b 128 && is_piece b)
-piece_byte b other = go (nat_lt b 128) (is_joiner b) refl refl
-  where
-    go : (below joins : Bool) → nat_lt b 128 ≡ below → is_joiner b ≡ joins → is_joiner b ≡ (nat_lt b 128 && is_piece b)
-    go true joins e f = grind arith
-    go false true e f = let below = joiner_below b f in absurd (grind (arith, nat_tests))
-    go false false e f = f ∙ sym (ap (λ t. t && is_piece b) e)
+piece_byte b other = grind (arith, nat_lt, joiner_below, nat_tests)
 
 -- ---- the joiners among the bytes of a text
 
 no_joiner_from : (c : ℕ) → 128 ≤ c → is_joiner c ≡ false
-no_joiner_from c beyond = go (is_joiner c) refl
-  where
-    go : (t : Bool) → is_joiner c ≡ t → is_joiner c ≡ false
-    go true joins = absurd (omega (arith, joiner_below c joins))
-    go false apart = apart
+no_joiner_from c beyond = grind (arith, joiner_below)
 
 no_joiner_first : (c : ℕ) → 128 ≤ c → is_joiner (get_or (encode_utf8 c) 0 0) ≡ false
 no_joiner_first c beyond = go (is_joiner (get_or (encode_utf8 c) 0 0)) refl
@@ -92,12 +79,9 @@ pub none-before : (bytes : List ℕ) (n : ℕ) → n ≤ length bytes
     → ((k : ℕ) → n ≤ k → k < length bytes → is_joiner (get_or bytes k 0) ≡ true)
     → (0 < n → is_joiner (get_or bytes (n - 1) 0) ≡ false)
     → (n == 0) ≡ list_all is_joiner bytes
-none-before bytes zero within joiners last = sym (joiners-from bytes (λ k below. joiners k (omega arith) below))
+none-before bytes zero within joiners last = grind (arith, joiners-from)
 none-before bytes (suc n) within joiners last =
-    let at : n ≡ suc n - 1 = omega arith in
-    let some : (suc n == 0) ≡ false = grind arith in
-    some ∙ sym (list_all_at is_joiner bytes n 0 (omega (arith, within))
-    (ap (λ k. is_joiner (get_or bytes k 0)) at ∙ last (omega arith)))
+    grind (arith, list_all_at)
 
 -- the first character is a joiner if the first byte is
 pub joiner-first : (text : List ℕ) → IsUtf8 text → (nat_lt 0 (length text) && is_joiner (get_or text 0 0))
@@ -106,10 +90,7 @@ joiner-first text utf8 = ap (λ bytes. nat_lt 0 (length bytes) && is_joiner (get
     (sym (encodes-chars text utf8)) ∙ go (chars text)
   where
     byte : (c : ℕ) → is_joiner (get_or (encode_utf8 c) 0 0) ≡ is_joiner c
-    byte c = elim (cases_lt c 128) [
-      | inl ascii ↦ ap (λ bytes. is_joiner (get_or bytes 0 0)) (encode_ascii c ascii)
-      | inr beyond ↦ no_joiner_first c beyond ∙ sym (no_joiner_from c beyond)
-    ]
+    byte c = grind (arith, cases_lt, encode_ascii, no_joiner_first, no_joiner_from)
 
     go : (cs : List ℕ) → (nat_lt 0 (length (encode_utf8_all cs)) && is_joiner (get_or (encode_utf8_all cs) 0 0))
         ≡ begins is_joiner cs

@@ -1,6 +1,6 @@
 -- If each character of a text folds evenly, the words of its folding are the foldings of its words.
 use lib.Utf8.{scalar}
-use Rattle.mail_words.proofs.Imports.{◌≡◌, ◌<◌, ℕ, Bool, true, false, not, cond, ◌&&◌, ◌||◌, nat_le, List, [], ◌∷◌, ◌++◌, reverse, length, encode_utf8, encode_utf8_all, IsUtf8, refl, sym, ap, ap₂, ◌∙◌, arith, and_parts, nat_tests, length-append, length-encode, len_utf8, list_all-append, map-append, reverse-append, chars-encodes, scalars-chars, list_all, list_any, same_from_beq, is_piece, folding, is_word_character, is_joiner, begins, after_joiners, is_word, word_limit, words}
+use Rattle.mail_words.proofs.Imports.{◌≡◌, ◌<◌, ℕ, Bool, true, false, cond, ◌&&◌, ◌||◌, nat_le, List, [], ◌∷◌, ◌++◌, reverse, length, encode_utf8, encode_utf8_all, IsUtf8, refl, sym, ap, ap₂, ◌∙◌, arith, and_parts, nat_tests, length-append, length-encode, len_utf8, list_all-append, map-append, reverse-append, chars-encodes, scalars-chars, list_all, list_any, same_from_beq, is_piece, folding, is_word_character, is_joiner, begins, after_joiners, is_word, words}
 use Rattle.std.proofs.Common.{map, chars, eqb-true}
 use Rattle.std.proofs.Math.Utf8.{scalars}
 use Rattle.caseless.specs.Caseless.{default_case_fold}
@@ -36,16 +36,10 @@ record Alike (c d : ℕ) : Type 0 where
 
 alike : (c d : ℕ) → are_alike c d ≡ true → Alike c d
 alike c d e =
-    let parts = and_parts _ _ e in
-    let first = and_parts _ _ parts.0 in
-    record {
-      bytes = eqb-true _ _ first.0;
-      word = same_from_beq _ _ first.1;
-      joiner = same_from_beq _ _ parts.1;
-    }
+    grind (arith, and_parts, eqb-true, same_from_beq)
 
 alike-self : (c : ℕ) → Alike c c
-alike-self c = record { bytes = refl; word = refl; joiner = refl }
+alike-self c = grind arith
 
 alike-first : (c : ℕ) (ds : List ℕ) → is_one_like c ds ≡ true → Alike c (first_or c ds)
 alike-first c [] e = cc
@@ -75,7 +69,7 @@ alike-true c = grind (arith, nat_tests)
 pub even-kept : (c : ℕ) → keeps_itself c ≡ true → folds_evenly c ≡ true
 even-kept c h =
     let few : length (full_folding c) < 1 = grind arith in
-    ap (is_one_like c) (full_fold-none c (full_folding c) refl few) ∙ alike-true c
+    grind (arith, full_fold-none, alike-true)
 
 -- a character that folds evenly folds to one character
 first-even : (c : ℕ) (ds : List ℕ) → is_one_like c ds ≡ true → ds ≡ first_or c ds ∷ []
@@ -84,7 +78,7 @@ first-even c (d ∷ []) e = refl
 first-even c (d ∷ f ∷ ds) e = cc
 
 pub fold-low : (c : ℕ) → folds_evenly c ≡ true → full_fold c ≡ low_one c ∷ []
-fold-low c e = first-even c (full_fold c) e ∙ ap (λ t. cond t (first_or c (full_fold c)) c ∷ []) (sym e)
+fold-low c e = grind (arith, first-even)
 
 -- all that characters fold to are characters
 all_scalar : (c : ℕ) → scalars (full_folding c) ≡ true
@@ -96,17 +90,12 @@ scalar-first c [] h own = own
 scalar-first c (d ∷ ds) h own = (and_parts (scalar d) (scalars ds) h).0
 
 scalar-low : (c : ℕ) → scalar c ≡ true → scalar (low_one c) ≡ true
-scalar-low c own = go (folds_evenly c)
-  where
-    go : (t : Bool) → scalar (cond t (first_or c (full_fold c)) c) ≡ true
-    go true = scalar-first c (full_folding c) (all_scalar c) own
-    go false = own
+scalar-low c own = grind (arith, scalar-first, all_scalar)
 
 scalars-low : (cs : List ℕ) → scalars cs ≡ true → scalars (low cs) ≡ true
 scalars-low [] h = refl
 scalars-low (c ∷ cs) h =
-    let parts = and_parts (scalar c) (scalars cs) h in
-    (λ k. scalar-low c parts.0 k && scalars-low cs parts.1 k)
+    grind (arith, and_parts, scalars, scalar-low, scalars-low cs)
 
 -- ---- what the tests of a word need of its characters and of those around it
 
@@ -129,22 +118,15 @@ reverse-low (c ∷ cs) =
     ∙ sym (ap low (reverse-append (c ∷ []) cs) ∙ map-append low_one (reverse cs) (c ∷ []))
 
 ends-low : (cs : List ℕ) → begins is_word_character (reverse (low cs)) ≡ begins is_word_character (reverse cs)
-ends-low cs = ap (begins is_word_character) (reverse-low cs) ∙ begins-low (reverse cs)
+ends-low cs = grind (arith, begins, reverse-low, begins-low)
 
 after_joiners-low : (cs : List ℕ) → after_joiners (low cs) ≡ low (after_joiners cs)
 after_joiners-low [] = refl
-after_joiners-low (c ∷ cs) = go (is_joiner c) refl (after_joiners-low cs)
-  where
-    go : (t : Bool) → is_joiner c ≡ t → after_joiners (low cs) ≡ low (after_joiners cs) → after_joiners (low (c ∷ cs))
-        ≡ low (after_joiners (c ∷ cs))
-    go true e rest = after_joiners-joiner (low_one c) (low cs) (joiner-low c ∙ e) ∙ rest
-        ∙ sym (ap low (after_joiners-joiner c cs e))
-    go false e rest = after_joiners-other (low_one c) (low cs) (joiner-low c ∙ e)
-        ∙ sym (ap low (after_joiners-other c cs e))
+after_joiners-low (c ∷ cs) = grind (arith, after_joiners-joiner, joiner-low, after_joiners-other, after_joiners-low cs)
 
 run-low : (cs : List ℕ) → begins is_word_character (after_joiners (low cs))
     ≡ begins is_word_character (after_joiners cs)
-run-low cs = ap (begins is_word_character) (after_joiners-low cs) ∙ begins-low (after_joiners cs)
+run-low cs = grind (arith, begins, after_joiners-low, begins-low)
 
 bytes-low : (cs : List ℕ) → length (encode_utf8_all (low cs)) ≡ length (encode_utf8_all cs)
 bytes-low [] = refl
@@ -162,12 +144,18 @@ bytes-low (c ∷ cs) =
 is_word-low : (before inside after : List ℕ) → is_word is_word_character (low before) (low inside) (low after)
     ≡ is_word is_word_character before inside after
 unfolding is_word
-is_word-low before inside after = (λ k.
-    (begins-low inside k && all-low is_word_character word-low inside k && not (begins-low before k) && not
-    (begins-low after k)
-    || begins-low inside k && ends-low inside k && all-low is_piece piece-low inside k && joins-low inside k && not
-    (run-low before k) && not (run-low after k))
-    && nat_le (bytes-low inside k) word_limit)
+is_word-low before inside after = grind (
+  arith,
+  begins-low,
+  all-low,
+  word-low,
+  ends-low,
+  piece-low,
+  joins-low,
+  run-low,
+  nat_le,
+  bytes-low,
+)
 
 -- ---- words, place by place
 
@@ -179,12 +167,10 @@ record AreEven (cs : List ℕ) : Type 0 where
 fold-all : (cs : List ℕ) → list_all folds_evenly cs ≡ true → default_case_fold cs ≡ low cs
 fold-all [] h = default_case_fold-nil
 fold-all (c ∷ cs) h =
-    let parts = and_parts (folds_evenly c) (list_all folds_evenly cs) h in
-    default_case_fold-cons c cs ∙ ap₂ ◌++◌ (fold-low c parts.0) (fold-all cs parts.1)
+    grind (arith, and_parts, default_case_fold-cons, fold-low, fold-all cs)
 
 folding-low : (cs : List ℕ) → AreEven cs → encode_utf8_all (low cs) ≡ folding (encode_utf8_all cs)
-folding-low cs h = ap encode_utf8_all (sym (fold-all cs h.even)
-    ∙ sym (ap default_case_fold (chars-encodes cs h.scalars)))
+folding-low cs h = grind (arith, encode_utf8_all, fold-all, chars-encodes)
 
 folded_one : (word : List ℕ) (b : Bool) → map folding (cond b (word ∷ []) []) ≡ cond b (folding word ∷ []) []
 folded_one word b = grind arith
@@ -192,32 +178,23 @@ folded_one word b = grind arith
 if_word-low : (before inside after : List ℕ) → AreEven inside → if_word (low before) (low inside) (low after)
     ≡ map folding (if_word before inside after)
 if_word-low before inside after h =
-    (λ k. cond (is_word-low before inside after k) (folding-low inside h k ∷ []) [])
-    ∙ sym (folded_one (encode_utf8_all inside) (is_word is_word_character before inside after))
+    grind (arith, is_word-low, folding-low, folded_one, encode_utf8_all)
 
 even-nil : AreEven []
 even-nil = record { scalars = refl; even = refl }
 
 even-parts : (c : ℕ) (cs : List ℕ) → AreEven (c ∷ cs) → AreEven (c ∷ []) × AreEven cs
 even-parts c cs h =
-    let own = and_parts (scalar c) (scalars cs) h.scalars in
-    let folds = and_parts (folds_evenly c) (list_all folds_evenly cs) h.even in (
-      record { scalars = (λ k. own.0 k && true); even = (λ k. folds.0 k && true) },
-      record { scalars = own.1; even = folds.1 },
-    )
+    grind (arith, and_parts, scalars)
 
 scalars-append : (xs ys : List ℕ) → scalars xs ≡ true → scalars ys ≡ true → scalars (xs ++ ys) ≡ true
 scalars-append [] ys h h2 = h2
 scalars-append (x ∷ xs) ys h h2 =
-    let parts = and_parts (scalar x) (scalars xs) h in
-    (λ k. parts.0 k && scalars-append xs ys parts.1 h2 k)
+    grind (arith, and_parts, scalars, scalars-append xs ys)
 
 even-push : (xs ys : List ℕ) → AreEven xs → AreEven ys → AreEven (xs ++ ys)
 even-push xs ys h h2 =
-    record {
-      scalars = scalars-append xs ys h.scalars h2.scalars;
-      even = list_all-append folds_evenly xs ys ∙ (λ k. h.even k && h2.even k);
-    }
+    grind (arith, scalars, scalars-append, list_all-append)
 
 words_on-low : (before inside rest : List ℕ) → AreEven inside → AreEven rest
     → words_on (low before) (low inside) (low rest) ≡ map folding (words_on before inside rest)

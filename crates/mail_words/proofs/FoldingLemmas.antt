@@ -1,5 +1,5 @@
 -- Laws of foldings, and of a folding that isn't written to its end yet.
-use Rattle.mail_words.proofs.Imports.{◌≡◌, ℕ, true, not, beq, same_from_beq, list_all, ◌*◌, ◌≤◌, List, [], ◌∷◌, ◌++◌, length, None, Some, encode_utf8, encode_utf8_all, IsAscii, IsUtf8, refl, sym, ap, ap₂, ◌∙◌, ◌<◌, arith, append_assoc, length-append, cases_lt, chars-IsAscii, encodes-IsAscii, encodes-chars, length-le-encodes, Chars-gives, len_utf8_bounds, length-encode, IsAscii-map, lowercase_ascii, to_ascii_lowercase, chars_rest, chars_steps, folding}
+use Rattle.mail_words.proofs.Imports.{◌≡◌, ℕ, true, not, beq, same_from_beq, list_all, ◌*◌, ◌≤◌, List, [], ◌∷◌, ◌++◌, length, None, Some, encode_utf8, encode_utf8_all, IsAscii, IsUtf8, refl, sym, ap, ◌∙◌, ◌<◌, arith, append_assoc, length-append, cases_lt, chars-IsAscii, encodes-IsAscii, encodes-chars, length-le-encodes, Chars-gives, len_utf8_bounds, length-encode, IsAscii-map, lowercase_ascii, to_ascii_lowercase, chars_rest, chars_steps, folding}
 use Rattle.std.proofs.Common.{map, chars, append-nil}
 use Rattle.std.specs.declared.str.Chars.{Chars}
 use Rattle.std.specs.Iterator.{AlwaysYields}
@@ -63,8 +63,7 @@ has_chars [] some = absurd (omega arith)
 has_chars (c ∷ cs) some = omega arith
 
 pub folding_some : (text : List ℕ) → IsUtf8 text → 1 ≤ length text → 1 ≤ length (folding text)
-folding_some text utf8 some = folds_to_some (chars text)
-    (has_chars (chars text) (omega (arith, ap length (encodes-chars text utf8))))
+folding_some text utf8 some = grind (arith, folds_to_some, has_chars, encodes-chars)
 
 -- ---- a text that folding leaves as it is
 
@@ -78,12 +77,10 @@ kept_byte b below =
 pub keeps_characters : (cs : List ℕ) → list_all keeps_itself cs ≡ true → default_case_fold cs ≡ cs
 keeps_characters [] all = default_case_fold-nil
 keeps_characters (c ∷ cs) all =
-    let few : length (full_folding c) < 1 = grind arith in
-    default_case_fold-cons c cs ∙ ap₂ ◌++◌ (full_fold-none c (full_folding c) refl few)
-    (keeps_characters cs (grind arith))
+    grind (arith, default_case_fold-cons, full_fold-none, keeps_characters cs)
 
 pub folding-same : (text : List ℕ) → IsUtf8 text → list_all keeps_itself (chars text) ≡ true → folding text ≡ text
-folding-same text utf8 all = ap encode_utf8_all (keeps_characters (chars text) all) ∙ encodes-chars text utf8
+folding-same text utf8 all = grind (arith, encode_utf8_all, keeps_characters, encodes-chars)
 
 -- ---- a folding while it is written
 
@@ -98,24 +95,14 @@ pub folds_from_start : (before text : List ℕ) (source : Chars) (iterator : Cas
     → ((cs : List ℕ) → AlwaysYields chars_steps (λ c. c) source cs
     → FoldsCaseTo chars_steps iterator (default_case_fold cs)) → StillFolds (before ++ folding text) before iterator
 folds_from_start before text source iterator utf8 rest folds =
-    record {
-      left = default_case_fold (chars text);
-      source =
-          folds (chars text) (Chars-gives (chars text) source (encodes-chars text utf8 ∙ sym rest));
-      whole = refl;
-    }
+    grind (arith, Chars-gives, encodes-chars)
 
 pub folds_further : (all written : List ℕ) (old new : CaseFold Chars) (c : ℕ) → StillFolds all written old
     → CaseFoldSteps chars_steps old (Some c) new
     → StillFolds all (written ++ encode_utf8 c) new
 folds_further all written old new c h step =
     let next = step.first.at h.left h.source in
-    record {
-      left = next.0;
-      source = next.2;
-      whole = h.whole ∙ ap (λ cs. written ++ encode_utf8_all cs) next.1
-          ∙ sym (append_assoc written (encode_utf8 c) (encode_utf8_all next.0));
-    }
+    grind (arith, encode_utf8_all, append_assoc, encode_utf8)
 
 pub folds_to_end : (all written : List ℕ) (old new : CaseFold Chars) → StillFolds all written old
     → CaseFoldSteps chars_steps old None new → written ≡ all

@@ -17,7 +17,7 @@ is_read-step text len rest c rest' h parts =
     }
 
 pub no_chars : (rest : List ℕ) → length rest ≡ 0 → chars rest ≡ []
-no_chars rest none = ap chars (nil_from_length rest (omega arith)) ∙ chars-nil
+no_chars rest none = grind (arith, nil_from_length, chars-nil)
 
 -- ---- the characters at the front that pass
 

@@ -1,5 +1,5 @@
 -- A run of word characters and joiners is its joined front and the joiners at its end, found by looking at bytes.
-use Rattle.mail_words.proofs.Imports.{◌≡◌, ℕ, ◌+◌, ◌-◌, ◌<◌, ◌≤◌, Bool, true, false, ◌&&◌, ◌||◌, List, [], ◌∷◌, ◌++◌, length, reverse, get_or, encode_utf8, encode_utf8_all, inl, inr, refl, sym, ap, ap₂, subst, ◌∙◌, arith, length-append, and_parts, cases_lt, get_or_append_left, get_or-append-add, get_or-append_right, list_all_at, encode_ascii, encodes-append, inside_one, length-encode, len_utf8_bounds, length-le-encodes, list_all, is_word_character, is_joiner, begins, front, is_piece, joined_to, joined_front}
+use Rattle.mail_words.proofs.Imports.{◌≡◌, ℕ, ◌+◌, ◌-◌, ◌<◌, ◌≤◌, Bool, true, false, ◌&&◌, ◌||◌, List, [], ◌∷◌, ◌++◌, length, reverse, get_or, encode_utf8, encode_utf8_all, inl, inr, refl, sym, ap, ◌∙◌, arith, length-append, and_parts, cases_lt, get_or_append_left, get_or-append-add, get_or-append_right, list_all_at, encode_ascii, encodes-append, inside_one, length-encode, len_utf8_bounds, length-le-encodes, list_all, is_word_character, is_joiner, begins, front, is_piece, joined_to, joined_front}
 use Rattle.std.proofs.Common.{append-nil}
 use Rattle.mail_words.proofs.Characters.{joiner_below, word_character_is_no_joiner}
 use Rattle.mail_words.proofs.OneWord.{ends-cons, ends-joined_front}
@@ -25,12 +25,7 @@ run-joiners (c ∷ cs) = go (is_word_character c) (is_joiner c) refl refl (run-j
         → EndsInJoiners (front is_piece (c ∷ cs)) (joined_front (c ∷ cs))
     go true j e f h = grind (arith, front-pass, joined_front-word)
     go false true e f h =
-        let more = joined_to-joiners c (joined_front cs) h.0 f h.2 in (
-          more.0,
-          front-pass is_piece c cs (λ k. e k || f k) ∙ ap (λ ds. c ∷ ds) h.1 ∙ more.1
-              ∙ ap (λ ds. ds ++ more.0) (sym (joined_front-joiner c cs f)),
-          more.2,
-        )
+        let more = joined_to-joiners c (joined_front cs) h.0 f h.2 in grind (arith, front-pass, joined_front-joiner)
     go false false e f h = grind (arith, front-fail, joined_front-other)
 
 -- ---- bytes
@@ -39,8 +34,7 @@ run-joiners (c ∷ cs) = go (is_word_character c) (is_joiner c) refl refl (run-j
 joiners-own : (js : List ℕ) → list_all is_joiner js ≡ true → encode_utf8_all js ≡ js
 joiners-own [] all = refl
 joiners-own (c ∷ cs) all =
-    let parts = and_parts (is_joiner c) (list_all is_joiner cs) all
-    in ap₂ ◌++◌ (encode_ascii c (joiner_below c parts.0)) (joiners-own cs parts.1)
+    grind (arith, and_parts, encode_ascii, joiner_below, joiners-own cs)
 
 abbrev last_of : List ℕ → ℕ
 last_of bytes = get_or bytes (length bytes - 1) 0
@@ -53,21 +47,24 @@ last-character c of_word = go (is_joiner (last_of (encode_utf8 c))) refl
     go true joins =
         let same = inside_one c [] (encode_utf8 c) (length (encode_utf8 c) - 1) (sym (append-nil (encode_utf8 c)))
         (omega (arith, length-encode c, (len_utf8_bounds c).0)) (joiner_below (last_of (encode_utf8 c)) joins) in
-        sym (ap is_joiner same) ∙ word_character_is_no_joiner c of_word
+        grind (arith, word_character_is_no_joiner)
     go false apart = apart
 
 last-characters : (cs : List ℕ) → begins is_word_character (reverse cs) ≡ true
     → is_joiner (last_of (encode_utf8_all cs)) ≡ false
 last-characters [] ends = cc
-last-characters (c ∷ []) ends = subst (λ bytes. is_joiner (last_of bytes) ≡ false) (sym (append-nil (encode_utf8 c)))
-    (last-character c ends)
+last-characters (c ∷ []) ends = grind (arith, append-nil, encode_utf8, last-character)
 last-characters (c ∷ d ∷ ds) ends =
     let rest = encode_utf8_all (d ∷ ds) in
     let at : length (encode_utf8 c ++ rest) - 1 ≡ length (encode_utf8 c) + (length rest - 1) =
     omega (arith, length-append (encode_utf8 c) rest, length-le-encodes (d ∷ ds)) in
-    ap is_joiner (ap (λ n. get_or (encode_utf8 c ++ rest) n 0) at
-    ∙ get_or-append-add (encode_utf8 c) rest (length rest - 1) 0)
-    ∙ last-characters (d ∷ ds) (sym (ends-cons is_word_character c (d ∷ ds) refl) ∙ ends)
+    grind (
+      arith,
+      encode_utf8,
+      get_or-append-add,
+      ends-cons,
+      last-characters (d ∷ ds) (sym (ends-cons is_word_character c (d ∷ ds) refl) ∙ ends),
+    )
 
 -- the place in the bytes where the joiners at the end of a run begin
 pub joined-bytes : (cs bytes : List ℕ) (n : ℕ) → bytes ≡ encode_utf8_all (front is_piece cs) → n ≤ length bytes
@@ -103,8 +100,7 @@ joined-bytes cs bytes n is within joiners last =
     kept = encode_utf8_all (joined_front cs)
 
     joined : bytes ≡ kept ++ js
-    joined = is ∙ ap encode_utf8_all parts.1 ∙ encodes-append (joined_front cs) js
-        ∙ ap (λ bs. kept ++ bs) (joiners-own js parts.2)
+    joined = grind (arith, encode_utf8_all, encodes-append, js, kept, joiners-own)
 
     sizes : length bytes ≡ length kept + length js
     sizes = ap length joined ∙ length-append kept js

@@ -61,10 +61,7 @@ pub long_at-short : (text word : List ℕ) (len : ℕ) → IsUtf8 text → len
 long_at-short text word len utf8 place short some is =
     let cs : List ℕ = chars text in
     let cut = long_seam text utf8 in
-    let whole = seam_front text (long_front cs) cut.0 len word cut.1 place is in
-    joined_on-short (front is_word_character cs) (joined_front (after_front is_word_character cs)) word
-    (some_from_bytes (joined_front (after_front is_word_character cs)) some) whole
-    (omega (arith, short, place, ap length whole))
+    grind (arith, seam_front, joined_on-short, some_from_bytes)
 
 -- ---- the words left at a word character
 

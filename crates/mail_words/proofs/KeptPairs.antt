@@ -32,8 +32,7 @@ keeps_by_step : {V : Type 0} (d : List V) (ss : List (ℕ × List V)) (end c : �
     → nat_eq (length (step_value d ss c)) 0 ≡ true
 keeps_by_step d [] end c h below = cc
 keeps_by_step d (s ∷ ss) end c h below =
-    let parts = and_parts (nat_le end s.0) (nat_eq (length s.1) 0) h in
-    ap (λ v. nat_eq (length v) 0) (step_value-here d s ss c (omega (arith, below, leb-true end s.0 parts.0))) ∙ parts.1
+    grind (arith, and_parts, nat_le, step_value-here, leb-true)
 
 -- folding changes no character from U+0800 to U+0FFF
 three_bytes : (c : ℕ) → 2048 ≤ c → c < 4096 → keeps_itself c ≡ true
@@ -92,31 +91,17 @@ after_first : (x : ℕ) (ys bytes rest : List ℕ) (k : ℕ) → bytes ≡ x ∷
     → is_capital_or_first (get_or (bytes ++ rest) k 0) ≡ false
 after_first x ys bytes rest zero is h some below = absurd (omega (arith, some))
 after_first x ys bytes rest (suc k) is h some below =
-    ap (λ bs. is_capital_or_first (get_or (bs ++ rest) (suc k) 0)) is
-    ∙ goes_on_at ys rest k h (omega (arith, below, ap length is))
+    grind (arith, goes_on_at)
 
 inside : (c : ℕ) (rest : List ℕ) (k : ℕ) → 0 < k → k < length (encode_utf8 c)
     → is_capital_or_first (get_or (encode_utf8 c ++ rest) k 0) ≡ false
 inside c rest k some below =
-    elim (cases_lt c 128) [
-      | inl ascii ↦ after_first _ _ _ rest k (encode_ascii c ascii) tt some below
-      | inr beyond ↦ elim (cases_lt c 2048) [
-        | inl low ↦ after_first _ _ _ rest k (two c beyond low) (goes_on c, tt) some below
-        | inr higher ↦ elim (cases_lt c 65536) [
-          | inl within ↦
-              after_first _ _ _ rest k (three c higher within) (goes_on (c / 64), (goes_on c, tt)) some below
-          | inr far ↦
-              after_first _ _ _ rest k (four c far) (goes_on (c / 4096), (goes_on (c / 64), (goes_on c, tt))) some
-              below
-        ]
-      ]
-    ]
+    grind (arith, cases_lt, after_first, encode_ascii, two, goes_on, three, four)
 
 -- ---- character by character
 
 past : (c : ℕ) (rest : List ℕ) (k : ℕ) → get_or (encode_utf8 c ++ rest) (len_utf8 c + k) 0 ≡ get_or rest k 0
-past c rest k = ap (λ n. get_or (encode_utf8 c ++ rest) (n + k) 0) (sym (length-encode c))
-    ∙ get_or-append-add (encode_utf8 c) rest k 0
+past c rest k = grind (arith, encode_utf8, length-encode, get_or-append-add)
 
 drop_past : (c : ℕ) (rest : List ℕ) (k : ℕ) → drop (len_utf8 c + k) (encode_utf8 c ++ rest) ≡ drop k rest
 drop_past c rest k = ap (λ n. drop (n + k) (encode_utf8 c ++ rest)) (sym (length-encode c))
@@ -125,8 +110,7 @@ drop_past c rest k = ap (λ n. drop (n + k) (encode_utf8 c ++ rest)) (sym (lengt
 stop_past : (c : ℕ) (rest : List ℕ) (k : ℕ) → is_stop_at (encode_utf8 c ++ rest) (len_utf8 c + k) ≡ is_stop_at rest k
 stop_past c rest k =
     let next : len_utf8 c + k + 1 ≡ len_utf8 c + (k + 1) = omega arith in
-    (λ i. is_stop (past c rest k i)
-    ((ap (λ n. get_or (encode_utf8 c ++ rest) n 0) next ∙ past c rest (k + 1)) i))
+    grind (arith, past, encode_utf8)
 
 kept_walk : (cs : List ℕ) (n : ℕ) → IsUtf8 (encode_utf8_all cs) → n ≤ length (encode_utf8_all cs)
     → ((k : ℕ) → k < n → is_stop_at (encode_utf8_all cs) k ≡ false)

@@ -1,7 +1,7 @@
 -- The gap and the word after it, found in the mask of one load.
-use lib.Count.{count_trailing_zeros, under}
+use lib.Count.{count_trailing_zeros}
 use lib.Lanes.{chunk, mask_l}
-use Rattle.mail_words.proofs.Imports.{◌≡◌, ℕ, zero, suc, ◌+◌, ◌*◌, ◌%◌, ◌^◌, ◌<◌, ◌≤◌, cond, Bool, true, false, not, List, [], ◌∷◌, length, drop, get_or, nat_lt, ◌||◌, eqb, eqb-true, refl, sym, ap, ◌∙◌, subst, arith, inl, inr, cases_lt, nat_tests, length-map, length-chunk, HasGapAndWord, is_ascii_other, is_ascii_word, is_beyond_ascii, is_no_ascii_word, prefix_len}
+use Rattle.mail_words.proofs.Imports.{◌≡◌, ℕ, zero, suc, ◌+◌, ◌*◌, ◌%◌, ◌^◌, ◌<◌, ◌≤◌, cond, Bool, true, false, not, List, [], ◌∷◌, length, drop, get_or, nat_lt, ◌||◌, eqb, eqb-true, refl, sym, ap, ◌∙◌, subst, arith, cases_lt, nat_tests, length-map, length-chunk, HasGapAndWord, is_ascii_other, is_ascii_word, is_beyond_ascii, is_no_ascii_word, prefix_len}
 use Rattle.std.proofs.Common.{◌/◌, map, div-one, div-le_self}
 use Rattle.std.proofs.lemmas.Bool.{not-true, not-false}
 use Rattle.std.proofs.lemmas.List.{drop-map, get_or-drop, get_or-take, length-drop}
@@ -32,32 +32,12 @@ module _ (test : ℕ → Bool) where
   unfolding count_trailing_zeros
   ones_mask zero xs few = absurd (omega arith)
   ones_mask (suc k) [] few = refl
-  ones_mask (suc k) (x ∷ xs) few = by (test x) (ones_mask k xs (omega (arith, few)))
-    where
-      n : ℕ
-      n = mask_l (map test xs)
-
-      by : (b : Bool) → count_trailing_zeros k (n + 1) ≡ prefix_len test xs
-          → under ((cond b 1 0 + 2 * n + 1) % 2) (count_trailing_zeros k ((cond b 1 0 + 2 * n + 1) / 2))
-          ≡ cond b (1 + prefix_len test xs) 0
-      by true rest =
-          let none : (1 + 2 * n + 1) % 2 ≡ 0 = omega arith in
-          let half : (1 + 2 * n + 1) / 2 ≡ n + 1 = omega arith in
-          (λ i. under (none i) (count_trailing_zeros k (half i))) ∙ omega (arith, rest)
-      by false rest =
-          let one : (0 + 2 * n + 1) % 2 ≡ 1 = omega arith in
-          ap (λ d. under d (count_trailing_zeros k ((0 + 2 * n + 1) / 2))) one
+  ones_mask (suc k) (x ∷ xs) few = grind (arith, ones_mask k xs)
 
   -- the place of a set bit is within the mask
   bit_within : (xs : List ℕ) → 0 < mask_l (map test xs) → prefix_len (λ x. not (test x)) xs < length xs
   bit_within [] some = absurd (omega arith)
-  bit_within (x ∷ xs) some = by (test x) (bit_within xs) some
-    where
-      by : (b : Bool) → (0 < mask_l (map test xs) → prefix_len (λ x. not (test x)) xs < length xs)
-          → 0 < cond b 1 0 + 2 * mask_l (map test xs)
-          → cond (not b) (1 + prefix_len (λ x. not (test x)) xs) 0 < length (x ∷ xs)
-      by true rest h = omega arith
-      by false rest h = omega (arith, rest (omega (arith, h)))
+  bit_within (x ∷ xs) some = grind (arith, some, bit_within xs)
 
 -- ---- the bytes of the mask
 
@@ -72,12 +52,11 @@ module _ (bytes : List ℕ) (mask : ℕ) (room : 16 ≤ length bytes)
   pub mask_bound : mask < 2 ^ 16
   mask_bound =
       let bits = map is_no_ascii_word (chunk 0 16 bytes) in
-      let long : length bits ≡ 16 = length-map (chunk 0 16 bytes) is_no_ascii_word ∙ length-chunk 0 16 bytes room in
-      subst (λ n. n < 2 ^ 16) (sym same) (subst (λ n. mask_l bits < 2 ^ n) long (mask_l-lt bits))
+      let long : length bits ≡ 16 = grind (arith, length-map, length-chunk) in
+      grind (arith, long, mask_l-lt)
 
   gap_is : count_trailing_zeros 64 (mask + 1) ≡ prefix_len is_no_ascii_word (chunk 0 16 bytes)
-  gap_is = ap (λ m. count_trailing_zeros 64 (m + 1)) same
-      ∙ ones_mask is_no_ascii_word 64 (chunk 0 16 bytes) (omega (arith, length-chunk 0 16 bytes room))
+  gap_is = grind (arith, ones_mask, length-chunk)
 
   pub gap_bound : count_trailing_zeros 64 (mask + 1) < 64
   gap_bound = omega (
@@ -106,7 +85,7 @@ ascii_to bytes mask place room within same clear k below = go (eqb mask 0) refl
     go true none = small (none_from_empty_mask is_beyond_ascii bytes 0 16 0 room (sym same ∙ eqb-true mask 0 none) k
         (omega arith) (omega (arith, within, below)))
     go false some =
-        let bits : 0 < mask_l (map is_beyond_ascii load) = subst (λ m. 0 < m) same (grind (arith, some, nat_tests)) in
+        let bits : 0 < mask_l (map is_beyond_ascii load) = grind (arith, some, nat_tests) in
         let first = ap (count_trailing_zeros 64) same
         ∙ trailing_mask_l is_beyond_ascii 64 load (omega (arith, long)) bits in
         let after : place < count_trailing_zeros 64 mask = grind (arith, some, clear, nat_tests) in
@@ -131,8 +110,7 @@ module _ (bytes : List ℕ) (mask : ℕ) (room : 16 ≤ length bytes)
   rest = drop gap load
 
   rest_is : mask / 2 ^ gap ≡ mask_l (map is_no_ascii_word rest)
-  rest_is = ap (λ m. m / 2 ^ gap) same ∙ drop_mask (map is_no_ascii_word load) gap
-      ∙ ap mask_l (drop-map is_no_ascii_word gap load)
+  rest_is = grind (arith, drop_mask, drop-map)
 
   some_bit : 0 < mask_l (map is_no_ascii_word rest)
   some_bit = subst (λ m. 0 < m) rest_is bits
@@ -141,8 +119,7 @@ module _ (bytes : List ℕ) (mask : ℕ) (room : 16 ≤ length bytes)
   word = count_trailing_zeros 64 (mask / 2 ^ gap)
 
   word_is : word ≡ prefix_len (λ b. not (is_no_ascii_word b)) rest
-  word_is = ap (count_trailing_zeros 64) rest_is
-      ∙ trailing_mask_l is_no_ascii_word 64 rest (omega (arith, long, length-drop gap load)) some_bit
+  word_is = grind (arith, rest_is, trailing_mask_l, long, length-drop, some_bit)
 
   from_front : gap ≡ prefix_len is_no_ascii_word load
   from_front = gap_is bytes mask room same
@@ -154,7 +131,7 @@ module _ (bytes : List ℕ) (mask : ℕ) (room : 16 ≤ length bytes)
   lane k below = get_or-take 16 bytes k 0 below
 
   rest_lane : (k : ℕ) → gap + k < 16 → get_or rest k 0 ≡ get_or bytes (gap + k) 0
-  rest_lane k below = get_or-drop gap load k 0 ∙ lane (gap + k) below
+  rest_lane k below = grind (arith, get_or-drop, lane)
 
   in_gap : (k : ℕ) → k < gap → is_no_ascii_word (get_or bytes k 0) ≡ true
   in_gap k below = subst (λ b. is_no_ascii_word b ≡ true) (lane k (omega (arith, below, within)))
@@ -179,24 +156,11 @@ module _ (bytes : List ℕ) (mask : ℕ) (room : 16 ≤ length bytes)
 
   some : 0 < word
   some =
-      elim (cases_lt 0 word) [
-        | inl more ↦ more
-        | inr none ↦
-            let same_place : gap + word ≡ gap = omega (arith, none) in
-            let clash = sym end ∙ ap (λ k. is_no_ascii_word (get_or bytes k 0)) same_place ∙ after_gap in
-            absurd (grind (arith, clash))
-      ]
+      grind (arith, cases_lt, end, after_gap)
 
   shown_places : ((k : ℕ) → k ≤ gap + word → get_or bytes k 0 < 128) → HasGapAndWord bytes gap word
   shown_places ascii =
-      record {
-        short = within;
-        within = omega (arith, within, room);
-        some = some;
-        in_gap = λ k below. other_byte (get_or bytes k 0) (ascii k (omega (arith, below))) (in_gap k below);
-        in_word = λ k below. word_byte (get_or bytes (gap + k) 0) (in_word k below);
-        end = other_byte (get_or bytes (gap + word) 0) (ascii (gap + word) (omega arith)) end;
-      }
+      grind (arith, within, some, in_gap, other_byte, in_word, word_byte, end)
 
   pub shown_clear : (beyond : ℕ) → beyond ≡ mask_l (map is_beyond_ascii (chunk 0 16 bytes))
       → (eqb beyond 0 || nat_lt (gap + word) (count_trailing_zeros 64 beyond)) ≡ true → HasGapAndWord bytes gap word

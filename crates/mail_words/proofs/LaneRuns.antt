@@ -24,7 +24,7 @@ not_not true = refl
 not_not false = refl
 
 pub run_of_not : (test : ℕ → Bool) (load : List ℕ) → prefix_len (λ b. not (not (test b))) load ≡ prefix_len test load
-run_of_not test load = λ i. prefix_len (λ b. not_not (test b) i) load
+run_of_not test load = grind (arith, not_not)
 
 pub run_bound : (test : ℕ → Bool) (bytes : List ℕ) (at r : ℕ) → at + 16 ≤ length bytes → r
     ≡ prefix_len test (chunk at 16 bytes) → r ≤ 16

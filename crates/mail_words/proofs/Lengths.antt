@@ -1,5 +1,5 @@
 -- Each word has 1 to 128 bytes, because the test of a word has these limits.
-use Rattle.mail_words.proofs.Imports.{◌≡◌, ℕ, zero, suc, ◌≤◌, Bool, true, false, cond, List, [], ◌∷◌, ◌++◌, All, length, encode_utf8_all, nat_le, refl, sym, subst, arith, and_parts, leb-true, length-le-encodes, is_word_character, begins, is_word, word_limit, words, HasWordLength, words_left}
+use Rattle.mail_words.proofs.Imports.{◌≡◌, ℕ, zero, suc, ◌≤◌, true, false, List, [], ◌∷◌, ◌++◌, All, length, encode_utf8_all, nat_le, refl, sym, subst, arith, and_parts, leb-true, length-le-encodes, is_word_character, begins, is_word, word_limit, words, HasWordLength, words_left}
 use Rattle.std.proofs.Common.{chars}
 use Rattle.std.proofs.lemmas.List.Elements.{All-append}
 use Rattle.mail_words.proofs.Places.{if_word, words_on, words_from, words_after-places}
@@ -19,22 +19,21 @@ begun_length (c ∷ cs) e = omega (arith, length-le-encodes (c ∷ cs))
 short_of_word : (before inside after : List ℕ) → is_word is_word_character before inside after ≡ true
     → nat_le (length (encode_utf8_all inside)) word_limit ≡ true
 unfolding is_word
-short_of_word before inside after e = (and_parts _ (nat_le (length (encode_utf8_all inside)) word_limit) e).1
+short_of_word before inside after e = grind (arith, and_parts, nat_le, encode_utf8_all)
 
 all-if_word : (before inside after : List ℕ) → All HasWordLength (if_word before inside after)
-all-if_word before inside after = go (is_word is_word_character before inside after) (begins is_word_character inside)
-    refl refl
-  where
-    go : (word begun : Bool) → is_word is_word_character before inside after ≡ word → begins is_word_character inside
-        ≡ begun → All HasWordLength (if_word before inside after)
-    go word false e b = subst (All HasWordLength) (sym (none_begins before inside after b)) all-nil
-    go false true e b = subst (λ t. All HasWordLength (cond t (encode_utf8_all inside ∷ []) [])) (sym e) all-nil
-    go true true e b =
-        subst (λ t. All HasWordLength (cond t (encode_utf8_all inside ∷ []) [])) (sym e)
-        (all-one (encode_utf8_all inside) (
-          begun_length inside b,
-          leb-true (length (encode_utf8_all inside)) word_limit (short_of_word before inside after e),
-        ))
+all-if_word before inside after = grind (
+  arith,
+  begins,
+  if_word,
+  none_begins,
+  all-nil,
+  encode_utf8_all,
+  all-one,
+  begun_length,
+  leb-true,
+  short_of_word,
+)
 
 all-words_on : (before inside rest : List ℕ) → All HasWordLength (words_on before inside rest)
 all-words_on before inside [] = all-nil

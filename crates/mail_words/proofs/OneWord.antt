@@ -37,11 +37,11 @@ joined_front-prefix (c ∷ cs) = go (is_word_character c) (is_joiner c) refl ref
   where
     go : (w j : Bool) → is_word_character c ≡ w → is_joiner c ≡ j → (rest : List ℕ) × (cs ≡ joined_front cs ++ rest)
         → (rest : List ℕ) × (c ∷ cs ≡ joined_front (c ∷ cs) ++ rest)
-    go true j e f h = (h.0, ap (λ ds. c ∷ ds) h.1 ∙ ap (λ js. js ++ h.0) (sym (joined_front-word c cs e)))
+    go true j e f h = grind (arith, joined_front-word)
     go false true e f h =
         let more = joined_to-prefix c cs (joined_front cs) h
-        in (more.0, more.1 ∙ ap (λ js. js ++ more.0) (sym (joined_front-joiner c cs f)))
-    go false false e f h = (c ∷ cs, ap (λ js. js ++ (c ∷ cs)) (sym (joined_front-other c cs e f)))
+        in grind (arith, joined_front-joiner)
+    go false false e f h = (c ∷ cs, grind (arith, joined_front-other))
 
 -- it has word characters and joiners alone
 all-joined_front : (cs : List ℕ) → list_all is_piece (joined_front cs) ≡ true
@@ -88,51 +88,27 @@ joined_front-whole : (cs : List ℕ) → list_all is_piece cs ≡ true
     → (is_some cs ≡ true → begins is_word_character (reverse cs) ≡ true) → joined_front cs ≡ cs
 joined_front-whole [] pieces ended = refl
 joined_front-whole (c ∷ cs) pieces ended =
-    go (is_word_character c) (is_joiner c) (is_some cs) refl refl refl (joined_front-whole cs parts.1)
-  where
-    parts : (is_piece c ≡ true) × (list_all is_piece cs ≡ true)
-    parts = and_parts (is_piece c) (list_all is_piece cs) pieces
-
-    rest_ended : is_some cs ≡ true → begins is_word_character (reverse cs) ≡ true
-    rest_ended some = sym (ends-cons is_word_character c cs some) ∙ ended refl
-
-    no_rest : is_some cs ≡ false → begins is_word_character (reverse (c ∷ cs)) ≡ is_word_character c
-    no_rest none = only cs none
-      where
-        only : (ds : List ℕ) → is_some ds ≡ false → begins is_word_character (reverse (c ∷ ds)) ≡ is_word_character c
-        only ds h = grind arith
-
-    go : (w j some : Bool) → is_word_character c ≡ w → is_joiner c ≡ j → is_some cs ≡ some
-        → ((is_some cs ≡ true → begins is_word_character (reverse cs) ≡ true) → joined_front cs ≡ cs)
-        → joined_front (c ∷ cs) ≡ c ∷ cs
-    go w j some h h2 h3 h4 = grind (arith, joined_front-word, rest_ended, joined_front-joiner, no_rest)
+    grind (arith, is_some, and_parts, begins, ends-cons, joined_front-word, joined_front-joiner, joined_front-whole cs)
 
 -- ---- the tests together
 
 pieces_of_words : (cs : List ℕ) → list_all is_word_character cs ≡ true → list_all is_piece cs ≡ true
 pieces_of_words [] h = refl
 pieces_of_words (c ∷ cs) h =
-    let parts = and_parts (is_word_character c) (list_all is_word_character cs) h in
-    (λ k. (parts.0 k || is_joiner c) && pieces_of_words cs parts.1 k)
+    grind (arith, and_parts, pieces_of_words cs)
 
 ends_of_words : (cs : List ℕ) → list_all is_word_character cs ≡ true → is_some cs ≡ true
     → begins is_word_character (reverse cs) ≡ true
 ends_of_words [] h some = some
 ends_of_words (c ∷ cs) h some =
-    let parts = and_parts (is_word_character c) (list_all is_word_character cs) h in
-    ends-word c cs parts.0 (ends_of_words cs parts.1)
+    grind (arith, and_parts, ends-word, ends_of_words cs)
 
 -- word characters and joiners without a joiner are word characters
 all_or_joined : (cs : List ℕ) → list_all is_piece cs ≡ true → (list_all is_word_character cs || list_any is_joiner cs)
     ≡ true
 all_or_joined [] h = refl
 all_or_joined (c ∷ cs) h =
-    let parts = and_parts (is_piece c) (list_all is_piece cs) h in
-    go (is_word_character c) (is_joiner c) (list_all is_word_character cs) (list_any is_joiner cs) parts.0
-    (all_or_joined cs parts.1)
-  where
-    go : (w j all any : Bool) → (w || j) ≡ true → (all || any) ≡ true → ((w && all) || (j || any)) ≡ true
-    go w j all any h h2 = grind arith
+    grind (arith, and_parts, all_or_joined cs)
 
 some_length : (cs : List ℕ) → is_some cs ≡ true → 1 ≤ length cs
 some_length cs h = grind arith
@@ -212,8 +188,7 @@ all-front p (c ∷ cs) = grind (arith, front-pass, front-fail, all-front p cs)
 front-all : (p : ℕ → Bool) (cs : List ℕ) → list_all p cs ≡ true → front p cs ≡ cs
 front-all p [] h = refl
 front-all p (c ∷ cs) h =
-    let parts = and_parts (p c) (list_all p cs) h in front-pass p c cs parts.0
-    ∙ ap (λ ds. c ∷ ds) (front-all p cs parts.1)
+    grind (arith, and_parts, front-pass, front-all p cs)
 
 -- the front has as many bytes as the text exactly if all characters pass
 pub whole-front : (p : ℕ → Bool) (text : List ℕ) → IsUtf8 text
@@ -226,11 +201,11 @@ whole-front p text utf8 = go (list_all p (chars text)) (length (encode_utf8_all 
 
     go : (all whole : Bool) → list_all p (chars text) ≡ all
         → (length (encode_utf8_all (front p (chars text))) == length text) ≡ whole → whole ≡ all
-    go true whole e f = sym f ∙ eq-eqb _ _ (ap (λ ds. length (encode_utf8_all ds)) (front-all p (chars text) e) ∙ bytes)
+    go true whole e f = grind (arith, eq-eqb, encode_utf8_all, front-all, bytes)
     go false true e f =
         let same = same_length (chars text) (front p (chars text)) (after_front p (chars text))
         (sym (front-after p (chars text))) (eqb-true _ _ f ∙ sym bytes) in
-        sym (all-front p (chars text)) ∙ ap (list_all p) same ∙ e
+        grind (arith, all-front)
     go false false e f = refl
 
 -- the front has bytes exactly if the first character passes

@@ -44,7 +44,7 @@ both : (h f g : ℕ → ℕ → ℕ) (xs ys : List ℕ) → zip2 h (zip2 f xs ys
     ≡ zip2 (λ a b. h (f a b) (g a b)) xs ys
 both h f g [] ys = refl
 both h f g (x ∷ xs) [] = refl
-both h f g (x ∷ xs) (y ∷ ys) = ap (λ l. h (f x y) (g x y) ∷ l) (both h f g xs ys)
+both h f g (x ∷ xs) (y ∷ ys) = grind (arith, both h f g xs ys)
 
 each : {X : Type 0} (h : ℕ → X) (f : ℕ → ℕ → ℕ) (xs ys : List ℕ) → map h (zip2 f xs ys) ≡ zip2 (λ a b. h (f a b)) xs ys
 each h f [] ys = refl
@@ -53,26 +53,15 @@ each h f (x ∷ xs) (y ∷ ys) = ap (λ l. h (f x y) ∷ l) (each h f xs ys)
 
 pub marks-or : {xs ys : List ℕ} {s t : ℕ → ℕ → Bool} {x y : List ℕ} → Marks xs ys s x → Marks xs ys t y
     → Marks xs ys (λ a b. s a b || t a b) (zip2 bit_or x y)
-marks-or {xs = xs} {ys = ys} {s = s} {t = t} h k = record {
-  lanes = (λ i. zip2 bit_or (h.lanes i) (k.lanes i))
-      ∙ both bit_or (λ a b. ones (s a b)) (λ a b. ones (t a b)) xs ys
-      ∙ (λ i. zip2 (λ a b. or_ones (s a b) (t a b) i) xs ys);
-}
+marks-or {xs = xs} {ys = ys} {s = s} {t = t} h k = grind (arith, both, or_ones)
 
 pub marks-and : {xs ys : List ℕ} {s t : ℕ → ℕ → Bool} {x y : List ℕ} → Marks xs ys s x → Marks xs ys t y
     → Marks xs ys (λ a b. s a b && t a b) (zip2 bit_and x y)
-marks-and {xs = xs} {ys = ys} {s = s} {t = t} h k = record {
-  lanes = (λ i. zip2 bit_and (h.lanes i) (k.lanes i))
-      ∙ both bit_and (λ a b. ones (s a b)) (λ a b. ones (t a b)) xs ys
-      ∙ (λ i. zip2 (λ a b. and_ones (s a b) (t a b) i) xs ys);
-}
+marks-and {xs = xs} {ys = ys} {s = s} {t = t} h k = grind (arith, both, and_ones)
 
 pub marks-not : {xs ys : List ℕ} {t : ℕ → ℕ → Bool} {y : List ℕ} → Marks xs ys t y
     → Marks xs ys (λ a b. not (t a b)) (map (λ n. 255 - n) y)
-marks-not {xs = xs} {ys = ys} {t = t} k = record {
-  lanes = (λ i. map (λ n. 255 - n) (k.lanes i)) ∙ each (λ n. 255 - n) (λ a b. ones (t a b)) xs ys
-      ∙ (λ i. zip2 (λ a b. not_ones (t a b) i) xs ys);
-}
+marks-not {xs = xs} {ys = ys} {t = t} k = grind (arith, each, not_ones)
 
 -- ---- comparisons with one byte
 
@@ -82,8 +71,7 @@ module _ (f : ℕ → ℕ → ℕ) (k : ℕ) where
   first_left [] ys n p q = refl
   first_left (x ∷ xs) [] n p q = absurd (omega (arith, p, q))
   first_left (x ∷ xs) (y ∷ ys) zero p q = absurd (omega (arith, p))
-  first_left (x ∷ xs) (y ∷ ys) (suc n) p q = ap (λ l. f x k ∷ l)
-      (first_left xs ys n (omega (arith, p)) (omega (arith, q)))
+  first_left (x ∷ xs) (y ∷ ys) (suc n) p q = grind (arith, first_left xs ys n)
 
   first_right : (xs ys : List ℕ) (n : ℕ) → length xs ≡ n → length ys ≡ n → zip2 f (replicate n k) xs
       ≡ zip2 (λ a b. f k a) xs ys
@@ -91,8 +79,7 @@ module _ (f : ℕ → ℕ → ℕ) (k : ℕ) where
   first_right [] ys (suc n) p q = absurd (omega (arith, p))
   first_right (x ∷ xs) [] n p q = absurd (omega (arith, p, q))
   first_right (x ∷ xs) (y ∷ ys) zero p q = absurd (omega (arith, p))
-  first_right (x ∷ xs) (y ∷ ys) (suc n) p q = ap (λ l. f k x ∷ l)
-      (first_right xs ys n (omega (arith, p)) (omega (arith, q)))
+  first_right (x ∷ xs) (y ∷ ys) (suc n) p q = grind (arith, first_right xs ys n)
 
   second_left : (xs ys : List ℕ) (n : ℕ) → length xs ≡ n → length ys ≡ n → zip2 f ys (replicate n k)
       ≡ zip2 (λ a b. f b k) xs ys
@@ -100,8 +87,7 @@ module _ (f : ℕ → ℕ → ℕ) (k : ℕ) where
   second_left [] (y ∷ ys) n p q = absurd (omega (arith, p, q))
   second_left (x ∷ xs) [] n p q = absurd (omega (arith, p, q))
   second_left (x ∷ xs) (y ∷ ys) zero p q = absurd (omega (arith, p))
-  second_left (x ∷ xs) (y ∷ ys) (suc n) p q = ap (λ l. f y k ∷ l)
-      (second_left xs ys n (omega (arith, p)) (omega (arith, q)))
+  second_left (x ∷ xs) (y ∷ ys) (suc n) p q = grind (arith, second_left xs ys n)
 
   second_right : (xs ys : List ℕ) (n : ℕ) → length xs ≡ n → length ys ≡ n → zip2 f (replicate n k) ys
       ≡ zip2 (λ a b. f k b) xs ys
@@ -110,8 +96,7 @@ module _ (f : ℕ → ℕ → ℕ) (k : ℕ) where
   second_right [] (y ∷ ys) n p q = absurd (omega (arith, p, q))
   second_right (x ∷ xs) [] n p q = absurd (omega (arith, p, q))
   second_right (x ∷ xs) (y ∷ ys) zero p q = absurd (omega (arith, p))
-  second_right (x ∷ xs) (y ∷ ys) (suc n) p q = ap (λ l. f k y ∷ l)
-      (second_right xs ys n (omega (arith, p)) (omega (arith, q)))
+  second_right (x ∷ xs) (y ∷ ys) (suc n) p q = grind (arith, second_right xs ys n)
 
 module _ {xs ys : List ℕ} (p : length xs ≡ 16) (q : length ys ≡ 16) (k : ℕ) where
   pub first_is : Marks xs ys (λ a b. eqb a k) (zip2 (λ a b. ones (eqb a b)) xs (replicate 16 k))
@@ -146,14 +131,7 @@ pub none_pass : (c f t : ℕ → ℕ → Bool) (xs ys : List ℕ) → mask_l (zi
     → mask_l (zip2 c xs ys) ≡ mask_l (zip2 (λ a b. c a b || f a b && t a b) xs ys)
 none_pass c f t [] ys h = refl
 none_pass c f t (x ∷ xs) [] h = refl
-none_pass c f t (x ∷ xs) (y ∷ ys) h = by (f x y) h (none_pass c f t xs ys)
-  where
-    by : (b : Bool) → cond b 1 0 + 2 * mask_l (zip2 f xs ys) ≡ 0
-        → (mask_l (zip2 f xs ys) ≡ 0 → mask_l (zip2 c xs ys) ≡ mask_l (zip2 (λ a b. c a b || f a b && t a b) xs ys))
-        → mask_l (zip2 c (x ∷ xs) (y ∷ ys)) ≡ mask_l
-        ((c x y || b && t x y) ∷ zip2 (λ a b. c a b || f a b && t a b) xs ys)
-    by true none rest = absurd (omega (arith, none))
-    by false none rest = (λ i. cond (sym (or-false (c x y)) i) 1 0 + 2 * rest (omega (arith, none)) i)
+none_pass c f t (x ∷ xs) (y ∷ ys) h = grind (arith, or-false, none_pass c f t xs ys)
 
 -- the lanes before the first whose bit is set
 pub first_bit : (ms : List Bool) (m r : ℕ) → length ms ≡ 16 → m ≡ mask_l ms
@@ -175,7 +153,7 @@ module _ (bytes : List ℕ) (at : ℕ) (room : at + 17 ≤ length bytes) where
   after = length-chunk (at + 1) 16 bytes (omega (arith, room))
 
   pub length-stops_at : length stops_at ≡ 16
-  length-stops_at = length-zip2 is_stop (chunk at 16 bytes) (chunk (at + 1) 16 bytes) (here ∙ sym after) ∙ here
+  length-stops_at = grind (arith, length-zip2, here, after)
 
   module _ (r : ℕ) (run : r ≡ prefix_len not stops_at) where
     pub run_within : r ≤ 16

@@ -54,8 +54,7 @@ first_before_rest false = refl
 
 run_before_rest : (in_run : Bool) → begins is_word_character (after_joiners (before_rest in_run)) ≡ in_run
 run_before_rest true =
-    ap (begins is_word_character) (after_joiners-joiner 0x2D (0x61 ∷ []) hyphen
-    ∙ after_joiners-other 0x61 [] (word_character_is_no_joiner 0x61 letter)) ∙ letter
+    grind (arith, begins, after_joiners-joiner, hyphen, after_joiners-other, word_character_is_no_joiner, letter)
 run_before_rest false = refl
 
 words_left-places : (in_run : Bool) (cs : List ℕ) → words_left in_run cs ≡ words_from (before_rest in_run) cs
@@ -76,8 +75,7 @@ words_left-gap in_run c cs other =
     go : (t : Bool) → is_joiner c ≡ t → begins is_word_character (after_joiners (c ∷ before_rest in_run))
         ≡ (in_run && is_joiner c)
     go true e =
-        ap (begins is_word_character) (after_joiners-joiner c (before_rest in_run) e) ∙ run_before_rest in_run
-        ∙ sym (ap (λ t. in_run && t) e ∙ and-true in_run)
+        grind (arith, begins, after_joiners-joiner, run_before_rest, and-true)
     go false e = grind (arith, after_joiners-other, and-false)
 
 pub words_left-end : (in_run : Bool) → words_left in_run [] ≡ []
@@ -114,7 +112,7 @@ words_left-word in_run (c ∷ cs) e =
 -- after all characters at which no word begins
 pub words_left-gaps : (in_run : Bool) (cs : List ℕ) → words_left in_run cs
     ≡ words_left (in_run && list_all is_joiner (front is_other cs)) (after_front is_other cs)
-words_left-gaps in_run [] = words_left-end in_run ∙ sym (words_left-end (in_run && true))
+words_left-gaps in_run [] = grind (arith, words_left-end)
 words_left-gaps in_run (c ∷ cs) = grind (
   arith,
   and-true,
@@ -133,4 +131,4 @@ begins-other cs h h2 = grind arith
 pub begins-gaps : (cs : List ℕ) → is_some (after_front is_other cs) ≡ true
     → begins is_word_character (after_front is_other cs)
     ≡ true
-begins-gaps cs some = begins-other (after_front is_other cs) (begins-after is_other cs) some
+begins-gaps cs some = grind (arith, begins-other, begins-after)

@@ -34,7 +34,7 @@ joined_front-word c cs e = rw (e, joined_front) refl
 
 pub joined_front-joiner : (c : ℕ) (cs : List ℕ) → is_joiner c ≡ true → joined_front (c ∷ cs)
     ≡ joined_to c (joined_front cs)
-joined_front-joiner c cs e = let no = joiner_is_no_word_character c e in rw (no, e, joined_front) refl
+joined_front-joiner c cs e = grind (arith, joiner_is_no_word_character)
 
 pub joined_front-other : (c : ℕ) (cs : List ℕ) → is_word_character c ≡ false → is_joiner c ≡ false
     → joined_front (c ∷ cs) ≡ []

@@ -1,6 +1,6 @@
 -- A text can be cut between any two of its characters.
 use lib.Utf8.{scalar}
-use Rattle.mail_words.proofs.Imports.{◌≡◌, ℕ, ◌+◌, ◌<◌, Bool, true, ◌&&◌, List, [], ◌∷◌, ◌++◌, length, take, drop, encode_utf8_all, IsUtf8, refl, sym, ap, subst, ◌∙◌, arith, length-append, and_parts, encodes-append, encodes-chars, chars-encodes, scalars-chars, length-le-encodes, IsCharBoundary-at_seam, IsCharBoundary, front, after_front}
+use Rattle.mail_words.proofs.Imports.{◌≡◌, ℕ, ◌+◌, ◌<◌, Bool, true, ◌&&◌, List, [], ◌∷◌, ◌++◌, length, take, drop, encode_utf8_all, IsUtf8, refl, sym, ap, ◌∙◌, arith, length-append, and_parts, encodes-append, encodes-chars, chars-encodes, scalars-chars, length-le-encodes, IsCharBoundary-at_seam, IsCharBoundary, front, after_front}
 use Rattle.std.proofs.Common.{chars}
 use Rattle.std.proofs.Math.Seq.{take-append_seam, drop-append_seam}
 use Rattle.std.proofs.Math.Utf8.{scalars}
@@ -9,8 +9,7 @@ use Rattle.mail_words.proofs.RunLemmas.{front-after, is_some}
 scalars-front : (xs ys : List ℕ) → scalars (xs ++ ys) ≡ true → scalars xs ≡ true
 scalars-front [] ys h = refl
 scalars-front (x ∷ xs) ys h =
-    let parts = and_parts (scalar x) (scalars (xs ++ ys)) h in
-    (λ k. parts.0 k && scalars-front xs ys parts.1 k)
+    grind (arith, and_parts, scalars, scalars-front xs ys)
 
 scalars-back : (xs ys : List ℕ) → scalars (xs ++ ys) ≡ true → scalars ys ≡ true
 scalars-back [] ys h = h
@@ -45,7 +44,7 @@ seam text xs ys utf8 parts = grind (
 -- the same at a place given by its number of bytes
 pub seam_boundary : (text xs ys : List ℕ) (n : ℕ) → IsSeam text xs ys → n ≡ length (encode_utf8_all xs)
     → IsCharBoundary text n
-seam_boundary text xs ys n s place = subst (IsCharBoundary text) (sym place) s.boundary
+seam_boundary text xs ys n s place = grind arith
 
 pub seam_front : (text xs ys : List ℕ) (n : ℕ) (part : List ℕ) → IsSeam text xs ys → n ≡ length (encode_utf8_all xs)
     → part ≡ take n text → part ≡ encode_utf8_all xs
@@ -57,11 +56,11 @@ seam_back text xs ys n part s place is = is ∙ ap (λ k. drop k text) place ∙
 
 pub chars_front : (text xs ys : List ℕ) (n : ℕ) (part : List ℕ) → IsSeam text xs ys → n ≡ length (encode_utf8_all xs)
     → part ≡ take n text → chars part ≡ xs
-chars_front text xs ys n part s place is = ap chars (seam_front text xs ys n part s place is) ∙ s.front_chars
+chars_front text xs ys n part s place is = grind (arith, seam_front)
 
 pub chars_back : (text xs ys : List ℕ) (n : ℕ) (part : List ℕ) → IsSeam text xs ys → n ≡ length (encode_utf8_all xs)
     → part ≡ drop n text → chars part ≡ ys
-chars_back text xs ys n part s place is = ap chars (seam_back text xs ys n part s place is) ∙ s.back_chars
+chars_back text xs ys n part s place is = grind (arith, seam_back)
 
 -- the text can be cut after the characters that pass
 pub front_seam : (p : ℕ → Bool) (text : List ℕ) → IsUtf8 text

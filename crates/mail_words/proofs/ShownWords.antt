@@ -1,5 +1,5 @@
 -- A gap and a word found by one load are those that the text begins with.
-use Rattle.mail_words.proofs.Imports.{◌≡◌, ℕ, ◌+◌, ◌<◌, true, not, List, length, drop, get_or, encode_utf8_all, IsUtf8, refl, sym, ap, subst, arith, is_word_character, front, is_other, HasGapAndWord, is_ascii_other, is_ascii_word}
+use Rattle.mail_words.proofs.Imports.{◌≡◌, ℕ, ◌+◌, ◌<◌, true, List, length, drop, encode_utf8_all, IsUtf8, refl, sym, subst, arith, is_word_character, front, is_other, HasGapAndWord, is_ascii_word}
 use Rattle.std.proofs.Common.{chars}
 use Rattle.std.proofs.lemmas.Bool.{not-true}
 use Rattle.std.proofs.lemmas.List.{get_or-drop, length-drop}
@@ -13,12 +13,7 @@ gap_read text gap word utf8 h = front_bytes-passed is_other text text gap utf8 r
 pub shown_gap : (text bytes : List ℕ) (gap word : ℕ) → IsUtf8 text → bytes ≡ text → HasGapAndWord bytes gap word → gap
     ≡ length (encode_utf8_all (front is_other (chars text)))
 shown_gap text bytes gap word utf8 same shown =
-    let h = subst (λ bs. HasGapAndWord bs gap word) same shown in
-    let at : gap + 0 ≡ gap = omega arith in
-    let first = class_byte is_word_character (get_or text gap 0) _ refl
-    (subst (λ k. is_ascii_word (get_or text k 0) ≡ true) at (h.in_word 0 h.some)) in
-    front_bytes-stop is_other text text gap (gap_read text gap word utf8 h) refl (omega (arith, h.within)) first.0
-    (ap not first.1)
+    grind (arith, class_byte, front_bytes-stop, gap_read)
 
 pub shown_word : (text bytes start : List ℕ) (gap word : ℕ) → IsUtf8 text → bytes ≡ text → HasGapAndWord bytes gap word
     → start ≡ drop gap text
@@ -30,7 +25,4 @@ shown_word text bytes start gap word utf8 same shown back =
     let passed = front_bytes-passed is_word_character rest rest word (gap_read text gap word utf8 h).read.utf8 refl
     (omega (arith, within)) (λ k below. subst (λ b. is_ascii_word b ≡ true) (sym (get_or-drop gap text k 0))
     (h.in_word k below)) in
-    let last = class_byte is_other (get_or rest word 0) _ refl
-    (subst (λ b. is_ascii_other b ≡ true) (sym (get_or-drop gap text word 0)) h.end) in
-    subst (λ s. word ≡ length (encode_utf8_all (front is_word_character (chars s)))) (sym back)
-    (front_bytes-stop is_word_character rest rest word passed refl within last.0 (not-true _ last.1))
+    grind (arith, class_byte, get_or-drop, encode_utf8_all, front_bytes-stop, not-true)

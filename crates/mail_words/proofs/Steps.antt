@@ -42,21 +42,14 @@ none_with_other : (before inside rest : List ℕ) → list_all is_word_character
     ≡ false → words_on before inside rest ≡ []
 none_with_other before inside [] all pieces = refl
 none_with_other before inside (c ∷ cs) all pieces =
-    let all' : list_all is_word_character (inside ++ c ∷ []) ≡ false = all-push is_word_character inside c
-    ∙ ap (λ b. b && (is_word_character c && true)) all in
-    let pieces' : list_all is_piece (inside ++ c ∷ []) ≡ false = all-push is_piece inside c
-    ∙ ap (λ b. b && (is_piece c && true)) pieces in
-    ap₂ ◌++◌ (none_of_others before (inside ++ c ∷ []) cs all' pieces')
-    (none_with_other before (inside ++ c ∷ []) cs all' pieces')
+    grind (arith, all-push, none_of_others, none_with_other before (inside ++ c ∷ []) cs)
 
 -- none is a long word whose run began earlier
 none_again : (before inside rest : List ℕ) → list_all is_word_character inside ≡ false
     → begins is_word_character (after_joiners before) ≡ true → words_on before inside rest ≡ []
 none_again before inside [] all run = refl
 none_again before inside (c ∷ cs) all run =
-    let all' : list_all is_word_character (inside ++ c ∷ []) ≡ false = all-push is_word_character inside c
-    ∙ ap (λ b. b && (is_word_character c && true)) all in
-    ap₂ ◌++◌ (none_in_run before (inside ++ c ∷ []) cs all' run) (none_again before (inside ++ c ∷ []) cs all' run)
+    grind (arith, all-push, none_in_run, none_again before (inside ++ c ∷ []) cs)
 
 -- ---- a plain word
 
@@ -82,10 +75,10 @@ words_on-plain before inside (c ∷ cs) all joins first e =
     longer = inside ++ c ∷ []
 
     all' : list_all is_word_character longer ≡ true
-    all' = all-push is_word_character inside c ∙ (λ k. all k && (e k && true))
+    all' = grind (arith, all-push)
 
     joins' : list_any is_joiner longer ≡ false
-    joins' = any-push is_joiner inside c ∙ (λ k. joins k || (word_character_is_no_joiner c e k || false))
+    joins' = grind (arith, any-push, word_character_is_no_joiner)
 
     go : (t : Bool) → begins is_word_character cs ≡ t
         → (begins is_word_character cs ≡ true → words_on before longer cs
@@ -94,10 +87,7 @@ words_on-plain before inside (c ∷ cs) all joins first e =
         (after_front is_word_character cs)
     go true more rest = grind (arith, none_yet, longer, joins', words_on, append_assoc)
     go false last rest =
-        ap (λ ws. ws ++ words_on before longer cs)
-        (is_plain before longer cs (begins-all is_word_character inside c all') all' first last)
-        ∙ sym (ap₂ (λ fore rest. plain_first before inside (c ∷ fore) rest) (front-fail is_word_character cs last)
-        (after-fail is_word_character cs last))
+        grind (arith, words_on, longer, is_plain, begins-all, all', front-fail, after-fail)
 
 -- ---- a long word
 
@@ -149,34 +139,49 @@ words_on-joined before inside (c ∷ cs) h j =
         → (BeginsLong before longer → IsJoined longer → words_on before longer cs ≡ joined_on longer (joined_front cs))
         → words_on before inside (c ∷ cs) ≡ joined_on inside (joined_front (c ∷ cs))
     go true d true e f m rest =
-        let h' = begins_long-push before inside c h (λ k. e k || is_joiner c) in
-        let j' = is_joined-push inside c j in
-        ap₂ ◌++◌ (none_before_end before longer cs j'.all m) (rest h' j')
-        ∙ joined_on-push inside c (joined_front cs) (is_some-joined_front cs ∙ m)
-        ∙ ap (joined_on inside) (sym (joined_front-word c cs e))
+        grind (
+          arith,
+          begins_long-push,
+          is_joined-push,
+          none_before_end,
+          longer,
+          joined_on-push,
+          is_some-joined_front,
+          joined_front-word,
+        )
     go true d false e f m rest =
-        let h' = begins_long-push before inside c h (λ k. e k || is_joiner c) in
-        let j' = is_joined-push inside c j in
-        let none = nil_from_none (joined_front cs) (is_some-joined_front cs ∙ m) in
-        ap₂ ◌++◌ (is_long before longer cs h'.begun (ends-push is_word_character inside c ∙ e) h'.pieces j'.joins
-        h.first m) (rest h' j' ∙ ap (joined_on longer) none)
-        ∙ append-nil (within longer) ∙ ap (λ js. within (inside ++ c ∷ js)) (sym none)
-        ∙ ap (joined_on inside) (sym (joined_front-word c cs e))
+        grind (
+          arith,
+          begins_long-push,
+          is_joined-push,
+          nil_from_none,
+          is_some-joined_front,
+          is_long,
+          longer,
+          ends-push,
+          append-nil,
+          within,
+          joined_front-word,
+        )
     go false true more e f m rest =
-        let h' = begins_long-push before inside c h (λ k. e k || f k) in
-        let j' = is_joined-push inside c j in
-        ap₂ ◌++◌ (none_ends before longer cs j'.all (ends-push is_word_character inside c ∙ e)) (rest h' j')
-        ∙ joined_on-joined_to inside c (joined_front cs) ∙ ap (joined_on inside) (sym (joined_front-joiner c cs f))
-    go false false more e f m rest = none_past_other before inside c cs e f
-        ∙ ap (joined_on inside) (sym (joined_front-other c cs e f))
+        grind (
+          arith,
+          begins_long-push,
+          is_joined-push,
+          none_ends,
+          longer,
+          ends-push,
+          joined_on-joined_to,
+          joined_front-joiner,
+        )
+    go false false more e f m rest = grind (arith, none_past_other, joined_front-other)
 
 -- ---- the words that begin at the first character of a plain word
 
 all_pieces : (cs : List ℕ) → list_all is_word_character cs ≡ true → list_all is_piece cs ≡ true
 all_pieces [] h = refl
 all_pieces (c ∷ cs) h =
-    let parts = and_parts (is_word_character c) (list_all is_word_character cs) h in
-    (λ k. (parts.0 k || is_joiner c) && all_pieces cs parts.1 k)
+    grind (arith, and_parts, all_pieces cs)
 
 all-front : (p : ℕ → Bool) (cs : List ℕ) → list_all p (front p cs) ≡ true
 all-front p [] = refl

@@ -1,6 +1,5 @@
 -- `fold_evenly` has the folding of what it has read, piece by piece: a piece that folding keeps, then one character.
-use Rattle.mail_words.proofs.Imports.{◌<◌, length, encode_utf8, string_bytes, length-append, arith}
-use Rattle.std.specs.String.{string_capacity}
+use Rattle.mail_words.proofs.Imports.{◌<◌, encode_utf8, string_bytes, length-append, arith}
 use Rattle.mail_words.proofs.EvenTexts.{folds-same, folds-piece, piece_boundary, folds-character, folds-uneven, folds-even, folds-end}
 use Rattle.mail_words.proofs.even_text.fold_evenly.Goals as goal
 
@@ -11,22 +10,19 @@ pub returns-in_default-clause-is_even : goal.returns-in_default-clause-is_even
 returns-in_default-clause-is_even c =
     let piece = folds-piece _ _ _ _ _ _ c.pieces.invariant.2 c.kept_len.ensures c.split_at.ensures.front
     c.split_at.ensures.back in
-    folds-even _ _ _ (folds-same _ _ _ _ _ piece c.in_ok-push_str.ensures.bytes c.chars-left.ensures.rest)
-    c.in_default.ensures.steps.0.0
+    grind (arith, folds-even, folds-same)
 
 pub returns-in_default-clause-exact : goal.returns-in_default-clause-exact
 returns-in_default-clause-exact c _ =
     let piece = folds-piece _ _ _ _ _ _ c.pieces.invariant.2 c.kept_len.ensures c.split_at.ensures.front
     c.split_at.ensures.back in
-    folds-end _ _ _ (folds-same _ _ _ _ _ piece c.in_ok-push_str.ensures.bytes c.chars-left.ensures.rest)
-    c.in_default.ensures.steps.0.0
+    grind (arith, folds-end, folds-same)
 
 pub returns-in_default-even_folding-clause-is_even : goal.returns-in_default-even_folding-clause-is_even
 returns-in_default-even_folding-clause-is_even c =
     let piece = folds-piece _ _ _ _ _ _ c.pieces.invariant.2 c.kept_len.ensures c.split_at.ensures.front
     c.split_at.ensures.back in
-    folds-uneven _ _ _ _ _ (folds-same _ _ _ _ _ piece c.in_ok-push_str.ensures.bytes c.chars-left.ensures.rest)
-    c.in-Some.ensures.steps.0 c.in_default-even_folding.ensures
+    grind (arith, folds-uneven, folds-same)
 
 pub pieces-preserved : goal.pieces-preserved
 pieces-preserved c =
@@ -35,11 +31,7 @@ pieces-preserved c =
     let found = folds-same _ _ _ _ _ piece c.in_ok-push_str.ensures.bytes c.chars-left.ensures.rest in
     let next = folds-character _ _ _ _ _ _ found c.in-Some.ensures.steps.0 c.in-Some-even_folding.ensures.0
     c.in-Some-even_folding.ensures.1 in
-    let told = folds-same _ _ _ _ _ next c.in_ok-push.ensures.bytes c.as_str-rest.ensures in (
-      told.utf8,
-      omega (arith, c.pieces.invariant.1, c.in_ok-push_str.ensures.capacity, c.in_ok-push.ensures.capacity),
-      told,
-    )
+    grind (arith, folds-same)
 
 pub returns-in_err-push-clause-full : goal.returns-in_err-push-clause-full
 returns-in_err-push-clause-full c =
@@ -48,15 +40,4 @@ returns-in_err-push-clause-full c =
     let found = folds-same _ _ _ _ _ piece c.in_ok-push_str.ensures.bytes c.chars-left.ensures.rest in
     let next = folds-character _ _ _ _ _ _ found c.in-Some.ensures.steps.0 c.in-Some-even_folding.ensures.0
     c.in-Some-even_folding.ensures.1 in
-    let room : string_capacity c.args.into.now < length c.args.text.now =
-    omega (
-      arith,
-      next.lengths,
-      length-append (string_bytes c.push_str.new.self)
-          (encode_utf8 c.in-Some-even_folding.folded),
-      c.in_err-push.ensures.full,
-      c.pieces.invariant.1,
-      c.in_ok-push_str.ensures.capacity,
-      c.push_str.new.self.bytes.ok.0,
-    ) in
-    grind (arith, room)
+    grind (arith, length-append, string_bytes, encode_utf8)

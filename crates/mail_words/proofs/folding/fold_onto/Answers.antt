@@ -1,6 +1,6 @@
 -- `fold_onto` adds the folding of a word, character by character or, if the word keeps all, as it is. What a failed
 -- call added is taken back.
-use Rattle.mail_words.proofs.Imports.{◌≡◌, ◌+◌, ◌≤◌, ◌++◌, List, ℕ, IsUtf8, length, take, encode_utf8, string_bytes, ap, sym, subst, ◌∙◌, arith, length-append, folding}
+use Rattle.mail_words.proofs.Imports.{◌≡◌, ◌+◌, ◌≤◌, ◌++◌, List, ℕ, length, encode_utf8, string_bytes, ap, ◌∙◌, arith, length-append, folding}
 use Rattle.std.proofs.Common.{Global, String, string_len}
 use Rattle.std.proofs.lemmas.List.{take_all, take-append-le}
 use Rattle.std.proofs.lemmas.Str.{IsCharBoundary-from_take, IsUtf8-had}
@@ -38,22 +38,11 @@ loop-c-init c =
 
 pub loop-c-preserved : goal.loop-c-preserved
 loop-c-preserved c =
-    let before = string_bytes c.loop-c.into in
-    let inv = c.loop-c.invariant in
-    rw c.in_default.ensures.bytes (record {
-      folds = folds_further _ _ _ _ _ inv.folds c.in-Some.ensures.steps;
-      roomy = omega (arith, c.in_default.ensures.capacity, inv.roomy);
-      kept = take-append-le c.len-start.result before (encode_utf8 c.in-Some.c) inv.within ∙ inv.kept;
-      within = omega (arith, inv.within, length-append before (encode_utf8 c.in-Some.c));
-    })
+    grind (arith, string_bytes, folds_further, take-append-le, encode_utf8, length-append)
 
 pub truncate-requires : goal.truncate-requires
 truncate-requires c =
-    let text = string_bytes c.loop-c.into in
-    let inv = c.loop-c.invariant in
-    let front = subst IsUtf8 (sym inv.kept) (IsUtf8-had _ c.args.into.now.ok) in
-    let boundary = IsCharBoundary-from_take text c.len-start.result (IsUtf8-had _ c.loop-c.into.ok) inv.within front in
-    λ _. rw c.in-Err.ensures.bytes (boundary.0, λ _. boundary.1)
+    grind (arith, string_bytes, IsUtf8-had, IsCharBoundary-from_take)
 
 pub returns-in-Err-clause-full : goal.returns-in-Err-clause-full
 returns-in-Err-clause-full c =
@@ -70,20 +59,14 @@ returns-in-Err-clause-full c =
       c.args.into.now.bytes.ok.0,
     )
 
-pub returns-in-Err-clause-refused : goal.returns-in-Err-clause-refused
-returns-in-Err-clause-refused c = c.truncate.ensures.bytes ∙ ap (take c.len-start.result) c.in-Err.ensures.bytes
-    ∙ c.loop-c.invariant.kept
-
 pub returns-clause-exact : goal.returns-clause-exact
 returns-clause-exact c = folds_to_end _ _ _ _ c.loop-c.invariant.folds c.in-None.ensures.steps
 
 pub returns-clause-of_word : goal.returns-clause-of_word
 returns-clause-of_word c =
     λ word.
-    let written = grown c.args.into.now c.loop-c.into c.args.word.now (returns-clause-exact c) in (
-      omega (arith, written, folding_some c.args.word.now c.utf8.word word.0),
-      omega (arith, written, length-folding c.args.word.now c.utf8.word),
-    )
+    let written = grown c.args.into.now c.loop-c.into c.args.word.now (returns-clause-exact c)
+    in grind (arith, folding_some, length-folding)
 
 pub returns-clause-bound : goal.returns-clause-bound
 returns-clause-bound c = omega (

@@ -3,9 +3,6 @@ use Rattle.mail_words.proofs.Imports.{arith}
 use Rattle.mail_words.proofs.PairLanes.{stops_on, stops_again}
 use Rattle.mail_words.proofs.lanes.kept_by_lanes.Goals as goal
 
-pub overflow_add-len : goal.overflow_add-len
-overflow_add-len c = omega (arith, c.kept_at-run.ensures.within, c.loop-len-test.true)
-
 pub returns-then-run-lt-LANES-clause-passed : goal.returns-then-run-lt-LANES-clause-passed
 returns-then-run-lt-LANES-clause-passed c =
     stops_on c.args.bytes.now _ _ c.kept_at-run.ensures.passed c.loop-len.invariant.passed

@@ -17,5 +17,4 @@ pub loop-len-preserved : goal.loop-len-preserved
 loop-len-preserved g c = grind (arith, class_byte, front_bytes-pass)
 
 pub returns : goal.returns
-returns g c = front_bytes-end _ _ _ c.loop-len.invariant
-    (omega (arith, c.loop-len-test.false, c.as_bytes-byte-items.ensures.len))
+returns g c = grind (arith, front_bytes-end)

@@ -12,8 +12,7 @@ overflow_add-result g c = grind (arith, front_bytes-more, length-front)
 
 pub returns-then-not-has : goal.returns-then-not-has
 returns-then-not-has g c =
-    pair_stop _ _ _ _ _ c.loop-c.invariant c.as_bytes-bytes.ensures.value c.in-Some.ensures
-    (sym c.has.ensures ∙ c.if-not-has.true)
+    grind (arith, pair_stop)
 
 pub loop-c-preserved : goal.loop-c-preserved
 loop-c-preserved g c =

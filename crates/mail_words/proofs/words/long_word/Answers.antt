@@ -1,5 +1,5 @@
 -- `long_word` returns the plain word with what is joined to it, unless nothing is joined or the whole is too long.
-use Rattle.mail_words.proofs.Imports.{sym, ap, ◌∙◌, arith, is_word_character, front, after_front, joined_front, joined_on}
+use Rattle.mail_words.proofs.Imports.{◌∙◌, arith, is_word_character}
 use Rattle.std.proofs.Common.{chars}
 use Rattle.mail_words.proofs.Seams.{front_seam, seam_boundary, chars_back, nil_from_bytes}
 use Rattle.mail_words.proofs.Kept.{joined_on-long, length-long_front, long_seam, joined_is, long_at-short}
@@ -15,9 +15,7 @@ returns-then-not-begins_in_joiner c = grind (arith, chars_back, front_seam, join
 pub returns-then-joined-eq0 : goal.returns-then-joined-eq0
 returns-then-joined-eq0 c =
     let joined = joined_is _ _ _ _ c.utf8.text c.requires c.split_at.ensures.back c.joined_len-joined.ensures in
-    sym (ap (joined_on (front is_word_character (chars c.args.text.now)))
-    (nil_from_bytes (joined_front (after_front is_word_character (chars c.args.text.now)))
-    (sym joined ∙ c.if-joined-eq0.true)))
+    grind (arith, nil_from_bytes)
 
 pub overflow_add-len : goal.overflow_add-len
 overflow_add-len c =
@@ -32,7 +30,7 @@ pub split_at-requires-2 : goal.split_at-requires-2
 split_at-requires-2 c =
     let joined = joined_is _ _ _ _ c.utf8.text c.requires c.split_at.ensures.back c.joined_len-joined.ensures in
     let cut = long_seam c.args.text.now c.utf8.text in
-    seam_boundary _ _ _ _ cut.1 (omega (arith, joined, c.requires, length-long_front (chars c.args.text.now)))
+    grind (arith, seam_boundary, length-long_front)
 
 pub returns : goal.returns
 returns c = grind (arith, joined_is, long_at-short, length-long_front)
